@@ -1,0 +1,4 @@
+pub mod Pieces
+pub mod Counts
+pub mod DimensionList
+pub mod VariableList

@@ -1,0 +1,7 @@
+use Rattle.std.proofs.Common.{◌≡◌, ◌++◌, take}
+use Rattle.std.specs.List.{flat_map}
+use Rattle.cdf_write.specs.Spelling.{word}
+use Rattle.cdf_write.proofs.spelling.push_words.Given as goal
+
+abbrev pub invariant-loop-n : goal.invariant-loop-n
+invariant-loop-n l = l.out.items ≡ l.initial.out.items ++ flat_map word (take l.n-index l.numbers)

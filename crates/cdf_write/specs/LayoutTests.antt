@@ -1,0 +1,60 @@
+-- A worked file of 564 bytes: one UInt8 frame of 2 by 2 with samples 1 2 3 4, id 1 and no times.
+use Rattle.std.specs.Prelude.{◌≡◌, ℕ, pos, false, List, [], ◌∷◌, ◌++◌, refl, codes}
+use Rattle.nd_base.specs.declared.array.Dim.{Dim}
+use Rattle.nd_base.specs.declared.array.SampleType.TheVariants.{UInt8}
+use Rattle.nd_base.specs.declared.attribute.FileShape.{FileShape}
+use Rattle.nd_base.specs.Array.{Array}
+use Rattle.cdf_write.specs.Layout.{layout, header, header_length, row}
+
+plain_dim : Dim
+plain_dim = record { size = 2; offset = pos 0; binning = pos 1; reverse = false }
+
+small_shape : FileShape
+unfolding plain_dim
+small_shape = record { kind = UInt8; dims = plain_dim ∷ plain_dim ∷ []; attrs = []; width = 256; extras = [] }
+
+small_frame : Array
+unfolding plain_dim
+small_frame = record {
+  id = pos 1;
+  stamp = 0;
+  sec = pos 0;
+  nsec = pos 0;
+  kind = UInt8;
+  dims = plain_dim ∷ plain_dim ∷ [];
+  samples = pos 1 ∷ pos 2 ∷ pos 3 ∷ pos 4 ∷ [];
+  attrs = [];
+}
+
+-- the bytes from the left: magic and numrecs, four dimensions, seven attributes, five variables, one record
+small_file : List ℕ
+small_file =
+    (67 ∷ 68 ∷ 70 ∷ 1 ∷ 0 ∷ 0 ∷ 0 ∷ 1 ∷ []) ++
+    (0 ∷ 0 ∷ 0 ∷ 10 ∷ 0 ∷ 0 ∷ 0 ∷ 4 ∷ []) ++
+    (0 ∷ 0 ∷ 0 ∷ 9 ∷ []) ++ codes "numArrays" ++ (0 ∷ 0 ∷ 0 ∷ 0 ∷ 0 ∷ 0 ∷ 0 ∷ []) ++
+    (0 ∷ 0 ∷ 0 ∷ 4 ∷ []) ++ codes "dim0" ++ (0 ∷ 0 ∷ 0 ∷ 2 ∷ []) ++
+    (0 ∷ 0 ∷ 0 ∷ 4 ∷ []) ++ codes "dim1" ++ (0 ∷ 0 ∷ 0 ∷ 2 ∷ []) ++
+    (0 ∷ 0 ∷ 0 ∷ 14 ∷ []) ++ codes "attrStringSize" ++ (0 ∷ 0 ∷ 0 ∷ 0 ∷ 1 ∷ 0 ∷ []) ++
+    (0 ∷ 0 ∷ 0 ∷ 12 ∷ 0 ∷ 0 ∷ 0 ∷ 7 ∷ []) ++
+    (0 ∷ 0 ∷ 0 ∷ 8 ∷ []) ++ codes "dataType" ++ (0 ∷ 0 ∷ 0 ∷ 4 ∷ 0 ∷ 0 ∷ 0 ∷ 1 ∷ 0 ∷ 0 ∷ 0 ∷ 1 ∷ []) ++
+    (0 ∷ 0 ∷ 0 ∷ 19 ∷ []) ++ codes "NDNetCDFFileVersion" ++ (0 ∷ 0 ∷ 0 ∷ 0 ∷ 6 ∷ 0 ∷ 0 ∷ 0 ∷ 1 ∷ 64 ∷ 8 ∷ 0 ∷ 0 ∷ 0 ∷ 0 ∷ 0 ∷ 0 ∷ []) ++
+    (0 ∷ 0 ∷ 0 ∷ 12 ∷ []) ++ codes "numArrayDims" ++ (0 ∷ 0 ∷ 0 ∷ 4 ∷ 0 ∷ 0 ∷ 0 ∷ 1 ∷ 0 ∷ 0 ∷ 0 ∷ 2 ∷ []) ++
+    (0 ∷ 0 ∷ 0 ∷ 7 ∷ []) ++ codes "dimSize" ++ (0 ∷ 0 ∷ 0 ∷ 0 ∷ 4 ∷ 0 ∷ 0 ∷ 0 ∷ 2 ∷ 0 ∷ 0 ∷ 0 ∷ 2 ∷ 0 ∷ 0 ∷ 0 ∷ 2 ∷ []) ++
+    (0 ∷ 0 ∷ 0 ∷ 9 ∷ []) ++ codes "dimOffset" ++ (0 ∷ 0 ∷ 0 ∷ 0 ∷ 0 ∷ 0 ∷ 4 ∷ 0 ∷ 0 ∷ 0 ∷ 2 ∷ 0 ∷ 0 ∷ 0 ∷ 0 ∷ 0 ∷ 0 ∷ 0 ∷ 0 ∷ []) ++
+    (0 ∷ 0 ∷ 0 ∷ 10 ∷ []) ++ codes "dimBinning" ++ (0 ∷ 0 ∷ 0 ∷ 0 ∷ 0 ∷ 4 ∷ 0 ∷ 0 ∷ 0 ∷ 2 ∷ 0 ∷ 0 ∷ 0 ∷ 1 ∷ 0 ∷ 0 ∷ 0 ∷ 1 ∷ []) ++
+    (0 ∷ 0 ∷ 0 ∷ 10 ∷ []) ++ codes "dimReverse" ++ (0 ∷ 0 ∷ 0 ∷ 0 ∷ 0 ∷ 4 ∷ 0 ∷ 0 ∷ 0 ∷ 2 ∷ 0 ∷ 0 ∷ 0 ∷ 0 ∷ 0 ∷ 0 ∷ 0 ∷ 0 ∷ []) ++
+    (0 ∷ 0 ∷ 0 ∷ 11 ∷ 0 ∷ 0 ∷ 0 ∷ 5 ∷ []) ++
+    (0 ∷ 0 ∷ 0 ∷ 8 ∷ []) ++ codes "uniqueId" ++ (0 ∷ 0 ∷ 0 ∷ 1 ∷ 0 ∷ 0 ∷ 0 ∷ 0 ∷ 0 ∷ 0 ∷ 0 ∷ 0 ∷ 0 ∷ 0 ∷ 0 ∷ 0 ∷ 0 ∷ 0 ∷ 0 ∷ 4 ∷ 0 ∷ 0 ∷ 0 ∷ 4 ∷ 0 ∷ 0 ∷ 2 ∷ 28 ∷ []) ++
+    (0 ∷ 0 ∷ 0 ∷ 9 ∷ []) ++ codes "timeStamp" ++ (0 ∷ 0 ∷ 0 ∷ 0 ∷ 0 ∷ 0 ∷ 1 ∷ 0 ∷ 0 ∷ 0 ∷ 0 ∷ 0 ∷ 0 ∷ 0 ∷ 0 ∷ 0 ∷ 0 ∷ 0 ∷ 0 ∷ 0 ∷ 0 ∷ 0 ∷ 6 ∷ 0 ∷ 0 ∷ 0 ∷ 8 ∷ 0 ∷ 0 ∷ 2 ∷ 32 ∷ []) ++
+    (0 ∷ 0 ∷ 0 ∷ 10 ∷ []) ++ codes "epicsTSSec" ++ (0 ∷ 0 ∷ 0 ∷ 0 ∷ 0 ∷ 1 ∷ 0 ∷ 0 ∷ 0 ∷ 0 ∷ 0 ∷ 0 ∷ 0 ∷ 0 ∷ 0 ∷ 0 ∷ 0 ∷ 0 ∷ 0 ∷ 0 ∷ 0 ∷ 4 ∷ 0 ∷ 0 ∷ 0 ∷ 4 ∷ 0 ∷ 0 ∷ 2 ∷ 40 ∷ []) ++
+    (0 ∷ 0 ∷ 0 ∷ 11 ∷ []) ++ codes "epicsTSNsec" ++ (0 ∷ 0 ∷ 0 ∷ 0 ∷ 1 ∷ 0 ∷ 0 ∷ 0 ∷ 0 ∷ 0 ∷ 0 ∷ 0 ∷ 0 ∷ 0 ∷ 0 ∷ 0 ∷ 0 ∷ 0 ∷ 0 ∷ 0 ∷ 4 ∷ 0 ∷ 0 ∷ 0 ∷ 4 ∷ 0 ∷ 0 ∷ 2 ∷ 44 ∷ []) ++
+    (0 ∷ 0 ∷ 0 ∷ 10 ∷ []) ++ codes "array_data" ++ (0 ∷ 0 ∷ 0 ∷ 0 ∷ 0 ∷ 3 ∷ 0 ∷ 0 ∷ 0 ∷ 0 ∷ 0 ∷ 0 ∷ 0 ∷ 1 ∷ 0 ∷ 0 ∷ 0 ∷ 2 ∷ 0 ∷ 0 ∷ 0 ∷ 0 ∷ 0 ∷ 0 ∷ 0 ∷ 0 ∷ 0 ∷ 0 ∷ 0 ∷ 1 ∷ 0 ∷ 0 ∷ 0 ∷ 4 ∷ 0 ∷ 0 ∷ 2 ∷ 48 ∷ []) ++
+    (0 ∷ 0 ∷ 0 ∷ 1 ∷ 0 ∷ 0 ∷ 0 ∷ 0 ∷ 0 ∷ 0 ∷ 0 ∷ 0 ∷ 0 ∷ 0 ∷ 0 ∷ 0 ∷ 0 ∷ 0 ∷ 0 ∷ 0 ∷ 1 ∷ 2 ∷ 3 ∷ 4 ∷ [])
+
+small_layout : layout small_shape (small_frame ∷ []) ≡ small_file
+unfolding small_shape small_frame small_file plain_dim header header_length row
+small_layout = refl
+
+small_header : header_length small_shape ≡ 540
+unfolding small_shape plain_dim header_length
+small_header = refl

@@ -1,0 +1,9 @@
+pub mod Spelling
+pub mod Columns
+pub mod DimParts
+pub mod Layout
+pub mod Lengths
+pub mod Writable
+pub mod LayoutTests
+pub mod SpellingLaws
+pub mod LengthLaws

@@ -1,0 +1,4 @@
+pub mod Arenas
+pub mod Shelves
+pub mod Libraries
+pub mod Sets

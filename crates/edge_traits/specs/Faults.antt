@@ -1,0 +1,11 @@
+-- Counts of faults.
+use Rattle.std.specs.Prelude.{◌≡◌, ℕ, ◌+◌, ◌-◌, ◌^◌, ◌≤◌, min, Result, Ok, Err}
+
+-- the count rose, or stands at the greatest `u64`
+abbrev pub Rose : ℕ → ℕ → Type 0
+Rose before now = min (before + 1) (2 ^ 64 - 1) ≤ now
+
+-- an Ok leaves the count, and an Err comes only where it rose
+abbrev pub Counts : {T E : Type 0} → ℕ → ℕ → Result T E → Type 0
+Counts before now (Ok x) = now ≡ before
+Counts before now (Err e) = (before ≤ now) × Rose before now

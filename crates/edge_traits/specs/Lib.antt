@@ -1,0 +1,9 @@
+pub mod Faults
+pub mod FaultLaws
+pub mod Files
+pub mod FileLaws
+pub mod Written
+pub mod Memory
+pub mod Arena
+pub mod MemoryLaws
+pub mod Examples

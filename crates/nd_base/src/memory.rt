@@ -1,0 +1,23 @@
+//! The answer for want of memory.
+
+use std::alloc::{AllocError, AllocFailed};
+
+/// The answer of a call that was refused memory. Nothing else has happened then.
+#[derive(Clone, Copy, Debug, PartialEq, Eq)]
+pub struct OutOfMemory;
+
+impl From<AllocError> for OutOfMemory {
+    ghost from_gives = { λ _ _. Unit {0} };
+
+    fn from(_: AllocError) -> Self {
+        OutOfMemory
+    }
+}
+
+impl<T: Drop> From<AllocFailed<T>> for OutOfMemory {
+    ghost from_gives = { λ _ _. Unit {0} };
+
+    fn from(_: AllocFailed<T>) -> Self {
+        OutOfMemory
+    }
+}

@@ -1,0 +1,172 @@
+//! What no clause says: that a call can succeed, and worked values.
+
+use crate::{Attr, AttrValue, Bytes, Dim, Head, Name, NdArray, SampleType, Seq, ShapeFault};
+use std::alloc::{AllocError, Global};
+use std::test::Fail;
+
+fn head(alloc: Global) -> Result<Head, AllocError> {
+    let name = Name::new(String::from_str(alloc, "ColorMode")?);
+    let attr = Attr {
+        name,
+        value: AttrValue::Whole(0),
+    };
+    Ok(Head {
+        id: 7,
+        stamp: 1,
+        sec: 2,
+        nsec: 3,
+        attrs: Seq::new(vec![in alloc; attr]?),
+    })
+}
+
+fn dims(alloc: Global, sizes: &[u32]) -> Result<Vec<Dim>, AllocError> {
+    let mut dims = Vec::new(alloc);
+    for size in sizes {
+        dims.push(Dim {
+            size: *size,
+            offset: 0,
+            binning: 1,
+            reverse: false,
+        })?;
+    }
+    Ok(dims)
+}
+
+/// An array of these sizes with so many zero bytes.
+fn zeros(
+    alloc: Global,
+    kind: SampleType,
+    sizes: &[u32],
+    bytes: usize,
+) -> Result<Option<ShapeFault>, AllocError> {
+    let samples = vec![in alloc; 0; bytes]?;
+    match NdArray::new(alloc, head(alloc)?, kind, dims(alloc, sizes)?, samples) {
+        Ok(_) => Ok(None),
+        Err(fault) => Ok(Some(fault)),
+    }
+}
+
+#[test]
+fn refusals_come_in_their_order(rt: HostRuntime) -> Result<(), Fail> {
+    let alloc = rt.alloc();
+    let one_to_eleven: [u32; 11] = [1; 11];
+    let rows = [
+        (SampleType::UInt8, [2u32, 2].as_slice(), 4, None),
+        (SampleType::Int16, [3, 1].as_slice(), 6, None),
+        (SampleType::UInt32, [1].as_slice(), 4, None),
+        (SampleType::UInt8, &one_to_eleven[..10], 1, None),
+        (
+            SampleType::UInt8,
+            [].as_slice(),
+            1,
+            Some(ShapeFault::BadShape),
+        ),
+        (
+            SampleType::UInt8,
+            one_to_eleven.as_slice(),
+            1,
+            Some(ShapeFault::BadShape),
+        ),
+        (
+            SampleType::UInt8,
+            [0, 4_294_967_295, 2].as_slice(),
+            0,
+            Some(ShapeFault::BadShape),
+        ),
+        (
+            SampleType::UInt8,
+            [67_108_865].as_slice(),
+            0,
+            Some(ShapeFault::TooManySamples),
+        ),
+        (
+            SampleType::UInt8,
+            [4_294_967_295, 4_294_967_295, 4_294_967_295].as_slice(),
+            1,
+            Some(ShapeFault::TooManySamples),
+        ),
+        (
+            SampleType::UInt8,
+            [8_192, 8_192].as_slice(),
+            1,
+            Some(ShapeFault::BadShape),
+        ),
+        (
+            SampleType::Int32,
+            [2].as_slice(),
+            4,
+            Some(ShapeFault::BadShape),
+        ),
+    ];
+    for (kind, sizes, bytes, fault) in rows {
+        assert_eq!(rt;
+            zeros(alloc, kind, sizes, bytes)?,
+            fault,
+            "{kind:?} {sizes:?} {bytes}"
+        );
+    }
+    Ok(())
+}
+
+/// The first sample of these bytes.
+fn first(alloc: Global, kind: SampleType, bytes: &[u8]) -> Result<i64, Fail> {
+    let array = NdArray::new(
+        alloc,
+        head(alloc)?,
+        kind,
+        dims(alloc, &[1])?,
+        bytes.to_vec(alloc)?,
+    );
+    let array = array.map_err(|_| "refused")?;
+    if array.bytes().len() != array.kind().width() {
+        return Err("other bytes".into());
+    }
+    Ok(first_sample(&array).ok_or("no sample")?)
+}
+
+fn first_sample(array: &NdArray) -> Option<i64> {
+    if array.bytes().is_empty() {
+        return None;
+    }
+    Some(array.sample(0))
+}
+
+#[test]
+fn samples_are_whole_numbers(rt: HostRuntime) -> Result<(), Fail> {
+    let alloc = rt.alloc();
+    let rows = [
+        (SampleType::Int8, [0x80].as_slice(), -128),
+        (SampleType::UInt8, [0x80].as_slice(), 128),
+        (SampleType::Int16, [0xff, 0xff].as_slice(), -1),
+        (SampleType::UInt16, [0xff, 0xff].as_slice(), 65_535),
+        (SampleType::UInt16, [0x01, 0x02].as_slice(), 258),
+        (
+            SampleType::Int32,
+            [0x80, 0, 0, 0].as_slice(),
+            -2_147_483_648,
+        ),
+        (
+            SampleType::UInt32,
+            [0x80, 0, 0, 1].as_slice(),
+            2_147_483_649,
+        ),
+    ];
+    for (kind, bytes, number) in rows {
+        assert_eq!(rt; first(alloc, kind, bytes)?, number, "{kind:?} {bytes:?}");
+    }
+    Ok(())
+}
+
+#[test]
+fn parts_come_back_as_they_were_given(rt: HostRuntime) -> Result<(), Fail> {
+    let alloc = rt.alloc();
+    let bytes = Bytes::new([1, 2, 3].to_vec(alloc)?);
+    assert_eq!(rt; bytes.clone()?.list(), [1, 2, 3].as_slice());
+    assert_eq!(rt; bytes.into_list().as_slice(), [1, 2, 3].as_slice());
+    let name = Name::new(String::from_str(alloc, "roi")?);
+    assert_eq!(rt; name.clone()?.text(), "roi");
+    let list = Seq::new([4u32, 5].to_vec(alloc)?);
+    assert_eq!(rt; list.as_slice(), [4, 5].as_slice());
+    assert_eq!(rt; list.into_vec().as_slice(), [4, 5].as_slice());
+    Ok(())
+}

@@ -1,0 +1,11 @@
+pub mod KeyLists
+pub mod KeyPlaces
+pub mod TreeKeys
+pub mod SlotLists
+pub mod Bridges
+pub mod Missing
+pub mod Picks
+pub mod Sound
+pub mod Changes
+pub mod Walks
+pub mod Giving

@@ -1,0 +1,9 @@
+pub mod Grants
+pub mod GrantLaws
+pub mod Ledger
+pub mod LedgerLaws
+pub mod Worked
+pub mod Keys
+pub mod KeyTrees
+pub mod KeyTreeFalls
+pub mod Inside

@@ -1,0 +1,4 @@
+mod InboxRuns
+mod Order
+mod Looks
+mod Runs

@@ -1,0 +1,12 @@
+//! The inbox of a node, and the list that puts results back in the order of their ids.
+#![tactic(auto)]
+
+mod inboxes;
+mod out_of_memory;
+mod sort_lists;
+#[cfg(test)]
+mod tests;
+
+pub use inboxes::{Full, Inbox, queues_every_run};
+pub use out_of_memory::OutOfMemory;
+pub use sort_lists::{Due, Placed, SortFull, SortList, Waiting, sorts_every_run};
