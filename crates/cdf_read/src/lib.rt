@@ -1,0 +1,19 @@
+//! The header of a netCDF classic file (CDF-1), read from its bytes: every header with all its parts, or
+//! the first fault from the left with its place.
+#![tactic(auto)]
+
+mod fault;
+mod field;
+mod head;
+mod header;
+mod parts;
+mod place;
+mod plain;
+mod size;
+mod word;
+
+pub use fault::CdfFault;
+pub use head::{HeadAttr, HeadDim, HeadVar, Header};
+pub use header::{header_or_fault, read_header};
+pub use place::value_place;
+pub use plain::{PlainHead, plain_head_is_one, read_plain};

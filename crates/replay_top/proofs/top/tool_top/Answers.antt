@@ -1,0 +1,18 @@
+use Rattle.replay_top.proofs.Claims.{Ends-none, answered_plain, answered_other}
+use Rattle.replay_top.proofs.top.tool_top.Goals as goal
+
+pub returns-clause-usage : goal.returns-clause-usage
+returns-clause-usage g c =
+    let ends = c.run_command.ensures.ends in (
+      (λ usage. (rw usage at ends).0),
+      (λ none. Ends-none c.run_command.result _ _ _ _ _ (rw none at ends)),
+    )
+
+pub returns-clause-complete : goal.returns-clause-complete
+returns-clause-complete g c stack prefix file command is none =
+    let ends = rw command at c.run_command.ensures.ends in
+    let cause = c.run_command.ensures.cause in
+    record {
+      plain = answered_plain c.run_command.result _ _ _ _ _ stack prefix file _ _ ends cause is none;
+      other = answered_other c.run_command.result _ _ _ _ _ stack prefix file _ _ ends cause is none;
+    }

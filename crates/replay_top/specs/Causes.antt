@@ -1,0 +1,18 @@
+-- Which counts of faults may rise with which status.
+use Rattle.std.specs.Prelude.{◌≡◌, ℕ}
+use Rattle.edge_traits.specs.Faults.{Rose}
+use Rattle.replay_top.specs.declared.status.Status.{Status}
+use Rattle.replay_top.specs.declared.status.Status.TheVariants.{ReadFault, ShelfFault, OutFault}
+
+-- the counts of faults of the library, the shelf and the sink
+pub record Counts : Type 0 where
+  pub library : ℕ
+  pub shelf : ℕ
+  pub sink : ℕ
+
+-- a fault comes only where its object's count rose, and the other two stay; at any other status all stay
+abbrev pub IsCause : Status → Counts → Counts → Type 0
+IsCause ReadFault before after = Rose before.library after.library × (after.shelf ≡ before.shelf) × (after.sink ≡ before.sink)
+IsCause ShelfFault before after = (after.library ≡ before.library) × Rose before.shelf after.shelf × (after.sink ≡ before.sink)
+IsCause OutFault before after = (after.library ≡ before.library) × (after.shelf ≡ before.shelf) × Rose before.sink after.sink
+IsCause status before after = after ≡ before

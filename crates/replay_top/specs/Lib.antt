@@ -1,0 +1,11 @@
+pub mod StatusText
+pub mod Printed
+pub mod Reads
+pub mod Command
+pub mod Copy
+pub mod Causes
+pub mod Answers
+pub mod Saving
+pub mod Stages
+pub mod Claims
+pub mod Words

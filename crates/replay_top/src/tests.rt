@@ -1,0 +1,362 @@
+//! Worked runs of the top call over objects in memory.
+
+use crate::{StackFault, Status, status_text, tool_top};
+use edge_traits::{Failed, Library, MemLibrary, MemShelf, MemSink, Shelf, Sink, SureLibrary};
+use std::alloc::{AllocError, Global};
+use std::test::Fail;
+
+/// The parts of a file in plain form between the numbers that differ: the number of frames, their rows, their
+/// columns, and the place of the first value.
+const BEFORE_FRAMES: &[u8] = b"CDF\x01";
+
+const BEFORE_ROWS: &[u8] = b"\0\0\0\x0a\0\0\0\x03\0\0\0\x01n\0\0\0\0\0\0\0\0\0\0\x01y\0\0\0";
+
+const BEFORE_COLUMNS: &[u8] = b"\0\0\0\x01x\0\0\0";
+
+const BEFORE_BEGIN: [&[u8]; 3] = [
+    b"\0\0\0\x0c\0\0\0\x01\0\0\0\x08dataType\0\0\0\x04\0\0\0\x01\0\0\0\x01",
+    b"\0\0\0\x0b\0\0\0\x01\0\0\0\x0aarray_data\0\0",
+    b"\0\0\0\x03\0\0\0\0\0\0\0\x01\0\0\0\x02\0\0\0\0\0\0\0\0\0\0\0\x01\0\0\0\x04",
+];
+
+/// A copy of one frame of two by two with the samples 1 to 4, part by part.
+const COPY: [&[u8]; 21] = [
+    b"CDF\x01\0\0\0\x01",
+    b"\0\0\0\x0a\0\0\0\x04",
+    b"\0\0\0\x09numArrays\0\0\0\0\0\0\0",
+    b"\0\0\0\x04dim0\0\0\0\x02",
+    b"\0\0\0\x04dim1\0\0\0\x02",
+    b"\0\0\0\x0eattrStringSize\0\0\0\0\x01\0",
+    b"\0\0\0\x0c\0\0\0\x07",
+    b"\0\0\0\x08dataType\0\0\0\x04\0\0\0\x01\0\0\0\x01",
+    b"\0\0\0\x13NDNetCDFFileVersion\0\0\0\0\x06\0\0\0\x01@\x08\0\0\0\0\0\0",
+    b"\0\0\0\x0cnumArrayDims\0\0\0\x04\0\0\0\x01\0\0\0\x02",
+    b"\0\0\0\x07dimSize\0\0\0\0\x04\0\0\0\x02\0\0\0\x02\0\0\0\x02",
+    b"\0\0\0\x09dimOffset\0\0\0\0\0\0\x04\0\0\0\x02\0\0\0\0\0\0\0\0",
+    b"\0\0\0\x0adimBinning\0\0\0\0\0\x04\0\0\0\x02\0\0\0\x01\0\0\0\x01",
+    b"\0\0\0\x0adimReverse\0\0\0\0\0\x04\0\0\0\x02\0\0\0\0\0\0\0\0",
+    b"\0\0\0\x0b\0\0\0\x05",
+    b"\0\0\0\x08uniqueId\0\0\0\x01\0\0\0\0\0\0\0\0\0\0\0\0\0\0\0\x04\0\0\0\x04\0\0\x02\x1c",
+    b"\0\0\0\x09timeStamp\0\0\0\0\0\0\x01\0\0\0\0\0\0\0\0\0\0\0\0\0\0\0\x06\0\0\0\x08\0\0\x02 ",
+    b"\0\0\0\x0aepicsTSSec\0\0\0\0\0\x01\0\0\0\0\0\0\0\0\0\0\0\0\0\0\0\x04\0\0\0\x04\0\0\x02(",
+    b"\0\0\0\x0bepicsTSNsec\0\0\0\0\x01\0\0\0\0\0\0\0\0\0\0\0\0\0\0\0\x04\0\0\0\x04\0\0\x02,",
+    b"\0\0\0\x0aarray_data\0\0\0\0\0\x03\0\0\0\0\0\0\0\x01\0\0\0\x02\0\0\0\0\0\0\0\0\0\0\0\x01\0\0\0\x04\0\0\x020",
+    b"\0\0\0\x01\0\0\0\0\0\0\0\0\0\0\0\0\0\0\0\0\x01\x02\x03\x04",
+];
+
+/// A file in plain form whose values follow its header.
+fn stack(
+    alloc: Global,
+    frames: u32,
+    rows: u32,
+    columns: u32,
+    values: &[u8],
+) -> Result<Vec<u8>, AllocError> {
+    let mut bytes = Vec::new(alloc);
+    bytes.extend_from_slice(BEFORE_FRAMES)?;
+    bytes.extend_from_slice(&frames.to_be_bytes())?;
+    bytes.extend_from_slice(BEFORE_ROWS)?;
+    bytes.extend_from_slice(&rows.to_be_bytes())?;
+    bytes.extend_from_slice(BEFORE_COLUMNS)?;
+    bytes.extend_from_slice(&columns.to_be_bytes())?;
+    for part in BEFORE_BEGIN {
+        bytes.extend_from_slice(part)?;
+    }
+    bytes.extend_from_slice(&144u32.to_be_bytes())?;
+    bytes.extend_from_slice(values)?;
+    Ok(bytes)
+}
+
+/// The one frame of two by two.
+fn small_stack(alloc: Global) -> Result<Vec<u8>, AllocError> {
+    stack(alloc, 1, 2, 2, &[1, 2, 3, 4])
+}
+
+fn copy_of_small_stack(alloc: Global) -> Result<Vec<u8>, AllocError> {
+    let mut bytes = Vec::new(alloc);
+    for part in COPY {
+        bytes.extend_from_slice(part)?;
+    }
+    Ok(bytes)
+}
+
+fn words(alloc: Global, words: &[&str]) -> Result<Vec<String>, AllocError> {
+    let mut list = Vec::new(alloc);
+    for word in words {
+        list.push(String::from_str(alloc, word)?)?;
+    }
+    Ok(list)
+}
+
+/// A library with one file, `s.nc`.
+fn library(alloc: Global, bytes: Vec<u8>, fails: Vec<u64>) -> Result<MemLibrary, AllocError> {
+    let name = String::from_str(alloc, "s.nc")?;
+    MemLibrary::new(alloc, vec![in alloc; (name, bytes)]?, fails)
+}
+
+/// Calls the top call with these words. What it says of its objects is of no use to a test.
+fn call<L: Library, K: Shelf, T: Sink>(
+    alloc: Global,
+    list: &[&str],
+    library: &mut L,
+    shelf: &mut K,
+    sink: &mut T,
+) -> Result<Status, AllocError> {
+    let words = words(alloc, list)?;
+    Ok(tool_top(alloc, &words, library, shelf, sink))
+}
+
+/// What a run of `copy s.nc x_` leaves.
+#[derive(Drop)]
+struct Outcome {
+    status: Status,
+    shelf: MemShelf,
+    sink: MemSink,
+    reads: u64,
+}
+
+/// Which calls of the library, the shelf and the sink fail.
+#[derive(Drop)]
+struct Fails {
+    library: Vec<u64>,
+    shelf: Vec<u64>,
+    sink: Vec<u64>,
+}
+
+fn none(alloc: Global) -> Fails {
+    Fails {
+        library: Vec::new(alloc),
+        shelf: Vec::new(alloc),
+        sink: Vec::new(alloc),
+    }
+}
+
+fn copy(alloc: Global, bytes: Vec<u8>, fails: Fails) -> Result<Outcome, AllocError> {
+    let mut library = library(alloc, bytes, fails.library)?;
+    let mut shelf = MemShelf::new(alloc, 2_000_000, 4, fails.shelf)?;
+    let mut sink = MemSink::new(alloc, 100, fails.sink)?;
+    let status = call(
+        alloc,
+        &["copy", "s.nc", "x_"],
+        &mut library,
+        &mut shelf,
+        &mut sink,
+    )?;
+    Ok(Outcome {
+        status,
+        shelf,
+        sink,
+        reads: library.calls(),
+    })
+}
+
+#[test]
+fn copies_one_frame_two_by_two(rt: HostRuntime) -> Result<(), Fail> {
+    let alloc = rt.alloc();
+    let run = copy(alloc, small_stack(alloc)?, none(alloc))?;
+    assert_eq!(rt; run.status, Status::Done);
+    assert_eq!(rt; run.shelf.names_count(), 1);
+    let written = run.shelf.bytes("x_copy_000.nc").ok_or("no file")?;
+    assert_eq!(rt; written, copy_of_small_stack(alloc)?.as_slice());
+    assert_eq!(rt; run.sink.bytes(), b"frames 1\n".as_slice());
+    Ok(())
+}
+
+#[test]
+fn pads_odd_frames_with_the_fill_value(rt: HostRuntime) -> Result<(), Fail> {
+    let alloc = rt.alloc();
+    let run = copy(
+        alloc,
+        stack(alloc, 2, 1, 3, &[1, 2, 3, 4, 5, 6])?,
+        none(alloc),
+    )?;
+    assert_eq!(rt; run.status, Status::Done);
+    let written = run.shelf.bytes("x_copy_000.nc").ok_or("no file")?;
+    assert_eq!(rt; written.len(), 588);
+    assert_eq!(rt; &written[540..544], [0, 0, 0, 1].as_slice());
+    assert_eq!(rt; &written[560..564], [1, 2, 3, 0x81].as_slice());
+    assert_eq!(rt; &written[564..568], [0, 0, 0, 2].as_slice());
+    assert_eq!(rt; &written[584..588], [4, 5, 6, 0x81].as_slice());
+    assert_eq!(rt; run.sink.bytes(), b"frames 2\n".as_slice());
+    Ok(())
+}
+
+#[test]
+fn writes_no_file_for_no_frame(rt: HostRuntime) -> Result<(), Fail> {
+    let alloc = rt.alloc();
+    let run = copy(alloc, stack(alloc, 0, 2, 2, &[])?, none(alloc))?;
+    assert_eq!(rt; run.status, Status::Done);
+    assert_eq!(rt; run.shelf.names_count(), 0);
+    assert_eq!(rt; run.sink.bytes(), b"frames 0\n".as_slice());
+    Ok(())
+}
+
+#[test]
+fn refuses_a_file_one_byte_too_short(rt: HostRuntime) -> Result<(), Fail> {
+    let alloc = rt.alloc();
+    let mut bytes = small_stack(alloc)?;
+    bytes.truncate(147);
+    let run = copy(alloc, bytes, none(alloc))?;
+    assert_eq!(rt; run.status, Status::StackBytes(StackFault::NotPlain));
+    assert_eq!(rt; run.shelf.names_count(), 0);
+    assert_eq!(rt; run.sink.bytes().len(), 0);
+    Ok(())
+}
+
+#[test]
+fn reads_nothing_of_a_file_past_the_limit(rt: HostRuntime) -> Result<(), Fail> {
+    let alloc = rt.alloc();
+    let mut fails = none(alloc);
+    fails.library.push(1)?;
+    let run = copy(alloc, vec![in alloc; 0; 1_048_577]?, fails)?;
+    assert_eq!(rt; run.status, Status::StackBytes(StackFault::NotPlain));
+    assert_eq!(rt; run.reads, 1);
+    let mut at_limit = none(alloc);
+    at_limit.library.push(1)?;
+    let run = copy(alloc, vec![in alloc; 0; 1_048_576]?, at_limit)?;
+    assert_eq!(rt; run.status, Status::ReadFault);
+    Ok(())
+}
+
+#[test]
+fn copies_the_largest_file(rt: HostRuntime) -> Result<(), Fail> {
+    let alloc = rt.alloc();
+    let values = vec![in alloc; 7; 1_048_432]?;
+    let run = copy(alloc, stack(alloc, 1, 16, 65_527, &values)?, none(alloc))?;
+    assert_eq!(rt; run.status, Status::Done);
+    let written = run.shelf.bytes("x_copy_000.nc").ok_or("no file")?;
+    assert_eq!(rt; written.len(), 560 + 1_048_432);
+    Ok(())
+}
+
+#[test]
+fn other_words_are_no_command(rt: HostRuntime) -> Result<(), Fail> {
+    let alloc = rt.alloc();
+    let mut library = library(alloc, small_stack(alloc)?, vec![in alloc]?)?;
+    let mut shelf = MemShelf::new(alloc, 1_000, 4, vec![in alloc]?)?;
+    let mut sink = MemSink::new(alloc, 100, vec![in alloc]?)?;
+    let lists: [&[&str]; 6] = [
+        &[],
+        &["copy"],
+        &["copy", "s.nc"],
+        &["copy", "s.nc", "x_", "y"],
+        &["copy ", "s.nc", "x_"],
+        &["Copy", "s.nc", "x_"],
+    ];
+    for list in lists {
+        let status = call(alloc, list, &mut library, &mut shelf, &mut sink)?;
+        assert_eq!(rt; status, Status::Usage);
+    }
+    assert_eq!(rt; (library.calls(), shelf.calls(), sink.calls()), (0, 0, 0));
+    Ok(())
+}
+
+/// Which object has a failing call.
+#[derive(Clone, Copy, Debug)]
+enum Failing {
+    Library,
+    Shelf,
+    Sink,
+}
+
+#[test]
+fn each_single_failing_call_is_named(rt: HostRuntime) -> Result<(), Fail> {
+    let alloc = rt.alloc();
+    let whole = copy_of_small_stack(alloc)?;
+    let rows = [
+        (Failing::Library, 0, Status::ReadFault, None),
+        (Failing::Library, 1, Status::ReadFault, None),
+        (Failing::Shelf, 0, Status::ShelfFault, None),
+        (Failing::Shelf, 1, Status::ShelfFault, Some(0)),
+        (Failing::Shelf, 2, Status::ShelfFault, Some(540)),
+        (Failing::Shelf, 3, Status::ShelfFault, Some(564)),
+        (Failing::Sink, 0, Status::OutFault, Some(564)),
+    ];
+    for (object, call, status, length) in rows {
+        let mut fails = none(alloc);
+        match object {
+            Failing::Library => fails.library.push(call)?,
+            Failing::Shelf => fails.shelf.push(call)?,
+            Failing::Sink => fails.sink.push(call)?,
+        }
+        let run = copy(alloc, small_stack(alloc)?, fails)?;
+        assert_eq!(rt; run.status, status, "{object:?} {call}");
+        assert_eq!(rt; run.sink.bytes().len(), 0);
+        let left = run.shelf.bytes("x_copy_000.nc");
+        assert_eq!(rt; left.map(|bytes| bytes.len()), length, "{object:?} {call}");
+        assert!(rt; left.is_none_or(|bytes| whole.starts_with(bytes)));
+    }
+    Ok(())
+}
+
+#[test]
+fn statuses_have_their_texts(rt: HostRuntime) -> Result<(), Fail> {
+    let alloc = rt.alloc();
+    let rows = [
+        (Status::Done, "status 0 Done"),
+        (Status::Usage, "status 1 Usage"),
+        (
+            Status::StackBytes(StackFault::NotPlain),
+            "status 4 StackBytes NotPlain",
+        ),
+        (Status::ReadFault, "status 6 ReadFault"),
+        (Status::ShelfFault, "status 7 ShelfFault"),
+        (Status::OutFault, "status 8 OutFault"),
+        (Status::OutOfMemory, "status 9 OutOfMemory"),
+    ];
+    for (status, text) in rows {
+        let words = status_text(alloc, &status).map_err(|_| "memory")?;
+        assert_eq!(rt; words.as_str(), text);
+    }
+    Ok(())
+}
+
+/// A library that gives one byte a read, and counts the reads.
+#[derive(Drop)]
+struct OneByteLibrary {
+    inner: SureLibrary,
+    reads: u64,
+}
+
+impl Library for OneByteLibrary {
+    ghost use Rattle.edge_traits.specs.Memory.{told};
+
+    ghost holds = { λ s. told s.inner.files };
+
+    ghost faults = { λ s. s.inner.faults };
+
+    fn size(&mut self, name: &str) -> Result<u64, Failed> {
+        self.inner.size(name)
+    }
+
+    fn read_at(&mut self, name: &str, off: u64, buf: &mut [u8]) -> Result<usize, Failed> {
+        self.reads = self.reads.saturating_add(1);
+        let first = buf.len().min(1);
+        self.inner.read_at(name, off, &mut buf[..first])
+    }
+}
+
+#[test]
+fn reads_on_after_short_reads(rt: HostRuntime) -> Result<(), Fail> {
+    let alloc = rt.alloc();
+    let name = String::from_str(alloc, "s.nc")?;
+    let files = vec![in alloc; (name, small_stack(alloc)?)]?;
+    let mut library = OneByteLibrary {
+        inner: SureLibrary::new(alloc, files)?,
+        reads: 0,
+    };
+    let mut shelf = MemShelf::new(alloc, 1_000, 1, vec![in alloc]?)?;
+    let mut sink = MemSink::new(alloc, 100, vec![in alloc]?)?;
+    let status = call(
+        alloc,
+        &["copy", "s.nc", "x_"],
+        &mut library,
+        &mut shelf,
+        &mut sink,
+    )?;
+    assert_eq!(rt; status, Status::Done);
+    assert!(rt; library.reads <= 149);
+    let written = shelf.bytes("x_copy_000.nc").ok_or("no file")?;
+    assert_eq!(rt; written, copy_of_small_stack(alloc)?.as_slice());
+    Ok(())
+}

@@ -1,0 +1,70 @@
+//! The top call.
+
+ghost use Rattle.std.specs.Prelude.{◌≡◌, ◌↔◌, map, None, string_bytes};
+ghost use Rattle.replay_top.specs.declared.status.StackFault.{StackFault};
+ghost use Rattle.replay_top.specs.Answers.{Ends, IsDone, HasStackFault, IsSaveBegun, IsPrintCutShort, IsRefused};
+ghost use Rattle.replay_top.specs.Causes.{IsCause};
+ghost use Rattle.replay_top.specs.Claims.{Completes};
+ghost use Rattle.replay_top.specs.Command.{command_of};
+
+use crate::copy::copy;
+use crate::status::Status;
+use crate::words::{Command, command_in};
+use edge_traits::{Library, Shelf, Sink};
+use std::alloc::Global;
+
+/// Does what the words ask for, and always returns.
+fn run_command<L: Library, K: Shelf, T: Sink>(
+    alloc: Global,
+    words: &[String],
+    library: &mut L,
+    shelf: &mut K,
+    out: &mut T,
+) -> Status
+    ensures ends { Ends result (command_of (map string_bytes words.now)) (L.holds library.old) (K.held shelf.old) (K.held shelf.new) (T.written out.old) (T.written out.new) }
+    ensures cause { IsCause result (record { library = L.faults library.old; shelf = K.faults shelf.old; sink = T.faults out.old })
+        (record { library = L.faults library.new; shelf = K.faults shelf.new; sink = T.faults out.new }) }
+{
+    match command_in(words) {
+        Some(Command::Copy { stack, prefix }) => copy(alloc, stack, prefix, library, shelf, out),
+        None => Status::Usage,
+    }
+}
+
+/// Does what the words of the command line ask for: it reads from the library, writes files to the shelf and
+/// prints to the sink, and answers how it ended. It waits for nobody and always returns.
+///
+/// The command is `copy STACK PREFIX`.
+pub fn tool_top<L: Library, K: Shelf, T: Sink>(
+    alloc: Global,
+    words: &[String],
+    library: &mut L,
+    shelf: &mut K,
+    out: &mut T,
+) -> Status
+    // Done: what the command is there for, and nothing else.
+    ensures done { result ≡ Status.Done →
+        IsDone (command_of (map string_bytes words.now)) (L.holds library.old) (K.held shelf.old) (K.held shelf.new) (T.written out.old) (T.written out.new) }
+
+    // Refusals: exactly where the words are no command; where the stack's bytes have that fault.
+    ensures usage { (result ≡ Status.Usage) ↔ (command_of (map string_bytes words.now) ≡ None) }
+    ensures refused { (fault : StackFault) → result ≡ Status.StackBytes fault → HasStackFault (command_of (map string_bytes words.now)) (L.holds library.old) fault }
+
+    // What a status other than Done leaves.
+    ensures untouched { IsRefused result → (K.held shelf.new ≡ K.held shelf.old) × (T.written out.new ≡ T.written out.old) }
+    ensures shelf_fault { result ≡ Status.ShelfFault →
+        IsSaveBegun (command_of (map string_bytes words.now)) (L.holds library.old) (K.held shelf.old) (K.held shelf.new) × (T.written out.new ≡ T.written out.old) }
+    ensures out_fault { result ≡ Status.OutFault →
+        IsPrintCutShort (command_of (map string_bytes words.now)) (L.holds library.old) (K.held shelf.old) (K.held shelf.new) (T.written out.old) (T.written out.new) }
+    ensures memory { result ≡ Status.OutOfMemory →
+        IsSaveBegun (command_of (map string_bytes words.now)) (L.holds library.old) (K.held shelf.old) (K.held shelf.new) × (T.written out.new ≡ T.written out.old) }
+
+    // Faults come only where their object's count rose; where none rose, the files decide.
+    ensures cause { IsCause result (record { library = L.faults library.old; shelf = K.faults shelf.old; sink = T.faults out.old })
+        (record { library = L.faults library.new; shelf = K.faults shelf.new; sink = T.faults out.new }) }
+    ensures complete { Completes result (command_of (map string_bytes words.now)) (L.holds library.old)
+        (record { library = L.faults library.old; shelf = K.faults shelf.old; sink = T.faults out.old })
+        (record { library = L.faults library.new; shelf = K.faults shelf.new; sink = T.faults out.new }) }
+{
+    run_command(alloc, words, library, shelf, out)
+}
