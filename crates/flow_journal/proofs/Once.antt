@@ -1,0 +1,116 @@
+-- A node accepts an array of each index once at most.
+use Rattle.std.proofs.Common.{◌≡◌, ◌≢◌, ℕ, zero, suc, ◌+◌, ◌≤◌, Bool, true, false, eqb, List, [], ◌∷◌, ◌++◌, refl, sym, ap, ◌∙◌, subst, arith, inl, inr}
+use Rattle.std.specs.Prelude.{flat_map}
+use Rattle.std.specs.List.{list_any}
+use Rattle.std.proofs.lemmas.Bool.{and_parts, or_from, ne_eqb, eqb-true, eq-eqb, true≢false, or_parts, cases_Bool}
+use Rattle.pool_ledger.specs.Grants.{above, missing_from, least_missing}
+use Rattle.flow_journal.specs.declared.entry.Entry.{Entry}
+use Rattle.flow_journal.specs.declared.entry.Entry.TheVariants.{Load, LoadRefused, Emit, Accept, Reclaim}
+use Rattle.flow_journal.specs.Setting.{Setting, node}
+use Rattle.flow_journal.specs.Pasts.{Past}
+use Rattle.flow_journal.specs.Hands.{standing}
+use Rattle.flow_journal.specs.Offered.{loads, offered_frames, next_index}
+use Rattle.flow_journal.specs.FirstEntries.{may_load, pool_grants}
+use Rattle.flow_journal.specs.Following.{owed}
+use Rattle.flow_journal.specs.Histories.{is_legal}
+use Rattle.flow_journal.proofs.Hands.{row_of, may_load-says}
+use Rattle.flow_journal.proofs.EntryCounts.{count, bit, count-cons, count-let_go-le, emits_at, accepts_at, loads_at, owed-answered, answers-by_Accept}
+use Rattle.flow_journal.proofs.Jobs.{puts-taken}
+use Rattle.flow_journal.proofs.Offers.{accepts-emitted}
+use Rattle.flow_journal.proofs.Issues.{takes-accepted, issues-loaded, comes-count, accepts-count}
+use Rattle.flow_journal.proofs.Counts.{times_by}
+use Rattle.flow_journal.proofs.Outs.{of_index}
+use Rattle.flow_journal.specs.Accepted.{accepts, emitted}
+use Rattle.flow_journal.proofs.Emissions.{emits-puts}
+
+-- THE LEAST MISSING NUMBER
+
+abbrev pub is_among : ℕ → List ℕ → Bool
+is_among k ks = list_any (λ j. eqb j k) ks
+
+not_above : (ks : List ℕ) (k : ℕ) → above ks ≤ k → is_among k ks ≡ false
+not_above [] k h = refl
+not_above (j ∷ ks) k h =
+    let ne : j ≢ k = omega arith in
+    or_from (eqb j k) (is_among k ks) (ne_eqb j k ne) (not_above ks k (omega arith))
+
+missing-not_among : (steps k : ℕ) (ks : List ℕ) → above ks ≤ k + steps → is_among (missing_from steps k ks) ks ≡ false
+missing-not_among zero k ks h = not_above ks k (omega arith)
+missing-not_among (suc n) k ks h =
+    elim (cases_Bool (is_among k ks)) [
+      | inl here ↦ rw here (missing-not_among n (k + 1) ks (omega arith))
+      | inr none ↦ rw (none, none) refl
+    ]
+
+-- the least missing number is missing
+pub least_missing-not_among : (ks : List ℕ) → is_among (least_missing ks) ks ≡ false
+least_missing-not_among ks = missing-not_among (above ks) 0 ks (omega arith)
+
+-- LOADS
+
+among-append : (k : ℕ) (xs ys : List ℕ) → is_among k (xs ++ ys) ≡ false → (is_among k xs ≡ false) × (is_among k ys ≡ false)
+among-append k [] ys h = (refl, h)
+among-append k (x ∷ xs) ys h =
+    let p = or_parts (eqb x k) (is_among k (xs ++ ys)) h in
+    let q = among-append k xs ys p.1 in
+    (or_from (eqb x k) (is_among k xs) p.0 q.0, q.1)
+
+not_loaded : (k : ℕ) (P : Past) → is_among k (flat_map loads P) ≡ false → count (loads_at k) P ≡ 0
+not_loaded k [] h = refl
+not_loaded k (Load r i b n f g x ∷ P) h =
+    let p = among-append k (i ∷ []) (flat_map loads P) h in
+    let q = or_parts (eqb i k) false p.0 in
+    omega (arith, count-cons (loads_at k) (Load r i b n f g x) P, ap bit q.0, not_loaded k P p.1)
+not_loaded k (LoadRefused r i n z ∷ P) h = not_loaded k P (among-append k (i ∷ []) (flat_map loads P) h).1
+not_loaded k (_ ∷ P) h = not_loaded k P h
+
+-- of each frame one load stands at most
+pub load-once : (s : Setting) (P : Past) (k : ℕ) → is_legal s P ≡ true → count (loads_at k) (standing P) ≤ 1
+load-once s [] k h = omega arith
+load-once s (Load r i b n f g x ∷ P) k h =
+    let before = load-once s P k (and_parts _ _ h).0 in
+    let may : may_load s r i P ≡ true = (and_parts (may_load s r i P) (pool_grants s 0 b n f g x P) (row_of s (Load r i b n f g x) P (λ d. refl) h)).0 in
+    let turn : i ≡ next_index P = (may_load-says s r i P may).in_turn in
+    let none : count (loads_at i) (standing P) ≡ 0 = not_loaded i (standing P) (subst (λ (j : ℕ). is_among j (offered_frames P) ≡ false) (sym turn) (least_missing-not_among (offered_frames P))) in
+    elim (cases_Bool (eqb i k)) [
+      | inl same ↦
+          let none_k : count (loads_at k) (standing P) ≡ 0 = subst (λ (j : ℕ). count (loads_at j) (standing P) ≡ 0) (eqb-true i k same) none in
+          omega (arith, none_k, count-cons (loads_at k) (Load r i b n f g x) (standing P), ap bit same)
+      | inr other ↦ omega (arith, before, count-cons (loads_at k) (Load r i b n f g x) (standing P), ap bit other)
+    ]
+load-once s (Reclaim r ∷ P) k h = omega (arith, load-once s P k (and_parts _ _ h).0, count-let_go-le (loads_at k) r (standing P))
+load-once s (_ ∷ P) k h = load-once s P k (and_parts _ _ h).0
+
+-- ACCEPTS
+
+-- a node emits no more of an index than it accepted, and the driver no more than was loaded
+pub emits-once : (s : Setting) (P : Past) (v k : ℕ) → is_legal s P ≡ true → ((c : ℕ) → count (accepts_at c k) P ≤ 1) → count (emits_at v k) P ≤ 1
+emits-once s P v k h once =
+    elim (cases_Bool (eqb v 0)) [
+      | inl driver ↦ subst (λ (u : ℕ). count (emits_at u k) P ≤ 1) (sym (eqb-true v 0 driver)) (omega (arith, issues-loaded s P k h, load-once s P k h))
+      | inr at_node ↦
+          let nz : v ≢ 0 = λ e. true≢false (sym (eq-eqb v 0 e) ∙ at_node) in
+          omega (arith, emits-puts s P v k nz h, puts-taken s P v k h, takes-accepted s P v k h, once v)
+    ]
+
+pub accepts-once : (s : Setting) (P : Past) (c k : ℕ) → is_legal s P ≡ true → count (accepts_at c k) P ≤ 1
+accepts-once s [] c k h = omega arith
+accepts-once s (Accept w m i ∷ P) c k h =
+    let legal : is_legal s P ≡ true = (and_parts _ _ h).0 in
+    let a = owed-answered s (Accept w m i) P refl h in
+    let same = answers-by_Accept s P w m i a.head a.answer in
+    let was : count (accepts_at c k) (owed s P) ≡ bit (accepts_at c k (Accept w m i)) + count (accepts_at c k) a.rest = ap (count (accepts_at c k)) a.is ∙ (count-cons (accepts_at c k) a.head a.rest ∙ ap (λ (d : Entry). bit (accepts_at c k d) + count (accepts_at c k) a.rest) same) in
+    let once = emits-once s P (node s c).input k legal (λ (u : ℕ). accepts-once s P u k legal) in
+    omega (arith, accepts-emitted s P c k legal, was, once, count-cons (accepts_at c k) (Accept w m i) P)
+accepts-once s (_ ∷ P) c k h = accepts-once s P c k (and_parts _ _ h).0
+
+emitted-count : (v k : ℕ) (P : Past) → times_by (of_index k) (emitted v P) ≡ count (emits_at v k) P
+emitted-count v k [] = refl
+emitted-count v k (Emit w m i why ∷ P) = comes-count v w m i k (emitted v P) ∙ omega (arith, emitted-count v k P, count-cons (emits_at v k) (Emit w m i why) P)
+emitted-count v k (_ ∷ P) = emitted-count v k P
+
+pub accepts_once-law : (s : Setting) (P : Past) (v k : ℕ) → is_legal s P ≡ true → times_by (of_index k) (accepts v P) ≤ 1
+accepts_once-law s P v k h = omega (arith, accepts-once s P v k h, accepts-count v k P)
+
+pub emits_once-law : (s : Setting) (P : Past) (v k : ℕ) → is_legal s P ≡ true → times_by (of_index k) (emitted v P) ≤ 1
+emits_once-law s P v k h = omega (arith, emits-once s P v k h (λ (u : ℕ). accepts-once s P u k h), emitted-count v k P)

@@ -1,0 +1,17 @@
+use Rattle.flow_journal.proofs.Changes.{queue_laws, hand_laws, offer_laws, put_laws, clock_laws}
+use Rattle.flow_journal.proofs.laws.entries_change_facts.Goals as goal
+
+pub returns-clause-queues : goal.returns-clause-queues
+returns-clause-queues c = queue_laws
+
+pub returns-clause-hands : goal.returns-clause-hands
+returns-clause-hands c = hand_laws
+
+pub returns-clause-offers : goal.returns-clause-offers
+returns-clause-offers c = offer_laws
+
+pub returns-clause-puts : goal.returns-clause-puts
+returns-clause-puts c = put_laws
+
+pub returns-clause-clocks : goal.returns-clause-clocks
+returns-clause-clocks c = clock_laws

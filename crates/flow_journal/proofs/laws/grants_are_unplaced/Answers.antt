@@ -1,0 +1,8 @@
+use Rattle.flow_journal.proofs.Grants.{load-unplaced, take-unplaced}
+use Rattle.flow_journal.proofs.laws.grants_are_unplaced.Goals as goal
+
+pub returns-clause-loads : goal.returns-clause-loads
+returns-clause-loads c = load-unplaced
+
+pub returns-clause-takes : goal.returns-clause-takes
+returns-clause-takes c = take-unplaced

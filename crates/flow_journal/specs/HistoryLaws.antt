@@ -1,0 +1,69 @@
+-- LAWS of legal histories.
+use Rattle.std.specs.Prelude.{◌≡◌, ℕ, ◌+◌, ◌≤◌, ◌==◌, Bool, true, false, List, [], ◌++◌, ◌↔◌, length, filter}
+use Rattle.nd_base.specs.declared.frame.FrameName.{FrameName}
+use Rattle.pool_ledger.specs.Grants.{has_number}
+use Rattle.flow_journal.specs.declared.entry.Entry.{Entry}
+use Rattle.flow_journal.specs.declared.entry.Entry.TheVariants.{Load, TakeBlock}
+use Rattle.flow_journal.specs.Accounts.{refs, is_unplaced, known}
+use Rattle.flow_journal.specs.FirstEntries.{first}
+use Rattle.flow_journal.specs.Setting.{Setting}
+use Rattle.flow_journal.specs.Pasts.{Past}
+use Rattle.flow_journal.specs.Hands.{takes_up, hands, is_loaded}
+use Rattle.flow_journal.specs.Queued.{queued}
+use Rattle.flow_journal.specs.QueueCounts.{times, gone}
+use Rattle.flow_journal.specs.Following.{owed}
+use Rattle.flow_journal.specs.Histories.{is_legal, is_history}
+use Rattle.flow_journal.specs.Moves.{onto, is_move, are_moves, all_of}
+use Rattle.flow_journal.specs.Accepted.{accepts, emitted}
+
+-- a legal move after a legal history makes a legal history
+abbrev pub MovesKeepHistories : Type 0
+MovesKeepHistories = (s : Setting) (P : Past) (m : List Entry) → is_history s P ≡ true → is_move s P m ≡ true → is_history s (onto m P) ≡ true
+
+-- in every front of a legal log each entry is in its place
+abbrev pub FrontsAreLegal : Type 0
+FrontsAreLegal = (s : Setting) (newer P : Past) → is_legal s (newer ++ P) ≡ true → is_legal s P ≡ true
+
+-- a front that ends with a move is a legal history
+abbrev pub FrontsAreHistories : Type 0
+FrontsAreHistories = (s : Setting) (newer P : Past) → is_history s (newer ++ P) ≡ true → owed s P ≡ [] → is_history s P ≡ true
+
+-- P is the past after a list of moves, each of them legal after those before it
+abbrev pub IsListOfMoves : Setting → Past → Type 0
+IsListOfMoves s P = (ms : List (List Entry)) × (are_moves s [] ms ≡ true) × (onto (all_of ms) [] ≡ P)
+
+-- a legal history is a list of legal moves, and conversely
+abbrev pub HistoriesAreMoves : Type 0
+HistoriesAreMoves = (s : Setting) (P : Past) → (is_history s P ≡ true) ↔ IsListOfMoves s P
+
+-- a role has one hand at most
+abbrev pub OneHandARole : Type 0
+OneHandARole = (s : Setting) (P : Past) (r : ℕ) → is_legal s P ≡ true → length (filter (takes_up r) (hands P)) ≤ 1
+
+-- one block at most is loaded
+abbrev pub OneBlockLoaded : Type 0
+OneBlockLoaded = (s : Setting) (P : Past) → is_legal s P ≡ true → length (filter is_loaded (hands P)) ≤ 1
+
+-- an array is queued as often as it was accepted, less its takes that stand and its drops
+abbrev pub QueuesInCounts : Type 0
+QueuesInCounts = (s : Setting) (P : Past) (v : ℕ) (a : FrameName) → is_legal s P ≡ true → times a (accepts v P) ≡ times a (queued v P) + times a (gone v P)
+
+-- a node accepts one array of each index at most, and so no array twice
+abbrev pub AcceptsOnce : Type 0
+AcceptsOnce = (s : Setting) (P : Past) (v k : ℕ) → is_legal s P ≡ true → length (filter (λ (a : FrameName). a.index == k) (accepts v P)) ≤ 1
+
+-- a node emits one array of each index at most
+abbrev pub EmitsOnce : Type 0
+EmitsOnce = (s : Setting) (P : Past) (v k : ℕ) → is_legal s P ≡ true → length (filter (λ (a : FrameName). a.index == k) (emitted v P)) ≤ 1
+
+-- each block that has a place is known
+abbrev pub ArePlacesKnown : Setting → Past → Type 0
+ArePlacesKnown s P = (b : ℕ) → is_unplaced s P b ≡ false → has_number b (known s P) ≡ true
+
+-- where blocks are accounted and those with a place are known, a block that a Load grants has no place just before
+abbrev pub LoadsAreUnplaced : Type 0
+LoadsAreUnplaced = (s : Setting) (P : Past) (r k b n : ℕ) (f : Bool) (g : ℕ) (x : Bool) → s.pooled ≡ true → ArePlacesKnown s P → first s P (Load r k b n f g x) ≡ true → refs s P b ≡ 0
+
+-- nor has one that a TakeBlock grants
+abbrev pub TakesAreUnplaced : Type 0
+TakesAreUnplaced = (s : Setting) (P : Past) (r v m k b n : ℕ) (f : Bool) (g : ℕ) (x : Bool) → s.pooled ≡ true → ArePlacesKnown s P → first s P (TakeBlock r v m k b n f g x) ≡ true → refs s P b ≡ 0

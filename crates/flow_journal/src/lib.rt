@@ -1,0 +1,24 @@
+//! The log of a run, entry by entry, with its text; and in `specs/` what a legal log is.
+//!
+//! Contracts see a `Log` as the record `Journal`: its entries, the newest first, and how many it has room for.
+//! `specs/Histories.antt` says which entries make a legal history, and `docs/history.md` tells the same in words.
+#![tactic(auto)]
+
+mod entry;
+mod kind;
+mod laws;
+mod log;
+mod read;
+mod spelling;
+#[cfg(test)]
+mod tests;
+mod write;
+
+pub use entry::{Entry, Why};
+pub use laws::{
+    arrays_come_once, entries_change_facts, grants_are_unplaced, hands_are_few,
+    histories_are_moves, queues_count,
+};
+pub use log::Log;
+pub use read::{LogFault, read_text};
+pub use write::write_text;

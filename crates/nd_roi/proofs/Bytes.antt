@@ -1,0 +1,45 @@
+-- Samples written as bytes.
+use Rattle.std.proofs.Common.{◌≡◌, ℕ, ◌+◌, ◌%◌, ◌<◌, ◌≤◌, ℤ, pos, negsuc, List, [], ◌∷◌, ◌++◌, length, get_or, take, set, of_z, FitsSigned, refl, ap, ◌∙◌, arith, append_assoc}
+use Rattle.std.specs.Int.{w64}
+use Rattle.std.specs.List.{flat_map}
+use Rattle.std.proofs.lemmas.List.{take_more, take_more_set, length-set, append-nil}
+use Rattle.std.proofs.lemmas.Grind.{flat_map-append}
+use Rattle.nd_roi.specs.Region.{low_bits}
+
+-- one more
+pub flat_map-more : {X Y : Type 0} (f : X → List Y) (xs : List X) (k : ℕ) (d : X) → k < length xs → flat_map f (take (k + 1) xs) ≡ flat_map f (take k xs) ++ f (get_or xs k d)
+flat_map-more f xs k d h = ap (flat_map f) (take_more xs k d h) ∙ flat_map-append f (take k xs) (get_or xs k d ∷ []) ∙ ap (λ ys. flat_map f (take k xs) ++ ys) (append-nil (f (get_or xs k d)))
+
+-- two bytes more
+pub take-two : (xs : List ℕ) (n high low : ℕ) → n + 2 ≤ length xs → take (n + 2) (set (set xs n high) (n + 1) low) ≡ take n xs ++ (high ∷ low ∷ [])
+take-two xs n high low h =
+    let ys : List ℕ = set xs n high in
+    let long : n + 1 < length ys = simp length-set (omega arith) in
+    let e : take (n + 1 + 1) (set ys (n + 1) low) ≡ take (n + 1) ys ++ (low ∷ []) = take_more_set ys (n + 1) low long in
+    let f : take (n + 1) ys ≡ take n xs ++ (high ∷ []) = take_more_set xs n high (omega arith) in
+    let s : n + 2 ≡ n + 1 + 1 = omega arith in
+    ap (λ m. take m (set ys (n + 1) low)) s ∙ e ∙ ap (λ zs. zs ++ (low ∷ [])) f ∙ append_assoc (take n xs) (high ∷ []) (low ∷ [])
+
+-- four bytes more
+pub take-four : (xs : List ℕ) (n a b c d : ℕ) → n + 4 ≤ length xs → take (n + 4) (set (set (set (set xs n a) (n + 1) b) (n + 2) c) (n + 3) d) ≡ take n xs ++ (a ∷ b ∷ c ∷ d ∷ [])
+take-four xs n a b c d h =
+    let ys : List ℕ = set (set xs n a) (n + 1) b in
+    let long : (n + 2) + 2 ≤ length ys = simp length-set (omega arith) in
+    let e : take (n + 2 + 2) (set (set ys (n + 2) c) (n + 2 + 1) d) ≡ take (n + 2) ys ++ (c ∷ d ∷ []) = take-two ys (n + 2) c d long in
+    let f : take (n + 2) ys ≡ take n xs ++ (a ∷ b ∷ []) = take-two xs n a b (omega arith) in
+    let s : n + 4 ≡ n + 2 + 2 = omega arith in
+    let t : n + 3 ≡ n + 2 + 1 = omega arith in
+    ap (λ m. take m (set (set ys (n + 2) c) (n + 3) d)) s ∙ ap (λ m. take (n + 2 + 2) (set (set ys (n + 2) c) m d)) t
+    ∙ e ∙ ap (λ zs. zs ++ (c ∷ d ∷ [])) f ∙ append_assoc (take n xs) (a ∷ b ∷ []) (c ∷ d ∷ [])
+
+pub low_bits_8 : (z : ℤ) → FitsSigned w64 z → of_z w64 z % 256 ≡ low_bits 8 z
+low_bits_8 (pos n) fits = refl
+low_bits_8 (negsuc n) fits = omega arith
+
+pub low_bits_16 : (z : ℤ) → FitsSigned w64 z → of_z w64 z % 65536 ≡ low_bits 16 z
+low_bits_16 (pos n) fits = refl
+low_bits_16 (negsuc n) fits = omega arith
+
+pub low_bits_32 : (z : ℤ) → FitsSigned w64 z → of_z w64 z % 4294967296 ≡ low_bits 32 z
+low_bits_32 (pos n) fits = refl
+low_bits_32 (negsuc n) fits = omega arith

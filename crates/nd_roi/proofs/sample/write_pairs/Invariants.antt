@@ -1,0 +1,8 @@
+use Rattle.std.proofs.Common.{◌≡◌, ◌*◌, take}
+use Rattle.std.specs.List.{flat_map}
+use Rattle.nd_base.specs.declared.array.SampleType.TheVariants.{UInt16}
+use Rattle.nd_roi.specs.Walk.{bytes_of}
+use Rattle.nd_roi.proofs.sample.write_pairs.Given as goal
+
+abbrev pub invariant-loop-k : goal.invariant-loop-k
+invariant-loop-k l = take (2 * l.k) l.out ≡ flat_map (bytes_of UInt16) (take l.k l.sums)

@@ -1,0 +1,6 @@
+pub mod Cut
+pub mod CutLaws
+pub mod Region
+pub mod RegionLaws
+pub mod Rows
+pub mod Walk

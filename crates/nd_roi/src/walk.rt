@@ -1,0 +1,179 @@
+//! The walk over the places of a region.
+
+ghost use Rattle.std.specs.Prelude.{◌≡◌, ℕ, ◌+◌, ◌*◌, ◌-◌, ◌/◌, ◌<◌, ◌≤◌, ◌++◌, length, take, map, pos, ◌+ℤ◌, slice_index_or, reverse, sum_by, FitsSigned};
+ghost use Rattle.std.specs.List.{range_with_len};
+ghost use Rattle.std.specs.Int.{w64, int_wrap};
+ghost use Rattle.nd_base.specs.GraphRules.{IsBetween};
+ghost use Rattle.nd_base.specs.Samples.{width};
+ghost use Rattle.nd_base.specs.Shapes.{most_samples};
+ghost use Rattle.nd_roi.specs.Walk.{run, lines_total, bin_reach, bins_of, lines, for_lines, first_reach, line_total, line_bytes};
+
+use crate::cut::Cut;
+use crate::sample::{add_line, divide_each, write_samples};
+use nd_base::SampleType;
+
+/// One dimension of the walk: its cut, and how many places lie between neighbours.
+#[derive(Clone, Copy, Debug, PartialEq, Eq)]
+pub(crate) struct Axis {
+    pub cut: Cut,
+    pub stride: usize,
+}
+
+/// What the walk makes of an array.
+#[derive(Clone, Copy)]
+pub(crate) struct Job<'a> {
+    /// The type of the array's samples.
+    pub kind: SampleType,
+    /// The cut of dimension 0.
+    pub line: Cut,
+    /// The other dimensions, the slowest last.
+    pub slower: &'a [Axis],
+    /// What each sum is divided by.
+    pub scale: u32,
+    /// The type of the output's samples.
+    pub out_kind: SampleType,
+}
+
+/// How many sums are gathered at a time.
+pub(crate) const CHUNK: usize = 256;
+
+/// Adds to each sum the samples of all lines that a bin covers along the slower axes: `bin` of each line,
+/// those from `base` on to the first sum.
+pub(crate) fn add_lines(
+    kind: SampleType,
+    input: &[u8],
+    bin: usize,
+    slower: &[Axis],
+    base: usize,
+    sums: &mut [i64],
+)
+    requires within { base + length sums.old * bin + sum_by bin_reach slower.now ≤ length input.now / width kind }
+    requires fit { (k : ℕ) → k < length sums.old → FitsSigned w64 (slice_index_or sums.old k (pos 0)) }
+    ensures { (k : ℕ) → k < length sums.new → slice_index_or sums.new k (pos 0) ≡ int_wrap w64 (slice_index_or sums.old k (pos 0) +ℤ lines_total (reverse slower.now) (run kind input.now bin) (base + k * bin)) }
+{
+    match slower.split_last() {
+        None => add_line(kind, input, bin, base, sums),
+        Some((axis, faster)) => {
+            for j in 0..axis.cut.bin as usize {
+                add_lines(kind, input, bin, faster, base + j * axis.stride, sums);
+            }
+        }
+    }
+}
+
+/// Sets each sum to that of the samples that an output index of the line covers, from output index `done` on.
+/// `base` is the place of the first line that the bin covers.
+fn gather(job: &Job, input: &[u8], base: usize, done: usize, sums: &mut [i64])
+    requires range { done + length sums.old ≤ job.now.line.size }
+    requires within { base + (job.now.line.min + job.now.line.size * job.now.line.bin) + sum_by bin_reach job.now.slower.now ≤ length input.now / width job.now.kind }
+    requires few { bins_of (reverse job.now.slower.now) * job.now.line.bin ≤ most_samples }
+    ensures { sums.new ≡ map (λ out. line_total job.now.kind input.now job.now.line (reverse job.now.slower.now) base out) (range_with_len done (length sums.old)) }
+{
+    let line = job.line;
+    let first = if line.reverse {
+        line.size as usize - done - sums.len()
+    } else {
+        done
+    };
+    let bin = line.bin as usize;
+    sums.fill(0);
+    add_lines(
+        job.kind,
+        input,
+        bin,
+        job.slower,
+        base + line.min as usize + first * bin,
+        sums,
+    );
+    if line.reverse {
+        sums.reverse();
+    }
+}
+
+/// Writes the samples of the line from output index `done` on, one for each sum. `base` is the place of the
+/// first line that the bin covers.
+fn fill_chunk(job: &Job, input: &[u8], base: usize, done: usize, sums: &mut [i64], out: &mut [u8])
+    requires range { done + length sums.old ≤ job.now.line.size }
+    requires room { length out.old ≡ length sums.old * width job.now.out_kind }
+    requires within { base + (job.now.line.min + job.now.line.size * job.now.line.bin) + sum_by bin_reach job.now.slower.now ≤ length input.now / width job.now.kind }
+    requires few { bins_of (reverse job.now.slower.now) * job.now.line.bin ≤ most_samples }
+    requires scale { 0 < job.now.scale }
+    ensures { out.new ≡ line_bytes job.now.kind input.now job.now.line (reverse job.now.slower.now) job.now.scale job.now.out_kind base done (length sums.old) }
+{
+    gather(job, input, base, done, sums);
+    if job.scale != 1 {
+        divide_each(sums, job.scale);
+    }
+    write_samples(job.out_kind, sums, out);
+}
+
+/// Writes a line of the output from index `at` of `out` on, and gives the index behind it. `base` is the place
+/// of the first line that the bin covers.
+fn fill_line(
+    job: &Job,
+    input: &[u8],
+    base: usize,
+    at: usize,
+    sums: &mut [i64],
+    out: &mut [u8],
+) -> usize
+    requires chunk { length sums.old ≡ CHUNK }
+    requires room { at + job.now.line.size * width job.now.out_kind ≤ length out.old }
+    requires within { base + (job.now.line.min + job.now.line.size * job.now.line.bin) + sum_by bin_reach job.now.slower.now ≤ length input.now / width job.now.kind }
+    requires few { bins_of (reverse job.now.slower.now) * job.now.line.bin ≤ most_samples }
+    requires scale { 0 < job.now.scale }
+    ensures next { result ≡ at + job.now.line.size * width job.now.out_kind }
+    ensures written { take result out.new ≡ take at out.old ++ line_bytes job.now.kind input.now job.now.line (reverse job.now.slower.now) job.now.scale job.now.out_kind base 0 job.now.line.size }
+{
+    let width = job.out_kind.width();
+    let size = job.line.size as usize;
+    let mut done = 0;
+    let mut next = at;
+    while done < size {
+        let count = (size - done).min(CHUNK);
+        let end = next + count * width;
+        fill_chunk(
+            job,
+            input,
+            base,
+            done,
+            &mut sums[..count],
+            &mut out[next..end],
+        );
+        done += count;
+        next = end;
+    }
+    next
+}
+
+/// Writes the output's lines along the axes from index `at` of `out` on, and gives the index behind them.
+/// `base` is the place of the first line, but for what these axes add.
+pub(crate) fn fill_lines(
+    job: &Job,
+    input: &[u8],
+    slower: &[Axis],
+    base: usize,
+    at: usize,
+    sums: &mut [i64],
+    out: &mut [u8],
+) -> usize
+    requires chunk { length sums.old ≡ CHUNK }
+    requires room { at + for_lines (reverse slower.now) (job.now.line.size * width job.now.out_kind) ≤ length out.old }
+    requires within { base + sum_by first_reach slower.now + (job.now.line.min + job.now.line.size * job.now.line.bin) + sum_by bin_reach job.now.slower.now ≤ length input.now / width job.now.kind }
+    requires few { bins_of (reverse job.now.slower.now) * job.now.line.bin ≤ most_samples }
+    requires scale { 0 < job.now.scale }
+    ensures next { result ≡ at + for_lines (reverse slower.now) (job.now.line.size * width job.now.out_kind) }
+    ensures written { take result out.new ≡ take at out.old ++ lines (reverse slower.now) (λ at. line_bytes job.now.kind input.now job.now.line (reverse job.now.slower.now) job.now.scale job.now.out_kind at 0 job.now.line.size) base }
+{
+    match slower.split_last() {
+        None => fill_line(job, input, base, at, sums, out),
+        Some((axis, faster)) => {
+            let mut next = at;
+            for index in 0..axis.cut.size as usize {
+                let from = base + axis.cut.first_covered(index) * axis.stride;
+                next = fill_lines(job, input, faster, from, next, sums, out);
+            }
+            next
+        }
+    }
+}

@@ -1,0 +1,10 @@
+pub mod Windows
+pub mod WindowLaws
+pub mod Watch
+pub mod WatchFields
+pub mod Watching
+pub mod Firing
+pub mod Symbols
+pub mod Expressions
+pub mod Grammar
+pub mod Examples

@@ -1,0 +1,15 @@
+//! The triggers of a circular node: expressions over two attributes, and the windows of arrays that are passed on.
+#![tactic(auto)]
+
+mod expression;
+mod firing;
+mod passing;
+mod symbols;
+#[cfg(test)]
+mod tests;
+mod window;
+
+pub use expression::{CalcFault, parse_calc};
+pub use firing::fires;
+pub use passing::passed_positions;
+pub use window::{Passed, Window};
