@@ -1,0 +1,32 @@
+#!/usr/bin/env bash
+# Times the workloads of `nd_bench` at a count, twice and four times the count, five times each in turn, and prints the
+# medians with their growth. It is no part of the gate. A list of workloads can be given, as `bench/growth.sh pool:16384`.
+set -eu
+here=$(cd "$(dirname "$0")/.." && pwd)
+crate=$here/crates/nd_bench
+(cd "$crate" && rt run -- pool 1) > /dev/null
+program=$crate/out/nd_bench
+
+median() { sort -n | awk '{ t[NR] = $1 } END { print t[(NR + 1) / 2] }'; }
+
+measure() {
+    local workload=$1 count=$2 times start
+    times=$(for _ in 1 2 3 4 5; do
+        start=$(date +%s%N)
+        "$program" "$workload" "$count" > /dev/null
+        echo $(($(date +%s%N) - start))
+    done)
+    echo "$times" | median
+}
+
+for entry in "${@:-pool:16384 sort-rising:16384 sort-falling:16384 sort-shuffled:8192}"; do
+    for one in $entry; do
+        workload=${one%%:*}
+        count=${one##*:}
+        a=$(measure "$workload" "$count")
+        b=$(measure "$workload" $((2 * count)))
+        c=$(measure "$workload" $((4 * count)))
+        awk -v w="$workload" -v n="$count" -v a="$a" -v b="$b" -v c="$c" \
+            'BEGIN { printf "%s %d: %.1f ms, twice %.2f, four times %.2f\n", w, n, a / 1e6, b / a, c / a }'
+    done
+done

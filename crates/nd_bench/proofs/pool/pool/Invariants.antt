@@ -1,0 +1,9 @@
+use Rattle.std.proofs.Common.{◌≡◌, ◌+◌, ◌≤◌, [], length, vec_len, min}
+use Rattle.nd_bench.proofs.pool.pool.Given as goal
+
+abbrev pub invariant-loop-frame : goal.invariant-loop-frame
+invariant-loop-frame l = record {
+  known : length l.pool.known ≤ l.frame;
+  room : l.count ≤ l.pool.room;
+  named : l.pool.unnamed ≡ [];
+}

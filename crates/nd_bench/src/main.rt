@@ -1,0 +1,61 @@
+//! `nd_bench WORKLOAD COUNT`: runs a workload of a crate that no command reaches yet, and prints a checksum of
+//! what it computed. Scripts time it from outside.
+#![tactic(auto)]
+
+mod pool;
+mod sort;
+
+use sort::Order;
+use std::alloc::Global;
+use std::process::ExitCode;
+use std::rt::Env;
+use std::{env, io};
+
+/// Why there is no checksum.
+#[derive(Clone, Copy, Debug, PartialEq, Eq)]
+enum Refusal {
+    Usage,
+    OutOfMemory,
+}
+
+/// Runs the workload of this name.
+fn run(alloc: Global, workload: &str, count: u32) -> Result<u64, Refusal> {
+    let checksum = match workload {
+        "pool" => pool::pool(alloc, count),
+        "sort-rising" => sort::sort(alloc, Order::Rising, count),
+        "sort-falling" => sort::sort(alloc, Order::Falling, count),
+        "sort-shuffled" => sort::sort(alloc, Order::Shuffled, count),
+        _ => return Err(Refusal::Usage),
+    };
+    checksum.ok_or(Refusal::OutOfMemory)
+}
+
+/// Runs what the words ask for, and prints it.
+fn run_words(rt: &(impl Env + Print + AllocGlobal)) -> io::Result<Result<(), Refusal>> {
+    let mut words = env::args(rt)?.skip(1);
+    let (Some(workload), Some(count), None) = (words.next(), words.next(), words.next()) else {
+        return Ok(Err(Refusal::Usage));
+    };
+    let Ok(count) = count.as_str().parse::<u32>() else {
+        return Ok(Err(Refusal::Usage));
+    };
+    match run(rt.alloc(), workload.as_str(), count) {
+        Ok(checksum) => {
+            let name = workload.as_str();
+            println!(rt; "{name} {count} {checksum}")?;
+            Ok(Ok(()))
+        }
+        Err(refusal) => Ok(Err(refusal)),
+    }
+}
+
+fn main(rt: HostRuntime) -> ExitCode {
+    match run_words(&rt) {
+        Ok(Ok(())) => ExitCode::SUCCESS,
+        Ok(Err(refusal)) => {
+            let _ = eprintln!(rt; "nd_bench: {refusal:?}");
+            ExitCode::FAILURE
+        }
+        Err(_) => ExitCode::FAILURE,
+    }
+}
