@@ -2,6 +2,7 @@
 //! what it computed. Scripts time it from outside.
 #![tactic(auto)]
 
+mod header;
 mod pool;
 mod sort;
 
@@ -21,6 +22,7 @@ enum Refusal {
 /// Runs the workload of this name.
 fn run(alloc: Global, workload: &str, count: u32) -> Result<u64, Refusal> {
     let checksum = match workload {
+        "header" => header::header(alloc, count),
         "pool" => pool::pool(alloc, count),
         "sort-rising" => sort::sort(alloc, Order::Rising, count),
         "sort-falling" => sort::sort(alloc, Order::Falling, count),
