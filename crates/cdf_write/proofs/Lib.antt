@@ -1,4 +1,3 @@
 pub mod Pieces
-pub mod Counts
 pub mod DimensionList
 pub mod VariableList

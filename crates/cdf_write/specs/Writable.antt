@@ -1,5 +1,5 @@
 -- Which shapes a file can have, and which arrays have a shape.
-use Rattle.std.specs.Prelude.{◌≡◌, ℕ, ◌%◌, ◌≤◌, List, length, map, All, IsTrue}
+use Rattle.std.specs.Prelude.{◌≡◌, ℕ, ◌%◌, ◌/◌, ◌≤◌, List, length, map, All, IsTrue}
 use Rattle.nd_base.specs.declared.attribute.Attr.{Attr}
 use Rattle.nd_base.specs.declared.attribute.AttrColumn.{AttrColumn}
 use Rattle.nd_base.specs.declared.attribute.AttrKind.{AttrKind}
@@ -18,7 +18,7 @@ pub record IsExtra (e : Extra) : Type 0 where
   pub name : IsBetween 1 1024 (length e.name)
   pub kind : IsBetween 1 6 e.kind
   pub whole : length e.values % type_size e.kind ≡ 0
-  pub few : length e.values ≤ 2147483647
+  pub few : length e.values / type_size e.kind ≤ 2147483647
 
 -- a shape that the layout can spell
 pub record IsWritable (shape : FileShape) : Type 0 where

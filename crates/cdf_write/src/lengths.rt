@@ -81,7 +81,8 @@ fn values_size(attrs: &[AttrColumn], width: u32) -> u64
 /// The bytes of a row of this shape with this sample type and these dimensions.
 pub fn row_size(shape: &FileShape, kind: SampleType, dims: &[Dim]) -> u64
     requires { IsWritable (record shape.now { kind = kind; dims = dims.now }) }
-    ensures { result ≡ row_length (record shape.now { kind = kind; dims = dims.now }) }
+    ensures value { result ≡ row_length (record shape.now { kind = kind; dims = dims.now }) }
+    ensures small { result < 2 ^ 63 + 2 ^ 62 + 2 ^ 30 }
 {
     let values = values_size(shape.attrs.as_slice(), shape.width);
     PLAIN_ROW + padded(samples_size(kind, dims)) + values
@@ -106,29 +107,30 @@ fn attrs_header_size(attrs: &[AttrColumn]) -> u64
 }
 
 /// The header's bytes for these extras.
-fn extras_header_size(extras: &[Extra]) -> u64
+fn extras_header_size(extras: &[Extra]) -> u128
     requires few { length extras.now ≤ 2147483647 }
     requires each { All IsExtra extras.now }
     ensures value { result ≡ sum_by extra_header_length extras.now }
-    ensures small { result < 2 ^ 63 }
+    ensures small { result < 2 ^ 96 }
 {
     let mut total = 0;
     for extra in extras {
         let name = extra.name.text().len() as u64;
         let values = extra.values.list().len() as u64;
-        total += 12 + padded(name) + padded(values);
+        total += u128::from(12 + padded(name)) + u128::from(padded(values));
     }
     total
 }
 
 /// The bytes of a header of this shape with these dimensions.
-pub fn header_size(shape: &FileShape, dims: &[Dim]) -> u64
+pub fn header_size(shape: &FileShape, dims: &[Dim]) -> u128
     requires { IsWritable (record shape.now { dims = dims.now }) }
-    ensures { result ≡ header_length (record shape.now { dims = dims.now }) }
+    ensures value { result ≡ header_length (record shape.now { dims = dims.now }) }
+    ensures small { result < 2 ^ 97 }
 {
     let attrs = attrs_header_size(shape.attrs.as_slice());
     let extras = extras_header_size(shape.extras.as_slice());
-    PLAIN_HEADER + DIMENSION * dims.len() as u64 + attrs + extras
+    u128::from(PLAIN_HEADER + DIMENSION * dims.len() as u64 + attrs) + extras
 }
 
 /// The length in bytes of a file of this shape with `count` rows. It takes no memory.
@@ -145,5 +147,5 @@ pub fn length_with(shape: &FileShape, kind: SampleType, dims: &[Dim], count: u64
     ensures { result ≡ length_of (record shape.now { kind = kind; dims = dims.now }) count }
 {
     let row = u128::from(row_size(shape, kind, dims));
-    u128::from(header_size(shape, dims)) + u128::from(count) * row
+    header_size(shape, dims) + u128::from(count) * row
 }

@@ -141,7 +141,7 @@ fn is_extra(extra: &Extra) -> bool
         6 => 8,
         _ => return false,
     };
-    1 <= name && name <= 1024 && values % size == 0 && values <= 2_147_483_647
+    1 <= name && name <= 1024 && values % size == 0 && values / size <= 2_147_483_647
 }
 
 /// Whether each of them is one.

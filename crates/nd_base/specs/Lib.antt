@@ -3,5 +3,9 @@ pub mod Samples
 pub mod Shapes
 pub mod SampleLaws
 pub mod ShapeLaws
+pub mod Attributes
+pub mod Stacks
+pub mod StackLaws
+pub mod Lending
 pub mod Parts
 pub mod GraphRules

@@ -1,12 +1,13 @@
 //! Arrays.
 
-ghost use Rattle.std.specs.Prelude.{◌≡◌, ◌<◌, ◌≤◌, ◌+◌, ◌*◌, length, take, drop, slice_get, Some, None, IsTrue, nat_lt, IfOk, IfErr, IfSome, IfNone, OnOk};
+ghost use Rattle.std.specs.Prelude.{◌≡◌, ◌<◌, ◌≤◌, ◌+◌, ◌*◌, length, take, drop, slice_get, Some, None, IsTrue, nat_lt, IfOk, IfErr, IfSome, IfNone, OnOk, option_copied};
 ghost use Rattle.std.specs.List.{list_all};
 ghost use Rattle.std.specs.Int.{w16, w32, from_be_bytes};
+ghost use Rattle.nd_base.specs.Attributes.{attr_of};
 ghost use Rattle.nd_base.specs.Samples.{number, width};
 ghost use Rattle.nd_base.specs.Shapes.{has_dimensions, sample_count, most_samples, shape_fault};
 
-use crate::{Attr, Bytes, Seq};
+use crate::{Attr, AttrValue, Bytes, Seq};
 use std::alloc::Global;
 use std::marker::Model;
 
@@ -134,11 +135,22 @@ fn fault_of(kind: SampleType, dims: &[Dim], bytes: usize) -> Option<ShapeFault>
     }
 }
 
+/// The value of the first of these attributes that has this name.
+fn attr_in<'a>(attrs: &'a [Attr], name: &str) -> Option<&'a AttrValue>
+    ensures { option_copied result ≡ attr_of name.now attrs.now }
+{
+    attrs
+        .iter()
+        .find(|attr| attr.name.text() == name)
+        .map(|attr| &attr.value)
+}
+
 /// The most samples that an array may have.
 pub const MOST_SAMPLES: u64 = 67_108_864;
 
 impl NdArray {
     ghost use Rattle.nd_base.specs.Array.{Array};
+    ghost use Rattle.nd_base.specs.Attributes.{attr_of};
     ghost use Rattle.nd_base.specs.Shapes.{array_of, shape_fault};
     ghost use Rattle.nd_base.specs.Samples.{samples_of, width};
 
@@ -189,9 +201,19 @@ impl NdArray {
         self.kind
     }
 
-    /// The dimensions, dimension 0 first.
+    /// The value of the first attribute of this name, or None exactly where there is none.
+    pub fn attr(&self, name: &str) -> Option<&AttrValue>
+        ensures { option_copied result ≡ attr_of name.now self.now.attrs }
+    {
+        attr_in(self.head.attrs.as_slice(), name)
+    }
+
+    /// The dimensions, dimension 0 first: 1 to 10 of them, none empty, with at most 67,108,864 samples.
     pub fn dims(&self) -> &[Dim]
-        ensures { result.now ≡ self.now.dims }
+        ensures value { result.now ≡ self.now.dims }
+        ensures dimensions { IsTrue (has_dimensions self.now.dims) }
+        ensures few { sample_count self.now.dims ≤ most_samples }
+        ensures count { length self.now.samples ≡ sample_count self.now.dims }
     {
         self.dims.as_slice()
     }

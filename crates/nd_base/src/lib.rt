@@ -16,6 +16,7 @@ mod name;
 mod plan;
 mod run;
 mod seq;
+mod stack;
 #[cfg(test)]
 mod tests;
 
@@ -32,3 +33,4 @@ pub use name::Name;
 pub use plan::{Maker, Plan};
 pub use run::Run;
 pub use seq::Seq;
+pub use stack::Stack;

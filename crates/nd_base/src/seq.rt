@@ -19,6 +19,9 @@ impl<T> Model for Seq<T> {
 }
 
 impl<T> Seq<T> {
+    ghost use Rattle.std.specs.Borrow.{sem};
+    ghost use Rattle.nd_base.specs.Lending.{lends_elements};
+
     /// Takes the list over.
     pub fn new(items: Vec<T>) -> Seq<T>
         ensures { result ≡ items.items }
@@ -31,6 +34,14 @@ impl<T> Seq<T> {
         ensures { result.now ≡ self.now }
     {
         &self.items
+    }
+
+    /// The elements, for writing.
+    pub fn as_mut_slice(&mut self) -> &mut [T]
+        ensures* writes_back { sem 𝓛 (lends_elements T.row self.entry result) }
+        ensures value { result.now ≡ self.old }
+    {
+        self.items.as_mut_slice()
     }
 
     /// Gives the list back.

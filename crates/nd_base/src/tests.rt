@@ -1,6 +1,11 @@
 //! What no clause says: that a call can succeed, and worked values.
 
-use crate::{Attr, AttrValue, Bytes, Dim, Head, Name, NdArray, SampleType, Seq, ShapeFault};
+ghost use Rattle.std.specs.Prelude.{◌≡◌, ◌<◌, length, slice_set, IfOk};
+ghost use Rattle.nd_base.specs.Stacks.{frame_size};
+
+use crate::{
+    Attr, AttrValue, Bytes, Dim, FileShape, Head, Name, NdArray, SampleType, Seq, ShapeFault, Stack,
+};
 use std::alloc::{AllocError, Global};
 use std::test::Fail;
 
@@ -168,5 +173,83 @@ fn parts_come_back_as_they_were_given(rt: HostRuntime) -> Result<(), Fail> {
     let list = Seq::new([4u32, 5].to_vec(alloc)?);
     assert_eq!(rt; list.as_slice(), [4, 5].as_slice());
     assert_eq!(rt; list.into_vec().as_slice(), [4, 5].as_slice());
+    Ok(())
+}
+
+/// Two frames of two 16-bit samples, 6 bytes apart, after 2 bytes of something else.
+fn two_frames(alloc: Global) -> Result<Stack, AllocError>
+    ensures frames { IfOk result (λ s. length s.arrays ≡ 2) }
+    ensures size { IfOk result (λ s. frame_size s.shape ≡ 4) }
+{
+    let dim = Dim {
+        size: 2,
+        offset: 0,
+        binning: 1,
+        reverse: false,
+    };
+    let shape = FileShape {
+        kind: SampleType::Int16,
+        dims: Seq::new(vec![in alloc; dim]?),
+        attrs: Seq::new(Vec::new(alloc)),
+        width: 256,
+        extras: Seq::new(Vec::new(alloc)),
+    };
+    let later = Head {
+        id: 8,
+        ..head(alloc)?
+    };
+    let heads = Seq::new(vec![in alloc; head(alloc)?, later]?);
+    let bytes = vec![in alloc; 0, 0, 1, 2, 3, 4, 0, 0, 5, 6, 7, 8]?;
+    Ok(Stack::new(shape, heads, Bytes::new(bytes), 2, 6))
+}
+
+#[test]
+fn frames_stand_a_step_apart(rt: HostRuntime) -> Result<(), Fail> {
+    let stack = two_frames(rt.alloc())?;
+    assert_eq!(rt; stack.frames(), 2);
+    assert_eq!(rt; stack.shape().width, 256);
+    assert_eq!(rt; stack.head(0).id, 7);
+    assert_eq!(rt; stack.head(1).id, 8);
+    let mut out = [0; 4];
+    stack.fill_frame(0, &mut out);
+    assert_eq!(rt; out, [1, 2, 3, 4]);
+    stack.fill_frame(1, &mut out);
+    assert_eq!(rt; out, [5, 6, 7, 8]);
+    Ok(())
+}
+
+/// The whole value of the attribute of this name.
+fn whole(array: &NdArray, name: &str) -> Option<i32> {
+    match array.attr(name) {
+        Some(AttrValue::Whole(value)) => Some(*value),
+        _ => None,
+    }
+}
+
+#[test]
+fn an_attribute_is_found_by_its_name(rt: HostRuntime) -> Result<(), Fail> {
+    let alloc = rt.alloc();
+    let (head, samples) = (head(alloc)?, [9].to_vec(alloc)?);
+    let array = NdArray::new(alloc, head, SampleType::UInt8, dims(alloc, &[1])?, samples);
+    let array = array.map_err(|_| "refused")?;
+    assert_eq!(rt; whole(&array, "ColorMode"), Some(0));
+    assert_eq!(rt; whole(&array, "Color"), None);
+    assert_eq!(rt; array.dims().len(), 1);
+    Ok(())
+}
+
+/// Sets the first element to 9.
+fn set_first(list: &mut Seq<u32>)
+    requires { 0 < length list.old }
+    ensures { list.new ≡ slice_set list.old 0 9 }
+{
+    list.as_mut_slice()[0] = 9;
+}
+
+#[test]
+fn elements_are_written_in_place(rt: HostRuntime) -> Result<(), Fail> {
+    let mut list = Seq::new(vec![in rt.alloc(); 4, 5]?);
+    set_first(&mut list);
+    assert_eq!(rt; list.as_slice(), [9, 5].as_slice());
     Ok(())
 }

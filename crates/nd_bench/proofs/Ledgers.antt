@@ -1,5 +1,5 @@
 -- How many blocks a pool knows after a call.
-use Rattle.std.proofs.Common.{◌≡◌, ℕ, zero, suc, ◌+◌, ◌≤◌, Bool, true, false, List, [], ◌∷◌, length, nat_lt, not, filter, take, arith, refl, if◌then◌else◌}
+use Rattle.std.proofs.Common.{◌≡◌, ℕ, ◌+◌, ◌≤◌, Bool, true, false, List, [], ◌∷◌, length, nat_lt, not, filter, take, arith, refl, if◌then◌else◌}
 use Rattle.std.proofs.lemmas.List.{length-map}
 use Rattle.pool_ledger.specs.Grants.{Answer, Refused, Granted, has_number}
 use Rattle.pool_ledger.specs.Ledger.{Known, Ledger, with_known, with_count, recounted, without, largest_first, after}

@@ -4,7 +4,9 @@
 
 mod header;
 mod pool;
+mod region;
 mod sort;
+mod window;
 
 use sort::Order;
 use std::alloc::Global;
@@ -24,9 +26,11 @@ fn run(alloc: Global, workload: &str, count: u32) -> Result<u64, Refusal> {
     let checksum = match workload {
         "header" => header::header(alloc, count),
         "pool" => pool::pool(alloc, count),
+        "region" => region::region(alloc, count),
         "sort-rising" => sort::sort(alloc, Order::Rising, count),
         "sort-falling" => sort::sort(alloc, Order::Falling, count),
         "sort-shuffled" => sort::sort(alloc, Order::Shuffled, count),
+        "window" => window::window(alloc, count),
         _ => return Err(Refusal::Usage),
     };
     checksum.ok_or(Refusal::OutOfMemory)

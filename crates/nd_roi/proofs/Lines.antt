@@ -10,18 +10,12 @@ use Rattle.std.proofs.lemmas.Grind.{flat_map-append}
 use Rattle.nd_base.specs.declared.array.Dim.{Dim}
 use Rattle.nd_base.specs.declared.array.SampleType.{SampleType}
 use Rattle.nd_base.specs.Shapes.{sample_count}
+use Rattle.nd_base.specs.ShapeLaws.{sample_count-positive}
 use Rattle.nd_roi.specs.declared.cut.Cut.{Cut}
 use Rattle.nd_roi.specs.declared.walk.Axis.{Axis}
 use Rattle.nd_roi.specs.Region.{first_covered}
 use Rattle.nd_roi.specs.Walk.{concat_below, line_bytes, line_total, bytes_of}
 use Rattle.nd_roi.specs.RegionLaws.{range-split}
-
--- dimensions that aren't empty have a sample
-pub sample_count-positive : (dims : List Dim) → list_all (λ d. nat_lt 0 d.size) dims ≡ true → 1 ≤ sample_count dims
-sample_count-positive [] h = omega arith
-sample_count-positive (x ∷ dims) h =
-    let parts = and_parts (nat_lt 0 x.size) (list_all (λ d. nat_lt 0 d.size) dims) h in
-    one-le-mul (ltb-true 0 x.size parts.0) (sample_count-positive dims parts.1)
 
 -- the stride of the next dimension is at most the number of samples
 pub stride_most : (dims : List Dim) (k stride most : ℕ) (d : Dim) → list_all (λ d. nat_lt 0 d.size) dims ≡ true → k < length dims → stride * sample_count (drop k dims) ≤ most → stride * (get_or dims k d).size ≤ most

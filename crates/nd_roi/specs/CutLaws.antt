@@ -8,6 +8,7 @@ use Rattle.std.proofs.lemmas.Bool.{and_parts, ltb-true, lt-ltb}
 use Rattle.nd_base.specs.declared.array.Dim.{Dim}
 use Rattle.nd_base.specs.declared.graph.RoiRule.{RoiRule}
 use Rattle.nd_base.specs.Shapes.{sample_count, has_dimensions}
+use Rattle.nd_base.specs.ShapeLaws.{has_dimensions-none_empty}
 use Rattle.nd_roi.specs.declared.cut.Cut.{Cut}
 use Rattle.nd_roi.specs.Cut.{clamped, first_index, takes_rest, span, bin, cut, dims_from, region_dims}
 
@@ -77,9 +78,6 @@ dims_from-count rule k (dim ∷ dims) h =
     let parts = and_parts (nat_lt 0 dim.size) (list_all (λ d. nat_lt 0 d.size) dims) h in
     let w = cut-IsWithin rule k dim.size (ltb-true 0 dim.size parts.0) in
     mul-le-mul (size_most (cut rule k dim.size) dim.size w) (dims_from-count rule (suc k) dims parts.1)
-
-has_dimensions-none_empty : (dims : List Dim) → IsTrue (has_dimensions dims) → list_all (λ d. nat_lt 0 d.size) dims ≡ true
-has_dimensions-none_empty dims h = (and_parts (not (length dims == 0) && nat_le (length dims) 10) (list_all (λ d. nat_lt 0 d.size) dims) h).1
 
 -- a region has the dimensions of an array
 pub region_dims-has_dimensions : (rule : RoiRule) (dims : List Dim) → IsTrue (has_dimensions dims) → IsTrue (has_dimensions (region_dims rule dims))

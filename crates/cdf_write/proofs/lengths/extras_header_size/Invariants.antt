@@ -6,5 +6,5 @@ use Rattle.cdf_write.proofs.lengths.extras_header_size.Given as goal
 abbrev pub invariant-loop-extra : goal.invariant-loop-extra
 invariant-loop-extra l = record {
   total : l.total ≡ sum_by extra_header_length (take l.extra-index l.extras);
-  small : l.total ≤ l.extra-index * 3000000000;
+  small : l.total ≤ l.extra-index * 18446744073709551616;
 }

@@ -1,7 +1,7 @@
 use Rattle.std.proofs.Common.{◌≡◌, ◌*◌, suc, take, arith, add-one, sym, ◌∙◌, ap, false, pos}
 use Rattle.nd_base.specs.declared.array.Dim.{Dim}
 use Rattle.nd_base.specs.Shapes.{sample_count}
-use Rattle.cdf_write.proofs.Counts.{sample_count-take, sample_count-front, has_dimensions-none_empty}
+use Rattle.nd_base.specs.ShapeLaws.{sample_count-take, sample_count-front, has_dimensions-none_empty}
 use Rattle.cdf_write.proofs.lengths.samples_of_dims.Goals as goal
 
 nothing : Dim

@@ -1,7 +1,7 @@
 use Rattle.std.proofs.Common.{◌*◌, take, arith, add-one, sym, ◌∙◌, ap, false, pos}
 use Rattle.nd_base.specs.declared.array.Dim.{Dim}
 use Rattle.nd_base.specs.Shapes.{sample_count}
-use Rattle.cdf_write.proofs.Counts.{sample_count-take}
+use Rattle.nd_base.specs.ShapeLaws.{sample_count-take}
 use Rattle.cdf_write.proofs.tests.are_few.Goals as goal
 
 nothing : Dim

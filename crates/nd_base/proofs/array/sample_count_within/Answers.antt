@@ -1,7 +1,7 @@
-use Rattle.std.proofs.Common.{◌≡◌, ◌<◌, ◌≤◌, ◌*◌, ℕ, suc, length, take, get_or, arith, add-one, sym, ◌∙◌, ap, false, pos}
+use Rattle.std.proofs.Common.{◌≡◌, ◌*◌, suc, take, arith, add-one, sym, ◌∙◌, ap, false, pos}
 use Rattle.nd_base.specs.declared.array.Dim.{Dim}
-use Rattle.nd_base.specs.Shapes.{sample_count, most_samples}
-use Rattle.nd_base.proofs.Counts.{sample_count-take, sample_count-front, has_dimensions-none_empty}
+use Rattle.nd_base.specs.Shapes.{sample_count}
+use Rattle.nd_base.specs.ShapeLaws.{sample_count-take, sample_count-front, has_dimensions-none_empty}
 use Rattle.nd_base.proofs.array.sample_count_within.Goals as goal
 
 nothing : Dim

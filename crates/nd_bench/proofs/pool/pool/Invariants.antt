@@ -1,4 +1,4 @@
-use Rattle.std.proofs.Common.{◌≡◌, ◌+◌, ◌≤◌, [], length, vec_len, min}
+use Rattle.std.proofs.Common.{◌≡◌, ◌≤◌, [], length}
 use Rattle.nd_bench.proofs.pool.pool.Given as goal
 
 abbrev pub invariant-loop-frame : goal.invariant-loop-frame

@@ -1,5 +1,4 @@
-use Rattle.std.proofs.Common.{◌≡◌, ◌*◌, length, ap, sym, ◌∙◌, arith}
-use Rattle.nd_base.specs.Samples.{width, samples_of}
+use Rattle.std.proofs.Common.{length, ap, ◌∙◌}
 use Rattle.nd_base.specs.SampleLaws.{length-samples_of}
 use Rattle.nd_base.specs.Shapes.{sample_count}
 use Rattle.nd_base.specs.ShapeLaws.{shape_fault-none}

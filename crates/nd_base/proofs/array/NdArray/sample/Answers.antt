@@ -1,4 +1,4 @@
-use Rattle.std.proofs.Common.{◌≡◌, ◌<◌, ◌≤◌, ◌+◌, ◌*◌, ℕ, ℤ, List, length, take, drop, Some, slice_get, ap, sym, ◌∙◌, arith, rules, refl}
+use Rattle.std.proofs.Common.{◌≡◌, ◌<◌, ◌*◌, ℕ, ℤ, List, length, take, drop, ap, sym, ◌∙◌, arith, rules, refl}
 use Rattle.nd_base.specs.declared.array.Dim.{Dim}
 use Rattle.nd_base.specs.declared.array.SampleType.{SampleType}
 use Rattle.nd_base.specs.Array.{Array}
