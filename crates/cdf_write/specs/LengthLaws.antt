@@ -196,7 +196,7 @@ fill_enough UInt16 n bytes h = omega arith
 fill_enough Int32 n bytes h = omega arith
 fill_enough UInt32 n bytes h = omega arith
 
-padded_values_bytes : (kind : SampleType) (n : ℕ) (values : List ℕ) → length values ≡ n * width kind → length (padded_values (sample_kind kind) values) ≡ padded_length (length values)
+pub padded_values_bytes : (kind : SampleType) (n : ℕ) (values : List ℕ) → length values ≡ n * width kind → length (padded_values (sample_kind kind) values) ≡ padded_length (length values)
 padded_values_bytes kind n values h =
     length-append values (take (gap (length values)) (fill (sample_kind kind)))
     ∙ ap (λ m. length values + m) (length-take-le (gap (length values)) (fill (sample_kind kind)) (fill_enough kind n (length values) h))
@@ -210,7 +210,7 @@ text_bytes text room h =
     let in_room = length_in_room text room h in
     omega arith
 
-value_bytes : (shape : FileShape) (name : List ℕ) (value : AttrValue) → FitsIn shape.width value → length (attr_values shape.width value) ≡ padded_length (attr_column shape (record { name = name; kind = kind_of value })).size
+pub value_bytes : (shape : FileShape) (name : List ℕ) (value : AttrValue) → FitsIn shape.width value → length (attr_values shape.width value) ≡ padded_length (attr_column shape (record { name = name; kind = kind_of value })).size
 value_bytes shape name (Whole v) h = refl
 value_bytes shape name (Text t) h = text_bytes t shape.width h
 value_bytes shape name (Bits64 b) h = refl

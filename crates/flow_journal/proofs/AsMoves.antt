@@ -3,7 +3,8 @@ use Rattle.std.proofs.Common.{◌≡◌, Bool, true, false, not, ◌&&◌, List,
 use Rattle.std.proofs.lemmas.Bool.{and_parts, and_from, true≢false, cases_Bool}
 use Rattle.std.proofs.lemmas.List.{append-nil}
 use Rattle.flow_journal.specs.declared.entry.Entry.{Entry}
-use Rattle.flow_journal.proofs.Histories.{onto-append, is_nothing-true, history-moves}
+use Rattle.flow_journal.specs.Pushes.{is_nothing-true}
+use Rattle.flow_journal.proofs.Histories.{onto-append, history-moves}
 use Rattle.flow_journal.specs.FirstEntries.{first}
 use Rattle.flow_journal.specs.Following.{owed}
 use Rattle.flow_journal.specs.Histories.{next, is_legal, is_history, is_nothing}

@@ -43,7 +43,7 @@ times-goes v w t x P h =
       | inr away ↦ rw away (omega arith)
     ]
 
-still_held : (r q : ℕ) (e : Entry) (hs : List Entry) → Apart hs → find (takes_up r) (let_go q hs) ≡ Some e → (q ≢ r) × (find (takes_up r) hs ≡ Some e)
+pub still_held : (r q : ℕ) (e : Entry) (hs : List Entry) → Apart hs → find (takes_up r) (let_go q hs) ≡ Some e → (q ≢ r) × (find (takes_up r) hs ≡ Some e)
 still_held r q e hs apart h =
     elim (cases_Bool (eqb q r)) [
       | inl here ↦

@@ -107,7 +107,7 @@ removed a t (w ∷ ws) h =
           rw away (count-cons (waits t) w ws ∙ omega (arith, removed a t ws left, count-cons (waits t) w (not_waiting a ws)))
     ]
 
-removed-le : (a : FrameName) (t : FrameName → Bool) (ws : List Waiting) → count (waits t) (not_waiting a ws) ≤ count (waits t) ws
+pub removed-le : (a : FrameName) (t : FrameName → Bool) (ws : List Waiting) → count (waits t) (not_waiting a ws) ≤ count (waits t) ws
 removed-le a t [] = omega arith
 removed-le a t (w ∷ ws) =
     elim (cases_Bool (same w.array a)) [
@@ -122,28 +122,28 @@ owed-out s e P v t b head rest is same_test =
     let left : count (out_of v t) (drop 1 (owed s P)) ≡ count (out_of v t) rest = ap (λ (ds : List Entry). count (out_of v t) (drop 1 ds)) is in
     omega (arith, was, left, ap bit same_test)
 
-owed-Emit_out : (s : Setting) (w m i : ℕ) (why : Why) (P : Past) (v : ℕ) (t : FrameName → Bool) → is_legal s (Emit w m i why ∷ P) ≡ true → count (out_of v t) (owed s P) ≡ bit (eqb w v && t (frame m i)) + count (out_of v t) (drop 1 (owed s P))
+pub owed-Emit_out : (s : Setting) (w m i : ℕ) (why : Why) (P : Past) (v : ℕ) (t : FrameName → Bool) → is_legal s (Emit w m i why ∷ P) ≡ true → count (out_of v t) (owed s P) ≡ bit (eqb w v && t (frame m i)) + count (out_of v t) (drop 1 (owed s P))
 owed-Emit_out s w m i why P v t h =
     let a = owed-answered s (Emit w m i why) P refl h in
     let is = answers-by_Emit s P w m i why a.head a.answer in
     owed-out s (Emit w m i why) P v t (eqb w v && t (frame m i)) a.head a.rest a.is (ap (out_of v t) is.1)
 
-owed-SortDrop_out : (s : Setting) (w m i : ℕ) (P : Past) (v : ℕ) (t : FrameName → Bool) → is_legal s (SortDrop w m i ∷ P) ≡ true → count (out_of v t) (owed s P) ≡ bit (eqb w v && t (frame m i)) + count (out_of v t) (drop 1 (owed s P))
+pub owed-SortDrop_out : (s : Setting) (w m i : ℕ) (P : Past) (v : ℕ) (t : FrameName → Bool) → is_legal s (SortDrop w m i ∷ P) ≡ true → count (out_of v t) (owed s P) ≡ bit (eqb w v && t (frame m i)) + count (out_of v t) (drop 1 (owed s P))
 owed-SortDrop_out s w m i P v t h =
     let a = owed-answered s (SortDrop w m i) P refl h in
     owed-out s (SortDrop w m i) P v t (eqb w v && t (frame m i)) a.head a.rest a.is (ap (out_of v t) (answers-by_SortDrop s P w m i a.head a.answer))
 
-no_outs_in_offers : (v : ℕ) (t : FrameName → Bool) (a : FrameName) (cs : List ℕ) → count (out_of v t) (map (offer a) cs) ≡ 0
+pub no_outs_in_offers : (v : ℕ) (t : FrameName → Bool) (a : FrameName) (cs : List ℕ) → count (out_of v t) (map (offer a) cs) ≡ 0
 no_outs_in_offers v t a [] = refl
 no_outs_in_offers v t a (c ∷ cs) = no_outs_in_offers v t a cs
 
-result-sorted : (s : Setting) (v : ℕ) (a : FrameName) (f : Bool) (P : Past) (w : Work) → may_sort w ≡ true → is_sorted s v ≡ true → result s v a f P w ≡ sorted_result s v a (waiting s v P) (Put 0 v a.maker a.index f ∷ P)
+pub result-sorted : (s : Setting) (v : ℕ) (a : FrameName) (f : Bool) (P : Past) (w : Work) → may_sort w ≡ true → is_sorted s v ≡ true → result s v a f P w ≡ sorted_result s v a (waiting s v P) (Put 0 v a.maker a.index f ∷ P)
 result-sorted s v a f P Makes h sorted = rw sorted refl
 result-sorted s v a f P Passes h sorted = rw sorted refl
 result-sorted s v a f P (Watches pre post preset) h sorted = absurd (false≢true h)
 result-sorted s v a f P (Saves whole n) h sorted = absurd (false≢true h)
 
-waiting-put : (s : Setting) (v r m i : ℕ) (f : Bool) (P : Past) → is_sorted s v ≡ true → waiting s v (Put r v m i f ∷ P) ≡ waiting s v P ++ record { array = frame m i; tick = now P } ∷ []
+pub waiting-put : (s : Setting) (v r m i : ℕ) (f : Bool) (P : Past) → is_sorted s v ≡ true → waiting s v (Put r v m i f ∷ P) ≡ waiting s v P ++ record { array = frame m i; tick = now P } ∷ []
 waiting-put s v r m i f P sorted = rw sorted (comes_here v (record { array = frame m i; tick = now P }) (waiting s v P))
 
 waiting-put_elsewhere : (s : Setting) (v r w m i : ℕ) (f : Bool) (P : Past) → is_sorted s v ≡ true → w ≢ v → waiting s v (Put r w m i f ∷ P) ≡ waiting s v P
@@ -261,7 +261,7 @@ sorted-emits s (_ ∷ P) v k nz sorted h = sorted-emits s P v k nz sorted (and_p
 
 -- OTHER NODES
 
-waiting-unsorted : (s : Setting) (v : ℕ) (P : Past) → is_sorted s v ≡ false → waiting s v P ≡ []
+pub waiting-unsorted : (s : Setting) (v : ℕ) (P : Past) → is_sorted s v ≡ false → waiting s v P ≡ []
 waiting-unsorted s v [] u = refl
 waiting-unsorted s v (Put r w m i f ∷ P) u = rw u refl
 waiting-unsorted s v (Emit w m i why ∷ P) u =

@@ -1,16 +1,14 @@
 -- What a grant gives away has no place.
-use Rattle.std.proofs.Common.{◌≡◌, ◌≢◌, ℕ, zero, suc, ◌+◌, ◌≤◌, Bool, true, false, not, cond, ◌&&◌, ◌||◌, eqb, ltb, leb, List, [], ◌∷◌, ◌++◌, length, map, refl, sym, ap, subst, ◌∙◌, arith, Option, Some, None, inl, inr}
+use Rattle.std.proofs.Common.{◌≡◌, ◌≢◌, ℕ, zero, suc, ◌+◌, Bool, true, false, not, cond, ◌&&◌, ◌||◌, eqb, leb, List, [], ◌∷◌, ◌++◌, map, refl, sym, ap, subst, ◌∙◌, Option, Some, None, inl, inr}
 use Rattle.std.specs.Prelude.{filter, reverse, take}
-use Rattle.std.specs.List.{find, list_any, list_all}
-use Rattle.std.proofs.lemmas.Bool.{and_parts, and_from, false≢true, true≢false, eqb-true, ne_eqb, or_from, or_parts, or_cases, or_left, or_right, not-true, cases_Bool, cond-true}
+use Rattle.std.specs.List.{find, list_all}
+use Rattle.std.proofs.lemmas.Bool.{and_parts, and_from, false≢true, true≢false, eqb-true, eq-eqb, ne_eqb, or_from, or_cases, or_left, or_right, not-true, cases_Bool, cond-true}
 use Rattle.std.proofs.lemmas.List.{reverse-append}
-use Rattle.pool_ledger.specs.Grants.{Block, comes_first, placed, in_order, free_in_order, smallest_fit, largest_free, has_number, left_after, passes, given_up, least_missing, new_number, Answer, Refused, Granted, fresh_grant, fit_or_fresh, granted}
-use Rattle.flow_journal.specs.declared.entry.Entry.{Entry}
-use Rattle.flow_journal.specs.declared.entry.Entry.TheVariants.{Load, TakeBlock}
-use Rattle.flow_journal.specs.Setting.{Setting, is_maker}
-use Rattle.flow_journal.specs.Pasts.{Past, frame}
+use Rattle.pool_ledger.specs.Grants.{Block, comes_first, placed, in_order, free_in_order, smallest_fit, largest_free, has_number, left_after, known_after, passes, given_up, new_number, Answer, Refused, Granted, fit_or_fresh, granted}
+use Rattle.flow_journal.specs.Setting.{Setting}
+use Rattle.flow_journal.specs.Pasts.{Past}
 use Rattle.flow_journal.specs.Accounts.{refs, is_unplaced, known, held, grant}
-use Rattle.flow_journal.specs.FirstEntries.{first, may_load, may_take, both, is_granted, regrown_fits, pool_grants}
+use Rattle.flow_journal.specs.FirstEntries.{both, is_granted, regrown_fits, pool_grants}
 use Rattle.flow_journal.specs.HistoryLaws.{ArePlacesKnown}
 use Rattle.flow_journal.proofs.Once.{is_among, least_missing-not_among}
 
@@ -31,7 +29,7 @@ all_placed p b (c ∷ cs) h g =
       | false ↦ and_from _ _ h g
     ]
 
-all_in_order : (p : Block → Bool) (bs : List Block) → list_all p bs ≡ true → list_all p (in_order bs) ≡ true
+pub all_in_order : (p : Block → Bool) (bs : List Block) → list_all p bs ≡ true → list_all p (in_order bs) ≡ true
 all_in_order p [] h = refl
 all_in_order p (b ∷ bs) h = let q = and_parts (p b) (list_all p bs) h in all_placed p b (in_order bs) q.0 (all_in_order p bs q.1)
 
@@ -51,7 +49,7 @@ all_take p zero xs h = refl
 all_take p (suc n) [] h = refl
 all_take p (suc n) (x ∷ xs) h = let q = and_parts (p x) (list_all p xs) h in and_from _ _ q.0 (all_take p n xs q.1)
 
-all_found : (p q : Block → Bool) (xs : List Block) (b : Block) → list_all p xs ≡ true → find q xs ≡ Some b → p b ≡ true
+pub all_found : (p q : Block → Bool) (xs : List Block) (b : Block) → list_all p xs ≡ true → find q xs ≡ Some b → p b ≡ true
 all_found p q [] b h f = cc
 all_found p q (x ∷ xs) b h f =
     let r = and_parts (p x) (list_all p xs) h in
@@ -120,24 +118,68 @@ granted-free limit n held b size fresh given is_free bs known h =
       | inr within ↦ let fits : fit_or_fresh limit n is_free bs (smallest_fit n is_free bs) ≡ Granted b size fresh given = rw within at h in fit-free limit n b size fresh given is_free bs (smallest_fit n is_free bs) known found fits
     ]
 
-is_granted-says : (b n : ℕ) (f : Bool) (g : ℕ) (a : Answer) → is_granted b n f g a ≡ true → (size : ℕ) × (fresh : Bool) × (given : ℕ) × (a ≡ Granted b size fresh given)
-is_granted-says b n f g Refused h = absurd (false≢true h)
-is_granted-says b n f g (Granted block size fresh given) h =
+both-same : (a b : Bool) → both a b ≡ true → a ≡ b
+both-same true b h = sym h
+both-same false b h = sym (not-true b h)
+
+is_granted-is : (b n : ℕ) (f : Bool) (g : ℕ) (a : Answer) → is_granted b n f g a ≡ true → a ≡ Granted b n f g
+is_granted-is b n f g Refused h = absurd (false≢true h)
+is_granted-is b n f g (Granted block size fresh given) h =
     let p = and_parts (eqb b block && eqb n size && both fresh f) (eqb g given) h in
     let q = and_parts (eqb b block && eqb n size) (both fresh f) p.0 in
-    let is : b ≡ block = eqb-true b block (and_parts (eqb b block) (eqb n size) q.0).0 in
-    (size, fresh, given, ap (λ (c : ℕ). Granted c size fresh given) (sym is))
+    let o = and_parts (eqb b block) (eqb n size) q.0 in
+    let same_block : b ≡ block = eqb-true b block o.0 in
+    let same_size : n ≡ size = eqb-true n size o.1 in
+    let same_kind : fresh ≡ f = both-same fresh f q.1 in
+    let same_given : g ≡ given = eqb-true g given p.1 in
+    cc
+
+-- the grant that an entry has is the one of the rules
+pub granted-is : (s : Setting) (m b n : ℕ) (f : Bool) (g : ℕ) (x : Bool) (P : Past) → s.pooled ≡ true → pool_grants s m b n f g x P ≡ true → granted s.limit (s.need m) (held s P) (is_unplaced s P) (known s P) ≡ Granted b n f g
+granted-is s m b n f g x P pooled h =
+    sym (cond-true s.pooled (granted s.limit (s.need m) (held s P) (is_unplaced s P) (known s P)) (Granted 0 0 false 0) pooled)
+    ∙ is_granted-is b n f g (grant s P (s.need m)) (and_parts (is_granted b n f g (grant s P (s.need m))) (regrown_fits s f x) h).0
+
+-- A GRANTED BLOCK IS KNOWN THEN
+
+all_filtered : (p q : Block → Bool) (bs : List Block) → list_all p bs ≡ true → list_all p (filter q bs) ≡ true
+all_filtered p q [] h = refl
+all_filtered p q (b ∷ bs) h =
+    let r = and_parts (p b) (list_all p bs) h in
+    elim (q b) as (λ c. list_all p (cond c (b ∷ filter q bs) (filter q bs)) ≡ true) [
+      | true ↦ and_from _ _ r.0 (all_filtered p q bs r.1)
+      | false ↦ all_filtered p q bs r.1
+    ]
+
+all_within : (whole bs : List Block) → ((k : ℕ) → has_number k bs ≡ true → has_number k whole ≡ true) → list_all (λ (b : Block). has_number b.number whole) bs ≡ true
+all_within whole [] h = refl
+all_within whole (b ∷ bs) h =
+    and_from _ _ (h b.number (or_left (eqb b.number b.number) _ (eq-eqb b.number b.number refl))) (all_within whole bs (λ k i. h k (or_right (eqb b.number k) _ i)))
+
+fit-known : (limit n b size : ℕ) (fresh : Bool) (given : ℕ) (is_free : ℕ → Bool) (bs : List Block) (o : Option Block) → ((c : Block) → o ≡ Some c → has_number c.number bs ≡ true) → fit_or_fresh limit n is_free bs o ≡ Granted b size fresh given → has_number b (known_after is_free (Granted b size fresh given) bs) ≡ true
+fit-known limit n b size fresh given is_free bs (Some c) found h =
+    let is : c.number ≡ b = cc in
+    let old : false ≡ fresh = cc in
+    subst (λ (f : Bool). has_number b (known_after is_free (Granted b size f given) bs) ≡ true) old (subst (λ (k : ℕ). has_number k bs ≡ true) is (found c refl))
+fit-known limit n b size fresh given is_free bs None found h =
+    let new : true ≡ fresh = cc in
+    subst (λ (f : Bool). has_number b (known_after is_free (Granted b size f given) bs) ≡ true) new (or_left (eqb b b) _ (eq-eqb b b refl))
+
+pub granted-known : (limit n held b size : ℕ) (fresh : Bool) (given : ℕ) (is_free : ℕ → Bool) (bs : List Block) → granted limit n held is_free bs ≡ Granted b size fresh given → has_number b (known_after is_free (Granted b size fresh given) bs) ≡ true
+granted-known limit n held b size fresh given is_free bs h =
+    let known_block : Block → Bool = λ c. has_number c.number bs in
+    let found : (c : Block) → smallest_fit n is_free bs ≡ Some c → has_number c.number bs ≡ true = λ c e. all_found known_block (λ d. leb n d.size) (free_in_order is_free bs) c (all_in_order known_block (filter (free_block is_free) bs) (all_filtered known_block (free_block is_free) bs (all_within bs bs (λ k i. i)))) e in
+    elim (cases_Bool (passes limit (held + n))) [
+      | inl over ↦ let never : Refused ≡ Granted b size fresh given = rw over at h in cc
+      | inr within ↦ let fits : fit_or_fresh limit n is_free bs (smallest_fit n is_free bs) ≡ Granted b size fresh given = rw within at h in fit-known limit n b size fresh given is_free bs (smallest_fit n is_free bs) found fits
+    ]
+
+-- and so is each that was known and isn't free
+pub stays-known : (is_free : ℕ → Bool) (b size : ℕ) (fresh : Bool) (given k : ℕ) (bs : List Block) → is_free k ≡ false → has_number k bs ≡ true → has_number k (known_after is_free (Granted b size fresh given) bs) ≡ true
+stays-known is_free b size true given k bs u h = or_right (eqb b k) _ (stays-left is_free given k bs u h)
+stays-known is_free b size false given k bs u h = h
 
 -- a block that the pool grants has no place
 pub grants-unplaced : (s : Setting) (m b n : ℕ) (f : Bool) (g : ℕ) (x : Bool) (P : Past) → s.pooled ≡ true → ArePlacesKnown s P → pool_grants s m b n f g x P ≡ true → refs s P b ≡ 0
 grants-unplaced s m b n f g x P pooled places h =
-    let is : is_granted b n f g (grant s P (s.need m)) ≡ true = (and_parts (is_granted b n f g (grant s P (s.need m))) (regrown_fits s f x) h).0 in
-    let o = is_granted-says b n f g (grant s P (s.need m)) is in
-    let given : granted s.limit (s.need m) (held s P) (is_unplaced s P) (known s P) ≡ Granted b o.0 o.1 o.2 = sym (cond-true s.pooled (granted s.limit (s.need m) (held s P) (is_unplaced s P) (known s P)) (Granted 0 0 false 0) pooled) ∙ o.3 in
-    eqb-true (refs s P b) 0 (granted-free s.limit (s.need m) (held s P) b o.0 o.1 o.2 (is_unplaced s P) (known s P) places given)
-
-pub load-unplaced : (s : Setting) (P : Past) (r k b n : ℕ) (f : Bool) (g : ℕ) (x : Bool) → s.pooled ≡ true → ArePlacesKnown s P → first s P (Load r k b n f g x) ≡ true → refs s P b ≡ 0
-load-unplaced s P r k b n f g x pooled places h = grants-unplaced s 0 b n f g x P pooled places (and_parts (may_load s r k P) (pool_grants s 0 b n f g x P) h).1
-
-pub take-unplaced : (s : Setting) (P : Past) (r v m k b n : ℕ) (f : Bool) (g : ℕ) (x : Bool) → s.pooled ≡ true → ArePlacesKnown s P → first s P (TakeBlock r v m k b n f g x) ≡ true → refs s P b ≡ 0
-take-unplaced s P r v m k b n f g x pooled places h = grants-unplaced s v b n f g x P pooled places (and_parts (may_take s r v (frame m k) P && is_maker s v) (pool_grants s v b n f g x P) h).1
+    eqb-true (refs s P b) 0 (granted-free s.limit (s.need m) (held s P) b n f g (is_unplaced s P) (known s P) places (granted-is s m b n f g x P pooled h))

@@ -1,6 +1,6 @@
 -- In a legal history each role has one hand at most, and one block at most is loaded.
-use Rattle.std.proofs.Common.{◌≡◌, ◌≢◌, ℕ, ◌<◌, ◌≤◌, arith, Bool, true, false, not, cond, ◌&&◌, ◌||◌, List, [], ◌∷◌, refl, sym, ap, ◌∙◌, subst, eqb, ltb, length, suc, Some, None, inl, inr}
-use Rattle.std.specs.Prelude.{is_none, filter}
+use Rattle.std.proofs.Common.{◌≡◌, ◌≢◌, ℕ, ◌<◌, ◌≤◌, arith, Bool, true, false, not, cond, ◌&&◌, ◌||◌, List, [], ◌∷◌, ◌++◌, refl, sym, ap, ◌∙◌, subst, eqb, ltb, length, suc, Some, None, inl, inr}
+use Rattle.std.specs.Prelude.{is_none, filter, flat_map}
 use Rattle.std.specs.List.{list_any, list_all, find}
 use Rattle.std.proofs.lemmas.Bool.{and_parts, false≢true, true≢false, eq-eqb, ne_eqb, eqb-true, cases_Bool, or_parts, or_from, not-true, ltb-true}
 use Rattle.nd_base.specs.declared.frame.FrameName.{FrameName}
@@ -166,7 +166,7 @@ hands-OneLoaded s (Saved r v m k ∷ P) h = OneLoaded-let_go r (hands P) (hands-
 hands-OneLoaded s (Reclaim r ∷ P) h = OneLoaded-let_go r (hands P) (hands-OneLoaded s P (and_parts _ _ h).0)
 hands-OneLoaded s (_ ∷ P) h = hands-OneLoaded s P (and_parts _ _ h).0
 
-find-none_is : (p q : Entry → Bool) (e : Entry) (hs : List Entry) → list_any q hs ≡ false → find p hs ≡ Some e → q e ≡ false
+pub find-none_is : (p q : Entry → Bool) (e : Entry) (hs : List Entry) → list_any q hs ≡ false → find p hs ≡ Some e → q e ≡ false
 find-none_is p q e [] h f = cc
 find-none_is p q e (x ∷ hs) h f =
     let both = or_parts (q x) (list_any q hs) h in
@@ -251,3 +251,24 @@ few_loaded (e ∷ hs) h =
 
 pub one-loaded : (s : Setting) (P : Past) → is_legal s P ≡ true → length (filter is_loaded (hands P)) ≤ 1
 one-loaded s P h = few_loaded (hands P) (hands-OneLoaded s P h)
+
+pub found_up : (p : Entry → Bool) (e : Entry) (hs : List Entry) → find p hs ≡ Some e → p e ≡ true
+found_up p e [] h = cc
+found_up p e (x ∷ hs) h =
+    elim (cases_Bool (p x)) [
+      | inl here ↦ let same : Some x ≡ Some e = rw here at h in let is : x ≡ e = cc in ap p (sym is) ∙ here
+      | inr away ↦ found_up p e hs (rw away at h)
+    ]
+
+-- a hand that gives nothing leaves what the others give
+pub flat-let_go : {X : Type 0} (f : Entry → List X) (r : ℕ) (e : Entry) (hs : List Entry) → find (takes_up r) hs ≡ Some e → f e ≡ [] → flat_map f (let_go r hs) ≡ flat_map f hs
+flat-let_go f r e [] h none = refl
+flat-let_go f r e (x ∷ hs) h none =
+    elim (cases_Bool (takes_up r x)) [
+      | inl here ↦
+          let same : Some x ≡ Some e = rw here at h in
+          let is : x ≡ e = cc in
+          let gives : f x ≡ [] = ap f is ∙ none in
+          rw here (sym (ap (λ ys. ys ++ flat_map f hs) gives))
+      | inr away ↦ rw away (ap (λ ys. f x ++ ys) (flat-let_go f r e hs (rw away at h) none))
+    ]

@@ -6,13 +6,10 @@ use Rattle.flow_journal.specs.declared.entry.Entry.{Entry}
 use Rattle.flow_journal.specs.FirstEntries.{first}
 use Rattle.flow_journal.specs.Following.{owed}
 use Rattle.flow_journal.specs.Histories.{next, is_legal, is_history, is_nothing}
+use Rattle.flow_journal.specs.Pushes.{is_nothing-true}
 use Rattle.flow_journal.specs.Moves.{onto, follow, is_move, are_moves, all_of}
 use Rattle.flow_journal.specs.Pasts.{Past}
 use Rattle.flow_journal.specs.Setting.{Setting}
-
-pub is_nothing-true : (ds : List Entry) → is_nothing ds ≡ true → ds ≡ []
-is_nothing-true [] h = refl
-is_nothing-true (d ∷ ds) h = absurd (false≢true h)
 
 -- one more entry, in its place
 pub legal-more : (s : Setting) (P : Past) (e : Entry) → is_legal s P ≡ true → next s P e (owed s P) ≡ true → is_legal s (e ∷ P) ≡ true

@@ -1,8 +1,8 @@
 pub mod Spelled
 pub mod LineEnds
 pub mod Texts
+pub mod OneText
 pub mod Histories
-pub mod Pushes
 pub mod AsMoves
 pub mod Steps
 pub mod Hands
@@ -16,4 +16,11 @@ pub mod RingCounts
 pub mod Emissions
 pub mod Once
 pub mod Changes
+pub mod Pieces
+pub mod Travels
+pub mod Settled
+pub mod Loads
+pub mod LastOuts
+pub mod FrameBlocks
 pub mod Grants
+pub mod Places

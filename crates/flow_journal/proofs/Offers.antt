@@ -81,11 +81,12 @@ child_once s v c =
           rw other (omega (arith, n))
     ]
 
-pub no_child_0 : (s : Setting) (v : ℕ) → count (is_number 0) (children s v) ≡ 0
-no_child_0 s v =
-    elim (cases_Bool (eqb (node s 0).input v)) [
-      | inl child ↦ let n : count (is_number 0) (children s v) ≡ count (is_number 0) (node_numbers s) = rw child at (filtered (λ u. eqb (node s u).input v) 0 (node_numbers s)) in n ∙ none_numbered_0 s
-      | inr other ↦ let n : count (is_number 0) (children s v) ≡ 0 = rw other at (filtered (λ u. eqb (node s u).input v) 0 (node_numbers s)) in n
+-- what isn't numbered is nobody's child
+no_child : (s : Setting) (c v : ℕ) → count (is_number c) (node_numbers s) ≡ 0 → count (is_number c) (children s v) ≡ 0
+no_child s c v none =
+    elim (cases_Bool (eqb (node s c).input v)) [
+      | inl child ↦ let n : count (is_number c) (children s v) ≡ count (is_number c) (node_numbers s) = rw child at (filtered (λ u. eqb (node s u).input v) c (node_numbers s)) in n ∙ none
+      | inr other ↦ let n : count (is_number c) (children s v) ≡ 0 = rw other at (filtered (λ u. eqb (node s u).input v) c (node_numbers s)) in n
     ]
 
 -- the offers of an array
@@ -125,12 +126,12 @@ offers_of_emit s v m i c k =
           omega (arith, n)
     ]
 
-none_to_0 : (s : Setting) (v m i k : ℕ) → count (accepts_at 0 k) (map (offer (frame m i)) (children s v)) ≡ 0
-none_to_0 s v m i k =
-    let are = offers_are (frame m i) 0 k (children s v) in
+none_to : (s : Setting) (c v m i k : ℕ) → count (is_number c) (node_numbers s) ≡ 0 → count (accepts_at c k) (map (offer (frame m i)) (children s v)) ≡ 0
+none_to s c v m i k none =
+    let are = offers_are (frame m i) c k (children s v) in
     elim (cases_Bool (eqb i k)) [
-      | inl same ↦ let n : count (accepts_at 0 k) (map (offer (frame m i)) (children s v)) ≡ count (is_number 0) (children s v) = rw same at are in n ∙ no_child_0 s v
-      | inr other ↦ let n : count (accepts_at 0 k) (map (offer (frame m i)) (children s v)) ≡ 0 = rw other at are in n
+      | inl same ↦ let n : count (accepts_at c k) (map (offer (frame m i)) (children s v)) ≡ count (is_number c) (children s v) = rw same at are in n ∙ no_child s c v none
+      | inr other ↦ let n : count (accepts_at c k) (map (offer (frame m i)) (children s v)) ≡ 0 = rw other at are in n
     ]
 
 -- a tick offers nothing
@@ -164,21 +165,25 @@ accepts-emitted s (Settle r w ∷ P) c k h =
     omega (arith, accepts-emitted s P c k (and_parts _ _ h).0, count-append (accepts_at c k) (calls_for s P (Settle r w)) (drop 1 (owed s P)), no_offers w c k (calls_for s P (Settle r w)) (flush-at w (least_first s (waiting s w P))), count-drop (accepts_at c k) (owed s P))
 accepts-emitted s (_ ∷ P) c k h = omega (arith, accepts-emitted s P c k (and_parts _ _ h).0, count-drop (accepts_at c k) (owed s P))
 
--- nothing is offered to the driver
-pub none_at_driver : (s : Setting) (P : Past) (k : ℕ) → is_legal s P ≡ true → count (accepts_at 0 k) P + count (accepts_at 0 k) (owed s P) ≡ 0
-none_at_driver s [] k h = refl
-none_at_driver s (Accept w m i ∷ P) k h =
+-- nothing is offered to what isn't numbered
+pub none_at : (s : Setting) (P : Past) (c k : ℕ) → count (is_number c) (node_numbers s) ≡ 0 → is_legal s P ≡ true → count (accepts_at c k) P + count (accepts_at c k) (owed s P) ≡ 0
+none_at s [] c k none h = refl
+none_at s (Accept w m i ∷ P) c k none h =
     let a = owed-answered s (Accept w m i) P refl h in
     let same = answers-by_Accept s P w m i a.head a.answer in
-    let was : count (accepts_at 0 k) (owed s P) ≡ bit (accepts_at 0 k (Accept w m i)) + count (accepts_at 0 k) a.rest = ap (count (accepts_at 0 k)) a.is ∙ (count-cons (accepts_at 0 k) a.head a.rest ∙ ap (λ (d : Entry). bit (accepts_at 0 k d) + count (accepts_at 0 k) a.rest) same) in
-    let left : count (accepts_at 0 k) (drop 1 (owed s P)) ≡ count (accepts_at 0 k) a.rest = ap (λ (ds : List Entry). count (accepts_at 0 k) (drop 1 ds)) a.is in
-    omega (arith, none_at_driver s P k (and_parts _ _ h).0, was, left, count-cons (accepts_at 0 k) (Accept w m i) P)
-none_at_driver s (Emit w m i why ∷ P) k h =
-    omega (arith, none_at_driver s P k (and_parts _ _ h).0, none_to_0 s w m i k, count-append (accepts_at 0 k) (map (offer (frame m i)) (children s w)) (drop 1 (owed s P)), count-drop (accepts_at 0 k) (owed s P))
-none_at_driver s (Tick t ∷ P) k h =
-    omega (arith, none_at_driver s P k (and_parts _ _ h).0, count-append (accepts_at 0 k) (calls_for s P (Tick t)) (drop 1 (owed s P)), no_offers-tick s (Tick t ∷ P) 0 k (node_numbers s), count-drop (accepts_at 0 k) (owed s P))
-none_at_driver s (Put r w m i f ∷ P) k h =
-    omega (arith, none_at_driver s P k (and_parts _ _ h).0, count-append (accepts_at 0 k) (calls_for s P (Put r w m i f)) (drop 1 (owed s P)), no_offers w 0 k (calls_for s P (Put r w m i f)) (result-at s w (frame m i) f P (node s w).work), count-drop (accepts_at 0 k) (owed s P))
-none_at_driver s (Settle r w ∷ P) k h =
-    omega (arith, none_at_driver s P k (and_parts _ _ h).0, count-append (accepts_at 0 k) (calls_for s P (Settle r w)) (drop 1 (owed s P)), no_offers w 0 k (calls_for s P (Settle r w)) (flush-at w (least_first s (waiting s w P))), count-drop (accepts_at 0 k) (owed s P))
-none_at_driver s (_ ∷ P) k h = omega (arith, none_at_driver s P k (and_parts _ _ h).0, count-drop (accepts_at 0 k) (owed s P))
+    let was : count (accepts_at c k) (owed s P) ≡ bit (accepts_at c k (Accept w m i)) + count (accepts_at c k) a.rest = ap (count (accepts_at c k)) a.is ∙ (count-cons (accepts_at c k) a.head a.rest ∙ ap (λ (d : Entry). bit (accepts_at c k d) + count (accepts_at c k) a.rest) same) in
+    let left : count (accepts_at c k) (drop 1 (owed s P)) ≡ count (accepts_at c k) a.rest = ap (λ (ds : List Entry). count (accepts_at c k) (drop 1 ds)) a.is in
+    omega (arith, none_at s P c k none (and_parts _ _ h).0, was, left, count-cons (accepts_at c k) (Accept w m i) P)
+none_at s (Emit w m i why ∷ P) c k none h =
+    omega (arith, none_at s P c k none (and_parts _ _ h).0, none_to s c w m i k none, count-append (accepts_at c k) (map (offer (frame m i)) (children s w)) (drop 1 (owed s P)), count-drop (accepts_at c k) (owed s P))
+none_at s (Tick t ∷ P) c k none h =
+    omega (arith, none_at s P c k none (and_parts _ _ h).0, count-append (accepts_at c k) (calls_for s P (Tick t)) (drop 1 (owed s P)), no_offers-tick s (Tick t ∷ P) c k (node_numbers s), count-drop (accepts_at c k) (owed s P))
+none_at s (Put r w m i f ∷ P) c k none h =
+    omega (arith, none_at s P c k none (and_parts _ _ h).0, count-append (accepts_at c k) (calls_for s P (Put r w m i f)) (drop 1 (owed s P)), no_offers w c k (calls_for s P (Put r w m i f)) (result-at s w (frame m i) f P (node s w).work), count-drop (accepts_at c k) (owed s P))
+none_at s (Settle r w ∷ P) c k none h =
+    omega (arith, none_at s P c k none (and_parts _ _ h).0, count-append (accepts_at c k) (calls_for s P (Settle r w)) (drop 1 (owed s P)), no_offers w c k (calls_for s P (Settle r w)) (flush-at w (least_first s (waiting s w P))), count-drop (accepts_at c k) (owed s P))
+none_at s (_ ∷ P) c k none h = omega (arith, none_at s P c k none (and_parts _ _ h).0, count-drop (accepts_at c k) (owed s P))
+
+-- nor to the driver
+pub none_at_driver : (s : Setting) (P : Past) (k : ℕ) → is_legal s P ≡ true → count (accepts_at 0 k) P + count (accepts_at 0 k) (owed s P) ≡ 0
+none_at_driver s P k h = none_at s P 0 k (none_numbered_0 s) h

@@ -61,7 +61,7 @@ pub flush-at : (v : ℕ) (ws : List Waiting) → AllOutAt v (map (λ (w : Waitin
 flush-at v [] = refl
 flush-at v (w ∷ ws) = and_from _ _ (here v) (flush-at v ws)
 
-sorted_result-at : (s : Setting) (v : ℕ) (a : FrameName) (before : List Waiting) (P : Past) → AllOutAt v (sorted_result s v a before P)
+pub sorted_result-at : (s : Setting) (v : ℕ) (a : FrameName) (before : List Waiting) (P : Past) → AllOutAt v (sorted_result s v a before P)
 sorted_result-at s v a before P =
     elim (cases_Bool (keeps_step (prev s v P) (id_at s a.index))) [
       | inl step ↦ rw step (and_from _ _ (here v) (goes_out-at s v _ _ _))

@@ -8,7 +8,8 @@ use Rattle.flow_journal.specs.Accounts.{refs, is_unplaced, known}
 use Rattle.flow_journal.specs.FirstEntries.{first}
 use Rattle.flow_journal.specs.Setting.{Setting}
 use Rattle.flow_journal.specs.Pasts.{Past}
-use Rattle.flow_journal.specs.Hands.{takes_up, hands, is_loaded}
+use Rattle.flow_journal.specs.Hands.{takes_up, hands, is_loaded, is_piece, jobs}
+use Rattle.flow_journal.specs.Ended.{is_settled}
 use Rattle.flow_journal.specs.Queued.{queued}
 use Rattle.flow_journal.specs.QueueCounts.{times, gone}
 use Rattle.flow_journal.specs.Following.{owed}
@@ -44,6 +45,14 @@ OneHandARole = (s : Setting) (P : Past) (r : ℕ) → is_legal s P ≡ true → 
 abbrev pub OneBlockLoaded : Type 0
 OneBlockLoaded = (s : Setting) (P : Past) → is_legal s P ≡ true → length (filter is_loaded (hands P)) ≤ 1
 
+-- a file node has one piece in a hand at most
+abbrev pub OnePieceANode : Type 0
+OnePieceANode = (s : Setting) (P : Past) (v : ℕ) → is_legal s P ≡ true → length (filter (is_piece v) (hands P)) ≤ 1
+
+-- a settled node has no job in a hand
+abbrev pub SettledAreIdle : Type 0
+SettledAreIdle = (s : Setting) (P : Past) (v : ℕ) → is_legal s P ≡ true → is_settled v P ≡ true → jobs v P ≡ 0
+
 -- an array is queued as often as it was accepted, less its takes that stand and its drops
 abbrev pub QueuesInCounts : Type 0
 QueuesInCounts = (s : Setting) (P : Past) (v : ℕ) (a : FrameName) → is_legal s P ≡ true → times a (accepts v P) ≡ times a (queued v P) + times a (gone v P)
@@ -60,10 +69,14 @@ EmitsOnce = (s : Setting) (P : Past) (v k : ℕ) → is_legal s P ≡ true → l
 abbrev pub ArePlacesKnown : Setting → Past → Type 0
 ArePlacesKnown s P = (b : ℕ) → is_unplaced s P b ≡ false → has_number b (known s P) ≡ true
 
--- where blocks are accounted and those with a place are known, a block that a Load grants has no place just before
+-- where blocks are accounted, each block that has a place is known
+abbrev pub PlacesAreKnown : Type 0
+PlacesAreKnown = (s : Setting) (P : Past) → s.pooled ≡ true → is_legal s P ≡ true → ArePlacesKnown s P
+
+-- and a block that a Load grants has no place just before
 abbrev pub LoadsAreUnplaced : Type 0
-LoadsAreUnplaced = (s : Setting) (P : Past) (r k b n : ℕ) (f : Bool) (g : ℕ) (x : Bool) → s.pooled ≡ true → ArePlacesKnown s P → first s P (Load r k b n f g x) ≡ true → refs s P b ≡ 0
+LoadsAreUnplaced = (s : Setting) (P : Past) (r k b n : ℕ) (f : Bool) (g : ℕ) (x : Bool) → s.pooled ≡ true → is_legal s P ≡ true → first s P (Load r k b n f g x) ≡ true → refs s P b ≡ 0
 
 -- nor has one that a TakeBlock grants
 abbrev pub TakesAreUnplaced : Type 0
-TakesAreUnplaced = (s : Setting) (P : Past) (r v m k b n : ℕ) (f : Bool) (g : ℕ) (x : Bool) → s.pooled ≡ true → ArePlacesKnown s P → first s P (TakeBlock r v m k b n f g x) ≡ true → refs s P b ≡ 0
+TakesAreUnplaced = (s : Setting) (P : Past) (r v m k b n : ℕ) (f : Bool) (g : ℕ) (x : Bool) → s.pooled ≡ true → is_legal s P ≡ true → first s P (TakeBlock r v m k b n f g x) ≡ true → refs s P b ≡ 0

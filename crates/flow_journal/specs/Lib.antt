@@ -13,6 +13,7 @@ pub mod Accounts
 pub mod FirstEntries
 pub mod Following
 pub mod Histories
+pub mod Pushes
 pub mod Moves
 pub mod Finished
 pub mod Accepted
@@ -20,6 +21,7 @@ pub mod RunSetting
 pub mod Spelling
 pub mod Reading
 pub mod TextFaults
+pub mod TextLaws
 pub mod QueueCounts
 pub mod HistoryLaws
 pub mod EntryLaws

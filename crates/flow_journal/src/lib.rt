@@ -17,7 +17,7 @@ mod write;
 pub use entry::{Entry, Why};
 pub use laws::{
     arrays_come_once, entries_change_facts, grants_are_unplaced, hands_are_few,
-    histories_are_moves, queues_count,
+    histories_are_moves, queues_count, texts_tell_entries,
 };
 pub use log::Log;
 pub use read::{LogFault, read_text};

@@ -2,10 +2,15 @@
 //! what it computed. Scripts time it from outside.
 #![tactic(auto)]
 
+mod frames;
 mod header;
+mod journal;
+mod measure;
 mod pool;
 mod region;
+mod rows;
 mod sort;
+mod stack;
 mod window;
 
 use sort::Order;
@@ -25,11 +30,15 @@ enum Refusal {
 fn run(alloc: Global, workload: &str, count: u32) -> Result<u64, Refusal> {
     let checksum = match workload {
         "header" => header::header(alloc, count),
+        "journal" => journal::journal(alloc, count),
+        "measure" => measure::measure(alloc, count),
         "pool" => pool::pool(alloc, count),
         "region" => region::region(alloc, count),
+        "rows" => rows::rows(alloc, count),
         "sort-rising" => sort::sort(alloc, Order::Rising, count),
         "sort-falling" => sort::sort(alloc, Order::Falling, count),
         "sort-shuffled" => sort::sort(alloc, Order::Shuffled, count),
+        "stack" => stack::stack(alloc, count),
         "window" => window::window(alloc, count),
         _ => return Err(Refusal::Usage),
     };

@@ -1,4 +1,4 @@
-use Rattle.flow_journal.proofs.Changes.{queue_laws, hand_laws, offer_laws, put_laws, clock_laws}
+use Rattle.flow_journal.proofs.Changes.{queue_laws, hand_laws, offer_laws, put_laws, ring_laws, save_laws, job_laws, clock_laws}
 use Rattle.flow_journal.proofs.laws.entries_change_facts.Goals as goal
 
 pub returns-clause-queues : goal.returns-clause-queues
@@ -12,6 +12,15 @@ returns-clause-offers c = offer_laws
 
 pub returns-clause-puts : goal.returns-clause-puts
 returns-clause-puts c = put_laws
+
+pub returns-clause-rings : goal.returns-clause-rings
+returns-clause-rings c = ring_laws
+
+pub returns-clause-saves : goal.returns-clause-saves
+returns-clause-saves c = save_laws
+
+pub returns-clause-jobs : goal.returns-clause-jobs
+returns-clause-jobs c = job_laws
 
 pub returns-clause-clocks : goal.returns-clause-clocks
 returns-clause-clocks c = clock_laws

@@ -1,4 +1,4 @@
--- One more entry: the two ways in which a legal log grows.
+-- One more entry: the two ways in which a legal log grows, and what answers what was called for.
 use Rattle.std.proofs.Common.{◌≡◌, ℕ, ◌≤◌, true, false, ◌&&◌, List, [], ◌∷◌, ◌++◌, refl, eqb}
 use Rattle.std.proofs.lemmas.Bool.{and_parts, and_from, false≢true, eq-eqb, le-leb}
 use Rattle.std.proofs.lemmas.List.{append-nil}
@@ -12,7 +12,7 @@ use Rattle.flow_journal.specs.Pasts.{Past}
 use Rattle.flow_journal.specs.Queued.{has_room}
 use Rattle.flow_journal.specs.Setting.{Setting}
 
-is_nothing-true : (ds : List Entry) → is_nothing ds ≡ true → ds ≡ []
+pub is_nothing-true : (ds : List Entry) → is_nothing ds ≡ true → ds ≡ []
 is_nothing-true [] h = refl
 is_nothing-true (d ∷ ds) h = absurd (false≢true h)
 
@@ -35,7 +35,7 @@ pub push-owed : {s : Setting} {P : Past} {d : Entry} {ds : List Entry} (e : Entr
 push-owed {s} {P} {d} {ds} e o f =
     record { legal = and_from _ _ o.legal (rw o.rest f); rest = rw o.rest refl }
 
--- what answers what
+-- WHAT ANSWERS
 
 three : (a b c : ℕ) → (eqb a a && eqb b b && eqb c c) ≡ true
 three a b c = and_from _ _ (and_from _ _ (eq-eqb a a refl) (eq-eqb b b refl)) (eq-eqb c c refl)

@@ -1,0 +1,11 @@
+pub mod Rebuilt
+pub mod Widths
+pub mod Others
+pub mod Texts
+pub mod Numbers
+pub mod Ints
+pub mod Sizes
+pub mod Accepted
+pub mod Dimensions
+pub mod Fits
+pub mod Writable

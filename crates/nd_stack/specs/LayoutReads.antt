@@ -1,0 +1,126 @@
+-- A file in the layout has the layout's header.
+use Rattle.std.specs.Prelude.{◌≡◌, ℕ, zero, suc, ◌+◌, ◌-◌, ◌*◌, ◌≤◌, List, [], ◌∷◌, ◌++◌, length, Some, Ok, ◌==◌, false, refl}
+use Rattle.std.specs.List.{flat_map, sum_by}
+use Rattle.std.proofs.Common.{ap, sym, subst, ◌∙◌, append_assoc, arith}
+use Rattle.std.proofs.Math.Nat.{suc-mul, mul-le-mul_left, mul-le-mul_right}
+use Rattle.std.proofs.lemmas.Bool.Decides.{nat_tests}
+use Rattle.std.proofs.lemmas.List.{length-map}
+use Rattle.std.proofs.lemmas.List.Sums.{sum_by-cons}
+use Rattle.nd_base.specs.declared.attribute.FileShape.{FileShape}
+use Rattle.nd_base.specs.Array.{Array}
+use Rattle.cdf_read.specs.declared.head.HeadDim.{HeadDim}
+use Rattle.cdf_read.specs.declared.head.HeadVar.{HeadVar}
+use Rattle.cdf_read.specs.Places.{record_count, streaming}
+use Rattle.cdf_read.specs.PlainForm.{magic}
+use Rattle.cdf_read.specs.Grammar.{greatest, IsNumrecs, IsHeader, Reads}
+use Rattle.cdf_read.specs.HeaderReading.{header_of}
+use Rattle.cdf_read.specs.HeaderLaws.{header_of-again}
+use Rattle.cdf_write.specs.Spelling.{word, element_list}
+use Rattle.cdf_write.specs.Columns.{columns, attr_column}
+use Rattle.cdf_write.specs.Layout.{dimensions, attributes, variables, header_length, header, row, layout}
+use Rattle.cdf_write.specs.Lengths.{columns_length, row_length, length_of, longest, attr_header_length, extra_header_length}
+use Rattle.cdf_write.specs.LengthLaws.{header_length_is, row_length_is, length-layout}
+use Rattle.nd_stack.specs.FieldSpelling.{word-IsWord}
+use Rattle.nd_stack.specs.LayoutHeader.{layout_dims, layout_vars, layout_header}
+use Rattle.nd_stack.specs.Groups.{IsGroup}
+use Rattle.nd_stack.specs.DimLaws.{dims_IsList}
+use Rattle.nd_stack.specs.GattLaws.{gatts_IsList}
+use Rattle.nd_stack.specs.VarLaws.{columns-IsColumn, vars_IsList, record_size_is, columns-end}
+
+-- WHAT FOLLOWS FROM THE LENGTH OF THE FILE
+
+length-sum_by : {X : Type 0} (f : X → ℕ) (xs : List X) → ((x : X) → 1 ≤ f x) → length xs ≤ sum_by f xs
+length-sum_by f [] h = omega arith
+length-sum_by f (x ∷ xs) h =
+    let total = sum_by-cons f x xs in
+    let here = h x in
+    let rest = length-sum_by f xs h in
+    omega (arith, total, here, rest)
+
+-- one record fits, and the lists are no longer than the file
+record IsShort (shape : FileShape) (records : ℕ) : Type 0 where
+  begins : header_length shape + row_length shape ≤ greatest
+  counts : records ≤ greatest
+  attrs : length shape.attrs + 5 ≤ greatest
+  extras : length shape.extras + 7 ≤ greatest
+
+short : (shape : FileShape) (records : ℕ) → 1 ≤ records → length_of shape records ≤ longest → IsShort shape records
+short shape records some within =
+    let head = header_length_is shape in
+    let each : 20 ≤ row_length shape = omega (arith, row_length_is shape) in
+    let one : 1 * row_length shape ≤ records * row_length shape = mul-le-mul_right (row_length shape) some in
+    let few : records * 1 ≤ records * row_length shape = mul-le-mul_left records (omega (arith, each)) in
+    let attrs = length-sum_by attr_header_length shape.attrs (λ a. omega arith) in
+    let extras = length-sum_by extra_header_length shape.extras (λ e. omega arith) in
+    record {
+      begins = omega (arith, within, one);
+      counts = omega (arith, within, few);
+      attrs = omega (arith, within, head, attrs);
+      extras = omega (arith, within, head, extras);
+    }
+
+-- THE HEADER
+
+numrecs-IsNumrecs : (n : ℕ) (after : List ℕ) → n ≤ greatest → IsNumrecs n (word n ++ after) after
+numrecs-IsNumrecs n after h = record { word = word-IsWord n after (omega (arith, h)); counted = λ _. h }
+
+length-columns : (shape : FileShape) → length (columns shape) ≡ length shape.attrs + 5
+length-columns shape = omega (arith, length-map shape.attrs (attr_column shape))
+
+parts : (one two three four five after : List ℕ) → (one ++ two ++ three ++ four ++ five) ++ after ≡ one ++ (two ++ (three ++ (four ++ (five ++ after))))
+parts one two three four five after = simp append_assoc refl
+
+header-IsHeader : (shape : FileShape) (records : ℕ) (after : List ℕ) (arrays : List Array) → IsGroup shape arrays → length arrays ≡ records → IsHeader records (layout_header shape records) (header shape (Some records) ++ after) after
+unfolding header row_length
+header-IsHeader shape records after arrays h count =
+    let small = short shape records (omega (arith, h.some, count)) (subst (λ n. length_of shape n ≤ longest) count h.within) in
+    let at_vars : List ℕ = element_list 11 (variables (header_length shape) (columns shape)) ++ after in
+    let at_gatts : List ℕ = element_list 12 (attributes shape) ++ at_vars in
+    let at_dims : List ℕ = element_list 10 (dimensions shape) ++ at_gatts in
+    let whole : header shape (Some records) ++ after ≡ magic ++ (word records ++ at_dims) =
+    parts magic (word records) (element_list 10 (dimensions shape)) (element_list 12 (attributes shape)) (element_list 11 (variables (header_length shape) (columns shape))) after in
+    record {
+      at_numrecs = word records ++ at_dims;
+      at_dims = at_dims;
+      at_gatts = at_gatts;
+      at_vars = at_vars;
+      magic_text = whole;
+      numrecs_word = numrecs-IsNumrecs records at_dims small.counts;
+      dims = dims_IsList shape at_gatts h.writable;
+      gatts = gatts_IsList shape at_vars h.writable h.names.extras small.extras;
+      vars = vars_IsList shape (header_length shape) (columns shape) after h.writable (columns-IsColumn shape h.writable h.names) small.begins (omega (arith, length-columns shape, small.attrs));
+    }
+
+not_streaming : (n : ℕ) → n ≤ greatest → (n == streaming) ≡ false
+not_streaming n h = grind (arith, nat_tests, h)
+
+last_record : (n size : ℕ) → 1 ≤ n → (n - 1) * size + size ≡ n * size
+last_record zero size h = absurd (omega arith)
+last_record (suc n) size h = let less : suc n - 1 ≡ n = omega arith in ap (λ m. m * size + size) less ∙ sym (suc-mul n size)
+
+columns_fit : (shape : FileShape) (n total : ℕ) → 1 ≤ n → total ≡ length_of shape n → header_length shape + columns_length (columns shape) + (n - 1) * row_length shape ≤ total
+unfolding row_length
+columns_fit shape n total some is = omega (arith, is, last_record n (columns_length (columns shape)) some)
+
+record_count_is : (total n : ℕ) (dims : List HeadDim) (vars : List HeadVar) → n ≤ greatest → n ≡ record_count total n dims vars
+record_count_is total n dims vars h = rw (not_streaming n h) refl
+
+-- a file in the layout spells the layout's header
+pub layout_reads : (shape : FileShape) (arrays : List Array) → IsGroup shape arrays → Reads (layout shape arrays) (layout_header shape (length arrays))
+layout_reads shape arrays h =
+    let n : ℕ = length arrays in
+    let after : List ℕ = flat_map (row shape) arrays in
+    let small = short shape n h.some h.within in
+    let total : length (layout shape arrays) ≡ length_of shape n = length-layout shape arrays h.each in
+    record {
+      numrecs = n;
+      after = after;
+      header = header-IsHeader shape n after arrays h refl;
+      recsize = sym (record_size_is shape h.writable h.names);
+      records = record_count_is (length (layout shape arrays)) n (layout_dims shape) (layout_vars shape) small.counts;
+      whole = columns-end shape n (header_length shape) (length (layout shape arrays)) (columns shape) (columns-IsColumn shape h.writable h.names) (columns_fit shape n (length (layout shape arrays)) h.some total);
+    }
+
+-- and is read so
+pub layout_header_of : (shape : FileShape) (arrays : List Array) → IsGroup shape arrays → header_of (layout shape arrays) ≡ Ok (layout_header shape (length arrays))
+layout_header_of shape arrays h = header_of-again (layout shape arrays) (layout_header shape (length arrays)) (layout_reads shape arrays h)

@@ -1,0 +1,21 @@
+//! Stacks of frames out of netCDF classic files: which variable has the frames, what type their samples
+//! have, and what each frame has beside them.
+#![tactic(auto)]
+
+mod arrays;
+mod attributes;
+mod column;
+mod fault;
+mod frames;
+mod heads;
+mod integers;
+mod read;
+mod round_trip;
+mod shape;
+#[cfg(test)]
+mod tests;
+
+pub use arrays::{array, shape_for};
+pub use fault::StackFault;
+pub use read::{frames_stand_where_their_values_do, plain_files_keep_their_frames, read_stack};
+pub use round_trip::{layout_reads_back, stack_shape_is_writable};

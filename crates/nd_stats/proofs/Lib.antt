@@ -1,0 +1,11 @@
+pub mod Sums
+pub mod Tables
+pub mod Places
+pub mod Bins
+pub mod Bounds
+pub mod Steps
+pub mod Rooms
+pub mod Growth
+pub mod Joins
+pub mod Merges
+pub mod Pieces

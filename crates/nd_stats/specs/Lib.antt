@@ -1,0 +1,10 @@
+pub mod Samples
+pub mod Frames
+pub mod Measured
+pub mod Spots
+pub mod Tallies
+pub mod Running
+pub mod Row
+pub mod Merging
+pub mod Joined
+pub mod MergingLaws

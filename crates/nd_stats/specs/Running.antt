@@ -1,0 +1,52 @@
+-- The numbers of the samples so far.
+use Rattle.std.specs.Prelude.{◌≡◌, ◌≤◌, pos, List, length, sum_by}
+use Rattle.nd_base.specs.declared.array.Dim.{Dim}
+use Rattle.nd_base.specs.declared.graph.StatsRule.{StatsRule}
+use Rattle.nd_base.specs.Shapes.{most_samples}
+use Rattle.nd_stats.specs.declared.tally.Tally.{Tally}
+use Rattle.nd_stats.specs.declared.tally.Extremes.{Extremes}
+use Rattle.nd_stats.specs.declared.tally.Sums.{Sums}
+use Rattle.nd_stats.specs.declared.tally.Moments.{Moments}
+use Rattle.nd_stats.specs.declared.tally.Histogram.{Histogram}
+use Rattle.nd_stats.specs.Samples.{Sample, AreSmall, sum_of, least_from, greatest_from, table}
+use Rattle.nd_stats.specs.Measured.{count_where, value_where, square, is_on_border, is_over, is_below, is_above, is_in_bin, moment, profile}
+pub use Rattle.nd_stats.specs.Frames.{IsFrame}
+
+pub record AreExtremes (first : Sample) (xs : List Sample) (e : Extremes) : Type 0 where
+  pub min : e.min ≡ (least_from first xs).value
+  pub min_at : e.min_at ≡ (least_from first xs).place
+  pub max : e.max ≡ (greatest_from first xs).value
+  pub max_at : e.max_at ≡ (greatest_from first xs).place
+
+pub record AreSums (rule : StatsRule) (dims : List Dim) (xs : List Sample) (s : Sums) : Type 0 where
+  pub n : s.n ≡ length xs
+  pub total : s.total ≡ sum_of (λ t. t.value) xs
+  pub squares : s.squares ≡ sum_by (λ t. square t.value) xs
+  pub border : s.border ≡ value_where (is_on_border rule dims) xs
+  pub border_n : s.border_n ≡ count_where (is_on_border rule dims) xs
+
+pub record AreMoments (rule : StatsRule) (dims : List Dim) (xs : List Sample) (m : Moments) : Type 0 where
+  pub over : m.over ≡ count_where (is_over rule) xs
+  pub m0 : m.m0 ≡ value_where (is_over rule) xs
+  pub mx : m.mx ≡ moment rule dims 0 xs
+  pub my : m.my ≡ moment rule dims 1 xs
+
+pub record IsHistogram (rule : StatsRule) (xs : List Sample) (h : Histogram) : Type 0 where
+  pub below : h.below ≡ count_where (is_below rule) xs
+  pub bins : h.bins.items ≡ table (λ k. pos (count_where (is_in_bin rule k) xs)) 0 rule.hist_size
+  pub above : h.above ≡ count_where (is_above rule) xs
+
+-- the numbers of these samples; the extremes are those of `first` and these samples
+pub record IsTally (rule : StatsRule) (dims : List Dim) (first : Sample) (xs : List Sample) (t : Tally) : Type 0 where
+  pub extremes : AreExtremes first xs t.extremes
+  pub sums : AreSums rule dims xs t.sums
+  pub moments : AreMoments rule dims xs t.moments
+  pub histogram : IsHistogram rule xs t.histogram
+  pub x : t.x.items ≡ profile rule dims 0 xs
+  pub y : t.y.items ≡ profile rule dims 1 xs
+
+-- the numbers of so few samples that one more is no overflow
+pub record CanGrow (rule : StatsRule) (dims : List Dim) (first : Sample) (xs : List Sample) (t : Tally) : Type 0 where
+  pub tally : IsTally rule dims first xs t
+  pub small : AreSmall xs
+  pub few : length xs ≤ most_samples

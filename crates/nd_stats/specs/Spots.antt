@@ -1,0 +1,11 @@
+-- Places with their indices.
+use Rattle.std.specs.Prelude.{◌≡◌, ℕ, ◌/◌, List, drop}
+use Rattle.nd_base.specs.declared.array.Dim.{Dim}
+use Rattle.nd_stats.specs.declared.spot.Spot.{Spot}
+use Rattle.nd_stats.specs.Samples.{index_in, size_in, is_at_border}
+
+-- a place with its indices in dimensions 0 and 1, and whether its line is at the border
+pub record IsSpot (border : ℕ) (dims : List Dim) (s : Spot) : Type 0 where
+  pub x : s.x ≡ index_in dims 0 s.place
+  pub y : s.y ≡ index_in dims 1 s.place
+  pub line : s.line_at_border ≡ is_at_border border (drop 1 dims) (s.place / size_in dims 0)

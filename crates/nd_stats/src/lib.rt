@@ -1,0 +1,19 @@
+//! The exact statistics of an array, after NDPluginStats: whole numbers alone, in one pass over the samples.
+//!
+//! A measure has the count, the least and the greatest value with their first places, the sums, those at the
+//! border, those at or above a threshold with their moments, a histogram and profiles. `specs/Measured.antt`
+//! says each of them over the whole list of samples. Measures of pieces are merged ([`Merge`]).
+#![tactic(auto)]
+
+mod measures;
+mod merge;
+mod row;
+mod sample;
+mod spot;
+mod tally;
+#[cfg(test)]
+mod tests;
+
+pub use measures::{measure, measure_piece};
+pub use merge::Merge;
+pub use row::row_text;

@@ -1,0 +1,116 @@
+//! Where a place lies.
+
+ghost use Rattle.std.specs.Prelude.{◌≡◌, ◌+◌, ◌<◌, ◌^◌, length, true, nat_lt};
+ghost use Rattle.std.specs.List.{list_all};
+ghost use Rattle.nd_stats.specs.Samples.{is_near_end, is_at_border, index_in, size_in};
+ghost use Rattle.nd_stats.specs.Spots.{IsSpot};
+
+use nd_base::Dim;
+
+/// A place, its indices in dimensions 0 and 1, and whether its line is near the end of a dimension from
+/// dimension 1 on.
+#[derive(Clone, Copy)]
+pub(crate) struct Spot {
+    pub place: u32,
+    pub x: u32,
+    pub y: u32,
+    pub line_at_border: bool,
+}
+
+/// Whether an index is one of the first or of the last `border` of a dimension.
+pub(crate) fn is_near_end(border: u32, size: u32, index: u32) -> bool
+    ensures { result ≡ is_near_end border size index }
+{
+    index < border || index >= size.saturating_sub(border)
+}
+
+/// Whether a place is near the end of some dimension.
+fn is_at_border(border: u32, dims: &[Dim], place: u32) -> bool
+    requires { list_all (λ d. nat_lt 0 d.size) dims.now ≡ true }
+    ensures { result ≡ is_at_border border dims.now place }
+{
+    let mut rest = place;
+    for dim in dims {
+        if is_near_end(border, dim.size, rest % dim.size) {
+            return true;
+        }
+        rest /= dim.size;
+    }
+    false
+}
+
+/// The index in the first of these dimensions, 0 where there is none.
+fn first_index(dims: &[Dim], place: u32) -> u32
+    requires { list_all (λ d. nat_lt 0 d.size) dims.now ≡ true }
+    ensures { result ≡ index_in dims.now 0 place }
+{
+    match dims {
+        [] => 0,
+        [first, ..] => place % first.size,
+    }
+}
+
+/// Finds the indices of a place.
+pub(crate) fn spot_at(border: u32, dims: &[Dim], place: u32) -> Spot
+    requires { list_all (λ d. nat_lt 0 d.size) dims.now ≡ true }
+    ensures place { result.place ≡ place }
+    ensures spot { IsSpot border dims.now result }
+{
+    match dims {
+        [] => Spot {
+            place,
+            x: 0,
+            y: 0,
+            line_at_border: false,
+        },
+        [first, lines @ ..] => {
+            let line = place / first.size;
+            Spot {
+                place,
+                x: place % first.size,
+                y: first_index(lines, line),
+                line_at_border: is_at_border(border, lines, line),
+            }
+        }
+    }
+}
+
+/// The size of dimension 0.
+pub(crate) fn first_size(dims: &[Dim]) -> u32
+    ensures { result ≡ size_in dims.now 0 }
+{
+    match dims {
+        [] => 1,
+        [first, ..] => first.size,
+    }
+}
+
+/// Whether a spot is near the end of some dimension.
+#[tactic(auto, using(crate::proofs::Places::border_split))]
+pub(crate) fn is_on_border(border: u32, dims: &[Dim], spot: &Spot) -> bool
+    requires some { 0 < length dims.now }
+    requires spot { IsSpot border dims.now spot.now }
+    ensures { result ≡ is_at_border border dims.now spot.now.place }
+{
+    is_near_end(border, first_size(dims), spot.x) || spot.line_at_border
+}
+
+/// The next place. `width` is the size of dimension 0.
+pub(crate) fn next_spot(border: u32, dims: &[Dim], width: u32, spot: Spot) -> Spot
+    requires sizes { list_all (λ d. nat_lt 0 d.size) dims.now ≡ true }
+    requires width { width ≡ size_in dims.now 0 }
+    requires spot { IsSpot border dims.now spot }
+    requires few { spot.place < 2 ^ 31 }
+    ensures place { result.place ≡ spot.place + 1 }
+    ensures spot { IsSpot border dims.now result }
+{
+    let place = spot.place + 1;
+    if width.saturating_sub(spot.x) <= 1 {
+        return spot_at(border, dims, place);
+    }
+    Spot {
+        place,
+        x: spot.x + 1,
+        ..spot
+    }
+}
