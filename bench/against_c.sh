@@ -7,6 +7,7 @@ workload=$1
 count=${2:-200}
 here=$(cd "$(dirname "$0")/.." && pwd)
 crate=$here/crates/nd_bench
+source "$here/bench/timing.sh"
 work=$(mktemp -d)
 trap 'rm -rf "$work"' EXIT
 (cd "$crate" && rt run -- "$workload" 1) > "$work/build.log"
@@ -16,20 +17,6 @@ gcc -O3 -o "$work/loop" "$here/bench/$workload.c"
 "$work/loop" "$workload" "$count" > "$work/theirs"
 cmp "$work/ours" "$work/theirs"
 
-nanoseconds() {
-    local start
-    start=$(date +%s%N)
-    "$@" > /dev/null
-    echo $(($(date +%s%N) - start))
-}
-
-median() { sort -n | awk '{ t[NR] = $1 } END { print NR % 2 ? t[(NR + 1) / 2] : int((t[NR / 2] + t[NR / 2 + 1]) / 2) }'; }
-
-for _ in 1 2 3 4 5 6 7 8 9 10; do
-    nanoseconds "$program" "$workload" "$count" >> "$work/ours.times"
-    nanoseconds "$work/loop" "$workload" "$count" >> "$work/theirs.times"
-done
-ours=$(median < "$work/ours.times")
-theirs=$(median < "$work/theirs.times")
+read -r ours theirs < <(alternate "$work" "$program" "$workload" "$count" -- "$work/loop" "$workload" "$count")
 awk -v w="$workload" -v n="$count" -v a="$ours" -v b="$theirs" \
     'BEGIN { printf "%s %d: %.1f ms, C %.1f ms, ratio %.2f\n", w, n, a / 1e6, b / 1e6, a / b }'

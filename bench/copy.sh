@@ -3,6 +3,7 @@
 # and prints the medians and their ratio. It is no part of the gate.
 set -eu
 here=$(cd "$(dirname "$0")/.." && pwd)
+source "$here/bench/timing.sh"
 work=$(mktemp -d)
 trap 'rm -rf "$work"' EXIT
 "$here/nd_replay" --version > "$work/version"
@@ -18,21 +19,7 @@ program=$here/crates/replay_main/out/replay_main
     head -c 1048432 /dev/urandom
 } > "$work/stack.nc"
 
-nanoseconds() {
-    local start end
-    start=$(date +%s%N)
-    "$@" > /dev/null
-    end=$(date +%s%N)
-    echo $((end - start))
-}
-
-median() { sort -n | awk '{ t[NR] = $1 } END { print NR % 2 ? t[(NR + 1) / 2] : int((t[NR / 2] + t[NR / 2 + 1]) / 2) }'; }
-
 cd "$work"
-for _ in 1 2 3 4 5 6 7 8 9 10; do
-    nanoseconds "$program" copy stack.nc x_ >> copy.times
-    nanoseconds cp x_copy_000.nc again.nc >> cp.times
-done
-copy=$(median < copy.times)
-cp=$(median < cp.times)
+"$program" copy stack.nc x_ > print
+read -r copy cp < <(alternate "$work" "$program" copy stack.nc x_ -- cp x_copy_000.nc again.nc)
 awk -v copy="$copy" -v cp="$cp" 'BEGIN { printf "copy %.2f ms, cp %.2f ms, ratio %.2f\n", copy / 1e6, cp / 1e6, copy / cp }'

@@ -4,18 +4,13 @@
 set -eu
 here=$(cd "$(dirname "$0")/.." && pwd)
 crate=$here/crates/nd_bench
+source "$here/bench/timing.sh"
 (cd "$crate" && rt run -- pool 1) > /dev/null
 program=$crate/out/nd_bench
 
-median() { sort -n | awk '{ t[NR] = $1 } END { print t[(NR + 1) / 2] }'; }
-
 measure() {
-    local workload=$1 count=$2 times start
-    times=$(for _ in 1 2 3 4 5; do
-        start=$(date +%s%N)
-        "$program" "$workload" "$count" > /dev/null
-        echo $(($(date +%s%N) - start))
-    done)
+    local workload=$1 count=$2 times
+    times=$(for _ in 1 2 3 4 5; do nanoseconds "$program" "$workload" "$count"; done)
     echo "$times" | median
 }
 
