@@ -1,18 +1,16 @@
 -- What a graph, its makers and the stack's arrays give a run.
-use Rattle.std.specs.Prelude.{ℕ, zero, suc, ◌==◌, Bool, true, false, List, [], ◌∷◌, map, Option, Some, None, slice_get, find, if◌then◌else◌}
-use Rattle.std.specs.Str.{bytes_eq}
+use Rattle.std.specs.Prelude.{ℕ, ◌==◌, Bool, true, false, List, [], ◌∷◌, map, Option, Some, None, slice_get, if◌then◌else◌}
 use Rattle.nd_base.specs.Array.{Array}
 use Rattle.nd_base.specs.declared.attribute.Attr.{Attr}
-use Rattle.nd_base.specs.declared.attribute.AttrValue.{AttrValue}
 use Rattle.nd_base.specs.declared.graph.Graph.{Graph}
 use Rattle.nd_base.specs.declared.graph.NodeRule.{NodeRule}
 use Rattle.nd_base.specs.declared.graph.Kind.{Kind}
 use Rattle.nd_base.specs.declared.graph.Kind.TheVariants.{Roi, Stats, Circular, File}
-use Rattle.nd_base.specs.declared.graph.CircularRule.{CircularRule}
 use Rattle.nd_base.specs.declared.graph.Mode.{Mode}
 use Rattle.nd_base.specs.declared.graph.Mode.TheVariants.{Single, Capture, Stream}
 use Rattle.nd_base.specs.declared.plan.Maker.{Maker}
-use Rattle.trig_window.specs.Firing.{fires}
+use Rattle.nd_base.specs.GraphRules.{rule_at}
+use Rattle.trig_window.specs.Triggers.{trigger_fires}
 use Rattle.flow_journal.specs.Setting.{Setting, Node, Work, Makes, Passes, Watches, Saves}
 
 -- in mode capture a group is written once it is whole
@@ -35,19 +33,6 @@ abbrev pub need_of : List Maker → ℕ → ℕ
 need_of [] m = 0
 need_of (k ∷ ks) m = if k.node == m then k.need else need_of ks m
 
-abbrev pub value_of : Option Attr → Option AttrValue
-value_of None = None
-value_of (Some a) = Some a.value
-
--- the value of the first attribute of this name; the empty name names none
-abbrev pub value_named : List ℕ → List Attr → Option AttrValue
-value_named [] attrs = None
-value_named (c ∷ name) attrs = value_of (find (λ (a : Attr). bytes_eq a.name (c ∷ name)) attrs)
-
--- the trigger fires at an array with these attributes
-abbrev pub trigger_fires : CircularRule → List Attr → Bool
-trigger_fires r attrs = fires r.trigger (value_named r.a attrs) (value_named r.b attrs)
-
 -- a circular node fires at an array with these attributes
 abbrev pub kind_fires : Kind → List Attr → Bool
 kind_fires (Circular r) attrs = trigger_fires r attrs
@@ -58,11 +43,6 @@ abbrev pub node_fires : Option NodeRule → Option Array → Bool
 node_fires None a = false
 node_fires (Some n) None = false
 node_fires (Some n) (Some a) = kind_fires n.kind a.attrs
-
--- the node of number v in these
-abbrev pub rule_at : List NodeRule → ℕ → Option NodeRule
-rule_at nodes zero = None
-rule_at nodes (suc k) = slice_get nodes k
 
 abbrev pub setting_of : Graph → List Maker → List Array → Setting
 setting_of g makers arrays =

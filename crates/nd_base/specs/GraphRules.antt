@@ -1,5 +1,5 @@
 -- The rules that a graph meets: the range of each key, the names, the inputs and the threads.
-use Rattle.std.specs.Prelude.{◌≡◌, ◌≢◌, ℕ, zero, suc, ◌≤◌, ℤ, pos, negsuc, ◌≤ℤ◌, ◌<ℤ◌, Bool, true, false, ◌&&◌, ◌||◌, ◌==◌, not, nat_le, List, [], ◌∷◌, length, sum_by, All, AllPairs, IsTrue, slice_get, codes}
+use Rattle.std.specs.Prelude.{◌≡◌, ◌≢◌, ℕ, zero, suc, ◌≤◌, ℤ, pos, negsuc, ◌≤ℤ◌, ◌<ℤ◌, Bool, true, false, ◌&&◌, ◌||◌, ◌==◌, not, nat_le, List, [], ◌∷◌, length, sum_by, All, AllPairs, IsTrue, slice_get, codes, Option, None}
 use Rattle.std.specs.Option.{option_map_or}
 use Rattle.std.specs.List.{list_all}
 use Rattle.std.specs.Str.{bytes_eq}
@@ -89,7 +89,12 @@ pub record IsNode (n : NodeRule) : Type 0 where
   pub unsorted : is_parallel n.kind ≡ false → n.sort ≡ 0
   pub sort_time : n.sort_time ≤ 2147483647
 
--- what stands before a node: the driver is 0, and the nodes are numbered from 1
+-- the rule of a node: the nodes are numbered from 1, and 0 is the driver, which has none
+abbrev pub rule_at : List NodeRule → ℕ → Option NodeRule
+rule_at nodes zero = None
+rule_at nodes (suc k) = slice_get nodes k
+
+-- what stands before a node
 abbrev pub input_of : List NodeRule → ℕ → ℕ
 input_of nodes zero = 0
 input_of nodes (suc k) = option_map_or (λ n. n.input) (slice_get nodes k) 0

@@ -68,6 +68,19 @@ pub enum ShapeFault {
     OutOfMemory,
 }
 
+/// The bytes of the samples of an array of this type and these dimensions.
+pub fn frame_bytes(kind: SampleType, dims: &[Dim]) -> usize
+    requires dimensions { IsTrue (has_dimensions dims.now) }
+    requires few { sample_count dims.now ≤ most_samples }
+    ensures { result ≡ sample_count dims.now * width kind }
+{
+    let mut count = 1;
+    for dim in dims {
+        count *= dim.size as usize;
+    }
+    count * kind.width()
+}
+
 /// An array: a head, a sample type, dimensions with dimension 0 the fastest, and samples. Contracts see it
 /// as the record `Array`, whose samples are whole numbers; in memory they are bytes, the most significant
 /// first.

@@ -20,7 +20,7 @@ mod stack;
 #[cfg(test)]
 mod tests;
 
-pub use array::{Dim, Head, NdArray, SampleType, ShapeFault};
+pub use array::{Dim, Head, NdArray, SampleType, ShapeFault, frame_bytes};
 pub use attribute::{Attr, AttrColumn, AttrKind, AttrValue, Extra, FileShape};
 pub use bytes::Bytes;
 pub use frame::{FrameName, Held, Named};

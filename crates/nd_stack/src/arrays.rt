@@ -7,6 +7,7 @@ ghost use Rattle.nd_base.specs.Stacks.{frame_size};
 
 use nd_base::{
     Attr, AttrValue, Dim, FileShape, Head, NdArray, OutOfMemory, SampleType, Seq, Stack,
+    frame_bytes,
 };
 use std::alloc::Global;
 
@@ -94,17 +95,4 @@ pub fn shape_for(
         width: shape.width,
         extras: shape.extras.clone()?,
     })
-}
-
-/// The bytes of one frame of these dimensions.
-fn frame_bytes(kind: SampleType, dims: &[Dim]) -> usize
-    requires dimensions { IsTrue (has_dimensions dims.now) }
-    requires few { sample_count dims.now ≤ most_samples }
-    ensures { result ≡ sample_count dims.now * width kind }
-{
-    let mut count = 1;
-    for dim in dims {
-        count *= dim.size as usize;
-    }
-    count * kind.width()
 }

@@ -4,6 +4,7 @@ pub mod Watch
 pub mod WatchFields
 pub mod Watching
 pub mod Firing
+pub mod Triggers
 pub mod Symbols
 pub mod Expressions
 pub mod Grammar

@@ -7,9 +7,11 @@ mod passing;
 mod symbols;
 #[cfg(test)]
 mod tests;
+mod trigger;
 mod window;
 
 pub use expression::{CalcFault, parse_calc};
 pub use firing::fires;
-pub use passing::passed_positions;
+pub use passing::{passed_positions, push_into};
+pub use trigger::trigger_fires;
 pub use window::{Passed, Window};

@@ -28,8 +28,12 @@ pub fn passed_positions(
     Ok(passed)
 }
 
-// Pushes an item and adds what goes out to a list.
-fn push_into<T: Drop>(
+/// Pushes an item and adds what goes out at it to a list: what is pending, and then the item where it is passed on.
+///
+/// # Errors
+///
+/// Only for want of memory.
+pub fn push_into<T: Drop>(
     window: &mut Window<T>,
     item: T,
     fired: bool,

@@ -2,7 +2,7 @@ use Rattle.std.proofs.Common.{◌≡◌, ◌*◌, suc, take, get_or, arith, add-
 use Rattle.nd_base.specs.declared.array.Dim.{Dim}
 use Rattle.nd_base.specs.Shapes.{sample_count}
 use Rattle.nd_base.specs.ShapeLaws.{sample_count-take, sample_count-front, has_dimensions-none_empty}
-use Rattle.nd_stack.proofs.arrays.frame_bytes.Goals as goal
+use Rattle.nd_base.proofs.array.frame_bytes.Goals as goal
 
 nothing : Dim
 nothing = record { size = 0; offset = pos 0; binning = pos 0; reverse = false }
