@@ -1,7 +1,8 @@
 -- Samples written as bytes.
-use Rattle.std.proofs.Common.{◌≡◌, ℕ, ◌+◌, ◌%◌, ◌<◌, ◌≤◌, ℤ, pos, negsuc, List, [], ◌∷◌, ◌++◌, length, get_or, take, set, of_z, FitsSigned, refl, ap, ◌∙◌, arith, append_assoc}
-use Rattle.std.specs.Int.{w64}
+use Rattle.std.proofs.Common.{◌≡◌, ℕ, zero, suc, ◌+◌, ◌%◌, ◌<◌, ◌≤◌, ℤ, pos, negsuc, List, [], ◌∷◌, ◌++◌, length, get_or, take, set, of_z, FitsSigned, refl, ap, ◌∙◌, arith, append_assoc}
+use Rattle.std.specs.Int.{w16, w32, w64, to_le_bytes, to_be_bytes, swap_bytes}
 use Rattle.std.specs.List.{flat_map}
+use Rattle.std.proofs.lemmas.Nat.{le_bytes_2, le_bytes_4}
 use Rattle.std.proofs.lemmas.List.{take_more, take_more_set, length-set, append-nil}
 use Rattle.std.proofs.lemmas.Grind.{flat_map-append}
 use Rattle.nd_roi.specs.Region.{low_bits}
@@ -43,3 +44,22 @@ low_bits_16 (negsuc n) fits = omega arith
 pub low_bits_32 : (z : ℤ) → FitsSigned w64 z → of_z w64 z % 4294967296 ≡ low_bits 32 z
 low_bits_32 (pos n) fits = refl
 low_bits_32 (negsuc n) fits = omega arith
+
+below_256-2 : (n i : ℕ) → get_or (to_be_bytes w16 n) i 0 < 256
+below_256-2 n zero = omega arith
+below_256-2 n (suc zero) = omega arith
+below_256-2 n (suc (suc i)) = omega arith
+
+below_256-4 : (n i : ℕ) → get_or (to_be_bytes w32 n) i 0 < 256
+below_256-4 n zero = omega arith
+below_256-4 n (suc zero) = omega arith
+below_256-4 n (suc (suc zero)) = omega arith
+below_256-4 n (suc (suc (suc zero))) = omega arith
+below_256-4 n (suc (suc (suc (suc i)))) = omega arith
+
+-- the low byte of the swapped number is the high one
+pub swapped_2 : (n : ℕ) → to_le_bytes w16 (swap_bytes w16 n) ≡ to_be_bytes w16 n
+swapped_2 n = le_bytes_2 (to_be_bytes w16 n) (swap_bytes w16 n) refl (below_256-2 n) (omega arith)
+
+pub swapped_4 : (n : ℕ) → to_le_bytes w32 (swap_bytes w32 n) ≡ to_be_bytes w32 n
+swapped_4 n = le_bytes_4 (to_be_bytes w32 n) (swap_bytes w32 n) refl (below_256-4 n) (omega arith)

@@ -1,4 +1,6 @@
+pub mod Blocks
 pub mod Bounds
+pub mod BytePairs
 pub mod Bytes
 pub mod Cuts
 pub mod Gather

@@ -1,11 +1,11 @@
 -- The steps of the loops over the output's lines.
 use Rattle.std.proofs.Common.{◌≡◌, ℕ, zero, suc, ◌+◌, ◌-◌, ◌*◌, ◌<◌, ◌≤◌, Bool, true, false, pos, List, [], ◌∷◌, ◌++◌, length, drop, get_or, ap, ◌∙◌, arith}
 use Rattle.std.proofs.Math.Numerals.{add-one}
-use Rattle.std.proofs.Math.Nat.{mul-le-mul_right, mul-le-mul_left, one-le-mul, mul_assoc}
+use Rattle.std.proofs.Math.Nat.{mul-le-mul_right, mul-le-mul_left, mul_assoc}
 use Rattle.std.specs.List.{range_with_len, flat_map, list_all}
 use Rattle.std.specs.Prelude.{nat_lt, if◌then◌else◌}
 use Rattle.std.specs.Int.RustNames.{int_div}
-use Rattle.std.proofs.lemmas.Bool.{and_parts, ltb-true}
+use Rattle.std.proofs.lemmas.Bool.{and_parts}
 use Rattle.std.proofs.lemmas.Grind.{flat_map-append}
 use Rattle.nd_base.specs.declared.array.Dim.{Dim}
 use Rattle.nd_base.specs.declared.array.SampleType.{SampleType}

@@ -1,14 +1,16 @@
 //! Samples as bytes, the most significant byte first.
 
-ghost use Rattle.std.specs.Prelude.{◌≡◌, ℕ, ◌+◌, ◌*◌, ◌/◌, ◌<◌, ◌≤◌, length, take, drop, pos, ◌+ℤ◌, slice_index_or, map};
-ghost use Rattle.std.specs.Int.{w16, w32, w64, int_wrap, from_be_bytes};
+ghost use Rattle.std.specs.Prelude.{◌≡◌, ℕ, ◌+◌, ◌*◌, ◌/◌, ◌<◌, ◌≤◌, length, take, drop, pos, ◌+ℤ◌, slice_index_or, map, FitsSigned};
+ghost use Rattle.std.specs.Int.{w16, w32, w64, int_wrap, from_be_bytes, to_be_bytes};
 ghost use Rattle.nd_base.specs.Samples.{width};
-ghost use Rattle.std.specs.List.{flat_map};
+ghost use Rattle.std.specs.List.{range_with_len, flat_map};
 ghost use Rattle.std.specs.Int.RustNames.{int_div};
 ghost use Rattle.nd_roi.specs.Region.{low_bits};
+ghost use Rattle.nd_base.specs.declared.array.SampleType.TheVariants.{UInt8};
 ghost use Rattle.nd_roi.specs.Walk.{stored, run, bytes_of};
 
 use nd_base::SampleType;
+use std::simd::prelude::*;
 
 /// A type of samples.
 pub(crate) trait Sample {
@@ -139,6 +141,46 @@ fn add_each<S: Sample>(input: &[u8], bin: usize, place: usize, sums: &mut [i64])
     }
 }
 
+/// How many sums are added to at once.
+const LANES: usize = 8;
+
+/// The sums of each two bytes.
+#[inline(always)]
+fn pair_sums(bytes: u8x16) -> i64x8
+    ensures { result ≡ map (λ k. pos (slice_index_or bytes (k * 2) 0 + slice_index_or bytes (k * 2 + 1) 0)) (range_with_len 0 8) }
+{
+    let first = bytes.swizzle([0, 2, 4, 6, 8, 10, 12, 14]).cast::<u16>();
+    let second = bytes.swizzle([1, 3, 5, 7, 9, 11, 13, 15]).cast::<u16>();
+    (first + second).cast::<i64>()
+}
+
+/// Adds two bytes to each of eight sums, those from `place` on to the first.
+#[inline(always)]
+fn add_lanes(input: &[u8], place: usize, sums: &mut [i64])
+    requires room { place + 16 ≤ length input.now }
+    requires lanes { length sums.old ≡ 8 }
+    requires fit { (k : ℕ) → k < length sums.old → FitsSigned w64 (slice_index_or sums.old k (pos 0)) }
+    ensures { (k : ℕ) → k < length sums.new → slice_index_or sums.new k (pos 0) ≡ int_wrap w64 (slice_index_or sums.old k (pos 0) +ℤ run UInt8 input.now 2 (place + k * 2)) }
+{
+    let more = pair_sums(u8x16::from_slice(&input[place..]));
+    (i64x8::from_slice(sums) + more).copy_to_slice(sums);
+}
+
+/// Adds two bytes to each sum, those from `place` on to the first.
+fn add_byte_pairs(input: &[u8], place: usize, sums: &mut [i64])
+    requires within { place + length sums.old * 2 ≤ length input.now }
+    requires fit { (k : ℕ) → k < length sums.old → FitsSigned w64 (slice_index_or sums.old k (pos 0)) }
+    ensures { (k : ℕ) → k < length sums.new → slice_index_or sums.new k (pos 0) ≡ int_wrap w64 (slice_index_or sums.old k (pos 0) +ℤ run UInt8 input.now 2 (place + k * 2)) }
+{
+    let mut done = 0;
+    while sums.len() - done >= LANES {
+        let end = done + LANES;
+        add_lanes(input, place + done * 2, &mut sums[done..end]);
+        done = end;
+    }
+    add_each::<OfUInt8>(input, 2, place + done * 2, &mut sums[done..]);
+}
+
 /// Adds `bin` samples to each sum, those from `place` on to the first. The usual bins have code of their own.
 fn add_runs<S: Sample>(input: &[u8], bin: usize, place: usize, sums: &mut [i64])
     requires { place + length sums.old * bin ≤ length input.now / width S.kind }
@@ -154,11 +196,13 @@ fn add_runs<S: Sample>(input: &[u8], bin: usize, place: usize, sums: &mut [i64])
 
 /// Adds `bin` samples to each sum, those from `place` on to the first.
 pub(crate) fn add_line(kind: SampleType, input: &[u8], bin: usize, place: usize, sums: &mut [i64])
-    requires { place + length sums.old * bin ≤ length input.now / width kind }
+    requires within { place + length sums.old * bin ≤ length input.now / width kind }
+    requires fit { (k : ℕ) → k < length sums.old → FitsSigned w64 (slice_index_or sums.old k (pos 0)) }
     ensures { (k : ℕ) → k < length sums.new → slice_index_or sums.new k (pos 0) ≡ int_wrap w64 (slice_index_or sums.old k (pos 0) +ℤ run kind input.now bin (place + k * bin)) }
 {
     match kind {
         SampleType::Int8 => add_runs::<OfInt8>(input, bin, place, sums),
+        SampleType::UInt8 if bin == 2 => add_byte_pairs(input, place, sums),
         SampleType::UInt8 => add_runs::<OfUInt8>(input, bin, place, sums),
         SampleType::Int16 => add_runs::<OfInt16>(input, bin, place, sums),
         SampleType::UInt16 => add_runs::<OfUInt16>(input, bin, place, sums),
@@ -211,6 +255,20 @@ fn low_word(sum: i64) -> u32
     (sum.cast_unsigned() % 0x1_0000_0000) as u32
 }
 
+/// The bytes, the most significant first. They are swapped as a whole, so that the compiler stores them as one.
+fn pair_bytes(pair: u16) -> [u8; 2]
+    ensures { result ≡ to_be_bytes w16 pair }
+{
+    pair.swap_bytes().to_le_bytes()
+}
+
+/// The bytes, the most significant first.
+fn word_bytes(word: u32) -> [u8; 4]
+    ensures { result ≡ to_be_bytes w32 word }
+{
+    word.swap_bytes().to_le_bytes()
+}
+
 /// Writes the lowest 8 bits of each.
 fn write_bytes(sums: &[i64], out: &mut [u8])
     requires { length out.old ≡ length sums.now }
@@ -227,7 +285,7 @@ fn write_pairs(sums: &[i64], out: &mut [u8])
     ensures { out.new ≡ flat_map (bytes_of SampleType.UInt16) sums.now }
 {
     for (k, sum) in sums.iter().enumerate() {
-        let [high, low] = low_pair(*sum).to_be_bytes();
+        let [high, low] = pair_bytes(low_pair(*sum));
         out[2 * k] = high;
         out[2 * k + 1] = low;
     }
@@ -239,7 +297,7 @@ fn write_words(sums: &[i64], out: &mut [u8])
     ensures { out.new ≡ flat_map (bytes_of SampleType.UInt32) sums.now }
 {
     for (k, sum) in sums.iter().enumerate() {
-        let [first, second, third, last] = low_word(*sum).to_be_bytes();
+        let [first, second, third, last] = word_bytes(low_word(*sum));
         out[4 * k] = first;
         out[4 * k + 1] = second;
         out[4 * k + 2] = third;
