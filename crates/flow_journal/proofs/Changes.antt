@@ -1,13 +1,13 @@
 -- What each entry changes.
-use Rattle.std.proofs.Common.{◌≡◌, ◌≢◌, ℕ, ◌+◌, Bool, true, false, ◌&&◌, cond, eqb, List, [], ◌∷◌, ◌++◌, refl, sym, ap, ◌∙◌, subst, arith, Option, Some, None}
+use Rattle.std.proofs.Common.{◌≡◌, ◌≢◌, ℕ, ◌+◌, Bool, true, false, not, ◌&&◌, cond, eqb, List, [], ◌∷◌, ◌++◌, refl, sym, ap, ◌∙◌, subst, arith, Option, Some, None}
 use Rattle.std.specs.List.{find}
-use Rattle.std.proofs.lemmas.Bool.{and_parts, false≢true, true≢false, eq-eqb, ne_eqb, eqb-true, eqb-false}
+use Rattle.std.proofs.lemmas.Bool.{and_parts, false≢true, true≢false, eq-eqb, ne_eqb, eqb-true, eqb-false, or_left}
 use Rattle.nd_base.specs.declared.frame.FrameName.{FrameName}
 use Rattle.trig_window.specs.Windows.{kept}
 use Rattle.flow_journal.specs.declared.entry.Entry.{Entry}
 use Rattle.flow_journal.specs.declared.entry.Entry.TheVariants.{Load, LoadRefused, Tick, Issue, Emit, Accept, Full, Take, TakeBlock, PoolDrop, Put, SortDrop, Settle, Save, Saved, Reclaim}
 use Rattle.flow_journal.specs.Setting.{Setting, Watches, node, is_maker, id_at}
-use Rattle.flow_journal.specs.Pasts.{Past, frame, without}
+use Rattle.flow_journal.specs.Pasts.{Past, frame}
 use Rattle.flow_journal.specs.Hands.{takes_up, let_go, hands, hand, standing, is_job, job_array}
 use Rattle.flow_journal.specs.Ended.{now, is_settled}
 use Rattle.flow_journal.specs.Offered.{offered, offered_frames}
@@ -16,11 +16,11 @@ use Rattle.flow_journal.specs.Puts.{puts, firings}
 use Rattle.flow_journal.specs.Waiting.{waiting}
 use Rattle.flow_journal.specs.Rings.{ring_of, ring}
 use Rattle.flow_journal.specs.Unsaved.{standing_saves, unsaved}
-use Rattle.flow_journal.specs.Breaks.{prev_of, outs, prev}
+use Rattle.flow_journal.specs.Breaks.{prev_of, outs, prev, keeps_step, breaks_of, breaks}
 use Rattle.flow_journal.specs.FirstEntries.{first, may_take, pool_grants, pool_refuses}
 use Rattle.flow_journal.specs.Histories.{is_legal}
-use Rattle.flow_journal.specs.EntryLaws.{moves_queues, QueueLaws, lets_go, HandLaws, offers, offers_frames, OfferLaws, is_put, moves_lists, PutLaws, moves_rings, RingLaws, moves_saves, changes_saves, SaveLaws, moves_hands, JobLaws, lets_out, ticks, ClockLaws}
-use Rattle.flow_journal.proofs.Steps.{comes_here, comes_elsewhere, may_take-facts, queued-Accept, queued-Take, queued-Reclaim}
+use Rattle.flow_journal.specs.EntryLaws.{moves_queues, QueueLaws, lets_go, HandLaws, offers, offers_frames, OfferLaws, is_put, moves_lists, PutLaws, moves_rings, RingLaws, moves_saves, changes_saves, SaveLaws, moves_hands, JobLaws, lets_out, ticks, ClockLaws, BreakLaws, RoleLaws}
+use Rattle.flow_journal.proofs.Steps.{comes_here, comes_elsewhere, queued-Accept, queued-Reclaim}
 use Rattle.flow_journal.proofs.EntryCounts.{count, bit, count-cons, count-let_go}
 use Rattle.flow_journal.proofs.Emissions.{flags-puts, waiting-unsorted}
 use Rattle.flow_journal.proofs.Pieces.{saves-front, unsaved-file, unsaved-Put, unsaved-Put_elsewhere, unsaved-Save, unsaved-Save_elsewhere, unsaved-Reclaim, unsaved-Reclaim_other, piece-file}
@@ -29,9 +29,7 @@ use Rattle.flow_journal.proofs.Loads.{loaded-last, offered-Reclaim_other}
 use Rattle.flow_journal.proofs.LastOuts.{outs-let_go, last_out}
 use Rattle.flow_journal.proofs.Settled.{put-unsettled}
 use Rattle.flow_journal.proofs.Hands.{find-none, find-let_go, free-let_go, hands-Apart}
-
-taken_front : (s : Setting) (r v m k : ℕ) (P : Past) → may_take s r v (frame m k) P ≡ true → queued v P ≡ frame m k ∷ without (frame m k) (queued v P)
-taken_front s r v m k P h = (may_take-facts s r v (frame m k) P h).next
+use Rattle.flow_journal.proofs.Rows.{taken_front}
 
 queue_others : (v : ℕ) (e : Entry) (P : Past) → moves_queues e ≡ false → queued v (e ∷ P) ≡ queued v P
 queue_others v (Accept w m k) P h = absurd (true≢false h)
@@ -50,9 +48,9 @@ pub queue_laws : QueueLaws
 queue_laws = record {
   accept = queued-Accept;
   accept_elsewhere = λ v w m k P ne. comes_elsewhere v w (frame m k) (queued v P) ne;
-  take = queued-Take;
-  take_block = λ s r v m k b n f g x P h. rw (eq-eqb v v refl) (taken_front s r v m k P (and_parts _ _ (and_parts (may_take s r v (frame m k) P && is_maker s v) (pool_grants s v b n f g x P) h).0).0);
-  pool_drop = λ s r v m k n z P h. rw (eq-eqb v v refl) (taken_front s r v m k P (and_parts _ _ (and_parts (may_take s r v (frame m k) P && is_maker s v) (pool_refuses s v n z P) h).0).0);
+  take = λ s r v m k P h. rw (eq-eqb v v refl) (taken_front s r v (frame m k) P (and_parts (may_take s r v (frame m k) P) (not (is_maker s v)) h).0);
+  take_block = λ s r v m k b n f g x P h. rw (eq-eqb v v refl) (taken_front s r v (frame m k) P (and_parts _ _ (and_parts (may_take s r v (frame m k) P && is_maker s v) (pool_grants s v b n f g x P) h).0).0);
+  pool_drop = λ s r v m k n z P h. rw (eq-eqb v v refl) (taken_front s r v (frame m k) P (and_parts _ _ (and_parts (may_take s r v (frame m k) P && is_maker s v) (pool_refuses s v n z P) h).0).0);
   take_elsewhere = λ r v w m k P ne. rw (ne_eqb w v ne) refl;
   take_block_elsewhere = λ r v w m k b n f g x P ne. rw (ne_eqb w v ne) refl;
   pool_drop_elsewhere = λ r v w m k n h P ne. rw (ne_eqb w v ne) refl;
@@ -98,7 +96,7 @@ offer_others v (Accept w m k) P h = absurd (true≢false h)
 offer_others v (Full w m k) P h = absurd (true≢false h)
 offer_others v _ P h = refl
 
-frames_others : (e : Entry) (P : Past) → offers_frames e ≡ false → offered_frames (e ∷ P) ≡ offered_frames P
+pub frames_others : (e : Entry) (P : Past) → offers_frames e ≡ false → offered_frames (e ∷ P) ≡ offered_frames P
 frames_others (Load r k b n f g x) P h = absurd (true≢false h)
 frames_others (LoadRefused r k n z) P h = absurd (true≢false h)
 frames_others (Reclaim r) P h = absurd (true≢false h)
@@ -275,4 +273,37 @@ clock_laws = record {
   settle = λ r v P. rw (eq-eqb v v refl) refl;
   closed_others = λ e P h. rw h refl;
   settled_others = λ v e P h. rw h refl;
+}
+
+-- one more that went out
+break_now : (s : Setting) (v k : ℕ) (ks : List ℕ) (b : Bool) → b ≡ true → breaks_of s (cond b (k ∷ []) [] ++ ks) ≡ breaks_of s ks + cond (keeps_step (prev_of s ks) (id_at s k)) 0 1
+break_now s v k ks true h = refl
+break_now s v k ks false h = absurd (false≢true h)
+
+break_others : (s : Setting) (v : ℕ) (e : Entry) (P : Past) → lets_out e ≡ false → breaks s v (e ∷ P) ≡ breaks s v P
+break_others s v (Emit w m k why) P h = absurd (true≢false h)
+break_others s v (Save r w m k g) P h = absurd (true≢false h)
+break_others s v (Reclaim r) P h = absurd (true≢false h)
+break_others s v _ P h = refl
+
+pub break_laws : BreakLaws
+break_laws = record {
+  none = λ s v. refl;
+  emit = λ s v m k why P. break_now s v k (outs v P) (eqb v v) (eq-eqb v v refl);
+  save = λ s r v m k g P. break_now s v k (outs v P) (eqb v v) (eq-eqb v v refl);
+  emit_elsewhere = λ s v w m k why P ne. ap (λ (b : Bool). breaks_of s (cond b (k ∷ []) [] ++ outs v P)) (ne_eqb w v ne);
+  save_elsewhere = λ s r v w m k g P ne. ap (λ (b : Bool). breaks_of s (cond b (k ∷ []) [] ++ outs v P)) (ne_eqb w v ne);
+  reclaim = λ s r q v m k g P h held. ap (breaks_of s) (last_out s P r q v m k g h held);
+  reclaim_other = λ s r v e P h held none. ap (breaks_of s) (outs-let_go v r e (standing P) (hand-standing s P r e h held) none);
+  others = break_others;
+}
+
+pub role_laws : RoleLaws
+role_laws = record {
+  leave = λ r P. or_left (eqb r r) _ (eq-eqb r r refl);
+  leave_any = λ r P. refl;
+  left_others = λ r e P h. rw h refl;
+  left_any_others = λ e P h. rw h refl;
+  reclaim = λ r P. or_left (eqb r r) _ (eq-eqb r r refl);
+  reclaimed_others = λ r e P h. rw h refl;
 }

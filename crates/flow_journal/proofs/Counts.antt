@@ -1,8 +1,8 @@
 -- The queue in the words of counts: an array is queued as often as it was accepted, less its takes that stand and its drops.
 use Rattle.std.proofs.Common.{◌≡◌, ◌≢◌, ℕ, ◌+◌, Bool, true, false, List, [], ◌∷◌, ◌++◌, length, refl, sym, ap, ◌∙◌, subst, eqb, arith, Option, Some, None, inl, inr}
-use Rattle.std.specs.Prelude.{filter, flat_map, is_none}
+use Rattle.std.specs.Prelude.{filter, flat_map}
 use Rattle.std.specs.List.{find}
-use Rattle.std.proofs.lemmas.Bool.{and_parts, false≢true, true≢false, cases_Bool, eqb-true, eqb-false, not-true}
+use Rattle.std.proofs.lemmas.Bool.{and_parts, false≢true, cases_Bool, eqb-true, eqb-false, not-true}
 use Rattle.std.proofs.lemmas.List.{length-append, append-nil}
 use Rattle.std.proofs.lemmas.List.Elements.{filter-append}
 use Rattle.nd_base.specs.declared.frame.FrameName.{FrameName}
@@ -19,6 +19,7 @@ use Rattle.flow_journal.specs.Queued.{queued}
 use Rattle.flow_journal.specs.QueueCounts.{times, gone_at, gone}
 use Rattle.flow_journal.specs.Accepted.{accepts}
 use Rattle.flow_journal.specs.Setting.{Setting}
+use Rattle.flow_journal.proofs.Found.{some_hand}
 
 -- how many of these pass the test
 abbrev pub times_by : (FrameName → Bool) → List FrameName → ℕ
@@ -95,10 +96,6 @@ times-let_go t v r e (x ∷ hs) h =
           let more = times-append t (gone_at v x) (flat_map (gone_at v) (let_go r hs)) in
           rw away (times-append t (gone_at v x) (flat_map (gone_at v) hs) ∙ omega (arith, rest, more))
     ]
-
-pub some_hand : (o : Option Entry) → is_none o ≡ false → (e : Entry) × (o ≡ Some e)
-some_hand None h = absurd (true≢false h)
-some_hand (Some e) h = (e, refl)
 
 -- An array is queued as often as it was accepted, less the takes of it that stand and its drops.
 pub queued-by : (s : Setting) (P : Past) (v : ℕ) (t : FrameName → Bool) → is_legal s P ≡ true → times_by t (accepts v P) ≡ times_by t (queued v P) + times_by t (gone v P)

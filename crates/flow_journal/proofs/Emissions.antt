@@ -97,7 +97,7 @@ owed-Tick s t P h =
 -- SORTED NODES
 
 -- one that waits is taken away
-removed : (a : FrameName) (t : FrameName → Bool) (ws : List Waiting) → 1 ≤ count (waits (λ x. same x a)) ws → count (waits t) ws ≡ bit (t a) + count (waits t) (not_waiting a ws)
+pub removed : (a : FrameName) (t : FrameName → Bool) (ws : List Waiting) → 1 ≤ count (waits (λ x. same x a)) ws → count (waits t) ws ≡ bit (t a) + count (waits t) (not_waiting a ws)
 removed a t [] h = absurd (omega (arith, h))
 removed a t (w ∷ ws) h =
     elim (cases_Bool (same w.array a)) [

@@ -59,7 +59,7 @@ cond-sum : (b : Bool) (i j : ℕ) → cond b (i + j) 0 ≡ cond b i 0 + cond b j
 cond-sum true i j = refl
 cond-sum false i j = refl
 
-loads-cons : (a : FrameName) (e : Entry) (es : List Entry) → cond (eqb a.maker 0) (count (loads_at a.index) (e ∷ es)) 0 ≡ cond (eqb a.maker 0) (bit (loads_at a.index e)) 0 + cond (eqb a.maker 0) (count (loads_at a.index) es) 0
+pub loads-cons : (a : FrameName) (e : Entry) (es : List Entry) → cond (eqb a.maker 0) (count (loads_at a.index) (e ∷ es)) 0 ≡ cond (eqb a.maker 0) (bit (loads_at a.index e)) 0 + cond (eqb a.maker 0) (count (loads_at a.index) es) 0
 loads-cons a e es = ap (λ (n : ℕ). cond (eqb a.maker 0) n 0) (count-cons (loads_at a.index) e es) ∙ cond-sum (eqb a.maker 0) (bit (loads_at a.index e)) (count (loads_at a.index) es)
 
 -- the driver's frames are granted by loads, and the others by takes at their maker
@@ -123,14 +123,14 @@ granted_itself : (a : FrameName) (b : ℕ) → cond (same a a) (b ∷ []) [] ≡
 granted_itself a b = ap (λ (c : Bool). cond c (b ∷ []) []) (same_refl a)
 
 -- the entry gives hands of its role, and stands
-abbrev Stands : Past → Entry → Type 0
+abbrev pub Stands : Past → Entry → Type 0
 Stands P e = (r : ℕ) → takes_up r e ≡ true → find (takes_up r) (standing P) ≡ Some e
 
-abbrev AllStand : Past → List Entry → Type 0
+abbrev pub AllStand : Past → List Entry → Type 0
 AllStand P [] = Unit {0}
 AllStand P (e ∷ hs) = Stands P e × AllStand P hs
 
-all_stand : (P : Past) (hs : List Entry) → Apart hs → ((r : ℕ) (e : Entry) → find (takes_up r) hs ≡ Some e → find (takes_up r) (standing P) ≡ Some e) → AllStand P hs
+pub all_stand : (P : Past) (hs : List Entry) → Apart hs → ((r : ℕ) (e : Entry) → find (takes_up r) hs ≡ Some e → find (takes_up r) (standing P) ≡ Some e) → AllStand P hs
 all_stand P [] apart stand = tt
 all_stand P (x ∷ hs) apart stand = (
   λ r up. stand r x (rw up refl),
@@ -162,11 +162,11 @@ take-block s P r v m k b n f g x h found =
 abbrev pub has : (ℕ → Bool) → Past → FrameName → Bool
 has q P a = list_any q (block_of P a)
 
-or-false : (b : Bool) → (b || false) ≡ b
+pub or-false : (b : Bool) → (b || false) ≡ b
 or-false true = refl
 or-false false = refl
 
-any-one : (q : ℕ → Bool) (b : ℕ) (bs : List ℕ) → bs ≡ b ∷ [] → q b ≡ list_any q bs
+pub any-one : (q : ℕ → Bool) (b : ℕ) (bs : List ℕ) → bs ≡ b ∷ [] → q b ≡ list_any q bs
 any-one q b bs is = sym (ap (list_any q) is ∙ or-false (q b))
 
 hand-blocks : (s : Setting) (q : ℕ → Bool) (P : Past) (e : Entry) → is_legal s P ≡ true → Stands P e → list_any q (blocks_in_hand P e) ≡ holds (has q P) e

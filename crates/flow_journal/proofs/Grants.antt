@@ -1,15 +1,16 @@
 -- What a grant gives away has no place.
-use Rattle.std.proofs.Common.{◌≡◌, ◌≢◌, ℕ, zero, suc, ◌+◌, Bool, true, false, not, cond, ◌&&◌, ◌||◌, eqb, leb, List, [], ◌∷◌, ◌++◌, map, refl, sym, ap, subst, ◌∙◌, Option, Some, None, inl, inr}
+use Rattle.std.proofs.Common.{◌≡◌, ◌≢◌, ℕ, zero, suc, ◌+◌, Bool, true, false, not, cond, ◌||◌, eqb, leb, List, [], ◌∷◌, ◌++◌, map, refl, sym, ap, subst, ◌∙◌, Option, Some, None, inl, inr}
 use Rattle.std.specs.Prelude.{filter, reverse, take}
 use Rattle.std.specs.List.{find, list_all}
-use Rattle.std.proofs.lemmas.Bool.{and_parts, and_from, false≢true, true≢false, eqb-true, eq-eqb, ne_eqb, or_from, or_cases, or_left, or_right, not-true, cases_Bool, cond-true}
+use Rattle.std.proofs.lemmas.Bool.{and_parts, and_from, true≢false, eqb-true, eq-eqb, ne_eqb, or_from, or_cases, or_left, or_right, cases_Bool, cond-true}
 use Rattle.std.proofs.lemmas.List.{reverse-append}
-use Rattle.pool_ledger.specs.Grants.{Block, comes_first, placed, in_order, free_in_order, smallest_fit, largest_free, has_number, left_after, known_after, passes, given_up, new_number, Answer, Refused, Granted, fit_or_fresh, granted}
+use Rattle.pool_ledger.specs.Grants.{Block, comes_first, placed, in_order, free_in_order, smallest_fit, largest_free, has_number, left_after, known_after, passes, given_up, new_number, Refused, Granted, fit_or_fresh, granted}
 use Rattle.flow_journal.specs.Setting.{Setting}
 use Rattle.flow_journal.specs.Pasts.{Past}
-use Rattle.flow_journal.specs.Accounts.{refs, is_unplaced, known, held, grant}
-use Rattle.flow_journal.specs.FirstEntries.{both, is_granted, regrown_fits, pool_grants}
+use Rattle.flow_journal.specs.Accounts.{refs, is_unplaced, known, held}
+use Rattle.flow_journal.specs.FirstEntries.{pool_grants}
 use Rattle.flow_journal.specs.HistoryLaws.{ArePlacesKnown}
+use Rattle.flow_journal.proofs.Rows.{grant-facts}
 use Rattle.flow_journal.proofs.Once.{is_among, least_missing-not_among}
 
 all_of_filter : (p : Block → Bool) (bs : List Block) → list_all p (filter p bs) ≡ true
@@ -37,14 +38,14 @@ all_append : (p : Block → Bool) (xs ys : List Block) → list_all p xs ≡ tru
 all_append p [] ys h g = g
 all_append p (x ∷ xs) ys h g = let q = and_parts (p x) (list_all p xs) h in and_from _ _ q.0 (all_append p xs ys q.1 g)
 
-all_reverse : (p : Block → Bool) (xs : List Block) → list_all p xs ≡ true → list_all p (reverse xs) ≡ true
+pub all_reverse : (p : Block → Bool) (xs : List Block) → list_all p xs ≡ true → list_all p (reverse xs) ≡ true
 all_reverse p [] h = refl
 all_reverse p (x ∷ xs) h =
     let q = and_parts (p x) (list_all p xs) h in
     let split : reverse (x ∷ xs) ≡ reverse xs ++ x ∷ [] = reverse-append (x ∷ []) xs in
     subst (λ (ys : List Block). list_all p ys ≡ true) (sym split) (all_append p (reverse xs) (x ∷ []) (all_reverse p xs q.1) (and_from _ _ q.0 refl))
 
-all_take : (p : Block → Bool) (n : ℕ) (xs : List Block) → list_all p xs ≡ true → list_all p (take n xs) ≡ true
+pub all_take : (p : Block → Bool) (n : ℕ) (xs : List Block) → list_all p xs ≡ true → list_all p (take n xs) ≡ true
 all_take p zero xs h = refl
 all_take p (suc n) [] h = refl
 all_take p (suc n) (x ∷ xs) h = let q = and_parts (p x) (list_all p xs) h in and_from _ _ q.0 (all_take p n xs q.1)
@@ -58,14 +59,14 @@ all_found p q (x ∷ xs) b h f =
       | inr away ↦ all_found p q xs b r.1 (rw away at f)
     ]
 
-abbrev free_block : (ℕ → Bool) → Block → Bool
+abbrev pub free_block : (ℕ → Bool) → Block → Bool
 free_block is_free b = is_free b.number
 
-all_free : (is_free : ℕ → Bool) (bs : List Block) → list_all (free_block is_free) (free_in_order is_free bs) ≡ true
+pub all_free : (is_free : ℕ → Bool) (bs : List Block) → list_all (free_block is_free) (free_in_order is_free bs) ≡ true
 all_free is_free bs = all_in_order (free_block is_free) (filter (free_block is_free) bs) (all_of_filter (free_block is_free) bs)
 
 -- no block that isn't free is among free ones
-none_held : (is_free : ℕ → Bool) (k : ℕ) (xs : List Block) → is_free k ≡ false → list_all (free_block is_free) xs ≡ true → has_number k xs ≡ false
+pub none_held : (is_free : ℕ → Bool) (k : ℕ) (xs : List Block) → is_free k ≡ false → list_all (free_block is_free) xs ≡ true → has_number k xs ≡ false
 none_held is_free k [] u h = refl
 none_held is_free k (x ∷ xs) u h =
     let q = and_parts (is_free x.number) (list_all (free_block is_free) xs) h in
@@ -94,7 +95,7 @@ stays-left is_free given k bs u h =
     let none = none_held is_free k (largest_free given is_free bs) u (all_take (free_block is_free) given (reverse (free_in_order is_free bs)) (all_reverse (free_block is_free) (free_in_order is_free bs) (all_free is_free bs))) in
     stays (largest_free given is_free bs) k bs none h
 
-number-among : (k : ℕ) (bs : List Block) → is_among k (map (λ b. b.number) bs) ≡ has_number k bs
+pub number-among : (k : ℕ) (bs : List Block) → is_among k (map (λ b. b.number) bs) ≡ has_number k bs
 number-among k [] = refl
 number-among k (b ∷ bs) = ap (λ (x : Bool). eqb b.number k || x) (number-among k bs)
 
@@ -118,31 +119,15 @@ granted-free limit n held b size fresh given is_free bs known h =
       | inr within ↦ let fits : fit_or_fresh limit n is_free bs (smallest_fit n is_free bs) ≡ Granted b size fresh given = rw within at h in fit-free limit n b size fresh given is_free bs (smallest_fit n is_free bs) known found fits
     ]
 
-both-same : (a b : Bool) → both a b ≡ true → a ≡ b
-both-same true b h = sym h
-both-same false b h = sym (not-true b h)
-
-is_granted-is : (b n : ℕ) (f : Bool) (g : ℕ) (a : Answer) → is_granted b n f g a ≡ true → a ≡ Granted b n f g
-is_granted-is b n f g Refused h = absurd (false≢true h)
-is_granted-is b n f g (Granted block size fresh given) h =
-    let p = and_parts (eqb b block && eqb n size && both fresh f) (eqb g given) h in
-    let q = and_parts (eqb b block && eqb n size) (both fresh f) p.0 in
-    let o = and_parts (eqb b block) (eqb n size) q.0 in
-    let same_block : b ≡ block = eqb-true b block o.0 in
-    let same_size : n ≡ size = eqb-true n size o.1 in
-    let same_kind : fresh ≡ f = both-same fresh f q.1 in
-    let same_given : g ≡ given = eqb-true g given p.1 in
-    cc
-
 -- the grant that an entry has is the one of the rules
 pub granted-is : (s : Setting) (m b n : ℕ) (f : Bool) (g : ℕ) (x : Bool) (P : Past) → s.pooled ≡ true → pool_grants s m b n f g x P ≡ true → granted s.limit (s.need m) (held s P) (is_unplaced s P) (known s P) ≡ Granted b n f g
 granted-is s m b n f g x P pooled h =
     sym (cond-true s.pooled (granted s.limit (s.need m) (held s P) (is_unplaced s P) (known s P)) (Granted 0 0 false 0) pooled)
-    ∙ is_granted-is b n f g (grant s P (s.need m)) (and_parts (is_granted b n f g (grant s P (s.need m))) (regrown_fits s f x) h).0
+    ∙ (grant-facts s m b n f g x P h).answer
 
 -- A GRANTED BLOCK IS KNOWN THEN
 
-all_filtered : (p q : Block → Bool) (bs : List Block) → list_all p bs ≡ true → list_all p (filter q bs) ≡ true
+pub all_filtered : (p q : Block → Bool) (bs : List Block) → list_all p bs ≡ true → list_all p (filter q bs) ≡ true
 all_filtered p q [] h = refl
 all_filtered p q (b ∷ bs) h =
     let r = and_parts (p b) (list_all p bs) h in

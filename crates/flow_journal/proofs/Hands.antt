@@ -1,19 +1,18 @@
 -- In a legal history each role has one hand at most, and one block at most is loaded.
-use Rattle.std.proofs.Common.{◌≡◌, ◌≢◌, ℕ, ◌<◌, ◌≤◌, arith, Bool, true, false, not, cond, ◌&&◌, ◌||◌, List, [], ◌∷◌, ◌++◌, refl, sym, ap, ◌∙◌, subst, eqb, ltb, length, suc, Some, None, inl, inr}
+use Rattle.std.proofs.Common.{◌≡◌, ◌≢◌, ℕ, ◌≤◌, arith, Bool, true, false, cond, ◌||◌, List, [], ◌∷◌, ◌++◌, refl, sym, ap, ◌∙◌, subst, eqb, length, suc, Some, None, inl, inr}
 use Rattle.std.specs.Prelude.{is_none, filter, flat_map}
-use Rattle.std.specs.List.{list_any, list_all, find}
-use Rattle.std.proofs.lemmas.Bool.{and_parts, false≢true, true≢false, eq-eqb, ne_eqb, eqb-true, cases_Bool, or_parts, or_from, not-true, ltb-true}
+use Rattle.std.specs.List.{list_any, find}
+use Rattle.std.proofs.lemmas.Bool.{and_parts, false≢true, true≢false, eq-eqb, ne_eqb, eqb-true, cases_Bool, or_parts, or_from}
 use Rattle.nd_base.specs.declared.frame.FrameName.{FrameName}
 use Rattle.flow_journal.specs.declared.entry.Entry.{Entry}
 use Rattle.flow_journal.specs.declared.entry.Entry.TheVariants.{Load, Issue, Take, TakeBlock, Put, Save, Saved, Reclaim}
-use Rattle.flow_journal.specs.FirstEntries.{first, may_load, may_take, acts}
+use Rattle.flow_journal.specs.FirstEntries.{first, may_load, may_take}
 use Rattle.flow_journal.specs.Following.{owed}
 use Rattle.flow_journal.specs.Hands.{takes_up, let_go, hands, is_loaded, is_job, is_free}
 use Rattle.flow_journal.specs.Histories.{next, answers, is_legal}
-use Rattle.flow_journal.specs.Offered.{next_index}
 use Rattle.flow_journal.specs.Pasts.{Past, frame}
-use Rattle.flow_journal.specs.Queued.{has_room}
-use Rattle.flow_journal.specs.Setting.{Setting, children, is_role}
+use Rattle.flow_journal.specs.Setting.{Setting}
+use Rattle.flow_journal.proofs.Rows.{none-free, load-facts, take-facts}
 
 -- an entry that gives a hand to r gives it to no other
 pub takes_up-one : (r q : ℕ) (e : Entry) → takes_up r e ≡ true → takes_up q e ≡ eqb r q
@@ -84,29 +83,11 @@ Apart-more : (r : ℕ) (e : Entry) (P : Past) → takes_up r e ≡ true → is_f
 Apart-more r e P up free h =
     (λ q u. subst (λ i. list_any (takes_up i) (hands P) ≡ false) (eqb-true r q (sym (takes_up-one r q e up) ∙ u)) (none-find (takes_up r) (hands P) free), h)
 
-acts-free : (s : Setting) (r : ℕ) (P : Past) → acts s r P ≡ true → is_free r P ≡ true
-acts-free s r P h = (and_parts _ _ (and_parts (is_role s r && is_free r P) _ h).0).1
-
--- what the rows of Load and LoadRefused say
-pub record MayLoad (s : Setting) (r k : ℕ) (P : Past) : Type 0 where
-  pub acts : acts s r P ≡ true
-  pub unloaded : list_any is_loaded (hands P) ≡ false
-  pub in_turn : k ≡ next_index P
-  pub some : k < length s.ids
-
-pub may_load-says : (s : Setting) (r k : ℕ) (P : Past) → may_load s r k P ≡ true → MayLoad s r k P
-may_load-says s r k P h =
-    let wait = and_parts (acts s r P && not (list_any is_loaded (hands P)) && eqb k (next_index P) && ltb k (length s.ids)) (not s.wait || list_all (has_room s P) (children s 0)) h in
-    let some = and_parts (acts s r P && not (list_any is_loaded (hands P)) && eqb k (next_index P)) (ltb k (length s.ids)) wait.0 in
-    let turn = and_parts (acts s r P && not (list_any is_loaded (hands P))) (eqb k (next_index P)) some.0 in
-    let idle = and_parts (acts s r P) (not (list_any is_loaded (hands P))) turn.0 in
-    record { acts = idle.0; unloaded = not-true _ idle.1; in_turn = eqb-true k (next_index P) turn.1; some = ltb-true k (length s.ids) some.1 }
-
 load-free : (s : Setting) (r k : ℕ) (P : Past) → may_load s r k P ≡ true → is_free r P ≡ true
-load-free s r k P h = acts-free s r P (may_load-says s r k P h).acts
+load-free s r k P h = none-free r P (load-facts s r k P h).acts.free
 
 take-free : (s : Setting) (r v : ℕ) (a : FrameName) (P : Past) → may_take s r v a P ≡ true → is_free r P ≡ true
-take-free s r v a P h = acts-free s r P (and_parts _ _ (and_parts _ _ (and_parts _ _ h).0).0).0
+take-free s r v a P h = none-free r P (take-facts s r v a P h).acts.free
 
 -- the row of the newest entry, where it can't have been owed
 pub row_of : (s : Setting) (e : Entry) (P : Past) → ((d : Entry) → answers s P e d ≡ false) → is_legal s (e ∷ P) ≡ true → first s P e ≡ true
@@ -156,7 +137,7 @@ hands-OneLoaded s [] h = tt
 hands-OneLoaded s (Load r k b n f g x ∷ P) h =
     let f = row_of s (Load r k b n f g x) P (λ d. refl) h in
     let m : may_load s r k P ≡ true = (and_parts _ _ f).0 in
-    (λ u. (may_load-says s r k P m).unloaded, hands-OneLoaded s P (and_parts _ _ h).0)
+    (λ u. (load-facts s r k P m).unloaded, hands-OneLoaded s P (and_parts _ _ h).0)
 hands-OneLoaded s (Take r v m k ∷ P) h = (λ u. absurd (false≢true u), hands-OneLoaded s P (and_parts _ _ h).0)
 hands-OneLoaded s (TakeBlock r v m k b n f g x ∷ P) h = (λ u. absurd (false≢true u), hands-OneLoaded s P (and_parts _ _ h).0)
 hands-OneLoaded s (Save r v m k g ∷ P) h = (λ u. absurd (false≢true u), hands-OneLoaded s P (and_parts _ _ h).0)
@@ -251,14 +232,6 @@ few_loaded (e ∷ hs) h =
 
 pub one-loaded : (s : Setting) (P : Past) → is_legal s P ≡ true → length (filter is_loaded (hands P)) ≤ 1
 one-loaded s P h = few_loaded (hands P) (hands-OneLoaded s P h)
-
-pub found_up : (p : Entry → Bool) (e : Entry) (hs : List Entry) → find p hs ≡ Some e → p e ≡ true
-found_up p e [] h = cc
-found_up p e (x ∷ hs) h =
-    elim (cases_Bool (p x)) [
-      | inl here ↦ let same : Some x ≡ Some e = rw here at h in let is : x ≡ e = cc in ap p (sym is) ∙ here
-      | inr away ↦ found_up p e hs (rw away at h)
-    ]
 
 -- a hand that gives nothing leaves what the others give
 pub flat-let_go : {X : Type 0} (f : Entry → List X) (r : ℕ) (e : Entry) (hs : List Entry) → find (takes_up r) hs ≡ Some e → f e ≡ [] → flat_map f (let_go r hs) ≡ flat_map f hs

@@ -1,17 +1,15 @@
 -- The driver emits a frame once.
-use Rattle.std.proofs.Common.{◌≡◌, ◌≢◌, ℕ, ◌+◌, ◌≤◌, ◌<◌, Bool, true, false, not, ◌&&◌, cond, eqb, ltb, List, [], ◌∷◌, map, length, drop, refl, sym, ap, ◌∙◌, subst, arith, inl, inr}
+use Rattle.std.proofs.Common.{◌≡◌, ◌≢◌, ℕ, ◌+◌, ◌≤◌, Bool, true, false, ◌&&◌, cond, eqb, List, [], ◌∷◌, map, drop, refl, sym, ap, ◌∙◌, subst, arith, inl, inr}
 use Rattle.std.specs.Prelude.{flat_map}
-use Rattle.std.proofs.lemmas.Bool.{and_parts, and_from, true≢false, eq-eqb, eqb-true, ltb-true, cases_Bool}
+use Rattle.std.proofs.lemmas.Bool.{and_parts, and_from, true≢false, eq-eqb, eqb-true, cases_Bool}
 use Rattle.nd_base.specs.declared.frame.FrameName.{FrameName}
 use Rattle.flow_journal.specs.declared.entry.Entry.{Entry}
 use Rattle.flow_journal.specs.declared.entry.Entry.TheVariants.{Load, Tick, Issue, Emit, Accept, Take, TakeBlock, PoolDrop, Put, Settle, Saved, Reclaim}
 use Rattle.flow_journal.specs.declared.entry.Why.{Why}
 use Rattle.flow_journal.specs.declared.entry.Why.TheVariants.{Plain}
-use Rattle.flow_journal.specs.Setting.{Setting, node, is_node, is_role, is_sorted, node_numbers, children}
+use Rattle.flow_journal.specs.Setting.{Setting, node, is_role, is_sorted, node_numbers, children}
 use Rattle.flow_journal.specs.Pasts.{Past, frame, comes_at}
-use Rattle.flow_journal.specs.Hands.{hands, standing, jobs}
-use Rattle.flow_journal.specs.Ended.{is_settled, has_ended}
-use Rattle.flow_journal.specs.Queued.{queued}
+use Rattle.flow_journal.specs.Hands.{hands, standing}
 use Rattle.flow_journal.specs.QueueCounts.{gone_at}
 use Rattle.flow_journal.specs.Accepted.{accepts}
 use Rattle.flow_journal.specs.Waiting.{waiting, least_first}
@@ -24,6 +22,7 @@ use Rattle.flow_journal.proofs.EntryCounts.{count, bit, count-cons, count-append
 use Rattle.flow_journal.proofs.Jobs.{puts-taken, issued_hand, putting_hand, reclaim_hand}
 use Rattle.flow_journal.proofs.Outs.{out_of, of_index, emits-le, none_elsewhere, result-at, flush-at, goes_out-at, waits, count-look}
 use Rattle.flow_journal.proofs.Offers.{is_number, none_numbered_0, none_at_driver}
+use Rattle.flow_journal.proofs.Rows.{settle-facts}
 
 -- TAKES
 
@@ -64,10 +63,7 @@ puts_at_node s r w m i f P h at_0 =
 pub settles_node : (s : Setting) (r w : ℕ) (P : Past) → is_legal s (Settle r w ∷ P) ≡ true → w ≢ 0
 settles_node s r w P h at_0 =
     let row : (is_role s r && may_settle s w P) ≡ true = row_of s (Settle r w) P (λ d. refl) h in
-    let may : may_settle s w P ≡ true = (and_parts (is_role s r) (may_settle s w P) row).1 in
-    let known : is_node s w ≡ true = (and_parts (is_node s w) _ (and_parts (is_node s w && not (is_settled w P)) _ (and_parts (is_node s w && not (is_settled w P) && has_ended (node s w).input P) _ (and_parts (is_node s w && not (is_settled w P) && has_ended (node s w).input P && eqb (length (queued w P)) 0) (eqb (jobs w P) 0) may).0).0).0).0 in
-    let above : 0 < w = ltb-true 0 w (and_parts (ltb 0 w) _ known).0 in
-    omega (arith, above, at_0)
+    omega (arith, (settle-facts s w P (and_parts (is_role s r) (may_settle s w P) row).1).above, at_0)
 
 -- LOOKS
 

@@ -9,8 +9,9 @@ use Rattle.flow_journal.specs.Hands.{hands, hand, is_free, standing}
 use Rattle.flow_journal.specs.FirstEntries.{is_result_of, is_load_of, fires_at, both}
 use Rattle.flow_journal.specs.Histories.{is_legal}
 use Rattle.flow_journal.proofs.Hands.{row_of}
-use Rattle.flow_journal.proofs.Counts.{hand-standing, some_hand}
+use Rattle.flow_journal.proofs.Counts.{hand-standing}
 use Rattle.flow_journal.proofs.EntryCounts.{count, bit, count-cons, count-let_go, count-let_go-le, takes_at, puts_at, loads_at}
+use Rattle.flow_journal.proofs.Found.{some_hand}
 
 before : (s : Setting) (e : Entry) (P : Past) → is_legal s (e ∷ P) ≡ true → is_legal s P ≡ true
 before s e P h = (and_parts _ _ h).0

@@ -15,7 +15,7 @@ use Rattle.flow_journal.specs.Waiting.{waiting, least_first}
 use Rattle.flow_journal.specs.Unsaved.{is_file}
 use Rattle.flow_journal.specs.Following.{offer, result, calls_for, owed}
 use Rattle.flow_journal.specs.Histories.{is_legal}
-use Rattle.flow_journal.proofs.Hands.{row_of, find-let_go, find-none_is, hands-Apart, found_up, flat-let_go}
+use Rattle.flow_journal.proofs.Hands.{row_of, find-let_go, find-none_is, hands-Apart, flat-let_go}
 use Rattle.flow_journal.proofs.Counts.{hand-standing, still_held}
 use Rattle.flow_journal.proofs.EntryCounts.{count, bit, count-cons, count-append, count-drop}
 use Rattle.flow_journal.proofs.Jobs.{reclaim_hand}
@@ -23,7 +23,9 @@ use Rattle.flow_journal.proofs.Outs.{out_of, none_elsewhere, result-at, flush-at
 use Rattle.flow_journal.proofs.Offers.{once_numbered}
 use Rattle.flow_journal.proofs.Issues.{looks, looks-le}
 use Rattle.flow_journal.proofs.Emissions.{owed-Emit_out, owed-SortDrop_out, no_outs_in_offers, waiting-unsorted}
-use Rattle.flow_journal.proofs.Pieces.{let_go-swap, save-facts, piece-file, no_two_pieces}
+use Rattle.flow_journal.proofs.Pieces.{let_go-swap, piece-file, no_two_pieces}
+use Rattle.flow_journal.proofs.Found.{found_up}
+use Rattle.flow_journal.proofs.Rows.{save-facts}
 
 abbrev any_array : FrameName → Bool
 any_array a = true
@@ -127,7 +129,7 @@ last_out s (Save p w i j z ∷ P) r q v m k g l h =
           rw here (one_out v w k j (outs_of v (standing P)) at index)
       | inr away ↦
           let before : hand r P ≡ Some (Save q v m k g) = rw away at h in
-          let facts = save-facts s p w i j z P (row_of s (Save p w i j z) P (λ d. refl) l) in
+          let facts = (save-facts s p w i j z P (row_of s (Save p w i j z) P (λ d. refl) l)).piece in
           let other : w ≢ v = λ e. true≢false (sym (eq-eqb v w (sym e)) ∙ find-none_is (takes_up r) (is_piece w) (Save q v m k g) (hands P) facts.none before) in
           let off : eqb w v ≡ false = ne_eqb w v other in
           let rest = last_out s P r q v m k g (and_parts _ _ l).0 before in

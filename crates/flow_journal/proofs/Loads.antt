@@ -11,11 +11,13 @@ use Rattle.flow_journal.specs.Hands.{takes_up, let_go, hands, hand, standing, is
 use Rattle.flow_journal.specs.Offered.{loads, offered_frames}
 use Rattle.flow_journal.specs.FirstEntries.{may_load, pool_grants, pool_refuses}
 use Rattle.flow_journal.specs.Histories.{is_legal}
-use Rattle.flow_journal.proofs.Hands.{row_of, may_load-says, find-let_go, find-none_is, hands-Apart, one-loaded, found_up, flat-let_go}
+use Rattle.flow_journal.proofs.Hands.{row_of, find-let_go, find-none_is, hands-Apart, one-loaded, flat-let_go}
 use Rattle.flow_journal.proofs.Counts.{hand-standing, still_held}
 use Rattle.flow_journal.proofs.EntryCounts.{bit, count-let_go}
 use Rattle.flow_journal.proofs.Jobs.{reclaim_hand}
 use Rattle.flow_journal.proofs.Pieces.{let_go-swap}
+use Rattle.flow_journal.proofs.Found.{found_up}
+use Rattle.flow_journal.proofs.Rows.{load-facts}
 
 loads-none : (r : ℕ) (e : Entry) → takes_up r e ≡ true → is_loaded e ≡ false → loads e ≡ []
 loads-none r (Load q k b n f g x) up h = absurd (true≢false h)
@@ -45,11 +47,11 @@ loaded-last s (Load p i c m d e y ∷ P) r q k b n f g x l h =
       | inr away ↦
           let before : hand r P ≡ Some (Load q k b n f g x) = rw away at h in
           let may : may_load s p i P ≡ true = (and_parts (may_load s p i P) (pool_grants s 0 c m d e y P) (row_of s (Load p i c m d e y) P (λ z. refl) l)).0 in
-          absurd (true≢false (find-none_is (takes_up r) is_loaded (Load q k b n f g x) (hands P) (may_load-says s p i P may).unloaded before))
+          absurd (true≢false (find-none_is (takes_up r) is_loaded (Load q k b n f g x) (hands P) (load-facts s p i P may).unloaded before))
     ]
 loaded-last s (LoadRefused p i m z ∷ P) r q k b n f g x l h =
     let may : may_load s p i P ≡ true = (and_parts (may_load s p i P) (pool_refuses s 0 m z P) (row_of s (LoadRefused p i m z) P (λ u. refl) l)).0 in
-    absurd (true≢false (find-none_is (takes_up r) is_loaded (Load q k b n f g x) (hands P) (may_load-says s p i P may).unloaded h))
+    absurd (true≢false (find-none_is (takes_up r) is_loaded (Load q k b n f g x) (hands P) (load-facts s p i P may).unloaded h))
 loaded-last s (Take p w i j ∷ P) r q k b n f g x l h =
     elim (cases_Bool (eqb p r)) [
       | inl here ↦ let never : Some (Take p w i j) ≡ Some (Load q k b n f g x) = rw here at h in cc

@@ -13,7 +13,7 @@ use Rattle.flow_journal.specs.Offered.{loads, offered_frames, next_index}
 use Rattle.flow_journal.specs.FirstEntries.{may_load, pool_grants}
 use Rattle.flow_journal.specs.Following.{owed}
 use Rattle.flow_journal.specs.Histories.{is_legal}
-use Rattle.flow_journal.proofs.Hands.{row_of, may_load-says}
+use Rattle.flow_journal.proofs.Hands.{row_of}
 use Rattle.flow_journal.proofs.EntryCounts.{count, bit, count-cons, count-let_go-le, emits_at, accepts_at, loads_at, owed-answered, answers-by_Accept}
 use Rattle.flow_journal.proofs.Jobs.{puts-taken}
 use Rattle.flow_journal.proofs.Offers.{accepts-emitted}
@@ -22,6 +22,7 @@ use Rattle.flow_journal.proofs.Counts.{times_by}
 use Rattle.flow_journal.proofs.Outs.{of_index}
 use Rattle.flow_journal.specs.Accepted.{accepts, emitted}
 use Rattle.flow_journal.proofs.Emissions.{emits-puts}
+use Rattle.flow_journal.proofs.Rows.{load-facts}
 
 -- THE LEAST MISSING NUMBER
 
@@ -70,7 +71,7 @@ load-once s [] k h = omega arith
 load-once s (Load r i b n f g x ∷ P) k h =
     let before = load-once s P k (and_parts _ _ h).0 in
     let may : may_load s r i P ≡ true = (and_parts (may_load s r i P) (pool_grants s 0 b n f g x P) (row_of s (Load r i b n f g x) P (λ d. refl) h)).0 in
-    let turn : i ≡ next_index P = (may_load-says s r i P may).in_turn in
+    let turn : i ≡ next_index P = (load-facts s r i P may).in_turn in
     let none : count (loads_at i) (standing P) ≡ 0 = not_loaded i (standing P) (subst (λ (j : ℕ). is_among j (offered_frames P) ≡ false) (sym turn) (least_missing-not_among (offered_frames P))) in
     elim (cases_Bool (eqb i k)) [
       | inl same ↦

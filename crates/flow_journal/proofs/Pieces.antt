@@ -1,48 +1,32 @@
 -- What a file node saves: its saves that stand took the front of its puts, in order, and the rest is unsaved.
-use Rattle.std.proofs.Common.{◌≡◌, ◌≢◌, ℕ, ◌≤◌, Bool, true, false, not, cond, ◌&&◌, eqb, List, [], ◌∷◌, ◌++◌, length, refl, sym, ap, ◌∙◌, subst, arith, append_assoc, Some, inl, inr}
-use Rattle.std.specs.List.{list_any, find}
-use Rattle.std.proofs.lemmas.Bool.{and_parts, true≢false, eq-eqb, ne_eqb, eqb-true, eqb-false, cases_Bool, not-true, or_parts}
+use Rattle.std.proofs.Common.{◌≡◌, ◌≢◌, ℕ, ◌≤◌, Bool, true, false, not, cond, eqb, List, [], ◌∷◌, ◌++◌, refl, sym, ap, ◌∙◌, subst, arith, append_assoc, Some, inl, inr}
+use Rattle.std.specs.List.{find}
+use Rattle.std.proofs.lemmas.Bool.{and_parts, true≢false, eq-eqb, ne_eqb, eqb-true, eqb-false, cases_Bool}
 use Rattle.nd_base.specs.declared.frame.FrameName.{FrameName}
 use Rattle.flow_journal.specs.declared.entry.Entry.{Entry}
 use Rattle.flow_journal.specs.declared.entry.Entry.TheVariants.{Load, Issue, Take, TakeBlock, Put, Save, Saved, Reclaim}
-use Rattle.flow_journal.specs.Setting.{Setting, node, is_role}
+use Rattle.flow_journal.specs.Setting.{Setting, node}
 use Rattle.flow_journal.specs.Pasts.{Past, frame, without, minus, comes_at}
-use Rattle.flow_journal.specs.Hands.{takes_up, let_go, hands, hand, standing, is_piece, is_free}
+use Rattle.flow_journal.specs.Hands.{takes_up, let_go, hands, hand, standing, is_piece}
 use Rattle.flow_journal.specs.Puts.{puts}
-use Rattle.flow_journal.specs.Unsaved.{saves, standing_saves, unsaved, is_file, is_due, group_of}
-use Rattle.flow_journal.specs.FirstEntries.{first, may_save, is_next}
+use Rattle.flow_journal.specs.Unsaved.{saves, standing_saves, unsaved, is_file}
+use Rattle.flow_journal.specs.FirstEntries.{first, is_next}
 use Rattle.flow_journal.specs.Histories.{is_legal}
 use Rattle.flow_journal.proofs.Steps.{comes_here, comes_elsewhere, next_is, without-head}
 use Rattle.flow_journal.proofs.Hands.{takes_up-one, row_of, find-let_go, find-none_is, hands-Apart}
 use Rattle.flow_journal.proofs.Counts.{hand-standing, still_held}
 use Rattle.flow_journal.proofs.EntryCounts.{count, bit, count-cons, count-let_go, count-let_go-le}
 use Rattle.flow_journal.proofs.Jobs.{reclaim_hand}
+use Rattle.flow_journal.proofs.Found.{none_counted}
+use Rattle.flow_journal.proofs.Rows.{save-facts, first_of-next}
 
 -- ONE PIECE A NODE
-
-pub none_counted : {X : Type 0} (p : X → Bool) (xs : List X) → list_any p xs ≡ false → count p xs ≡ 0
-none_counted p [] h = refl
-none_counted p (x ∷ xs) h = let q = or_parts (p x) (list_any p xs) h in omega (arith, count-cons p x xs, ap bit q.0, none_counted p xs q.1)
-
--- what the row of a Save says
-pub record SaveFacts (s : Setting) (v : ℕ) (a : FrameName) (P : Past) : Type 0 where
-  pub file : is_file (node s v).work ≡ true
-  pub next : is_next a (unsaved s v P) ≡ true
-  pub none : list_any (is_piece v) (hands P) ≡ false
-
-pub save-facts : (s : Setting) (r v m k g : ℕ) (P : Past) → first s P (Save r v m k g) ≡ true → SaveFacts s v (frame m k) P
-save-facts s r v m k g P h =
-    let may : may_save s v (frame m k) P ≡ true = (and_parts _ _ (and_parts (is_role s r && is_free r P && may_save s v (frame m k) P) (eqb g (group_of (node s v).work (length (standing_saves v P)))) h).0).1 in
-    let p = and_parts (is_file (node s v).work && is_next (frame m k) (unsaved s v P) && is_due (node s v).work v P) (not (list_any (is_piece v) (hands P))) may in
-    let q = and_parts (is_file (node s v).work && is_next (frame m k) (unsaved s v P)) (is_due (node s v).work v P) p.0 in
-    let o = and_parts (is_file (node s v).work) (is_next (frame m k) (unsaved s v P)) q.0 in
-    record { file = o.0; next = o.1; none = not-true _ p.1 }
 
 pub one-piece : (s : Setting) (P : Past) (v : ℕ) → is_legal s P ≡ true → count (is_piece v) (hands P) ≤ 1
 one-piece s [] v h = omega arith
 one-piece s (Save r w m k g ∷ P) v h =
     let before = one-piece s P v (and_parts _ _ h).0 in
-    let facts = save-facts s r w m k g P (row_of s (Save r w m k g) P (λ d. refl) h) in
+    let facts = (save-facts s r w m k g P (row_of s (Save r w m k g) P (λ d. refl) h)).piece in
     let one = count-cons (is_piece v) (Save r w m k g) (hands P) in
     elim (cases_Bool (eqb w v)) [
       | inl here ↦
@@ -73,7 +57,7 @@ is_stray s _ = false
 none_stray : (s : Setting) (P : Past) → is_legal s P ≡ true → count (is_stray s) (hands P) ≡ 0
 none_stray s [] h = refl
 none_stray s (Save r v m k g ∷ P) h =
-    let facts = save-facts s r v m k g P (row_of s (Save r v m k g) P (λ d. refl) h) in
+    let facts = (save-facts s r v m k g P (row_of s (Save r v m k g) P (λ d. refl) h)).piece in
     omega (arith, none_stray s P (and_parts _ _ h).0, count-cons (is_stray s) (Save r v m k g) (hands P), ap (λ (b : Bool). bit (not b)) facts.file)
 none_stray s (Issue r k ∷ P) h = omega (arith, none_stray s P (and_parts _ _ h).0, count-let_go-le (is_stray s) r (hands P))
 none_stray s (Put r v m k f ∷ P) h = omega (arith, none_stray s P (and_parts _ _ h).0, count-let_go-le (is_stray s) r (hands P))
@@ -167,7 +151,7 @@ last_piece s (Save p w i j z ∷ P) r q v m k g l h =
           rw here took
       | inr away ↦
           let before : hand r P ≡ Some (Save q v m k g) = rw away at h in
-          let facts = save-facts s p w i j z P (row_of s (Save p w i j z) P (λ d. refl) l) in
+          let facts = (save-facts s p w i j z P (row_of s (Save p w i j z) P (λ d. refl) l)).piece in
           let other : w ≢ v = λ e. true≢false (sym (eq-eqb v w (sym e)) ∙ find-none_is (takes_up r) (is_piece w) (Save q v m k g) (hands P) facts.none before) in
           let rest = last_piece s P r q v m k g (and_parts _ _ l).0 before in
           rw away (comes_elsewhere v w (frame i j) (saves v (standing P)) other ∙ (rest ∙ ap (λ (xs : List FrameName). xs ++ frame m k ∷ []) (sym (comes_elsewhere v w (frame i j) (saves v (let_go r (standing P))) other))))
@@ -215,8 +199,8 @@ puts-Put v r m k f P h = comes_here v (frame m k) (puts v P) ∙ (ap (λ (xs : L
 -- a save takes the first of the rest
 puts-Save : (s : Setting) (v r m k g : ℕ) (P : Past) → IsFront v P → first s P (Save r v m k g) ≡ true → puts v P ≡ standing_saves v (Save r v m k g ∷ P) ++ without (frame m k) (rest_of v P)
 puts-Save s v r m k g P h row =
-    let facts = save-facts s r v m k g P row in
-    let next : is_next (frame m k) (rest_of v P) ≡ true = subst (λ (xs : List FrameName). is_next (frame m k) xs ≡ true) (unsaved-file s v P facts.file) facts.next in
+    let facts = (save-facts s r v m k g P row).piece in
+    let next : is_next (frame m k) (rest_of v P) ≡ true = subst (λ (xs : List FrameName). is_next (frame m k) xs ≡ true) (unsaved-file s v P facts.file) (first_of-next (frame m k) (unsaved s v P) facts.front) in
     h ∙ (ap (λ (xs : List FrameName). standing_saves v P ++ xs) (next_is (frame m k) (rest_of v P) next)
     ∙ (sym (append_assoc (standing_saves v P) (frame m k ∷ []) (without (frame m k) (rest_of v P)))
     ∙ ap (λ (xs : List FrameName). xs ++ without (frame m k) (rest_of v P)) (sym (comes_here v (frame m k) (standing_saves v P)))))
@@ -280,8 +264,8 @@ unsaved-Put_elsewhere s r v w m k f P ne = ap (λ (xs : List FrameName). cond (i
 
 pub unsaved-Save : (s : Setting) (r v m k g : ℕ) (P : Past) → is_legal s P ≡ true → first s P (Save r v m k g) ≡ true → unsaved s v P ≡ frame m k ∷ unsaved s v (Save r v m k g ∷ P)
 unsaved-Save s r v m k g P h row =
-    let facts = save-facts s r v m k g P row in
-    let next : is_next (frame m k) (rest_of v P) ≡ true = subst (λ (xs : List FrameName). is_next (frame m k) xs ≡ true) (unsaved-file s v P facts.file) facts.next in
+    let facts = (save-facts s r v m k g P row).piece in
+    let next : is_next (frame m k) (rest_of v P) ≡ true = subst (λ (xs : List FrameName). is_next (frame m k) xs ≡ true) (unsaved-file s v P facts.file) (first_of-next (frame m k) (unsaved s v P) facts.front) in
     unsaved-file s v P facts.file
     ∙ (next_is (frame m k) (rest_of v P) next
     ∙ ap (λ (xs : List FrameName). frame m k ∷ xs) (sym (unsaved-file s v (Save r v m k g ∷ P) facts.file ∙ minus-rest (puts v P) (standing_saves v (Save r v m k g ∷ P)) (without (frame m k) (rest_of v P)) (puts-Save s v r m k g P (saves-front s P v h) row))))

@@ -7,7 +7,7 @@ use Rattle.nd_base.specs.declared.frame.FrameName.{FrameName}
 use Rattle.pool_ledger.specs.Grants.{has_number, known_after, Granted}
 use Rattle.flow_journal.specs.declared.entry.Entry.{Entry}
 use Rattle.flow_journal.specs.declared.entry.Entry.TheVariants.{Load, Take, TakeBlock, Save, Reclaim}
-use Rattle.flow_journal.specs.Setting.{Setting, Node, Work, Makes, Passes, Watches, Saves, no_node, node, is_maker, may_sort, numbers_from, node_numbers}
+use Rattle.flow_journal.specs.Setting.{Setting, Node, no_node, node, is_maker, may_sort, numbers_from, node_numbers}
 use Rattle.flow_journal.specs.Pasts.{Past, frame, same, minus}
 use Rattle.flow_journal.specs.Hands.{takes_up, let_go, hands, standing}
 use Rattle.flow_journal.specs.Queued.{queued}
@@ -21,7 +21,9 @@ use Rattle.flow_journal.specs.Accounts.{granted_for, first_of, block_of, blocks_
 use Rattle.flow_journal.specs.FirstEntries.{first, may_load, may_take, pool_grants}
 use Rattle.flow_journal.specs.Following.{owed}
 use Rattle.flow_journal.specs.Histories.{is_legal}
-use Rattle.flow_journal.specs.HistoryLaws.{ArePlacesKnown}
+use Rattle.flow_journal.specs.HistoryLaws.{ArePlacesKnown, RunsLoadUnplaced, RunsTakeUnplaced}
+use Rattle.flow_journal.specs.RunSetting.{setting_of}
+use Rattle.flow_journal.proofs.Histories.{legal-front}
 use Rattle.flow_journal.proofs.Steps.{same_refl}
 use Rattle.flow_journal.proofs.Hands.{row_of}
 use Rattle.flow_journal.proofs.Counts.{queued-by}
@@ -29,12 +31,11 @@ use Rattle.flow_journal.proofs.EntryCounts.{count, bit, count-cons, count-append
 use Rattle.flow_journal.proofs.Offers.{is_number, none_at}
 use Rattle.flow_journal.proofs.Issues.{accepts-count}
 use Rattle.flow_journal.proofs.Outs.{of_index, waits}
-use Rattle.flow_journal.proofs.Pieces.{none_counted}
-use Rattle.flow_journal.proofs.RingCounts.{kept-nothing}
 use Rattle.flow_journal.proofs.Emissions.{waiting-unsorted}
-use Rattle.flow_journal.proofs.Travels.{bit-none, holds, carries, Clear, clear-more}
+use Rattle.flow_journal.proofs.Travels.{bit-none, holds, carries, Clear, clear-start, clear-more}
 use Rattle.flow_journal.proofs.FrameBlocks.{grants_of, grant-once, first_of-few, has, any-append, any-flat, hands-blocks}
 use Rattle.flow_journal.proofs.Grants.{grants-unplaced, granted-is, granted-known, stays-known}
+use Rattle.flow_journal.proofs.Found.{none_counted, none_any}
 
 -- ONE TEST FOR ANOTHER
 
@@ -45,14 +46,6 @@ no_third p q r only (x ∷ xs) h g =
     let np = bit-none (p x) (omega (arith, count-cons p x xs, h)) in
     let nq = bit-none (q x) (omega (arith, count-cons q x xs, g)) in
     omega (arith, count-cons r x xs, ap bit (only x np nq), no_third p q r only xs (omega (arith, count-cons p x xs, h)) (omega (arith, count-cons q x xs, g)))
-
-none_any : {X : Type 0} (p : X → Bool) (xs : List X) → count p xs ≡ 0 → list_any p xs ≡ false
-none_any p [] h = refl
-none_any p (x ∷ xs) h =
-    elim (cases_Bool (p x)) [
-      | inl here ↦ absurd (omega (arith, count-cons p x xs, ap bit here, h))
-      | inr away ↦ or_from (p x) (list_any p xs) away (none_any p xs (omega (arith, count-cons p x xs, h)))
-    ]
 
 holds-third : (t u w : FrameName → Bool) → ((a : FrameName) → t a ≡ false → u a ≡ false → w a ≡ false) → (e : Entry) → holds t e ≡ false → holds u e ≡ false → holds w e ≡ false
 holds-third t u w only (Load r k b n f g x) h i = only (frame 0 k) h i
@@ -85,7 +78,7 @@ clear-third t u w s P only c n calls = record {
 -- NODES
 
 -- the graph has the node
-abbrev is_numbered : Setting → ℕ → Bool
+abbrev pub is_numbered : Setting → ℕ → Bool
 is_numbered s v = list_any (is_number v) (node_numbers s)
 
 beyond : (k i : ℕ) (ns : List Node) → list_any (is_number (i + k)) (numbers_from k ns) ≡ false → slice_index_or ns i no_node ≡ no_node
@@ -117,13 +110,13 @@ no_queue s P v t h none =
     omega (arith, queued-by s P v t h, ap (count t) nothing_accepted)
 
 -- the places at one node
-record AtNode (t : FrameName → Bool) (s : Setting) (P : Past) (v : ℕ) : Type 0 where
-  queue : count t (queued v P) ≡ 0
-  list : count (waits t) (waiting s v P) ≡ 0
-  kept : count t (ring s v P) ≡ 0
-  file : count t (unsaved s v P) ≡ 0
+pub record AtNode (t : FrameName → Bool) (s : Setting) (P : Past) (v : ℕ) : Type 0 where
+  pub queue : count t (queued v P) ≡ 0
+  pub list : count (waits t) (waiting s v P) ≡ 0
+  pub kept : count t (ring s v P) ≡ 0
+  pub file : count t (unsaved s v P) ≡ 0
 
-at_none : (t : FrameName → Bool) (s : Setting) (P : Past) (v : ℕ) → is_legal s P ≡ true → is_numbered s v ≡ false → AtNode t s P v
+pub at_none : (t : FrameName → Bool) (s : Setting) (P : Past) (v : ℕ) → is_legal s P ≡ true → is_numbered s v ≡ false → AtNode t s P v
 at_none t s P v h none =
     let rule : node s v ≡ no_node = no_rule s v none in
     record {
@@ -133,11 +126,11 @@ at_none t s P v h none =
       file = subst (λ (n : Node). count t (cond (is_file n.work) (minus (puts v P) (standing_saves v P)) []) ≡ 0) (sym rule) refl;
     }
 
-map-count : (t : FrameName → Bool) (ws : List Waiting) → count t (map (λ w. w.array) ws) ≡ count (waits t) ws
+pub map-count : (t : FrameName → Bool) (ws : List Waiting) → count t (map (λ w. w.array) ws) ≡ count (waits t) ws
 map-count t [] = refl
 map-count t (w ∷ ws) = omega (arith, map-count t ws, count-cons t w.array (map (λ x. x.array) ws), count-cons (waits t) w ws)
 
-arrays-count : (t : FrameName → Bool) (s : Setting) (P : Past) (v : ℕ) → count t (arrays_at s P v) ≡ count t (queued v P) + count (waits t) (waiting s v P) + count t (ring s v P) + count t (unsaved s v P)
+pub arrays-count : (t : FrameName → Bool) (s : Setting) (P : Past) (v : ℕ) → count t (arrays_at s P v) ≡ count t (queued v P) + count (waits t) (waiting s v P) + count t (ring s v P) + count t (unsaved s v P)
 arrays-count t s P v =
     let ws : List FrameName = map (λ w. w.array) (waiting s v P) in
     omega (arith, count-append t (queued v P ++ ws ++ ring s v P) (unsaved s v P), count-append t (queued v P ++ ws) (ring s v P), count-append t (queued v P) ws, map-count t (waiting s v P))
@@ -267,25 +260,9 @@ reclaimed-third s r P a h lost =
     let whole : list_any (is_unknown s P) (grants_of a (standing P)) ≡ false = ap (list_any (is_unknown s P)) (sym (first_of-few (grants_of a (standing P)) (grant-once s P a h))) ∙ lost in
     any-first (is_unknown s P) (grants_of a (let_go r (standing P))) (any-let_go (is_unknown s P) a r (standing P) whole)
 
-clear-start : (t : FrameName → Bool) (s : Setting) → Clear t s []
-clear-start t s = record {
-  queues = λ v. refl;
-  lists = λ v. refl;
-  rings = λ v. no_ring t (node s v).work;
-  files = λ v. elim (is_file (node s v).work) as (λ b. count t (cond {A = List FrameName} b [] []) ≡ 0) [ true ↦ refl | false ↦ refl ];
-  roles = refl;
-  calls = refl;
-}
-  where
-    no_ring : (t : FrameName → Bool) (w : Work) → count t (ring_of w [] []) ≡ 0
-    no_ring t Makes = refl
-    no_ring t Passes = refl
-    no_ring t (Saves whole n) = refl
-    no_ring t (Watches pre post preset) = ap (count t) (kept-nothing pre post preset)
-
 -- no array at a place has a block that isn't known, nor has one that is owed
 pub none_lost : (s : Setting) (P : Past) → s.pooled ≡ true → is_legal s P ≡ true → Clear (is_lost s P) s P
-none_lost s [] pooled h = clear-start (is_lost s []) s
+none_lost s [] pooled h = clear-start (is_lost s []) (is_lost s []) s
 none_lost s (Load r k b n f g x ∷ P) pooled h =
     let legal : is_legal s P ≡ true = (and_parts _ _ h).0 in
     let e : Entry = Load r k b n f g x in
@@ -326,3 +303,16 @@ load-unplaced s P r k b n f g x pooled legal h = grants-unplaced s 0 b n f g x P
 
 pub take-unplaced : (s : Setting) (P : Past) (r v m k b n : ℕ) (f : Bool) (g : ℕ) (x : Bool) → s.pooled ≡ true → is_legal s P ≡ true → first s P (TakeBlock r v m k b n f g x) ≡ true → refs s P b ≡ 0
 take-unplaced s P r v m k b n f g x pooled legal h = grants-unplaced s v b n f g x P pooled (places-known s P pooled legal) (and_parts (may_take s r v (frame m k) P && is_maker s v) (pool_grants s v b n f g x P) h).1
+
+-- in a run blocks are accounted
+pub runs-load : RunsLoadUnplaced
+runs-load graph makers arrays newer P r k b n f g x h =
+    let s : Setting = setting_of graph makers arrays in
+    let legal : is_legal s (Load r k b n f g x ∷ P) ≡ true = legal-front s newer (Load r k b n f g x ∷ P) h in
+    load-unplaced s P r k b n f g x refl (and_parts _ _ legal).0 (row_of s (Load r k b n f g x) P (λ d. refl) legal)
+
+pub runs-take : RunsTakeUnplaced
+runs-take graph makers arrays newer P r v m k b n f g x h =
+    let s : Setting = setting_of graph makers arrays in
+    let legal : is_legal s (TakeBlock r v m k b n f g x ∷ P) ≡ true = legal-front s newer (TakeBlock r v m k b n f g x ∷ P) h in
+    take-unplaced s P r v m k b n f g x refl (and_parts _ _ legal).0 (row_of s (TakeBlock r v m k b n f g x) P (λ d. refl) legal)

@@ -128,10 +128,10 @@ ring-push pre post preset flags true q xs a long =
     ]
 
 -- of nothing nothing is kept
-pub kept-nothing : (pre post preset : ℕ) → kept {X = FrameName} pre post preset [] [] ≡ []
-kept-nothing pre post preset =
+pub kept-nothing : {X : Type 0} (pre post preset : ℕ) → kept {X = X} pre post preset [] [] ≡ []
+kept-nothing {X} pre post preset =
     let end : ℕ = end_of_last post (triggers post preset []) in
-    elim (ltb 0 end || is_complete post preset []) as (λ b. cond {A = List FrameName} b [] (drop (max end (0 - pre)) []) ≡ []) [
+    elim (ltb 0 end || is_complete post preset []) as (λ b. cond {A = List X} b [] (drop (max end (0 - pre)) []) ≡ []) [
       | true ↦ refl
       | false ↦ drop_all (max end (0 - pre)) [] (omega arith)
     ]

@@ -1,32 +1,30 @@
 -- A settled node has no job in a hand, and so nothing is put there.
-use Rattle.std.proofs.Common.{◌≡◌, ℕ, Bool, true, false, not, ◌&&◌, eqb, [], ◌∷◌, length, refl, sym, ap, ◌∙◌, subst, arith, Option, Some, None, inl, inr}
+use Rattle.std.proofs.Common.{◌≡◌, ℕ, Bool, true, false, eqb, [], ◌∷◌, refl, sym, ap, ◌∙◌, subst, arith, Option, Some, None, inl, inr}
 use Rattle.std.proofs.lemmas.Bool.{and_parts, false≢true, true≢false, eqb-true, cases_Bool}
 use Rattle.nd_base.specs.declared.frame.FrameName.{FrameName}
 use Rattle.flow_journal.specs.declared.entry.Entry.{Entry}
 use Rattle.flow_journal.specs.declared.entry.Entry.TheVariants.{Issue, Take, TakeBlock, Put, Settle, Saved, Reclaim}
-use Rattle.flow_journal.specs.Setting.{Setting, node, is_node, is_role}
+use Rattle.flow_journal.specs.Setting.{Setting, node, is_role}
 use Rattle.flow_journal.specs.Pasts.{Past, frame, same}
 use Rattle.flow_journal.specs.Hands.{hands, hand, is_job, jobs}
-use Rattle.flow_journal.specs.Ended.{is_settled, has_ended}
-use Rattle.flow_journal.specs.Queued.{queued}
+use Rattle.flow_journal.specs.Ended.{is_settled}
 use Rattle.flow_journal.specs.FirstEntries.{first, may_take, may_settle, is_result_of, fires_at, both}
 use Rattle.flow_journal.specs.Histories.{is_legal}
-use Rattle.flow_journal.proofs.Steps.{may_take-facts}
 use Rattle.flow_journal.proofs.Hands.{row_of}
 use Rattle.flow_journal.proofs.EntryCounts.{bit, count-cons, count-let_go, count-let_go-le}
 use Rattle.flow_journal.proofs.Travels.{may-Take, may-TakeBlock}
+use Rattle.flow_journal.proofs.Rows.{take-facts, settle-facts}
 
 -- what a Settle's row says of jobs
 settles-idle : (s : Setting) (r v : ℕ) (P : Past) → is_legal s (Settle r v ∷ P) ≡ true → jobs v P ≡ 0
 settles-idle s r v P h =
-    let may : may_settle s v P ≡ true = (and_parts (is_role s r) (may_settle s v P) (row_of s (Settle r v) P (λ d. refl) h)).1 in
-    eqb-true (jobs v P) 0 (and_parts (is_node s v && not (is_settled v P) && has_ended (node s v).input P && eqb (length (queued v P)) 0) (eqb (jobs v P) 0) may).1
+    (settle-facts s v P (and_parts (is_role s r) (may_settle s v P) (row_of s (Settle r v) P (λ d. refl) h)).1).idle
 
 -- a take isn't at a settled node
 taken-elsewhere : (s : Setting) (r v w : ℕ) (a : FrameName) (P : Past) → may_take s r w a P ≡ true → is_settled v P ≡ true → eqb w v ≡ false
 taken-elsewhere s r v w a P may settled =
     elim (cases_Bool (eqb w v)) [
-      | inl here ↦ absurd (true≢false (sym settled ∙ (ap (λ (u : ℕ). is_settled u P) (sym (eqb-true w v here)) ∙ (may_take-facts s r w a P may).unsettled)))
+      | inl here ↦ absurd (true≢false (sym settled ∙ (ap (λ (u : ℕ). is_settled u P) (sym (eqb-true w v here)) ∙ (take-facts s r w a P may).unsettled)))
       | inr away ↦ away
     ]
 

@@ -1,14 +1,12 @@
 -- What one more entry changes.
-use Rattle.std.proofs.Common.{◌≡◌, ◌≢◌, ℕ, ◌<◌, Some, true, false, eqb, List, [], ◌∷◌, ◌++◌, refl, ap, ◌∙◌}
-use Rattle.std.proofs.lemmas.Bool.{eq-eqb, ne_eqb, and_parts, and_from, eqb-true, false≢true, not-true, ltb-true, lt-ltb}
+use Rattle.std.proofs.Common.{◌≡◌, ◌≢◌, ℕ, Some, true, eqb, List, [], ◌∷◌, ◌++◌, refl, ap, ◌∙◌}
+use Rattle.std.proofs.lemmas.Bool.{eq-eqb, ne_eqb, and_parts, and_from, eqb-true, false≢true}
 use Rattle.nd_base.specs.declared.frame.FrameName.{FrameName}
 use Rattle.flow_journal.specs.declared.entry.Entry.TheVariants.{Accept, Full, Take, Reclaim}
-use Rattle.flow_journal.specs.Ended.{is_settled}
-use Rattle.flow_journal.specs.FirstEntries.{first, is_next, acts, may_take}
-use Rattle.flow_journal.specs.Hands.{hand, jobs}
+use Rattle.flow_journal.specs.FirstEntries.{is_next}
+use Rattle.flow_journal.specs.Hands.{hand}
 use Rattle.flow_journal.specs.Pasts.{Past, frame, same, without, comes_at}
 use Rattle.flow_journal.specs.Queued.{queued}
-use Rattle.flow_journal.specs.Setting.{Setting, node}
 
 pub comes_here : {X : Type 0} (v : ℕ) (x : X) (xs : List X) → comes_at v v x xs ≡ xs ++ x ∷ []
 comes_here v x xs = rw (eq-eqb v v refl) refl
@@ -36,30 +34,6 @@ without-head a xs = rw (same_refl a) refl
 pub next_is : (a : FrameName) (xs : List FrameName) → is_next a xs ≡ true → xs ≡ a ∷ without a xs
 next_is a [] h = absurd (false≢true h)
 next_is a (x ∷ xs) h = rw (same-true x a h, without-head a xs) refl
-
--- what the row of a Take says
-pub record TakeFacts (s : Setting) (r v : ℕ) (a : FrameName) (P : Past) : Type 0 where
-  pub acts : acts s r P ≡ true
-  pub unsettled : is_settled v P ≡ false
-  pub next : queued v P ≡ a ∷ without a (queued v P)
-  pub room : jobs v P < (node s v).threads
-
-pub may_take-facts : (s : Setting) (r v : ℕ) (a : FrameName) (P : Past) → may_take s r v a P ≡ true → TakeFacts s r v a P
-may_take-facts s r v a P h =
-    let p = and_parts _ _ h in
-    let q = and_parts _ _ p.0 in
-    let o = and_parts _ _ q.0 in
-    record { acts = o.0; unsettled = not-true _ o.1; next = next_is a _ q.1; room = ltb-true _ _ p.1 }
-
-pub may_take-from : (s : Setting) (r v : ℕ) (a : FrameName) (rest : List FrameName) (P : Past) → acts s r P ≡ true → is_settled v P ≡ false → queued v P ≡ a ∷ rest → jobs v P < (node s v).threads → may_take s r v a P ≡ true
-may_take-from s r v a rest P acts unsettled next room =
-    and_from _ _ (and_from _ _ (and_from _ _ acts (rw unsettled refl)) (rw next (same_refl a))) (lt-ltb _ _ room)
-
--- a Take takes the front away
-pub queued-Take : (s : Setting) (r v m k : ℕ) (P : Past) → first s P (Take r v m k) ≡ true → queued v P ≡ frame m k ∷ queued v (Take r v m k ∷ P)
-queued-Take s r v m k P h =
-    let f = may_take-facts s r v (frame m k) P (and_parts _ _ h).0 in
-    rw (eq-eqb v v refl) f.next
 
 -- a job that is reclaimed makes its array the next one
 pub queued-Reclaim : (v r q m k : ℕ) (P : Past) → hand r P ≡ Some (Take q v m k) → queued v (Reclaim r ∷ P) ≡ frame m k ∷ queued v P

@@ -20,23 +20,27 @@ use Rattle.flow_journal.specs.Unsaved.{unsaved, is_file}
 use Rattle.flow_journal.specs.FirstEntries.{first, may_take, is_next, is_load_of, is_result_of, fires_at, both, pool_grants}
 use Rattle.flow_journal.specs.Following.{offer, emit, look, sorted_result, result, calls_for, owed}
 use Rattle.flow_journal.specs.Histories.{is_legal}
-use Rattle.flow_journal.proofs.Steps.{same-true, next_is, may_take-facts}
+use Rattle.flow_journal.proofs.Steps.{same-true, next_is}
 use Rattle.flow_journal.proofs.Hands.{row_of}
 use Rattle.flow_journal.proofs.EntryCounts.{count, bit, count-cons, count-append, count-drop, count-let_go, count-let_go-le, owed-answered, answers-by_Emit, answers-by_Accept}
 use Rattle.flow_journal.proofs.Jobs.{reclaim_hand}
 use Rattle.flow_journal.proofs.Outs.{AllOutAt, out_of, is_out_at, goes_out-at, flush-at, sorted_result-at, waits, count-look, count-flush, count-least_first, count-sorted_result}
 use Rattle.flow_journal.proofs.Issues.{looks}
-use Rattle.flow_journal.proofs.RingCounts.{ring-push}
+use Rattle.flow_journal.proofs.RingCounts.{ring-push, kept-nothing}
 use Rattle.flow_journal.proofs.Emissions.{removed-le, waiting-put, flags-puts}
-use Rattle.flow_journal.proofs.Pieces.{save-facts, unsaved-Put, unsaved-Put_elsewhere, unsaved-Save, unsaved-Save_elsewhere, unsaved-Reclaim, unsaved-Reclaim_other}
+use Rattle.flow_journal.proofs.Pieces.{unsaved-Put, unsaved-Put_elsewhere, unsaved-Save, unsaved-Save_elsewhere, unsaved-Reclaim, unsaved-Reclaim_other}
+use Rattle.flow_journal.proofs.Rows.{taken_front, save-facts, first_of-next}
 
--- the hand has such an array: that of its job or piece, or the one that its block is for
+-- the hand has such an array: by t that of its job or piece, or by u the one that its block is for
+abbrev pub holds_by : (u t : FrameName → Bool) → Entry → Bool
+holds_by u t (Load r k b n f g x) = u (frame 0 k)
+holds_by u t (Take r v m k) = t (frame m k)
+holds_by u t (TakeBlock r v m k b n f g x) = u (frame v k) || t (frame m k)
+holds_by u t (Save r v m k g) = t (frame m k)
+holds_by u t _ = false
+
 abbrev pub holds : (FrameName → Bool) → Entry → Bool
-holds t (Load r k b n f g x) = t (frame 0 k)
-holds t (Take r v m k) = t (frame m k)
-holds t (TakeBlock r v m k b n f g x) = t (frame v k) || t (frame m k)
-holds t (Save r v m k g) = t (frame m k)
-holds t _ = false
+holds t = holds_by t t
 
 -- what is owed has such an array
 abbrev pub carries : (FrameName → Bool) → Entry → Bool
@@ -51,14 +55,23 @@ made_by (Load r k b n f g x) = frame 0 k ∷ []
 made_by (TakeBlock r v m k b n f g x) = frame v k ∷ []
 made_by _ = []
 
--- no place has an array that passes the test, and nothing that is owed has
-pub record Clear (t : FrameName → Bool) (s : Setting) (P : Past) : Type 0 where
+-- the arrays that the entry lets out of the hand in which they were made or taken
+abbrev pub issued_by : Entry → List FrameName
+issued_by (Issue r k) = frame 0 k ∷ []
+issued_by (Put r v m k f) = frame m k ∷ []
+issued_by _ = []
+
+-- no place has an array that passes t, or u where it is being made, and nothing that is owed has
+pub record ClearBy (u t : FrameName → Bool) (s : Setting) (P : Past) : Type 0 where
   pub queues : (v : ℕ) → count t (queued v P) ≡ 0
   pub lists : (v : ℕ) → count (waits t) (waiting s v P) ≡ 0
   pub rings : (v : ℕ) → count t (ring s v P) ≡ 0
   pub files : (v : ℕ) → count t (unsaved s v P) ≡ 0
-  pub roles : count (holds t) (hands P) ≡ 0
+  pub roles : count (holds_by u t) (hands P) ≡ 0
   pub calls : count (carries t) (owed s P) ≡ 0
+
+abbrev pub Clear : (FrameName → Bool) → Setting → Past → Type 0
+Clear t = ClearBy t t
 
 pub bit-none : (b : Bool) → bit b ≡ 0 → b ≡ false
 bit-none true h = absurd (omega (arith, h))
@@ -67,6 +80,9 @@ bit-none false h = refl
 none-bit : (b : Bool) → b ≡ false → bit b ≡ 0
 none-bit b h = ap bit h
 
+pub made-clear : (t : FrameName → Bool) (a : FrameName) → count t (a ∷ []) ≡ 0 → t a ≡ false
+made-clear t a h = bit-none (t a) (omega (arith, count-cons t a [], h))
+
 -- ARRAYS THAT ENTRIES NAME
 
 front-clear : (t : FrameName → Bool) (a : FrameName) (xs : List FrameName) → is_next a xs ≡ true → count t xs ≡ 0 → t a ≡ false
@@ -74,7 +90,7 @@ front-clear t a xs h none =
     let split : count t xs ≡ bit (t a) + count t (without a xs) = ap (count t) (next_is a xs h) ∙ count-cons t a (without a xs) in
     bit-none (t a) (omega (arith, split, none))
 
-hand-clear : (p : Entry → Bool) (r : ℕ) (e : Entry) (P : Past) → hand r P ≡ Some e → count p (hands P) ≡ 0 → p e ≡ false
+pub hand-clear : (p : Entry → Bool) (r : ℕ) (e : Entry) (P : Past) → hand r P ≡ Some e → count p (hands P) ≡ 0 → p e ≡ false
 hand-clear p r e P held none = bit-none (p e) (omega (arith, count-let_go p r e (hands P) held, none))
 
 head-clear : (p : Entry → Bool) (d : Entry) (rest ds : List Entry) → ds ≡ d ∷ rest → count p ds ≡ 0 → p d ≡ false
@@ -82,20 +98,20 @@ head-clear p d rest ds is none =
     let split : count p ds ≡ bit (p d) + count p rest = ap (count p) is ∙ count-cons p d rest in
     bit-none (p d) (omega (arith, split, none))
 
-emit-clear : (t : FrameName → Bool) (s : Setting) (v m k : ℕ) (why : Why) (P : Past) → is_legal s (Emit v m k why ∷ P) ≡ true → Clear t s P → t (frame m k) ≡ false
-emit-clear t s v m k why P h c =
+emit-clear : (u t : FrameName → Bool) (s : Setting) (v m k : ℕ) (why : Why) (P : Past) → is_legal s (Emit v m k why ∷ P) ≡ true → ClearBy u t s P → t (frame m k) ≡ false
+emit-clear u t s v m k why P h c =
     let a = owed-answered s (Emit v m k why) P refl h in
     let is = answers-by_Emit s P v m k why a.head a.answer in
     sym (ap (carries t) is.1) ∙ head-clear (carries t) a.head a.rest (owed s P) a.is c.calls
 
-accept-clear : (t : FrameName → Bool) (s : Setting) (v m k : ℕ) (P : Past) → is_legal s (Accept v m k ∷ P) ≡ true → Clear t s P → t (frame m k) ≡ false
-accept-clear t s v m k P h c =
+accept-clear : (u t : FrameName → Bool) (s : Setting) (v m k : ℕ) (P : Past) → is_legal s (Accept v m k ∷ P) ≡ true → ClearBy u t s P → t (frame m k) ≡ false
+accept-clear u t s v m k P h c =
     let a = owed-answered s (Accept v m k) P refl h in
     sym (ap (carries t) (answers-by_Accept s P v m k a.head a.answer)) ∙ head-clear (carries t) a.head a.rest (owed s P) a.is c.calls
 
-take-clear : (t : FrameName → Bool) (s : Setting) (r v m k : ℕ) (P : Past) → may_take s r v (frame m k) P ≡ true → Clear t s P → t (frame m k) ≡ false
-take-clear t s r v m k P may c =
-    let split : count t (queued v P) ≡ bit (t (frame m k)) + count t (without (frame m k) (queued v P)) = ap (count t) (may_take-facts s r v (frame m k) P may).next ∙ count-cons t (frame m k) (without (frame m k) (queued v P)) in
+take-clear : (u t : FrameName → Bool) (s : Setting) (r v m k : ℕ) (P : Past) → may_take s r v (frame m k) P ≡ true → ClearBy u t s P → t (frame m k) ≡ false
+take-clear u t s r v m k P may c =
+    let split : count t (queued v P) ≡ bit (t (frame m k)) + count t (without (frame m k) (queued v P)) = ap (count t) (taken_front s r v (frame m k) P may) ∙ count-cons t (frame m k) (without (frame m k) (queued v P)) in
     bit-none (t (frame m k)) (omega (arith, split, c.queues v))
 
 pub may-Take : (s : Setting) (r v m k : ℕ) (P : Past) → is_legal s (Take r v m k ∷ P) ≡ true → may_take s r v (frame m k) P ≡ true
@@ -149,22 +165,22 @@ goes-le : (t : FrameName → Bool) (v w : ℕ) (a : FrameName) (xs : List FrameN
 goes-le t v w a xs =
     elim (eqb w v) as (λ b. count t (cond b (without a xs) xs) ≤ count t xs) [ true ↦ without-le t a xs | false ↦ omega arith ]
 
-job-clear : (t : FrameName → Bool) (v : ℕ) (o : Option Entry) → ((e : Entry) → o ≡ Some e → holds t e ≡ false) → count t (job_array v o) ≡ 0
-job-clear t v None clear = refl
-job-clear t v (Some (Take r w m k)) clear = omega (arith, comes-le t v w (frame m k) [], none-bit (t (frame m k)) (clear (Take r w m k) refl))
-job-clear t v (Some (TakeBlock r w m k b n f g x)) clear =
-    let q = or_parts (t (frame w k)) (t (frame m k)) (clear (TakeBlock r w m k b n f g x) refl) in
+job-clear : (u t : FrameName → Bool) (v : ℕ) (o : Option Entry) → ((e : Entry) → o ≡ Some e → holds_by u t e ≡ false) → count t (job_array v o) ≡ 0
+job-clear u t v None clear = refl
+job-clear u t v (Some (Take r w m k)) clear = omega (arith, comes-le t v w (frame m k) [], none-bit (t (frame m k)) (clear (Take r w m k) refl))
+job-clear u t v (Some (TakeBlock r w m k b n f g x)) clear =
+    let q = or_parts (u (frame w k)) (t (frame m k)) (clear (TakeBlock r w m k b n f g x) refl) in
     omega (arith, comes-le t v w (frame m k) [], none-bit (t (frame m k)) q.1)
-job-clear t v (Some _) clear = refl
+job-clear u t v (Some _) clear = refl
 
-queues-more : (t : FrameName → Bool) (s : Setting) (v : ℕ) (e : Entry) (P : Past) → is_legal s (e ∷ P) ≡ true → Clear t s P → count t (queued v (e ∷ P)) ≡ 0
-queues-more t s v (Accept w m k) P h c = omega (arith, comes-le t v w (frame m k) (queued v P), c.queues v, none-bit (t (frame m k)) (accept-clear t s w m k P h c))
-queues-more t s v (Take r w m k) P h c = omega (arith, goes-le t v w (frame m k) (queued v P), c.queues v)
-queues-more t s v (TakeBlock r w m k b n f g x) P h c = omega (arith, goes-le t v w (frame m k) (queued v P), c.queues v)
-queues-more t s v (PoolDrop r w m k n z) P h c = omega (arith, goes-le t v w (frame m k) (queued v P), c.queues v)
-queues-more t s v (Reclaim r) P h c =
-    omega (arith, count-append t (job_array v (hand r P)) (queued v P), job-clear t v (hand r P) (λ e held. hand-clear (holds t) r e P held c.roles), c.queues v)
-queues-more t s v _ P h c = c.queues v
+queues-more : (u t : FrameName → Bool) (s : Setting) (v : ℕ) (e : Entry) (P : Past) → is_legal s (e ∷ P) ≡ true → ClearBy u t s P → count t (queued v (e ∷ P)) ≡ 0
+queues-more u t s v (Accept w m k) P h c = omega (arith, comes-le t v w (frame m k) (queued v P), c.queues v, none-bit (t (frame m k)) (accept-clear u t s w m k P h c))
+queues-more u t s v (Take r w m k) P h c = omega (arith, goes-le t v w (frame m k) (queued v P), c.queues v)
+queues-more u t s v (TakeBlock r w m k b n f g x) P h c = omega (arith, goes-le t v w (frame m k) (queued v P), c.queues v)
+queues-more u t s v (PoolDrop r w m k n z) P h c = omega (arith, goes-le t v w (frame m k) (queued v P), c.queues v)
+queues-more u t s v (Reclaim r) P h c =
+    omega (arith, count-append t (job_array v (hand r P)) (queued v P), job-clear u t v (hand r P) (λ e held. hand-clear (holds_by u t) r e P held c.roles), c.queues v)
+queues-more u t s v _ P h c = c.queues v
 
 -- SORT LISTS
 
@@ -180,11 +196,11 @@ lists-out : (t : FrameName → Bool) (b : Bool) (a : FrameName) (ws : List Waiti
 lists-out t true a ws h = omega (arith, removed-le a t ws, h)
 lists-out t false a ws h = h
 
-lists-more : (t : FrameName → Bool) (s : Setting) (v : ℕ) (e : Entry) (P : Past) → is_legal s (e ∷ P) ≡ true → Clear t s P → count (waits t) (waiting s v (e ∷ P)) ≡ 0
-lists-more t s v (Put r w m k f) P h c = lists-put t v w (is_sorted s v) (record { array = frame m k; tick = now P }) (waiting s v P) (put-clear t s r w m k f P h c) (c.lists v)
-lists-more t s v (Emit w m k why) P h c = lists-out t (eqb w v) (frame m k) (waiting s v P) (c.lists v)
-lists-more t s v (SortDrop w m k) P h c = lists-out t (eqb w v) (frame m k) (waiting s v P) (c.lists v)
-lists-more t s v _ P h c = c.lists v
+lists-more : (u t : FrameName → Bool) (s : Setting) (v : ℕ) (e : Entry) (P : Past) → is_legal s (e ∷ P) ≡ true → count t (issued_by e) ≡ 0 → ClearBy u t s P → count (waits t) (waiting s v (e ∷ P)) ≡ 0
+lists-more u t s v (Put r w m k f) P h i c = lists-put t v w (is_sorted s v) (record { array = frame m k; tick = now P }) (waiting s v P) (made-clear t (frame m k) i) (c.lists v)
+lists-more u t s v (Emit w m k why) P h i c = lists-out t (eqb w v) (frame m k) (waiting s v P) (c.lists v)
+lists-more u t s v (SortDrop w m k) P h i c = lists-out t (eqb w v) (frame m k) (waiting s v P) (c.lists v)
+lists-more u t s v _ P h i c = c.lists v
 
 -- RINGS
 
@@ -206,38 +222,38 @@ rings-settle : (t : FrameName → Bool) (b c : Bool) (xs : List FrameName) → c
 rings-settle t true c xs h = refl
 rings-settle t false c xs h = h
 
-rings-more : (t : FrameName → Bool) (s : Setting) (v : ℕ) (e : Entry) (P : Past) → is_legal s (e ∷ P) ≡ true → Clear t s P → count t (ring s v (e ∷ P)) ≡ 0
-rings-more t s v (Put r w m k f) P h c = rings-put t s v w f (frame m k) P (is_settled v P) (put-clear t s r w m k f P h c) (c.rings v)
-rings-more t s v (Settle r w) P h c = rings-settle t (eqb w v) (is_settled v P) (ring_of (node s v).work (firings v P) (puts v P)) (c.rings v)
-rings-more t s v _ P h c = c.rings v
+rings-more : (u t : FrameName → Bool) (s : Setting) (v : ℕ) (e : Entry) (P : Past) → is_legal s (e ∷ P) ≡ true → count t (issued_by e) ≡ 0 → ClearBy u t s P → count t (ring s v (e ∷ P)) ≡ 0
+rings-more u t s v (Put r w m k f) P h i c = rings-put t s v w f (frame m k) P (is_settled v P) (made-clear t (frame m k) i) (c.rings v)
+rings-more u t s v (Settle r w) P h i c = rings-settle t (eqb w v) (is_settled v P) (ring_of (node s v).work (firings v P) (puts v P)) (c.rings v)
+rings-more u t s v _ P h i c = c.rings v
 
 -- FILES
 
 no_file : (t : FrameName → Bool) (s : Setting) (v : ℕ) (P : Past) → is_file (node s v).work ≡ false → count t (unsaved s v P) ≡ 0
 no_file t s v P h = rw h refl
 
-files-reclaim : (t : FrameName → Bool) (s : Setting) (r v : ℕ) (e : Entry) (P : Past) → is_legal s P ≡ true → hand r P ≡ Some e → is_piece v e ≡ true → is_file (node s v).work ≡ true → Clear t s P → count t (unsaved s v (Reclaim r ∷ P)) ≡ 0
-files-reclaim t s r v (Save q w m k g) P h held piece file c =
+files-reclaim : (u t : FrameName → Bool) (s : Setting) (r v : ℕ) (e : Entry) (P : Past) → is_legal s P ≡ true → hand r P ≡ Some e → is_piece v e ≡ true → is_file (node s v).work ≡ true → ClearBy u t s P → count t (unsaved s v (Reclaim r ∷ P)) ≡ 0
+files-reclaim u t s r v (Save q w m k g) P h held piece file c =
     let at_v : hand r P ≡ Some (Save q v m k g) = subst (λ (u : ℕ). hand r P ≡ Some (Save q u m k g)) (eqb-true w v piece) held in
-    let none : t (frame m k) ≡ false = hand-clear (holds t) r (Save q w m k g) P held c.roles in
+    let none : t (frame m k) ≡ false = hand-clear (holds_by u t) r (Save q w m k g) P held c.roles in
     let back : count t (unsaved s v (Reclaim r ∷ P)) ≡ bit (t (frame m k)) + count t (unsaved s v P) = ap (count t) (unsaved-Reclaim s r v q m k g P h file at_v) ∙ count-cons t (frame m k) (unsaved s v P) in
     omega (arith, back, none-bit (t (frame m k)) none, c.files v)
-files-reclaim t s r v _ P h held piece file c = absurd (false≢true piece)
+files-reclaim u t s r v _ P h held piece file c = absurd (false≢true piece)
 
-files-more : (t : FrameName → Bool) (s : Setting) (v : ℕ) (e : Entry) (P : Past) → is_legal s (e ∷ P) ≡ true → Clear t s P → count t (unsaved s v (e ∷ P)) ≡ 0
-files-more t s v (Put r w m k f) P h c =
+files-more : (u t : FrameName → Bool) (s : Setting) (v : ℕ) (e : Entry) (P : Past) → is_legal s (e ∷ P) ≡ true → count t (issued_by e) ≡ 0 → ClearBy u t s P → count t (unsaved s v (e ∷ P)) ≡ 0
+files-more u t s v (Put r w m k f) P h i c =
     let legal : is_legal s P ≡ true = (and_parts _ _ h).0 in
     elim (cases_Bool (is_file (node s v).work)) [
       | inr none ↦ no_file t s v (Put r w m k f ∷ P) none
       | inl file ↦ elim (cases_Bool (eqb w v)) [
         | inl here ↦
-            let clear : t (frame m k) ≡ false = put-clear t s r w m k f P h c in
+            let clear : t (frame m k) ≡ false = made-clear t (frame m k) i in
             let more : count t (unsaved s v (Put r v m k f ∷ P)) ≡ count t (unsaved s v P) + count t (frame m k ∷ []) = ap (count t) (unsaved-Put s r v m k f P legal file) ∙ count-append t (unsaved s v P) (frame m k ∷ []) in
             subst (λ (u : ℕ). count t (unsaved s v (Put r u m k f ∷ P)) ≡ 0) (sym (eqb-true w v here)) (omega (arith, more, count-cons t (frame m k) [], none-bit (t (frame m k)) clear, c.files v))
         | inr away ↦ ap (count t) (unsaved-Put_elsewhere s r v w m k f P (eqb-false w v away)) ∙ c.files v
       ]
     ]
-files-more t s v (Save r w m k g) P h c =
+files-more u t s v (Save r w m k g) P h i c =
     let legal : is_legal s P ≡ true = (and_parts _ _ h).0 in
     elim (cases_Bool (eqb w v)) [
       | inl here ↦
@@ -247,17 +263,17 @@ files-more t s v (Save r w m k g) P h c =
           subst (λ (u : ℕ). count t (unsaved s v (Save r u m k g ∷ P)) ≡ 0) (sym is) (omega (arith, less, c.files v))
       | inr away ↦ ap (count t) (unsaved-Save_elsewhere s r v w m k g P (eqb-false w v away)) ∙ c.files v
     ]
-files-more t s v (Reclaim r) P h c =
+files-more u t s v (Reclaim r) P h i c =
     let legal : is_legal s P ≡ true = (and_parts _ _ h).0 in
     let e = reclaim_hand s r P h in
     elim (cases_Bool (is_file (node s v).work)) [
       | inr none ↦ no_file t s v (Reclaim r ∷ P) none
       | inl file ↦ elim (cases_Bool (is_piece v e.0)) [
-        | inl piece ↦ files-reclaim t s r v e.0 P legal e.1 piece file c
+        | inl piece ↦ files-reclaim u t s r v e.0 P legal e.1 piece file c
         | inr other ↦ ap (count t) (unsaved-Reclaim_other s r v e.0 P legal e.1 other) ∙ c.files v
       ]
     ]
-files-more t s v _ P h c = c.files v
+files-more u t s v _ P h i c = c.files v
 
 -- HANDS
 
@@ -267,24 +283,21 @@ one_more_hand p e hs none h = omega (arith, count-cons p e hs, none-bit (p e) no
 fewer_hands : (p : Entry → Bool) (r : ℕ) (hs : List Entry) → count p hs ≡ 0 → count p (let_go r hs) ≡ 0
 fewer_hands p r hs h = omega (arith, count-let_go-le p r hs, h)
 
-made-clear : (t : FrameName → Bool) (a : FrameName) → count t (a ∷ []) ≡ 0 → t a ≡ false
-made-clear t a h = bit-none (t a) (omega (arith, count-cons t a [], h))
-
 or-none : (a b : Bool) → a ≡ false → b ≡ false → (a || b) ≡ false
 or-none a b h g = rw h g
 
-roles-more : (t : FrameName → Bool) (s : Setting) (e : Entry) (P : Past) → is_legal s (e ∷ P) ≡ true → Clear t s P → count t (made_by e) ≡ 0 → count (holds t) (hands (e ∷ P)) ≡ 0
-roles-more t s (Load r k b n f g x) P h c made = one_more_hand (holds t) (Load r k b n f g x) (hands P) (made-clear t (frame 0 k) made) c.roles
-roles-more t s (Take r v m k) P h c made = one_more_hand (holds t) (Take r v m k) (hands P) (take-clear t s r v m k P (may-Take s r v m k P h) c) c.roles
-roles-more t s (TakeBlock r v m k b n f g x) P h c made =
-    one_more_hand (holds t) (TakeBlock r v m k b n f g x) (hands P) (or-none (t (frame v k)) (t (frame m k)) (made-clear t (frame v k) made) (take-clear t s r v m k P (may-TakeBlock s r v m k b n f g x P h) c)) c.roles
-roles-more t s (Save r v m k g) P h c made =
-    one_more_hand (holds t) (Save r v m k g) (hands P) (front-clear t (frame m k) (unsaved s v P) (save-facts s r v m k g P (row_of s (Save r v m k g) P (λ d. refl) h)).next (c.files v)) c.roles
-roles-more t s (Issue r k) P h c made = fewer_hands (holds t) r (hands P) c.roles
-roles-more t s (Put r v m k f) P h c made = fewer_hands (holds t) r (hands P) c.roles
-roles-more t s (Saved r v m k) P h c made = fewer_hands (holds t) r (hands P) c.roles
-roles-more t s (Reclaim r) P h c made = fewer_hands (holds t) r (hands P) c.roles
-roles-more t s _ P h c made = c.roles
+roles-more : (u t : FrameName → Bool) (s : Setting) (e : Entry) (P : Past) → is_legal s (e ∷ P) ≡ true → ClearBy u t s P → count u (made_by e) ≡ 0 → count (holds_by u t) (hands (e ∷ P)) ≡ 0
+roles-more u t s (Load r k b n f g x) P h c made = one_more_hand (holds_by u t) (Load r k b n f g x) (hands P) (made-clear u (frame 0 k) made) c.roles
+roles-more u t s (Take r v m k) P h c made = one_more_hand (holds_by u t) (Take r v m k) (hands P) (take-clear u t s r v m k P (may-Take s r v m k P h) c) c.roles
+roles-more u t s (TakeBlock r v m k b n f g x) P h c made =
+    one_more_hand (holds_by u t) (TakeBlock r v m k b n f g x) (hands P) (or-none (u (frame v k)) (t (frame m k)) (made-clear u (frame v k) made) (take-clear u t s r v m k P (may-TakeBlock s r v m k b n f g x P h) c)) c.roles
+roles-more u t s (Save r v m k g) P h c made =
+    one_more_hand (holds_by u t) (Save r v m k g) (hands P) (front-clear t (frame m k) (unsaved s v P) (first_of-next (frame m k) (unsaved s v P) (save-facts s r v m k g P (row_of s (Save r v m k g) P (λ d. refl) h)).piece.front) (c.files v)) c.roles
+roles-more u t s (Issue r k) P h c made = fewer_hands (holds_by u t) r (hands P) c.roles
+roles-more u t s (Put r v m k f) P h c made = fewer_hands (holds_by u t) r (hands P) c.roles
+roles-more u t s (Saved r v m k) P h c made = fewer_hands (holds_by u t) r (hands P) c.roles
+roles-more u t s (Reclaim r) P h c made = fewer_hands (holds_by u t) r (hands P) c.roles
+roles-more u t s _ P h c made = c.roles
 
 -- WHAT IS CALLED FOR
 
@@ -325,8 +338,8 @@ only_if : (p : Entry → Bool) (b : Bool) (ds : List Entry) → count p ds ≡ 0
 only_if p true ds h = h
 only_if p false ds h = refl
 
-sorted-clear : (t : FrameName → Bool) (s : Setting) (v m k : ℕ) (f : Bool) (P : Past) → is_sorted s v ≡ true → t (frame m k) ≡ false → Clear t s P → count (carries t) (sorted_result s v (frame m k) (waiting s v P) (Put 0 v m k f ∷ P)) ≡ 0
-sorted-clear t s v m k f P sorted none c =
+sorted-clear : (u t : FrameName → Bool) (s : Setting) (v m k : ℕ) (f : Bool) (P : Past) → is_sorted s v ≡ true → t (frame m k) ≡ false → ClearBy u t s P → count (carries t) (sorted_result s v (frame m k) (waiting s v P) (Put 0 v m k f ∷ P)) ≡ 0
+sorted-clear u t s v m k f P sorted none c =
     let new : Waiting = record { array = frame m k; tick = now P } in
     let is : waiting s v (Put 0 v m k f ∷ P) ≡ waiting s v P ++ new ∷ [] = waiting-put s v 0 m k f P sorted in
     let all : count (waits t) (waiting s v (Put 0 v m k f ∷ P)) ≡ count (waits t) (waiting s v P) + count (waits t) (new ∷ []) = ap (count (waits t)) is ∙ count-append (waits t) (waiting s v P) (new ∷ []) in
@@ -337,42 +350,67 @@ either_clear : (p : Entry → Bool) (b : Bool) (xs ys : List Entry) → (b ≡ t
 either_clear p true xs ys h g = h refl
 either_clear p false xs ys h g = g
 
-passed-clear : (t : FrameName → Bool) (s : Setting) (v m k : ℕ) (f : Bool) (P : Past) → t (frame m k) ≡ false → Clear t s P → count (carries t) (cond (is_sorted s v) (sorted_result s v (frame m k) (waiting s v P) (Put 0 v m k f ∷ P)) (emit v Plain (frame m k) ∷ [])) ≡ 0
-passed-clear t s v m k f P none c =
-    either_clear (carries t) (is_sorted s v) (sorted_result s v (frame m k) (waiting s v P) (Put 0 v m k f ∷ P)) (emit v Plain (frame m k) ∷ []) (λ sorted. sorted-clear t s v m k f P sorted none c) (one_emit-clear t v Plain (frame m k) none)
+passed-clear : (u t : FrameName → Bool) (s : Setting) (v m k : ℕ) (f : Bool) (P : Past) → t (frame m k) ≡ false → ClearBy u t s P → count (carries t) (cond (is_sorted s v) (sorted_result s v (frame m k) (waiting s v P) (Put 0 v m k f ∷ P)) (emit v Plain (frame m k) ∷ [])) ≡ 0
+passed-clear u t s v m k f P none c =
+    either_clear (carries t) (is_sorted s v) (sorted_result s v (frame m k) (waiting s v P) (Put 0 v m k f ∷ P)) (emit v Plain (frame m k) ∷ []) (λ sorted. sorted-clear u t s v m k f P sorted none c) (one_emit-clear t v Plain (frame m k) none)
 
-put-calls : (t : FrameName → Bool) (s : Setting) (v m k : ℕ) (f : Bool) (P : Past) (w : Work) → t (frame m k) ≡ false → Clear t s P → count (carries t) (result s v (frame m k) f P w) ≡ 0
-put-calls t s v m k f P Makes none c = passed-clear t s v m k f P none c
-put-calls t s v m k f P Passes none c = passed-clear t s v m k f P none c
-put-calls t s v m k f P (Saves whole n) none c = refl
-put-calls t s v m k f P (Watches pre post preset) none c =
+put-calls : (u t : FrameName → Bool) (s : Setting) (v m k : ℕ) (f : Bool) (P : Past) (w : Work) → t (frame m k) ≡ false → ClearBy u t s P → count (carries t) (result s v (frame m k) f P w) ≡ 0
+put-calls u t s v m k f P Makes none c = passed-clear u t s v m k f P none c
+put-calls u t s v m k f P Passes none c = passed-clear u t s v m k f P none c
+put-calls u t s v m k f P (Saves whole n) none c = refl
+put-calls u t s v m k f P (Watches pre post preset) none c =
     let flags : List Bool = firings v P in
     let b : Bool = is_trigger post preset (flags ++ f ∷ []) (length flags) in
     let d : Bool = is_passed pre post preset (flags ++ f ∷ []) (length flags) in
     count-append (carries t) (cond b (map (emit v Ring) (ring s v P)) []) (cond d (emit v Now (frame m k) ∷ []) [])
     ∙ omega (arith, only_if (carries t) b (map (emit v Ring) (ring s v P)) (emits-clear t v Ring (ring s v P) (c.rings v)), only_if (carries t) d (emit v Now (frame m k) ∷ []) (one_emit-clear t v Now (frame m k) none))
 
-calls-clear : (t : FrameName → Bool) (s : Setting) (e : Entry) (P : Past) → is_legal s (e ∷ P) ≡ true → Clear t s P → count (carries t) (calls_for s P e) ≡ 0
-calls-clear t s (Tick u) P h c = looks-clear t s (Tick u ∷ P) (node_numbers s) c.lists
-calls-clear t s (Issue r k) P h c = one_emit-clear t 0 Plain (frame 0 k) (issue-clear t s r k P h c)
-calls-clear t s (Emit v m k why) P h c = offers-clear t (frame m k) (children s v) (emit-clear t s v m k why P h c)
-calls-clear t s (Put r v m k f) P h c = put-calls t s v m k f P (node s v).work (put-clear t s r v m k f P h c) c
-calls-clear t s (Settle r v) P h c =
+calls-clear : (u t : FrameName → Bool) (s : Setting) (e : Entry) (P : Past) → is_legal s (e ∷ P) ≡ true → count t (issued_by e) ≡ 0 → ClearBy u t s P → count (carries t) (calls_for s P e) ≡ 0
+calls-clear u t s (Tick z) P h i c = looks-clear t s (Tick z ∷ P) (node_numbers s) c.lists
+calls-clear u t s (Issue r k) P h i c = one_emit-clear t 0 Plain (frame 0 k) (made-clear t (frame 0 k) i)
+calls-clear u t s (Emit v m k why) P h i c = offers-clear t (frame m k) (children s v) (emit-clear u t s v m k why P h c)
+calls-clear u t s (Put r v m k f) P h i c = put-calls u t s v m k f P (node s v).work (made-clear t (frame m k) i) c
+calls-clear u t s (Settle r v) P h i c =
     let ws : List Waiting = least_first s (waiting s v P) in
     omega (arith, carried v t (calls_for s P (Settle r v)) (flush-at v ws), count-flush v t ws, count-least_first s (waits t) (waiting s v P), c.lists v)
-calls-clear t s _ P h c = refl
+calls-clear u t s _ P h i c = refl
 
-calls-more : (t : FrameName → Bool) (s : Setting) (e : Entry) (P : Past) → is_legal s (e ∷ P) ≡ true → Clear t s P → count (carries t) (owed s (e ∷ P)) ≡ 0
-calls-more t s e P h c =
-    omega (arith, count-append (carries t) (calls_for s P e) (drop 1 (owed s P)), calls-clear t s e P h c, count-drop (carries t) (owed s P), c.calls)
+calls-more : (u t : FrameName → Bool) (s : Setting) (e : Entry) (P : Past) → is_legal s (e ∷ P) ≡ true → count t (issued_by e) ≡ 0 → ClearBy u t s P → count (carries t) (owed s (e ∷ P)) ≡ 0
+calls-more u t s e P h i c =
+    omega (arith, count-append (carries t) (calls_for s P e) (drop 1 (owed s P)), calls-clear u t s e P h i c, count-drop (carries t) (owed s P), c.calls)
+
+-- before any entry
+pub clear-start : (u t : FrameName → Bool) (s : Setting) → ClearBy u t s []
+clear-start u t s = record {
+  queues = λ v. refl;
+  lists = λ v. refl;
+  rings = λ v. no_ring t (node s v).work;
+  files = λ v. elim (is_file (node s v).work) as (λ b. count t (cond {A = List FrameName} b [] []) ≡ 0) [ true ↦ refl | false ↦ refl ];
+  roles = refl;
+  calls = refl;
+}
+  where
+    no_ring : (t : FrameName → Bool) (w : Work) → count t (ring_of w [] []) ≡ 0
+    no_ring t Makes = refl
+    no_ring t Passes = refl
+    no_ring t (Saves whole n) = refl
+    no_ring t (Watches pre post preset) = ap (count t) (kept-nothing pre post preset)
 
 -- one more entry
-pub clear-more : (t : FrameName → Bool) (s : Setting) (e : Entry) (P : Past) → is_legal s (e ∷ P) ≡ true → count t (made_by e) ≡ 0 → Clear t s P → Clear t s (e ∷ P)
-clear-more t s e P h made c = record {
-  queues = λ v. queues-more t s v e P h c;
-  lists = λ v. lists-more t s v e P h c;
-  rings = λ v. rings-more t s v e P h c;
-  files = λ v. files-more t s v e P h c;
-  roles = roles-more t s e P h c made;
-  calls = calls-more t s e P h c;
+pub clear_by-more : (u t : FrameName → Bool) (s : Setting) (e : Entry) (P : Past) → is_legal s (e ∷ P) ≡ true → count u (made_by e) ≡ 0 → count t (issued_by e) ≡ 0 → ClearBy u t s P → ClearBy u t s (e ∷ P)
+clear_by-more u t s e P h made i c = record {
+  queues = λ v. queues-more u t s v e P h c;
+  lists = λ v. lists-more u t s v e P h i c;
+  rings = λ v. rings-more u t s v e P h i c;
+  files = λ v. files-more u t s v e P h i c;
+  roles = roles-more u t s e P h c made;
+  calls = calls-more u t s e P h i c;
 }
+
+issued-clear : (t : FrameName → Bool) (s : Setting) (e : Entry) (P : Past) → is_legal s (e ∷ P) ≡ true → Clear t s P → count t (issued_by e) ≡ 0
+issued-clear t s (Issue r k) P h c = omega (arith, count-cons t (frame 0 k) [], none-bit (t (frame 0 k)) (issue-clear t s r k P h c))
+issued-clear t s (Put r v m k f) P h c = omega (arith, count-cons t (frame m k) [], none-bit (t (frame m k)) (put-clear t s r v m k f P h c))
+issued-clear t s _ P h c = refl
+
+pub clear-more : (t : FrameName → Bool) (s : Setting) (e : Entry) (P : Past) → is_legal s (e ∷ P) ≡ true → count t (made_by e) ≡ 0 → Clear t s P → Clear t s (e ∷ P)
+clear-more t s e P h made c = clear_by-more t t s e P h made (issued-clear t s e P h c) c

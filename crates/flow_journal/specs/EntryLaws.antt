@@ -1,20 +1,20 @@
 -- LAWS: what each entry does to each standing fact. Where a law names first, the entry is a legal first entry.
-use Rattle.std.specs.Prelude.{◌≡◌, ◌≢◌, ℕ, ◌+◌, nat_eq, Bool, true, false, [], ◌∷◌, ◌++◌, length, filter, Some, None}
+use Rattle.std.specs.Prelude.{◌≡◌, ◌≢◌, ℕ, ◌+◌, nat_eq, Bool, true, false, [], ◌∷◌, ◌++◌, length, filter, Some, None, if◌then◌else◌}
 use Rattle.trig_window.specs.Windows.{kept}
 use Rattle.flow_journal.specs.declared.entry.Entry.{Entry}
-use Rattle.flow_journal.specs.declared.entry.Entry.TheVariants.{Load, LoadRefused, Tick, Issue, Emit, Accept, Full, Take, TakeBlock, PoolDrop, Put, SortDrop, Settle, Save, Saved, Close, Reclaim}
+use Rattle.flow_journal.specs.declared.entry.Entry.TheVariants.{Load, LoadRefused, Tick, Issue, Emit, Accept, Full, Take, TakeBlock, PoolDrop, Put, SortDrop, Settle, Save, Saved, Close, Reclaim, Leave}
 use Rattle.flow_journal.specs.declared.entry.Why.{Why}
 use Rattle.flow_journal.specs.Setting.{Setting, Watches, node, id_at, is_sorted}
 use Rattle.flow_journal.specs.Pasts.{Past, frame}
 use Rattle.flow_journal.specs.Hands.{hands, hand, takes_up, is_loaded, is_job, is_piece}
-use Rattle.flow_journal.specs.Ended.{now, closes, is_closed, settles, is_settled}
+use Rattle.flow_journal.specs.Ended.{now, closes, is_closed, settles, is_settled, leaves, leaves_as, has_left_any, has_left, reclaims, was_reclaimed}
 use Rattle.flow_journal.specs.Offered.{offered, offered_frames}
 use Rattle.flow_journal.specs.Queued.{queued}
 use Rattle.flow_journal.specs.Puts.{puts, firings}
 use Rattle.flow_journal.specs.Waiting.{waiting, not_waiting}
 use Rattle.flow_journal.specs.Rings.{ring}
 use Rattle.flow_journal.specs.Unsaved.{standing_saves, unsaved, is_file}
-use Rattle.flow_journal.specs.Breaks.{outs, prev}
+use Rattle.flow_journal.specs.Breaks.{outs, prev, keeps_step, breaks}
 use Rattle.flow_journal.specs.FirstEntries.{first}
 use Rattle.flow_journal.specs.Histories.{is_legal}
 
@@ -193,3 +193,23 @@ pub record ClockLaws : Type 0 where
   pub settle : (r v : ℕ) (P : Past) → is_settled v (Settle r v ∷ P) ≡ true
   pub closed_others : (e : Entry) (P : Past) → closes e ≡ false → is_closed (e ∷ P) ≡ is_closed P
   pub settled_others : (v : ℕ) (e : Entry) (P : Past) → settles v e ≡ false → is_settled v (e ∷ P) ≡ is_settled v P
+
+-- An emission and a save count as a break where the id keeps no step with the previous one. A piece that is reclaimed counts no more.
+pub record BreakLaws : Type 0 where
+  pub none : (s : Setting) (v : ℕ) → breaks s v [] ≡ 0
+  pub emit : (s : Setting) (v m k : ℕ) (why : Why) (P : Past) → breaks s v (Emit v m k why ∷ P) ≡ breaks s v P + (if keeps_step (prev s v P) (id_at s k) then 0 else 1)
+  pub save : (s : Setting) (r v m k g : ℕ) (P : Past) → breaks s v (Save r v m k g ∷ P) ≡ breaks s v P + (if keeps_step (prev s v P) (id_at s k) then 0 else 1)
+  pub emit_elsewhere : (s : Setting) (v w m k : ℕ) (why : Why) (P : Past) → w ≢ v → breaks s v (Emit w m k why ∷ P) ≡ breaks s v P
+  pub save_elsewhere : (s : Setting) (r v w m k g : ℕ) (P : Past) → w ≢ v → breaks s v (Save r w m k g ∷ P) ≡ breaks s v P
+  pub reclaim : (s : Setting) (r q v m k g : ℕ) (P : Past) → is_legal s P ≡ true → hand r P ≡ Some (Save q v m k g) → breaks s v P ≡ breaks s v (Reclaim r ∷ P) + (if keeps_step (prev s v (Reclaim r ∷ P)) (id_at s k) then 0 else 1)
+  pub reclaim_other : (s : Setting) (r v : ℕ) (e : Entry) (P : Past) → is_legal s P ≡ true → hand r P ≡ Some e → is_piece v e ≡ false → breaks s v (Reclaim r ∷ P) ≡ breaks s v P
+  pub others : (s : Setting) (v : ℕ) (e : Entry) (P : Past) → lets_out e ≡ false → breaks s v (e ∷ P) ≡ breaks s v P
+
+-- A Leave and a Reclaim are remembered of their role.
+pub record RoleLaws : Type 0 where
+  pub leave : (r : ℕ) (P : Past) → has_left r (Leave r ∷ P) ≡ true
+  pub leave_any : (r : ℕ) (P : Past) → has_left_any (Leave r ∷ P) ≡ true
+  pub left_others : (r : ℕ) (e : Entry) (P : Past) → leaves_as r e ≡ false → has_left r (e ∷ P) ≡ has_left r P
+  pub left_any_others : (e : Entry) (P : Past) → leaves e ≡ false → has_left_any (e ∷ P) ≡ has_left_any P
+  pub reclaim : (r : ℕ) (P : Past) → was_reclaimed r (Reclaim r ∷ P) ≡ true
+  pub reclaimed_others : (r : ℕ) (e : Entry) (P : Past) → reclaims r e ≡ false → was_reclaimed r (e ∷ P) ≡ was_reclaimed r P

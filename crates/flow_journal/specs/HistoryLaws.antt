@@ -1,12 +1,16 @@
 -- LAWS of legal histories.
-use Rattle.std.specs.Prelude.{◌≡◌, ℕ, ◌+◌, ◌≤◌, ◌==◌, Bool, true, false, List, [], ◌++◌, ◌↔◌, length, filter}
+use Rattle.std.specs.Prelude.{◌≡◌, ℕ, ◌+◌, ◌≤◌, ◌==◌, Bool, true, false, List, [], ◌∷◌, ◌++◌, ◌↔◌, length, filter}
+use Rattle.nd_base.specs.Array.{Array}
 use Rattle.nd_base.specs.declared.frame.FrameName.{FrameName}
+use Rattle.nd_base.specs.declared.graph.Graph.{Graph}
+use Rattle.nd_base.specs.declared.plan.Maker.{Maker}
 use Rattle.pool_ledger.specs.Grants.{has_number}
 use Rattle.flow_journal.specs.declared.entry.Entry.{Entry}
 use Rattle.flow_journal.specs.declared.entry.Entry.TheVariants.{Load, TakeBlock}
 use Rattle.flow_journal.specs.Accounts.{refs, is_unplaced, known}
 use Rattle.flow_journal.specs.FirstEntries.{first}
 use Rattle.flow_journal.specs.Setting.{Setting}
+use Rattle.flow_journal.specs.RunSetting.{setting_of}
 use Rattle.flow_journal.specs.Pasts.{Past}
 use Rattle.flow_journal.specs.Hands.{takes_up, hands, is_loaded, is_piece, jobs}
 use Rattle.flow_journal.specs.Ended.{is_settled}
@@ -80,3 +84,15 @@ LoadsAreUnplaced = (s : Setting) (P : Past) (r k b n : ℕ) (f : Bool) (g : ℕ)
 -- nor has one that a TakeBlock grants
 abbrev pub TakesAreUnplaced : Type 0
 TakesAreUnplaced = (s : Setting) (P : Past) (r v m k b n : ℕ) (f : Bool) (g : ℕ) (x : Bool) → s.pooled ≡ true → is_legal s P ≡ true → first s P (TakeBlock r v m k b n f g x) ≡ true → refs s P b ≡ 0
+
+-- In every legal history of a run (blocks are accounted there) the block of each Load has no place just before it,
+abbrev pub RunsLoadUnplaced : Type 0
+RunsLoadUnplaced = (graph : Graph) (makers : List Maker) (arrays : List Array) (newer P : Past) (r k b n : ℕ) (f : Bool) (g : ℕ) (x : Bool) → is_legal (setting_of graph makers arrays) (newer ++ Load r k b n f g x ∷ P) ≡ true → refs (setting_of graph makers arrays) P b ≡ 0
+
+-- and so it is with the block of each TakeBlock,
+abbrev pub RunsTakeUnplaced : Type 0
+RunsTakeUnplaced = (graph : Graph) (makers : List Maker) (arrays : List Array) (newer P : Past) (r v m k b n : ℕ) (f : Bool) (g : ℕ) (x : Bool) → is_legal (setting_of graph makers arrays) (newer ++ TakeBlock r v m k b n f g x ∷ P) ≡ true → refs (setting_of graph makers arrays) P b ≡ 0
+
+-- and each block that has a place is known.
+abbrev pub RunsPlacesAreKnown : Type 0
+RunsPlacesAreKnown = (graph : Graph) (makers : List Maker) (arrays : List Array) (P : Past) → is_legal (setting_of graph makers arrays) P ≡ true → ArePlacesKnown (setting_of graph makers arrays) P

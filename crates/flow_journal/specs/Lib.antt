@@ -25,6 +25,15 @@ pub mod TextLaws
 pub mod QueueCounts
 pub mod HistoryLaws
 pub mod EntryLaws
+pub mod IndexLaws
+pub mod RowFacts
+pub mod RowLaws
+pub mod WaitingLaws
+pub mod LookLaws
+pub mod DueLaws
+pub mod RingPushes
+pub mod OutputLaws
+pub mod AccountLaws
 pub mod Journal
 pub mod FirstBad
 pub mod WorkedRuns

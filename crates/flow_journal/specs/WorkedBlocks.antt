@@ -1,10 +1,11 @@
 -- Blocks of a maker's output: a refused one, and one for which another block is given up.
-use Rattle.std.specs.Prelude.{◌≡◌, ◌==◌, true, false, List, [], ◌∷◌, ◌++◌, pos, refl, if◌then◌else◌}
+use Rattle.std.specs.Prelude.{◌≡◌, ◌==◌, true, false, List, [], ◌∷◌, ◌++◌, pos, refl, take, if◌then◌else◌}
 use Rattle.flow_journal.specs.declared.entry.Entry.{Entry}
 use Rattle.flow_journal.specs.declared.entry.Entry.TheVariants.{Load, Tick, Emit, TakeBlock, PoolDrop, Put}
 use Rattle.flow_journal.specs.declared.entry.Why.TheVariants.{Plain}
 use Rattle.flow_journal.specs.Setting.{Setting, Makes}
-use Rattle.flow_journal.specs.Accounts.{known, refs}
+use Rattle.flow_journal.specs.Pasts.{frame}
+use Rattle.flow_journal.specs.Accounts.{known, refs, held, block_of}
 use Rattle.flow_journal.specs.Histories.{is_history}
 use Rattle.flow_journal.specs.WorkedRuns.{one_node, after, fed}
 
@@ -32,3 +33,13 @@ the_new_block_has_its_number = refl
 
 and_no_place_at_the_end : refs twelve_bytes (after one_given_up) 0 ≡ 0
 and_no_place_at_the_end = refl
+
+-- in mid-job the input's 4 bytes and the output's 8 are held, and none at the end
+both_are_held : held twelve_bytes (after (take 12 one_given_up)) ≡ 12
+both_are_held = refl
+
+none_is_held_at_the_end : held twelve_bytes (after one_given_up) ≡ 0
+none_is_held_at_the_end = refl
+
+the_frame_has_its_block : block_of (after one_given_up) (frame 1 1) ≡ 0 ∷ []
+the_frame_has_its_block = refl

@@ -16,8 +16,9 @@ mod write;
 
 pub use entry::{Entry, Why};
 pub use laws::{
-    arrays_come_once, entries_change_facts, grants_are_unplaced, hands_are_few,
-    histories_are_moves, queues_count, texts_tell_entries,
+    arrays_come_once, entries_change_facts, entries_move_blocks, grants_are_unplaced,
+    hands_are_few, histories_are_moves, least_goes_first, moves_begin_by_rows,
+    pieces_come_in_groups, queues_count, rings_are_windows, texts_tell_entries,
 };
 pub use log::Log;
 pub use read::{LogFault, read_text};
