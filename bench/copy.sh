@@ -1,6 +1,6 @@
 #!/usr/bin/env bash
-# Times `nd_replay copy` on the largest file in plain form against `cp` of what it wrote, ten times each in turn,
-# and prints the medians and their ratio. It is no part of the gate.
+# Times `nd_replay copy` on a stack of 200 frames of 1,024 by 1,024 unsigned bytes against `cp` of the same file, ten times each
+# in turn, and prints the medians, their ratio and the most memory that `copy` took. It is no part of the gate.
 set -eu
 here=$(cd "$(dirname "$0")/.." && pwd)
 source "$here/bench/timing.sh"
@@ -9,17 +9,23 @@ trap 'rm -rf "$work"' EXIT
 "$here/nd_replay" --version > "$work/version"
 program=$here/crates/replay_main/out/replay_main
 
-# One frame of 16 rows and 65,527 columns: 144 bytes of header and 1,048,432 samples.
+# 144 bytes of header, and 200 records of the one variable.
 {
-    printf 'CDF\001\0\0\0\001\0\0\0\012\0\0\0\003'
-    printf '\0\0\0\001n\0\0\0\0\0\0\0\0\0\0\001y\0\0\0\0\0\0\020\0\0\0\001x\0\0\0\0\0\377\367'
+    printf 'CDF\001\0\0\0\310\0\0\0\012\0\0\0\003'
+    printf '\0\0\0\001n\0\0\0\0\0\0\0\0\0\0\001y\0\0\0\0\0\004\0\0\0\0\001x\0\0\0\0\0\004\0'
     printf '\0\0\0\014\0\0\0\001\0\0\0\010dataType\0\0\0\004\0\0\0\001\0\0\0\001'
     printf '\0\0\0\013\0\0\0\001\0\0\0\012array_data\0\0\0\0\0\003\0\0\0\0\0\0\0\001\0\0\0\002'
     printf '\0\0\0\0\0\0\0\0\0\0\0\001\0\0\0\004\0\0\0\220'
-    head -c 1048432 /dev/urandom
+    head -c $((200 * 1048576)) /dev/urandom
 } > "$work/stack.nc"
 
 cd "$work"
-"$program" copy stack.nc x_ > print
-read -r copy cp < <(alternate "$work" "$program" copy stack.nc x_ -- cp x_copy_000.nc again.nc)
-awk -v copy="$copy" -v cp="$cp" 'BEGIN { printf "copy %.2f ms, cp %.2f ms, ratio %.2f\n", copy / 1e6, cp / 1e6, copy / cp }'
+read -r copy cp < <(alternate "$work" "$program" copy stack.nc x_ -- cp stack.nc again.nc)
+awk -v copy="$copy" -v cp="$cp" 'BEGIN { printf "copy %.1f ms, cp %.1f ms, ratio %.2f\n", copy / 1e6, cp / 1e6, copy / cp }'
+
+# The most memory that is resident, in KiB.
+/usr/bin/time -f %M -o "$work/peak" "$program" copy stack.nc x_ > "$work/print"
+peak=$(cat "$work/peak")
+size=$(stat -c %s stack.nc)
+awk -v peak="$peak" -v size="$size" \
+    'BEGIN { printf "memory %.1f MiB, file and frame %.1f MiB\n", peak / 1024, (size + 1048576) / 1048576 }'

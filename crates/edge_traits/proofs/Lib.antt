@@ -2,3 +2,4 @@ pub mod Arenas
 pub mod Shelves
 pub mod Libraries
 pub mod Sets
+pub mod Untold

@@ -3,6 +3,7 @@ pub mod FaultLaws
 pub mod Files
 pub mod FileLaws
 pub mod Written
+pub mod RealFiles
 pub mod Memory
 pub mod Arena
 pub mod MemoryLaws

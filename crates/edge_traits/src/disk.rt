@@ -1,19 +1,33 @@
-//! Real files and standard output. What they hold is not told.
+//! Real files and standard output. What they hold is not told; what a call does to an open file is,
+//! as far as the file tells it.
 
 mod kept_file;
 mod library;
 mod shelf;
 mod sink;
 
-ghost use Rattle.edge_traits.specs.Faults.{Counts};
-ghost use Rattle.std.specs.Prelude.{◌≡◌};
+ghost use Rattle.edge_traits.specs.Faults.{Rose, Counts};
+ghost use Rattle.edge_traits.specs.RealFiles.{file_named};
+ghost use Rattle.std.specs.Prelude.{◌≡◌, ◌≤◌, length, IfSome, IfOk, OnOk};
 ghost use Rattle.std.specs.Result.{result_ok};
 
 use crate::Failed;
+use kept_file::{KeptFile, NAME_LIMIT};
 pub use library::DiskLibrary;
 pub use shelf::DiskShelf;
 pub use sink::OutSink;
+use std::fs::OpenOptions;
 use std::io;
+use std::rt::Files;
+
+/// One more fault.
+fn fault(faults: &mut u64) -> Failed
+    ensures stands { faults.old ≤ faults.new }
+    ensures rose { Rose faults.old faults.new }
+{
+    *faults = faults.saturating_add(1);
+    Failed
+}
 
 /// The answer of a call, whose failure raises the count of faults.
 fn counted<T>(faults: &mut u64, done: io::Result<T>) -> Result<T, Failed>
@@ -22,9 +36,40 @@ fn counted<T>(faults: &mut u64, done: io::Result<T>) -> Result<T, Failed>
 {
     match done {
         Ok(value) => Ok(value),
-        Err(_) => {
-            *faults = faults.saturating_add(1);
-            Err(Failed)
-        }
+        Err(_) => Err(fault(faults)),
+    }
+}
+
+/// Opens a file. No system takes a name longer than the limit.
+fn open<R: Files>(
+    rt: &R,
+    how: &OpenOptions,
+    name: &str,
+    faults: &mut u64,
+) -> Result<R::File, Failed>
+    ensures fits { OnOk result (length name.now ≤ 4096) }
+    ensures cause { Counts faults.old faults.new result }
+{
+    if name.len() > NAME_LIMIT {
+        return Err(fault(faults));
+    }
+    counted(faults, how.open(rt, name))
+}
+
+/// The file of a name: the one that is kept, or where none of that name is, one that is opened.
+fn file_of<R: Files>(
+    rt: &R,
+    kept: &mut KeptFile<R::File>,
+    how: &OpenOptions,
+    name: &str,
+    faults: &mut u64,
+) -> Result<R::File, Failed>
+    ensures kept { IfOk result (λ file. IfSome (file_named kept.old name.now) (λ f. file ≡ f)) }
+    ensures fits { OnOk result (length name.now ≤ 4096) }
+    ensures cause { Counts faults.old faults.new result }
+{
+    match kept.take(name) {
+        Some(file) => Ok(file),
+        None => open(rt, how, name, faults),
     }
 }

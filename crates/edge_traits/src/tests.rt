@@ -285,7 +285,8 @@ fn real_files_are_written_and_read_back(rt: HostRuntime) -> Result<(), Fail> {
     assert_eq!(rt; library.size("one"), Ok(11));
     assert_eq!(rt; library.size("three"), Err(Failed));
     assert_eq!(rt; library.read_at("three", 0, &mut [0; 2]), Err(Failed));
-    assert_eq!(rt; library.faults(), 2);
+    assert_eq!(rt; library.size("."), Err(Failed));
+    assert_eq!(rt; library.faults(), 3);
     Ok(())
 }
 

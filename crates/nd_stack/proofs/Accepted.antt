@@ -1,5 +1,5 @@
 -- What it says that a header's frames are accepted.
-use Rattle.std.proofs.Common.{◌≡◌, ◌≤◌, ℕ, Bool, true, false, List, length, Option, Some, None, Result, Ok, Err, refl, ap, sym, ◌∙◌, arith, subst, ℤ, [], ◌∷◌, pos, negsuc}
+use Rattle.std.proofs.Common.{◌≡◌, ℕ, Bool, true, false, List, length, Option, Some, None, Result, Ok, Err, refl, ap, sym, ◌∙◌, subst, ℤ, [], ◌∷◌, negsuc}
 use Rattle.std.specs.Prelude.{nat_le, ◌&&◌, ok_or, codes, if◌then◌else◌, ◌==◌}
 use Rattle.std.proofs.lemmas.Bool.{and_parts, eqb-true}
 use Rattle.nd_base.specs.declared.array.SampleType.{SampleType}
@@ -14,7 +14,7 @@ use Rattle.nd_stack.specs.declared.fault.StackFault.TheVariants.{NoArrayData, Ra
 use Rattle.nd_stack.specs.declared.fault.StackFault.TheVariants as refusal
 use Rattle.nd_stack.specs.Answers.{◌>>=◌, need}
 use Rattle.nd_stack.specs.Columns.{variable_of, frame_count, frame_values}
-use Rattle.nd_stack.specs.SampleTypes.{sample_type, type_by, type_numbered, type_stored, numbered, stored_as, ints}
+use Rattle.nd_stack.specs.SampleTypes.{sample_type, type_by, type_numbered, numbered, stored_as, ints}
 use Rattle.nd_stack.specs.FrameVars.{frame_misfit}
 use Rattle.nd_stack.specs.AttrVars.{attr_misfit}
 use Rattle.nd_stack.specs.StackRules.{frames_of, no_misfit}

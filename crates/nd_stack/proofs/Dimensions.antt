@@ -1,6 +1,6 @@
 -- The dimensions of a frame are those of an array.
-use Rattle.std.proofs.Common.{◌≡◌, ◌≤◌, ◌<◌, ◌+◌, ◌-◌, ◌*◌, ℕ, zero, suc, Bool, true, false, List, [], ◌∷◌, ◌++◌, length, map, drop, get_or, refl, ap, sym, ◌∙◌, arith, IsTrue}
-use Rattle.std.specs.Prelude.{nat_le, nat_lt, not, ◌&&◌, ◌==◌, filter, reverse, slice_index_or, All, if◌then◌else◌}
+use Rattle.std.proofs.Common.{◌≡◌, ◌≤◌, ◌<◌, ◌+◌, ◌-◌, ◌*◌, ℕ, Bool, true, List, [], ◌∷◌, ◌++◌, length, map, drop, get_or, refl, ap, sym, ◌∙◌, arith}
+use Rattle.std.specs.Prelude.{nat_le, nat_lt, not, ◌&&◌, ◌==◌, filter, reverse, slice_index_or, All}
 use Rattle.std.specs.List.{list_all, range_with_len}
 use Rattle.std.proofs.Math.Nat.{mul_assoc, mul_comm, mul-one, one-mul}
 use Rattle.std.proofs.lemmas.Bool.{lt-ltb, and_parts}
@@ -10,13 +10,13 @@ use Rattle.std.proofs.lemmas.Grind.{get_or_after_one}
 use Rattle.std.proofs.lemmas.Simd.{map-map}
 use Rattle.std.proofs.lemmas.List.Elements.{All-head, All-tail}
 use Rattle.std.proofs.lemmas.List.Folds.{list_all-append, list_all-map}
-use Rattle.std.proofs.lemmas.List.FromFn.{fill_by_all, length-range_with_len}
+use Rattle.std.proofs.lemmas.List.FromFn.{fill_by_all}
 use Rattle.nd_base.specs.declared.array.Dim.{Dim}
 use Rattle.nd_base.specs.Shapes.{product, sample_count, has_dimensions}
 use Rattle.cdf_read.specs.declared.head.HeadDim.{HeadDim}
 use Rattle.cdf_read.specs.declared.head.HeadVar.{HeadVar}
 use Rattle.cdf_read.specs.declared.head.Header.{Header}
-use Rattle.cdf_read.specs.Places.{dim_length, value_count}
+use Rattle.cdf_read.specs.Places.{dim_length}
 use Rattle.nd_stack.specs.Columns.{frame_values}
 use Rattle.nd_stack.specs.FrameShape.{sizes_of, dim_of, frame_dim, dims_of}
 

@@ -1,28 +1,20 @@
 -- The frames, the per-frame variables and the attributes lie within the file.
-use Rattle.std.proofs.Common.{◌≡◌, ◌≢◌, ◌≤◌, ◌<◌, ◌+◌, ◌*◌, ℕ, zero, suc, Bool, true, false, List, [], ◌∷◌, length, map, drop, get_or, Option, Some, None, refl, ap, sym, ◌∙◌, subst, arith, IsTrue}
-use Rattle.std.specs.Prelude.{nat_le, nat_lt, not, ◌&&◌, ◌==◌, filter, All, IfSome, codes, if◌then◌else◌, min, position}
-use Rattle.std.specs.List.{find, range_with_len}
-use Rattle.std.specs.Option.{option_map, option_map_or}
+use Rattle.std.proofs.Common.{◌≡◌, ◌<◌, ◌*◌, ℕ, List, length, drop, ap, sym, ◌∙◌}
+use Rattle.std.specs.Prelude.{All, codes}
 use Rattle.std.specs.Str.{bytes_eq}
-use Rattle.std.proofs.Math.Nat.{one-mul, mul-one}
-use Rattle.std.proofs.lemmas.Bool.{and_parts, eqb-true, leb-true}
-use Rattle.std.proofs.lemmas.List.Elements.{All-head, All-tail, All-nil, All-cons, All-map, All-filter, All-get_or}
+use Rattle.std.proofs.lemmas.Bool.{leb-true}
 use Rattle.std.proofs.lemmas.List.FromFn.{length-map-range_with_len}
 use Rattle.nd_base.specs.declared.array.SampleType.{SampleType}
 use Rattle.nd_base.specs.Samples.{width}
-use Rattle.nd_base.specs.Shapes.{has_dimensions, sample_count, most_samples}
+use Rattle.nd_base.specs.Shapes.{most_samples}
 use Rattle.nd_base.specs.Stacks.{FitsFile, frame_size}
-use Rattle.cdf_read.specs.declared.head.HeadDim.{HeadDim}
 use Rattle.cdf_read.specs.declared.head.HeadVar.{HeadVar}
 use Rattle.cdf_read.specs.declared.head.Header.{Header}
-use Rattle.cdf_read.specs.Places.{dim_length, value_size, value_count, values_end, is_record_var}
-use Rattle.nd_stack.specs.declared.attributes.AttrVar.{AttrVar}
-use Rattle.nd_stack.specs.declared.column.Column.{Column}
-use Rattle.nd_stack.specs.Columns.{variable_of, number_of, frame_count, frame_values, values_size, column_of, LiesWithin}
-use Rattle.nd_stack.specs.FrameVars.{counts_frames, is_frame_var, misfit, earlier, frame_misfit, column_named, times_of}
-use Rattle.nd_stack.specs.FrameShape.{dims_of, shape_of}
-use Rattle.nd_stack.specs.StackRules.{heads_of, head_for}
-use Rattle.nd_stack.specs.Sound.{IsSound, IsSoundVar, HasCell, HasTimes}
+use Rattle.cdf_read.specs.Places.{dim_length, value_size}
+use Rattle.nd_stack.specs.Columns.{frame_count, frame_values, column_of}
+use Rattle.nd_stack.specs.FrameShape.{shape_of}
+use Rattle.nd_stack.specs.StackRules.{heads_of}
+use Rattle.nd_stack.specs.Sound.{IsSound, IsSoundVar}
 use Rattle.nd_stack.specs.SoundLaws.{column_of-LiesWithin}
 use Rattle.nd_stack.proofs.Accepted.{IsAccepted, sample_type-stored, stored_as-size}
 use Rattle.nd_stack.proofs.Numbers.{All-find}

@@ -1,4 +1,3 @@
-pub mod Rebuilt
 pub mod Widths
 pub mod Others
 pub mod Texts
@@ -9,3 +8,7 @@ pub mod Accepted
 pub mod Dimensions
 pub mod Fits
 pub mod Writable
+pub mod HeaderBytes
+pub mod KeptValues
+pub mod KeptShape
+pub mod KeptStacks

@@ -1,25 +1,20 @@
 -- The per-frame variables and the attribute variables of an accepted header have a value for each frame.
-use Rattle.std.proofs.Common.{◌≡◌, ◌≢◌, ◌≤◌, ◌<◌, ◌+◌, ◌*◌, ℕ, zero, suc, Bool, true, false, List, [], ◌∷◌, length, map, drop, get_or, max, Option, Some, None, refl, ap, sym, ◌∙◌, subst, arith}
-use Rattle.std.specs.Prelude.{nat_lt, not, ◌&&◌, ◌==◌, filter, fold, All, IfSome, codes, min, position, if◌then◌else◌}
+use Rattle.std.proofs.Common.{◌≡◌, ◌≢◌, ◌≤◌, ◌<◌, ◌+◌, ◌*◌, ℕ, suc, Bool, true, false, List, [], ◌∷◌, length, drop, get_or, Option, Some, None, refl, ap, sym, ◌∙◌, arith}
+use Rattle.std.specs.Prelude.{not, ◌&&◌, ◌==◌, filter, All, IfSome, codes, if◌then◌else◌}
 use Rattle.std.specs.List.{find}
 use Rattle.std.specs.Option.{option_map, option_map_or}
 use Rattle.std.specs.Str.{bytes_eq}
-use Rattle.std.proofs.Math.Nat.{one-mul, mul-one}
+use Rattle.std.proofs.Math.Nat.{one-mul}
 use Rattle.std.proofs.lemmas.Bool.{and_parts, eqb-true}
-use Rattle.std.proofs.lemmas.Bool.Decides.{nat_tests}
 use Rattle.std.proofs.lemmas.List.{nil_from_length, length-drop}
-use Rattle.std.proofs.lemmas.List.Elements.{All-head, All-tail, All-map, All-filter, filter_passes, All-get_or}
-use Rattle.cdf_read.specs.declared.head.HeadDim.{HeadDim}
+use Rattle.std.proofs.lemmas.List.Elements.{All-map, All-filter, filter_passes}
 use Rattle.cdf_read.specs.declared.head.HeadVar.{HeadVar}
 use Rattle.cdf_read.specs.declared.head.Header.{Header}
-use Rattle.cdf_read.specs.Places.{dim_length, value_size, value_count}
-use Rattle.cdf_read.specs.PlaceLaws.{value_count-cons, position-None}
-use Rattle.nd_stack.specs.declared.attributes.AttrVar.{AttrVar}
-use Rattle.nd_stack.specs.declared.column.Column.{Column}
+use Rattle.cdf_read.specs.Places.{value_size, value_count}
+use Rattle.cdf_read.specs.PlaceLaws.{position-None}
 use Rattle.nd_stack.specs.Columns.{variable_of, number_of, frame_count, values_size, column_of}
-use Rattle.nd_stack.specs.FrameVars.{counts_frames, is_frame_var, misfit, earlier, frame_misfit, column_named, times_of}
+use Rattle.nd_stack.specs.FrameVars.{counts_frames, is_frame_var, misfit, earlier, frame_misfit, times_of}
 use Rattle.nd_stack.specs.AttrVars.{is_attr_var, attr_rank, attr_misfit, attr_var, attr_vars}
-use Rattle.nd_stack.specs.FrameShape.{text_room, width_of}
 use Rattle.nd_stack.specs.Sound.{IsSound, IsSoundVar, HasCell, HasTimes, HasAttr}
 use Rattle.nd_stack.specs.SoundLaws.{column_of-LiesWithin}
 use Rattle.nd_stack.proofs.Numbers.{All-find}

@@ -123,7 +123,7 @@ accepted-IsWritable bytes h v kind reads accepted =
       each_extra = extras-IsExtra h whole;
     }
 
-header_read : (read : Result Header CdfFault) (h : Header) → or_cdf read ≡ Ok h → read ≡ Ok h
+pub header_read : (read : Result Header CdfFault) (h : Header) → or_cdf read ≡ Ok h → read ≡ Ok h
 header_read (Ok x) h e = let same : x ≡ h = cc in ap Ok same
 header_read (Err fault) h e = absurd (cc)
 

@@ -1,5 +1,5 @@
 -- Answers that are a value or the first refusal.
-use Rattle.std.specs.Prelude.{◌≡◌, Bool, Option, Some, None, Result, Ok, Err, if◌then◌else◌}
+use Rattle.std.specs.Prelude.{◌≡◌, Bool, Result, Ok, Err, if◌then◌else◌}
 use Rattle.cdf_read.specs.declared.fault.CdfFault.{CdfFault}
 use Rattle.cdf_read.specs.declared.fault.CdfFault.TheVariants as cdf
 use Rattle.nd_stack.specs.declared.fault.StackFault.{StackFault}

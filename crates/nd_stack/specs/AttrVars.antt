@@ -1,5 +1,5 @@
 -- The variables that are attributes of the frames.
-use Rattle.std.specs.Prelude.{ℕ, ◌==◌, ◌&&◌, not, nat_lt, Bool, List, length, map, filter, drop, position, Option, Some, None, codes, if◌then◌else◌}
+use Rattle.std.specs.Prelude.{ℕ, ◌==◌, ◌&&◌, not, nat_lt, Bool, List, length, map, filter, drop, position, Option, codes, if◌then◌else◌}
 use Rattle.std.specs.Int.{w32, w64, from_be_bytes}
 use Rattle.std.specs.List.{starts_with, before_first}
 use Rattle.nd_base.specs.declared.array.SampleType.TheVariants.{Int8, Int16, Int32}

@@ -1,5 +1,5 @@
 -- What all frames of a file share.
-use Rattle.std.specs.Prelude.{ℕ, ◌==◌, max, not, ℤ, pos, List, length, map, filter, fold, reverse, drop, slice_index_or, codes, if◌then◌else◌}
+use Rattle.std.specs.Prelude.{ℕ, ◌==◌, max, not, pos, List, length, map, filter, fold, reverse, drop, slice_index_or, codes, if◌then◌else◌}
 use Rattle.std.specs.List.{range_with_len}
 use Rattle.std.specs.Ordering.{int_eq}
 use Rattle.nd_base.specs.declared.array.Dim.{Dim}

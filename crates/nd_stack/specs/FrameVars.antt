@@ -1,5 +1,5 @@
 -- The four variables with one value a frame: id, time stamp, seconds and nanoseconds.
-use Rattle.std.specs.Prelude.{ℕ, ◌+◌, ◌==◌, ◌&&◌, min, Bool, true, ℤ, pos, List, length, Option, Some, None, codes, if◌then◌else◌}
+use Rattle.std.specs.Prelude.{ℕ, ◌==◌, ◌&&◌, min, Bool, true, ℤ, List, length, Option, Some, None, codes, if◌then◌else◌}
 use Rattle.std.specs.Int.{w64, from_be_bytes}
 use Rattle.std.specs.Option.{option_map, option_map_or}
 use Rattle.nd_base.specs.declared.array.SampleType.TheVariants.{Int32}

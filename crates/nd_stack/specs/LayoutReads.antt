@@ -1,7 +1,7 @@
 -- A file in the layout has the layout's header.
-use Rattle.std.specs.Prelude.{◌≡◌, ℕ, zero, suc, ◌+◌, ◌-◌, ◌*◌, ◌≤◌, List, [], ◌∷◌, ◌++◌, length, Some, Ok, ◌==◌, false, refl}
+use Rattle.std.specs.Prelude.{◌≡◌, ℕ, zero, suc, ◌+◌, ◌-◌, ◌*◌, ◌≤◌, List, [], ◌∷◌, ◌++◌, length, Option, Some, Ok, ◌==◌, false, refl}
 use Rattle.std.specs.List.{flat_map, sum_by}
-use Rattle.std.proofs.Common.{ap, sym, subst, ◌∙◌, append_assoc, arith}
+use Rattle.std.proofs.Common.{ap, sym, ◌∙◌, append_assoc, arith}
 use Rattle.std.proofs.Math.Nat.{suc-mul, mul-le-mul_left, mul-le-mul_right}
 use Rattle.std.proofs.lemmas.Bool.Decides.{nat_tests}
 use Rattle.std.proofs.lemmas.List.{length-map}
@@ -17,12 +17,14 @@ use Rattle.cdf_read.specs.HeaderReading.{header_of}
 use Rattle.cdf_read.specs.HeaderLaws.{header_of-again}
 use Rattle.cdf_write.specs.Spelling.{word, element_list}
 use Rattle.cdf_write.specs.Columns.{columns, attr_column}
+use Rattle.cdf_write.specs.Layout as written
 use Rattle.cdf_write.specs.Layout.{dimensions, attributes, variables, header_length, header, row, layout}
 use Rattle.cdf_write.specs.Lengths.{columns_length, row_length, length_of, longest, attr_header_length, extra_header_length}
 use Rattle.cdf_write.specs.LengthLaws.{header_length_is, row_length_is, length-layout}
+use Rattle.cdf_write.specs.Writable.{IsWritable}
 use Rattle.nd_stack.specs.FieldSpelling.{word-IsWord}
 use Rattle.nd_stack.specs.LayoutHeader.{layout_dims, layout_vars, layout_header}
-use Rattle.nd_stack.specs.Groups.{IsGroup}
+use Rattle.nd_stack.specs.Groups.{HasTextNames, IsGroup}
 use Rattle.nd_stack.specs.DimLaws.{dims_IsList}
 use Rattle.nd_stack.specs.GattLaws.{gatts_IsList}
 use Rattle.nd_stack.specs.VarLaws.{columns-IsColumn, vars_IsList, record_size_is, columns-end}
@@ -70,31 +72,33 @@ length-columns shape = omega (arith, length-map shape.attrs (attr_column shape))
 parts : (one two three four five after : List ℕ) → (one ++ two ++ three ++ four ++ five) ++ after ≡ one ++ (two ++ (three ++ (four ++ (five ++ after))))
 parts one two three four five after = simp append_assoc refl
 
-header-IsHeader : (shape : FileShape) (records : ℕ) (after : List ℕ) (arrays : List Array) → IsGroup shape arrays → length arrays ≡ records → IsHeader records (layout_header shape records) (header shape (Some records) ++ after) after
+-- a header with a number of records, or with that left open, is spelled so, where a file of some rows isn't too long
+pub header_spells : (shape : FileShape) (numrecs : Option ℕ) (number records room : ℕ) (after : List ℕ) → IsWritable shape → HasTextNames shape → 1 ≤ room → length_of shape room ≤ longest →
+    ((rest : List ℕ) → IsNumrecs number (written.record_count numrecs ++ rest) rest) → IsHeader number (layout_header shape records) (header shape numrecs ++ after) after
 unfolding header row_length
-header-IsHeader shape records after arrays h count =
-    let small = short shape records (omega (arith, h.some, count)) (subst (λ n. length_of shape n ≤ longest) count h.within) in
+header_spells shape numrecs number records room after writable names some within spelled =
+    let small = short shape room some within in
     let at_vars : List ℕ = element_list 11 (variables (header_length shape) (columns shape)) ++ after in
     let at_gatts : List ℕ = element_list 12 (attributes shape) ++ at_vars in
     let at_dims : List ℕ = element_list 10 (dimensions shape) ++ at_gatts in
-    let whole : header shape (Some records) ++ after ≡ magic ++ (word records ++ at_dims) =
-    parts magic (word records) (element_list 10 (dimensions shape)) (element_list 12 (attributes shape)) (element_list 11 (variables (header_length shape) (columns shape))) after in
+    let whole : header shape numrecs ++ after ≡ magic ++ (written.record_count numrecs ++ at_dims) =
+    parts magic (written.record_count numrecs) (element_list 10 (dimensions shape)) (element_list 12 (attributes shape)) (element_list 11 (variables (header_length shape) (columns shape))) after in
     record {
-      at_numrecs = word records ++ at_dims;
+      at_numrecs = written.record_count numrecs ++ at_dims;
       at_dims = at_dims;
       at_gatts = at_gatts;
       at_vars = at_vars;
       magic_text = whole;
-      numrecs_word = numrecs-IsNumrecs records at_dims small.counts;
-      dims = dims_IsList shape at_gatts h.writable;
-      gatts = gatts_IsList shape at_vars h.writable h.names.extras small.extras;
-      vars = vars_IsList shape (header_length shape) (columns shape) after h.writable (columns-IsColumn shape h.writable h.names) small.begins (omega (arith, length-columns shape, small.attrs));
+      numrecs_word = spelled at_dims;
+      dims = dims_IsList shape at_gatts writable;
+      gatts = gatts_IsList shape at_vars writable names.extras small.extras;
+      vars = vars_IsList shape (header_length shape) (columns shape) after writable (columns-IsColumn shape writable names) small.begins (omega (arith, length-columns shape, small.attrs));
     }
 
 not_streaming : (n : ℕ) → n ≤ greatest → (n == streaming) ≡ false
 not_streaming n h = grind (arith, nat_tests, h)
 
-last_record : (n size : ℕ) → 1 ≤ n → (n - 1) * size + size ≡ n * size
+pub last_record : (n size : ℕ) → 1 ≤ n → (n - 1) * size + size ≡ n * size
 last_record zero size h = absurd (omega arith)
 last_record (suc n) size h = let less : suc n - 1 ≡ n = omega arith in ap (λ m. m * size + size) less ∙ sym (suc-mul n size)
 
@@ -115,7 +119,7 @@ layout_reads shape arrays h =
     record {
       numrecs = n;
       after = after;
-      header = header-IsHeader shape n after arrays h refl;
+      header = header_spells shape (Some n) n n n after h.writable h.names h.some h.within (λ rest. numrecs-IsNumrecs n rest small.counts);
       recsize = sym (record_size_is shape h.writable h.names);
       records = record_count_is (length (layout shape arrays)) n (layout_dims shape) (layout_vars shape) small.counts;
       whole = columns-end shape n (header_length shape) (length (layout shape arrays)) (columns shape) (columns-IsColumn shape h.writable h.names) (columns_fit shape n (length (layout shape arrays)) h.some total);

@@ -23,3 +23,6 @@ pub mod LayoutShape
 pub mod LayoutHeads
 pub mod RoundTrip
 pub mod RoundTripTests
+pub mod KeptStacks
+pub mod Rebuilt
+pub mod OpenReads

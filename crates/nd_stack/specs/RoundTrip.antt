@@ -119,17 +119,32 @@ arrays_by shape bytes first step head arrays each =
 same_dims : (shape : FileShape) (dims : List Dim) (bytes : List ℕ) (first step : ℕ) (heads : List Head) → shape.dims ≡ dims → arrays_at shape bytes first step heads ≡ arrays_at (record shape { dims = dims }) bytes first step heads
 same_dims shape dims bytes first step heads is = ap (λ ds. arrays_at (record shape { dims = ds }) bytes first step heads) is
 
-stack_back : (shape : FileShape) (arrays : List Array) → IsGroup shape arrays → HasSmallDims shape → All IsKept arrays →
-    (stack_with (layout shape arrays) (layout_header shape (length arrays)) (sample_var shape) shape.kind).arrays ≡ arrays
-stack_back shape arrays group dims kept =
+-- bytes in whose records the values of some arrays stand
+pub stack_back : (shape : FileShape) (arrays : List Array) (bytes : List ℕ) → IsWritable shape → HasTextNames shape → All (HasShape shape) arrays → HasSmallDims shape → All IsKept arrays →
+    ((k : ℕ) (d : Array) → k < length arrays → HasValues shape (get_or arrays k d) bytes (header_length shape) (k * row_length shape)) →
+    (stack_with bytes (layout_header shape (length arrays)) (sample_var shape) shape.kind).arrays ≡ arrays
+stack_back shape arrays bytes writable names each dims kept values =
     let n : ℕ = length arrays in
     let h : Header = layout_header shape n in
-    let bytes : List ℕ = layout shape arrays in
     let found : FileShape = shape_of h (sample_var shape) shape.kind in
     let head = head_for bytes (times_of h) (attr_vars h) in
     same_dims found shape.dims bytes (samples_begin shape) (row_length shape) (map head (range_with_len 0 n)) (layout_dims_of shape n dims)
     ∙ arrays_by (record found { dims = shape.dims }) bytes (samples_begin shape) (row_length shape) head arrays
-    (λ k d within. array_back shape n k (get_or arrays k d) bytes group.writable group.names (group.each k d within) (kept k d within) (layout_values shape arrays k d group.each within))
+    (λ k d within. array_back shape n k (get_or arrays k d) bytes writable names (each k d within) (kept k d within) (values k d within))
+
+-- bytes with the layout's header, and the values of some arrays in its records, are a stack of these arrays
+pub read_back : (shape : FileShape) (arrays : List Array) (bytes : List ℕ) → header_of bytes ≡ Ok (layout_header shape (length arrays)) → IsWritable shape → HasTextNames shape → All (HasShape shape) arrays →
+    HasSmallDims shape → All IsKept arrays → length arrays ≤ 65536 →
+    ((k : ℕ) (d : Array) → k < length arrays → HasValues shape (get_or arrays k d) bytes (header_length shape) (k * row_length shape)) →
+    (s : StackValue) × (stack_of bytes ≡ Ok s) × (s.arrays ≡ arrays)
+unfolding stack_of
+read_back shape arrays bytes read writable names each dims kept few values =
+    let h : Header = layout_header shape (length arrays) in
+    let header : or_cdf (header_of bytes) ≡ Ok h = ap or_cdf read in (
+      stack_with bytes h (sample_var shape) shape.kind,
+      bind_to (or_cdf (header_of bytes)) _ h _ header (bind_to (frames_of h) _ (sample_var shape, shape.kind) _ (layout_frames shape (length arrays) writable few) refl),
+      stack_back shape arrays bytes writable names each dims kept values,
+    )
 
 -- THE LAW
 
@@ -146,12 +161,7 @@ abbrev pub ReadsBack : FileShape → List Array → Type 0
 ReadsBack shape arrays = (s : StackValue) × (stack_of (layout shape arrays) ≡ Ok s) × (s.arrays ≡ arrays)
 
 pub layout_reads_back : (shape : FileShape) (arrays : List Array) → IsKeptGroup shape arrays → ReadsBack shape arrays
-unfolding stack_of
 layout_reads_back shape arrays kept =
-    let h : Header = layout_header shape (length arrays) in
-    let bytes : List ℕ = layout shape arrays in
-    let header : or_cdf (header_of bytes) ≡ Ok h = ap or_cdf (layout_header_of shape arrays kept.group) in (
-      stack_with bytes h (sample_var shape) shape.kind,
-      bind_to (or_cdf (header_of bytes)) _ h _ header (bind_to (frames_of h) _ (sample_var shape, shape.kind) _ (layout_frames shape (length arrays) kept.group.writable kept.few) refl),
-      stack_back shape arrays kept.group kept.dims kept.each,
-    )
+    let group = kept.group in
+    read_back shape arrays (layout shape arrays) (layout_header_of shape arrays group) group.writable group.names group.each kept.dims kept.each kept.few
+    (λ k d within. layout_values shape arrays k d group.each within)

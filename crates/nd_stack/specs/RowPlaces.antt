@@ -36,7 +36,7 @@ Stands-take bytes place n text size h = ap (take n) h.1 ∙ take_at text h.0 n s
 
 -- ROWS
 
-rows_Stands : (shape : FileShape) (arrays : List Array) (k : ℕ) (d : Array) → All (HasShape shape) arrays → k < length arrays → Stands (flat_map (row shape) arrays) (k * row_length shape) (row shape (get_or arrays k d))
+pub rows_Stands : (shape : FileShape) (arrays : List Array) (k : ℕ) (d : Array) → All (HasShape shape) arrays → k < length arrays → Stands (flat_map (row shape) arrays) (k * row_length shape) (row shape (get_or arrays k d))
 rows_Stands shape [] k d h within = absurd (omega arith)
 rows_Stands shape (a ∷ arrays) zero d h within = (flat_map (row shape) arrays, ap (λ n. drop n (flat_map (row shape) (a ∷ arrays))) (zero-mul (row_length shape)))
 rows_Stands shape (a ∷ arrays) (suc k) d h within =
@@ -80,7 +80,7 @@ row_parts : (shape : FileShape) (a : Array) →
 unfolding row
 row_parts shape a = parts (signed_word a.id) (double_word a.stamp) (signed_word a.sec) (signed_word a.nsec) (padded_values (sample_kind a.kind) (bytes_of a.kind a.samples)) (flat_map (λ (t : Attr). attr_values shape.width t.value) a.attrs)
 
-row-HasValues : (shape : FileShape) (a : Array) (bytes : List ℕ) (begin record_place : ℕ) → HasShape shape a → Stands bytes (begin + record_place) (row shape a) → HasValues shape a bytes begin record_place
+pub row-HasValues : (shape : FileShape) (a : Array) (bytes : List ℕ) (begin record_place : ℕ) → HasShape shape a → Stands bytes (begin + record_place) (row shape a) → HasValues shape a bytes begin record_place
 row-HasValues shape a bytes begin record_place h stands =
     let samples = padded_values (sample_kind a.kind) (bytes_of a.kind a.samples) in
     let attrs = flat_map (λ (t : Attr). attr_values shape.width t.value) a.attrs in

@@ -1,18 +1,18 @@
 -- A header that was read is sound, and the bytes for each frame of a variable lie within the file.
-use Rattle.std.specs.Prelude.{◌≡◌, ◌≢◌, ℕ, zero, suc, ◌+◌, ◌-◌, ◌*◌, ◌<◌, ◌≤◌, max, Bool, true, false, ◌==◌, ◌&&◌, List, [], ◌∷◌, ◌++◌, length, drop, All, if◌then◌else◌, refl}
-use Rattle.std.proofs.Common.{ap, sym, subst, ◌∙◌, arith, add-one}
+use Rattle.std.specs.Prelude.{◌≡◌, ℕ, zero, suc, ◌+◌, ◌-◌, ◌*◌, ◌<◌, ◌≤◌, max, Bool, true, false, ◌==◌, ◌&&◌, List, [], ◌∷◌, ◌++◌, length, drop, All, if◌then◌else◌, refl}
+use Rattle.std.proofs.Common.{ap, sym, subst, ◌∙◌, arith}
 use Rattle.std.proofs.Math.Nat.{mul-le-mul_right, one-mul, mul_assoc, suc-mul}
 use Rattle.std.proofs.lemmas.Bool.{eqb-true}
 use Rattle.std.proofs.lemmas.Bool.Decides.{nat_tests}
-use Rattle.std.proofs.lemmas.List.Elements.{All-nil, All-cons, All-get_or, All-from_get_or}
+use Rattle.std.proofs.lemmas.List.Elements.{All-nil, All-cons}
 use Rattle.cdf_read.specs.declared.head.HeadDim.{HeadDim}
 use Rattle.cdf_read.specs.declared.head.HeadVar.{HeadVar}
 use Rattle.cdf_read.specs.declared.head.Header.{Header}
-use Rattle.cdf_read.specs.Grammar.{AreMany, IsList, IsDim, IsDimNumber, IsVar, Reads}
-use Rattle.cdf_read.specs.Places.{dim_length, value_size, value_count, size_of, var_size, is_record_var, begins_with_record, values_end}
-use Rattle.cdf_read.specs.PlaceLaws.{value_count-cons, value_count-positive}
-use Rattle.nd_stack.specs.Columns.{extent, frame_count, frame_values, values_size, column_of, LiesWithin}
-use Rattle.nd_stack.specs.Sound.{IsSoundVar, IsSound}
+use Rattle.cdf_read.specs.Grammar.{AreMany, IsDim, IsDimNumber, IsVar, Reads}
+use Rattle.cdf_read.specs.Places.{dim_length, value_size, value_count, size_of, var_size, values_end}
+use Rattle.cdf_read.specs.PlaceLaws.{value_count-cons}
+use Rattle.nd_stack.specs.Columns.{frame_count, column_of, LiesWithin}
+use Rattle.nd_stack.specs.Sound.{IsSound}
 
 -- what each element says holds of all
 pub AreMany-All : {A : Type 0} (Is : List A → A → List ℕ → List ℕ → Type 0) (P : A → Type 0) → ((earlier : List A) (x : A) (before after : List ℕ) → Is earlier x before after → P x) →

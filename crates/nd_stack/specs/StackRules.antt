@@ -1,5 +1,5 @@
 -- The stack of a file, or the first refusal.
-use Rattle.std.specs.Prelude.{ℕ, ◌+◌, ◌&&◌, nat_le, ℤ, pos, List, length, map, Option, Some, None, Result, Ok, Err, ok_or, codes}
+use Rattle.std.specs.Prelude.{ℕ, ◌+◌, ◌&&◌, nat_le, pos, List, length, map, Option, Some, None, Result, Ok, Err, ok_or, codes}
 use Rattle.std.specs.List.{range_with_len}
 use Rattle.nd_base.specs.declared.array.Head.{Head}
 use Rattle.nd_base.specs.declared.array.SampleType.{SampleType}

@@ -200,7 +200,7 @@ vars_IsList shape begin cs after writable h few count =
 pub column-is_record : (shape : FileShape) (c : Column) (begin : ℕ) → IsColumn shape c → is_record_var (layout_dims shape) (column_var c begin) ≡ true
 column-is_record shape c begin h = ap (begins_with_record (layout_dims shape)) h.numbers
 
-all_record_vars : (shape : FileShape) (begin : ℕ) (cs : List Column) → All (IsColumn shape) cs → record_vars (layout_dims shape) (column_vars begin cs) ≡ column_vars begin cs
+pub all_record_vars : (shape : FileShape) (begin : ℕ) (cs : List Column) → All (IsColumn shape) cs → record_vars (layout_dims shape) (column_vars begin cs) ≡ column_vars begin cs
 all_record_vars shape begin [] h = refl
 all_record_vars shape begin (c ∷ cs) h =
     rw (column-is_record shape c begin (All-head (IsColumn shape) c cs h)) (ap (λ rest. column_var c begin ∷ rest) (all_record_vars shape (begin + padded_length c.size) cs (All-tail (IsColumn shape) c cs h)))

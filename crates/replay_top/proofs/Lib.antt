@@ -1,6 +1,4 @@
 pub mod Files
-pub mod Rows
-pub mod Saves
+pub mod Frames
 pub mod Stops
 pub mod Claims
-pub mod Lengths

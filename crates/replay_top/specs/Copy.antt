@@ -1,45 +1,53 @@
--- What `copy` does: a stack in plain form is written in the file layout, under one name.
-use Rattle.std.specs.Prelude.{◌≡◌, ℕ, List, [], ◌∷◌, ◌++◌, Option, ◌==◌, codes, if◌then◌else◌}
-use Rattle.nd_base.specs.declared.array.SampleType.TheVariants.{UInt8}
-use Rattle.nd_base.specs.declared.attribute.FileShape.{FileShape}
+-- What `copy` does: the arrays of a stack are written in the file layout, under one name.
+use Rattle.std.specs.Prelude.{◌≡◌, ℕ, ◌≤◌, ◌==◌, List, length, ◌++◌, Option, Ok, codes, if◌then◌else◌}
+use Rattle.nd_base.specs.Array.{StackValue}
 use Rattle.edge_traits.specs.Files.{Files, HasFile, with_file}
 use Rattle.edge_traits.specs.Written.{with_written}
-use Rattle.cdf_read.specs.declared.plain.PlainHead.{PlainHead}
-use Rattle.cdf_read.specs.PlainForm.{IsPlain}
-use Rattle.cdf_read.specs.PlainStack.{plain_arrays, plain_dim}
 use Rattle.cdf_write.specs.Layout.{layout}
+use Rattle.cdf_write.specs.Lengths.{length_of, longest}
+use Rattle.nd_stack.specs.RoundTrip.{ReadsBack}
+use Rattle.nd_stack.specs.StackRules.{stack_of}
 use Rattle.replay_top.specs.Printed.{frames_line}
+
+-- the most bytes of a stack's file
+abbrev pub most_stack_bytes : ℕ
+most_stack_bytes = 1073741824
+
+-- the most arrays of a file that `copy` writes
+abbrev pub copy_group : ℕ
+copy_group = 65536
 
 -- the file of the first group of the node `copy`
 abbrev pub copy_name : List ℕ → List ℕ
 copy_name prefix = prefix ++ codes "copy_000.nc"
 
--- the shape of a stack in plain form
-abbrev pub plain_shape : PlainHead → FileShape
-plain_shape head = record { kind = UInt8; dims = plain_dim head.x ∷ plain_dim head.y ∷ []; attrs = []; width = 256; extras = [] }
-
 -- the bytes of the copy's file: the layout of the stack's arrays
-unfoldable pub copy_file : List ℕ → PlainHead → List ℕ
-copy_file bytes head = layout (plain_shape head) (plain_arrays bytes head)
+abbrev pub copy_file : StackValue → List ℕ
+copy_file s = layout s.shape s.arrays
 
--- the shelf with the copy's file, which is written where there is a frame
-abbrev pub with_copy : Option Files → List ℕ → List ℕ → PlainHead → Option Files
-with_copy held prefix bytes head = if head.frames == 0 then held else with_file held (copy_name prefix) (copy_file bytes head)
+-- and their number
+abbrev pub copy_length : StackValue → ℕ
+copy_length s = length_of s.shape (length s.arrays)
 
--- the shelf as before, or with a front of a file's final bytes under its name
-pub data IsBegun (held : Option Files) (name final : List ℕ) (now : Option Files) : Type 0 where
-  Untouched : now ≡ held → IsBegun held name final now
-  Front : (front rest : List ℕ) → final ≡ front ++ rest → now ≡ with_file held name front → IsBegun held name final now
+-- the shelf with the copy's file, which is written where there is an array
+abbrev pub with_copy : Option Files → List ℕ → StackValue → Option Files
+with_copy held prefix s = if length s.arrays == 0 then held else with_file held (copy_name prefix) (copy_file s)
 
--- the bytes that were read: all of the stack's file where the library tells it, and in plain form
-pub record IsPlainStack (told : Option Files) (stack bytes : List ℕ) (head : PlainHead) : Type 0 where
+-- the bytes that were read are all of the stack's file, where the library tells it, and those of this stack, whose arrays
+-- are one group
+pub record IsStackRead (told : Option Files) (stack bytes : List ℕ) (s : StackValue) : Type 0 where
   pub read : HasFile told stack bytes
-  pub plain : IsPlain bytes head
+  pub short : length bytes ≤ most_stack_bytes
+  pub found : stack_of bytes ≡ Ok s
+  pub few : length s.arrays ≤ copy_group
 
--- the copy was written and the number of frames printed, and nothing else
+-- the copy was written and the number of frames printed, and nothing else; the file isn't too long, and reads back as the
+-- same arrays
 pub record IsCopied (told : Option Files) (stack prefix : List ℕ) (held now : Option Files) (before after : Option (List ℕ)) : Type 0 where
   pub bytes : List ℕ
-  pub head : PlainHead
-  pub source : IsPlainStack told stack bytes head
-  pub files : now ≡ with_copy held prefix bytes head
-  pub printed : after ≡ with_written before (frames_line head.frames)
+  pub value : StackValue
+  pub source : IsStackRead told stack bytes value
+  pub within : 1 ≤ length value.arrays → copy_length value ≤ longest
+  pub files : now ≡ with_copy held prefix value
+  pub back : 1 ≤ length value.arrays → ReadsBack value.shape value.arrays
+  pub printed : after ≡ with_written before (frames_line (length value.arrays))

@@ -3,9 +3,9 @@ pub mod Printed
 pub mod Reads
 pub mod Command
 pub mod Copy
+pub mod Limits
 pub mod Causes
 pub mod Answers
-pub mod Saving
 pub mod Stages
 pub mod Claims
 pub mod Words

@@ -1,48 +1,71 @@
-//! `copy STACK PREFIX`: reads a stack in plain form, and writes it in the file layout.
+//! `copy STACK PREFIX`: reads a stack, and writes it in the file layout.
 
-ghost use Rattle.std.specs.Prelude.{◌≡◌, ◌∷◌, Some, OnOk, IfOk, IfErr};
+ghost use Rattle.std.specs.Prelude.{◌≡◌, ◌≤◌, ◌∷◌, length, Some, OnOk, IfOk, IfErr};
 ghost use Rattle.edge_traits.specs.Written.{with_written};
-ghost use Rattle.cdf_read.specs.PlainForm.{IsPlain};
+ghost use Rattle.cdf_write.specs.Lengths.{longest};
+ghost use Rattle.nd_stack.specs.Answers.{Gives};
+ghost use Rattle.nd_stack.specs.KeptStacks.{IsKeptStack};
+ghost use Rattle.nd_stack.specs.StackRules.{stack_of};
 ghost use Rattle.replay_top.specs.Answers.{Ends};
 ghost use Rattle.replay_top.specs.Causes.{IsCause};
 ghost use Rattle.replay_top.specs.Command.{Copy};
-ghost use Rattle.replay_top.specs.Copy.{IsPlainStack, with_copy};
+ghost use Rattle.replay_top.specs.Copy.{copy_length, with_copy};
 ghost use Rattle.replay_top.specs.Printed.{frames_line};
-ghost use Rattle.replay_top.specs.Stages.{ReadStops, SaveStops, PrintStops};
+ghost use Rattle.replay_top.specs.Stages.{IsLoaded, IsTooLong, ReadStops, SaveStops, PrintStops};
 
 use crate::printing::write_all;
-use crate::reading::{ReadRefusal, read_file};
-use crate::status::{StackFault, Status};
-use crate::writing::{SaveRefusal, write_copy};
-use cdf_read::{PlainHead, read_plain};
+use crate::reading::read_file;
+use crate::saving::write_frames;
+use crate::status::{LimitFault, Status};
+use cdf_write::file_length;
 use edge_traits::{Library, Shelf, Sink};
+use file_out::SaveFault;
+use nd_base::Stack;
+use nd_stack::{StackFault, read_stack, stacks_read_back};
 use std::alloc::Global;
 
-/// The most bytes that a file in plain form has.
-const PLAIN_LIMIT: u64 = 1_048_576;
+/// The most bytes of a stack's file.
+const STACK_LIMIT: u64 = 1_073_741_824;
 
-/// Reads a stack that has to be in plain form.
-fn read_plain_stack<L: Library>(
-    alloc: Global,
-    library: &mut L,
-    stack: &str,
-) -> Result<(Vec<u8>, PlainHead), Status>
-    ensures ok { IfOk result (λ r. IsPlainStack (L.holds library.old) stack.now r.0.items r.1) }
-    ensures stays { OnOk result (L.faults library.new ≡ L.faults library.old) }
-    ensures err { IfErr result (λ s. ReadStops s (L.holds library.old) stack.now (L.faults library.old) (L.faults library.new)) }
+/// The most bytes of a file that is written.
+const FILE_LIMIT: u128 = 2_147_483_647;
+
+/// The number of the node `copy`.
+const COPY_NODE: u32 = 1;
+
+/// The stack of a file's bytes.
+fn stack_in(alloc: Global, bytes: Vec<u8>) -> Result<Stack, StackFault>
+    ensures gives { Gives (λ stack. stack) result (stack_of bytes.items) }
+    ensures kept { IfOk result IsKeptStack }
 {
-    let bytes = match read_file(alloc, library, stack, PLAIN_LIMIT) {
-        Ok(bytes) => bytes,
-        Err(ReadRefusal::TooLong { .. }) => {
-            return Err(Status::StackBytes(StackFault::NotPlain));
-        }
-        Err(ReadRefusal::Failed) => return Err(Status::ReadFault),
-        Err(ReadRefusal::OutOfMemory) => return Err(Status::OutOfMemory),
-    };
-    match read_plain(&bytes) {
-        Some(head) => Ok((bytes, head)),
-        None => Err(Status::StackBytes(StackFault::NotPlain)),
+    stacks_read_back();
+    read_stack(alloc, bytes)
+}
+
+/// Reads a stack.
+fn load_stack<L: Library>(alloc: Global, library: &mut L, name: &str) -> Result<Stack, Status>
+    ensures ok { IfOk result (λ stack. IsLoaded (L.holds library.old) name.now stack) }
+    ensures stays { OnOk result (L.faults library.new ≡ L.faults library.old) }
+    ensures err { IfErr result (λ s. ReadStops s (L.holds library.old) name.now (L.faults library.old) (L.faults library.new)) }
+{
+    let bytes = read_file(alloc, library, name, STACK_LIMIT)?;
+    Ok(stack_in(alloc, bytes)?)
+}
+
+/// Refuses a stack whose copy would be too long.
+fn check_length(stack: &Stack) -> Result<(), Status>
+    requires kept { IsKeptStack stack.now }
+    ensures ok { OnOk result (1 ≤ length stack.now.arrays → copy_length stack.now ≤ longest) }
+    ensures err { IfErr result (λ s. IsTooLong s stack.now) }
+{
+    let bytes = file_length(stack.shape(), u64::from(stack.frames()));
+    if stack.frames() != 0 && bytes > FILE_LIMIT {
+        return Err(Status::Limit(LimitFault::FileTooLarge {
+            node: COPY_NODE,
+            bytes,
+        }));
     }
+    Ok(())
 }
 
 /// Writes the copy where there is a frame.
@@ -50,24 +73,24 @@ fn save_copy<K: Shelf>(
     alloc: Global,
     shelf: &mut K,
     prefix: &str,
-    bytes: &[u8],
-    head: PlainHead,
+    stack: &Stack,
 ) -> Result<(), Status>
-    requires plain { IsPlain bytes.now head }
-    ensures ok { OnOk result (K.held shelf.new ≡ with_copy (K.held shelf.old) prefix.now bytes.now head) }
+    requires kept { IsKeptStack stack.now }
+    requires within { 1 ≤ length stack.now.arrays → copy_length stack.now ≤ longest }
+    ensures ok { OnOk result (K.held shelf.new ≡ with_copy (K.held shelf.old) prefix.now stack.now) }
     ensures stays { OnOk result (K.faults shelf.new ≡ K.faults shelf.old) }
-    ensures err { IfErr result (λ s. SaveStops s (K.held shelf.old) prefix.now bytes.now head (K.held shelf.new) (K.faults shelf.old) (K.faults shelf.new)) }
+    ensures err { IfErr result (λ s. SaveStops s (K.held shelf.old) prefix.now stack.now (K.held shelf.new) (K.faults shelf.old) (K.faults shelf.new)) }
 {
-    if head.frames == 0 {
+    if stack.frames() == 0 {
         return Ok(());
     }
     let Ok(name) = format!(in alloc; "{prefix}copy_000.nc") else {
         return Err(Status::OutOfMemory);
     };
-    match write_copy(alloc, shelf, name.as_str(), bytes, head) {
+    match write_frames(alloc, shelf, name.as_str(), stack) {
         Ok(()) => Ok(()),
-        Err(SaveRefusal::Failed) => Err(Status::ShelfFault),
-        Err(SaveRefusal::OutOfMemory) => Err(Status::OutOfMemory),
+        Err(SaveFault::Failed) => Err(Status::ShelfFault),
+        Err(SaveFault::OutOfMemory) => Err(Status::OutOfMemory),
     }
 }
 
@@ -86,27 +109,30 @@ fn print_frames<T: Sink>(alloc: Global, out: &mut T, frames: u32) -> Result<(), 
     }
 }
 
-/// Copies a stack in plain form to the file `<prefix>copy_000.nc`, and prints how many frames it has.
+/// Copies a stack to the file `<prefix>copy_000.nc`, and prints how many frames it has.
 pub(crate) fn copy<L: Library, K: Shelf, T: Sink>(
     alloc: Global,
-    stack: &str,
+    name: &str,
     prefix: &str,
     library: &mut L,
     shelf: &mut K,
     out: &mut T,
 ) -> Status
-    ensures ends { Ends result (Some (Copy stack.now prefix.now)) (L.holds library.old) (K.held shelf.old) (K.held shelf.new) (T.written out.old) (T.written out.new) }
+    ensures ends { Ends result (Some (Copy name.now prefix.now)) (L.holds library.old) (K.held shelf.old) (K.held shelf.new) (T.written out.old) (T.written out.new) }
     ensures cause { IsCause result (record { library = L.faults library.old; shelf = K.faults shelf.old; sink = T.faults out.old })
         (record { library = L.faults library.new; shelf = K.faults shelf.new; sink = T.faults out.new }) }
 {
-    let (bytes, head) = match read_plain_stack(alloc, library, stack) {
+    let stack = match load_stack(alloc, library, name) {
         Ok(stack) => stack,
         Err(status) => return status,
     };
-    if let Err(status) = save_copy(alloc, shelf, prefix, &bytes, head) {
+    if let Err(status) = check_length(&stack) {
         return status;
     }
-    match print_frames(alloc, out, head.frames) {
+    if let Err(status) = save_copy(alloc, shelf, prefix, &stack) {
+        return status;
+    }
+    match print_frames(alloc, out, stack.frames()) {
         Ok(()) => Status::Done,
         Err(status) => status,
     }

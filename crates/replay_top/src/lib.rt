@@ -4,12 +4,12 @@
 mod copy;
 mod printing;
 mod reading;
+mod saving;
 mod status;
 #[cfg(test)]
 mod tests;
 mod top;
 mod words;
-mod writing;
 
-pub use status::{StackFault, Status, status_text};
+pub use status::{LimitFault, Status, status_text};
 pub use top::tool_top;

@@ -1,7 +1,9 @@
 //! Worked runs of the top call over objects in memory.
 
-use crate::{StackFault, Status, status_text, tool_top};
+use crate::{Status, status_text, tool_top};
+use cdf_read::CdfFault;
 use edge_traits::{Failed, Library, MemLibrary, MemShelf, MemSink, Shelf, Sink, SureLibrary};
+use nd_stack::StackFault;
 use std::alloc::{AllocError, Global};
 use std::test::Fail;
 
@@ -80,6 +82,63 @@ fn copy_of_small_stack(alloc: Global) -> Result<Vec<u8>, AllocError> {
     Ok(bytes)
 }
 
+/// What follows the attributes in a copy of the same frame with the whole attribute `Frame`, which is 0.
+const WITH_ATTRIBUTE: [&[u8]; 8] = [
+    b"\0\0\0\x0b\0\0\0\x06",
+    b"\0\0\0\x08uniqueId\0\0\0\x01\0\0\0\0\0\0\0\0\0\0\0\0\0\0\0\x04\0\0\0\x04\0\0\x02\x48",
+    b"\0\0\0\x09timeStamp\0\0\0\0\0\0\x01\0\0\0\0\0\0\0\0\0\0\0\0\0\0\0\x06\0\0\0\x08\0\0\x02\x4c",
+    b"\0\0\0\x0aepicsTSSec\0\0\0\0\0\x01\0\0\0\0\0\0\0\0\0\0\0\0\0\0\0\x04\0\0\0\x04\0\0\x02\x54",
+    b"\0\0\0\x0bepicsTSNsec\0\0\0\0\x01\0\0\0\0\0\0\0\0\0\0\0\0\0\0\0\x04\0\0\0\x04\0\0\x02\x58",
+    b"\0\0\0\x0aarray_data\0\0\0\0\0\x03\0\0\0\0\0\0\0\x01\0\0\0\x02\0\0\0\0\0\0\0\0\0\0\0\x01\0\0\0\x04\0\0\x02\x5c",
+    b"\0\0\0\x0aAttr_Frame\0\0\0\0\0\x01\0\0\0\0\0\0\0\0\0\0\0\0\0\0\0\x04\0\0\0\x04\0\0\x02\x60",
+    b"\0\0\0\x01\0\0\0\0\0\0\0\0\0\0\0\0\0\0\0\0\x01\x02\x03\x04\0\0\0\0",
+];
+
+fn copy_with_attribute(alloc: Global) -> Result<Vec<u8>, AllocError> {
+    let mut bytes = Vec::new(alloc);
+    for part in COPY.iter().take(14) {
+        bytes.extend_from_slice(part)?;
+    }
+    for part in WITH_ATTRIBUTE {
+        bytes.extend_from_slice(part)?;
+    }
+    Ok(bytes)
+}
+
+/// The parts of a file of one frame with one sample and 128 texts: the first has 16,777,216 bytes, and each other one 1.
+/// All values begin at the same place.
+const BEFORE_TEXTS: [&[u8]; 6] = [
+    b"CDF\x01\0\0\0\0",
+    b"\0\0\0\x0a\0\0\0\x03\0\0\0\x01f\0\0\0\0\0\0\x01\0\0\0\x01x\0\0\0\0\0\0\x01\0\0\0\x01w\0\0\0\x01\0\0\0",
+    b"\0\0\0\0\0\0\0\0\0\0\0\x0b\0\0\0\x81",
+    b"\0\0\0\x0aarray_data\0\0\0\0\0\x02\0\0\0\0\0\0\0\x01\0\0\0\0\0\0\0\0",
+    b"\0\0\0\x01\0\0\0\0\0\0\x16\x74",
+    b"\0\0\0\x08Attr_zzz\0\0\0\x02\0\0\0\0\0\0\0\x02\0\0\0\0\0\0\0\0\0\0\0\x02\0\0\0\0\0\0\x16\x74",
+];
+
+const TEXT_NAME: &[u8] = b"\0\0\0\x08Attr_";
+
+const AFTER_TEXT_NAME: &[u8] =
+    b"\0\0\0\x02\0\0\0\0\0\0\0\x01\0\0\0\0\0\0\0\0\0\0\0\x02\0\0\0\0\0\0\x16\x74";
+
+fn wide_texts(alloc: Global) -> Result<Vec<u8>, AllocError> {
+    let mut bytes = Vec::new(alloc);
+    for part in BEFORE_TEXTS {
+        bytes.extend_from_slice(part)?;
+    }
+    for number in 0..127u8 {
+        bytes.extend_from_slice(TEXT_NAME)?;
+        bytes.extend_from_slice(&[
+            b'0' + number / 100,
+            b'0' + number / 10 % 10,
+            b'0' + number % 10,
+        ])?;
+        bytes.extend_from_slice(AFTER_TEXT_NAME)?;
+    }
+    bytes.resize(5_748 + 16_777_216, 0)?;
+    Ok(bytes)
+}
+
 fn words(alloc: Global, words: &[&str]) -> Result<Vec<String>, AllocError> {
     let mut list = Vec::new(alloc);
     for word in words {
@@ -112,7 +171,6 @@ struct Outcome {
     status: Status,
     shelf: MemShelf,
     sink: MemSink,
-    reads: u64,
 }
 
 /// Which calls of the library, the shelf and the sink fail.
@@ -146,7 +204,6 @@ fn copy(alloc: Global, bytes: Vec<u8>, fails: Fails) -> Result<Outcome, AllocErr
         status,
         shelf,
         sink,
-        reads: library.calls(),
     })
 }
 
@@ -191,41 +248,134 @@ fn writes_no_file_for_no_frame(rt: HostRuntime) -> Result<(), Fail> {
     Ok(())
 }
 
+/// The file with one byte set to another value.
+fn changed(mut bytes: Vec<u8>, at: usize, to: u8) -> Vec<u8> {
+    if let Some(byte) = bytes.get_mut(at) {
+        *byte = to;
+    }
+    bytes
+}
+
+fn without_last(mut bytes: Vec<u8>) -> Vec<u8> {
+    bytes.pop();
+    bytes
+}
+
 #[test]
-fn refuses_a_file_one_byte_too_short(rt: HostRuntime) -> Result<(), Fail> {
+fn copies_are_copied_byte_for_byte(rt: HostRuntime) -> Result<(), Fail> {
     let alloc = rt.alloc();
-    let mut bytes = small_stack(alloc)?;
-    bytes.truncate(147);
-    let run = copy(alloc, bytes, none(alloc))?;
-    assert_eq!(rt; run.status, Status::StackBytes(StackFault::NotPlain));
-    assert_eq!(rt; run.shelf.names_count(), 0);
-    assert_eq!(rt; run.sink.bytes().len(), 0);
+    let rows = [
+        (
+            copy_of_small_stack(alloc)?,
+            copy_of_small_stack(alloc)?,
+            564,
+        ),
+        (
+            copy_with_attribute(alloc)?,
+            copy_with_attribute(alloc)?,
+            612,
+        ),
+    ];
+    for (file, whole, length) in rows {
+        let run = copy(alloc, file, none(alloc))?;
+        assert_eq!(rt; run.status, Status::Done);
+        let written = run.shelf.bytes("x_copy_000.nc").ok_or("no file")?;
+        assert_eq!(rt; written.len(), length);
+        assert_eq!(rt; written, whole.as_slice());
+        assert_eq!(rt; run.sink.bytes(), b"frames 1\n".as_slice());
+    }
     Ok(())
 }
 
 #[test]
-fn reads_nothing_of_a_file_past_the_limit(rt: HostRuntime) -> Result<(), Fail> {
+fn stacks_are_refused_by_their_bytes(rt: HostRuntime) -> Result<(), Fail> {
     let alloc = rt.alloc();
-    let mut fails = none(alloc);
-    fails.library.push(1)?;
-    let run = copy(alloc, vec![in alloc; 0; 1_048_577]?, fails)?;
-    assert_eq!(rt; run.status, Status::StackBytes(StackFault::NotPlain));
-    assert_eq!(rt; run.reads, 1);
-    let mut at_limit = none(alloc);
-    at_limit.library.push(1)?;
-    let run = copy(alloc, vec![in alloc; 0; 1_048_576]?, at_limit)?;
-    assert_eq!(rt; run.status, Status::ReadFault);
+    let rows = [
+        (
+            "dataType 8",
+            changed(copy_of_small_stack(alloc)?, 115, 8),
+            "status 4 StackBytes SampleType 8",
+        ),
+        (
+            "one byte too short",
+            without_last(small_stack(alloc)?),
+            "status 4 StackBytes Cdf DataShort 0",
+        ),
+        (
+            "no magic",
+            changed(small_stack(alloc)?, 3, 2),
+            "status 4 StackBytes Cdf Magic",
+        ),
+        (
+            "no array_data",
+            changed(copy_of_small_stack(alloc)?, 492, 98),
+            "status 4 StackBytes NoArrayData",
+        ),
+    ];
+    for (what, file, text) in rows {
+        let run = copy(alloc, file, none(alloc))?;
+        let words = status_text(alloc, &run.status).map_err(|_| "memory")?;
+        assert_eq!(rt; words.as_str(), text, "{what}");
+        assert_eq!(rt; run.shelf.calls(), 0);
+        assert_eq!(rt; run.sink.calls(), 0);
+    }
     Ok(())
 }
 
 #[test]
-fn copies_the_largest_file(rt: HostRuntime) -> Result<(), Fail> {
+fn a_copy_past_the_limit_is_not_begun(rt: HostRuntime) -> Result<(), Fail> {
     let alloc = rt.alloc();
-    let values = vec![in alloc; 7; 1_048_432]?;
-    let run = copy(alloc, stack(alloc, 1, 16, 65_527, &values)?, none(alloc))?;
-    assert_eq!(rt; run.status, Status::Done);
-    let written = run.shelf.bytes("x_copy_000.nc").ok_or("no file")?;
-    assert_eq!(rt; written.len(), 560 + 1_048_432);
+    let run = copy(alloc, wide_texts(alloc)?, none(alloc))?;
+    let words = status_text(alloc, &run.status).map_err(|_| "memory")?;
+    assert_eq!(rt; words.as_str(), "status 5 Limit FileTooLarge 1 2147489812");
+    assert_eq!(rt; run.shelf.calls(), 0);
+    assert_eq!(rt; run.sink.calls(), 0);
+    Ok(())
+}
+
+/// A library whose only file has so many bytes, and whose reads all fail.
+#[derive(Drop)]
+struct LongLibrary {
+    size: u64,
+    faults: u64,
+}
+
+impl Library for LongLibrary {
+    ghost use Rattle.std.specs.Prelude.{None};
+
+    ghost holds = { λ s. None };
+
+    ghost faults = { λ s. s.faults };
+
+    fn size(&mut self, _name: &str) -> Result<u64, Failed> {
+        Ok(self.size)
+    }
+
+    fn read_at(&mut self, _name: &str, _off: u64, _buf: &mut [u8]) -> Result<usize, Failed> {
+        self.faults = self.faults.saturating_add(1);
+        Err(Failed)
+    }
+}
+
+#[test]
+fn nothing_is_read_of_a_file_past_the_limit(rt: HostRuntime) -> Result<(), Fail> {
+    let alloc = rt.alloc();
+    let rows = [
+        (1_073_741_825, "status 5 Limit StackFile 1073741825", 0),
+        (u64::MAX, "status 5 Limit StackFile 18446744073709551615", 0),
+        (1_000, "status 6 ReadFault", 1),
+    ];
+    for (size, text, faults) in rows {
+        let mut library = LongLibrary { size, faults: 0 };
+        let mut shelf = MemShelf::new(alloc, 1_000, 4, vec![in alloc]?)?;
+        let mut sink = MemSink::new(alloc, 100, vec![in alloc]?)?;
+        let words = ["copy", "s.nc", "x_"];
+        let status = call(alloc, &words, &mut library, &mut shelf, &mut sink)?;
+        let words = status_text(alloc, &status).map_err(|_| "memory")?;
+        assert_eq!(rt; words.as_str(), text);
+        assert_eq!(rt; library.faults, faults);
+        assert_eq!(rt; (shelf.calls(), sink.calls()), (0, 0));
+    }
     Ok(())
 }
 
@@ -289,6 +439,14 @@ fn each_single_failing_call_is_named(rt: HostRuntime) -> Result<(), Fail> {
     Ok(())
 }
 
+fn stack_bytes(fault: StackFault) -> Status {
+    Status::StackBytes(fault)
+}
+
+fn cdf(fault: CdfFault) -> Status {
+    Status::StackBytes(StackFault::Cdf(fault))
+}
+
 #[test]
 fn statuses_have_their_texts(rt: HostRuntime) -> Result<(), Fail> {
     let alloc = rt.alloc();
@@ -296,8 +454,68 @@ fn statuses_have_their_texts(rt: HostRuntime) -> Result<(), Fail> {
         (Status::Done, "status 0 Done"),
         (Status::Usage, "status 1 Usage"),
         (
-            Status::StackBytes(StackFault::NotPlain),
-            "status 4 StackBytes NotPlain",
+            stack_bytes(StackFault::Rank(12)),
+            "status 4 StackBytes Rank 12",
+        ),
+        (
+            stack_bytes(StackFault::SampleType(-6)),
+            "status 4 StackBytes SampleType -6",
+        ),
+        (
+            stack_bytes(StackFault::TooManyFrames(65_537)),
+            "status 4 StackBytes TooManyFrames 65537",
+        ),
+        (
+            stack_bytes(StackFault::TooManySamples(67_108_865)),
+            "status 4 StackBytes TooManySamples 67108865",
+        ),
+        (
+            stack_bytes(StackFault::FrameCount { var: 3 }),
+            "status 4 StackBytes FrameCount 3",
+        ),
+        (
+            stack_bytes(StackFault::AttrShape { var: 7 }),
+            "status 4 StackBytes AttrShape 7",
+        ),
+        (
+            cdf(CdfFault::Short { at: 20 }),
+            "status 4 StackBytes Cdf Short 20",
+        ),
+        (
+            cdf(CdfFault::Tag { at: 8 }),
+            "status 4 StackBytes Cdf Tag 8",
+        ),
+        (
+            cdf(CdfFault::Negative { at: 4 }),
+            "status 4 StackBytes Cdf Negative 4",
+        ),
+        (
+            cdf(CdfFault::NameText { at: 9 }),
+            "status 4 StackBytes Cdf NameText 9",
+        ),
+        (
+            cdf(CdfFault::NameLength { at: 5 }),
+            "status 4 StackBytes Cdf NameLength 5",
+        ),
+        (
+            cdf(CdfFault::DimNumber { at: 6 }),
+            "status 4 StackBytes Cdf DimNumber 6",
+        ),
+        (
+            cdf(CdfFault::TwoRecordDims),
+            "status 4 StackBytes Cdf TwoRecordDims",
+        ),
+        (
+            cdf(CdfFault::ValueType { at: 7 }),
+            "status 4 StackBytes Cdf ValueType 7",
+        ),
+        (
+            cdf(CdfFault::RecordDimNotFirst { var: 1 }),
+            "status 4 StackBytes Cdf RecordDimNotFirst 1",
+        ),
+        (
+            cdf(CdfFault::Overflow { var: 2 }),
+            "status 4 StackBytes Cdf Overflow 2",
         ),
         (Status::ReadFault, "status 6 ReadFault"),
         (Status::ShelfFault, "status 7 ShelfFault"),

@@ -1,8 +1,9 @@
 //! The top call.
 
 ghost use Rattle.std.specs.Prelude.{◌≡◌, ◌↔◌, map, None, string_bytes};
-ghost use Rattle.replay_top.specs.declared.status.StackFault.{StackFault};
-ghost use Rattle.replay_top.specs.Answers.{Ends, IsDone, HasStackFault, IsSaveBegun, IsPrintCutShort, IsRefused};
+ghost use Rattle.nd_stack.specs.declared.fault.StackFault.{StackFault};
+ghost use Rattle.replay_top.specs.declared.status.LimitFault.{LimitFault};
+ghost use Rattle.replay_top.specs.Answers.{Ends, IsDone, HasStackFault, HasLimitFault, IsSaveBegun, IsPrintCutShort, IsRefused};
 ghost use Rattle.replay_top.specs.Causes.{IsCause};
 ghost use Rattle.replay_top.specs.Claims.{Completes};
 ghost use Rattle.replay_top.specs.Command.{command_of};
@@ -46,9 +47,11 @@ pub fn tool_top<L: Library, K: Shelf, T: Sink>(
     ensures done { result ≡ Status.Done →
         IsDone (command_of (map string_bytes words.now)) (L.holds library.old) (K.held shelf.old) (K.held shelf.new) (T.written out.old) (T.written out.new) }
 
-    // Refusals: exactly where the words are no command; where the stack's bytes have that fault.
+    // Refusals: exactly where the words are no command; where the stack's bytes have that fault; where a number passes
+    // its limit.
     ensures usage { (result ≡ Status.Usage) ↔ (command_of (map string_bytes words.now) ≡ None) }
     ensures refused { (fault : StackFault) → result ≡ Status.StackBytes fault → HasStackFault (command_of (map string_bytes words.now)) (L.holds library.old) fault }
+    ensures limit { (fault : LimitFault) → result ≡ Status.Limit fault → HasLimitFault (command_of (map string_bytes words.now)) (L.holds library.old) fault }
 
     // What a status other than Done leaves.
     ensures untouched { IsRefused result → (K.held shelf.new ≡ K.held shelf.old) × (T.written out.new ≡ T.written out.old) }

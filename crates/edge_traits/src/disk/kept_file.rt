@@ -1,81 +1,64 @@
 //! The file that was used last, kept open for the next call on its name.
 
-ghost use Rattle.std.specs.Prelude.{◌≡◌, ◌≤◌, ◌↔◌, length, take, IsTrue, IsSome, IfSome, IfNone, OnSome};
+ghost use Rattle.std.specs.Prelude.{◌≡◌, ◌≤◌, None, Some, length, OnSome};
+ghost use Rattle.edge_traits.specs.RealFiles.{file_named, without};
 
 use std::marker::Model;
 
-/// The most bytes of a name whose file is kept.
-const NAME_LIMIT: usize = 256;
+/// The most bytes of a name. The system takes fewer.
+pub const NAME_LIMIT: usize = 4096;
 
-/// A name of up to the limit.
-#[derive(Drop)]
-struct ShortName {
-    bytes: [u8; NAME_LIMIT],
-    len: usize,
-}
-
-impl Model for ShortName {
-    ghost use Rattle.std.specs.Prelude.{◌≤◌, List, ℕ, take};
-
-    ghost Value = { List ℕ };
-
-    ghost view = { λ s. take s.len s.bytes };
-
-    ghost invariant = { λ s. s.len ≤ 256 };
-}
-
-impl ShortName {
-    /// None where the name is too long.
-    fn new(name: &str) -> Option<ShortName>
-        ensures fits { IsSome result ↔ (length name.now ≤ 256) }
-        ensures same { IfSome result (λ s. s ≡ name.now) }
-    {
-        let len = name.len();
-        if len > NAME_LIMIT {
-            return None;
-        }
-        let mut bytes = [0; NAME_LIMIT];
-        bytes[..len].copy_from_slice(name.as_bytes());
-        Some(ShortName { bytes, len })
-    }
-
-    fn is(&self, name: &str) -> bool
-        ensures { IsTrue result ↔ (self.now ≡ name.now) }
-    {
-        &self.bytes[..self.len] == name.as_bytes()
-    }
-}
-
-/// An open file with its name. A file whose name is longer than the limit is not kept.
+/// An open file with its name, where one is kept.
 #[derive(Drop)]
 pub struct KeptFile<F: Drop> {
-    kept: Option<(ShortName, F)>,
+    name: [u8; NAME_LIMIT],
+    len: usize,
+    file: Option<F>,
+}
+
+impl<F: Drop> Model for KeptFile<F> {
+    ghost use Rattle.std.specs.Prelude.{◌≤◌, List, ℕ, Option, take};
+    ghost use Rattle.std.specs.Option.{option_map};
+
+    ghost Value = { Option (List ℕ × F) };
+
+    ghost view = { λ s. option_map (λ file. (take s.len s.name, file)) s.file };
+
+    ghost invariant = { λ s. s.len ≤ 4096 };
 }
 
 impl<F: Drop> KeptFile<F> {
-    pub fn new() -> KeptFile<F> {
-        KeptFile { kept: None }
+    /// Keeps none yet.
+    pub fn new() -> KeptFile<F>
+        ensures { result ≡ None }
+    {
+        KeptFile {
+            name: [0; NAME_LIMIT],
+            len: 0,
+            file: None,
+        }
     }
 
     /// Takes the file out where it is the one of this name.
     pub fn take(&mut self, name: &str) -> Option<F>
-        ensures kept { IfSome result (λ file. self.old.kept ≡ Some (name.now, file)) }
+        ensures file { result ≡ file_named self.old name.now }
+        ensures rest { self.new ≡ without self.old name.now }
+        ensures fits { OnSome result (length name.now ≤ 4096) }
     {
-        match &self.kept {
-            Some((kept, _)) if kept.is(name) => {}
-            _ => return None,
+        if &self.name[..self.len] == name.as_bytes() {
+            self.file.take()
+        } else {
+            None
         }
-        let (_, file) = self.kept.take()?;
-        Some(file)
     }
 
     /// Keeps the file in place of the one before.
     pub fn keep(&mut self, name: &str, file: F)
-        ensures kept { IfSome self.new.kept (λ one. one ≡ (name.now, file)) }
+        requires { length name.now ≤ 4096 }
+        ensures { self.new ≡ Some (name.now, file) }
     {
-        self.kept = match ShortName::new(name) {
-            Some(name) => Some((name, file)),
-            None => None,
-        };
+        self.len = name.len();
+        self.name[..self.len].copy_from_slice(name.as_bytes());
+        self.file = Some(file);
     }
 }

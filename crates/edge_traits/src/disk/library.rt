@@ -1,15 +1,17 @@
 //! Real files to read.
 
-ghost use Rattle.std.specs.Prelude.{◌≡◌, ◌≤◌, length, IfOk};
+ghost use Rattle.std.specs.Prelude.{◌≡◌, ◌≤◌, None, length, pos, IfOk, OnOk};
+ghost use Rattle.std.specs.declared.io.traits.SeekFrom.TheVariants.{Start, End};
+ghost use Rattle.edge_traits.specs.Faults.{Counts};
+ghost use Rattle.edge_traits.specs.RealFiles.{Steps, Seeks, Reads};
 
-use super::counted;
 use super::kept_file::KeptFile;
+use super::{counted, fault, file_of};
 use crate::{Failed, Library};
-use std::fs::OpenFile;
+use std::fs::{OpenFile, OpenOptions};
 use std::io::{Read, Seek, SeekFrom};
 use std::marker::Model;
 use std::rt::Files;
-use std::{fs, io};
 
 /// The files of the running machine, by their paths. The last one that was read stays open.
 #[derive(Drop)]
@@ -20,17 +22,17 @@ pub struct DiskLibrary<'a, R: Files> {
 }
 
 impl<'a, R: Files> Model for DiskLibrary<'a, R> {
-    ghost use Rattle.std.specs.Prelude.{ℕ};
+    ghost use Rattle.edge_traits.specs.RealFiles.{Adapter};
 
-    ghost Value = { ℕ };
+    ghost Value = { Adapter R.File };
 
-    ghost view = { λ s. s.faults };
+    ghost view = { λ s. record { last = s.kept; faults = s.faults } };
 }
 
 impl<'a, R: Files> DiskLibrary<'a, R> {
     /// No call has failed yet.
     pub fn new(rt: &'a R) -> DiskLibrary<'a, R>
-        ensures { result ≡ 0 }
+        ensures { result ≡ record { last = None; faults = 0 } }
     {
         DiskLibrary {
             rt,
@@ -41,40 +43,10 @@ impl<'a, R: Files> DiskLibrary<'a, R> {
 
     /// How many calls failed.
     pub fn faults(&self) -> u64
-        ensures { result ≡ self.now }
+        ensures { result ≡ self.now.faults }
     {
         self.faults
     }
-}
-
-fn open_to_read<R: Files>(rt: &R, kept: &mut KeptFile<R::File>, name: &str) -> io::Result<R::File> {
-    match kept.take(name) {
-        Some(file) => Ok(file),
-        None => fs::open(rt, name),
-    }
-}
-
-fn size_of<R: Files>(rt: &R, kept: &mut KeptFile<R::File>, name: &str) -> io::Result<u64> {
-    let file = open_to_read(rt, kept, name)?;
-    let size = file.metadata()?.len();
-    kept.keep(name, file);
-    Ok(size)
-}
-
-fn read_some<R: Files>(
-    rt: &R,
-    kept: &mut KeptFile<R::File>,
-    name: &str,
-    off: u64,
-    buf: &mut [u8],
-) -> io::Result<usize>
-    ensures { IfOk result (λ n. n ≤ length buf.new) }
-{
-    let mut file = open_to_read(rt, kept, name)?;
-    file.seek(SeekFrom::Start(off))?;
-    let count = file.read(buf)?;
-    kept.keep(name, file);
-    Ok(count)
 }
 
 impl<'a, R: Files> Library for DiskLibrary<'a, R> {
@@ -82,15 +54,44 @@ impl<'a, R: Files> Library for DiskLibrary<'a, R> {
 
     ghost holds = { λ s. None };
 
-    ghost faults = { λ s. s };
+    ghost faults = { λ s. s.faults };
 
-    fn size(&mut self, name: &str) -> Result<u64, Failed> {
-        let size = size_of(self.rt, &mut self.kept, name);
-        counted(&mut self.faults, size)
+    fn size(&mut self, name: &str) -> Result<u64, Failed>
+        ensures seeks { IfOk result (λ n. Steps self.old.last self.new.last name.now
+            (Seeks R.File.stream_position R.File.stream_bytes (End (pos 0)) n)) }
+        ensures cause { Counts self.old.faults self.new.faults result }
+    {
+        let mut file = file_of(
+            self.rt,
+            &mut self.kept,
+            OpenOptions::new().read(true),
+            name,
+            &mut self.faults,
+        )?;
+        if counted(&mut self.faults, file.metadata())?.is_dir() {
+            return Err(fault(&mut self.faults));
+        }
+        let size = counted(&mut self.faults, file.seek(SeekFrom::End(0)))?;
+        self.kept.keep(name, file);
+        Ok(size)
     }
 
-    fn read_at(&mut self, name: &str, off: u64, buf: &mut [u8]) -> Result<usize, Failed> {
-        let count = read_some(self.rt, &mut self.kept, name, off, buf);
-        counted(&mut self.faults, count)
+    fn read_at(&mut self, name: &str, off: u64, buf: &mut [u8]) -> Result<usize, Failed>
+        ensures bound { IfOk result (λ n. n ≤ length buf.new) }
+        ensures reads { OnOk result (Steps self.old.last self.new.last name.now
+            (Reads R.File.stream_position R.File.stream_bytes R.File.remaining (Start off) result buf.new)) }
+        ensures cause { Counts self.old.faults self.new.faults result }
+    {
+        let mut file = file_of(
+            self.rt,
+            &mut self.kept,
+            OpenOptions::new().read(true),
+            name,
+            &mut self.faults,
+        )?;
+        counted(&mut self.faults, file.seek(SeekFrom::Start(off)))?;
+        let count = counted(&mut self.faults, file.read(buf))?;
+        self.kept.keep(name, file);
+        Ok(count)
     }
 }

@@ -1,12 +1,14 @@
 //! Real files to write.
 
-ghost use Rattle.std.specs.Prelude.{◌≡◌};
+ghost use Rattle.std.specs.Prelude.{◌≡◌, None, pos, OnOk};
+ghost use Rattle.std.specs.declared.io.traits.SeekFrom.TheVariants.{Start, End};
+ghost use Rattle.edge_traits.specs.Faults.{Counts};
+ghost use Rattle.edge_traits.specs.RealFiles.{without, IsKept, Steps, Writes};
 
-use super::counted;
 use super::kept_file::KeptFile;
+use super::{counted, file_of, open};
 use crate::{Failed, Shelf};
 use std::fs::OpenOptions;
-use std::io;
 use std::io::{Seek, SeekFrom, Write};
 use std::marker::Model;
 use std::rt::Files;
@@ -21,17 +23,17 @@ pub struct DiskShelf<'a, R: Files> {
 }
 
 impl<'a, R: Files> Model for DiskShelf<'a, R> {
-    ghost use Rattle.std.specs.Prelude.{ℕ};
+    ghost use Rattle.edge_traits.specs.RealFiles.{Adapter};
 
-    ghost Value = { ℕ };
+    ghost Value = { Adapter R.File };
 
-    ghost view = { λ s. s.faults };
+    ghost view = { λ s. record { last = s.kept; faults = s.faults } };
 }
 
 impl<'a, R: Files> DiskShelf<'a, R> {
     /// No call has failed yet.
     pub fn new(rt: &'a R) -> DiskShelf<'a, R>
-        ensures { result ≡ 0 }
+        ensures { result ≡ record { last = None; faults = 0 } }
     {
         DiskShelf {
             rt,
@@ -42,44 +44,28 @@ impl<'a, R: Files> DiskShelf<'a, R> {
 
     /// How many calls failed.
     pub fn faults(&self) -> u64
-        ensures { result ≡ self.now }
+        ensures { result ≡ self.now.faults }
     {
         self.faults
     }
-}
 
-fn create_empty<R: Files>(rt: &R, kept: &mut KeptFile<R::File>, name: &str) -> io::Result<()> {
-    let file = OpenOptions::new()
-        .write(true)
-        .create(true)
-        .truncate(true)
-        .open(rt, name)?;
-    kept.keep(name, file);
-    Ok(())
-}
-
-/// Writes all bytes from this place of the file on.
-fn write_from<R: Files>(
-    rt: &R,
-    kept: &mut KeptFile<R::File>,
-    name: &str,
-    place: SeekFrom,
-    bytes: &[u8],
-) -> io::Result<()> {
-    let mut file = match kept.take(name) {
-        Some(file) => file,
-        None => OpenOptions::new().write(true).open(rt, name)?,
-    };
-    file.seek(place)?;
-    file.write_all(bytes)?;
-    kept.keep(name, file);
-    Ok(())
-}
-
-fn close<F: Write + Drop>(kept: &mut KeptFile<F>, name: &str) -> io::Result<()> {
-    match kept.take(name) {
-        Some(mut file) => file.flush(),
-        None => Ok(()),
+    /// Writes all bytes from this place of the file on.
+    fn write_from(&mut self, name: &str, place: SeekFrom, bytes: &[u8]) -> Result<(), Failed>
+        ensures writes { OnOk result (Steps self.old.last self.new.last name.now
+            (Writes R.File.stream_position R.File.stream_bytes R.File.contents place bytes.now)) }
+        ensures cause { Counts self.old.faults self.new.faults result }
+    {
+        let mut file = file_of(
+            self.rt,
+            &mut self.kept,
+            OpenOptions::new().write(true),
+            name,
+            &mut self.faults,
+        )?;
+        counted(&mut self.faults, file.seek(place))?;
+        counted(&mut self.faults, file.write_all(bytes))?;
+        self.kept.keep(name, file);
+        Ok(())
     }
 }
 
@@ -88,25 +74,45 @@ impl<'a, R: Files> Shelf for DiskShelf<'a, R> {
 
     ghost held = { λ s. None };
 
-    ghost faults = { λ s. s };
+    ghost faults = { λ s. s.faults };
 
-    fn create(&mut self, name: &str) -> Result<(), Failed> {
-        let done = create_empty(self.rt, &mut self.kept, name);
-        counted(&mut self.faults, done)
+    fn create(&mut self, name: &str) -> Result<(), Failed>
+        ensures opened { OnOk result (IsKept self.new.last name.now) }
+        ensures cause { Counts self.old.faults self.new.faults result }
+    {
+        let file = open(
+            self.rt,
+            OpenOptions::new().write(true).create(true).truncate(true),
+            name,
+            &mut self.faults,
+        )?;
+        self.kept.keep(name, file);
+        Ok(())
     }
 
-    fn append(&mut self, name: &str, bytes: &[u8]) -> Result<(), Failed> {
-        let done = write_from(self.rt, &mut self.kept, name, SeekFrom::End(0), bytes);
-        counted(&mut self.faults, done)
+    fn append(&mut self, name: &str, bytes: &[u8]) -> Result<(), Failed>
+        ensures writes { OnOk result (Steps self.old.last self.new.last name.now
+            (Writes R.File.stream_position R.File.stream_bytes R.File.contents (End (pos 0)) bytes.now)) }
+        ensures cause { Counts self.old.faults self.new.faults result }
+    {
+        self.write_from(name, SeekFrom::End(0), bytes)
     }
 
-    fn patch(&mut self, name: &str, off: u64, bytes: &[u8]) -> Result<(), Failed> {
-        let done = write_from(self.rt, &mut self.kept, name, SeekFrom::Start(off), bytes);
-        counted(&mut self.faults, done)
+    fn patch(&mut self, name: &str, off: u64, bytes: &[u8]) -> Result<(), Failed>
+        ensures writes { OnOk result (Steps self.old.last self.new.last name.now
+            (Writes R.File.stream_position R.File.stream_bytes R.File.contents (Start off) bytes.now)) }
+        ensures cause { Counts self.old.faults self.new.faults result }
+    {
+        self.write_from(name, SeekFrom::Start(off), bytes)
     }
 
-    fn finish(&mut self, name: &str) -> Result<(), Failed> {
-        let done = close(&mut self.kept, name);
-        counted(&mut self.faults, done)
+    fn finish(&mut self, name: &str) -> Result<(), Failed>
+        ensures let_go { self.new.last ≡ without self.old.last name.now }
+        ensures cause { Counts self.old.faults self.new.faults result }
+    {
+        match self.kept.take(name) {
+            Some(mut file) => counted(&mut self.faults, file.flush()),
+            None => Ok(()),
+        }
     }
 }

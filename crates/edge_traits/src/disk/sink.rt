@@ -1,64 +1,69 @@
-//! Standard output.
+//! A writer as a sink.
 
 ghost use Rattle.std.specs.Prelude.{◌≡◌, ◌<◌, ◌≤◌, length, IfOk};
+ghost use Rattle.std.specs.Io.KnownBytes.{WriteAppends};
+ghost use Rattle.edge_traits.specs.Faults.{Counts};
 
-use super::counted;
+use super::{counted, fault};
 use crate::{Failed, Sink};
 use std::io;
-use std::io::{ErrorKind, Write};
+use std::io::{Printer, Write};
 use std::marker::Model;
 
-/// Standard output.
+/// A sink over a writer: standard output, where `new` makes it.
 #[derive(Drop)]
-pub struct OutSink<'a, R: Print> {
-    rt: &'a R,
+pub struct OutSink<W: Write + Drop> {
+    writer: W,
     faults: u64,
 }
 
-impl<'a, R: Print> Model for OutSink<'a, R> {
-    ghost use Rattle.std.specs.Prelude.{ℕ};
+impl<W: Write + Drop> Model for OutSink<W> {
+    ghost use Rattle.edge_traits.specs.RealFiles.{Output};
 
-    ghost Value = { ℕ };
+    ghost Value = { Output W };
 
-    ghost view = { λ s. s.faults };
+    ghost view = { λ s. record { writer = s.writer; faults = s.faults } };
 }
 
-impl<'a, R: Print> OutSink<'a, R> {
-    /// No call has failed yet.
-    pub fn new(rt: &'a R) -> OutSink<'a, R>
-        ensures { result ≡ 0 }
+impl<'a, R: Print> OutSink<Printer<'a, R>> {
+    /// Standard output. No call has failed yet.
+    pub fn new(rt: &'a R) -> OutSink<Printer<'a, R>>
+        ensures { result.faults ≡ 0 }
     {
-        OutSink { rt, faults: 0 }
+        OutSink {
+            writer: io::writer(rt),
+            faults: 0,
+        }
     }
+}
 
+impl<W: Write + Drop> OutSink<W> {
     /// How many calls failed.
     pub fn faults(&self) -> u64
-        ensures { result ≡ self.now }
+        ensures { result ≡ self.now.faults }
     {
         self.faults
     }
 }
 
-/// Writes a front of the bytes; to take none of them is a failure.
-fn write_some<W: Write>(writer: &mut W, bytes: &[u8]) -> io::Result<usize>
-    ensures some { IfOk result (λ n. 0 < n) }
-    ensures bound { IfOk result (λ n. n ≤ length bytes.now) }
-{
-    match writer.write(bytes)? {
-        0 => Err(io::Error::from(ErrorKind::WriteZero)),
-        count => Ok(count),
-    }
-}
-
-impl<'a, R: Print> Sink for OutSink<'a, R> {
+impl<W: Write + Drop> Sink for OutSink<W> {
     ghost use Rattle.std.specs.Prelude.{None};
 
     ghost written = { λ s. None };
 
-    ghost faults = { λ s. s };
+    ghost faults = { λ s. s.faults };
 
-    fn write(&mut self, bytes: &[u8]) -> Result<usize, Failed> {
-        let taken = write_some(&mut io::writer(self.rt), bytes);
-        counted(&mut self.faults, taken)
+    fn write(&mut self, bytes: &[u8]) -> Result<usize, Failed>
+        requires { 0 < length bytes.now }
+        ensures some { IfOk result (λ n. 0 < n) }
+        ensures bound { IfOk result (λ n. n ≤ length bytes.now) }
+        ensures writes { WriteAppends (W.contents self.old.writer) (W.contents self.new.writer)
+            result bytes.now }
+        ensures cause { Counts self.old.faults self.new.faults result }
+    {
+        match counted(&mut self.faults, self.writer.write(bytes))? {
+            0 => Err(fault(&mut self.faults)),
+            count => Ok(count),
+        }
     }
 }

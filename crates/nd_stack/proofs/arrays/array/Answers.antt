@@ -3,7 +3,7 @@ use Rattle.std.specs.Prelude.{slice_get, IfSome}
 use Rattle.nd_base.specs.Array.{StackValue}
 use Rattle.nd_base.specs.Samples.{samples_of}
 use Rattle.nd_base.specs.Shapes.{array_of}
-use Rattle.nd_stack.proofs.Rebuilt.{frame-rebuilt}
+use Rattle.nd_stack.specs.Rebuilt.{frame-rebuilt}
 use Rattle.nd_stack.proofs.arrays.array.Goals as goal
 
 pub returns : goal.returns

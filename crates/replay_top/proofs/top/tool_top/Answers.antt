@@ -1,4 +1,4 @@
-use Rattle.replay_top.proofs.Claims.{Ends-none, answered_plain, answered_other}
+use Rattle.replay_top.proofs.Claims.{Ends-none, answered}
 use Rattle.replay_top.proofs.top.tool_top.Goals as goal
 
 pub returns-clause-usage : goal.returns-clause-usage
@@ -10,9 +10,4 @@ returns-clause-usage g c =
 
 pub returns-clause-complete : goal.returns-clause-complete
 returns-clause-complete g c stack prefix file command is none =
-    let ends = rw command at c.run_command.ensures.ends in
-    let cause = c.run_command.ensures.cause in
-    record {
-      plain = answered_plain c.run_command.result _ _ _ _ _ stack prefix file _ _ ends cause is none;
-      other = answered_other c.run_command.result _ _ _ _ _ stack prefix file _ _ ends cause is none;
-    }
+    answered c.run_command.result _ _ _ _ _ stack prefix file _ _ (rw command at c.run_command.ensures.ends) c.run_command.ensures.cause is none

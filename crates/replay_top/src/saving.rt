@@ -1,0 +1,39 @@
+//! Writing the frames of a stack to a shelf.
+
+ghost use Rattle.std.specs.Prelude.{◌≡◌, ◌≤◌, length, OnOk, OnErr};
+ghost use Rattle.edge_traits.specs.Files.{with_file};
+ghost use Rattle.cdf_write.specs.Lengths.{longest};
+ghost use Rattle.file_out.specs.Saving.{IsBegun, IsSaveCause};
+ghost use Rattle.nd_stack.specs.KeptStacks.{IsKeptStack};
+ghost use Rattle.replay_top.specs.Copy.{copy_file, copy_length};
+
+use edge_traits::Shelf;
+use file_out::{SaveFault, StreamFile};
+use nd_base::{Stack, frame_bytes};
+use std::alloc::Global;
+
+/// Writes all frames of a stack under a name, one after the other.
+pub(crate) fn write_frames<K: Shelf>(
+    alloc: Global,
+    shelf: &mut K,
+    name: &str,
+    stack: &Stack,
+) -> Result<(), SaveFault>
+    requires kept { IsKeptStack stack.now }
+    requires some { 1 ≤ length stack.now.arrays }
+    requires within { copy_length stack.now ≤ longest }
+    ensures ok { OnOk result (K.held shelf.new ≡ with_file (K.held shelf.old) name.now (copy_file stack.now)) }
+    ensures err { OnErr result (IsBegun (K.held shelf.old) name.now (copy_file stack.now) (K.held shelf.new)) }
+    ensures cause { IsSaveCause result (K.faults shelf.old) (K.faults shelf.new) }
+{
+    let shape = stack.shape();
+    let frames = stack.frames();
+    let mut samples = vec![in alloc; 0u8; frame_bytes(shape.kind, shape.dims.as_slice())]?;
+    let mut file = StreamFile::begin(alloc, shelf, name, shape, Some(frames), u64::from(frames))?;
+    for k in 0..frames {
+        stack.fill_frame(k, &mut samples);
+        file.add(alloc, shelf, stack.head(k), &samples)?;
+    }
+    file.end(shelf)?;
+    Ok(())
+}
