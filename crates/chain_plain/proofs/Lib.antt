@@ -1,0 +1,7 @@
+pub mod Arrays
+pub mod Depths
+pub mod Found
+pub mod Makers
+pub mod Regions
+pub mod Rules
+pub mod Windows

@@ -1,0 +1,75 @@
+-- What a graph says of a node that has a rule.
+use Rattle.std.specs.Prelude.{◌≡◌, ◌≢◌, ℕ, zero, suc, ◌<◌, ◌≤◌, List, length, Some, None, IsTrue, slice_get, refl}
+use Rattle.std.specs.Option.{option_map_or}
+use Rattle.std.proofs.Common.{ap, sym, arith, subst, ◌∙◌, get_or}
+use Rattle.std.proofs.lemmas.Option.{slice_get_within, get_or_from_slice_get}
+use Rattle.nd_base.specs.declared.graph.Graph.{Graph}
+use Rattle.nd_base.specs.declared.graph.NodeRule.{NodeRule}
+use Rattle.nd_base.specs.declared.graph.RoiRule.{RoiRule}
+use Rattle.nd_base.specs.declared.array.Dim.{Dim}
+use Rattle.nd_base.specs.declared.graph.Kind.{Kind}
+use Rattle.nd_base.specs.declared.graph.Kind.TheVariants.{Roi, Stats, Circular, File}
+use Rattle.nd_base.specs.Shapes.{has_dimensions, sample_count, most_samples}
+use Rattle.nd_roi.specs.Cut.{region_dims}
+use Rattle.nd_roi.specs.CutLaws.{region_dims-count, region_dims-has_dimensions}
+use Rattle.nd_base.specs.GraphRules.{IsGraph, IsNode, IsKind, IsRoi, input_of, rule_at}
+use Rattle.chain_plain.specs.Passing.{by_kind, by_node, out_of}
+use Rattle.chain_plain.specs.PassingLaws.{out_of-step}
+use Rattle.chain_plain.proofs.Depths.{depth, depth-input}
+
+-- a node that has a rule: the rule is sound, and its input is nearer to the driver
+pub record Stands (g : Graph) (v : ℕ) (r : NodeRule) : Type 0 where
+  pub within : v ≤ length g.nodes
+  pub sound : IsNode r
+  pub input : input_of g.nodes v ≡ r.input
+  pub nearer : depth g.nodes (length g.nodes) r.input < depth g.nodes (length g.nodes) v
+
+pub stands : (g : Graph) (v : ℕ) (r : NodeRule) → IsGraph g → Some r ≡ rule_at g.nodes v → Stands g v r
+stands g zero r sound is = let e : Some r ≡ None = is in absurd (cc)
+stands g (suc k) r sound is =
+    let here : slice_get g.nodes k ≡ Some r = sym is in
+    let inside = slice_get_within g.nodes k r here in
+    let same : get_or g.nodes k r ≡ r = get_or_from_slice_get g.nodes k r r here in
+    let within : suc k ≤ length g.nodes = omega (arith, inside) in
+    let input : input_of g.nodes (suc k) ≡ r.input = ap (λ n. option_map_or (λ (r : NodeRule). r.input) n 0) here in
+    record {
+      within = within;
+      sound = subst IsNode same (sound.nodes k r inside);
+      input = input;
+      nearer = rw (← input) (depth-input g.nodes (length g.nodes) k (sound.acyclic (suc k) within));
+    }
+
+-- what goes out of it
+pub out_of-rule : {X : Type 0} (cut : RoiRule → X → X) (g : Graph) (v : ℕ) (r : NodeRule) (x : X) → IsGraph g → Some r ≡ rule_at g.nodes v → out_of cut g.nodes v x ≡ by_node cut (Some r) (out_of cut g.nodes r.input x)
+out_of-rule cut g v r x sound is =
+    let s = stands g v r sound is in
+    out_of-step cut g v x sound
+    ∙ ap (λ w. by_node cut (rule_at g.nodes v) (out_of cut g.nodes w x)) s.input
+    ∙ ap (λ n. by_node cut n (out_of cut g.nodes r.input x)) (sym is)
+
+pub by_kind-other : {X : Type 0} (cut : RoiRule → X → X) (k : Kind) (x : X) → ((r : RoiRule) → k ≢ Roi r) → by_kind cut k x ≡ x
+by_kind-other cut (Roi r) x h = absurd (h r refl)
+by_kind-other cut (Stats r) x h = refl
+by_kind-other cut (Circular r) x h = refl
+by_kind-other cut (File r) x h = refl
+
+pub roi_sound : (k : Kind) (r : RoiRule) → IsKind k → k ≡ Roi r → IsRoi r
+roi_sound k r sound is = subst IsKind is sound
+
+-- what goes out of a region node
+pub out_of-roi : {X : Type 0} (cut : RoiRule → X → X) (g : Graph) (v : ℕ) (n : NodeRule) (r : RoiRule) (x : X) → IsGraph g → Some n ≡ rule_at g.nodes v → n.kind ≡ Roi r → out_of cut g.nodes v x ≡ cut r (out_of cut g.nodes n.input x)
+out_of-roi cut g v n r x sound is kind =
+    out_of-rule cut g v n x sound is ∙ ap (λ k. by_kind cut k (out_of cut g.nodes n.input x)) kind
+
+-- and of one of another kind
+pub out_of-other : {X : Type 0} (cut : RoiRule → X → X) (g : Graph) (v : ℕ) (n : NodeRule) (x : X) → IsGraph g → Some n ≡ rule_at g.nodes v → ((r : RoiRule) → n.kind ≢ Roi r) → out_of cut g.nodes v x ≡ out_of cut g.nodes n.input x
+out_of-other cut g v n x sound is other =
+    out_of-rule cut g v n x sound is ∙ by_kind-other cut n.kind (out_of cut g.nodes n.input x) other
+
+-- a region has no more samples than an array may have
+pub region_few : (rule : RoiRule) (dims : List Dim) → IsTrue (has_dimensions dims) → sample_count dims ≤ most_samples → sample_count (region_dims rule dims) ≤ most_samples
+region_few rule dims sound few = let less = region_dims-count rule dims sound in omega (arith, less, few)
+
+-- and the dimensions of an array
+pub region_dimensions : (rule : RoiRule) (dims : List Dim) → IsTrue (has_dimensions dims) → IsTrue (has_dimensions (region_dims rule dims))
+region_dimensions rule dims sound = region_dims-has_dimensions rule dims sound

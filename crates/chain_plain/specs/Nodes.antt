@@ -1,0 +1,29 @@
+-- The nodes of a graph by number: the driver is 0, and the nodes are 1, 2, .. in the graph's order.
+use Rattle.std.specs.Prelude.{ℕ, zero, suc, Bool, true, false, List, length, filter, if◌then◌else◌}
+use Rattle.std.specs.List.{range_with_len}
+use Rattle.std.specs.Option.{option_map_or}
+use Rattle.nd_base.specs.declared.graph.NodeRule.{NodeRule}
+use Rattle.nd_base.specs.declared.graph.Kind.{Kind}
+use Rattle.nd_base.specs.declared.graph.Kind.TheVariants.{Roi}
+use Rattle.nd_base.specs.GraphRules.{rule_at, input_of}
+
+abbrev pub is_roi : Kind → Bool
+is_roi (Roi r) = true
+is_roi _ = false
+
+-- a region node, which makes arrays of its own
+abbrev pub is_region : List NodeRule → ℕ → Bool
+is_region nodes v = option_map_or (λ n. is_roi n.kind) (rule_at nodes v) false
+
+-- the numbers of the region nodes, in the graph's order
+abbrev pub regions : List NodeRule → List ℕ
+regions nodes = filter (is_region nodes) (range_with_len 1 (length nodes))
+
+-- the first region node on the way up from a node, the node itself among them, over so many steps at most, or the driver
+abbrev pub maker_within : List NodeRule → (steps v : ℕ) → ℕ
+maker_within nodes zero v = 0
+maker_within nodes (suc steps) v = if is_region nodes v then v else maker_within nodes steps (input_of nodes v)
+
+-- the maker of what a node passes on: a region node makes it itself, and another passes on what its input does
+abbrev pub maker_at : List NodeRule → ℕ → ℕ
+maker_at nodes v = maker_within nodes (length nodes) v

@@ -1,0 +1,25 @@
+-- What goes out of a node, as it is made of what goes out of the driver by the nodes on the way.
+use Rattle.std.specs.Prelude.{ℕ, zero, suc, List, length, Option, Some, None}
+use Rattle.nd_base.specs.declared.graph.NodeRule.{NodeRule}
+use Rattle.nd_base.specs.declared.graph.Kind.{Kind}
+use Rattle.nd_base.specs.declared.graph.Kind.TheVariants.{Roi}
+use Rattle.nd_base.specs.declared.graph.RoiRule.{RoiRule}
+use Rattle.nd_base.specs.GraphRules.{input_of, rule_at}
+
+-- a region node cuts what comes to it, and every other passes it on as it is
+abbrev pub by_kind : {X : Type 0} → (RoiRule → X → X) → Kind → X → X
+by_kind cut (Roi r) x = cut r x
+by_kind cut _ x = x
+
+abbrev pub by_node : {X : Type 0} → (RoiRule → X → X) → Option NodeRule → X → X
+by_node cut None x = x
+by_node cut (Some n) x = by_kind cut n.kind x
+
+-- what goes out of node v where x goes out of the driver, over so many nodes at most
+abbrev pub passed_on : {X : Type 0} → (RoiRule → X → X) → List NodeRule → (steps v : ℕ) → X → X
+passed_on cut nodes zero v x = x
+passed_on cut nodes (suc steps) v x = by_node cut (rule_at nodes v) (passed_on cut nodes steps (input_of nodes v) x)
+
+-- what goes out of node v: in a graph no way from the driver has more nodes than there are
+abbrev pub out_of : {X : Type 0} → (RoiRule → X → X) → List NodeRule → ℕ → X → X
+out_of cut nodes v x = passed_on cut nodes (length nodes) v x

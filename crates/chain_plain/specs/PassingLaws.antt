@@ -1,0 +1,129 @@
+-- Laws of what goes out of nodes: a node acts on what goes out of its input.
+use Rattle.std.specs.Prelude.{◌≡◌, ℕ, zero, suc, ◌≤◌, Bool, true, false, List, length, Option, Some, None, if◌then◌else◌, IsTrue, refl}
+use Rattle.std.specs.Option.{option_map_or}
+use Rattle.std.proofs.Common.{◌⊎◌, inl, inr, ap, sym, arith, ◌∙◌}
+use Rattle.std.proofs.lemmas.Option.{slice_get_within}
+use Rattle.nd_base.specs.declared.graph.Graph.{Graph}
+use Rattle.nd_base.specs.declared.graph.Kind.{Kind}
+use Rattle.nd_base.specs.declared.graph.Kind.TheVariants.{Roi, Stats, Circular, File}
+use Rattle.nd_base.specs.declared.graph.NodeRule.{NodeRule}
+use Rattle.nd_base.specs.declared.graph.RoiRule.{RoiRule}
+use Rattle.nd_base.specs.GraphRules.{IsGraph, input_of, source_of, rule_at}
+use Rattle.chain_plain.specs.Nodes.{is_roi, is_region, maker_within, maker_at}
+use Rattle.chain_plain.specs.Passing.{by_kind, by_node, passed_on, out_of}
+
+-- a node that has a rule is one of the graph's
+pub rule_within : (nodes : List NodeRule) (v : ℕ) (n : NodeRule) → Some n ≡ rule_at nodes v → v ≤ length nodes
+rule_within nodes zero n h = omega arith
+rule_within nodes (suc k) n h = let inside = slice_get_within nodes k n (sym h) in omega (arith, inside)
+
+-- and one that has none is fed by the driver
+pub input_none : (nodes : List NodeRule) (v : ℕ) → None ≡ rule_at nodes v → input_of nodes v ≡ 0
+input_none nodes zero h = refl
+input_none nodes (suc k) h = ap (λ o. option_map_or (λ (r : NodeRule). r.input) o 0) (sym h)
+
+pub input_some : (nodes : List NodeRule) (v : ℕ) (n : NodeRule) → Some n ≡ rule_at nodes v → input_of nodes v ≡ n.input
+input_some nodes zero n h = let e : Some n ≡ None = h in absurd (cc)
+input_some nodes (suc k) n h = ap (λ o. option_map_or (λ (r : NodeRule). r.input) o 0) (sym h)
+
+module _ {X : Type 0} (cut : RoiRule → X → X) (nodes : List NodeRule) where
+  -- where so many steps lead to the driver, one more changes nothing
+  passed_on-more : (steps v : ℕ) (x : X) → source_of nodes steps v ≡ 0 → passed_on cut nodes (suc steps) v x ≡ passed_on cut nodes steps v x
+  passed_on-more zero zero x h = refl
+  passed_on-more zero (suc k) x h = let e : suc k ≡ 0 = h in absurd (omega (arith, e))
+  passed_on-more (suc steps) v x h = ap (by_node cut (rule_at nodes v)) (passed_on-more steps (input_of nodes v) x h)
+
+  pub passed_on-step : (steps v : ℕ) (x : X) → source_of nodes steps v ≡ 0 → passed_on cut nodes steps v x ≡ by_node cut (rule_at nodes v) (passed_on cut nodes steps (input_of nodes v) x)
+  passed_on-step zero zero x h = refl
+  passed_on-step zero (suc k) x h = let e : suc k ≡ 0 = h in absurd (omega (arith, e))
+  passed_on-step (suc steps) v x h = ap (by_node cut (rule_at nodes v)) (sym (passed_on-more steps (input_of nodes v) x h))
+
+  -- nothing but the driver's own goes out of the driver
+  pub out_of-driver : (steps : ℕ) (x : X) → passed_on cut nodes steps 0 x ≡ x
+  out_of-driver zero x = refl
+  out_of-driver (suc steps) x = out_of-driver steps x
+
+  -- and out of a number that has no rule
+  pub out_of-none : (steps v : ℕ) (x : X) → None ≡ rule_at nodes v → passed_on cut nodes steps v x ≡ x
+  out_of-none zero v x h = refl
+  out_of-none (suc steps) v x h =
+      ap (λ n. by_node cut n (passed_on cut nodes steps (input_of nodes v) x)) (sym h)
+      ∙ ap (λ w. passed_on cut nodes steps w x) (input_none nodes v h)
+      ∙ out_of-driver steps x
+
+step_by : {X : Type 0} (cut : RoiRule → X → X) (g : Graph) (v : ℕ) (x : X) → IsGraph g → (o : Option NodeRule) → o ≡ rule_at g.nodes v → out_of cut g.nodes v x ≡ by_node cut o (out_of cut g.nodes (input_of g.nodes v) x)
+step_by cut g v x sound None h =
+    out_of-none cut g.nodes (length g.nodes) v x h
+    ∙ sym (ap (λ w. out_of cut g.nodes w x) (input_none g.nodes v h) ∙ out_of-driver cut g.nodes (length g.nodes) x)
+step_by cut g v x sound (Some n) h =
+    passed_on-step cut g.nodes (length g.nodes) v x (sound.acyclic v (rule_within g.nodes v n h))
+    ∙ ap (λ o. by_node cut o (out_of cut g.nodes (input_of g.nodes v) x)) (sym h)
+
+-- in a graph a node acts on what goes out of its input
+pub out_of-step : {X : Type 0} (cut : RoiRule → X → X) (g : Graph) (v : ℕ) (x : X) → IsGraph g → out_of cut g.nodes v x ≡ by_node cut (rule_at g.nodes v) (out_of cut g.nodes (input_of g.nodes v) x)
+out_of-step cut g v x sound = step_by cut g v x sound (rule_at g.nodes v) refl
+
+-- a node that is no region node passes on what comes to it
+kind_still : {X : Type 0} (cut : RoiRule → X → X) (k : Kind) (x : X) → is_roi k ≡ false → by_kind cut k x ≡ x
+kind_still cut (Roi r) x h = absurd (cc)
+kind_still cut (Stats r) x h = refl
+kind_still cut (Circular r) x h = refl
+kind_still cut (File r) x h = refl
+
+node_still : {X : Type 0} (cut : RoiRule → X → X) (o : Option NodeRule) (x : X) → option_map_or (λ n. is_roi n.kind) o false ≡ false → by_node cut o x ≡ x
+node_still cut None x h = refl
+node_still cut (Some n) x h = kind_still cut n.kind x h
+
+out_of-maker_if : {X : Type 0} (cut : RoiRule → X → X) (g : Graph) (v w : ℕ) (x : X) (b : Bool) → IsGraph g → is_region g.nodes v ≡ b → out_of cut g.nodes (input_of g.nodes v) x ≡ out_of cut g.nodes w x → out_of cut g.nodes v x ≡ out_of cut g.nodes (if b then v else w) x
+out_of-maker_if cut g v w x true sound is above = refl
+out_of-maker_if cut g v w x false sound is above = out_of-step cut g v x sound ∙ node_still cut (rule_at g.nodes v) _ is ∙ above
+
+out_of-maker_within : {X : Type 0} (cut : RoiRule → X → X) (g : Graph) (steps v : ℕ) (x : X) → IsGraph g → source_of g.nodes steps v ≡ 0 → out_of cut g.nodes v x ≡ out_of cut g.nodes (maker_within g.nodes steps v) x
+out_of-maker_within cut g zero v x sound h = ap (λ w. out_of cut g.nodes w x) h
+out_of-maker_within cut g (suc steps) v x sound h =
+    out_of-maker_if cut g v (maker_within g.nodes steps (input_of g.nodes v)) x (is_region g.nodes v) sound refl (out_of-maker_within cut g steps (input_of g.nodes v) x sound h)
+
+pub is_region-none : (nodes : List NodeRule) (v : ℕ) → None ≡ rule_at nodes v → is_region nodes v ≡ false
+is_region-none nodes v h = ap (λ o. option_map_or (λ (n : NodeRule). is_roi n.kind) o false) (sym h)
+
+maker_within-driver : (nodes : List NodeRule) (steps : ℕ) → maker_within nodes steps 0 ≡ 0
+maker_within-driver nodes zero = refl
+maker_within-driver nodes (suc steps) = maker_within-driver nodes steps
+
+-- the maker of a number that has no rule is the driver
+pub maker_within-none : (nodes : List NodeRule) (steps v : ℕ) → None ≡ rule_at nodes v → maker_within nodes steps v ≡ 0
+maker_within-none nodes zero v h = refl
+maker_within-none nodes (suc steps) v h =
+    ap (λ b. if b then v else maker_within nodes steps (input_of nodes v)) (is_region-none nodes v h)
+    ∙ ap (maker_within nodes steps) (input_none nodes v h) ∙ maker_within-driver nodes steps
+
+maker_by : {X : Type 0} (cut : RoiRule → X → X) (g : Graph) (v : ℕ) (x : X) → IsGraph g → (o : Option NodeRule) → o ≡ rule_at g.nodes v → out_of cut g.nodes v x ≡ out_of cut g.nodes (maker_at g.nodes v) x
+maker_by cut g v x sound None h =
+    out_of-none cut g.nodes (length g.nodes) v x h
+    ∙ sym (ap (λ w. out_of cut g.nodes w x) (maker_within-none g.nodes (length g.nodes) v h) ∙ out_of-driver cut g.nodes (length g.nodes) x)
+maker_by cut g v x sound (Some n) h = out_of-maker_within cut g (length g.nodes) v x sound (sound.acyclic v (rule_within g.nodes v n h))
+
+-- what goes out of a node is what goes out of its maker
+pub out_of-maker : {X : Type 0} (cut : RoiRule → X → X) (g : Graph) (v : ℕ) (x : X) → IsGraph g → out_of cut g.nodes v x ≡ out_of cut g.nodes (maker_at g.nodes v) x
+out_of-maker cut g v x sound = maker_by cut g v x sound (rule_at g.nodes v) refl
+
+-- the driver, or a region node
+abbrev pub IsMaker : List NodeRule → ℕ → Type 0
+IsMaker nodes m = (m ≡ 0) ⊎ IsTrue (is_region nodes m)
+
+maker_if : (nodes : List NodeRule) (v w : ℕ) (b : Bool) → is_region nodes v ≡ b → IsMaker nodes w → IsMaker nodes (if b then v else w)
+maker_if nodes v w true is above = inr is
+maker_if nodes v w false is above = above
+
+pub maker_makes : (nodes : List NodeRule) (steps v : ℕ) → IsMaker nodes (maker_within nodes steps v)
+maker_makes nodes zero v = inl refl
+maker_makes nodes (suc steps) v = maker_if nodes v _ (is_region nodes v) refl (maker_makes nodes steps (input_of nodes v))
+
+maker_within-more : (nodes : List NodeRule) (steps v : ℕ) → source_of nodes steps v ≡ 0 → maker_within nodes (suc steps) v ≡ maker_within nodes steps v
+maker_within-more nodes zero zero h = refl
+maker_within-more nodes zero (suc k) h = let e : suc k ≡ 0 = h in absurd (omega (arith, e))
+maker_within-more nodes (suc steps) v h = ap (λ w. if is_region nodes v then v else w) (maker_within-more nodes steps (input_of nodes v) h)
+
+-- a region node is its own maker, and another node has the maker of its input
+pub maker_at-step : (g : Graph) (v : ℕ) → IsGraph g → v ≤ length g.nodes → maker_at g.nodes v ≡ (if is_region g.nodes v then v else maker_at g.nodes (input_of g.nodes v))
+maker_at-step g v sound within = sym (maker_within-more g.nodes (length g.nodes) v (sound.acyclic v within))

@@ -1,0 +1,58 @@
+//! What a node passes on in one thread.
+
+ghost use Rattle.std.specs.Prelude.{◌≡◌, ◌<◌, length, map, All, IfOk};
+ghost use Rattle.nd_base.specs.GraphRules.{IsBetween, IsCircular, IsGraph};
+ghost use Rattle.trig_window.specs.Windows.{passed_items};
+ghost use Rattle.chain_plain.specs.OneThread.{fires_at, outputs};
+
+use crate::rule::rule_at;
+use nd_base::{CircularRule, Kind, OutOfMemory, Plan, Stack};
+use std::alloc::Global;
+use trig_window::{Window, push_into, trigger_fires};
+
+/// Those of the positions that lie in the rule's trigger windows.
+fn windowed(
+    alloc: Global,
+    rule: &CircularRule,
+    stack: &Stack,
+    accepted: &[u32],
+) -> Result<Vec<u32>, OutOfMemory>
+    requires rule { IsCircular rule.now }
+    requires accepted { All (λ k. k < length stack.now.arrays) accepted.now }
+    ensures { IfOk result (λ v. v.items ≡ passed_items rule.now.pre rule.now.post rule.now.preset (map (fires_at rule.now stack.now.arrays) accepted.now) accepted.now) }
+{
+    let mut window = Window::new(alloc, rule.pre, rule.post, rule.preset)?;
+    let mut passed = Vec::new(alloc);
+    for &position in accepted {
+        let fired = trigger_fires(rule, stack.head(position).attrs.as_slice());
+        push_into(&mut window, position, fired, &mut passed)?;
+    }
+    Ok(passed)
+}
+
+/// The positions that a node passes on, where it accepted these in this order: at a circular node those in its
+/// trigger windows, and at every other node all of them.
+///
+/// # Errors
+///
+/// Only for want of memory.
+pub fn plain_outputs(
+    alloc: Global,
+    plan: &Plan,
+    stack: &Stack,
+    node: u32,
+    accepted: &[u32],
+) -> Result<Vec<u32>, OutOfMemory>
+    requires graph { IsGraph plan.now.graph }
+    requires node { IsBetween 1 (length plan.now.graph.nodes) node }
+    requires accepted { All (λ k. k < length stack.now.arrays) accepted.now }
+    ensures { IfOk result (λ v. v.items ≡ outputs plan.now.graph.nodes stack.now.arrays node accepted.now) }
+{
+    match rule_at(plan.graph.nodes.as_slice(), node) {
+        Some(rule) => match &rule.kind {
+            Kind::Circular(circular) => windowed(alloc, circular, stack, accepted),
+            _ => Ok(accepted.to_vec(alloc)?),
+        },
+        None => Ok(accepted.to_vec(alloc)?),
+    }
+}

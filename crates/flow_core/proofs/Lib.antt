@@ -1,0 +1,17 @@
+pub mod Rules
+pub mod Moves
+pub mod Kept
+pub mod Offered
+pub mod Replaying
+pub mod Refusals
+pub mod Wholes
+pub mod Fronts
+pub mod Views
+pub mod Room
+pub mod Lent
+pub mod Groups
+pub mod Finishing
+pub mod Starting
+pub mod Graphs
+pub mod Running
+pub mod Worked

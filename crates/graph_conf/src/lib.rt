@@ -1,0 +1,16 @@
+//! The text of a plugin graph, in TOML: the graph that it means, or its first fault.
+#![tactic(auto)]
+
+mod fault;
+mod keys;
+mod kind;
+mod links;
+mod node;
+mod read;
+mod rules;
+#[cfg(test)]
+mod tests;
+mod words;
+
+pub use fault::GraphFault;
+pub use read::read_graph;
