@@ -2,6 +2,7 @@
 //! what it computed. Scripts time it from outside.
 #![tactic(auto)]
 
+mod board;
 mod frames;
 mod header;
 mod journal;
@@ -29,6 +30,7 @@ enum Refusal {
 /// Runs the workload of this name.
 fn run(alloc: Global, workload: &str, count: u32) -> Result<u64, Refusal> {
     let checksum = match workload {
+        "board" => board::board(alloc, count),
         "header" => header::header(alloc, count),
         "journal" => journal::journal(alloc, count),
         "measure" => measure::measure(alloc, count),
