@@ -4,3 +4,4 @@ pub mod Lists
 pub mod Joined
 pub mod Refusals
 pub mod Sound
+pub mod Planned

@@ -2,6 +2,7 @@ pub mod Answers
 pub mod Graphs
 pub mod Keys
 pub mod Links
+pub mod Loads
 pub mod Meanings
 pub mod Nodes
 pub mod Worked

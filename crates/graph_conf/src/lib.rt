@@ -5,6 +5,7 @@ mod fault;
 mod keys;
 mod kind;
 mod links;
+mod load;
 mod node;
 mod read;
 mod rules;
@@ -13,4 +14,5 @@ mod tests;
 mod words;
 
 pub use fault::GraphFault;
+pub use load::{LimitFault, check_load};
 pub use read::read_graph;

@@ -1,5 +1,7 @@
 //! The worked texts, each fault with its place in the order, and a graph of as many nodes as there may be.
 
+mod limits;
+
 use crate::{GraphFault, read_graph};
 use nd_base::{Graph, Kind, Mode, SampleType};
 use std::alloc::{AllocError, Global};
