@@ -9,8 +9,8 @@ use Rattle.cdf_read.specs.declared.head.HeadDim.{HeadDim}
 use Rattle.cdf_read.specs.declared.head.HeadAttr.{HeadAttr}
 use Rattle.cdf_read.specs.declared.head.HeadVar.{HeadVar}
 use Rattle.cdf_read.specs.Fields as fields
+use Rattle.cdf_read.specs.Fields.{magic}
 use Rattle.cdf_read.specs.FieldReading.{free_in, word_in}
-use Rattle.cdf_read.specs.PlainForm.{magic}
 use Rattle.cdf_read.specs.Places.{dim_length, value_size, size_of, streaming}
 use Rattle.cdf_read.specs.HeaderReading.{place, header_with, short_var, ◌>>=◌, need, word_at, number_at, kind_at, padded_at, name_at, list_head_at, many_at, dim_at, dims_at, attr_at, attrs_at, dim_number_at, dim_numbers_at, var_at, vars_at, numrecs_at, magic_at, data_fault, header_of, Faults}
 

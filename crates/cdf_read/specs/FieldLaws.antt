@@ -1,24 +1,15 @@
 -- What is read is the field, and the field is read.
 use Rattle.std.specs.Prelude.{◌≡◌, ℕ, ◌≤◌, List, ◌++◌, length, take, drop, Option, Some, None, Bool, true, false, nat_lt, if◌then◌else◌, refl}
 use Rattle.std.specs.Int.{w32, from_be_bytes}
-use Rattle.std.specs.Str.{bytes_eq}
 use Rattle.std.proofs.Common.{ap, sym, subst, ◌∙◌, arith, length-append}
 use Rattle.std.proofs.lemmas.Bool.{ltb-false, le-ltb}
-use Rattle.std.proofs.lemmas.Slice.Eq.{bytes_eq-Decides}
 use Rattle.std.proofs.lemmas.List.{take_at, drop_at, take-append-drop, length-take-le}
-use Rattle.cdf_read.specs.Fields.{IsFixed, IsFree, IsWord}
-use Rattle.cdf_read.specs.FieldReading.{◌>>=◌, free_in, word_in, fixed_in}
+use Rattle.cdf_read.specs.Fields.{IsWord}
+use Rattle.cdf_read.specs.FieldReading.{◌>>=◌, free_in, word_in}
 
-pub bind_some : {A B : Type 0} (o : Option A) (next : A → Option B) (y : B) → (o >>= next) ≡ Some y → (x : A) × (o ≡ Some x) × (next x ≡ Some y)
+bind_some : {A B : Type 0} (o : Option A) (next : A → Option B) (y : B) → (o >>= next) ≡ Some y → (x : A) × (o ≡ Some x) × (next x ≡ Some y)
 bind_some (Some x) next y e = (x, refl, e)
 bind_some None next y e = absurd (cc)
-
-pub bind_to : {A B : Type 0} (o : Option A) (next : A → Option B) (x : A) (y : Option B) → o ≡ Some x → next x ≡ y → (o >>= next) ≡ y
-bind_to o next x y e h = ap (λ m. m >>= next) e ∙ h
-
-pub guard_some : {A : Type 0} (b : Bool) (x y : A) → (if b then Some x else None) ≡ Some y → (b ≡ true) × (x ≡ y)
-guard_some true x y e = (refl, cc)
-guard_some false x y e = absurd (cc)
 
 unless_some : {A : Type 0} (b : Bool) (x y : A) → (if b then None else Some x) ≡ Some y → (b ≡ false) × (x ≡ y)
 unless_some false x y e = (refl, cc)
@@ -45,22 +36,3 @@ word-found before r e =
 pub word-again : (number : ℕ) (before after : List ℕ) → IsWord number before after → word_in before ≡ Some (number, after)
 word-again number before after h =
     ap word_in h.whole ∙ ap (λ (o : Option (List ℕ × List ℕ)). o >>= (λ field. Some (from_be_bytes w32 field.0, field.1))) (free-again 4 h.text after h.size) ∙ ap (λ (n : ℕ). Some (n, after)) (sym h.spells)
-
-pub fixed-found : (text before after : List ℕ) → fixed_in text before ≡ Some after → IsFixed text before after
-fixed-found text before after e =
-    let b = bind_some (free_in (length text) before) (λ field. if bytes_eq field.0 text then Some field.1 else None) after e in
-    let f = free-found (length text) before b.0 b.1 in
-    let g = guard_some (bytes_eq b.0.0 text) b.0.1 after b.2 in
-    let same : b.0.0 ≡ text = (bytes_eq-Decides b.0.0 text).0 g.0 in
-    f.0 ∙ ap (λ (t : List ℕ). t ++ b.0.1) same ∙ ap (λ (t : List ℕ). text ++ t) g.1
-
-pub fixed-again : (text before after : List ℕ) → IsFixed text before after → fixed_in text before ≡ Some after
-fixed-again text before after h =
-    let same : bytes_eq text text ≡ true = (bytes_eq-Decides text text).1 refl in
-    ap (fixed_in text) h ∙ ap (λ (o : Option (List ℕ × List ℕ)). o >>= (λ field. if bytes_eq field.0 text then Some field.1 else None)) (free-again (length text) text after refl) ∙ rw same refl
-
-pub free_field-found : (count : ℕ) (before : List ℕ) (r : List ℕ × List ℕ) → free_in count before ≡ Some r → IsFree count before r.1
-free_field-found count before r e = let f = free-found count before r e in record { text = r.0; whole = f.0; size = f.1 }
-
-pub free_field-again : (count : ℕ) (before after : List ℕ) (h : IsFree count before after) → free_in count before ≡ Some (h.text, after)
-free_field-again count before after h = ap (free_in count) h.whole ∙ free-again count h.text after h.size

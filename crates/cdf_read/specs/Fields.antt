@@ -1,6 +1,10 @@
 -- Fields of a file, one after another. Each relation is between the bytes from a field on and those after it.
-use Rattle.std.specs.Prelude.{◌≡◌, ℕ, ◌+◌, ◌-◌, ◌*◌, ◌/◌, List, ◌++◌, length}
+use Rattle.std.specs.Prelude.{◌≡◌, ℕ, ◌+◌, ◌-◌, ◌*◌, ◌/◌, List, [], ◌∷◌, ◌++◌, length, codes}
 use Rattle.std.specs.Int.{w32, from_be_bytes, to_be_bytes}
+
+-- what a netCDF classic file begins with
+abbrev pub magic : List ℕ
+magic = codes "CDF" ++ 1 ∷ []
 
 -- these bytes
 abbrev pub IsFixed : (text before after : List ℕ) → Type 0

@@ -6,8 +6,7 @@ use Rattle.cdf_read.specs.declared.head.HeadDim.{HeadDim}
 use Rattle.cdf_read.specs.declared.head.HeadAttr.{HeadAttr}
 use Rattle.cdf_read.specs.declared.head.HeadVar.{HeadVar}
 use Rattle.cdf_read.specs.declared.head.Header.{Header}
-use Rattle.cdf_read.specs.Fields.{IsFixed, IsFree, IsWord, padding}
-use Rattle.cdf_read.specs.PlainForm.{magic}
+use Rattle.cdf_read.specs.Fields.{magic, IsFixed, IsFree, IsWord, padding}
 use Rattle.cdf_read.specs.Places.{dim_length, value_size, size_of, record_size, record_count, values_end, streaming}
 
 -- the greatest number of records, count, length, rank or begin

@@ -16,12 +16,11 @@ use Rattle.cdf_read.specs.declared.head.HeadDim.{HeadDim}
 use Rattle.cdf_read.specs.declared.head.HeadAttr.{HeadAttr}
 use Rattle.cdf_read.specs.declared.head.HeadVar.{HeadVar}
 use Rattle.cdf_read.specs.declared.head.Header.{Header}
-use Rattle.cdf_read.specs.Fields.{IsFixed, IsFree, IsWord, padded, padding}
+use Rattle.cdf_read.specs.Fields.{magic, IsFixed, IsFree, IsWord, padded, padding}
 use Rattle.cdf_read.specs.FieldReading.{free_in, word_in}
 use Rattle.cdf_read.specs.FieldLaws.{free-found, free-again, word-found, word-again}
 use Rattle.cdf_read.specs.Places.{dim_length, value_size, size_of, values_end, streaming}
 use Rattle.cdf_read.specs.PlaceLaws.{position-none, position-None}
-use Rattle.cdf_read.specs.PlainForm.{magic}
 use Rattle.cdf_read.specs.Grammar.{IsNumber, IsKind, IsPadded, IsName, AreMany, IsListHead, IsList, IsDim, IsAttr, IsDimNumber, IsVar, IsNumrecs, Reads}
 use Rattle.cdf_read.specs.HeaderReading.{◌>>=◌, need, place, word_at, number_at, kind_at, padded_at, name_at, list_head_at, many_at, dim_at, dims_at, attr_at, attrs_at, dim_number_at, dim_numbers_at, var_at, vars_at, numrecs_at, magic_at, header_with, short_var, data_fault, header_of, Faults}
 

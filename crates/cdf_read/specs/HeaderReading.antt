@@ -9,9 +9,8 @@ use Rattle.cdf_read.specs.declared.head.HeadDim.{HeadDim}
 use Rattle.cdf_read.specs.declared.head.HeadAttr.{HeadAttr}
 use Rattle.cdf_read.specs.declared.head.HeadVar.{HeadVar}
 use Rattle.cdf_read.specs.declared.head.Header.{Header}
-use Rattle.cdf_read.specs.Fields.{padded}
+use Rattle.cdf_read.specs.Fields.{magic, padded}
 use Rattle.cdf_read.specs.FieldReading.{free_in, word_in}
-use Rattle.cdf_read.specs.PlainForm.{magic}
 use Rattle.cdf_read.specs.Places.{dim_length, value_size, size_of, record_size, record_count, values_end, streaming}
 
 infixl 10 ◌>>=◌

@@ -1,12 +1,6 @@
 pub mod Fields
 pub mod FieldReading
 pub mod FieldLaws
-pub mod PlainForm
-pub mod PlainReading
-pub mod PlainLaws
-pub mod PlainStack
-pub mod PlainStackLaws
-pub mod PlainTests
 pub mod Places
 pub mod Grammar
 pub mod HeaderReading

@@ -2,7 +2,7 @@
 
 ghost use Rattle.std.specs.Prelude.{◌≡◌, ◌<◌, ◌^◌};
 ghost use Rattle.cdf_read.specs.Fields.{padded};
-ghost use Rattle.cdf_read.specs.FieldReading.{Finds, fixed_in, free_in, word_in};
+ghost use Rattle.cdf_read.specs.FieldReading.{Finds, free_in, word_in};
 
 /// What a netCDF classic file begins with.
 pub(crate) const MAGIC: &[u8] = b"CDF\x01";
@@ -28,12 +28,4 @@ pub(crate) fn read_word(rest: &[u8]) -> Option<(u32, &[u8])>
 {
     let (word, rest) = rest.split_first_chunk::<4>()?;
     Some((u32::from_be_bytes(*word), rest))
-}
-
-/// What follows these bytes, where they come first.
-pub(crate) fn skip_fixed<'a>(rest: &'a [u8], text: &[u8]) -> Option<&'a [u8]>
-    ensures { Finds (λ after. after.now) result (fixed_in text.now rest.now) }
-{
-    let (front, rest) = read_free(rest, text.len())?;
-    if front == text { Some(rest) } else { None }
 }

@@ -8,7 +8,6 @@ mod head;
 mod header;
 mod parts;
 mod place;
-mod plain;
 mod size;
 mod word;
 
@@ -16,4 +15,3 @@ pub use fault::CdfFault;
 pub use head::{HeadAttr, HeadDim, HeadVar, Header};
 pub use header::{header_or_fault, read_header};
 pub use place::value_place;
-pub use plain::{PlainHead, plain_head_is_one, read_plain};

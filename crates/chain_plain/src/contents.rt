@@ -10,21 +10,13 @@ ghost use Rattle.nd_roi.specs.Region.{region, region_samples, out_type};
 ghost use Rattle.chain_plain.specs.Content.{content};
 ghost use Rattle.chain_plain.specs.Passing.{out_of};
 
-use crate::rule::rule_at;
 use nd_base::{
     Dim, FrameName, Graph, Head, Kind, NdArray, OutOfMemory, Plan, RoiRule, SampleType, Stack,
-    frame_bytes,
+    frame_bytes, rule_at, same_head,
 };
 use nd_roi::{fill_region, region};
 use nd_stack::array;
 use std::alloc::Global;
-
-/// The same head.
-fn same_head(head: &Head) -> Result<Head, OutOfMemory>
-    ensures { IfOk result (λ h. h ≡ head.now) }
-{
-    Ok(head.clone()?)
-}
 
 /// The bytes of the region's samples, which are of this type and these dimensions.
 #[tactic(auto, using(crate::proofs::Rules::region_dimensions, crate::proofs::Rules::region_few))]

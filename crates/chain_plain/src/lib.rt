@@ -5,7 +5,6 @@ mod contents;
 mod laws;
 mod outputs;
 mod plans;
-mod rule;
 mod shape;
 #[cfg(test)]
 mod tests;

@@ -5,8 +5,7 @@ ghost use Rattle.nd_base.specs.GraphRules.{IsBetween, IsCircular, IsGraph};
 ghost use Rattle.trig_window.specs.Windows.{passed_items};
 ghost use Rattle.chain_plain.specs.OneThread.{fires_at, outputs};
 
-use crate::rule::rule_at;
-use nd_base::{CircularRule, Kind, OutOfMemory, Plan, Stack};
+use nd_base::{CircularRule, Kind, OutOfMemory, Plan, Stack, rule_at};
 use std::alloc::Global;
 use trig_window::{Window, push_into, trigger_fires};
 

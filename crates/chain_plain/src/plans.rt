@@ -6,9 +6,8 @@ ghost use Rattle.nd_base.specs.Shapes.{has_dimensions, sample_count, most_sample
 ghost use Rattle.chain_plain.specs.Nodes.{maker_at};
 ghost use Rattle.chain_plain.specs.Plans.{maker_of, makers_of, shape_at, plan_of};
 
-use crate::rule::rule_at;
 use crate::shape::shape_at;
-use nd_base::{FileShape, Graph, Kind, Maker, OutOfMemory, Plan, Seq, Stack, frame_bytes};
+use nd_base::{FileShape, Graph, Kind, Maker, OutOfMemory, Plan, Seq, Stack, frame_bytes, rule_at};
 use std::alloc::Global;
 
 /// The ids of the stack's frames.

@@ -5,8 +5,7 @@ ghost use Rattle.nd_base.specs.GraphRules.{IsGraph, IsRoi};
 ghost use Rattle.nd_base.specs.Shapes.{has_dimensions, sample_count, most_samples};
 ghost use Rattle.chain_plain.specs.Plans.{region_shape, stack_shape, shape_at};
 
-use crate::rule::rule_at;
-use nd_base::{Dim, FileShape, Graph, Kind, OutOfMemory, RoiRule, SampleType, Seq};
+use nd_base::{Dim, FileShape, Graph, Kind, OutOfMemory, RoiRule, SampleType, Seq, rule_at};
 use nd_roi::region;
 use std::alloc::Global;
 

@@ -19,9 +19,15 @@ const MOST_KEPT: u64 = 67_108_864;
 /// The longest file that is written, in bytes.
 const LONGEST: u128 = 2_147_483_647;
 
-/// A limit that a run would pass. `node` is the number of a node from 1.
+/// A limit that is passed, and the number that passes it. `node` is the number of a node from 1.
 #[derive(Clone, Copy, Debug, PartialEq, Eq, Error)]
 pub enum LimitFault {
+    /// A graph's file of more than 1,048,576 bytes.
+    #[error("the graph's file has {bytes} bytes")]
+    GraphBytes { bytes: u64 },
+    /// A stack's file of more than 1,073,741,824 bytes.
+    #[error("the stack's file has {bytes} bytes")]
+    StackFile { bytes: u64 },
     /// More than 1,048,576 frames times nodes.
     #[error("{arrivals} arrivals")]
     Load { arrivals: u64 },

@@ -7,7 +7,7 @@ ghost use Rattle.nd_base.specs.Attributes.{attr_of};
 ghost use Rattle.nd_base.specs.Samples.{number, width};
 ghost use Rattle.nd_base.specs.Shapes.{has_dimensions, sample_count, most_samples, shape_fault};
 
-use crate::{Attr, AttrValue, Bytes, Seq};
+use crate::{Attr, AttrValue, Bytes, OutOfMemory, Seq};
 use std::alloc::Global;
 use std::marker::Model;
 
@@ -56,6 +56,17 @@ pub struct Head {
     pub sec: i32,
     pub nsec: i32,
     pub attrs: Seq<Attr>,
+}
+
+/// The same head.
+///
+/// # Errors
+///
+/// Only for want of memory.
+pub fn same_head(head: &Head) -> Result<Head, OutOfMemory>
+    ensures { IfOk result (λ h. h ≡ head.now) }
+{
+    Ok(head.clone()?)
 }
 
 /// Why an array is refused.

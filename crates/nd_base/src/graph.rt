@@ -1,5 +1,8 @@
 //! The plugin graph: its nodes, their kinds and their rules.
 
+ghost use Rattle.std.specs.Prelude.{◌≡◌, option_copied};
+ghost use Rattle.nd_base.specs.GraphRules.{rule_at};
+
 use crate::{Name, SampleType, Seq};
 
 /// A sign between two parts of an expression.
@@ -114,4 +117,12 @@ pub struct Graph {
     pub wait: bool,
     pub limit: u64,
     pub nodes: Seq<NodeRule>,
+}
+
+/// The rule of a node; the driver, which is 0, has none.
+pub fn rule_at(nodes: &[NodeRule], node: u32) -> Option<&NodeRule>
+    ensures { option_copied result ≡ rule_at nodes.now node }
+{
+    let place = (node as usize).checked_sub(1)?;
+    nodes.get(place)
 }

@@ -20,12 +20,12 @@ mod stack;
 #[cfg(test)]
 mod tests;
 
-pub use array::{Dim, Head, NdArray, SampleType, ShapeFault, frame_bytes};
+pub use array::{Dim, Head, NdArray, SampleType, ShapeFault, frame_bytes, same_head};
 pub use attribute::{Attr, AttrColumn, AttrKind, AttrValue, Extra, FileShape};
 pub use bytes::Bytes;
 pub use frame::{FrameName, Held, Named};
 pub use graph::{
-    Calc, CircularRule, FileRule, Graph, Kind, Mode, NodeRule, RoiRule, Sign, StatsRule,
+    Calc, CircularRule, FileRule, Graph, Kind, Mode, NodeRule, RoiRule, Sign, StatsRule, rule_at,
 };
 pub use measure::Measure;
 pub use memory::OutOfMemory;

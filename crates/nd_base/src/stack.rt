@@ -1,8 +1,9 @@
 //! Stacks.
 
-ghost use Rattle.std.specs.Prelude.{◌≡◌, ◌<◌, ◌≤◌, ◌*◌, length, slice_get, IfSome};
+ghost use Rattle.std.specs.Prelude.{◌≡◌, ◌<◌, ◌≤◌, ◌+◌, ◌*◌, length, take, drop, slice_get, IfSome};
+ghost use Rattle.nd_base.specs.SampleLaws.{AreBytes};
 
-use crate::{Bytes, FileShape, Head, Seq};
+use crate::{Bytes, FileShape, Head, Seq, frame_bytes};
 use std::marker::Model;
 
 /// Frames of one shape over the bytes of the file that they come from. The samples of frame k are the bytes
@@ -26,6 +27,15 @@ impl Model for Stack {
     ghost view = { λ s. stack_at s.shape s.heads s.bytes s.first s.step };
 
     ghost invariant = { λ s. FitsFile s.shape s.heads s.bytes s.first s.step };
+}
+
+/// So many of the bytes, from a place on.
+fn part(bytes: &[u8], place: usize, size: usize) -> &[u8]
+    requires { place + size ≤ length bytes.now }
+    ensures value { result.now ≡ take size (drop place bytes.now) }
+    ensures bytes { AreBytes result.now }
+{
+    &bytes[place..place + size]
 }
 
 impl Stack {
@@ -70,6 +80,19 @@ impl Stack {
         &self.shape
     }
 
+    /// The samples of frame `k`, the most significant byte of each first. They aren't copied.
+    pub fn frame(&self, k: u32) -> &[u8]
+        requires { k < length self.now.arrays }
+        ensures size { length result.now ≡ frame_size self.now.shape }
+        ensures samples { IfSome (slice_get self.now.arrays k) (λ a. samples_of self.now.shape.kind result.now ≡ a.samples) }
+        ensures bytes { IfSome (slice_get self.now.arrays k) (λ a. result.now ≡ bytes_of self.now.shape.kind a.samples) }
+    {
+        let bytes = self.bytes.list();
+        let size = frame_bytes(self.shape.kind, self.shape.dims.as_slice());
+        let place = (self.first + u64::from(k) * self.step) as usize;
+        part(bytes, place, size)
+    }
+
     /// Fills `out` with the samples of frame `k`, the most significant byte of each first. It takes no
     /// memory.
     pub fn fill_frame(&self, k: u32, out: &mut [u8])
@@ -78,8 +101,6 @@ impl Stack {
         ensures samples { IfSome (slice_get self.now.arrays k) (λ a. samples_of self.now.shape.kind out.new ≡ a.samples) }
         ensures bytes { IfSome (slice_get self.now.arrays k) (λ a. out.new ≡ bytes_of self.now.shape.kind a.samples) }
     {
-        let bytes = self.bytes.list();
-        let place = (self.first + u64::from(k) * self.step) as usize;
-        out.copy_from_slice(&bytes[place..place + out.len()]);
+        out.copy_from_slice(self.frame(k));
     }
 }

@@ -210,6 +210,7 @@ fn frames_stand_a_step_apart(rt: HostRuntime) -> Result<(), Fail> {
     assert_eq!(rt; stack.shape().width, 256);
     assert_eq!(rt; stack.head(0).id, 7);
     assert_eq!(rt; stack.head(1).id, 8);
+    assert_eq!(rt; stack.frame(0), [1, 2, 3, 4].as_slice());
     let mut out = [0; 4];
     stack.fill_frame(0, &mut out);
     assert_eq!(rt; out, [1, 2, 3, 4]);

@@ -7,8 +7,7 @@ use Rattle.nd_base.specs.SampleLaws.{AreBytes}
 use Rattle.cdf_read.specs.declared.head.HeadAttr.{HeadAttr}
 use Rattle.cdf_read.specs.declared.head.HeadDim.{HeadDim}
 use Rattle.cdf_read.specs.declared.head.Header.{Header}
-use Rattle.cdf_read.specs.Fields.{IsWord}
-use Rattle.cdf_read.specs.PlainForm.{magic}
+use Rattle.cdf_read.specs.Fields.{IsWord, magic}
 use Rattle.cdf_read.specs.Grammar.{AreMany, IsAttr, IsDim, IsList, IsName, IsPadded, Reads}
 
 front : (text after before : List ℕ) → before ≡ text ++ after → AreBytes before → AreBytes text

@@ -1,5 +1,5 @@
 -- Values of int attributes.
-use Rattle.std.proofs.Common.{◌≡◌, ◌/◌, ℕ, ℤ, Bool, true, false, List, length, Some, refl, ap, sym, ◌∙◌, arith}
+use Rattle.std.proofs.Common.{◌≡◌, ◌/◌, ℕ, ℤ, true, false, List, length, Some, refl, arith}
 use Rattle.std.specs.Prelude.{◌==◌, slice_get, slice_index_or, if◌then◌else◌}
 use Rattle.std.proofs.lemmas.Bool.Decides.{nat_tests}
 use Rattle.std.proofs.lemmas.Option.{get_or_from_slice_get}

@@ -1,6 +1,6 @@
 -- A frame's values are at most those of the variable.
-use Rattle.std.proofs.Common.{◌≡◌, ◌≤◌, ◌<◌, ◌*◌, ℕ, List, [], ◌∷◌, length, drop, max, ap, sym, ◌∙◌, arith}
-use Rattle.std.proofs.Math.Nat.{mul-le-mul_right, one-mul, one-le-mul, mul-one, mul-le-mul_left}
+use Rattle.std.proofs.Common.{◌≤◌, ℕ, List, [], ◌∷◌, drop, max, arith}
+use Rattle.std.proofs.Math.Nat.{mul-le-mul_right, mul-le-mul_left}
 use Rattle.cdf_read.specs.declared.head.HeadDim.{HeadDim}
 use Rattle.cdf_read.specs.declared.head.HeadVar.{HeadVar}
 use Rattle.cdf_read.specs.declared.head.Header.{Header}

@@ -11,7 +11,7 @@ use Rattle.nd_base.specs.Array.{Array}
 use Rattle.cdf_read.specs.declared.head.HeadDim.{HeadDim}
 use Rattle.cdf_read.specs.declared.head.HeadVar.{HeadVar}
 use Rattle.cdf_read.specs.Places.{record_count, streaming}
-use Rattle.cdf_read.specs.PlainForm.{magic}
+use Rattle.cdf_read.specs.Fields.{magic}
 use Rattle.cdf_read.specs.Grammar.{greatest, IsNumrecs, IsHeader, Reads}
 use Rattle.cdf_read.specs.HeaderReading.{header_of}
 use Rattle.cdf_read.specs.HeaderLaws.{header_of-again}

@@ -7,8 +7,6 @@ pub mod FrameShape
 pub mod StackRules
 pub mod Sound
 pub mod SoundLaws
-pub mod PlainHeader
-pub mod PlainLaw
 pub mod ColumnLaws
 pub mod FieldSpelling
 pub mod LayoutHeader

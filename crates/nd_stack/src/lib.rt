@@ -17,7 +17,7 @@ mod tests;
 
 pub use arrays::{array, shape_for};
 pub use fault::StackFault;
-pub use read::{frames_stand_where_their_values_do, plain_files_keep_their_frames, read_stack};
+pub use read::{frames_stand_where_their_values_do, read_stack};
 pub use round_trip::{
     layout_reads_back, open_files_read_back, stack_shape_is_writable, stacks_read_back,
 };

@@ -3,13 +3,10 @@
 ghost use Rattle.std.specs.Prelude.{◌≡◌, ℕ, List, length, Ok, IfOk};
 ghost use Rattle.cdf_read.specs.declared.head.HeadVar.{HeadVar};
 ghost use Rattle.cdf_read.specs.declared.head.Header.{Header};
-ghost use Rattle.cdf_read.specs.declared.plain.PlainHead.{PlainHead};
-ghost use Rattle.cdf_read.specs.PlainForm.{IsPlain};
 ghost use Rattle.nd_stack.specs.Answers.{Gives};
 ghost use Rattle.nd_stack.specs.ColumnLaws.{FrameStands};
 ghost use Rattle.nd_stack.specs.Columns.{frame_count};
 ghost use Rattle.nd_stack.specs.FrameShape.{shape_of};
-ghost use Rattle.nd_stack.specs.PlainLaw.{plain_stack};
 ghost use Rattle.nd_stack.specs.Sound.{IsSound};
 ghost use Rattle.nd_stack.specs.StackRules.{frames_of, heads_of, stack_of};
 
@@ -60,11 +57,6 @@ pub fn read_stack(alloc: Global, bytes: Vec<u8>) -> Result<Stack, StackFault>
     let (heads, bytes) = (Seq::new(heads), Bytes::new(bytes));
     Ok(Stack::new(shape, heads, bytes, column.first, column.step))
 }
-
-/// The stack of a file in plain form has the arrays that the copy path gives it.
-pub fn plain_files_keep_their_frames()
-    ensures { (bytes : List ℕ) (head : PlainHead) → IsPlain bytes head → stack_of bytes ≡ Ok (plain_stack bytes head) }
-{}
 
 /// The bytes for a frame begin at the place of its first value: in the frame's record, or after the values
 /// of the frames before it.

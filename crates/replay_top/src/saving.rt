@@ -9,7 +9,7 @@ ghost use Rattle.replay_top.specs.Copy.{copy_file, copy_length};
 
 use edge_traits::Shelf;
 use file_out::{SaveFault, StreamFile};
-use nd_base::{Stack, frame_bytes};
+use nd_base::Stack;
 use std::alloc::Global;
 
 /// Writes all frames of a stack under a name, one after the other.
@@ -28,11 +28,9 @@ pub(crate) fn write_frames<K: Shelf>(
 {
     let shape = stack.shape();
     let frames = stack.frames();
-    let mut samples = vec![in alloc; 0u8; frame_bytes(shape.kind, shape.dims.as_slice())]?;
     let mut file = StreamFile::begin(alloc, shelf, name, shape, Some(frames), u64::from(frames))?;
     for k in 0..frames {
-        stack.fill_frame(k, &mut samples);
-        file.add(alloc, shelf, stack.head(k), &samples)?;
+        file.add(alloc, shelf, stack.head(k), stack.frame(k))?;
     }
     file.end(shelf)?;
     Ok(())

@@ -7,7 +7,7 @@ use nd_stack::StackFault;
 use std::alloc::{AllocError, Global};
 use std::test::Fail;
 
-/// The parts of a file in plain form between the numbers that differ: the number of frames, their rows, their
+/// The parts of a small stack's file between the numbers that differ: the number of frames, their rows, their
 /// columns, and the place of the first value.
 const BEFORE_FRAMES: &[u8] = b"CDF\x01";
 
@@ -46,7 +46,7 @@ const COPY: [&[u8]; 21] = [
     b"\0\0\0\x01\0\0\0\0\0\0\0\0\0\0\0\0\0\0\0\0\x01\x02\x03\x04",
 ];
 
-/// A file in plain form whose values follow its header.
+/// A stack's file of unsigned bytes whose values follow its header.
 fn stack(
     alloc: Global,
     frames: u32,

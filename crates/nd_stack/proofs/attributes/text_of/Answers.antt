@@ -1,4 +1,4 @@
-use Rattle.std.proofs.Common.{◌≡◌, sym, ◌∙◌}
+use Rattle.std.proofs.Common.{sym}
 use Rattle.std.specs.Prelude.{◌==◌}
 use Rattle.nd_stack.proofs.Texts.{before_first-none, before_first-some}
 use Rattle.nd_stack.proofs.attributes.text_of.Goals as goal

@@ -1,5 +1,4 @@
-use Rattle.std.proofs.Common.{◌≡◌, ◌≤◌, ◌*◌, arith, ap, sym, ◌∙◌, rules}
-use Rattle.nd_stack.specs.Columns.{values_size, frame_values}
+use Rattle.std.proofs.Common.{arith}
 use Rattle.nd_stack.proofs.Sizes.{values_size-most}
 use Rattle.nd_stack.proofs.column.column_of.Goals as goal
 

@@ -1,4 +1,4 @@
-use Rattle.std.proofs.Common.{◌≡◌, ◌≤◌, ◌+◌, ◌*◌, arith, drop, get_or, max}
+use Rattle.std.proofs.Common.{◌≡◌, ◌+◌, ◌*◌, arith, drop, get_or, max}
 use Rattle.cdf_read.specs.Places.{value_count, dim_length}
 use Rattle.cdf_read.specs.PlaceLaws.{size_step, size_most}
 use Rattle.nd_stack.proofs.column.count_of.Goals as goal

@@ -1,4 +1,4 @@
-use Rattle.std.proofs.Common.{◌≡◌, ◌≤◌, ◌<◌, length, Some, All, ap, sym, ◌∙◌, arith}
+use Rattle.std.proofs.Common.{◌≡◌, ◌≤◌, length, Some, ap, sym, ◌∙◌, arith}
 use Rattle.std.specs.Prelude.{codes, option_copied}
 use Rattle.std.specs.Str.{bytes_eq}
 use Rattle.cdf_read.specs.declared.head.HeadVar.{HeadVar}

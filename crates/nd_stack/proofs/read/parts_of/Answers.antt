@@ -1,8 +1,7 @@
-use Rattle.std.proofs.Common.{◌≡◌, ◌≤◌, ◌<◌, length, ap, sym, ◌∙◌, subst, arith, true}
+use Rattle.std.proofs.Common.{◌≤◌, ◌<◌, length, sym, ◌∙◌, subst, arith}
 use Rattle.std.specs.Prelude.{All}
 use Rattle.std.proofs.lemmas.Bool.{leb-true}
 use Rattle.nd_stack.specs.Columns.{frame_count}
-use Rattle.nd_stack.specs.FrameShape.{width_of}
 use Rattle.nd_stack.specs.Sound.{HasTimes, HasAttr}
 use Rattle.nd_stack.proofs.Accepted.{frames_of-IsAccepted}
 use Rattle.nd_stack.proofs.Others.{times-HasTimes, attrs-HasAttr}

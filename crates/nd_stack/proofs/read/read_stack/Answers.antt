@@ -1,8 +1,6 @@
-use Rattle.std.proofs.Common.{◌≡◌, ◌≤◌, List, ℕ, length, ap, sym, ◌∙◌, subst, arith}
+use Rattle.std.proofs.Common.{◌≡◌, List, ℕ, length, sym, ◌∙◌, subst}
 use Rattle.nd_base.specs.Stacks.{FitsFile}
-use Rattle.cdf_read.specs.Grammar.{Reads}
 use Rattle.nd_stack.specs.Columns.{frame_count, column_of}
-use Rattle.nd_stack.specs.FrameShape.{shape_of}
 use Rattle.nd_stack.specs.StackRules.{heads_of}
 use Rattle.nd_stack.specs.Sound.{IsSound}
 use Rattle.nd_stack.specs.SoundLaws.{Reads-IsSound}

@@ -1,12 +1,10 @@
 use Rattle.std.proofs.Common.{◌≡◌, ◌+◌, ◌<◌, ◌++◌, Some, length, take, ap, sym, subst, ◌∙◌, arith, refl}
 use Rattle.std.specs.Prelude.{slice_get}
 use Rattle.std.specs.List.{flat_map}
-use Rattle.std.proofs.lemmas.List.{take_at}
 use Rattle.std.proofs.lemmas.Option.{get_or_from_slice_get}
 use Rattle.std.proofs.lemmas.Result.{err_from_is_err_and}
 use Rattle.nd_base.specs.Array.{Array}
 use Rattle.nd_base.specs.Shapes.{array_of}
-use Rattle.nd_base.specs.Stacks.{frame_size}
 use Rattle.edge_traits.specs.Files.{with_file, with_more}
 use Rattle.edge_traits.specs.FileLaws.{Stands-with_file, with_more-with_file}
 use Rattle.cdf_write.specs.Layout.{header, row}
@@ -21,7 +19,7 @@ use Rattle.replay_top.proofs.saving.write_frames.Goals as goal
 
 pub returns-in_err-file-clause-err : goal.returns-in_err-file-clause-err
 returns-in_err-file-clause-err g c =
-    let p = err_from_is_err_and c.from_residual-in_err-file.result c.from_residual-in_err-file.ensures.1 in
+    let p = err_from_is_err_and c.from_residual.result c.from_residual.ensures.1 in
     let s = c.args.stack.now in
     let stops = (rw (c.shape-shape.ensures.value, c.frames-frames.ensures) at c.in_err-file.ensures.err) in
     rw p.1 (IsBegun-BeginStops c.in_err-file.field-0.0 _ _ c.args.name.now (header s.shape (Some (length s.arrays))) (flat_map (row s.shape) s.arrays) (copy_file s) refl stops)
@@ -30,15 +28,13 @@ pub add-requires-clause-row : goal.add-requires-clause-row
 add-requires-clause-row g c =
     let s = c.args.stack.now in
     let k = c.loop-k.k in
-    let out = c.fill_frame.new.out in
+    let out = c.frame.result.now in
     let head = c.head.result.now in
     let within : k < length s.arrays = omega (arith, c.loop-k-test.true, c.frames-frames.ensures) in
-    let same : c.deref.result.now ≡ out = c.deref.ensures.value ∙ take_at out _ _ (c.fill_frame.auto.out ∙ c.deref_mut.ensures.len) in
-    let size : length c.deref.result.now ≡ frame_size s.shape = ap length same ∙ c.fill_frame.auto.out ∙ ap length c.deref_mut.ensures.value ∙ c.loop-k.invariant.room in
     let array = array_of head s.shape.kind s.shape.dims out in
-    let found : slice_get s.arrays k ≡ Some array = frame-rebuilt s.arrays s.shape k head out within c.shape-shape.ensures.sound.frames c.head.ensures c.fill_frame.ensures.samples in
+    let found : slice_get s.arrays k ≡ Some array = frame-rebuilt s.arrays s.shape k head out within c.shape-shape.ensures.sound.frames c.head.ensures c.frame.ensures.samples in
     let columns : HasColumns s.shape head.attrs = subst (λ (a : Array). HasColumns s.shape a.attrs) (get_or_from_slice_get s.arrays k array array found) (c.requires.kept.each k array within).attrs in
-    rw c.loop-k.invariant.stream (record { columns = columns; samples = size })
+    rw c.loop-k.invariant.stream (record { columns = columns; samples = c.frame.ensures.size })
 
 pub add-requires-clause-stands : goal.add-requires-clause-stands
 add-requires-clause-stands g c =
@@ -49,14 +45,13 @@ returns-in_err-add-clause-err g c =
     let p = err_from_is_err_and c.from_residual-in_err-add.result c.from_residual-in_err-add.ensures.1 in
     let s = c.args.stack.now in
     let k = c.loop-k.k in
-    let out = c.fill_frame.new.out in
+    let out = c.frame.result.now in
     let head = c.head.result.now in
     let within : k < length s.arrays = omega (arith, c.loop-k-test.true, c.frames-frames.ensures) in
-    let same : c.deref.result.now ≡ out = c.deref.ensures.value ∙ take_at out _ _ (c.fill_frame.auto.out ∙ c.deref_mut.ensures.len) in
     let array = array_of head s.shape.kind s.shape.dims out in
-    let found : slice_get s.arrays k ≡ Some array = frame-rebuilt s.arrays s.shape k head out within c.shape-shape.ensures.sound.frames c.head.ensures c.fill_frame.ensures.samples in
+    let found : slice_get s.arrays k ≡ Some array = frame-rebuilt s.arrays s.shape k head out within c.shape-shape.ensures.sound.frames c.head.ensures c.frame.ensures.samples in
     let others = copy_file-front s (k + 1) in
-    let stops = (rw (c.loop-k.invariant.stream, same) at c.in_err-add.ensures.err) in
+    let stops = (rw c.loop-k.invariant.stream at c.in_err-add.ensures.err) in
     rw p.1 (IsBegun-AddStops c.in_err-add.field-0.0 _ (g.K.Shelf.held c.loop-k.shelf) _ c.args.name.now (begun_copy s k) (row s.shape array) others.0 (copy_file s)
     (others.1 ∙ ap (λ bytes. bytes ++ others.0) (begun_copy-more s k array within found)) c.loop-k.invariant.files stops)
 
@@ -66,21 +61,18 @@ loop-k-preserved g c =
     let k = c.loop-k.k in
     let name = c.args.name.now in
     let held = g.K.Shelf.held in
-    let out = c.fill_frame.new.out in
+    let out = c.frame.result.now in
     let head = c.head.result.now in
     let within : k < length s.arrays = omega (arith, c.loop-k-test.true, c.frames-frames.ensures) in
-    let filled : length out ≡ c.loop-k.samples.len = c.fill_frame.auto.out ∙ c.deref_mut.ensures.len in
-    let same : c.deref.result.now ≡ out = c.deref.ensures.value ∙ take_at out _ _ filled in
     let array = array_of head s.shape.kind s.shape.dims out in
-    let found : slice_get s.arrays k ≡ Some array = frame-rebuilt s.arrays s.shape k head out within c.shape-shape.ensures.sound.frames c.head.ensures c.fill_frame.ensures.samples in
-    let added = (rw (c.loop-k.invariant.stream, same) at c.in_ok-add.ensures.ok) in
+    let found : slice_get s.arrays k ≡ Some array = frame-rebuilt s.arrays s.shape k head out within c.shape-shape.ensures.sound.frames c.head.ensures c.frame.ensures.samples in
+    let added = (rw c.loop-k.invariant.stream at c.in_ok-add.ensures.ok) in
     record {
       files =
           added ∙ ap (λ w. with_more w name (row s.shape array)) c.loop-k.invariant.files
           ∙ with_more-with_file (held c.args.shelf.now) name (begun_copy s k) (row s.shape array)
           ∙ ap (with_file (held c.args.shelf.now) name) (sym (begun_copy-more s k array within found));
       stream = c.in_ok-add.ensures.counted ∙ ap (λ (f : Stream). (record f { count = f.count + 1 })) c.loop-k.invariant.stream;
-      room = ap length (take_at out _ _ filled) ∙ c.fill_frame.auto.out ∙ ap length c.deref_mut.ensures.value ∙ c.loop-k.invariant.room;
       none = c.in_ok-add.ensures.cause ∙ c.loop-k.invariant.none;
     }
 

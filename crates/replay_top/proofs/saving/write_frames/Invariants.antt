@@ -1,6 +1,5 @@
 use Rattle.std.proofs.Common.{◌≡◌, Some, length}
 use Rattle.edge_traits.specs.Files.{with_file}
-use Rattle.nd_base.specs.Stacks.{frame_size}
 use Rattle.replay_top.proofs.Frames.{begun_copy}
 use Rattle.replay_top.proofs.saving.write_frames.Given as goal
 
@@ -12,6 +11,5 @@ invariant-loop-k g l =
     record {
       files : held l.shelf ≡ with_file (held l.fn.shelf) l.name (begun_copy l.stack l.k);
       stream : l.file ≡ record { name = l.name; shape = l.stack.shape; numrecs = Some (length l.stack.arrays); room = length l.stack.arrays; count = l.k };
-      room : length l.samples.items ≡ frame_size l.stack.shape;
       none : faults l.shelf ≡ faults l.fn.shelf;
     }

@@ -1,6 +1,6 @@
 use Rattle.std.proofs.Common.{rules}
 use Rattle.std.proofs.lemmas.List.Elements.{same_from_all_zip}
-use Rattle.chain_plain.proofs.contents.same_head.Goals as goal
+use Rattle.nd_base.proofs.array.same_head.Goals as goal
 
 pub returns : goal.returns
 returns c = search (rules, same_from_all_zip)
