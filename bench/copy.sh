@@ -4,22 +4,14 @@
 set -eu
 here=$(cd "$(dirname "$0")/.." && pwd)
 source "$here/bench/timing.sh"
+source "$here/bench/stacks.sh"
 work=$(mktemp -d)
 trap 'rm -rf "$work"' EXIT
 "$here/nd_replay" --version > "$work/version"
 program=$here/crates/replay_main/out/replay_main
 
-# 144 bytes of header, and 200 records of the one variable.
-{
-    printf 'CDF\001\0\0\0\310\0\0\0\012\0\0\0\003'
-    printf '\0\0\0\001n\0\0\0\0\0\0\0\0\0\0\001y\0\0\0\0\0\004\0\0\0\0\001x\0\0\0\0\0\004\0'
-    printf '\0\0\0\014\0\0\0\001\0\0\0\010dataType\0\0\0\004\0\0\0\001\0\0\0\001'
-    printf '\0\0\0\013\0\0\0\001\0\0\0\012array_data\0\0\0\0\0\003\0\0\0\0\0\0\0\001\0\0\0\002'
-    printf '\0\0\0\0\0\0\0\0\0\0\0\001\0\0\0\004\0\0\0\220'
-    head -c $((200 * 1048576)) /dev/urandom
-} > "$work/stack.nc"
-
 cd "$work"
+make_stack 200 > stack.nc
 read -r copy cp < <(alternate "$work" "$program" copy stack.nc x_ -- cp stack.nc again.nc)
 awk -v copy="$copy" -v cp="$cp" 'BEGIN { printf "copy %.1f ms, cp %.1f ms, ratio %.2f\n", copy / 1e6, cp / 1e6, copy / cp }'
 

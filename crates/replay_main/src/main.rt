@@ -11,12 +11,16 @@ use std::{env, io};
 
 const HELP: &str = "nd_replay: replays a stack of detector frames
 
-    nd_replay copy STACK PREFIX   writes the frames of STACK to <PREFIX>copy_000.nc
-    nd_replay --help              prints this text
-    nd_replay --version           prints the version
+    nd_replay copy STACK PREFIX          writes the frames of STACK to <PREFIX>copy_000.nc
+    nd_replay plain GRAPH STACK PREFIX   runs the plugins of GRAPH over the frames of STACK in
+                                         one thread, and writes their files
+    nd_replay info STACK                 prints the sample type, the dimensions, the number of
+                                         frames, the ids and the attributes of STACK
+    nd_replay --help                     prints this text
+    nd_replay --version                  prints the version
 
-STACK is a netCDF classic file. The status is 0 where the command did its work;
-else one line on standard error says why.
+STACK is a netCDF classic file, and GRAPH a TOML text. The status is 0 where the command
+did its work; else one line on standard error says why.
 ";
 
 const VERSION: &str = "nd_replay 0.1.0
@@ -58,8 +62,8 @@ fn run(rt: &(impl Files + Print + AllocGlobal), words: &[String]) -> Status {
 }
 
 /// Says on standard error why the program didn't do its work.
-fn report(rt: &(impl Eprint + AllocGlobal), status: Status) {
-    let _ = match status_text(rt.alloc(), &status) {
+fn report(rt: &(impl Eprint + AllocGlobal), status: &Status) {
+    let _ = match status_text(rt.alloc(), status) {
         Ok(text) => eprintln!(rt; "nd_replay: {text}"),
         Err(_) => rt.eprintln("nd_replay: status 9 OutOfMemory"),
     };
@@ -70,8 +74,8 @@ fn main(rt: HostRuntime) -> ExitCode {
         Ok(words) => run(&rt, &words),
         Err(status) => status,
     };
-    if status != Status::Done {
-        report(&rt, status);
+    if !matches!(status, Status::Done) {
+        report(&rt, &status);
     }
     ExitCode::from(status.number())
 }

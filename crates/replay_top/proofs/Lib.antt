@@ -1,4 +1,16 @@
 pub mod Files
 pub mod Frames
+pub mod Ids
+pub mod Outgoing
+pub mod FileRows
+pub mod Chunks
+pub mod NodeShapes
+pub mod Begun
+pub mod GroupFiles
+pub mod StatsRows
+pub mod PassedOn
+pub mod NodeWrites
+pub mod EachNode
+pub mod Asked
 pub mod Stops
 pub mod Claims

@@ -1,62 +1,89 @@
--- Why each stage of `copy` stopped, and what it left.
-use Rattle.std.specs.Prelude.{◌≡◌, ◌≢◌, ℕ, ◌<◌, ◌≤◌, List, length, Option}
+-- Why each stage of a command stopped, and what it left.
+use Rattle.std.specs.Prelude.{◌≡◌, ◌≢◌, ℕ, ◌<◌, List, Option, Err}
 use Rattle.nd_base.specs.Array.{StackValue}
 use Rattle.edge_traits.specs.Faults.{Rose}
-use Rattle.edge_traits.specs.Files.{Files}
+use Rattle.edge_traits.specs.Files.{Files, IsTold}
 use Rattle.cdf_write.specs.Lengths.{longest}
-use Rattle.file_out.specs.Saving.{IsBegun}
 use Rattle.nd_stack.specs.declared.fault.StackFault.{StackFault}
 use Rattle.nd_stack.specs.declared.fault.StackFault.TheVariants as refusal
 use Rattle.nd_stack.specs.KeptStacks.{IsKeptStack}
-use Rattle.replay_top.specs.declared.status.LimitFault.TheVariants.{FileTooLarge}
+use Rattle.graph_conf.specs.declared.fault.GraphFault.{GraphFault}
+use Rattle.graph_conf.specs.declared.fault.GraphFault.TheVariants as rule
+use Rattle.graph_conf.specs.declared.load.LimitFault.TheVariants.{GraphBytes, StackFile, FileTooLarge}
 use Rattle.replay_top.specs.declared.reading.ReadRefusal.{ReadRefusal}
 use Rattle.replay_top.specs.declared.reading.ReadRefusal.TheVariants as reading
-use Rattle.replay_top.specs.declared.status.LimitFault.TheVariants.{StackFile}
 use Rattle.replay_top.specs.declared.status.Status.{Status}
-use Rattle.replay_top.specs.declared.status.Status.TheVariants.{StackBytes, Limit, ReadFault, ShelfFault, OutFault, OutOfMemory}
-use Rattle.replay_top.specs.Answers.{IsAskedBy}
-use Rattle.replay_top.specs.Copy.{IsStackRead, copy_name, copy_file, copy_length}
-use Rattle.replay_top.specs.Limits.{IsPast}
-use Rattle.replay_top.specs.Printed.{IsCutShort, frames_line}
+use Rattle.replay_top.specs.declared.status.Status.TheVariants.{GraphText, GraphRule, StackBytes, Limit, ReadFault, ShelfFault, OutFault, OutOfMemory}
+use Rattle.replay_top.specs.BegunFiles.{AreBegun}
+use Rattle.replay_top.specs.Copy.{copy_length}
+use Rattle.replay_top.specs.Limits.{graph_in, stack_in}
+use Rattle.replay_top.specs.NodeFiles.{OutFile}
+use Rattle.replay_top.specs.Printed.{IsCutShort}
+use Rattle.replay_top.specs.Sources.{most_graph_bytes, most_stack_bytes, IsStackRead}
 
--- the status of a file that wasn't read, and of bytes that are no stack
-abbrev pub read_status : ReadRefusal → Status
-read_status (reading.TooLong bytes) = Limit (StackFile bytes)
-read_status reading.Failed = ReadFault
-read_status reading.OutOfMemory = OutOfMemory
+-- the status of a file that wasn't read, as a graph and as a stack
+abbrev pub graph_read_status : ReadRefusal → Status
+graph_read_status (reading.TooLong bytes) = Limit (GraphBytes bytes)
+graph_read_status reading.Failed = ReadFault
+graph_read_status reading.OutOfMemory = OutOfMemory
+
+abbrev pub stack_read_status : ReadRefusal → Status
+stack_read_status (reading.TooLong bytes) = Limit (StackFile bytes)
+stack_read_status reading.Failed = ReadFault
+stack_read_status reading.OutOfMemory = OutOfMemory
+
+-- the status of bytes that are no graph, and of bytes that are no stack
+abbrev pub graph_fault_status : GraphFault → Status
+graph_fault_status rule.OutOfMemory = OutOfMemory
+graph_fault_status rule.Text = GraphText
+graph_fault_status fault = GraphRule fault
 
 abbrev pub fault_status : StackFault → Status
 fault_status refusal.OutOfMemory = OutOfMemory
 fault_status fault = StackBytes fault
 
--- a stack that was read, and so can be written
-pub record IsLoaded (told : Option Files) (stack : List ℕ) (s : StackValue) : Type 0 where
-  pub bytes : List ℕ
-  pub source : IsStackRead told stack bytes s
-  pub kept : IsKeptStack s
+-- a file is refused so, where it is told
+abbrev pub IsGraphRefused : Status → Option Files → (name : List ℕ) → Type 0
+IsGraphRefused status told name = (file : List ℕ) → IsTold told name file → graph_in file ≡ Err status
+
+abbrev pub IsStackRefused : Status → Option Files → (name : List ℕ) → Type 0
+IsStackRefused status told name = (file : List ℕ) → IsTold told name file → stack_in file ≡ Err status
+
+-- reading the graph
+abbrev pub GraphStops : Status → Option Files → (name : List ℕ) → (before now : ℕ) → Type 0
+GraphStops GraphText told name before now = IsGraphRefused GraphText told name × (now ≡ before)
+GraphStops (GraphRule fault) told name before now = (fault ≢ rule.OutOfMemory) × (fault ≢ rule.Text) × IsGraphRefused (GraphRule fault) told name × (now ≡ before)
+GraphStops (Limit (GraphBytes bytes)) told name before now = (most_graph_bytes < bytes) × IsGraphRefused (Limit (GraphBytes bytes)) told name × (now ≡ before)
+GraphStops ReadFault told name before now = Rose before now
+GraphStops OutOfMemory told name before now = now ≡ before
+GraphStops _ told name before now = ⊥
 
 -- reading the stack
-abbrev pub ReadStops : Status → Option Files → (stack : List ℕ) → (before now : ℕ) → Type 0
-ReadStops (StackBytes fault) told stack before now = (fault ≢ refusal.OutOfMemory) × IsAskedBy (StackBytes fault) told stack × (now ≡ before)
-ReadStops (Limit fault) told stack before now = IsPast fault × IsAskedBy (Limit fault) told stack × (now ≡ before)
-ReadStops ReadFault told stack before now = Rose before now
-ReadStops OutOfMemory told stack before now = now ≡ before
-ReadStops _ told stack before now = ⊥
+abbrev pub StackStops : Status → Option Files → (name : List ℕ) → (before now : ℕ) → Type 0
+StackStops (StackBytes fault) told name before now = (fault ≢ refusal.OutOfMemory) × IsStackRefused (StackBytes fault) told name × (now ≡ before)
+StackStops (Limit (StackFile bytes)) told name before now = (most_stack_bytes < bytes) × IsStackRefused (Limit (StackFile bytes)) told name × (now ≡ before)
+StackStops ReadFault told name before now = Rose before now
+StackStops OutOfMemory told name before now = now ≡ before
+StackStops _ told name before now = ⊥
 
--- the copy's file would be too long
+-- a stack that was read, and so can be written
+pub record IsLoaded (told : Option Files) (name : List ℕ) (s : StackValue) : Type 0 where
+  pub source : IsStackRead told name s
+  pub kept : IsKeptStack s
+
+-- a copy's file would be too long
 pub record IsTooLong (status : Status) (s : StackValue) : Type 0 where
   pub is : status ≡ Limit (FileTooLarge 1 (copy_length s))
-  pub some : 1 ≤ length s.arrays
   pub past : longest < copy_length s
 
--- writing the file
-abbrev pub SaveStops : Status → (held : Option Files) → (prefix : List ℕ) → StackValue → (now : Option Files) → (before after : ℕ) → Type 0
-SaveStops ShelfFault held prefix s now before after = IsBegun held (copy_name prefix) (copy_file s) now × Rose before after
-SaveStops OutOfMemory held prefix s now before after = IsBegun held (copy_name prefix) (copy_file s) now × (after ≡ before)
-SaveStops _ held prefix s now before after = ⊥
+-- writing the files
+abbrev pub SaveStops : Status → (held : Option Files) → List OutFile → (now : Option Files) → (before after : ℕ) → Type 0
+SaveStops ShelfFault held files now before after = AreBegun held files now × Rose before after
+SaveStops OutOfMemory held files now before after = AreBegun held files now × (after ≡ before)
+SaveStops _ held files now before after = ⊥
 
--- printing the number of frames
-abbrev pub PrintStops : Status → (written : Option (List ℕ)) → ℕ → (now : Option (List ℕ)) → (before after : ℕ) → Type 0
-PrintStops OutFault written frames now before after = IsCutShort written (frames_line frames) now × Rose before after
-PrintStops OutOfMemory written frames now before after = (now ≡ written) × (after ≡ before)
-PrintStops _ written frames now before after = ⊥
+-- printing
+abbrev pub PrintStops : Status → (written : Option (List ℕ)) → (print : List ℕ) → (now : Option (List ℕ)) → (before after : ℕ) → Type 0
+PrintStops OutFault written print now before after = IsCutShort written print now × Rose before after
+PrintStops OutOfMemory written print now before after = (now ≡ written) × (after ≡ before)
+PrintStops _ written print now before after = ⊥

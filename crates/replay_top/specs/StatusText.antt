@@ -5,15 +5,21 @@ use Rattle.cdf_read.specs.declared.fault.CdfFault.{CdfFault}
 use Rattle.cdf_read.specs.declared.fault.CdfFault.TheVariants as cdf
 use Rattle.nd_stack.specs.declared.fault.StackFault.{StackFault}
 use Rattle.nd_stack.specs.declared.fault.StackFault.TheVariants as refusal
-use Rattle.replay_top.specs.declared.status.LimitFault.{LimitFault}
-use Rattle.replay_top.specs.declared.status.LimitFault.TheVariants.{StackFile, FileTooLarge}
+use Rattle.trig_window.specs.declared.expression.CalcFault.{CalcFault}
+use Rattle.trig_window.specs.declared.expression.CalcFault.TheVariants as calc
+use Rattle.graph_conf.specs.declared.fault.GraphFault.{GraphFault}
+use Rattle.graph_conf.specs.declared.fault.GraphFault.TheVariants as graph
+use Rattle.graph_conf.specs.declared.load.LimitFault.{LimitFault}
+use Rattle.graph_conf.specs.declared.load.LimitFault.TheVariants.{GraphBytes, StackFile, Load, Kept, FileTooLarge}
 use Rattle.replay_top.specs.declared.status.Status.{Status}
-use Rattle.replay_top.specs.declared.status.Status.TheVariants.{Done, Usage, StackBytes, Limit, ReadFault, ShelfFault, OutFault, OutOfMemory}
+use Rattle.replay_top.specs.declared.status.Status.TheVariants.{Done, Usage, GraphText, GraphRule, StackBytes, Limit, ReadFault, ShelfFault, OutFault, OutOfMemory}
 
 -- what the process ends with
 abbrev pub status_number : Status → ℕ
 status_number Done = 0
 status_number Usage = 1
+status_number GraphText = 2
+status_number (GraphRule f) = 3
 status_number (StackBytes f) = 4
 status_number (Limit f) = 5
 status_number ReadFault = 6
@@ -48,14 +54,39 @@ stack_fault_words (refusal.FrameCount var) = codes "FrameCount " ++ decimal var
 stack_fault_words (refusal.AttrShape var) = codes "AttrShape " ++ decimal var
 stack_fault_words refusal.OutOfMemory = codes "OutOfMemory"
 
+abbrev pub calc_fault_words : CalcFault → List ℕ
+calc_fault_words calc.OutOfMemory = codes "OutOfMemory"
+calc_fault_words calc.TooLong = codes "TooLong"
+calc_fault_words (calc.Unexpected at) = codes "Unexpected " ++ decimal at
+calc_fault_words calc.TooDeep = codes "TooDeep"
+
+abbrev pub graph_fault_words : GraphFault → List ℕ
+graph_fault_words graph.Text = codes "Text"
+graph_fault_words (graph.UnknownKey key) = codes "UnknownKey " ++ key
+graph_fault_words (graph.KeyType key) = codes "KeyType " ++ key
+graph_fault_words (graph.Range key value) = codes "Range " ++ key ++ 32 ∷ [] ++ signed_decimal value
+graph_fault_words (graph.Missing key) = codes "Missing " ++ key
+graph_fault_words (graph.UnknownKind node) = codes "UnknownKind " ++ decimal node
+graph_fault_words (graph.Threads node) = codes "Threads " ++ decimal node
+graph_fault_words (graph.Calc f) = codes "Calc " ++ calc_fault_words f
+graph_fault_words (graph.DoubleName node) = codes "DoubleName " ++ decimal node
+graph_fault_words (graph.UnknownInput node) = codes "UnknownInput " ++ decimal node
+graph_fault_words (graph.Cycle node) = codes "Cycle " ++ decimal node
+graph_fault_words graph.OutOfMemory = codes "OutOfMemory"
+
 abbrev pub limit_fault_words : LimitFault → List ℕ
+limit_fault_words (GraphBytes bytes) = codes "GraphBytes " ++ decimal bytes
 limit_fault_words (StackFile bytes) = codes "StackFile " ++ decimal bytes
+limit_fault_words (Load arrivals) = codes "Load " ++ decimal arrivals
+limit_fault_words (Kept numbers) = codes "Kept " ++ decimal numbers
 limit_fault_words (FileTooLarge node bytes) = codes "FileTooLarge " ++ decimal node ++ 32 ∷ [] ++ decimal bytes
 
 -- `status`, its number, its name, and what it carries, with one space between
 abbrev pub status_words : Status → List ℕ
 status_words Done = codes "status 0 Done"
 status_words Usage = codes "status 1 Usage"
+status_words GraphText = codes "status 2 GraphText"
+status_words (GraphRule f) = codes "status 3 GraphRule " ++ graph_fault_words f
 status_words (StackBytes f) = codes "status 4 StackBytes " ++ stack_fault_words f
 status_words (Limit f) = codes "status 5 Limit " ++ limit_fault_words f
 status_words ReadFault = codes "status 6 ReadFault"

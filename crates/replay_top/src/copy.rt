@@ -1,31 +1,27 @@
 //! `copy STACK PREFIX`: reads a stack, and writes it in the file layout.
 
-ghost use Rattle.std.specs.Prelude.{◌≡◌, ◌≤◌, ◌∷◌, length, Some, OnOk, IfOk, IfErr};
+ghost use Rattle.std.specs.Prelude.{◌≡◌, ◌≤◌, length, Some, OnOk, IfErr};
 ghost use Rattle.edge_traits.specs.Written.{with_written};
 ghost use Rattle.cdf_write.specs.Lengths.{longest};
-ghost use Rattle.nd_stack.specs.Answers.{Gives};
 ghost use Rattle.nd_stack.specs.KeptStacks.{IsKeptStack};
-ghost use Rattle.nd_stack.specs.StackRules.{stack_of};
 ghost use Rattle.replay_top.specs.Answers.{Ends};
 ghost use Rattle.replay_top.specs.Causes.{IsCause};
 ghost use Rattle.replay_top.specs.Command.{Copy};
-ghost use Rattle.replay_top.specs.Copy.{copy_length, with_copy};
+ghost use Rattle.replay_top.specs.Copy.{copy_files, copy_length};
+ghost use Rattle.replay_top.specs.NodeFiles.{with_files};
 ghost use Rattle.replay_top.specs.Printed.{frames_line};
-ghost use Rattle.replay_top.specs.Stages.{IsLoaded, IsTooLong, ReadStops, SaveStops, PrintStops};
+ghost use Rattle.replay_top.specs.Stages.{IsTooLong, SaveStops, PrintStops};
 
-use crate::printing::write_all;
-use crate::reading::read_file;
+use crate::printing::print;
 use crate::saving::write_frames;
-use crate::status::{LimitFault, Status};
+use crate::sources::load_stack;
+use crate::status::Status;
 use cdf_write::file_length;
 use edge_traits::{Library, Shelf, Sink};
 use file_out::SaveFault;
+use graph_conf::LimitFault;
 use nd_base::Stack;
-use nd_stack::{StackFault, read_stack, stacks_read_back};
 use std::alloc::Global;
-
-/// The most bytes of a stack's file.
-const STACK_LIMIT: u64 = 1_073_741_824;
 
 /// The most bytes of a file that is written.
 const FILE_LIMIT: u128 = 2_147_483_647;
@@ -33,33 +29,14 @@ const FILE_LIMIT: u128 = 2_147_483_647;
 /// The number of the node `copy`.
 const COPY_NODE: u32 = 1;
 
-/// The stack of a file's bytes.
-fn stack_in(alloc: Global, bytes: Vec<u8>) -> Result<Stack, StackFault>
-    ensures gives { Gives (λ stack. stack) result (stack_of bytes.items) }
-    ensures kept { IfOk result IsKeptStack }
-{
-    stacks_read_back();
-    read_stack(alloc, bytes)
-}
-
-/// Reads a stack.
-fn load_stack<L: Library>(alloc: Global, library: &mut L, name: &str) -> Result<Stack, Status>
-    ensures ok { IfOk result (λ stack. IsLoaded (L.holds library.old) name.now stack) }
-    ensures stays { OnOk result (L.faults library.new ≡ L.faults library.old) }
-    ensures err { IfErr result (λ s. ReadStops s (L.holds library.old) name.now (L.faults library.old) (L.faults library.new)) }
-{
-    let bytes = read_file(alloc, library, name, STACK_LIMIT)?;
-    Ok(stack_in(alloc, bytes)?)
-}
-
 /// Refuses a stack whose copy would be too long.
 fn check_length(stack: &Stack) -> Result<(), Status>
     requires kept { IsKeptStack stack.now }
-    ensures ok { OnOk result (1 ≤ length stack.now.arrays → copy_length stack.now ≤ longest) }
+    ensures ok { OnOk result (copy_length stack.now ≤ longest) }
     ensures err { IfErr result (λ s. IsTooLong s stack.now) }
 {
     let bytes = file_length(stack.shape(), u64::from(stack.frames()));
-    if stack.frames() != 0 && bytes > FILE_LIMIT {
+    if bytes > FILE_LIMIT {
         return Err(Status::Limit(LimitFault::FileTooLarge {
             node: COPY_NODE,
             bytes,
@@ -76,10 +53,10 @@ fn save_copy<K: Shelf>(
     stack: &Stack,
 ) -> Result<(), Status>
     requires kept { IsKeptStack stack.now }
-    requires within { 1 ≤ length stack.now.arrays → copy_length stack.now ≤ longest }
-    ensures ok { OnOk result (K.held shelf.new ≡ with_copy (K.held shelf.old) prefix.now stack.now) }
+    requires within { copy_length stack.now ≤ longest }
+    ensures ok { OnOk result (K.held shelf.new ≡ with_files (K.held shelf.old) (copy_files stack.now prefix.now)) }
     ensures stays { OnOk result (K.faults shelf.new ≡ K.faults shelf.old) }
-    ensures err { IfErr result (λ s. SaveStops s (K.held shelf.old) prefix.now stack.now (K.held shelf.new) (K.faults shelf.old) (K.faults shelf.new)) }
+    ensures err { IfErr result (λ s. SaveStops s (K.held shelf.old) (copy_files stack.now prefix.now) (K.held shelf.new) (K.faults shelf.old) (K.faults shelf.new)) }
 {
     if stack.frames() == 0 {
         return Ok(());
@@ -98,14 +75,11 @@ fn save_copy<K: Shelf>(
 fn print_frames<T: Sink>(alloc: Global, out: &mut T, frames: u32) -> Result<(), Status>
     ensures ok { OnOk result (T.written out.new ≡ with_written (T.written out.old) (frames_line frames)) }
     ensures stays { OnOk result (T.faults out.new ≡ T.faults out.old) }
-    ensures err { IfErr result (λ s. PrintStops s (T.written out.old) frames (T.written out.new) (T.faults out.old) (T.faults out.new)) }
+    ensures err { IfErr result (λ s. PrintStops s (T.written out.old) (frames_line frames) (T.written out.new) (T.faults out.old) (T.faults out.new)) }
 {
-    let Ok(line) = format!(in alloc; "frames {frames}\n") else {
-        return Err(Status::OutOfMemory);
-    };
-    match write_all(out, line.as_bytes()) {
-        Ok(()) => Ok(()),
-        Err(_) => Err(Status::OutFault),
+    match format!(in alloc; "frames {frames}\n") {
+        Ok(line) => print(out, line.as_str()),
+        Err(_) => Err(Status::OutOfMemory),
     }
 }
 

@@ -1,14 +1,16 @@
 //! Writing to a sink.
 
-ghost use Rattle.std.specs.Prelude.{◌≡◌, OnOk, OnErr};
+ghost use Rattle.std.specs.Prelude.{◌≡◌, IfErr, OnOk, OnErr};
 ghost use Rattle.edge_traits.specs.Faults.{Counts};
 ghost use Rattle.edge_traits.specs.Written.{with_written};
 ghost use Rattle.replay_top.specs.Printed.{IsCutShort};
+ghost use Rattle.replay_top.specs.Stages.{PrintStops};
 
+use crate::status::Status;
 use edge_traits::{Failed, Sink};
 
 /// Writes all of the text, or a proper front of it where the sink fails.
-pub(crate) fn write_all<T: Sink>(out: &mut T, text: &[u8]) -> Result<(), Failed>
+fn write_all<T: Sink>(out: &mut T, text: &[u8]) -> Result<(), Failed>
     ensures ok { OnOk result (T.written out.new ≡ with_written (T.written out.old) text.now) }
     ensures err { OnErr result (IsCutShort (T.written out.old) text.now (T.written out.new)) }
     ensures cause { Counts (T.faults out.old) (T.faults out.new) result }
@@ -18,4 +20,16 @@ pub(crate) fn write_all<T: Sink>(out: &mut T, text: &[u8]) -> Result<(), Failed>
         at += out.write(&text[at..])?;
     }
     Ok(())
+}
+
+/// Prints a text.
+pub(crate) fn print<T: Sink>(out: &mut T, text: &str) -> Result<(), Status>
+    ensures ok { OnOk result (T.written out.new ≡ with_written (T.written out.old) text.now) }
+    ensures stays { OnOk result (T.faults out.new ≡ T.faults out.old) }
+    ensures err { IfErr result (λ s. PrintStops s (T.written out.old) text.now (T.written out.new) (T.faults out.old) (T.faults out.new)) }
+{
+    match write_all(out, text.as_bytes()) {
+        Ok(()) => Ok(()),
+        Err(Failed) => Err(Status::OutFault),
+    }
 }

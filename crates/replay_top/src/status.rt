@@ -1,31 +1,27 @@
 //! What a command ends with.
 
 ghost use Rattle.std.specs.Prelude.{◌≡◌, Some, IfOk, string_bytes};
-ghost use Rattle.replay_top.specs.StatusText.{status_number, status_words, stack_fault_words, limit_fault_words, cdf_fault_words};
+ghost use Rattle.replay_top.specs.StatusText.{status_number, status_words, stack_fault_words, limit_fault_words, cdf_fault_words, calc_fault_words, graph_fault_words};
 
-use crate::reading::ReadRefusal;
 use cdf_read::CdfFault;
+use graph_conf::{GraphFault, LimitFault};
 use nd_base::OutOfMemory;
 use nd_stack::StackFault;
 use std::alloc::Global;
 use std::fmt;
-
-/// Which number passes its limit.
-#[derive(Clone, Copy, Debug, PartialEq, Eq)]
-pub enum LimitFault {
-    /// The stack's file has more than 1,073,741,824 bytes.
-    StackFile { bytes: u64 },
-    /// A file that a node writes would have more than 2,147,483,647 bytes.
-    FileTooLarge { node: u32, bytes: u128 },
-}
+use trig_window::CalcFault;
 
 /// What a command ends with. The process ends with its number.
-#[derive(Clone, Copy, Debug, PartialEq, Eq)]
+#[derive(Debug, Drop)]
 pub enum Status {
     /// The command did its work.
     Done,
     /// The words are no command with its number of words.
     Usage,
+    /// The graph's bytes are no TOML.
+    GraphText,
+    /// The graph's text is no graph.
+    GraphRule(GraphFault),
     /// The stack's bytes are refused.
     StackBytes(StackFault),
     /// A number passes its limit.
@@ -42,12 +38,14 @@ pub enum Status {
 
 impl Status {
     /// What the process ends with.
-    pub fn number(self) -> u8
-        ensures { result ≡ status_number self }
+    pub fn number(&self) -> u8
+        ensures { result ≡ status_number self.now }
     {
         match self {
             Status::Done => 0,
             Status::Usage => 1,
+            Status::GraphText => 2,
+            Status::GraphRule(_) => 3,
             Status::StackBytes(_) => 4,
             Status::Limit(_) => 5,
             Status::ReadFault => 6,
@@ -109,12 +107,64 @@ impl fmt::Display for StackWords {
     }
 }
 
-impl fmt::Display for LimitFault {
-    ghost output = { λ f. Some (limit_fault_words f) };
+/// The name and the fields of a fault of a trigger.
+#[derive(Clone, Copy)]
+struct CalcWords(CalcFault);
+
+impl fmt::Display for CalcWords {
+    ghost output = { λ w. Some (calc_fault_words w.0) };
 
     fn fmt<W: fmt::Write>(&self, f: &mut fmt::Formatter<W>) -> fmt::Result {
-        match self {
+        match self.0 {
+            CalcFault::OutOfMemory => f.write_str("OutOfMemory"),
+            CalcFault::TooLong => f.write_str("TooLong"),
+            CalcFault::Unexpected { at } => write!(f, "Unexpected {at}"),
+            CalcFault::TooDeep => f.write_str("TooDeep"),
+        }
+    }
+}
+
+/// The name and the fields of a fault of a graph's text.
+#[derive(Clone, Copy)]
+struct GraphWords<'a>(&'a GraphFault);
+
+impl fmt::Display for GraphWords<'_> {
+    ghost output = { λ w. Some (graph_fault_words w.0.now) };
+
+    fn fmt<W: fmt::Write>(&self, f: &mut fmt::Formatter<W>) -> fmt::Result {
+        match self.0 {
+            GraphFault::Text => f.write_str("Text"),
+            GraphFault::UnknownKey { key } => write!(f, "UnknownKey {}", key.text()),
+            GraphFault::KeyType { key } => write!(f, "KeyType {}", key.text()),
+            GraphFault::Range { key, value } => write!(f, "Range {} {value}", key.text()),
+            GraphFault::Missing { key } => write!(f, "Missing {}", key.text()),
+            GraphFault::UnknownKind { node } => write!(f, "UnknownKind {node}"),
+            GraphFault::Threads(node) => write!(f, "Threads {node}"),
+            GraphFault::Calc(fault) => {
+                let words = CalcWords(*fault);
+                write!(f, "Calc {words}")
+            }
+            GraphFault::DoubleName { node } => write!(f, "DoubleName {node}"),
+            GraphFault::UnknownInput { node } => write!(f, "UnknownInput {node}"),
+            GraphFault::Cycle { node } => write!(f, "Cycle {node}"),
+            GraphFault::OutOfMemory => f.write_str("OutOfMemory"),
+        }
+    }
+}
+
+/// The name and the fields of a limit that is passed.
+#[derive(Clone, Copy)]
+struct LimitWords(LimitFault);
+
+impl fmt::Display for LimitWords {
+    ghost output = { λ w. Some (limit_fault_words w.0) };
+
+    fn fmt<W: fmt::Write>(&self, f: &mut fmt::Formatter<W>) -> fmt::Result {
+        match self.0 {
+            LimitFault::GraphBytes { bytes } => write!(f, "GraphBytes {bytes}"),
             LimitFault::StackFile { bytes } => write!(f, "StackFile {bytes}"),
+            LimitFault::Load { arrivals } => write!(f, "Load {arrivals}"),
+            LimitFault::Kept { numbers } => write!(f, "Kept {numbers}"),
             LimitFault::FileTooLarge { node, bytes } => write!(f, "FileTooLarge {node} {bytes}"),
         }
     }
@@ -127,11 +177,19 @@ impl fmt::Display for Status {
         match self {
             Status::Done => f.write_str("status 0 Done"),
             Status::Usage => f.write_str("status 1 Usage"),
+            Status::GraphText => f.write_str("status 2 GraphText"),
+            Status::GraphRule(fault) => {
+                let words = GraphWords(fault);
+                write!(f, "status 3 GraphRule {words}")
+            }
             Status::StackBytes(fault) => {
                 let words = StackWords(*fault);
                 write!(f, "status 4 StackBytes {words}")
             }
-            Status::Limit(fault) => write!(f, "status 5 Limit {fault}"),
+            Status::Limit(fault) => {
+                let words = LimitWords(*fault);
+                write!(f, "status 5 Limit {words}")
+            }
             Status::ReadFault => f.write_str("status 6 ReadFault"),
             Status::ShelfFault => f.write_str("status 7 ShelfFault"),
             Status::OutFault => f.write_str("status 8 OutFault"),
@@ -140,17 +198,17 @@ impl fmt::Display for Status {
     }
 }
 
-impl From<ReadRefusal> for Status {
+impl From<GraphFault> for Status {
     ghost use Rattle.std.specs.Prelude.{◌≡◌};
-    ghost use Rattle.replay_top.specs.Stages.{read_status};
+    ghost use Rattle.replay_top.specs.Stages.{graph_fault_status};
 
-    ghost from_gives = { λ refusal s. s ≡ read_status refusal };
+    ghost from_gives = { λ fault s. s ≡ graph_fault_status fault };
 
-    fn from(refusal: ReadRefusal) -> Self {
-        match refusal {
-            ReadRefusal::TooLong { bytes } => Status::Limit(LimitFault::StackFile { bytes }),
-            ReadRefusal::Failed => Status::ReadFault,
-            ReadRefusal::OutOfMemory => Status::OutOfMemory,
+    fn from(fault: GraphFault) -> Self {
+        match fault {
+            GraphFault::OutOfMemory => Status::OutOfMemory,
+            GraphFault::Text => Status::GraphText,
+            fault => Status::GraphRule(fault),
         }
     }
 }

@@ -1,11 +1,18 @@
 //! Worked runs of the top call over objects in memory.
 
-use crate::{Status, status_text, tool_top};
+mod groups;
+mod info;
+mod plain;
+
+use crate::{LimitFault, Status, status_text, tool_top};
 use cdf_read::CdfFault;
 use edge_traits::{Failed, Library, MemLibrary, MemShelf, MemSink, Shelf, Sink, SureLibrary};
+use graph_conf::GraphFault;
+use nd_base::Name;
 use nd_stack::StackFault;
 use std::alloc::{AllocError, Global};
 use std::test::Fail;
+use trig_window::CalcFault;
 
 /// The parts of a small stack's file between the numbers that differ: the number of frames, their rows, their
 /// columns, and the place of the first value.
@@ -211,7 +218,7 @@ fn copy(alloc: Global, bytes: Vec<u8>, fails: Fails) -> Result<Outcome, AllocErr
 fn copies_one_frame_two_by_two(rt: HostRuntime) -> Result<(), Fail> {
     let alloc = rt.alloc();
     let run = copy(alloc, small_stack(alloc)?, none(alloc))?;
-    assert_eq!(rt; run.status, Status::Done);
+    assert!(rt; matches!(run.status, Status::Done));
     assert_eq!(rt; run.shelf.names_count(), 1);
     let written = run.shelf.bytes("x_copy_000.nc").ok_or("no file")?;
     assert_eq!(rt; written, copy_of_small_stack(alloc)?.as_slice());
@@ -227,7 +234,7 @@ fn pads_odd_frames_with_the_fill_value(rt: HostRuntime) -> Result<(), Fail> {
         stack(alloc, 2, 1, 3, &[1, 2, 3, 4, 5, 6])?,
         none(alloc),
     )?;
-    assert_eq!(rt; run.status, Status::Done);
+    assert!(rt; matches!(run.status, Status::Done));
     let written = run.shelf.bytes("x_copy_000.nc").ok_or("no file")?;
     assert_eq!(rt; written.len(), 588);
     assert_eq!(rt; &written[540..544], [0, 0, 0, 1].as_slice());
@@ -242,7 +249,7 @@ fn pads_odd_frames_with_the_fill_value(rt: HostRuntime) -> Result<(), Fail> {
 fn writes_no_file_for_no_frame(rt: HostRuntime) -> Result<(), Fail> {
     let alloc = rt.alloc();
     let run = copy(alloc, stack(alloc, 0, 2, 2, &[])?, none(alloc))?;
-    assert_eq!(rt; run.status, Status::Done);
+    assert!(rt; matches!(run.status, Status::Done));
     assert_eq!(rt; run.shelf.names_count(), 0);
     assert_eq!(rt; run.sink.bytes(), b"frames 0\n".as_slice());
     Ok(())
@@ -278,7 +285,7 @@ fn copies_are_copied_byte_for_byte(rt: HostRuntime) -> Result<(), Fail> {
     ];
     for (file, whole, length) in rows {
         let run = copy(alloc, file, none(alloc))?;
-        assert_eq!(rt; run.status, Status::Done);
+        assert!(rt; matches!(run.status, Status::Done));
         let written = run.shelf.bytes("x_copy_000.nc").ok_or("no file")?;
         assert_eq!(rt; written.len(), length);
         assert_eq!(rt; written, whole.as_slice());
@@ -395,7 +402,7 @@ fn other_words_are_no_command(rt: HostRuntime) -> Result<(), Fail> {
     ];
     for list in lists {
         let status = call(alloc, list, &mut library, &mut shelf, &mut sink)?;
-        assert_eq!(rt; status, Status::Usage);
+        assert!(rt; matches!(status, Status::Usage));
     }
     assert_eq!(rt; (library.calls(), shelf.calls(), sink.calls()), (0, 0, 0));
     Ok(())
@@ -414,15 +421,15 @@ fn each_single_failing_call_is_named(rt: HostRuntime) -> Result<(), Fail> {
     let alloc = rt.alloc();
     let whole = copy_of_small_stack(alloc)?;
     let rows = [
-        (Failing::Library, 0, Status::ReadFault, None),
-        (Failing::Library, 1, Status::ReadFault, None),
-        (Failing::Shelf, 0, Status::ShelfFault, None),
-        (Failing::Shelf, 1, Status::ShelfFault, Some(0)),
-        (Failing::Shelf, 2, Status::ShelfFault, Some(540)),
-        (Failing::Shelf, 3, Status::ShelfFault, Some(564)),
-        (Failing::Sink, 0, Status::OutFault, Some(564)),
+        (Failing::Library, 0, "status 6 ReadFault", None),
+        (Failing::Library, 1, "status 6 ReadFault", None),
+        (Failing::Shelf, 0, "status 7 ShelfFault", None),
+        (Failing::Shelf, 1, "status 7 ShelfFault", Some(0)),
+        (Failing::Shelf, 2, "status 7 ShelfFault", Some(540)),
+        (Failing::Shelf, 3, "status 7 ShelfFault", Some(564)),
+        (Failing::Sink, 0, "status 8 OutFault", Some(564)),
     ];
-    for (object, call, status, length) in rows {
+    for (object, call, text, length) in rows {
         let mut fails = none(alloc);
         match object {
             Failing::Library => fails.library.push(call)?,
@@ -430,7 +437,8 @@ fn each_single_failing_call_is_named(rt: HostRuntime) -> Result<(), Fail> {
             Failing::Sink => fails.sink.push(call)?,
         }
         let run = copy(alloc, small_stack(alloc)?, fails)?;
-        assert_eq!(rt; run.status, status, "{object:?} {call}");
+        let words = status_text(alloc, &run.status).map_err(|_| "memory")?;
+        assert_eq!(rt; words.as_str(), text, "{object:?} {call}");
         assert_eq!(rt; run.sink.bytes().len(), 0);
         let left = run.shelf.bytes("x_copy_000.nc");
         assert_eq!(rt; left.map(|bytes| bytes.len()), length, "{object:?} {call}");
@@ -517,6 +525,29 @@ fn statuses_have_their_texts(rt: HostRuntime) -> Result<(), Fail> {
             cdf(CdfFault::Overflow { var: 2 }),
             "status 4 StackBytes Cdf Overflow 2",
         ),
+        (
+            Status::Limit(LimitFault::GraphBytes { bytes: 1_048_577 }),
+            "status 5 Limit GraphBytes 1048577",
+        ),
+        (
+            Status::Limit(LimitFault::Load {
+                arrivals: 1_114_112,
+            }),
+            "status 5 Limit Load 1114112",
+        ),
+        (
+            Status::Limit(LimitFault::Kept {
+                numbers: 134_217_728,
+            }),
+            "status 5 Limit Kept 134217728",
+        ),
+        (
+            Status::Limit(LimitFault::FileTooLarge {
+                node: 1,
+                bytes: 2_147_483_652,
+            }),
+            "status 5 Limit FileTooLarge 1 2147483652",
+        ),
         (Status::ReadFault, "status 6 ReadFault"),
         (Status::ShelfFault, "status 7 ShelfFault"),
         (Status::OutFault, "status 8 OutFault"),
@@ -525,6 +556,99 @@ fn statuses_have_their_texts(rt: HostRuntime) -> Result<(), Fail> {
     for (status, text) in rows {
         let words = status_text(alloc, &status).map_err(|_| "memory")?;
         assert_eq!(rt; words.as_str(), text);
+    }
+    Ok(())
+}
+
+fn key(alloc: Global, text: &str) -> Result<Name, AllocError> {
+    Ok(Name::new(String::from_str(alloc, text)?))
+}
+
+#[test]
+fn faults_of_graphs_have_their_texts(rt: HostRuntime) -> Result<(), Fail> {
+    let alloc = rt.alloc();
+    let rows = [
+        (GraphFault::Text, 2, "status 2 GraphText"),
+        (
+            GraphFault::UnknownKey {
+                key: key(alloc, "colour")?,
+            },
+            3,
+            "status 3 GraphRule UnknownKey colour",
+        ),
+        (
+            GraphFault::KeyType {
+                key: key(alloc, "queue")?,
+            },
+            3,
+            "status 3 GraphRule KeyType queue",
+        ),
+        (
+            GraphFault::Range {
+                key: key(alloc, "queue")?,
+                value: 0,
+            },
+            3,
+            "status 3 GraphRule Range queue 0",
+        ),
+        (
+            GraphFault::Range {
+                key: key(alloc, "min")?,
+                value: -2_147_483_649,
+            },
+            3,
+            "status 3 GraphRule Range min -2147483649",
+        ),
+        (
+            GraphFault::Missing {
+                key: key(alloc, "trigger")?,
+            },
+            3,
+            "status 3 GraphRule Missing trigger",
+        ),
+        (
+            GraphFault::UnknownKind { node: 2 },
+            3,
+            "status 3 GraphRule UnknownKind 2",
+        ),
+        (GraphFault::Threads(2), 3, "status 3 GraphRule Threads 2"),
+        (
+            GraphFault::Calc(CalcFault::Unexpected { at: 3 }),
+            3,
+            "status 3 GraphRule Calc Unexpected 3",
+        ),
+        (
+            GraphFault::Calc(CalcFault::TooDeep),
+            3,
+            "status 3 GraphRule Calc TooDeep",
+        ),
+        (
+            GraphFault::Calc(CalcFault::TooLong),
+            3,
+            "status 3 GraphRule Calc TooLong",
+        ),
+        (
+            GraphFault::DoubleName { node: 2 },
+            3,
+            "status 3 GraphRule DoubleName 2",
+        ),
+        (
+            GraphFault::UnknownInput { node: 2 },
+            3,
+            "status 3 GraphRule UnknownInput 2",
+        ),
+        (
+            GraphFault::Cycle { node: 1 },
+            3,
+            "status 3 GraphRule Cycle 1",
+        ),
+        (GraphFault::OutOfMemory, 9, "status 9 OutOfMemory"),
+    ];
+    for (fault, number, text) in rows {
+        let status = Status::from(fault);
+        let words = status_text(alloc, &status).map_err(|_| "memory")?;
+        assert_eq!(rt; words.as_str(), text);
+        assert_eq!(rt; status.number(), number);
     }
     Ok(())
 }
@@ -572,7 +696,7 @@ fn reads_on_after_short_reads(rt: HostRuntime) -> Result<(), Fail> {
         &mut shelf,
         &mut sink,
     )?;
-    assert_eq!(rt; status, Status::Done);
+    assert!(rt; matches!(status, Status::Done));
     assert!(rt; library.reads <= 149);
     let written = shelf.bytes("x_copy_000.nc").ok_or("no file")?;
     assert_eq!(rt; written, copy_of_small_stack(alloc)?.as_slice());

@@ -2,13 +2,16 @@
 
 ghost use Rattle.std.specs.Prelude.{◌≡◌, ◌↔◌, map, None, string_bytes};
 ghost use Rattle.nd_stack.specs.declared.fault.StackFault.{StackFault};
-ghost use Rattle.replay_top.specs.declared.status.LimitFault.{LimitFault};
-ghost use Rattle.replay_top.specs.Answers.{Ends, IsDone, HasStackFault, HasLimitFault, IsSaveBegun, IsPrintCutShort, IsRefused};
+ghost use Rattle.graph_conf.specs.declared.fault.GraphFault.{GraphFault};
+ghost use Rattle.graph_conf.specs.declared.load.LimitFault.{LimitFault};
+ghost use Rattle.replay_top.specs.Answers.{Ends, IsDone, HasNoText, HasGraphFault, HasStackFault, HasLimitFault, IsSaveBegun, IsPrintCutShort, IsRefused};
 ghost use Rattle.replay_top.specs.Causes.{IsCause};
 ghost use Rattle.replay_top.specs.Claims.{Completes};
 ghost use Rattle.replay_top.specs.Command.{command_of};
 
 use crate::copy::copy;
+use crate::info::info;
+use crate::plain::plain;
 use crate::status::Status;
 use crate::words::{Command, command_in};
 use edge_traits::{Library, Shelf, Sink};
@@ -28,6 +31,14 @@ fn run_command<L: Library, K: Shelf, T: Sink>(
 {
     match command_in(words) {
         Some(Command::Copy { stack, prefix }) => copy(alloc, stack, prefix, library, shelf, out),
+        Some(
+            Command::Plain {
+                graph,
+                stack,
+                prefix,
+            },
+        ) => plain(alloc, graph, stack, prefix, library, shelf, out),
+        Some(Command::Info { stack }) => info(alloc, stack, library, out),
         None => Status::Usage,
     }
 }
@@ -35,7 +46,7 @@ fn run_command<L: Library, K: Shelf, T: Sink>(
 /// Does what the words of the command line ask for: it reads from the library, writes files to the shelf and
 /// prints to the sink, and answers how it ended. It waits for nobody and always returns.
 ///
-/// The command is `copy STACK PREFIX`.
+/// The commands are `copy STACK PREFIX`, `plain GRAPH STACK PREFIX` and `info STACK`.
 pub fn tool_top<L: Library, K: Shelf, T: Sink>(
     alloc: Global,
     words: &[String],
@@ -47,9 +58,11 @@ pub fn tool_top<L: Library, K: Shelf, T: Sink>(
     ensures done { result ≡ Status.Done →
         IsDone (command_of (map string_bytes words.now)) (L.holds library.old) (K.held shelf.old) (K.held shelf.new) (T.written out.old) (T.written out.new) }
 
-    // Refusals: exactly where the words are no command; where the stack's bytes have that fault; where a number passes
-    // its limit.
+    // Refusals: exactly where the words are no command; where the graph's bytes are no TOML, or the graph or the stack has
+    // that fault; where a number passes its limit.
     ensures usage { (result ≡ Status.Usage) ↔ (command_of (map string_bytes words.now) ≡ None) }
+    ensures no_text { result ≡ Status.GraphText → HasNoText (command_of (map string_bytes words.now)) (L.holds library.old) }
+    ensures graph { (fault : GraphFault) → result ≡ Status.GraphRule fault → HasGraphFault (command_of (map string_bytes words.now)) (L.holds library.old) fault }
     ensures refused { (fault : StackFault) → result ≡ Status.StackBytes fault → HasStackFault (command_of (map string_bytes words.now)) (L.holds library.old) fault }
     ensures limit { (fault : LimitFault) → result ≡ Status.Limit fault → HasLimitFault (command_of (map string_bytes words.now)) (L.holds library.old) fault }
 
@@ -62,7 +75,7 @@ pub fn tool_top<L: Library, K: Shelf, T: Sink>(
     ensures memory { result ≡ Status.OutOfMemory →
         IsSaveBegun (command_of (map string_bytes words.now)) (L.holds library.old) (K.held shelf.old) (K.held shelf.new) × (T.written out.new ≡ T.written out.old) }
 
-    // Faults come only where their object's count rose; where none rose, the files decide.
+    // Faults come only where their object's count rose; where none rose, the files that were read decide.
     ensures cause { IsCause result (record { library = L.faults library.old; shelf = K.faults shelf.old; sink = T.faults out.old })
         (record { library = L.faults library.new; shelf = K.faults shelf.new; sink = T.faults out.new }) }
     ensures complete { Completes result (command_of (map string_bytes words.now)) (L.holds library.old)

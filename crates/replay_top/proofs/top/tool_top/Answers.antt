@@ -9,5 +9,4 @@ returns-clause-usage g c =
     )
 
 pub returns-clause-complete : goal.returns-clause-complete
-returns-clause-complete g c stack prefix file command is none =
-    answered c.run_command.result _ _ _ _ _ stack prefix file _ _ (rw command at c.run_command.ensures.ends) c.run_command.ensures.cause is none
+returns-clause-complete g c some none = answered c.run_command.result _ _ _ _ _ _ _ _ c.run_command.ensures.ends c.run_command.ensures.cause some none

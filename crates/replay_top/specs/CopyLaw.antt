@@ -1,0 +1,117 @@
+-- `copy` is the plain run of one file node.
+use Rattle.std.specs.Prelude.{◌≡◌, ℕ, suc, ◌+◌, ◌-◌, ◌*◌, ◌/◌, ◌<◌, ◌≤◌, ◌==◌, Bool, true, false, nat_le, nat_lt, min, List, [], ◌∷◌, ◌++◌, length, take, drop, map, Option, Some, None, slice_get, codes, if◌then◌else◌, refl}
+use Rattle.std.specs.Fmt.{digits}
+use Rattle.std.specs.List.{flat_map, range_with_len}
+use Rattle.std.specs.Option.{option_map}
+use Rattle.std.proofs.Common.{ap, ◌∙◌, arith, zero-add, append_assoc}
+use Rattle.std.proofs.Math.Nat.{zero-mul, le-min, min-le_right}
+use Rattle.std.proofs.lemmas.Bool.{le-leb, le-ltb}
+use Rattle.std.proofs.lemmas.Bool.Decides.{nat_tests}
+use Rattle.std.proofs.lemmas.List.{take_all, append-nil}
+use Rattle.nd_base.specs.Array.{Array, StackValue}
+use Rattle.nd_base.specs.declared.graph.Graph.{Graph}
+use Rattle.nd_base.specs.declared.graph.NodeRule.{NodeRule}
+use Rattle.nd_base.specs.declared.graph.FileRule.{FileRule}
+use Rattle.nd_base.specs.declared.graph.Kind.TheVariants.{File}
+use Rattle.nd_base.specs.declared.graph.Mode.TheVariants.{Capture}
+use Rattle.cdf_write.specs.Lengths.{length_of, longest}
+use Rattle.nd_roi.specs.Region.{region}
+use Rattle.chain_plain.specs.OneThread.{listed, arrays_out, groups}
+use Rattle.chain_plain.specs.Passing.{out_of}
+use Rattle.graph_conf.specs.Loads.{arrivals, kept, file_bytes_at, limit_fault}
+use Rattle.graph_conf.specs.declared.load.LimitFault.TheVariants.{FileTooLarge}
+use Rattle.replay_top.specs.declared.status.Status.TheVariants.{Done, Limit}
+use Rattle.replay_top.specs.Copy.{copy_name, copy_file, copy_files, copy_length}
+use Rattle.replay_top.specs.Limits.{copy_fits, load_status}
+use Rattle.replay_top.specs.NodeFiles.{group_name, group_number, group_files, plain_files}
+
+-- one file node named `copy` on the driver, in mode capture, with as many arrays a file as a stack has at most
+abbrev pub copy_rule : FileRule
+copy_rule = record { mode = Capture; count = 65536 }
+
+abbrev pub copy_node : NodeRule
+copy_node = record { name = codes "copy"; kind = File copy_rule; input = 0; queue = 20; threads = 1; sort = 0; sort_time = 100 }
+
+abbrev pub copy_graph : Graph
+copy_graph = record { wait = false; limit = 0; nodes = copy_node ∷ [] }
+
+-- the same files, of every stack that has no more frames
+abbrev pub SameFiles : Type 0
+SameFiles = (s : StackValue) (prefix : List ℕ) → length s.arrays ≤ 65536 → plain_files copy_graph s prefix ≡ copy_files s prefix
+
+-- and the same status
+abbrev pub SameStatus : Type 0
+SameStatus = (s : StackValue) → length s.arrays ≤ 65536 → load_status (limit_fault copy_graph s) ≡ copy_fits s
+
+-- THE FILES
+
+-- all arrays go out of the node
+listed_from : (f : ℕ → Option Array) (k : ℕ) (arrays : List Array) → ((i : ℕ) → i < length arrays → f (k + i) ≡ slice_get arrays i) → flat_map (λ i. listed (f i)) (range_with_len k (length arrays)) ≡ arrays
+listed_from f k [] same = refl
+listed_from f k (a ∷ arrays) same =
+    let here : f k ≡ Some a = ap f (omega arith) ∙ same 0 (omega arith) in
+    let later : flat_map (λ i. listed (f i)) (range_with_len (k + 1) (length arrays)) ≡ arrays = listed_from f (k + 1) arrays (λ i within. ap f (omega arith) ∙ same (suc i) (omega (arith, within))) in
+    rw (here, later) refl
+
+untouched : (o : Option Array) → option_map (out_of region copy_graph.nodes 1) o ≡ o
+untouched None = refl
+untouched (Some a) = refl
+
+all_out : (arrays : List Array) → arrays_out copy_graph.nodes arrays 1 (range_with_len 0 (length arrays)) ≡ arrays
+all_out arrays =
+    listed_from (λ k. option_map (out_of region copy_graph.nodes 1) (slice_get arrays k)) 0 arrays
+    (λ i within. ap (λ k. option_map (out_of region copy_graph.nodes 1) (slice_get arrays k)) (zero-add i) ∙ untouched (slice_get arrays i))
+
+-- and they are one group, where there are any
+no_group : (count : ℕ) (arrays : List Array) → (length arrays + (count - 1)) / count ≡ 0 → groups count arrays ≡ []
+no_group count arrays none = ap (λ n. map (λ g. take count (drop (g * count) arrays)) (range_with_len 0 n)) none
+
+one_group : (count : ℕ) (arrays : List Array) → (length arrays + (count - 1)) / count ≡ 1 → length arrays ≤ count → groups count arrays ≡ arrays ∷ []
+one_group count arrays one few =
+    ap (λ n. map (λ g. take count (drop (g * count) arrays)) (range_with_len 0 n)) one
+    ∙ ap (λ k. take count (drop k arrays) ∷ []) (zero-mul count)
+    ∙ ap (λ list. list ∷ []) (take_all count arrays few)
+
+group_by : (arrays : List Array) → length arrays ≤ 65536 → groups 65536 arrays ≡ (if length arrays == 0 then [] else arrays ∷ [])
+group_by [] few = no_group 65536 [] (omega arith)
+group_by (a ∷ arrays) few =
+    let some : (length (a ∷ arrays) == 0) ≡ false = grind (arith, nat_tests) in
+    rw some (one_group 65536 (a ∷ arrays) (omega (arith, few)) few)
+
+-- under the copy's name
+number : group_number 0 ≡ codes "000"
+unfolding digits
+number = refl
+
+name_of : (prefix : List ℕ) → group_name prefix (codes "copy") 0 ≡ copy_name prefix
+name_of prefix =
+    append_assoc ((prefix ++ codes "copy") ++ codes "_") (group_number 0) (codes ".nc")
+    ∙ append_assoc (prefix ++ codes "copy") (codes "_") (group_number 0 ++ codes ".nc")
+    ∙ append_assoc prefix (codes "copy") (codes "_" ++ (group_number 0 ++ codes ".nc"))
+    ∙ ap (λ digits. prefix ++ (codes "copy" ++ (codes "_" ++ (digits ++ codes ".nc")))) number
+
+named : (s : StackValue) (prefix : List ℕ) (none : Bool) → group_files Capture s.shape prefix (codes "copy") 0 (if none then [] else s.arrays ∷ []) ≡ (if none then [] else record { name = copy_name prefix; bytes = copy_file s; late = false } ∷ [])
+named s prefix true = refl
+named s prefix false = ap (λ name. record { name = name; bytes = copy_file s; late = false } ∷ []) (name_of prefix)
+
+pub same_files : SameFiles
+same_files s prefix few =
+    append-nil _ ∙ ap (λ list. group_files Capture s.shape prefix (codes "copy") 0 list) (ap (groups 65536) (all_out s.arrays) ∙ group_by s.arrays few) ∙ named s prefix (length s.arrays == 0)
+
+-- THE STATUS
+
+fits_by : (length_of_copy : ℕ) (long : Bool) → nat_lt longest length_of_copy ≡ long → load_status (if long then Some (FileTooLarge 1 length_of_copy) else None) ≡ (if nat_le length_of_copy longest then Done else Limit (FileTooLarge 1 length_of_copy))
+fits_by n true e =
+    let long : nat_le n longest ≡ false = grind (arith, nat_tests) in
+    rw long refl
+fits_by n false e =
+    let short : n ≤ longest = grind (arith, nat_tests) in
+    rw (le-leb n longest short) refl
+
+pub same_status : SameStatus
+same_status s few =
+    let few_arrivals : nat_lt 1048576 (arrivals copy_graph s) ≡ false = le-ltb 1048576 (length s.arrays * 1) (omega (arith, few)) in
+    let nothing_kept : nat_lt 67108864 (kept copy_graph s) ≡ false = le-ltb 67108864 (length s.arrays * 0 + 0) (omega arith) in
+    let all : min 65536 (length s.arrays) ≡ length s.arrays = omega (arith, min-le_right 65536 (length s.arrays), le-min {k = length s.arrays} {a = 65536} {b = length s.arrays} few (omega arith)) in
+    let bytes : file_bytes_at copy_graph s 1 ≡ copy_length s = ap (length_of s.shape) all in
+    rw (few_arrivals, nothing_kept, bytes) (fits_by (copy_length s) (nat_lt longest (copy_length s)) refl)

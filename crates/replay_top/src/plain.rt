@@ -1,0 +1,104 @@
+//! `plain GRAPH STACK PREFIX`: runs a graph over a stack in one thread, without drops.
+
+ghost use Rattle.std.specs.Prelude.{◌≡◌, None, Some, OnOk, IfErr};
+ghost use Rattle.edge_traits.specs.Written.{with_written};
+ghost use Rattle.nd_base.specs.GraphRules.{IsGraph};
+ghost use Rattle.nd_stack.specs.KeptStacks.{IsKeptStack};
+ghost use Rattle.chain_plain.specs.Plans.{plan_of};
+ghost use Rattle.graph_conf.specs.Loads.{limit_fault};
+ghost use Rattle.replay_top.specs.Answers.{Ends};
+ghost use Rattle.replay_top.specs.Causes.{IsCause};
+ghost use Rattle.replay_top.specs.Command.{Plain};
+ghost use Rattle.replay_top.specs.NodeFiles.{plain_files, with_files};
+ghost use Rattle.replay_top.specs.PlainText.{plain_text};
+ghost use Rattle.replay_top.specs.Stages.{SaveStops, PrintStops};
+
+use crate::nodes::save_nodes;
+use crate::printing::print;
+use crate::prints::plain_text;
+use crate::sources::{load_graph, load_stack};
+use crate::status::Status;
+use chain_plain::plan;
+use edge_traits::{Library, Shelf, Sink};
+use file_out::SaveFault;
+use graph_conf::check_load;
+use nd_base::{Plan, Stack};
+use std::alloc::Global;
+
+/// Writes the files of all nodes.
+fn save_plain<K: Shelf>(
+    alloc: Global,
+    shelf: &mut K,
+    prefix: &str,
+    plan: &Plan,
+    stack: &Stack,
+) -> Result<(), Status>
+    requires graph { IsGraph plan.now.graph }
+    requires plan { plan.now ≡ plan_of plan.now.graph stack.now }
+    requires kept { IsKeptStack stack.now }
+    requires within { limit_fault plan.now.graph stack.now ≡ None }
+    ensures ok { OnOk result (K.held shelf.new ≡ with_files (K.held shelf.old) (plain_files plan.now.graph stack.now prefix.now)) }
+    ensures stays { OnOk result (K.faults shelf.new ≡ K.faults shelf.old) }
+    ensures err { IfErr result (λ s. SaveStops s (K.held shelf.old) (plain_files plan.now.graph stack.now prefix.now) (K.held shelf.new) (K.faults shelf.old) (K.faults shelf.new)) }
+{
+    match save_nodes(alloc, shelf, prefix, plan, stack) {
+        Ok(()) => Ok(()),
+        Err(SaveFault::Failed) => Err(Status::ShelfFault),
+        Err(SaveFault::OutOfMemory) => Err(Status::OutOfMemory),
+    }
+}
+
+/// Prints how many frames there are, and how many arrays went out of each node.
+fn print_plain<T: Sink>(
+    alloc: Global,
+    out: &mut T,
+    plan: &Plan,
+    stack: &Stack,
+) -> Result<(), Status>
+    requires graph { IsGraph plan.now.graph }
+    ensures ok { OnOk result (T.written out.new ≡ with_written (T.written out.old) (plain_text plan.now.graph stack.now)) }
+    ensures stays { OnOk result (T.faults out.new ≡ T.faults out.old) }
+    ensures err { IfErr result (λ s. PrintStops s (T.written out.old) (plain_text plan.now.graph stack.now) (T.written out.new) (T.faults out.old) (T.faults out.new)) }
+{
+    match plain_text(alloc, plan, stack) {
+        Ok(text) => print(out, text.as_str()),
+        Err(_) => Err(Status::OutOfMemory),
+    }
+}
+
+/// Runs a graph over a stack in one thread: writes the files of each node, and prints how many arrays went out of it.
+pub(crate) fn plain<L: Library, K: Shelf, T: Sink>(
+    alloc: Global,
+    graph: &str,
+    name: &str,
+    prefix: &str,
+    library: &mut L,
+    shelf: &mut K,
+    out: &mut T,
+) -> Status
+    ensures ends { Ends result (Some (Plain graph.now name.now prefix.now)) (L.holds library.old) (K.held shelf.old) (K.held shelf.new) (T.written out.old) (T.written out.new) }
+    ensures cause { IsCause result (record { library = L.faults library.old; shelf = K.faults shelf.old; sink = T.faults out.old })
+        (record { library = L.faults library.new; shelf = K.faults shelf.new; sink = T.faults out.new }) }
+{
+    let graph = match load_graph(alloc, library, graph) {
+        Ok(graph) => graph,
+        Err(status) => return status,
+    };
+    let stack = match load_stack(alloc, library, name) {
+        Ok(stack) => stack,
+        Err(status) => return status,
+    };
+    let Ok(plan) = plan(alloc, graph, &stack) else {
+        return Status::OutOfMemory;
+    };
+    if let Err(fault) = check_load(&plan.graph, &stack, &plan) {
+        return Status::Limit(fault);
+    }
+    if let Err(status) = save_plain(alloc, shelf, prefix, &plan, &stack) {
+        return status;
+    }
+    match print_plain(alloc, out, &plan, &stack) {
+        Ok(()) => Status::Done,
+        Err(status) => status,
+    }
+}
