@@ -17,16 +17,18 @@ use Rattle.graph_conf.specs.declared.load.LimitFault.{LimitFault}
 use Rattle.graph_conf.specs.declared.load.LimitFault.TheVariants.{GraphBytes, StackFile, Load, Kept, FileTooLarge}
 use Rattle.graph_conf.specs.Answers as graphs
 use Rattle.graph_conf.specs.Graphs.{graph_of_bytes}
-use Rattle.graph_conf.specs.Loads.{arrivals, kept, file_bytes_at, first_too_long, limit_fault, answer}
+use Rattle.graph_conf.specs.Loads as loads
+use Rattle.graph_conf.specs.Loads.{file_bytes_at, first_too_long, limit_fault, answer}
 use Rattle.graph_conf.specs.Meanings.{graph_text}
 use Rattle.replay_top.specs.declared.status.Status.{Status}
 use Rattle.replay_top.specs.declared.status.Status.TheVariants.{Done, StackBytes, Limit}
+use Rattle.replay_top.specs.Answers.{HasGraphRefusal, HasStackRefusal, PassesLimit}
 use Rattle.replay_top.specs.Command.{Command, Copy, Plain, Info}
 use Rattle.replay_top.specs.Copy.{copy_length}
-use Rattle.replay_top.specs.Limits.{IsPast, graph_or_status, graph_in, stack_or_status, stack_in, with_stack, copy_fits, load_status, run_status, IsAskedBy, IsAsked}
+use Rattle.replay_top.specs.Limits.{IsGraphRefused, IsStackRefused, copy_limit, IsRunAsked, graph_or_status, graph_in, stack_or_status, stack_in, with_stack, load_status, run_status, IsAskedBy, IsAsked}
 use Rattle.replay_top.specs.Sources.{IsGraphRead, IsStackRead, most_graph_bytes, most_stack_bytes}
-use Rattle.replay_top.specs.Stages.{IsGraphRefused, IsStackRefused, GraphStops, StackStops, graph_fault_status, fault_status}
-use Rattle.replay_top.specs.Works.{Source, IsRead, IsWithin}
+use Rattle.replay_top.specs.Stages.{GraphStops, StackStops, graph_fault_status, fault_status}
+use Rattle.replay_top.specs.Works.{Source, limit_of, IsRead}
 
 -- the bytes that were read are those of the file, where it is told
 told_bytes : (told : Option Files) (name bytes file : List ℕ) → HasFile told name bytes → IsTold told name file → bytes ≡ file
@@ -106,75 +108,27 @@ by_stack : (asks : List ℕ → Status) (next : StackValue → Status) (answer :
 by_stack asks next answer told name s same source is file told_file = is ∙ sym (same file ∙ ap (with_stack next) (stack_in-read told name s source file told_file))
 
 -- the command's graph is refused
-pub asked-graph : (answer : Status) (told : Option Files) (graph stack prefix : List ℕ) → IsGraphRefused answer told graph → IsAsked answer (Plain graph stack prefix) told
-asked-graph answer told graph stack prefix refused file is = rw (refused file is) refl
+pub asked-graph : (answer : Status) (command : Command) (told : Option Files) → HasGraphRefusal told command answer → IsAsked answer command told
+asked-graph answer (Copy stack prefix) told refused = absurd refused
+asked-graph answer (Info stack) told refused = absurd refused
+asked-graph answer (Plain graph stack prefix) told refused = λ file is. rw (refused file is) refl
+
+by_graph : (answer : Status) (told : Option Files) (graph stack : List ℕ) (g : Graph) → IsGraphRead told graph g → IsAskedBy (run_status g) answer told stack → (text : List ℕ) → IsTold told graph text → IsRunAsked answer (graph_in text) told stack
+by_graph answer told graph stack g source asked text is = rw (graph_in-read told graph g source text is) (g, refl, asked)
 
 -- the command's stack is refused
-pub asked-copy : (answer : Status) (told : Option Files) (stack prefix : List ℕ) → IsStackRefused answer told stack → IsAsked answer (Copy stack prefix) told
-asked-copy answer told stack prefix refused file is = sym (ap (with_stack copy_fits) (refused file is))
+pub asked-stack : (answer : Status) (command : Command) (told : Option Files) → HasStackRefusal told command answer → IsAsked answer command told
+asked-stack answer (Copy stack prefix) told refused = λ file is. sym (ap (with_stack (λ s. load_status (copy_limit s))) (refused.1 file is))
+asked-stack answer (Info stack) told refused = λ file is. sym (ap (with_stack (λ s. Done)) (refused.1 file is))
+asked-stack answer (Plain graph stack prefix) told refused =
+    by_graph answer told graph stack refused.0.0 refused.0.1 (λ file is. sym (ap (with_stack (λ s. load_status (limit_fault refused.0.0 s))) (refused.1 file is)))
 
-pub asked-info : (answer : Status) (told : Option Files) (stack : List ℕ) → IsStackRefused answer told stack → IsAsked answer (Info stack) told
-asked-info answer told stack refused file is = sym (ap (with_stack (λ s. Done)) (refused file is))
-
-pub asked-plain : (answer : Status) (told : Option Files) (graph stack prefix : List ℕ) (g : Graph) → IsGraphRead told graph g → IsStackRefused answer told stack → IsAsked answer (Plain graph stack prefix) told
-asked-plain answer told graph stack prefix g source refused text is =
-    rw (graph_in-read told graph g source text is) (g, refl, λ file told_file. sym (ap (with_stack (λ s. load_status (limit_fault g s))) (refused file told_file)))
-
--- the command passes a limit
-pub asked-length : (told : Option Files) (stack prefix : List ℕ) (s : StackValue) → IsStackRead told stack s → longest < copy_length s → IsAsked (Limit (FileTooLarge 1 (copy_length s))) (Copy stack prefix) told
-asked-length told stack prefix s source past =
-    let long : nat_le (copy_length s) longest ≡ false = grind (arith, nat_tests) in
-    by_stack _ copy_fits _ told stack s (λ file. refl) source (rw long refl)
-
-pub asked-load : (told : Option Files) (graph stack prefix : List ℕ) (g : Graph) (s : StackValue) (fault : LimitFault) → IsGraphRead told graph g → IsStackRead told stack s → limit_fault g s ≡ Some fault → IsAsked (Limit fault) (Plain graph stack prefix) told
-asked-load told graph stack prefix g s fault rules source is text told_text =
-    rw (graph_in-read told graph g rules text told_text)
-    (g, refl, by_stack (run_status g) (λ v. load_status (limit_fault g v)) (Limit fault) told stack s (λ file. refl) source (sym (ap load_status is)))
-
-done-plain : (told : Option Files) (graph stack prefix : List ℕ) (g : Graph) (s : StackValue) → IsGraphRead told graph g → IsStackRead told stack s → limit_fault g s ≡ None → IsAsked Done (Plain graph stack prefix) told
-done-plain told graph stack prefix g s rules source within text told_text =
-    rw (graph_in-read told graph g rules text told_text)
-    (g, refl, by_stack (run_status g) (λ v. load_status (limit_fault g v)) Done told stack s (λ file. refl) source (sym (ap load_status within)))
-
--- and one that passes none asks for its work
-pub asked-done : (command : Command) (told : Option Files) (source : Source) → IsRead told command source → IsWithin command source → IsAsked Done command told
-asked-done (Copy stack prefix) told source read within = by_stack _ copy_fits Done told stack source.stack (λ file. refl) read (rw (le-leb (copy_length source.stack) longest within) refl)
-asked-done (Plain graph stack prefix) told source read within = done-plain told graph stack prefix source.graph source.stack read.0 read.1 within
-asked-done (Info stack) told source read within = by_stack _ (λ s. Done) Done told stack source.stack (λ file. refl) read refl
-
--- the number of a limit is past it
-module _ (graph stack prefix : List ℕ) where
-  long_by : (v length_of_file : ℕ) (rest : Option LimitFault) (fault : LimitFault) (b : Bool) → 1 ≤ v → (rest ≡ Some fault → IsPast (Plain graph stack prefix) fault) → nat_lt longest length_of_file ≡ b → (if b then Some (FileTooLarge v length_of_file) else rest) ≡ Some fault → IsPast (Plain graph stack prefix) fault
-  long_by v n rest fault true some later e found =
-      let same : FileTooLarge v n ≡ fault = cc in
-      let past : longest < n = grind (arith, nat_tests) in
-      subst (IsPast (Plain graph stack prefix)) same (some, past)
-  long_by v n rest fault false some later e found = later found
-
-  first_long-past : (g : Graph) (s : StackValue) (v n : ℕ) (fault : LimitFault) → 1 ≤ v → first_too_long g s v n ≡ Some fault → IsPast (Plain graph stack prefix) fault
-  first_long-past g s v zero fault some is = absurd (cc)
-  first_long-past g s v (suc n) fault some is =
-      long_by v (file_bytes_at g s v) (first_too_long g s (v + 1) n) fault (nat_lt longest (file_bytes_at g s v)) some (first_long-past g s (v + 1) n fault (omega arith)) refl is
-
-  kept_by : (numbers : ℕ) (rest : Option LimitFault) (fault : LimitFault) (b : Bool) → (rest ≡ Some fault → IsPast (Plain graph stack prefix) fault) → nat_lt 67108864 numbers ≡ b → (if b then Some (Kept numbers) else rest) ≡ Some fault → IsPast (Plain graph stack prefix) fault
-  kept_by n rest fault true later e found =
-      let same : Kept n ≡ fault = cc in
-      let past : 67108864 < n = grind (arith, nat_tests) in
-      subst (IsPast (Plain graph stack prefix)) same past
-  kept_by n rest fault false later e found = later found
-
-  loaded_by : (count : ℕ) (rest : Option LimitFault) (fault : LimitFault) (b : Bool) → (rest ≡ Some fault → IsPast (Plain graph stack prefix) fault) → nat_lt 1048576 count ≡ b → (if b then Some (Load count) else rest) ≡ Some fault → IsPast (Plain graph stack prefix) fault
-  loaded_by n rest fault true later e found =
-      let same : Load n ≡ fault = cc in
-      let past : 1048576 < n = grind (arith, nat_tests) in
-      subst (IsPast (Plain graph stack prefix)) same past
-  loaded_by n rest fault false later e found = later found
-
-  pub limit_fault-past : (g : Graph) (s : StackValue) (fault : LimitFault) → limit_fault g s ≡ Some fault → IsPast (Plain graph stack prefix) fault
-  limit_fault-past g s fault is =
-      loaded_by (arrivals g s) _ fault (nat_lt 1048576 (arrivals g s))
-      (kept_by (kept g s) _ fault (nat_lt 67108864 (kept g s)) (first_long-past g s 1 (length g.nodes) fault (omega arith)) refl)
-      refl is
+-- the command's work passes a limit, or none
+pub asked-load : (answer : Status) (command : Command) (told : Option Files) (source : Source) → IsRead told command source → answer ≡ load_status (limit_of command source) → IsAsked answer command told
+asked-load answer (Copy stack prefix) told source read is = by_stack _ (λ s. load_status (copy_limit s)) answer told stack source.stack (λ file. refl) read is
+asked-load answer (Info stack) told source read is = by_stack _ (λ s. Done) answer told stack source.stack (λ file. refl) read is
+asked-load answer (Plain graph stack prefix) told source read is =
+    by_graph answer told graph stack source.graph read.0 (by_stack (run_status source.graph) (λ s. load_status (limit_fault source.graph s)) answer told stack source.stack (λ file. refl) read.1 is)
 
 -- what the answer of the limits says
 pub fault_in : (o : Option LimitFault) (fault : LimitFault) → Err fault ≡ answer o → o ≡ Some fault
@@ -184,3 +138,50 @@ fault_in (Some other) fault e = let same : fault ≡ other = cc in ap Some (sym 
 pub no_fault : (o : Option LimitFault) (x : Unit {0}) → Ok x ≡ answer o → o ≡ None
 no_fault None x e = refl
 no_fault (Some other) x e = absurd (cc)
+
+-- a run of this graph and this stack ends with a fault of its limits only where they pass it, and it is none of the sizes of files
+module _ (P : LimitFault → Type 0) (load : (n : ℕ) → P (Load n)) (kept : (n : ℕ) → P (Kept n)) (long : (v n : ℕ) → P (FileTooLarge v n)) where
+  long_by : (b : Bool) (v n : ℕ) (rest : Option LimitFault) (fault : LimitFault) → (rest ≡ Some fault → P fault) → (if b then Some (FileTooLarge v n) else rest) ≡ Some fault → P fault
+  long_by true v n rest fault later e = let same : FileTooLarge v n ≡ fault = cc in subst P same (long v n)
+  long_by false v n rest fault later e = later e
+
+  first_long : (g : Graph) (s : StackValue) (v n : ℕ) (fault : LimitFault) → first_too_long g s v n ≡ Some fault → P fault
+  first_long g s v zero fault e = absurd (cc)
+  first_long g s v (suc n) fault e = long_by (nat_lt longest (file_bytes_at g s v)) v (file_bytes_at g s v) (first_too_long g s (v + 1) n) fault (first_long g s (v + 1) n fault) e
+
+  kept_by : (b : Bool) (n : ℕ) (rest : Option LimitFault) (fault : LimitFault) → (rest ≡ Some fault → P fault) → (if b then Some (Kept n) else rest) ≡ Some fault → P fault
+  kept_by true n rest fault later e = let same : Kept n ≡ fault = cc in subst P same (kept n)
+  kept_by false n rest fault later e = later e
+
+  load_by : (b : Bool) (n : ℕ) (rest : Option LimitFault) (fault : LimitFault) → (rest ≡ Some fault → P fault) → (if b then Some (Load n) else rest) ≡ Some fault → P fault
+  load_by true n rest fault later e = let same : Load n ≡ fault = cc in subst P same (load n)
+  load_by false n rest fault later e = later e
+
+  of_run : (g : Graph) (s : StackValue) (fault : LimitFault) → limit_fault g s ≡ Some fault → P fault
+  of_run g s fault e = load_by (nat_lt 1048576 (loads.arrivals g s)) (loads.arrivals g s) _ fault (kept_by (nat_lt 67108864 (loads.kept g s)) (loads.kept g s) _ fault (first_long g s 1 (length g.nodes) fault)) e
+
+-- so it is one of a whole run
+pub passed-run : (told : Option Files) (command : Command) (source : Source) (fault : LimitFault) → IsRead told command source → limit_of command source ≡ Some fault → limit_fault source.graph source.stack ≡ Some fault → PassesLimit told command fault
+passed-run told command source fault read is run =
+    of_run (λ f. f ≡ fault → PassesLimit told command f)
+    (λ n e. record { source = source; read = read; passed = is ∙ ap Some (sym e) })
+    (λ n e. record { source = source; read = read; passed = is ∙ ap Some (sym e) })
+    (λ v n e. record { source = source; read = read; passed = is ∙ ap Some (sym e) })
+    source.graph source.stack fault run refl
+
+-- and of a copy it is the length of its file
+pub passed-copy : (told : Option Files) (stack prefix : List ℕ) (source : Source) (fault : LimitFault) → IsRead told (Copy stack prefix) source → copy_limit source.stack ≡ Some fault → PassesLimit told (Copy stack prefix) fault
+passed-copy told stack prefix source fault read is =
+    long_by (λ f. f ≡ fault → PassesLimit told (Copy stack prefix) f)
+    (λ n e. record { source = source; read = read; passed = is ∙ ap Some (sym e) })
+    (λ n e. record { source = source; read = read; passed = is ∙ ap Some (sym e) })
+    (λ v n e. record { source = source; read = read; passed = is ∙ ap Some (sym e) })
+    (nat_lt longest (copy_length source.stack)) 1 (copy_length source.stack) None fault (λ e. absurd (cc)) is refl
+
+-- a copy that passes no limit is short enough
+pub copy_limit-none : (s : StackValue) → copy_limit s ≡ None → copy_length s ≤ longest
+copy_limit-none s is = by_test (nat_lt longest (copy_length s)) refl is
+  where
+    by_test : (b : Bool) → nat_lt longest (copy_length s) ≡ b → (if b then Some (FileTooLarge 1 (copy_length s)) else None) ≡ None → copy_length s ≤ longest
+    by_test true e none = absurd (cc)
+    by_test false e none = grind (arith, nat_tests)

@@ -10,9 +10,9 @@ use Rattle.nd_base.specs.declared.graph.Mode.{Mode}
 use Rattle.nd_base.specs.declared.graph.NodeRule.{NodeRule}
 use Rattle.chain_plain.specs.OneThread.{arrays_out, groups}
 use Rattle.replay_top.specs.NodeFiles.{OutFile, group_files, group_name, group_number, is_stream}
+use Rattle.replay_top.specs.OutgoingLaws.{arrays_out-append, length-arrays_out}
 use Rattle.replay_top.proofs.Begun.{file_of}
 use Rattle.replay_top.proofs.Chunks.{groups-chunk, groups-none}
-use Rattle.replay_top.proofs.Outgoing.{arrays_out-append, length-arrays_out}
 
 -- at least three digits
 pub group_number-padded : (g : ℕ) → padded_integral (format_spec 32 0 4 3 (2 ^ 64 - 1)) false [] (decimal g) ≡ group_number g

@@ -4,7 +4,6 @@ pub mod Ids
 pub mod Outgoing
 pub mod FileRows
 pub mod Chunks
-pub mod NodeShapes
 pub mod Begun
 pub mod GroupFiles
 pub mod StatsRows

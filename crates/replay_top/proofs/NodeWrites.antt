@@ -1,10 +1,7 @@
 -- What a node writes, by its kind.
-use Rattle.std.proofs.Common.{◌≡◌, ℕ, zero, suc, ◌+◌, ◌<◌, ◌≤◌, min, Bool, true, false, List, [], ◌∷◌, ◌++◌, Option, None, Some, length, map, inl, inr, if◌then◌else◌, refl, ap, sym, subst, ◌∙◌, arith}
-use Rattle.std.specs.Prelude.{nat_lt}
+use Rattle.std.proofs.Common.{◌≡◌, ℕ, ◌+◌, ◌<◌, false, List, [], ◌∷◌, ◌++◌, Option, Some, length, map, ap, sym, subst, ◌∙◌, arith}
 use Rattle.std.specs.List.{flat_map, range_with_len}
 use Rattle.std.specs.Option.{option_map_or}
-use Rattle.std.proofs.lemmas.Bool.{cases_lt}
-use Rattle.std.proofs.lemmas.Bool.Decides.{nat_tests}
 use Rattle.nd_base.specs.Array.{Array, StackValue}
 use Rattle.nd_base.specs.declared.graph.FileRule.{FileRule}
 use Rattle.nd_base.specs.declared.graph.Graph.{Graph}
@@ -12,16 +9,12 @@ use Rattle.nd_base.specs.declared.graph.Kind.{Kind}
 use Rattle.nd_base.specs.declared.graph.Kind.TheVariants.{Stats, File}
 use Rattle.nd_base.specs.declared.graph.NodeRule.{NodeRule}
 use Rattle.nd_base.specs.declared.graph.StatsRule.{StatsRule}
-use Rattle.nd_base.specs.GraphRules.{IsGraph, IsKind, IsStats, IsFile, IsBetween, input_of, rule_at}
+use Rattle.nd_base.specs.GraphRules.{IsGraph, IsKind, IsStats, IsFile, input_of, rule_at}
 use Rattle.edge_traits.specs.Files.{Files}
-use Rattle.cdf_write.specs.Lengths.{length_of, longest}
 use Rattle.nd_stats.specs.Row.{row}
 use Rattle.chain_plain.specs.OneThread.{arrays_out, groups, measure_of_array, outputs, kind_measures, measures_of, files_of}
 use Rattle.chain_plain.specs.OneThread as one
 use Rattle.chain_plain.specs.PassingLaws.{rule_within}
-use Rattle.graph_conf.specs.declared.load.LimitFault.{LimitFault}
-use Rattle.graph_conf.specs.declared.load.LimitFault.TheVariants.{Load, Kept, FileTooLarge}
-use Rattle.graph_conf.specs.Loads.{arrivals, kept, file_bytes, file_bytes_at, first_too_long, limit_fault}
 use Rattle.replay_top.specs.BegunFiles.{AreBegun}
 use Rattle.replay_top.specs.BegunLaws.{with_files-append, AreBegun-first, AreBegun-later}
 use Rattle.replay_top.specs.NodeFiles.{file_shape, group_files, kind_files, node_files, plain_files, stats_name, with_files}
@@ -30,11 +23,6 @@ use Rattle.replay_top.specs.PassedLaws.{passed-step}
 use Rattle.replay_top.proofs.EachNode.{each_more, each_split}
 
 -- WHAT A NODE WRITES
-
--- a node that has a rule isn't the driver, and is one of the graph's
-pub between : (nodes : List NodeRule) (v : ℕ) (n : NodeRule) → Some n ≡ rule_at nodes v → IsBetween 1 (length nodes) v
-between nodes zero n is = let e : Some n ≡ None = is in absurd (cc)
-between nodes (suc k) n is = (omega arith, rule_within nodes (suc k) n is)
 
 -- a node of a kind
 node_files-kind : (g : Graph) (s : StackValue) (prefix : List ℕ) (v : ℕ) (n : NodeRule) (k : Kind) → Some n ≡ rule_at g.nodes v → n.kind ≡ k → node_files g s prefix v ≡ kind_files k (file_shape g s v) prefix n.name (result_of g s v)
@@ -90,39 +78,6 @@ stats_sound k r sound is = subst IsKind is sound
 
 pub file_sound : (k : Kind) (r : FileRule) → IsKind k → k ≡ File r → IsFile r
 file_sound k r sound is = subst IsKind is sound
-
--- A FILE NODE'S LONGEST FILE
-
--- a limit that isn't passed
-not_refused : (b : Bool) (fault : LimitFault) (rest : Option LimitFault) → (if b then Some fault else rest) ≡ None → (b ≡ false) × (rest ≡ None)
-not_refused true fault rest h = absurd (cc)
-not_refused false fault rest h = (refl, h)
-
-none_too_long : (g : Graph) (s : StackValue) (v n k : ℕ) → first_too_long g s v n ≡ None → v ≤ k → k < v + n → file_bytes_at g s k ≤ longest
-none_too_long g s v zero k none from below = absurd (omega arith)
-none_too_long g s v (suc n) k none from below =
-    let parts = not_refused (nat_lt longest (file_bytes_at g s v)) (FileTooLarge v (file_bytes_at g s v)) (first_too_long g s (v + 1) n) none in
-    elim (cases_lt v k) [
-      | inl later ↦ none_too_long g s (v + 1) n k parts.1 (omega arith) (omega arith)
-      | inr here ↦
-          let same : v ≡ k = omega arith in
-          let short : file_bytes_at g s v ≤ longest = grind (arith, nat_tests, parts.0) in
-          subst (λ w. file_bytes_at g s w ≤ longest) same short
-    ]
-
-limits_hold : (g : Graph) (s : StackValue) → limit_fault g s ≡ None → first_too_long g s 1 (length g.nodes) ≡ None
-limits_hold g s none =
-    let load = not_refused (nat_lt 1048576 (arrivals g s)) (Load (arrivals g s)) _ none in
-    (not_refused (nat_lt 67108864 (kept g s)) (Kept (kept g s)) (first_too_long g s 1 (length g.nodes)) load.1).1
-
--- where no limit is passed
-pub longest_fits : (g : Graph) (s : StackValue) (v : ℕ) (n : NodeRule) (r : FileRule) → limit_fault g s ≡ None → Some n ≡ rule_at g.nodes v → n.kind ≡ File r → length_of (file_shape g s v) (min r.count (length s.arrays)) ≤ longest
-longest_fits g s v n r none is kind =
-    let place = between g.nodes v n is in
-    let bytes : file_bytes_at g s v ≡ length_of (file_shape g s v) (min r.count (length s.arrays)) =
-    ap (λ o. option_map_or (λ (m : NodeRule). file_bytes m.kind (file_shape g s v) (length s.arrays)) o 0) (sym is)
-    ∙ ap (λ k. file_bytes k (file_shape g s v) (length s.arrays)) kind in
-    subst (λ size. size ≤ longest) bytes (none_too_long g s 1 (length g.nodes) v (limits_hold g s none) place.0 (omega (arith, place.1)))
 
 -- NODE BY NODE
 

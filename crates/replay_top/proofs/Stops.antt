@@ -1,5 +1,5 @@
 -- Where a stage of a command stopped, the command ends so.
-use Rattle.std.proofs.Common.{◌≡◌, ◌≢◌, ℕ, List, Option, Some, false, ◌==◌, length, [], ◌∷◌, refl, sym, subst, inl, inr, arith}
+use Rattle.std.proofs.Common.{◌≡◌, ◌≢◌, ℕ, List, Option, Some, false, ◌==◌, length, [], ◌∷◌, refl, inl, inr, arith}
 use Rattle.std.proofs.lemmas.Bool.Decides.{nat_tests}
 use Rattle.nd_base.specs.Array.{StackValue}
 use Rattle.edge_traits.specs.Files.{Files, with_file}
@@ -7,16 +7,13 @@ use Rattle.file_out.specs.Saving.{IsBegun}
 use Rattle.graph_conf.specs.declared.load.LimitFault.TheVariants.{GraphBytes, StackFile, Load, Kept, FileTooLarge}
 use Rattle.replay_top.specs.declared.status.Status.{Status}
 use Rattle.replay_top.specs.declared.status.Status.TheVariants.{Done, Usage, GraphText, GraphRule, StackBytes, Limit, ReadFault, ShelfFault, OutFault, OutOfMemory}
-use Rattle.replay_top.specs.Answers.{Ends}
+use Rattle.replay_top.specs.Answers.{Ends, HasGraph, stack_name}
 use Rattle.replay_top.specs.BegunFiles.{AreBegun, Counted}
-use Rattle.replay_top.specs.Command.{Command, Copy, Plain}
+use Rattle.replay_top.specs.Command.{Command, Plain}
 use Rattle.replay_top.specs.Copy.{copy_name, copy_file, copy_files}
-use Rattle.replay_top.specs.Limits.{IsAsked}
 use Rattle.replay_top.specs.NodeFiles.{OutFile, with_files}
-use Rattle.replay_top.specs.Sources.{IsStackRead}
-use Rattle.replay_top.specs.Stages.{IsStackRefused, GraphStops, StackStops, SaveStops, PrintStops, IsTooLong}
+use Rattle.replay_top.specs.Stages.{GraphStops, StackStops, SaveStops, PrintStops}
 use Rattle.replay_top.specs.Works.{Source, work_of, IsRead, IsWithin}
-use Rattle.replay_top.proofs.Asked.{asked-graph, asked-length}
 
 -- files that were all written are begun
 AreBegun-all : (held now : Option Files) (files : List OutFile) → now ≡ with_files held files → AreBegun held files now
@@ -31,9 +28,9 @@ AreBegun-copy held now prefix s some begun =
 
 -- reading the graph
 pub Ends-graph : (status : Status) (told held : Option Files) (graph stack prefix : List ℕ) (before now : ℕ) (written : Option (List ℕ)) → GraphStops status told graph before now → Ends status (Some (Plain graph stack prefix)) told held held written written
-Ends-graph GraphText told held graph stack prefix before now written stops = (asked-graph GraphText told graph stack prefix stops.0, refl, refl)
-Ends-graph (GraphRule f) told held graph stack prefix before now written stops = ((stops.0, stops.1, asked-graph (GraphRule f) told graph stack prefix stops.2), refl, refl)
-Ends-graph (Limit (GraphBytes n)) told held graph stack prefix before now written stops = ((stops.0, asked-graph (Limit (GraphBytes n)) told graph stack prefix stops.1), refl, refl)
+Ends-graph GraphText told held graph stack prefix before now written stops = (stops.0, refl, refl)
+Ends-graph (GraphRule f) told held graph stack prefix before now written stops = ((stops.0, stops.1, stops.2), refl, refl)
+Ends-graph (Limit (GraphBytes n)) told held graph stack prefix before now written stops = ((stops.0, stops.1), refl, refl)
 Ends-graph ReadFault told held graph stack prefix before now written stops = ((λ e. cc), refl, refl)
 Ends-graph OutOfMemory told held graph stack prefix before now written stops = (inl refl, refl)
 Ends-graph Done told held graph stack prefix before now written stops = absurd stops
@@ -46,28 +43,22 @@ Ends-graph (Limit (FileTooLarge v n)) told held graph stack prefix before now wr
 Ends-graph ShelfFault told held graph stack prefix before now written stops = absurd stops
 Ends-graph OutFault told held graph stack prefix before now written stops = absurd stops
 
--- reading the stack of a command whose answer a refused stack decides
-pub Ends-stack : (status : Status) (command : Command) (told held : Option Files) (stack : List ℕ) (before now : ℕ) (written : Option (List ℕ)) → ((answer : Status) → IsStackRefused answer told stack → IsAsked answer command told) → StackStops status told stack before now → Ends status (Some command) told held held written written
-Ends-stack (StackBytes f) command told held stack before now written asked stops = ((stops.0, asked (StackBytes f) stops.1), refl, refl)
-Ends-stack (Limit (StackFile n)) command told held stack before now written asked stops = ((stops.0, asked (Limit (StackFile n)) stops.1), refl, refl)
-Ends-stack ReadFault command told held stack before now written asked stops = ((λ e. cc), refl, refl)
-Ends-stack OutOfMemory command told held stack before now written asked stops = (inl refl, refl)
-Ends-stack Done command told held stack before now written asked stops = absurd stops
-Ends-stack Usage command told held stack before now written asked stops = absurd stops
-Ends-stack GraphText command told held stack before now written asked stops = absurd stops
-Ends-stack (GraphRule f) command told held stack before now written asked stops = absurd stops
-Ends-stack (Limit (GraphBytes n)) command told held stack before now written asked stops = absurd stops
-Ends-stack (Limit (Load n)) command told held stack before now written asked stops = absurd stops
-Ends-stack (Limit (Kept n)) command told held stack before now written asked stops = absurd stops
-Ends-stack (Limit (FileTooLarge v n)) command told held stack before now written asked stops = absurd stops
-Ends-stack ShelfFault command told held stack before now written asked stops = absurd stops
-Ends-stack OutFault command told held stack before now written asked stops = absurd stops
-
--- a copy that is too long
-pub Ends-length : (status : Status) (told held : Option Files) (stack prefix : List ℕ) (s : StackValue) (written : Option (List ℕ)) → IsStackRead told stack s → IsTooLong status s → Ends status (Some (Copy stack prefix)) told held held written written
-Ends-length status told held stack prefix s written source long =
-    subst (λ (x : Status). Ends x (Some (Copy stack prefix)) told held held written written) (sym long.is)
-    (((refl, long.past), asked-length told stack prefix s source long.past), refl, refl)
+-- reading the stack, after the graph where there is one
+pub Ends-stack : (status : Status) (command : Command) (told held : Option Files) (before now : ℕ) (written : Option (List ℕ)) → HasGraph told command → StackStops status told (stack_name command) before now → Ends status (Some command) told held held written written
+Ends-stack (StackBytes f) command told held before now written given stops = ((stops.0, (given, stops.1)), refl, refl)
+Ends-stack (Limit (StackFile n)) command told held before now written given stops = ((stops.0, (given, stops.1)), refl, refl)
+Ends-stack ReadFault command told held before now written given stops = ((λ e. cc), refl, refl)
+Ends-stack OutOfMemory command told held before now written given stops = (inl refl, refl)
+Ends-stack Done command told held before now written given stops = absurd stops
+Ends-stack Usage command told held before now written given stops = absurd stops
+Ends-stack GraphText command told held before now written given stops = absurd stops
+Ends-stack (GraphRule f) command told held before now written given stops = absurd stops
+Ends-stack (Limit (GraphBytes n)) command told held before now written given stops = absurd stops
+Ends-stack (Limit (Load n)) command told held before now written given stops = absurd stops
+Ends-stack (Limit (Kept n)) command told held before now written given stops = absurd stops
+Ends-stack (Limit (FileTooLarge v n)) command told held before now written given stops = absurd stops
+Ends-stack ShelfFault command told held before now written given stops = absurd stops
+Ends-stack OutFault command told held before now written given stops = absurd stops
 
 -- writing the files
 pub Ends-save : (status : Status) (command : Command) (source : Source) (told held now : Option Files) (before after : ℕ) (written : Option (List ℕ)) → IsRead told command source → IsWithin command source → SaveStops status held (work_of command source).files now before after → Ends status (Some command) told held now written written

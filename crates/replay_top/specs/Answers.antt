@@ -1,5 +1,6 @@
 -- What each status of a command says of the objects.
-use Rattle.std.specs.Prelude.{◌≡◌, ◌≢◌, ℕ, List, Option, None, Some, ◌⊎◌}
+use Rattle.std.specs.Prelude.{◌≡◌, ◌≢◌, ℕ, ◌<◌, List, Option, None, Some, ◌⊎◌}
+use Rattle.nd_base.specs.declared.graph.Graph.{Graph}
 use Rattle.edge_traits.specs.Files.{Files}
 use Rattle.edge_traits.specs.Written.{with_written}
 use Rattle.nd_stack.specs.declared.fault.StackFault.{StackFault}
@@ -7,14 +8,16 @@ use Rattle.nd_stack.specs.declared.fault.StackFault.TheVariants as refusal
 use Rattle.graph_conf.specs.declared.fault.GraphFault.{GraphFault}
 use Rattle.graph_conf.specs.declared.fault.GraphFault.TheVariants as rule
 use Rattle.graph_conf.specs.declared.load.LimitFault.{LimitFault}
+use Rattle.graph_conf.specs.declared.load.LimitFault.TheVariants.{GraphBytes, StackFile}
 use Rattle.replay_top.specs.declared.status.Status.{Status}
 use Rattle.replay_top.specs.declared.status.Status.TheVariants.{Done, Usage, GraphText, GraphRule, StackBytes, Limit, ReadFault, ShelfFault, OutFault, OutOfMemory}
 use Rattle.replay_top.specs.BegunFiles.{AreBegun}
-use Rattle.replay_top.specs.Command.{Command}
-use Rattle.replay_top.specs.Limits.{IsAsked, IsPast}
+use Rattle.replay_top.specs.Command.{Command, Copy, Plain, Info}
+use Rattle.replay_top.specs.Limits.{IsGraphRefused, IsStackRefused}
 use Rattle.replay_top.specs.NodeFiles.{with_files}
 use Rattle.replay_top.specs.Printed.{IsCutShort}
-use Rattle.replay_top.specs.Works.{Source, work_of, IsRead, IsWithin, IsReadBack}
+use Rattle.replay_top.specs.Sources.{most_graph_bytes, most_stack_bytes, IsGraphRead}
+use Rattle.replay_top.specs.Works.{Source, work_of, limit_of, IsRead, IsWithin, IsReadBack}
 
 -- the files were written, and the print, and nothing else
 pub record IsWorkDone (told : Option Files) (command : Command) (held now : Option Files) (before after : Option (List ℕ)) : Type 0 where
@@ -45,27 +48,56 @@ abbrev pub IsDone : Option Command → (told held now : Option Files) → (befor
 IsDone None told held now before after = ⊥
 IsDone (Some command) told held now before after = IsWorkDone told command held now before after
 
--- the command's files ask for this status
-abbrev pub IsAskedOf : Option Command → Option Files → Status → Type 0
-IsAskedOf None told status = ⊥
-IsAskedOf (Some command) told status = IsAsked status command told
+-- a command's stack
+abbrev pub stack_name : Command → List ℕ
+stack_name (Copy stack prefix) = stack
+stack_name (Plain graph stack prefix) = stack
+stack_name (Info stack) = stack
+
+-- the command's graph is refused so
+abbrev pub HasGraphRefusal : Option Files → Command → Status → Type 0
+HasGraphRefusal told (Plain graph stack prefix) status = IsGraphRefused status told graph
+HasGraphRefusal told _ status = ⊥
+
+-- the command's graph was read, where it has one
+abbrev pub HasGraph : Option Files → Command → Type 0
+HasGraph told (Plain graph stack prefix) = (g : Graph) × IsGraphRead told graph g
+HasGraph told _ = Unit {0}
+
+-- its graph was read, and its stack is refused so
+abbrev pub HasStackRefusal : Option Files → Command → Status → Type 0
+HasStackRefusal told command status = HasGraph told command × IsStackRefused status told (stack_name command)
+
+-- its graph and its stack were read, and pass this limit
+pub record HasLoadRefusal (told : Option Files) (command : Command) (fault : LimitFault) : Type 0 where
+  pub source : Source
+  pub read : IsRead told command source
+  pub passed : limit_of command source ≡ Some fault
 
 -- the command's graph is no TOML
 abbrev pub HasNoText : Option Command → Option Files → Type 0
-HasNoText command told = IsAskedOf command told GraphText
+HasNoText None told = ⊥
+HasNoText (Some command) told = HasGraphRefusal told command GraphText
 
 -- the command's graph has this fault
 abbrev pub HasGraphFault : Option Command → Option Files → GraphFault → Type 0
-HasGraphFault command told fault = (fault ≢ rule.OutOfMemory) × (fault ≢ rule.Text) × IsAskedOf command told (GraphRule fault)
+HasGraphFault None told fault = ⊥
+HasGraphFault (Some command) told fault = (fault ≢ rule.OutOfMemory) × (fault ≢ rule.Text) × HasGraphRefusal told command (GraphRule fault)
 
 -- the bytes of the command's stack have this fault
 abbrev pub HasStackFault : Option Command → Option Files → StackFault → Type 0
-HasStackFault command told fault = (fault ≢ refusal.OutOfMemory) × IsAskedOf command told (StackBytes fault)
+HasStackFault None told fault = ⊥
+HasStackFault (Some command) told fault = (fault ≢ refusal.OutOfMemory) × HasStackRefusal told command (StackBytes fault)
 
 -- the command passes this limit
+abbrev pub PassesLimit : Option Files → Command → LimitFault → Type 0
+PassesLimit told command (GraphBytes bytes) = (most_graph_bytes < bytes) × HasGraphRefusal told command (Limit (GraphBytes bytes))
+PassesLimit told command (StackFile bytes) = (most_stack_bytes < bytes) × HasStackRefusal told command (Limit (StackFile bytes))
+PassesLimit told command fault = HasLoadRefusal told command fault
+
 abbrev pub HasLimitFault : Option Command → Option Files → LimitFault → Type 0
 HasLimitFault None told fault = ⊥
-HasLimitFault (Some command) told fault = IsPast command fault × IsAsked (Limit fault) command told
+HasLimitFault (Some command) told fault = PassesLimit told command fault
 
 abbrev pub IsSaveBegun : Option Command → (told held now : Option Files) → Type 0
 IsSaveBegun None told held now = ⊥

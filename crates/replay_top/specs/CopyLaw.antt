@@ -1,11 +1,11 @@
 -- `copy` is the plain run of one file node.
-use Rattle.std.specs.Prelude.{◌≡◌, ℕ, suc, ◌+◌, ◌-◌, ◌*◌, ◌/◌, ◌<◌, ◌≤◌, ◌==◌, Bool, true, false, nat_le, nat_lt, min, List, [], ◌∷◌, ◌++◌, length, take, drop, map, Option, Some, None, slice_get, codes, if◌then◌else◌, refl}
+use Rattle.std.specs.Prelude.{◌≡◌, ℕ, suc, ◌+◌, ◌-◌, ◌*◌, ◌/◌, ◌<◌, ◌≤◌, ◌==◌, Bool, true, false, nat_lt, min, List, [], ◌∷◌, ◌++◌, length, take, drop, map, Option, Some, None, slice_get, codes, if◌then◌else◌, refl}
 use Rattle.std.specs.Fmt.{digits}
 use Rattle.std.specs.List.{flat_map, range_with_len}
 use Rattle.std.specs.Option.{option_map}
 use Rattle.std.proofs.Common.{ap, ◌∙◌, arith, zero-add, append_assoc}
 use Rattle.std.proofs.Math.Nat.{zero-mul, le-min, min-le_right}
-use Rattle.std.proofs.lemmas.Bool.{le-leb, le-ltb}
+use Rattle.std.proofs.lemmas.Bool.{le-ltb}
 use Rattle.std.proofs.lemmas.Bool.Decides.{nat_tests}
 use Rattle.std.proofs.lemmas.List.{take_all, append-nil}
 use Rattle.nd_base.specs.Array.{Array, StackValue}
@@ -14,15 +14,13 @@ use Rattle.nd_base.specs.declared.graph.NodeRule.{NodeRule}
 use Rattle.nd_base.specs.declared.graph.FileRule.{FileRule}
 use Rattle.nd_base.specs.declared.graph.Kind.TheVariants.{File}
 use Rattle.nd_base.specs.declared.graph.Mode.TheVariants.{Capture}
-use Rattle.cdf_write.specs.Lengths.{length_of, longest}
+use Rattle.cdf_write.specs.Lengths.{length_of}
 use Rattle.nd_roi.specs.Region.{region}
 use Rattle.chain_plain.specs.OneThread.{listed, arrays_out, groups}
 use Rattle.chain_plain.specs.Passing.{out_of}
 use Rattle.graph_conf.specs.Loads.{arrivals, kept, file_bytes_at, limit_fault}
-use Rattle.graph_conf.specs.declared.load.LimitFault.TheVariants.{FileTooLarge}
-use Rattle.replay_top.specs.declared.status.Status.TheVariants.{Done, Limit}
 use Rattle.replay_top.specs.Copy.{copy_name, copy_file, copy_files, copy_length}
-use Rattle.replay_top.specs.Limits.{copy_fits, load_status}
+use Rattle.replay_top.specs.Limits.{copy_limit}
 use Rattle.replay_top.specs.NodeFiles.{group_name, group_number, group_files, plain_files}
 
 -- one file node named `copy` on the driver, in mode capture, with as many arrays a file as a stack has at most
@@ -39,9 +37,9 @@ copy_graph = record { wait = false; limit = 0; nodes = copy_node ∷ [] }
 abbrev pub SameFiles : Type 0
 SameFiles = (s : StackValue) (prefix : List ℕ) → length s.arrays ≤ 65536 → plain_files copy_graph s prefix ≡ copy_files s prefix
 
--- and the same status
-abbrev pub SameStatus : Type 0
-SameStatus = (s : StackValue) → length s.arrays ≤ 65536 → load_status (limit_fault copy_graph s) ≡ copy_fits s
+-- and the same limit
+abbrev pub SameLimit : Type 0
+SameLimit = (s : StackValue) → length s.arrays ≤ 65536 → limit_fault copy_graph s ≡ copy_limit s
 
 -- THE FILES
 
@@ -98,20 +96,12 @@ pub same_files : SameFiles
 same_files s prefix few =
     append-nil _ ∙ ap (λ list. group_files Capture s.shape prefix (codes "copy") 0 list) (ap (groups 65536) (all_out s.arrays) ∙ group_by s.arrays few) ∙ named s prefix (length s.arrays == 0)
 
--- THE STATUS
+-- THE LIMIT
 
-fits_by : (length_of_copy : ℕ) (long : Bool) → nat_lt longest length_of_copy ≡ long → load_status (if long then Some (FileTooLarge 1 length_of_copy) else None) ≡ (if nat_le length_of_copy longest then Done else Limit (FileTooLarge 1 length_of_copy))
-fits_by n true e =
-    let long : nat_le n longest ≡ false = grind (arith, nat_tests) in
-    rw long refl
-fits_by n false e =
-    let short : n ≤ longest = grind (arith, nat_tests) in
-    rw (le-leb n longest short) refl
-
-pub same_status : SameStatus
-same_status s few =
+pub same_limit : SameLimit
+same_limit s few =
     let few_arrivals : nat_lt 1048576 (arrivals copy_graph s) ≡ false = le-ltb 1048576 (length s.arrays * 1) (omega (arith, few)) in
     let nothing_kept : nat_lt 67108864 (kept copy_graph s) ≡ false = le-ltb 67108864 (length s.arrays * 0 + 0) (omega arith) in
     let all : min 65536 (length s.arrays) ≡ length s.arrays = omega (arith, min-le_right 65536 (length s.arrays), le-min {k = length s.arrays} {a = 65536} {b = length s.arrays} few (omega arith)) in
     let bytes : file_bytes_at copy_graph s 1 ≡ copy_length s = ap (length_of s.shape) all in
-    rw (few_arrivals, nothing_kept, bytes) (fits_by (copy_length s) (nat_lt longest (copy_length s)) refl)
+    rw (few_arrivals, nothing_kept, bytes) refl

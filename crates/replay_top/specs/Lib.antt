@@ -7,6 +7,8 @@ pub mod Sources
 pub mod PlainRun
 pub mod PassedLaws
 pub mod NodeFiles
+pub mod NodeShapes
+pub mod OutgoingLaws
 pub mod BegunFiles
 pub mod BegunLaws
 pub mod PlainText
@@ -16,6 +18,7 @@ pub mod Copy
 pub mod Limits
 pub mod CopyLaw
 pub mod Works
+pub mod ReadBack
 pub mod Causes
 pub mod Answers
 pub mod Stages

@@ -1,5 +1,5 @@
 -- Which status the files of a command ask for.
-use Rattle.std.specs.Prelude.{◌≡◌, ℕ, ◌<◌, ◌≤◌, nat_le, List, length, Option, None, Some, Result, Ok, Err, if◌then◌else◌}
+use Rattle.std.specs.Prelude.{◌≡◌, ℕ, nat_le, nat_lt, List, length, Option, None, Some, Result, Ok, Err, if◌then◌else◌}
 use Rattle.nd_base.specs.Array.{StackValue}
 use Rattle.nd_base.specs.declared.graph.Graph.{Graph}
 use Rattle.edge_traits.specs.Files.{Files, IsTold}
@@ -9,7 +9,7 @@ use Rattle.nd_stack.specs.StackRules.{stack_of}
 use Rattle.graph_conf.specs.declared.fault.GraphFault.{GraphFault}
 use Rattle.graph_conf.specs.declared.fault.GraphFault.TheVariants as graph
 use Rattle.graph_conf.specs.declared.load.LimitFault.{LimitFault}
-use Rattle.graph_conf.specs.declared.load.LimitFault.TheVariants.{GraphBytes, StackFile, Load, Kept, FileTooLarge}
+use Rattle.graph_conf.specs.declared.load.LimitFault.TheVariants.{GraphBytes, StackFile, FileTooLarge}
 use Rattle.graph_conf.specs.Graphs.{graph_of_bytes}
 use Rattle.graph_conf.specs.Loads.{limit_fault}
 use Rattle.graph_conf.specs.Meanings.{GraphText, graph_text}
@@ -19,19 +19,6 @@ use Rattle.replay_top.specs.declared.status.Status.TheVariants.{Done, GraphRule,
 use Rattle.replay_top.specs.Command.{Command, Copy, Plain, Info}
 use Rattle.replay_top.specs.Copy.{copy_length}
 use Rattle.replay_top.specs.Sources.{most_graph_bytes, most_stack_bytes}
-
--- the node that a file is too long for; a copy's is the first
-abbrev pub IsNode : Command → ℕ → Type 0
-IsNode (Copy stack prefix) node = node ≡ 1
-IsNode _ node = 1 ≤ node
-
--- the number is past its limit
-abbrev pub IsPast : Command → LimitFault → Type 0
-IsPast command (GraphBytes bytes) = most_graph_bytes < bytes
-IsPast command (StackFile bytes) = most_stack_bytes < bytes
-IsPast command (Load arrivals) = 1048576 < arrivals
-IsPast command (Kept numbers) = 67108864 < numbers
-IsPast command (FileTooLarge node bytes) = IsNode command node × (longest < bytes)
 
 -- the graph of a file, or the status that refuses it
 abbrev pub graph_or_status : Result GraphText GraphFault → Result GraphText Status
@@ -50,15 +37,23 @@ stack_or_status (Err fault) = Err (StackBytes fault)
 abbrev pub stack_in : List ℕ → Result StackValue Status
 stack_in file = if nat_le (length file) most_stack_bytes then stack_or_status (stack_of file) else Err (Limit (StackFile (length file)))
 
+-- a file is refused so, where it is told
+abbrev pub IsGraphRefused : Status → Option Files → (name : List ℕ) → Type 0
+IsGraphRefused answer told name = (file : List ℕ) → IsTold told name file → graph_in file ≡ Err answer
+
+abbrev pub IsStackRefused : Status → Option Files → (name : List ℕ) → Type 0
+IsStackRefused answer told name = (file : List ℕ) → IsTold told name file → stack_in file ≡ Err answer
+
 -- what the stack of a file asks for, or the status that refuses it
 abbrev pub with_stack : (StackValue → Status) → Result StackValue Status → Status
 with_stack next (Ok s) = next s
 with_stack next (Err refusal) = refusal
 
--- Done, where the copy's file isn't too long
-abbrev pub copy_fits : StackValue → Status
-copy_fits s = if nat_le (copy_length s) longest then Done else Limit (FileTooLarge 1 (copy_length s))
+-- the copy's file would be too long
+abbrev pub copy_limit : StackValue → Option LimitFault
+copy_limit s = if nat_lt longest (copy_length s) then Some (FileTooLarge 1 (copy_length s)) else None
 
+-- Done, where no limit is passed
 abbrev pub load_status : Option LimitFault → Status
 load_status None = Done
 load_status (Some fault) = Limit fault
@@ -66,7 +61,7 @@ load_status (Some fault) = Limit fault
 -- The status that a stack's file asks for, where nothing fails and memory is there: the first refusal, in the order of the
 -- tests, or Done. For `copy`, for a plain run of this graph, and for `info`.
 abbrev pub copy_status : List ℕ → Status
-copy_status file = with_stack copy_fits (stack_in file)
+copy_status file = with_stack (λ s. load_status (copy_limit s)) (stack_in file)
 
 abbrev pub run_status : Graph → List ℕ → Status
 run_status g file = with_stack (λ s. load_status (limit_fault g s)) (stack_in file)

@@ -1,22 +1,20 @@
 -- Why each stage of a command stopped, and what it left.
-use Rattle.std.specs.Prelude.{◌≡◌, ◌≢◌, ℕ, ◌<◌, List, Option, Err}
+use Rattle.std.specs.Prelude.{◌≡◌, ◌≢◌, ℕ, ◌<◌, List, Option}
 use Rattle.nd_base.specs.Array.{StackValue}
 use Rattle.edge_traits.specs.Faults.{Rose}
-use Rattle.edge_traits.specs.Files.{Files, IsTold}
-use Rattle.cdf_write.specs.Lengths.{longest}
+use Rattle.edge_traits.specs.Files.{Files}
 use Rattle.nd_stack.specs.declared.fault.StackFault.{StackFault}
 use Rattle.nd_stack.specs.declared.fault.StackFault.TheVariants as refusal
 use Rattle.nd_stack.specs.KeptStacks.{IsKeptStack}
 use Rattle.graph_conf.specs.declared.fault.GraphFault.{GraphFault}
 use Rattle.graph_conf.specs.declared.fault.GraphFault.TheVariants as rule
-use Rattle.graph_conf.specs.declared.load.LimitFault.TheVariants.{GraphBytes, StackFile, FileTooLarge}
+use Rattle.graph_conf.specs.declared.load.LimitFault.TheVariants.{GraphBytes, StackFile}
 use Rattle.replay_top.specs.declared.reading.ReadRefusal.{ReadRefusal}
 use Rattle.replay_top.specs.declared.reading.ReadRefusal.TheVariants as reading
 use Rattle.replay_top.specs.declared.status.Status.{Status}
 use Rattle.replay_top.specs.declared.status.Status.TheVariants.{GraphText, GraphRule, StackBytes, Limit, ReadFault, ShelfFault, OutFault, OutOfMemory}
 use Rattle.replay_top.specs.BegunFiles.{AreBegun}
-use Rattle.replay_top.specs.Copy.{copy_length}
-use Rattle.replay_top.specs.Limits.{graph_in, stack_in}
+use Rattle.replay_top.specs.Limits.{IsGraphRefused, IsStackRefused}
 use Rattle.replay_top.specs.NodeFiles.{OutFile}
 use Rattle.replay_top.specs.Printed.{IsCutShort}
 use Rattle.replay_top.specs.Sources.{most_graph_bytes, most_stack_bytes, IsStackRead}
@@ -42,13 +40,6 @@ abbrev pub fault_status : StackFault → Status
 fault_status refusal.OutOfMemory = OutOfMemory
 fault_status fault = StackBytes fault
 
--- a file is refused so, where it is told
-abbrev pub IsGraphRefused : Status → Option Files → (name : List ℕ) → Type 0
-IsGraphRefused status told name = (file : List ℕ) → IsTold told name file → graph_in file ≡ Err status
-
-abbrev pub IsStackRefused : Status → Option Files → (name : List ℕ) → Type 0
-IsStackRefused status told name = (file : List ℕ) → IsTold told name file → stack_in file ≡ Err status
-
 -- reading the graph
 abbrev pub GraphStops : Status → Option Files → (name : List ℕ) → (before now : ℕ) → Type 0
 GraphStops GraphText told name before now = IsGraphRefused GraphText told name × (now ≡ before)
@@ -70,11 +61,6 @@ StackStops _ told name before now = ⊥
 pub record IsLoaded (told : Option Files) (name : List ℕ) (s : StackValue) : Type 0 where
   pub source : IsStackRead told name s
   pub kept : IsKeptStack s
-
--- a copy's file would be too long
-pub record IsTooLong (status : Status) (s : StackValue) : Type 0 where
-  pub is : status ≡ Limit (FileTooLarge 1 (copy_length s))
-  pub past : longest < copy_length s
 
 -- writing the files
 abbrev pub SaveStops : Status → (held : Option Files) → List OutFile → (now : Option Files) → (before after : ℕ) → Type 0

@@ -1,15 +1,17 @@
 -- What a command is there for, given what it read.
-use Rattle.std.specs.Prelude.{◌≡◌, ℕ, ◌≤◌, List, [], length, Option, None}
+use Rattle.std.specs.Prelude.{◌≡◌, ℕ, ◌≤◌, List, [], length, Option, None, All}
 use Rattle.nd_base.specs.Array.{StackValue}
 use Rattle.nd_base.specs.declared.graph.Graph.{Graph}
 use Rattle.edge_traits.specs.Files.{Files}
-use Rattle.cdf_write.specs.Lengths.{longest}
 use Rattle.nd_stack.specs.RoundTrip.{ReadsBack}
 use Rattle.graph_conf.specs.Loads.{limit_fault}
+use Rattle.graph_conf.specs.declared.load.LimitFault.{LimitFault}
 use Rattle.replay_top.specs.Command.{Command, Copy, Plain, Info}
-use Rattle.replay_top.specs.Copy.{copy_files, copy_length}
+use Rattle.replay_top.specs.Copy.{copy_files}
 use Rattle.replay_top.specs.Info.{info_text}
-use Rattle.replay_top.specs.NodeFiles.{OutFile, plain_files}
+use Rattle.replay_top.specs.Limits.{copy_limit}
+use Rattle.replay_top.specs.NodeFiles.{OutFile, file_shape, plain_files}
+use Rattle.replay_top.specs.PlainRun.{result_of}
 use Rattle.replay_top.specs.PlainText.{plain_text}
 use Rattle.replay_top.specs.Printed.{frames_line}
 use Rattle.replay_top.specs.Sources.{IsGraphRead, IsStackRead}
@@ -35,13 +37,17 @@ IsRead told (Copy stack prefix) source = IsStackRead told stack source.stack
 IsRead told (Plain graph stack prefix) source = IsGraphRead told graph source.graph × IsStackRead told stack source.stack
 IsRead told (Info stack) source = IsStackRead told stack source.stack
 
--- and no limit is passed
-abbrev pub IsWithin : Command → Source → Type 0
-IsWithin (Copy stack prefix) source = copy_length source.stack ≤ longest
-IsWithin (Plain graph stack prefix) source = limit_fault source.graph source.stack ≡ None
-IsWithin (Info stack) source = Unit {0}
+-- the first limit that it passes
+abbrev pub limit_of : Command → Source → Option LimitFault
+limit_of (Copy stack prefix) source = copy_limit source.stack
+limit_of (Plain graph stack prefix) source = limit_fault source.graph source.stack
+limit_of (Info stack) source = None
 
--- a copy's file reads back as the same arrays
+abbrev pub IsWithin : Command → Source → Type 0
+IsWithin command source = limit_of command source ≡ None
+
+-- a copy's file reads back as the stack's arrays, and each netCDF file of a plain run as the arrays of its group
 abbrev pub IsReadBack : Command → Source → Type 0
 IsReadBack (Copy stack prefix) source = 1 ≤ length source.stack.arrays → ReadsBack source.stack.shape source.stack.arrays
-IsReadBack _ source = Unit {0}
+IsReadBack (Plain graph stack prefix) source = (v : ℕ) → All (ReadsBack (file_shape source.graph source.stack v)) (result_of source.graph source.stack v).files
+IsReadBack (Info stack) source = Unit {0}

@@ -1,16 +1,16 @@
 //! `copy STACK PREFIX`: reads a stack, and writes it in the file layout.
 
-ghost use Rattle.std.specs.Prelude.{◌≡◌, ◌≤◌, length, Some, OnOk, IfErr};
+ghost use Rattle.std.specs.Prelude.{◌≡◌, None, Some, OnOk, IfErr};
 ghost use Rattle.edge_traits.specs.Written.{with_written};
-ghost use Rattle.cdf_write.specs.Lengths.{longest};
 ghost use Rattle.nd_stack.specs.KeptStacks.{IsKeptStack};
 ghost use Rattle.replay_top.specs.Answers.{Ends};
 ghost use Rattle.replay_top.specs.Causes.{IsCause};
 ghost use Rattle.replay_top.specs.Command.{Copy};
-ghost use Rattle.replay_top.specs.Copy.{copy_files, copy_length};
+ghost use Rattle.replay_top.specs.Copy.{copy_files};
+ghost use Rattle.replay_top.specs.Limits.{copy_limit};
 ghost use Rattle.replay_top.specs.NodeFiles.{with_files};
 ghost use Rattle.replay_top.specs.Printed.{frames_line};
-ghost use Rattle.replay_top.specs.Stages.{IsTooLong, SaveStops, PrintStops};
+ghost use Rattle.replay_top.specs.Stages.{SaveStops, PrintStops};
 
 use crate::printing::print;
 use crate::saving::write_frames;
@@ -29,20 +29,19 @@ const FILE_LIMIT: u128 = 2_147_483_647;
 /// The number of the node `copy`.
 const COPY_NODE: u32 = 1;
 
-/// Refuses a stack whose copy would be too long.
-fn check_length(stack: &Stack) -> Result<(), Status>
-    requires kept { IsKeptStack stack.now }
-    ensures ok { OnOk result (copy_length stack.now ≤ longest) }
-    ensures err { IfErr result (λ s. IsTooLong s stack.now) }
+/// The limit that a copy's file passes.
+fn copy_limit(stack: &Stack) -> Option<LimitFault>
+    requires { IsKeptStack stack.now }
+    ensures { result ≡ copy_limit stack.now }
 {
     let bytes = file_length(stack.shape(), u64::from(stack.frames()));
     if bytes > FILE_LIMIT {
-        return Err(Status::Limit(LimitFault::FileTooLarge {
+        return Some(LimitFault::FileTooLarge {
             node: COPY_NODE,
             bytes,
-        }));
+        });
     }
-    Ok(())
+    None
 }
 
 /// Writes the copy where there is a frame.
@@ -53,7 +52,7 @@ fn save_copy<K: Shelf>(
     stack: &Stack,
 ) -> Result<(), Status>
     requires kept { IsKeptStack stack.now }
-    requires within { copy_length stack.now ≤ longest }
+    requires within { copy_limit stack.now ≡ None }
     ensures ok { OnOk result (K.held shelf.new ≡ with_files (K.held shelf.old) (copy_files stack.now prefix.now)) }
     ensures stays { OnOk result (K.faults shelf.new ≡ K.faults shelf.old) }
     ensures err { IfErr result (λ s. SaveStops s (K.held shelf.old) (copy_files stack.now prefix.now) (K.held shelf.new) (K.faults shelf.old) (K.faults shelf.new)) }
@@ -100,8 +99,8 @@ pub(crate) fn copy<L: Library, K: Shelf, T: Sink>(
         Ok(stack) => stack,
         Err(status) => return status,
     };
-    if let Err(status) = check_length(&stack) {
-        return status;
+    if let Some(fault) = copy_limit(&stack) {
+        return Status::Limit(fault);
     }
     if let Err(status) = save_copy(alloc, shelf, prefix, &stack) {
         return status;

@@ -1,6 +1,5 @@
 //! Worked runs of the top call over objects in memory.
 
-mod groups;
 mod info;
 mod plain;
 

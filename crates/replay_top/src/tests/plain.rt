@@ -240,6 +240,37 @@ fn info_says_what_a_stack_is(rt: HostRuntime) -> Result<(), Fail> {
     Ok(())
 }
 
+const WINDOW: &str = r#"
+[[node]]
+name = "st"
+kind = "stats"
+input = "ring"
+
+[[node]]
+name = "ring"
+kind = "circular"
+input = "driver"
+post = 2
+preset = 1
+trigger = "A == 0"
+a = "ColorMode"
+"#;
+
+#[test]
+fn only_what_a_window_passes_on_is_measured(rt: HostRuntime) -> Result<(), Fail> {
+    let alloc = rt.alloc();
+    let run = plain(alloc, WINDOW, detector(alloc)?, none(alloc))?;
+    assert!(rt; ended(alloc, &run, "status 0 Done")?);
+    let rows = run.shelf.bytes("x_st.txt").ok_or("no rows")?;
+    assert!(rt; rows.starts_with(b"1 n=307200 min=1@0 max=1@0 total=307200 "));
+    assert_eq!(rt; rows.iter().filter(|byte| **byte == b'\n').count(), 2);
+    assert_eq!(rt;
+        run.sink.bytes(),
+        b"frames 5\nnode st out 2\nnode ring out 2\n".as_slice()
+    );
+    Ok(())
+}
+
 /// The lengths of the first three files of the node `f`.
 fn lengths(run: &Outcome) -> [Option<usize>; 3] {
     ["x_f_000.nc", "x_f_001.nc", "x_f_002.nc"].map(|name| run

@@ -11,7 +11,7 @@ returns-in-Ok-print-clause-ends g c held =
     record {
       source = record { graph = copy_graph; stack = c.in-Ok.stack };
       read = c.in-Ok.ensures.ok.source;
-      within = tt;
+      within = refl;
       files = refl;
       back = tt;
       printed = (rw text at c.in-Ok-print.ensures.ok);
@@ -21,4 +21,4 @@ pub returns-clause-ends : goal.returns-clause-ends
 returns-clause-ends g c held =
     let text : c.as_str.result.now ≡ info_text c.in-Ok.stack = c.as_str.ensures.value ∙ c.in-Ok-info_text.ensures in
     Ends-print c.in-Err-print.status (Info c.args.name.now) (record { graph = copy_graph; stack = c.in-Ok.stack }) _ held held _ _ _ _
-    c.in-Ok.ensures.ok.source tt refl (rw text at c.in-Err-print.ensures.err)
+    c.in-Ok.ensures.ok.source refl refl (rw text at c.in-Err-print.ensures.err)

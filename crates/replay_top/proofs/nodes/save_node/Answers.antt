@@ -6,7 +6,8 @@ use Rattle.chain_plain.proofs.Rules.{stands}
 use Rattle.replay_top.specs.BegunFiles.{AreBegun, Counted}
 use Rattle.replay_top.specs.BegunLaws.{AreBegun-none}
 use Rattle.replay_top.specs.NodeFiles.{OutFile, node_files, with_files}
-use Rattle.replay_top.proofs.NodeWrites.{saved_rows, saved_groups, stats_sound, file_sound, longest_fits}
+use Rattle.replay_top.specs.NodeShapes.{longest_fits}
+use Rattle.replay_top.proofs.NodeWrites.{saved_rows, saved_groups, stats_sound, file_sound}
 use Rattle.replay_top.proofs.nodes.save_node.Goals as goal
 
 pub returns-in_err-passed-in-File-clause-err : goal.returns-in_err-passed-in-File-clause-err

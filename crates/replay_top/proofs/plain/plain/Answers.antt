@@ -2,8 +2,9 @@ use Rattle.std.proofs.Common.{◌≡◌, ap, refl, None, Some}
 use Rattle.nd_base.specs.declared.plan.Plan.{Plan}
 use Rattle.graph_conf.specs.Loads.{limit_fault}
 use Rattle.replay_top.specs.Command.{Plain}
+use Rattle.replay_top.specs.ReadBack.{files_read_back}
 use Rattle.replay_top.specs.Sources.{IsGraphRead, IsStackRead}
-use Rattle.replay_top.proofs.Asked.{asked-load, limit_fault-past, fault_in, no_fault}
+use Rattle.replay_top.proofs.Asked.{passed-run, fault_in, no_fault}
 use Rattle.replay_top.proofs.Stops.{Ends-save, Ends-print}
 use Rattle.replay_top.proofs.plain.plain.Goals as goal
 
@@ -16,7 +17,7 @@ returns-in-Err-check_load-clause-ends g c =
     let rules : IsGraphRead told c.args.graph.now graph = rw same c.in-Ok.ensures.ok in
     let source : IsStackRead told c.args.name.now stack = (rw c.in-Ok.ensures.files at c.in-Ok-load_stack.ensures.ok.source) in
     let is : limit_fault graph stack ≡ Some c.in-Err-check_load.fault = fault_in (limit_fault graph stack) c.in-Err-check_load.fault c.in-Err-check_load.ensures in (
-      (limit_fault-past c.args.graph.now c.args.name.now c.args.prefix.now graph stack c.in-Err-check_load.fault is, asked-load told c.args.graph.now c.args.name.now c.args.prefix.now graph stack c.in-Err-check_load.fault rules source is),
+      passed-run told (Plain c.args.graph.now c.args.name.now c.args.prefix.now) (record { graph = graph; stack = stack }) c.in-Err-check_load.fault (rules, source) is is,
       refl,
       refl,
     )
@@ -47,7 +48,7 @@ returns-in-Ok-print_plain-clause-ends g c =
       read = (rules, source);
       within = within;
       files = c.in_default-save_plain.ensures.ok;
-      back = tt;
+      back = files_read_back graph stack (rw same c.in-Ok.ensures.ok.sound) c.in-Ok-load_stack.ensures.ok.kept within;
       printed = c.in-Ok-print_plain.ensures.ok;
     }
 
