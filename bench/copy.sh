@@ -2,13 +2,7 @@
 # Times `nd_replay copy` on a stack of 200 frames of 1,024 by 1,024 unsigned bytes against `cp` of the same file, ten times each
 # in turn, and prints the medians, their ratio and the most memory that `copy` took. It is no part of the gate.
 set -eu
-here=$(cd "$(dirname "$0")/.." && pwd)
-source "$here/bench/timing.sh"
-source "$here/bench/stacks.sh"
-work=$(mktemp -d)
-trap 'rm -rf "$work"' EXIT
-"$here/nd_replay" --version > "$work/version"
-program=$here/crates/replay_main/out/replay_main
+source "$(dirname "$0")/program.sh"
 
 cd "$work"
 make_stack 200 > stack.nc

@@ -3,13 +3,7 @@
 # against a plain C program of the same (plain.c), ten times each in turn; compares what both wrote; and prints the medians, their
 # ratio, the most memory that `plain` took, and its growth at twice and four times the frames. It is no part of the gate.
 set -eu
-here=$(cd "$(dirname "$0")/.." && pwd)
-source "$here/bench/timing.sh"
-source "$here/bench/stacks.sh"
-work=$(mktemp -d)
-trap 'rm -rf "$work"' EXIT
-"$here/nd_replay" --version > "$work/version"
-program=$here/crates/replay_main/out/replay_main
+source "$(dirname "$0")/program.sh"
 gcc -O3 -o "$work/plain" "$here/bench/plain.c"
 
 cat > "$work/graph.toml" <<'GRAPH'

@@ -1,4 +1,11 @@
-# What the scripts beside this one make their stacks with: they read it by `source`.
+# What the scripts beside this one run the program with: they read it by `source`. It builds the program where it isn't built,
+# and makes a folder to work in, which goes when the script ends.
+here=$(cd "$(dirname "${BASH_SOURCE[0]}")/.." && pwd)
+source "$here/bench/timing.sh"
+work=$(mktemp -d)
+trap 'rm -rf "$work"' EXIT
+"$here/nd_replay" --version > "$work/version"
+program=$here/crates/replay_main/out/replay_main
 
 # A stack of so many frames of 1,024 by 1,024 unsigned bytes: 144 bytes of header, and the records of its one variable.
 # make_stack FRAMES
