@@ -1,0 +1,20 @@
+use Rattle.std.proofs.Common.{rules}
+use Rattle.turn_lock.proofs.Turn.{turn_ends, turn_tells}
+use Rattle.turn_lock.proofs.lock.TurnLock.turn.Goals as goal
+
+pub fetch_add-requires : goal.fetch_add-requires
+fetch_add-requires g c = (
+  search rules,
+  search rules,
+  turn_ends g.S.Object.entries g.S.Object.begins _ (g.S.Object.role c.args.op) (λ mine. g.S.Object.may mine c.args.op)
+      (λ before added. g.S.Object.answers before c.args.op c.play-reply.result added)
+      c.args.seat.now.me.0 c.begin.new.seat.me c.slot_mut-state.result.now c.play-reply.new.self _ _
+      c.requires.may c.begin.ensures.turn c.slot_mut-state.ensures.value c.play-reply.ensures,
+)
+
+pub returns-clause-call : goal.returns-clause-call
+returns-clause-call g c =
+    turn_tells g.S.Object.entries g.S.Object.begins 0 (g.S.Object.role c.args.op) (λ mine. g.S.Object.may mine c.args.op)
+    (λ before added. g.S.Object.answers before c.args.op c.play-reply.result added)
+    c.args.seat.now.me.0 c.begin.new.seat.me c.slot_mut-state.result.now c.play-reply.new.self c.args.seat.now.table_id c.fetch_add.new.seat.me
+    c.begin.ensures.turn c.slot_mut-state.ensures.value c.play-reply.ensures c.fetch_add.ensures.2
