@@ -1,5 +1,6 @@
 -- A worked file of 564 bytes: one UInt8 frame of 2 by 2 with samples 1 2 3 4, id 1 and no times.
 use Rattle.std.specs.Prelude.{◌≡◌, ℕ, pos, false, List, [], ◌∷◌, ◌++◌, refl, codes}
+use Rattle.nd_base.specs.declared.form.Form.TheVariants.{Classic}
 use Rattle.nd_base.specs.declared.array.Dim.{Dim}
 use Rattle.nd_base.specs.declared.array.SampleType.TheVariants.{UInt8}
 use Rattle.nd_base.specs.declared.attribute.FileShape.{FileShape}
@@ -11,7 +12,7 @@ plain_dim = record { size = 2; offset = pos 0; binning = pos 1; reverse = false 
 
 small_shape : FileShape
 unfolding plain_dim
-small_shape = record { kind = UInt8; dims = plain_dim ∷ plain_dim ∷ []; attrs = []; width = 256; extras = [] }
+small_shape = record { form = Classic; kind = UInt8; dims = plain_dim ∷ plain_dim ∷ []; attrs = []; width = 256; extras = [] }
 
 small_frame : Array
 unfolding plain_dim

@@ -1,6 +1,8 @@
 -- Lengths of files and records in bytes, and what a header is refused for.
 use Rattle.std.specs.Prelude.{◌≡◌, ℕ, ◌+◌, ◌*◌, ◌<◌, ◌≤◌, List, length}
 use Rattle.std.specs.List.{sum_by}
+use Rattle.nd_base.specs.declared.form.Form.TheVariants.{Classic}
+use Rattle.nd_base.specs.Forms.{longest_of}
 use Rattle.nd_base.specs.declared.attribute.AttrColumn.{AttrColumn}
 use Rattle.nd_base.specs.declared.attribute.AttrKind.{AttrKind}
 use Rattle.nd_base.specs.declared.attribute.AttrKind.TheVariants.{WholeKind, TextKind, Bits64Kind, Bits32Kind}
@@ -26,7 +28,7 @@ length_of shape count = header_length shape + count * row_length shape
 
 -- the longest file that is written
 abbrev pub longest : ℕ
-longest = 2147483647
+longest = longest_of Classic
 
 -- what the header of a file of this length is refused for: the length, exactly where it is too long, else want of memory
 abbrev pub IsRefusal : ℕ → TooLarge → Type 0

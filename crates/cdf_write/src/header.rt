@@ -12,8 +12,9 @@ use crate::attributes::push_attributes;
 use crate::lengths::{file_length, header_size};
 use crate::spelling::{push_dimension, push_word};
 use crate::variables::push_variables;
-use nd_base::{Dim, FileShape};
+use nd_base::{Dim, FileShape, LONGEST_CLASSIC};
 use std::alloc::{AllocError, Global};
+use thiserror::Error;
 
 /// The magic of the classic format, version 1.
 const MAGIC: [u8; 4] = [b'C', b'D', b'F', 1];
@@ -25,13 +26,15 @@ const STREAMING: u32 = 0xffff_ffff;
 const DIMENSIONS: u32 = 10;
 
 /// The most bytes of a file.
-const LONGEST: u128 = 2_147_483_647;
+const LONGEST: u128 = LONGEST_CLASSIC as u128;
 
 /// Why no header is made.
-#[derive(Clone, Copy, Debug, PartialEq, Eq)]
+#[derive(Clone, Copy, Debug, PartialEq, Eq, Error)]
 pub enum TooLarge {
     /// The whole file would have so many bytes, more than 2,147,483,647.
+    #[error("the file would have {bytes} bytes")]
     FileTooLarge { bytes: u128 },
+    #[error("out of memory")]
     OutOfMemory,
 }
 

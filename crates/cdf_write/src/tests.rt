@@ -9,8 +9,8 @@ ghost use Rattle.cdf_write.specs.Writable.{IsWritable, IsExtra, FitsIn, kind_of,
 use crate::lengths::samples_size;
 use crate::{TooLarge, file_length, header_bytes, length_with, row_bytes};
 use nd_base::{
-    Attr, AttrColumn, AttrKind, AttrValue, Bytes, Dim, Extra, FileShape, Head, Name, SampleType,
-    Seq,
+    Attr, AttrColumn, AttrKind, AttrValue, Attrs, Bytes, Dim, Extra, FileShape, Form, Head, Name,
+    SampleType, Seq,
 };
 use std::alloc::{AllocError, Global};
 use std::process::Abort;
@@ -220,19 +220,20 @@ fn columns_of(alloc: Global, attrs: &[Attr]) -> Result<Vec<AttrColumn>, AllocErr
     Ok(columns)
 }
 
-/// The shape of frames with this head.
+/// The shape of frames with these attributes.
 fn shape_of(
     alloc: Global,
-    head: &Head,
+    attrs: &[Attr],
     kind: SampleType,
     dims: Vec<Dim>,
     width: u32,
     extras: Vec<Extra>,
 ) -> Result<FileShape, AllocError>
-    ensures { IfOk result (λ s. map column_of head.now.attrs ≡ s.attrs) }
+    ensures { IfOk result (λ s. map column_of attrs.now ≡ s.attrs) }
 {
-    let attrs = Seq::new(columns_of(alloc, head.attrs.as_slice())?);
+    let attrs = Seq::new(columns_of(alloc, attrs)?);
     Ok(FileShape {
+        form: Form::Classic,
         kind,
         dims: Seq::new(dims),
         attrs,
@@ -249,10 +250,10 @@ fn one_frame(
     head: &Head,
     samples: &[u8],
 ) -> Result<Vec<u8>, Fail>
-    requires { map column_of head.now.attrs ≡ shape.now.attrs }
+    requires names { map column_of head.now.attrs ≡ shape.now.attrs }
+    requires texts { All (λ t. FitsIn shape.now.width t.value) head.now.attrs }
 {
     assert!(rt; is_writable(shape));
-    assert!(rt; have_room(head.attrs.as_slice(), shape.width));
     assert!(rt; samples.len() as u64 == samples_size(shape.kind, shape.dims.as_slice()));
     let mut file = header_bytes(alloc, shape, Some(1), 1)?;
     let header = file.len();
@@ -278,13 +279,15 @@ fn plain_dims(alloc: Global, sizes: &[u32]) -> Result<Vec<Dim>, AllocError> {
 }
 
 /// The head of a frame with id 1 and no times.
-fn plain_head(attrs: Vec<Attr>) -> Head {
+fn plain_head(attrs: Attrs) -> Head
+    ensures { result.attrs ≡ attrs }
+{
     Head {
         id: 1,
         stamp: 0,
         sec: 0,
         nsec: 0,
-        attrs: Seq::new(attrs),
+        attrs,
     }
 }
 
@@ -309,9 +312,9 @@ fn extra(alloc: Global, name: &str, kind: u32, values: &[u8]) -> Result<Extra, A
 #[test]
 fn one_frame_two_by_two_has_564_bytes(rt: HostRuntime) -> Result<(), Fail> {
     let alloc = rt.alloc();
-    let head = plain_head(Vec::new(alloc));
+    let head = plain_head(Attrs::none(alloc));
     let dims = plain_dims(alloc, &[2, 2])?;
-    let shape = shape_of(alloc, &head, SampleType::UInt8, dims, 256, Vec::new(alloc))?;
+    let shape = shape_of(alloc, &[], SampleType::UInt8, dims, 256, Vec::new(alloc))?;
     let file = one_frame(&rt, alloc, &shape, &head, &[1, 2, 3, 4])?;
     assert_eq!(rt; file.as_slice(), ONE_FRAME);
     Ok(())
@@ -343,13 +346,7 @@ fn every_extra(alloc: Global) -> Result<Vec<Extra>, AllocError> {
 #[test]
 fn every_kind_of_attribute_and_extra_is_spelled(rt: HostRuntime) -> Result<(), Fail> {
     let alloc = rt.alloc();
-    let head = Head {
-        id: -5,
-        stamp: 0x4009_21fb_5444_2d18,
-        sec: -1,
-        nsec: 999_999_999,
-        attrs: Seq::new(every_attr(alloc)?),
-    };
+    let attrs = every_attr(alloc)?;
     let dims = vec![in alloc;
         Dim {
             size: 3,
@@ -360,12 +357,20 @@ fn every_kind_of_attribute_and_extra_is_spelled(rt: HostRuntime) -> Result<(), F
     ]?;
     let shape = shape_of(
         alloc,
-        &head,
+        &attrs,
         SampleType::UInt16,
         dims,
         6,
         every_extra(alloc)?,
     )?;
+    assert!(rt; have_room(&attrs, shape.width));
+    let head = Head {
+        id: -5,
+        stamp: 0x4009_21fb_5444_2d18,
+        sec: -1,
+        nsec: 999_999_999,
+        attrs: Attrs::of(alloc, attrs)?,
+    };
     let file = one_frame(&rt, alloc, &shape, &head, &[0, 1, 0x80, 0, 0xff, 0xff])?;
     assert_eq!(rt; file.as_slice(), EVERY_KIND);
     Ok(())
@@ -374,9 +379,9 @@ fn every_kind_of_attribute_and_extra_is_spelled(rt: HostRuntime) -> Result<(), F
 #[test]
 fn ten_dimensions_are_named_from_the_slowest(rt: HostRuntime) -> Result<(), Fail> {
     let alloc = rt.alloc();
-    let head = plain_head(Vec::new(alloc));
+    let head = plain_head(Attrs::none(alloc));
     let dims = plain_dims(alloc, &[2, 1, 1, 1, 1, 1, 1, 1, 1, 3])?;
-    let shape = shape_of(alloc, &head, SampleType::Int8, dims, 256, Vec::new(alloc))?;
+    let shape = shape_of(alloc, &[], SampleType::Int8, dims, 256, Vec::new(alloc))?;
     let file = one_frame(&rt, alloc, &shape, &head, &[1, 2, 3, 4, 5, 6])?;
     assert_eq!(rt; file.len(), 824);
     assert_eq!(rt; &file[36..48], b"\0\0\0\x04dim0\0\0\0\x03".as_slice());
@@ -388,9 +393,8 @@ fn ten_dimensions_are_named_from_the_slowest(rt: HostRuntime) -> Result<(), Fail
 #[test]
 fn lengths_of_worked_files(rt: HostRuntime) -> Result<(), Fail> {
     let alloc = rt.alloc();
-    let head = plain_head(Vec::new(alloc));
     let dims = plain_dims(alloc, &[2, 2])?;
-    let shape = shape_of(alloc, &head, SampleType::UInt8, dims, 256, Vec::new(alloc))?;
+    let shape = shape_of(alloc, &[], SampleType::UInt8, dims, 256, Vec::new(alloc))?;
     assert!(rt; is_writable(&shape));
     assert_eq!(rt; file_length(&shape, 89_478_462), 2_147_483_628);
     let header = header_bytes(alloc, &shape, None, 89_478_462)?;
@@ -414,9 +418,10 @@ fn lengths_of_worked_files(rt: HostRuntime) -> Result<(), Fail> {
 fn one_whole_attribute_takes_48_bytes(rt: HostRuntime) -> Result<(), Fail> {
     let alloc = rt.alloc();
     let attrs = vec![in alloc; attr(alloc, "Frame", AttrValue::Whole(0))?]?;
-    let head = plain_head(attrs);
     let dims = plain_dims(alloc, &[2, 2])?;
-    let shape = shape_of(alloc, &head, SampleType::UInt8, dims, 256, Vec::new(alloc))?;
+    let shape = shape_of(alloc, &attrs, SampleType::UInt8, dims, 256, Vec::new(alloc))?;
+    assert!(rt; have_room(&attrs, shape.width));
+    let head = plain_head(Attrs::of(alloc, attrs)?);
     let file = one_frame(&rt, alloc, &shape, &head, &[1, 2, 3, 4])?;
     assert_eq!(rt; file.len(), 612);
     assert!(rt; is_writable(&shape));

@@ -5,7 +5,7 @@ use Rattle.std.specs.Option.{option_map_or}
 use Rattle.std.proofs.Common.{ap, sym, subst, ◌∙◌, arith, inl, inr}
 use Rattle.std.proofs.Math.Dec.{eqb-zero-suc}
 use Rattle.std.proofs.lemmas.Bool.{cases_Bool, eqb-true, eqb-false, eq-eqb, false≢true}
-use Rattle.nd_base.specs.GraphRules.{IsGraph, input_of, rule_at}
+use Rattle.nd_base.specs.GraphRules.{IsGraph, makes_arrays, input_of, rule_at}
 use Rattle.nd_base.specs.declared.graph.Graph.{Graph}
 use Rattle.nd_base.specs.declared.graph.Kind.TheVariants.{Roi}
 use Rattle.nd_base.specs.declared.graph.NodeRule.{NodeRule}
@@ -13,24 +13,23 @@ use Rattle.nd_base.specs.declared.graph.RoiRule.{RoiRule}
 use Rattle.nd_base.specs.declared.plan.Maker.{Maker}
 use Rattle.nd_base.specs.declared.plan.Plan.{Plan}
 use Rattle.nd_base.specs.Array.{StackValue}
-use Rattle.chain_plain.specs.Nodes.{is_roi, is_region, maker_at, regions}
+use Rattle.chain_plain.specs.Nodes.{is_region, maker_at, regions}
 use Rattle.chain_plain.specs.PassingLaws.{IsMaker, input_some, is_region-none, maker_at-step, maker_makes, out_of-maker, rule_within}
 use Rattle.chain_plain.specs.Plans.{maker_of, plan_of, region_shape, stack_shape, shape_at}
-use Rattle.chain_plain.proofs.Makers.{not_roi}
 
-region_rule : (nodes : List NodeRule) (v : ℕ) (n : NodeRule) → Some n ≡ rule_at nodes v → is_region nodes v ≡ is_roi n.kind
-region_rule nodes v n is = ap (λ o. option_map_or (λ (r : NodeRule). is_roi r.kind) o false) (sym is)
+region_rule : (nodes : List NodeRule) (v : ℕ) (n : NodeRule) → Some n ≡ rule_at nodes v → is_region nodes v ≡ makes_arrays n.kind
+region_rule nodes v n is = ap (λ o. option_map_or (λ (r : NodeRule). makes_arrays r.kind) o false) (sym is)
 
 -- the maker of what a node passes on, by its rule
-pub maker_of_roi : (g : Graph) (v : ℕ) (n : NodeRule) (r : RoiRule) → IsGraph g → Some n ≡ rule_at g.nodes v → n.kind ≡ Roi r → maker_at g.nodes v ≡ v
-maker_of_roi g v n r sound is kind =
+pub maker_of_region : (g : Graph) (v : ℕ) (n : NodeRule) → IsGraph g → Some n ≡ rule_at g.nodes v → makes_arrays n.kind ≡ true → maker_at g.nodes v ≡ v
+maker_of_region g v n sound is makes =
     maker_at-step g v sound (rule_within g.nodes v n is)
-    ∙ ap (λ b. if b then v else maker_at g.nodes (input_of g.nodes v)) (region_rule g.nodes v n is ∙ ap is_roi kind)
+    ∙ ap (λ b. if b then v else maker_at g.nodes (input_of g.nodes v)) (region_rule g.nodes v n is ∙ makes)
 
-pub maker_of_other : (g : Graph) (v : ℕ) (n : NodeRule) → IsGraph g → Some n ≡ rule_at g.nodes v → ((r : RoiRule) → n.kind ≢ Roi r) → maker_at g.nodes v ≡ maker_at g.nodes n.input
+pub maker_of_other : (g : Graph) (v : ℕ) (n : NodeRule) → IsGraph g → Some n ≡ rule_at g.nodes v → makes_arrays n.kind ≡ false → maker_at g.nodes v ≡ maker_at g.nodes n.input
 maker_of_other g v n sound is other =
     maker_at-step g v sound (rule_within g.nodes v n is)
-    ∙ ap (λ b. if b then v else maker_at g.nodes (input_of g.nodes v)) (region_rule g.nodes v n is ∙ not_roi n.kind other)
+    ∙ ap (λ b. if b then v else maker_at g.nodes (input_of g.nodes v)) (region_rule g.nodes v n is ∙ other)
     ∙ ap (maker_at g.nodes) (input_some g.nodes v n is)
 
 -- a maker is found under its number

@@ -6,6 +6,7 @@ use Rattle.std.proofs.Common.{ap, sym, ◌∙◌, arith, get_or}
 use Rattle.std.proofs.lemmas.List.{map-append, append-nil}
 use Rattle.std.proofs.lemmas.List.Elements.{filter-append}
 use Rattle.std.proofs.lemmas.Option.{slice_get-get_or}
+use Rattle.nd_base.specs.GraphRules.{makes_arrays}
 use Rattle.nd_base.specs.Array.{Array}
 use Rattle.nd_base.specs.declared.array.Head.{Head}
 use Rattle.nd_base.specs.declared.graph.Kind.{Kind}
@@ -13,8 +14,8 @@ use Rattle.nd_base.specs.declared.graph.Kind.TheVariants.{Roi, Stats, Circular, 
 use Rattle.nd_base.specs.declared.graph.NodeRule.{NodeRule}
 use Rattle.nd_base.specs.declared.graph.RoiRule.{RoiRule}
 use Rattle.nd_base.specs.Stacks.{head_of}
-use Rattle.nd_roi.specs.RegionLaws.{range-split}
-use Rattle.chain_plain.specs.Nodes.{is_roi, is_region}
+use Rattle.nd_base.specs.PlaceLaws.{range-split}
+use Rattle.chain_plain.specs.Nodes.{is_region}
 
 -- one id more
 pub ids_more : (arrays : List Array) (k : ℕ) (h : Head) → k < length arrays → IfSome (slice_get arrays k) (λ a. head_of a ≡ h) → map (λ (a : Array). a.id) (take k arrays) ++ h.id ∷ [] ≡ map (λ (a : Array). a.id) (take (suc k) arrays)
@@ -44,19 +45,7 @@ module _ {X : Type 0} (f : ℕ → X) (p : ℕ → Bool) (k : ℕ) where
       ap (λ vs. map f (0 ∷ vs)) (filter_one p k ∙ ap (λ vs. filter p (range_with_len 1 k) ++ vs) (one_skipped p (1 + k) h) ∙ append-nil (filter p (range_with_len 1 k)))
 
 -- the node at a place
-is_region-at : (nodes : List NodeRule) (k : ℕ) (n : NodeRule) → k < length nodes → get_or nodes k n ≡ n → is_region nodes (1 + k) ≡ is_roi n.kind
+pub is_region-at : (nodes : List NodeRule) (k : ℕ) (n : NodeRule) → k < length nodes → get_or nodes k n ≡ n → is_region nodes (1 + k) ≡ makes_arrays n.kind
 is_region-at nodes k n within is =
     let e : 1 + k ≡ suc k = omega arith in
-    ap (is_region nodes) e ∙ ap (λ o. option_map_or (λ (r : NodeRule). is_roi r.kind) o false) (slice_get-get_or nodes k n within ∙ ap Some is)
-
-pub is_region-roi : (nodes : List NodeRule) (k : ℕ) (n : NodeRule) (r : RoiRule) → k < length nodes → get_or nodes k n ≡ n → n.kind ≡ Roi r → is_region nodes (1 + k) ≡ true
-is_region-roi nodes k n r within is kind = is_region-at nodes k n within is ∙ ap is_roi kind
-
-pub not_roi : (k : Kind) → ((r : RoiRule) → k ≢ Roi r) → is_roi k ≡ false
-not_roi (Roi r) h = absurd (h r refl)
-not_roi (Stats r) h = refl
-not_roi (Circular r) h = refl
-not_roi (File r) h = refl
-
-pub is_region-other : (nodes : List NodeRule) (k : ℕ) (n : NodeRule) → k < length nodes → get_or nodes k n ≡ n → ((r : RoiRule) → n.kind ≢ Roi r) → is_region nodes (1 + k) ≡ false
-is_region-other nodes k n within is other = is_region-at nodes k n within is ∙ not_roi n.kind other
+    ap (is_region nodes) e ∙ ap (λ o. option_map_or (λ (r : NodeRule). makes_arrays r.kind) o false) (slice_get-get_or nodes k n within ∙ ap Some is)

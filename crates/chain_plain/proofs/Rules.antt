@@ -1,14 +1,17 @@
 -- What a graph says of a node that has a rule.
 use Rattle.std.specs.Prelude.{◌≡◌, ◌≢◌, ℕ, zero, suc, ◌<◌, ◌≤◌, List, length, Some, None, IsTrue, slice_get, refl}
 use Rattle.std.specs.Option.{option_map_or}
-use Rattle.std.proofs.Common.{ap, sym, arith, subst, ◌∙◌, get_or}
+use Rattle.std.proofs.Common.{◌⊎◌, inl, inr, ap, sym, arith, subst, ◌∙◌, get_or}
 use Rattle.std.proofs.lemmas.Option.{slice_get_within, get_or_from_slice_get}
 use Rattle.nd_base.specs.declared.graph.Graph.{Graph}
 use Rattle.nd_base.specs.declared.graph.NodeRule.{NodeRule}
 use Rattle.nd_base.specs.declared.graph.RoiRule.{RoiRule}
+use Rattle.nd_base.specs.declared.graph.StatsRule.{StatsRule}
+use Rattle.nd_base.specs.declared.graph.CircularRule.{CircularRule}
+use Rattle.nd_base.specs.declared.graph.FileRule.{FileRule}
 use Rattle.nd_base.specs.declared.array.Dim.{Dim}
 use Rattle.nd_base.specs.declared.graph.Kind.{Kind}
-use Rattle.nd_base.specs.declared.graph.Kind.TheVariants.{Roi, Stats, Circular, File}
+use Rattle.nd_base.specs.declared.graph.Kind.TheVariants.{Roi, Stats, Circular, File, Scatter}
 use Rattle.nd_base.specs.Shapes.{has_dimensions, sample_count, most_samples}
 use Rattle.nd_roi.specs.Cut.{region_dims}
 use Rattle.nd_roi.specs.CutLaws.{region_dims-count, region_dims-has_dimensions}
@@ -52,6 +55,17 @@ by_kind-other cut (Roi r) x h = absurd (h r refl)
 by_kind-other cut (Stats r) x h = refl
 by_kind-other cut (Circular r) x h = refl
 by_kind-other cut (File r) x h = refl
+by_kind-other cut Scatter x h = refl
+
+-- the kinds that pass on what comes to them
+abbrev pub PassesOn : Kind → Type 0
+PassesOn k = ((r : StatsRule) × (k ≡ Stats r)) ⊎ (((r : CircularRule) × (k ≡ Circular r)) ⊎ (((r : FileRule) × (k ≡ File r)) ⊎ (k ≡ Scatter)))
+
+pub no_roi : (k : Kind) → PassesOn k → (r : RoiRule) → k ≢ Roi r
+no_roi k (inl a) r e = let other : k ≡ Stats a.0 = a.1 in absurd (cc)
+no_roi k (inr (inl a)) r e = let other : k ≡ Circular a.0 = a.1 in absurd (cc)
+no_roi k (inr (inr (inl a))) r e = let other : k ≡ File a.0 = a.1 in absurd (cc)
+no_roi k (inr (inr (inr a))) r e = let other : k ≡ Scatter = a in absurd (cc)
 
 pub roi_sound : (k : Kind) (r : RoiRule) → IsKind k → k ≡ Roi r → IsRoi r
 roi_sound k r sound is = subst IsKind is sound

@@ -16,7 +16,7 @@ use Rattle.nd_base.specs.declared.frame.FrameName.{FrameName}
 use Rattle.nd_base.specs.declared.graph.CircularRule.{CircularRule}
 use Rattle.nd_base.specs.declared.graph.Graph.{Graph}
 use Rattle.nd_base.specs.declared.graph.Kind.{Kind}
-use Rattle.nd_base.specs.declared.graph.Kind.TheVariants.{Roi, Stats, Circular, File}
+use Rattle.nd_base.specs.declared.graph.Kind.TheVariants.{Roi, Stats, Circular, File, Scatter}
 use Rattle.nd_base.specs.declared.graph.NodeRule.{NodeRule}
 use Rattle.nd_base.specs.declared.graph.RoiRule.{RoiRule}
 use Rattle.nd_base.specs.declared.plan.Maker.{Maker}
@@ -97,6 +97,7 @@ module _ {X Y : Type 0} (R : X → Y → Type 0) (f : RoiRule → X → X) (g : 
   by_kind-both (Stats r) x y h = h
   by_kind-both (Circular r) x y h = h
   by_kind-both (File r) x y h = h
+  by_kind-both Scatter x y h = h
 
   by_node-both : (n : Option NodeRule) (x : X) (y : Y) → R x y → R (by_node f n x) (by_node g n y)
   by_node-both None x y h = h
@@ -183,6 +184,7 @@ still_kind (Roi r) h = refl
 still_kind (Stats r) h = refl
 still_kind (Circular r) h = refl
 still_kind (File r) h = refl
+still_kind Scatter h = refl
 
 still : (n : Option NodeRule) (h : Head) → by_node (λ r x. x) n h ≡ h
 still None h = refl

@@ -4,5 +4,7 @@ pub mod PassingLaws
 pub mod Content
 pub mod Plans
 pub mod OneThread
+pub mod PlainRun
+pub mod PassedLaws
 pub mod ContentLaws
 pub mod Worked

@@ -1,19 +1,13 @@
 -- The nodes of a graph by number: the driver is 0, and the nodes are 1, 2, .. in the graph's order.
-use Rattle.std.specs.Prelude.{ℕ, zero, suc, Bool, true, false, List, length, filter, if◌then◌else◌}
+use Rattle.std.specs.Prelude.{ℕ, zero, suc, Bool, false, List, length, filter, if◌then◌else◌}
 use Rattle.std.specs.List.{range_with_len}
 use Rattle.std.specs.Option.{option_map_or}
 use Rattle.nd_base.specs.declared.graph.NodeRule.{NodeRule}
-use Rattle.nd_base.specs.declared.graph.Kind.{Kind}
-use Rattle.nd_base.specs.declared.graph.Kind.TheVariants.{Roi}
-use Rattle.nd_base.specs.GraphRules.{rule_at, input_of}
-
-abbrev pub is_roi : Kind → Bool
-is_roi (Roi r) = true
-is_roi _ = false
+use Rattle.nd_base.specs.GraphRules.{makes_arrays, rule_at, input_of}
 
 -- a region node, which makes arrays of its own
 abbrev pub is_region : List NodeRule → ℕ → Bool
-is_region nodes v = option_map_or (λ n. is_roi n.kind) (rule_at nodes v) false
+is_region nodes v = option_map_or (λ n. makes_arrays n.kind) (rule_at nodes v) false
 
 -- the numbers of the region nodes, in the graph's order
 abbrev pub regions : List NodeRule → List ℕ

@@ -5,7 +5,7 @@ use Rattle.std.specs.Option.{option_map_or}
 use Rattle.nd_base.specs.Array.{Array}
 use Rattle.nd_base.specs.declared.graph.NodeRule.{NodeRule}
 use Rattle.nd_base.specs.declared.graph.Kind.{Kind}
-use Rattle.nd_base.specs.declared.graph.Kind.TheVariants.{Stats, Circular, File}
+use Rattle.nd_base.specs.declared.graph.Kind.TheVariants.{Roi, Stats, Circular, File, Scatter}
 use Rattle.nd_base.specs.declared.graph.CircularRule.{CircularRule}
 use Rattle.nd_base.specs.declared.graph.StatsRule.{StatsRule}
 use Rattle.nd_base.specs.declared.measure.Measure.{Measure}
@@ -24,7 +24,10 @@ fires_at r arrays k = option_map_or (λ a. trigger_fires r a.attrs) (slice_get a
 -- other all
 abbrev pub kind_outputs : Kind → List Array → List ℕ → List ℕ
 kind_outputs (Circular r) arrays accepted = passed_items r.pre r.post r.preset (map (fires_at r arrays) accepted) accepted
-kind_outputs _ arrays accepted = accepted
+kind_outputs (Roi r) arrays accepted = accepted
+kind_outputs (Stats r) arrays accepted = accepted
+kind_outputs (File r) arrays accepted = accepted
+kind_outputs Scatter arrays accepted = accepted
 
 abbrev pub rule_outputs : Option NodeRule → List Array → List ℕ → List ℕ
 rule_outputs None arrays accepted = accepted
@@ -60,11 +63,17 @@ pub record OneThread : Type 0 where
 
 abbrev pub kind_measures : Kind → List Array → List Measure
 kind_measures (Stats r) xs = map (measure_of_array r) xs
-kind_measures _ xs = []
+kind_measures (Roi r) xs = []
+kind_measures (Circular r) xs = []
+kind_measures (File r) xs = []
+kind_measures Scatter xs = []
 
 abbrev pub kind_files : Kind → List Array → List (List Array)
 kind_files (File r) xs = groups r.count xs
-kind_files _ xs = []
+kind_files (Roi r) xs = []
+kind_files (Stats r) xs = []
+kind_files (Circular r) xs = []
+kind_files Scatter xs = []
 
 abbrev pub measures_of : Option NodeRule → List Array → List Measure
 measures_of None xs = []

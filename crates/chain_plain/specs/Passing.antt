@@ -2,14 +2,17 @@
 use Rattle.std.specs.Prelude.{ℕ, zero, suc, List, length, Option, Some, None}
 use Rattle.nd_base.specs.declared.graph.NodeRule.{NodeRule}
 use Rattle.nd_base.specs.declared.graph.Kind.{Kind}
-use Rattle.nd_base.specs.declared.graph.Kind.TheVariants.{Roi}
+use Rattle.nd_base.specs.declared.graph.Kind.TheVariants.{Roi, Stats, Circular, File, Scatter}
 use Rattle.nd_base.specs.declared.graph.RoiRule.{RoiRule}
 use Rattle.nd_base.specs.GraphRules.{input_of, rule_at}
 
 -- a region node cuts what comes to it, and every other passes it on as it is
 abbrev pub by_kind : {X : Type 0} → (RoiRule → X → X) → Kind → X → X
 by_kind cut (Roi r) x = cut r x
-by_kind cut _ x = x
+by_kind cut (Stats r) x = x
+by_kind cut (Circular r) x = x
+by_kind cut (File r) x = x
+by_kind cut Scatter x = x
 
 abbrev pub by_node : {X : Type 0} → (RoiRule → X → X) → Option NodeRule → X → X
 by_node cut None x = x

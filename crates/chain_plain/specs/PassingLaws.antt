@@ -5,11 +5,11 @@ use Rattle.std.proofs.Common.{◌⊎◌, inl, inr, ap, sym, arith, ◌∙◌}
 use Rattle.std.proofs.lemmas.Option.{slice_get_within}
 use Rattle.nd_base.specs.declared.graph.Graph.{Graph}
 use Rattle.nd_base.specs.declared.graph.Kind.{Kind}
-use Rattle.nd_base.specs.declared.graph.Kind.TheVariants.{Roi, Stats, Circular, File}
+use Rattle.nd_base.specs.declared.graph.Kind.TheVariants.{Roi, Stats, Circular, File, Scatter}
 use Rattle.nd_base.specs.declared.graph.NodeRule.{NodeRule}
 use Rattle.nd_base.specs.declared.graph.RoiRule.{RoiRule}
-use Rattle.nd_base.specs.GraphRules.{IsGraph, input_of, source_of, rule_at}
-use Rattle.chain_plain.specs.Nodes.{is_roi, is_region, maker_within, maker_at}
+use Rattle.nd_base.specs.GraphRules.{IsGraph, makes_arrays, input_of, source_of, rule_at}
+use Rattle.chain_plain.specs.Nodes.{is_region, maker_within, maker_at}
 use Rattle.chain_plain.specs.Passing.{by_kind, by_node, passed_on, out_of}
 
 -- a node that has a rule is one of the graph's
@@ -64,13 +64,14 @@ pub out_of-step : {X : Type 0} (cut : RoiRule → X → X) (g : Graph) (v : ℕ)
 out_of-step cut g v x sound = step_by cut g v x sound (rule_at g.nodes v) refl
 
 -- a node that is no region node passes on what comes to it
-kind_still : {X : Type 0} (cut : RoiRule → X → X) (k : Kind) (x : X) → is_roi k ≡ false → by_kind cut k x ≡ x
+kind_still : {X : Type 0} (cut : RoiRule → X → X) (k : Kind) (x : X) → makes_arrays k ≡ false → by_kind cut k x ≡ x
 kind_still cut (Roi r) x h = absurd (cc)
 kind_still cut (Stats r) x h = refl
 kind_still cut (Circular r) x h = refl
 kind_still cut (File r) x h = refl
+kind_still cut Scatter x h = refl
 
-node_still : {X : Type 0} (cut : RoiRule → X → X) (o : Option NodeRule) (x : X) → option_map_or (λ n. is_roi n.kind) o false ≡ false → by_node cut o x ≡ x
+node_still : {X : Type 0} (cut : RoiRule → X → X) (o : Option NodeRule) (x : X) → option_map_or (λ n. makes_arrays n.kind) o false ≡ false → by_node cut o x ≡ x
 node_still cut None x h = refl
 node_still cut (Some n) x h = kind_still cut n.kind x h
 
@@ -84,7 +85,7 @@ out_of-maker_within cut g (suc steps) v x sound h =
     out_of-maker_if cut g v (maker_within g.nodes steps (input_of g.nodes v)) x (is_region g.nodes v) sound refl (out_of-maker_within cut g steps (input_of g.nodes v) x sound h)
 
 pub is_region-none : (nodes : List NodeRule) (v : ℕ) → None ≡ rule_at nodes v → is_region nodes v ≡ false
-is_region-none nodes v h = ap (λ o. option_map_or (λ (n : NodeRule). is_roi n.kind) o false) (sym h)
+is_region-none nodes v h = ap (λ o. option_map_or (λ (n : NodeRule). makes_arrays n.kind) o false) (sym h)
 
 maker_within-driver : (nodes : List NodeRule) (steps : ℕ) → maker_within nodes steps 0 ≡ 0
 maker_within-driver nodes zero = refl

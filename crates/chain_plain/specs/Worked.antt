@@ -1,12 +1,13 @@
 -- Worked graphs: contents, plans and one-thread results that compute.
 use Rattle.std.specs.Prelude.{◌≡◌, ℕ, ℤ, pos, Bool, true, false, List, [], ◌∷◌, Some, None, codes, map, refl}
 use Rattle.nd_base.specs.Array.{Array, StackValue}
+use Rattle.nd_base.specs.declared.form.Form.TheVariants.{Classic}
 use Rattle.nd_base.specs.declared.array.Dim.{Dim}
 use Rattle.nd_base.specs.declared.array.SampleType.TheVariants.{UInt8, UInt16}
 use Rattle.nd_base.specs.declared.attribute.AttrValue.TheVariants.{Whole}
 use Rattle.nd_base.specs.declared.attribute.FileShape.{FileShape}
 use Rattle.nd_base.specs.declared.frame.FrameName.{FrameName}
-use Rattle.nd_base.specs.declared.graph.Calc.{A}
+use Rattle.nd_base.specs.Trees.{letter_a}
 use Rattle.nd_base.specs.declared.graph.Graph.{Graph}
 use Rattle.nd_base.specs.declared.graph.Kind.{Kind}
 use Rattle.nd_base.specs.declared.graph.Kind.TheVariants.{Roi, Stats, Circular, File}
@@ -21,7 +22,7 @@ abbrev side : ℕ → Dim
 side n = record { size = n; offset = pos 0; binning = pos 1; reverse = false }
 
 abbrev shape_of : List Dim → FileShape
-shape_of dims = record { kind = UInt8; dims = dims; attrs = []; width = 0; extras = [] }
+shape_of dims = record { form = Classic; kind = UInt8; dims = dims; attrs = []; width = 0; extras = [] }
 
 abbrev pub node : List ℕ → Kind → ℕ → NodeRule
 node name kind input = record { name = name; kind = kind; input = input; queue = 20; threads = 1; sort = 0; sort_time = 100 }
@@ -41,7 +42,7 @@ abbrev pub halved : List NodeRule
 halved =
     node (codes "roi") (Roi half) 0
     ∷ node (codes "st") (Stats (record { threshold = pos 0; border = 0; hist_size = 0; hist_lo = pos 0; hist_hi = pos 0; profiles = false })) 1
-    ∷ node (codes "cap") (File (record { mode = Capture; count = 5 })) 2
+    ∷ node (codes "cap") (File (record { mode = Capture; count = 5; form = Classic })) 2
     ∷ []
 
 the_makers_of_the_worked_graph : makers_of halved detector.shape ≡
@@ -105,7 +106,7 @@ shots = map shot (pos 1 ∷ pos 0 ∷ pos 0 ∷ pos 0 ∷ pos 0 ∷ pos 1 ∷ po
 
 -- two before each trigger and three from it on
 abbrev pub watched : ℕ → List NodeRule
-watched preset = node (codes "watch") (Circular (record { pre = 2; post = 3; preset = preset; trigger = A; a = codes "Gate"; b = [] })) 0 ∷ []
+watched preset = node (codes "watch") (Circular (record { pre = 2; post = 3; preset = preset; trigger = letter_a; a = codes "Gate"; b = [] })) 0 ∷ []
 
 abbrev with_gaps : List ℕ
 with_gaps = 0 ∷ 1 ∷ 3 ∷ 4 ∷ 5 ∷ 6 ∷ 8 ∷ 9 ∷ 10 ∷ 11 ∷ []
@@ -129,6 +130,6 @@ no_group_is_empty = refl
 no_arrays_no_groups : groups {X = ℕ} 2 [] ≡ []
 no_arrays_no_groups = refl
 
-a_file_of_two_arrays : (one_thread (node (codes "f") (File (record { mode = Capture; count = 5 })) 0 ∷ []) two_lines 1 (1 ∷ 0 ∷ [])).files
+a_file_of_two_arrays : (one_thread (node (codes "f") (File (record { mode = Capture; count = 5; form = Classic })) 0 ∷ []) two_lines 1 (1 ∷ 0 ∷ [])).files
     ≡ (line (pos 10 ∷ pos 20 ∷ pos 30 ∷ pos 40 ∷ pos 50 ∷ pos 60 ∷ pos 70 ∷ pos 80 ∷ []) ∷ line (pos 1 ∷ pos 2 ∷ pos 3 ∷ pos 4 ∷ pos 5 ∷ pos 6 ∷ pos 7 ∷ pos 8 ∷ []) ∷ []) ∷ []
 a_file_of_two_arrays = refl

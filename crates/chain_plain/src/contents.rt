@@ -15,7 +15,6 @@ use nd_base::{
     frame_bytes, rule_at, same_head,
 };
 use nd_roi::{fill_region, region};
-use nd_stack::array;
 use std::alloc::Global;
 
 /// The bytes of the region's samples, which are of this type and these dimensions.
@@ -72,12 +71,12 @@ fn array_out_of(
     ensures { IfOk result (λ a. option_map (out_of region graph.now.nodes node) (slice_get stack.now.arrays index) ≡ Some a) }
 {
     let Some(rule) = rule_at(graph.nodes.as_slice(), node) else {
-        return array(alloc, stack, index);
+        return stack.array(alloc, index);
     };
     let input = array_out_of(alloc, graph, rule.input, stack, index)?;
     match &rule.kind {
         Kind::Roi(roi) => region_of(alloc, roi, &input),
-        _ => Ok(input),
+        Kind::Stats(_) | Kind::Circular(_) | Kind::File(_) | Kind::Scatter => Ok(input),
     }
 }
 

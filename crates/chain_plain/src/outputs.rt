@@ -9,6 +9,13 @@ use nd_base::{CircularRule, Kind, OutOfMemory, Plan, Stack, rule_at};
 use std::alloc::Global;
 use trig_window::{Window, push_into, trigger_fires};
 
+/// All of the positions.
+fn all_of(alloc: Global, accepted: &[u32]) -> Result<Vec<u32>, OutOfMemory>
+    ensures { IfOk result (λ v. v.items ≡ accepted.now) }
+{
+    Ok(accepted.to_vec(alloc)?)
+}
+
 /// Those of the positions that lie in the rule's trigger windows.
 fn windowed(
     alloc: Global,
@@ -23,7 +30,7 @@ fn windowed(
     let mut window = Window::new(alloc, rule.pre, rule.post, rule.preset)?;
     let mut passed = Vec::new(alloc);
     for &position in accepted {
-        let fired = trigger_fires(rule, stack.head(position).attrs.as_slice());
+        let fired = trigger_fires(rule, &stack.head(position).attrs);
         push_into(&mut window, position, fired, &mut passed)?;
     }
     Ok(passed)
@@ -47,11 +54,11 @@ pub fn plain_outputs(
     requires accepted { All (λ k. k < length stack.now.arrays) accepted.now }
     ensures { IfOk result (λ v. v.items ≡ outputs plan.now.graph.nodes stack.now.arrays node accepted.now) }
 {
-    match rule_at(plan.graph.nodes.as_slice(), node) {
-        Some(rule) => match &rule.kind {
-            Kind::Circular(circular) => windowed(alloc, circular, stack, accepted),
-            _ => Ok(accepted.to_vec(alloc)?),
-        },
-        None => Ok(accepted.to_vec(alloc)?),
+    let Some(rule) = rule_at(plan.graph.nodes.as_slice(), node) else {
+        return all_of(alloc, accepted);
+    };
+    match &rule.kind {
+        Kind::Circular(circular) => windowed(alloc, circular, stack, accepted),
+        Kind::Roi(_) | Kind::Stats(_) | Kind::File(_) | Kind::Scatter => all_of(alloc, accepted),
     }
 }

@@ -7,7 +7,7 @@ ghost use Rattle.chain_plain.specs.Nodes.{maker_at};
 ghost use Rattle.chain_plain.specs.Plans.{maker_of, makers_of, shape_at, plan_of};
 
 use crate::shape::shape_at;
-use nd_base::{FileShape, Graph, Kind, Maker, OutOfMemory, Plan, Seq, Stack, frame_bytes, rule_at};
+use nd_base::{FileShape, Graph, Maker, OutOfMemory, Plan, Seq, Stack, frame_bytes, rule_at};
 use std::alloc::Global;
 
 /// The ids of the stack's frames.
@@ -53,7 +53,7 @@ fn makers_of(alloc: Global, graph: &Graph, shape: &FileShape) -> Result<Vec<Make
 {
     let mut makers = vec![in alloc; maker_at(alloc, graph, shape, 0)?]?;
     for (place, rule) in graph.nodes.as_slice().iter().enumerate() {
-        if let Kind::Roi(_) = &rule.kind {
+        if rule.kind.makes_arrays() {
             makers.push(maker_at(alloc, graph, shape, place as u32 + 1)?)?;
         }
     }
@@ -68,10 +68,10 @@ fn maker_number(graph: &Graph, node: u32) -> u32
     let Some(rule) = rule_at(graph.nodes.as_slice(), node) else {
         return 0;
     };
-    match &rule.kind {
-        Kind::Roi(_) => node,
-        _ => maker_number(graph, rule.input),
+    if rule.kind.makes_arrays() {
+        return node;
     }
+    maker_number(graph, rule.input)
 }
 
 /// The first of these makers that is this node.

@@ -56,6 +56,6 @@ pub(crate) fn shape_at(
     let input = shape_at(alloc, graph, shape, rule.input)?;
     match &rule.kind {
         Kind::Roi(roi) => region_shape(alloc, roi, &input),
-        _ => Ok(input),
+        Kind::Stats(_) | Kind::Circular(_) | Kind::File(_) | Kind::Scatter => Ok(input),
     }
 }

@@ -11,20 +11,20 @@ use crate::{content, maker_for, plain_outputs, plan, region_of};
 use graphs::{half, halved, three, watched};
 use nd_base::SampleType::{UInt8, UInt16};
 use nd_base::{
-    Attr, AttrValue, Bytes, Dim, FileShape, FrameName, Graph, Head, Name, NdArray, Plan,
-    SampleType, Seq, ShapeFault, Stack,
+    Attr, AttrValue, Attrs, Bytes, Dim, FileShape, Form, FrameName, Graph, Head, Name, NdArray,
+    Plan, SampleType, Seq, ShapeFault, Stack,
 };
 use std::alloc::{AllocError, Global};
 use std::test::Fail;
 
 /// A head of this id with these attributes.
-fn head(id: i32, attrs: Vec<Attr>) -> Head {
+fn head(id: i32, attrs: Attrs) -> Head {
     Head {
         id,
         stamp: 0,
         sec: 0,
         nsec: 0,
-        attrs: Seq::new(attrs),
+        attrs,
     }
 }
 
@@ -52,7 +52,7 @@ fn is_frame(alloc: Global, kind: SampleType, dims: &[Dim], bytes: usize) -> Resu
     let Ok(samples) = vec![in alloc; 0u8; bytes] else {
         return Err(ShapeFault::OutOfMemory);
     };
-    NdArray::new(alloc, head(0, Vec::new(alloc)), kind, dims, samples)?;
+    NdArray::new(alloc, head(0, Attrs::none(alloc)), kind, dims, samples)?;
     Ok(())
 }
 
@@ -65,6 +65,7 @@ fn stack_of(alloc: Global, sizes: &[u32], heads: Vec<Head>, bytes: Vec<u8>) -> R
         return Err(Fail::from("not whole frames"));
     }
     let shape = FileShape {
+        form: Form::Classic,
         kind: UInt8,
         dims: Seq::new(dims),
         attrs: Seq::new(Vec::new(alloc)),
@@ -136,7 +137,7 @@ fn detector(alloc: Global) -> Result<Stack, Fail> {
     let mut heads = Vec::new(alloc);
     let mut bytes = Vec::new(alloc);
     for k in 0..5u8 {
-        heads.push(head(i32::from(k) + 1, Vec::new(alloc)))?;
+        heads.push(head(i32::from(k) + 1, Attrs::none(alloc)))?;
         bytes.append(&mut vec![in alloc; k; 307_200]?)?;
     }
     stack_of(alloc, &[640, 480], heads, bytes)
@@ -239,7 +240,7 @@ fn halves_one_array_as_the_graph_does(rt: HostRuntime) -> Result<(), Fail> {
 
 /// Two lines of eight.
 fn lines(alloc: Global, sizes: &[u32]) -> Result<Stack, Fail> {
-    let heads = vec![in alloc; head(7, Vec::new(alloc)), head(8, Vec::new(alloc))]?;
+    let heads = vec![in alloc; head(7, Attrs::none(alloc)), head(8, Attrs::none(alloc))]?;
     let bytes = Vec::from_slice(
         alloc,
         &[1, 2, 3, 4, 5, 6, 7, 8, 10, 20, 30, 40, 50, 60, 70, 80],
@@ -321,7 +322,8 @@ fn gated(alloc: Global, gates: &[i32]) -> Result<Stack, Fail> {
     for &gate in gates {
         let name = Name::new(String::from_str(alloc, "Gate")?);
         let value = AttrValue::Whole(gate);
-        heads.push(head(1, vec![in alloc; Attr { name, value }]?))?;
+        let attrs = Attrs::of(alloc, vec![in alloc; Attr { name, value }]?)?;
+        heads.push(head(1, attrs))?;
     }
     stack_of(alloc, &[1], heads, vec![in alloc; 0u8; gates.len()]?)
 }

@@ -2,6 +2,7 @@
 use Rattle.std.specs.Prelude.{◌≡◌, ℕ, ◌*◌, ◌≤◌, pos, false, List, [], ◌∷◌, length, map, refl}
 use Rattle.std.proofs.Common.{ap, arith}
 use Rattle.std.proofs.lemmas.List.Elements.{All-nil}
+use Rattle.nd_base.specs.declared.form.Form.TheVariants.{Classic}
 use Rattle.nd_base.specs.declared.array.Dim.{Dim}
 use Rattle.nd_base.specs.declared.array.Head.{Head}
 use Rattle.nd_base.specs.declared.array.SampleType.TheVariants.{UInt8}
@@ -15,7 +16,7 @@ abbrev pub plain_dim : Dim
 plain_dim = record { size = 2; offset = pos 0; binning = pos 1; reverse = false }
 
 abbrev pub two_by_two : FileShape
-two_by_two = record { kind = UInt8; dims = plain_dim ∷ plain_dim ∷ []; attrs = []; width = 256; extras = [] }
+two_by_two = record { form = Classic; kind = UInt8; dims = plain_dim ∷ plain_dim ∷ []; attrs = []; width = 256; extras = [] }
 
 pub two_by_two-IsWritable : IsWritable two_by_two
 two_by_two-IsWritable = record {

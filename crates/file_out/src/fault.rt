@@ -3,12 +3,15 @@
 use edge_traits::Failed;
 use nd_base::OutOfMemory;
 use std::alloc::AllocError;
+use thiserror::Error;
 
 /// Why a call didn't write what it was to write.
-#[derive(Clone, Copy, Debug, PartialEq, Eq)]
+#[derive(Clone, Copy, Debug, PartialEq, Eq, Error)]
 pub enum SaveFault {
     /// The shelf failed.
+    #[error("a write failed")]
     Failed,
+    #[error("out of memory")]
     OutOfMemory,
 }
 

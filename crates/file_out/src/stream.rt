@@ -68,6 +68,7 @@ fn same_shape(shape: &FileShape) -> Result<FileShape, OutOfMemory>
     ensures { IfOk result (λ s. s ≡ shape.now) }
 {
     Ok(FileShape {
+        form: shape.form,
         kind: shape.kind,
         dims: shape.dims.clone()?,
         attrs: shape.attrs.clone()?,

@@ -7,7 +7,7 @@ ghost use Rattle.file_out.specs.Streams.{IsRow};
 
 use crate::{Row, SaveFault, StreamFile, save_group};
 use edge_traits::{MemShelf, Shelf};
-use nd_base::{Bytes, Dim, FileShape, Head, SampleType, Seq};
+use nd_base::{Attrs, Bytes, Dim, FileShape, Form, Head, SampleType, Seq};
 use std::alloc::{AllocError, Global};
 use std::test::Fail;
 
@@ -60,6 +60,7 @@ fn shape_of_both(alloc: Global) -> Result<FileShape, AllocError>
         reverse: false,
     };
     Ok(FileShape {
+        form: Form::Classic,
         kind: SampleType::UInt8,
         dims: Seq::new(vec![in alloc; dim, dim]?),
         attrs: Seq::new(Vec::new(alloc)),
@@ -78,7 +79,7 @@ fn frame(alloc: Global, id: i32, samples: [u8; 4]) -> Result<Row, AllocError>
             stamp: 0,
             sec: 0,
             nsec: 0,
-            attrs: Seq::new(Vec::new(alloc)),
+            attrs: Attrs::none(alloc),
         },
         samples: Bytes::new(samples.to_vec(alloc)?),
     })
@@ -89,10 +90,9 @@ fn both(alloc: Global) -> Result<Vec<Row>, AllocError>
     ensures each { IfOk result (λ rows. All (λ r. IsRow two_by_two r.head r.samples) rows.items) }
     ensures count { IfOk result (λ rows. length rows.items ≡ 2) }
 {
-    let mut rows = Vec::new(alloc);
-    rows.push(frame(alloc, 1, [1, 2, 3, 4])?)?;
-    rows.push(frame(alloc, 2, [5, 6, 7, 8])?)?;
-    Ok(rows)
+    let first = frame(alloc, 1, [1, 2, 3, 4])?;
+    let second = frame(alloc, 2, [5, 6, 7, 8])?;
+    Ok(vec![in alloc; first, second]?)
 }
 
 /// Saves both frames as a group.

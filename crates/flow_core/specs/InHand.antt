@@ -17,14 +17,14 @@ at v a = record { node = v; name = a }
 abbrev pub hand_name : Option Entry → Option HandName
 hand_name (Some (entry.Load r k b n f g x)) = Some (at 0 (frame 0 k))
 hand_name (Some (entry.Take r v m k)) = Some (at v (frame m k))
-hand_name (Some (entry.TakeBlock r v m k b n f g x)) = Some (at v (frame m k))
+hand_name (Some (entry.TakeBlock f x r v m k b n g)) = Some (at v (frame m k))
 hand_name (Some (entry.Save r v m k g)) = Some (at v (frame m k))
 hand_name _ = None
 
 -- the node of a hand, or 0 without one
 abbrev pub hand_node : Option Entry → ℕ
 hand_node (Some (entry.Take r v m k)) = v
-hand_node (Some (entry.TakeBlock r v m k b n f g x)) = v
+hand_node (Some (entry.TakeBlock f x r v m k b n g)) = v
 hand_node (Some (entry.Save r v m k g)) = v
 hand_node _ = 0
 

@@ -2,6 +2,7 @@
 use Rattle.std.specs.Prelude.{◌≡◌, ℕ, ◌≤◌, ℤ, Bool, List, [], ◌∷◌, length, map, codes, IsTrue, pos, false}
 use Rattle.nd_base.specs.Array.{Array, StackValue}
 use Rattle.nd_base.specs.GraphRules.{IsGraph}
+use Rattle.nd_base.specs.declared.form.Form.TheVariants.{Classic}
 use Rattle.nd_base.specs.declared.array.Dim.{Dim}
 use Rattle.nd_base.specs.declared.array.SampleType.TheVariants.{UInt8}
 use Rattle.nd_base.specs.declared.attribute.FileShape.{FileShape}
@@ -17,14 +18,14 @@ worked_graph wait count =
     record {
       wait = wait;
       limit = 0;
-      nodes = record { name = codes "cap"; kind = File (record { mode = Capture; count = count }); input = 0; queue = 1; threads = 1; sort = 0; sort_time = 100 } ∷ [];
+      nodes = record { name = codes "cap"; kind = File (record { mode = Capture; count = count; form = Classic }); input = 0; queue = 1; threads = 1; sort = 0; sort_time = 100 } ∷ [];
     }
 
 abbrev pub side : Dim
 side = record { size = 2; offset = pos 0; binning = pos 1; reverse = false }
 
 abbrev pub worked_shape : FileShape
-worked_shape = record { kind = UInt8; dims = side ∷ side ∷ []; attrs = []; width = 0; extras = [] }
+worked_shape = record { form = Classic; kind = UInt8; dims = side ∷ side ∷ []; attrs = []; width = 0; extras = [] }
 
 abbrev pub worked_array : ℤ → Array
 worked_array id = record { id = id; stamp = 0; sec = pos 0; nsec = pos 0; kind = UInt8; dims = side ∷ side ∷ []; samples = []; attrs = [] }

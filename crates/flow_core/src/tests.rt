@@ -8,7 +8,9 @@ use crate::{
 };
 use flow_journal::{Entry, Log, Why};
 use nd_base::SampleType::UInt8;
-use nd_base::{Dim, FileRule, FrameName, Graph, Kind, Maker, Mode, Name, NodeRule, Plan, Run, Seq};
+use nd_base::{
+    Dim, FileRule, Form, FrameName, Graph, Kind, Maker, Mode, Name, NodeRule, Plan, Run, Seq,
+};
 use std::alloc::{AllocError, Global};
 use std::marker::Brand;
 use std::test::Fail;
@@ -21,6 +23,7 @@ fn graph(alloc: Global, wait: bool, count: u32) -> Result<Graph, AllocError>
         name: Name::new(String::from_str(alloc, "cap")?),
         kind: Kind::File(FileRule {
             mode: Mode::Capture,
+            form: Form::Classic,
             count,
         }),
         input: 0,

@@ -35,13 +35,13 @@ first_of-few (b ∷ bs) = omega arith
 
 block_others : (e : Entry) (P : Past) (a : FrameName) → moves_blocks e ≡ false → block_of (e ∷ P) a ≡ block_of P a
 block_others (Load r k b n f g x) P a h = absurd (true≢false h)
-block_others (TakeBlock r v m k b n f g x) P a h = absurd (true≢false h)
+block_others (TakeBlock f x r v m k b n g) P a h = absurd (true≢false h)
 block_others (Reclaim r) P a h = absurd (true≢false h)
 block_others _ P a h = refl
 
 none_granted : (e : Entry) (a : FrameName) → moves_blocks e ≡ false → granted_for a e ≡ []
 none_granted (Load r k b n f g x) a h = absurd (true≢false h)
-none_granted (TakeBlock r v m k b n f g x) a h = absurd (true≢false h)
+none_granted (TakeBlock f x r v m k b n g) a h = absurd (true≢false h)
 none_granted _ a h = refl
 
 block-reclaimed : (s : Setting) (r : ℕ) (e : Entry) (P : Past) (a : FrameName) → is_legal s P ≡ true → hand r P ≡ Some e → granted_for a e ≡ [] → block_of (Reclaim r ∷ P) a ≡ block_of P a
@@ -51,7 +51,7 @@ block-reclaimed s r e P a legal held none = ap first_of (flat-let_go (granted_fo
 newest_load : (s : Setting) (r k b n : ℕ) (f : Bool) (g : ℕ) (x : Bool) (P : Past) → is_legal s (Load r k b n f g x ∷ P) ≡ true → block_of (Load r k b n f g x ∷ P) (frame 0 k) ≡ b ∷ []
 newest_load s r k b n f g x P h = ap (λ (c : Bool). first_of (cond c (b ∷ []) [] ++ flat_map (granted_for (frame 0 k)) (standing P))) (same_refl (frame 0 k))
 
-newest_block : (s : Setting) (r v m k b n : ℕ) (f : Bool) (g : ℕ) (x : Bool) (P : Past) → is_legal s (TakeBlock r v m k b n f g x ∷ P) ≡ true → block_of (TakeBlock r v m k b n f g x ∷ P) (frame v k) ≡ b ∷ []
+newest_block : (s : Setting) (r v m k b n : ℕ) (f : Bool) (g : ℕ) (x : Bool) (P : Past) → is_legal s (TakeBlock f x r v m k b n g ∷ P) ≡ true → block_of (TakeBlock f x r v m k b n g ∷ P) (frame v k) ≡ b ∷ []
 newest_block s r v m k b n f g x P h = ap (λ (c : Bool). first_of (cond c (b ∷ []) [] ++ flat_map (granted_for (frame v k)) (standing P))) (same_refl (frame v k))
 
 held_load : (s : Setting) (r q k b n : ℕ) (f : Bool) (g : ℕ) (x : Bool) (P : Past) → is_legal s P ≡ true → hand r P ≡ Some (Load q k b n f g x) → block_of P (frame 0 k) ≡ b ∷ []
@@ -60,11 +60,11 @@ held_load s r q k b n f g x P legal held =
     let mine : hand r P ≡ Some (Load r k b n f g x) = subst (λ (p : ℕ). hand r P ≡ Some (Load p k b n f g x)) own held in
     load-block s P r k b n f g x legal (hand-standing s P r (Load r k b n f g x) legal mine)
 
-held_block : (s : Setting) (r q v m k b n : ℕ) (f : Bool) (g : ℕ) (x : Bool) (P : Past) → is_legal s P ≡ true → hand r P ≡ Some (TakeBlock q v m k b n f g x) → block_of P (frame v k) ≡ b ∷ []
+held_block : (s : Setting) (r q v m k b n : ℕ) (f : Bool) (g : ℕ) (x : Bool) (P : Past) → is_legal s P ≡ true → hand r P ≡ Some (TakeBlock f x q v m k b n g) → block_of P (frame v k) ≡ b ∷ []
 held_block s r q v m k b n f g x P legal held =
-    let own : q ≡ r = eqb-true q r (found_up (takes_up r) (TakeBlock q v m k b n f g x) (hands P) held) in
-    let mine : hand r P ≡ Some (TakeBlock r v m k b n f g x) = subst (λ (p : ℕ). hand r P ≡ Some (TakeBlock p v m k b n f g x)) own held in
-    take-block s P r v m k b n f g x legal (hand-standing s P r (TakeBlock r v m k b n f g x) legal mine)
+    let own : q ≡ r = eqb-true q r (found_up (takes_up r) (TakeBlock f x q v m k b n g) (hands P) held) in
+    let mine : hand r P ≡ Some (TakeBlock f x r v m k b n g) = subst (λ (p : ℕ). hand r P ≡ Some (TakeBlock f x p v m k b n g)) own held in
+    take-block s P r v m k b n f g x legal (hand-standing s P r (TakeBlock f x r v m k b n g) legal mine)
 
 pub block_laws : BlockLaws
 block_laws = record {
@@ -76,7 +76,7 @@ block_laws = record {
   in_hand_load = held_load;
   in_hand_block = held_block;
   reclaim_load = λ s r q k b n f g x P a legal held h. block-reclaimed s r (Load q k b n f g x) P a legal held (ap (λ (c : Bool). cond c (b ∷ []) []) h);
-  reclaim_block = λ s r q v m k b n f g x P a legal held h. block-reclaimed s r (TakeBlock q v m k b n f g x) P a legal held (ap (λ (c : Bool). cond c (b ∷ []) []) h);
+  reclaim_block = λ s r q v m k b n f g x P a legal held h. block-reclaimed s r (TakeBlock f x q v m k b n g) P a legal held (ap (λ (c : Bool). cond c (b ∷ []) []) h);
   reclaim_other = λ s r e P a legal held h. block-reclaimed s r e P a legal held (none_granted e a h);
   others = block_others;
 }
@@ -116,9 +116,9 @@ load-count s r k c n f g x P b h =
     let whole : total u s (e ∷ P) ≡ bit (u (frame 0 k)) + total u s P = omega arith in
     omega (arith, refs-total s b (e ∷ P) h, whole, ap bit (made ∙ or-false (eqb c b)), others, before s e P b h, one_among b c)
 
-take_block-count : (s : Setting) (r v m k c n : ℕ) (f : Bool) (g : ℕ) (x : Bool) (P : Past) (b : ℕ) → is_legal s (TakeBlock r v m k c n f g x ∷ P) ≡ true → refs s (TakeBlock r v m k c n f g x ∷ P) b ≡ refs s P b + times_among b (c ∷ [])
+take_block-count : (s : Setting) (r v m k c n : ℕ) (f : Bool) (g : ℕ) (x : Bool) (P : Past) (b : ℕ) → is_legal s (TakeBlock f x r v m k c n g ∷ P) ≡ true → refs s (TakeBlock f x r v m k c n g ∷ P) b ≡ refs s P b + times_among b (c ∷ [])
 take_block-count s r v m k c n f g x P b h =
-    let e : Entry = TakeBlock r v m k c n f g x in
+    let e : Entry = TakeBlock f x r v m k c n g in
     let t : FrameName → Bool = has (is_number b) P in
     let u : FrameName → Bool = has (is_number b) (e ∷ P) in
     let made : u (frame v k) ≡ list_any (is_number b) (c ∷ []) = ap (list_any (is_number b)) (newest_block s r v m k c n f g x P h) in
@@ -136,9 +136,9 @@ reclaim_load-count s r q k c n f g x P b h held =
     let others : total u s (Reclaim r ∷ P) ≡ total t s (Reclaim r ∷ P) = tests-same u t (frame 0 k) s (Reclaim r ∷ P) (λ a other. ap (list_any (is_number b)) (block_laws.reclaim_load s r q k c n f g x P a legal held other)) (reclaimed-nowhere s r q k c n f g x P h held) in
     omega (arith, refs-total s b (Reclaim r ∷ P) h, refs-total s b P legal, total-reclaim t s r e P h held, others, ap bit (made ∙ or-false (eqb c b)), one_among b c)
 
-reclaim_block-count : (s : Setting) (r q v m k c n : ℕ) (f : Bool) (g : ℕ) (x : Bool) (P : Past) (b : ℕ) → is_legal s (Reclaim r ∷ P) ≡ true → hand r P ≡ Some (TakeBlock q v m k c n f g x) → refs s P b ≡ refs s (Reclaim r ∷ P) b + times_among b (c ∷ [])
+reclaim_block-count : (s : Setting) (r q v m k c n : ℕ) (f : Bool) (g : ℕ) (x : Bool) (P : Past) (b : ℕ) → is_legal s (Reclaim r ∷ P) ≡ true → hand r P ≡ Some (TakeBlock f x q v m k c n g) → refs s P b ≡ refs s (Reclaim r ∷ P) b + times_among b (c ∷ [])
 reclaim_block-count s r q v m k c n f g x P b h held =
-    let e : Entry = TakeBlock q v m k c n f g x in
+    let e : Entry = TakeBlock f x q v m k c n g in
     let legal : is_legal s P ≡ true = (and_parts _ _ h).0 in
     let t : FrameName → Bool = has (is_number b) P in
     let u : FrameName → Bool = has (is_number b) (Reclaim r ∷ P) in
@@ -155,7 +155,7 @@ reclaim_other-count s r e P b h held none =
   where
     nothing_made : (t : FrameName → Bool) (e : Entry) → moves_blocks e ≡ false → made_in t e ≡ 0
     nothing_made t (Load r k b n f g x) h = absurd (true≢false h)
-    nothing_made t (TakeBlock r v m k b n f g x) h = absurd (true≢false h)
+    nothing_made t (TakeBlock f x r v m k b n g) h = absurd (true≢false h)
     nothing_made t _ h = refl
 
 stands_in_hand : (s : Setting) (r : ℕ) (d : Entry) (P : Past) → is_legal s P ≡ true → hand r P ≡ Some d → Stands P d
@@ -204,5 +204,5 @@ count_laws = record {
 
 pub known_others : (s : Setting) (e : Entry) (P : Past) → grants e ≡ false → known s (e ∷ P) ≡ known s P
 known_others s (Load r k b n f g x) P h = absurd (true≢false h)
-known_others s (TakeBlock r v m k b n f g x) P h = absurd (true≢false h)
+known_others s (TakeBlock f x r v m k b n g) P h = absurd (true≢false h)
 known_others s _ P h = refl

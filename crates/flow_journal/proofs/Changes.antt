@@ -16,7 +16,8 @@ use Rattle.flow_journal.specs.Puts.{puts, firings}
 use Rattle.flow_journal.specs.Waiting.{waiting}
 use Rattle.flow_journal.specs.Rings.{ring_of, ring}
 use Rattle.flow_journal.specs.Unsaved.{standing_saves, unsaved}
-use Rattle.flow_journal.specs.Breaks.{prev_of, outs, prev, keeps_step, breaks_of, breaks}
+use Rattle.queue_sort.specs.Sorting.{keeps_step}
+use Rattle.flow_journal.specs.Breaks.{prev_of, outs, prev, breaks_of, breaks}
 use Rattle.flow_journal.specs.FirstEntries.{first, may_take, pool_grants, pool_refuses}
 use Rattle.flow_journal.specs.Histories.{is_legal}
 use Rattle.flow_journal.specs.EntryLaws.{moves_queues, QueueLaws, lets_go, HandLaws, offers, offers_frames, OfferLaws, is_put, moves_lists, PutLaws, moves_rings, RingLaws, moves_saves, changes_saves, SaveLaws, moves_hands, JobLaws, lets_out, ticks, ClockLaws, BreakLaws, RoleLaws}
@@ -34,14 +35,14 @@ use Rattle.flow_journal.proofs.Rows.{taken_front}
 queue_others : (v : ℕ) (e : Entry) (P : Past) → moves_queues e ≡ false → queued v (e ∷ P) ≡ queued v P
 queue_others v (Accept w m k) P h = absurd (true≢false h)
 queue_others v (Take r w m k) P h = absurd (true≢false h)
-queue_others v (TakeBlock r w m k b n f g x) P h = absurd (true≢false h)
+queue_others v (TakeBlock f x r w m k b n g) P h = absurd (true≢false h)
 queue_others v (PoolDrop r w m k n z) P h = absurd (true≢false h)
 queue_others v (Reclaim r) P h = absurd (true≢false h)
 queue_others v _ P h = refl
 
 no_job : (v : ℕ) (e : Entry) → is_job v e ≡ false → job_array v (Some e) ≡ []
 no_job v (Take r w m k) h = rw h refl
-no_job v (TakeBlock r w m k b n f g x) h = rw h refl
+no_job v (TakeBlock f x r w m k b n g) h = rw h refl
 no_job v _ h = refl
 
 pub queue_laws : QueueLaws
@@ -63,7 +64,7 @@ queue_laws = record {
 hand_up : (r : ℕ) (e : Entry) (P : Past) → takes_up r e ≡ true → hand r (e ∷ P) ≡ Some e
 hand_up r (Load q k b n f g x) P h = rw h refl
 hand_up r (Take q v m k) P h = rw h refl
-hand_up r (TakeBlock q v m k b n f g x) P h = rw h refl
+hand_up r (TakeBlock f x q v m k b n g) P h = rw h refl
 hand_up r (Save q v m k g) P h = rw h refl
 hand_up r _ P h = absurd (false≢true h)
 
@@ -80,7 +81,7 @@ hand_down s r _ P h u = absurd (false≢true u)
 hand_others : (r : ℕ) (e : Entry) (P : Past) → takes_up r e ≡ false → lets_go r e ≡ false → hand r (e ∷ P) ≡ hand r P
 hand_others r (Load q k b n f g x) P u l = rw u refl
 hand_others r (Take q v m k) P u l = rw u refl
-hand_others r (TakeBlock q v m k b n f g x) P u l = rw u refl
+hand_others r (TakeBlock f x q v m k b n g) P u l = rw u refl
 hand_others r (Save q v m k g) P u l = rw u refl
 hand_others r (Issue q k) P u l = find-let_go q r (hands P) (eqb-false q r l)
 hand_others r (Put q v m k f) P u l = find-let_go q r (hands P) (eqb-false q r l)
@@ -207,7 +208,7 @@ save_laws = record {
 hands-up : (r : ℕ) (e : Entry) (P : Past) → takes_up r e ≡ true → hands (e ∷ P) ≡ e ∷ hands P
 hands-up r (Load q k b n f g x) P h = refl
 hands-up r (Take q v m k) P h = refl
-hands-up r (TakeBlock q v m k b n f g x) P h = refl
+hands-up r (TakeBlock f x q v m k b n g) P h = refl
 hands-up r (Save q v m k g) P h = refl
 hands-up r _ P h = absurd (false≢true h)
 
@@ -227,7 +228,7 @@ counts-down p r e d P down held = count-let_go p r e (hands P) held ∙ ap (λ (
 hands_others : (e : Entry) (P : Past) → moves_hands e ≡ false → hands (e ∷ P) ≡ hands P
 hands_others (Load q k b n f g x) P h = absurd (true≢false h)
 hands_others (Take q v m k) P h = absurd (true≢false h)
-hands_others (TakeBlock q v m k b n f g x) P h = absurd (true≢false h)
+hands_others (TakeBlock f x q v m k b n g) P h = absurd (true≢false h)
 hands_others (Save q v m k g) P h = absurd (true≢false h)
 hands_others (Issue q k) P h = absurd (true≢false h)
 hands_others (Put q v m k f) P h = absurd (true≢false h)

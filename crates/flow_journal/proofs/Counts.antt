@@ -62,7 +62,7 @@ hand-standing s (Load q k b n f g x ∷ P) r e l h =
     elim (cases_Bool (eqb q r)) [ inl here ↦ rw here (rw here at h) | inr away ↦ rw away (hand-standing s P r e (and_parts _ _ l).0 (rw away at h)) ]
 hand-standing s (Take q v m k ∷ P) r e l h =
     elim (cases_Bool (eqb q r)) [ inl here ↦ rw here (rw here at h) | inr away ↦ rw away (hand-standing s P r e (and_parts _ _ l).0 (rw away at h)) ]
-hand-standing s (TakeBlock q v m k b n f g x ∷ P) r e l h =
+hand-standing s (TakeBlock f x q v m k b n g ∷ P) r e l h =
     elim (cases_Bool (eqb q r)) [ inl here ↦ rw here (rw here at h) | inr away ↦ rw away (hand-standing s P r e (and_parts _ _ l).0 (rw away at h)) ]
 hand-standing s (Save q v m k g ∷ P) r e l h =
     elim (cases_Bool (eqb q r)) [ inl here ↦ rw here (rw here at h) | inr away ↦ rw away (hand-standing s P r e (and_parts _ _ l).0 (rw away at h)) ]
@@ -77,7 +77,7 @@ hand-standing s (_ ∷ P) r e l h = hand-standing s P r e (and_parts _ _ l).0 h
 gone-job : (v r : ℕ) (e : Entry) → takes_up r e ≡ true → gone_at v e ≡ job_array v (Some e)
 gone-job v r (Load q k b n f g x) h = refl
 gone-job v r (Take q w m k) h = refl
-gone-job v r (TakeBlock q w m k b n f g x) h = refl
+gone-job v r (TakeBlock f x q w m k b n g) h = refl
 gone-job v r (Save q w m k g) h = refl
 gone-job v r _ h = absurd (false≢true h)
 
@@ -111,9 +111,9 @@ queued-by s (Take r w m k ∷ P) v t h =
     let front : is_next (frame m k) (queued w P) ≡ true = (and_parts _ _ (and_parts _ _ may).0).1 in
     let gone = times-append t (comes_at v w (frame m k) []) (flat_map (gone_at v) (standing P)) in
     omega (arith, rest, gone, times-goes v w t (frame m k) P front)
-queued-by s (TakeBlock r w m k b n f g x ∷ P) v t h =
+queued-by s (TakeBlock f x r w m k b n g ∷ P) v t h =
     let rest = queued-by s P v t (and_parts _ _ h).0 in
-    let may : may_take s r w (frame m k) P ≡ true = (and_parts _ _ (and_parts _ _ (row_of s (TakeBlock r w m k b n f g x) P (λ d. refl) h)).0).0 in
+    let may : may_take s r w (frame m k) P ≡ true = (and_parts _ _ (and_parts _ _ (row_of s (TakeBlock f x r w m k b n g) P (λ d. refl) h)).0).0 in
     let front : is_next (frame m k) (queued w P) ≡ true = (and_parts _ _ (and_parts _ _ may).0).1 in
     let gone = times-append t (comes_at v w (frame m k) []) (flat_map (gone_at v) (standing P)) in
     omega (arith, rest, gone, times-goes v w t (frame m k) P front)

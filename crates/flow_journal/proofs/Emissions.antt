@@ -139,7 +139,7 @@ no_outs_in_offers v t a (c ∷ cs) = no_outs_in_offers v t a cs
 
 pub result-sorted : (s : Setting) (v : ℕ) (a : FrameName) (f : Bool) (P : Past) (w : Work) → may_sort w ≡ true → is_sorted s v ≡ true → result s v a f P w ≡ sorted_result s v a (waiting s v P) (Put 0 v a.maker a.index f ∷ P)
 result-sorted s v a f P Makes h sorted = rw sorted refl
-result-sorted s v a f P Passes h sorted = rw sorted refl
+result-sorted s v a f P (Passes d) h sorted = rw sorted refl
 result-sorted s v a f P (Watches pre post preset) h sorted = absurd (false≢true h)
 result-sorted s v a f P (Saves whole n) h sorted = absurd (false≢true h)
 
@@ -320,7 +320,7 @@ cond-le false m n h = omega arith
 -- what a put sends out and leaves in the ring
 result-unsorted : (s : Setting) (v k : ℕ) (a : FrameName) (f : Bool) (P : Past) (w : Work) → is_sorted s v ≡ false → length (firings v P) ≡ length (puts v P) → count (of_index k) (ring s v P) ≤ count (of_index k) (ring_of w (firings v P) (puts v P)) → count (emits_at v k) (result s v a f P w) + count (of_index k) (ring_of w (firings v P ++ f ∷ []) (puts v P ++ a ∷ [])) ≤ bit (of_index k a) + count (of_index k) (ring_of w (firings v P) (puts v P))
 result-unsorted s v k a f P Makes u long le = let plain : result s v a f P Makes ≡ emit v Plain a ∷ [] = rw u refl in omega (arith, ap (count (emits_at v k)) plain, emits-one v k Plain a)
-result-unsorted s v k a f P Passes u long le = let plain : result s v a f P Passes ≡ emit v Plain a ∷ [] = rw u refl in omega (arith, ap (count (emits_at v k)) plain, emits-one v k Plain a)
+result-unsorted s v k a f P (Passes d) u long le = let plain : result s v a f P (Passes d) ≡ emit v Plain a ∷ [] = rw u refl in omega (arith, ap (count (emits_at v k)) plain, emits-one v k Plain a)
 result-unsorted s v k a f P (Saves whole n) u long le = omega arith
 result-unsorted s v k a f P (Watches pre post preset) u long le =
     let flags : List Bool = firings v P in
@@ -332,7 +332,7 @@ result-unsorted s v k a f P (Watches pre post preset) u long le =
 
 empty_ring : (k : ℕ) (w : Work) → count (of_index k) (ring_of w [] []) ≡ 0
 empty_ring k Makes = refl
-empty_ring k Passes = refl
+empty_ring k (Passes d) = refl
 empty_ring k (Saves whole n) = refl
 empty_ring k (Watches pre post preset) = ap (count (of_index k)) (kept-nothing pre post preset)
 

@@ -73,7 +73,7 @@ puts_at v k _ = false
 
 abbrev pub takes_at : ℕ → ℕ → Entry → Bool
 takes_at v k (Take r w m j) = eqb w v && eqb j k
-takes_at v k (TakeBlock r w m j b n f g x) = eqb w v && eqb j k
+takes_at v k (TakeBlock f x r w m j b n g) = eqb w v && eqb j k
 takes_at v k _ = false
 
 abbrev pub loads_at : ℕ → Entry → Bool

@@ -41,12 +41,12 @@ same-load a r k b n f g x =
       | inr other ↦ omega (arith, ap bit other)
     ]
 
-same-take : (a : FrameName) (r v m k b n : ℕ) (f : Bool) (g : ℕ) (x : Bool) → bit (same a (frame v k)) ≤ bit (takes_at a.maker a.index (TakeBlock r v m k b n f g x))
+same-take : (a : FrameName) (r v m k b n : ℕ) (f : Bool) (g : ℕ) (x : Bool) → bit (same a (frame v k)) ≤ bit (takes_at a.maker a.index (TakeBlock f x r v m k b n g))
 same-take a r v m k b n f g x =
     elim (cases_Bool (same a (frame v k))) [
       | inl is ↦
           let p = and_parts (eqb a.maker v) (eqb a.index k) is in
-          let yes_take : takes_at a.maker a.index (TakeBlock r v m k b n f g x) ≡ true = and_from _ _ (eq-eqb v a.maker (sym (eqb-true a.maker v p.0))) (eq-eqb k a.index (sym (eqb-true a.index k p.1))) in
+          let yes_take : takes_at a.maker a.index (TakeBlock f x r v m k b n g) ≡ true = and_from _ _ (eq-eqb v a.maker (sym (eqb-true a.maker v p.0))) (eq-eqb k a.index (sym (eqb-true a.index k p.1))) in
           omega (arith, ap bit is, ap bit yes_take)
       | inr other ↦ omega (arith, ap bit other)
     ]
@@ -67,8 +67,8 @@ grants-le : (a : FrameName) (es : List Entry) → length (grants_of a es) ≤ co
 grants-le a [] = omega arith
 grants-le a (Load r k b n f g x ∷ es) =
     omega (arith, grants-le a es, length-append (granted_for a (Load r k b n f g x)) (grants_of a es), one_if (same a (frame 0 k)) b, same-load a r k b n f g x, loads-cons a (Load r k b n f g x) es)
-grants-le a (TakeBlock r v m k b n f g x ∷ es) =
-    omega (arith, grants-le a es, length-append (granted_for a (TakeBlock r v m k b n f g x)) (grants_of a es), one_if (same a (frame v k)) b, same-take a r v m k b n f g x, loads-cons a (TakeBlock r v m k b n f g x) es, count-cons (takes_at a.maker a.index) (TakeBlock r v m k b n f g x) es)
+grants-le a (TakeBlock f x r v m k b n g ∷ es) =
+    omega (arith, grants-le a es, length-append (granted_for a (TakeBlock f x r v m k b n g)) (grants_of a es), one_if (same a (frame v k)) b, same-take a r v m k b n f g x, loads-cons a (TakeBlock f x r v m k b n g) es, count-cons (takes_at a.maker a.index) (TakeBlock f x r v m k b n g) es)
 grants-le a (Take r v m k ∷ es) =
     omega (arith, grants-le a es, loads-cons a (Take r v m k) es, count-cons (takes_at a.maker a.index) (Take r v m k) es)
 grants-le a (_ ∷ es) = grants-le a es
@@ -152,9 +152,9 @@ pub load-block : (s : Setting) (P : Past) (r k b n : ℕ) (f : Bool) (g : ℕ) (
 load-block s P r k b n f g x h found =
     block-granted s P (frame 0 k) h ∙ found-grant (frame 0 k) (takes_up r) (Load r k b n f g x) b (standing P) (granted_itself (frame 0 k) b) found (grant-once s P (frame 0 k) h)
 
-pub take-block : (s : Setting) (P : Past) (r v m k b n : ℕ) (f : Bool) (g : ℕ) (x : Bool) → is_legal s P ≡ true → find (takes_up r) (standing P) ≡ Some (TakeBlock r v m k b n f g x) → block_of P (frame v k) ≡ b ∷ []
+pub take-block : (s : Setting) (P : Past) (r v m k b n : ℕ) (f : Bool) (g : ℕ) (x : Bool) → is_legal s P ≡ true → find (takes_up r) (standing P) ≡ Some (TakeBlock f x r v m k b n g) → block_of P (frame v k) ≡ b ∷ []
 take-block s P r v m k b n f g x h found =
-    block-granted s P (frame v k) h ∙ found-grant (frame v k) (takes_up r) (TakeBlock r v m k b n f g x) b (standing P) (granted_itself (frame v k) b) found (grant-once s P (frame v k) h)
+    block-granted s P (frame v k) h ∙ found-grant (frame v k) (takes_up r) (TakeBlock f x r v m k b n g) b (standing P) (granted_itself (frame v k) b) found (grant-once s P (frame v k) h)
 
 -- HANDS
 
@@ -172,7 +172,7 @@ any-one q b bs is = sym (ap (list_any q) is ∙ or-false (q b))
 hand-blocks : (s : Setting) (q : ℕ → Bool) (P : Past) (e : Entry) → is_legal s P ≡ true → Stands P e → list_any q (blocks_in_hand P e) ≡ holds (has q P) e
 hand-blocks s q P (Load r k b n f g x) h stands = or-false (q b) ∙ any-one q b (block_of P (frame 0 k)) (load-block s P r k b n f g x h (stands r (eq-eqb r r refl)))
 hand-blocks s q P (Take r v m k) h stands = refl
-hand-blocks s q P (TakeBlock r v m k b n f g x) h stands = ap (λ (c : Bool). c || has q P (frame m k)) (any-one q b (block_of P (frame v k)) (take-block s P r v m k b n f g x h (stands r (eq-eqb r r refl))))
+hand-blocks s q P (TakeBlock f x r v m k b n g) h stands = ap (λ (c : Bool). c || has q P (frame m k)) (any-one q b (block_of P (frame v k)) (take-block s P r v m k b n f g x h (stands r (eq-eqb r r refl))))
 hand-blocks s q P (Save r v m k g) h stands = refl
 hand-blocks s q P _ h stands = refl
 

@@ -18,7 +18,7 @@ use Rattle.flow_journal.proofs.Rows.{none-free, load-facts, take-facts}
 pub takes_up-one : (r q : ℕ) (e : Entry) → takes_up r e ≡ true → takes_up q e ≡ eqb r q
 takes_up-one r q (Load p k b n f g x) h = ap (λ i. eqb i q) (eqb-true p r h)
 takes_up-one r q (Take p v m k) h = ap (λ i. eqb i q) (eqb-true p r h)
-takes_up-one r q (TakeBlock p v m k b n f g x) h = ap (λ i. eqb i q) (eqb-true p r h)
+takes_up-one r q (TakeBlock f x p v m k b n g) h = ap (λ i. eqb i q) (eqb-true p r h)
 takes_up-one r q (Save p v m k g) h = ap (λ i. eqb i q) (eqb-true p r h)
 takes_up-one r q _ h = absurd (false≢true h)
 
@@ -99,8 +99,8 @@ was_free s r (Load q k b n f g x) P u h =
     rw (sym (eqb-true q r u)) (load-free s q k P (and_parts _ _ (row_of s (Load q k b n f g x) P (λ d. refl) h)).0)
 was_free s r (Take q v m k) P u h =
     rw (sym (eqb-true q r u)) (take-free s q v (frame m k) P (and_parts _ _ (row_of s (Take q v m k) P (λ d. refl) h)).0)
-was_free s r (TakeBlock q v m k b n f g x) P u h =
-    rw (sym (eqb-true q r u)) (take-free s q v (frame m k) P (and_parts _ _ (and_parts _ _ (row_of s (TakeBlock q v m k b n f g x) P (λ d. refl) h)).0).0)
+was_free s r (TakeBlock f x q v m k b n g) P u h =
+    rw (sym (eqb-true q r u)) (take-free s q v (frame m k) P (and_parts _ _ (and_parts _ _ (row_of s (TakeBlock f x q v m k b n g) P (λ d. refl) h)).0).0)
 was_free s r (Save q v m k g) P u h =
     rw (sym (eqb-true q r u)) (and_parts _ _ (and_parts _ _ (and_parts _ _ (row_of s (Save q v m k g) P (λ d. refl) h)).0).0).1
 was_free s r _ P u h = absurd (false≢true u)
@@ -110,7 +110,7 @@ pub hands-Apart : (s : Setting) (P : Past) → is_legal s P ≡ true → Apart (
 hands-Apart s [] h = tt
 hands-Apart s (Load r k b n f g x ∷ P) h = Apart-more r (Load r k b n f g x) P (eq-eqb r r refl) (was_free s r (Load r k b n f g x) P (eq-eqb r r refl) h) (hands-Apart s P (and_parts _ _ h).0)
 hands-Apart s (Take r v m k ∷ P) h = Apart-more r (Take r v m k) P (eq-eqb r r refl) (was_free s r (Take r v m k) P (eq-eqb r r refl) h) (hands-Apart s P (and_parts _ _ h).0)
-hands-Apart s (TakeBlock r v m k b n f g x ∷ P) h = Apart-more r (TakeBlock r v m k b n f g x) P (eq-eqb r r refl) (was_free s r (TakeBlock r v m k b n f g x) P (eq-eqb r r refl) h) (hands-Apart s P (and_parts _ _ h).0)
+hands-Apart s (TakeBlock f x r v m k b n g ∷ P) h = Apart-more r (TakeBlock f x r v m k b n g) P (eq-eqb r r refl) (was_free s r (TakeBlock f x r v m k b n g) P (eq-eqb r r refl) h) (hands-Apart s P (and_parts _ _ h).0)
 hands-Apart s (Save r v m k g ∷ P) h = Apart-more r (Save r v m k g) P (eq-eqb r r refl) (was_free s r (Save r v m k g) P (eq-eqb r r refl) h) (hands-Apart s P (and_parts _ _ h).0)
 hands-Apart s (Issue r k ∷ P) h = Apart-let_go r (hands P) (hands-Apart s P (and_parts _ _ h).0)
 hands-Apart s (Put r v m k f ∷ P) h = Apart-let_go r (hands P) (hands-Apart s P (and_parts _ _ h).0)
@@ -139,7 +139,7 @@ hands-OneLoaded s (Load r k b n f g x ∷ P) h =
     let m : may_load s r k P ≡ true = (and_parts _ _ f).0 in
     (λ u. (load-facts s r k P m).unloaded, hands-OneLoaded s P (and_parts _ _ h).0)
 hands-OneLoaded s (Take r v m k ∷ P) h = (λ u. absurd (false≢true u), hands-OneLoaded s P (and_parts _ _ h).0)
-hands-OneLoaded s (TakeBlock r v m k b n f g x ∷ P) h = (λ u. absurd (false≢true u), hands-OneLoaded s P (and_parts _ _ h).0)
+hands-OneLoaded s (TakeBlock f x r v m k b n g ∷ P) h = (λ u. absurd (false≢true u), hands-OneLoaded s P (and_parts _ _ h).0)
 hands-OneLoaded s (Save r v m k g ∷ P) h = (λ u. absurd (false≢true u), hands-OneLoaded s P (and_parts _ _ h).0)
 hands-OneLoaded s (Issue r k ∷ P) h = OneLoaded-let_go r (hands P) (hands-OneLoaded s P (and_parts _ _ h).0)
 hands-OneLoaded s (Put r v m k f ∷ P) h = OneLoaded-let_go r (hands P) (hands-OneLoaded s P (and_parts _ _ h).0)

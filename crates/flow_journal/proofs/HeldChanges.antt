@@ -99,13 +99,13 @@ after-grant s m b n true g x P h distinct =
 grant_of-load : (s : Setting) (r k b n : ℕ) (f : Bool) (g : ℕ) (x : Bool) (P : Past) → is_legal s (Load r k b n f g x ∷ P) ≡ true → pool_grants s 0 b n f g x P ≡ true
 grant_of-load s r k b n f g x P h = (and_parts (may_load s r k P) (pool_grants s 0 b n f g x P) (row_of s (Load r k b n f g x) P (λ d. refl) h)).1
 
-grant_of-take : (s : Setting) (r v m k b n : ℕ) (f : Bool) (g : ℕ) (x : Bool) (P : Past) → is_legal s (TakeBlock r v m k b n f g x ∷ P) ≡ true → pool_grants s v b n f g x P ≡ true
-grant_of-take s r v m k b n f g x P h = (and_parts (may_take s r v (frame m k) P && is_maker s v) (pool_grants s v b n f g x P) (row_of s (TakeBlock r v m k b n f g x) P (λ d. refl) h)).1
+grant_of-take : (s : Setting) (r v m k b n : ℕ) (f : Bool) (g : ℕ) (x : Bool) (P : Past) → is_legal s (TakeBlock f x r v m k b n g ∷ P) ≡ true → pool_grants s v b n f g x P ≡ true
+grant_of-take s r v m k b n f g x P h = (and_parts (may_take s r v (frame m k) P && is_maker s v) (pool_grants s v b n f g x P) (row_of s (TakeBlock f x r v m k b n g) P (λ d. refl) h)).1
 
 known-distinct : (s : Setting) (P : Past) → is_legal s P ≡ true → Distinct (known s P)
 known-distinct s [] h = λ k. omega arith
 known-distinct s (Load r i b n f g x ∷ P) h = after-grant s 0 b n f g x P (grant_of-load s r i b n f g x P h) (known-distinct s P (and_parts _ _ h).0)
-known-distinct s (TakeBlock r v m i b n f g x ∷ P) h = after-grant s v b n f g x P (grant_of-take s r v m i b n f g x P h) (known-distinct s P (and_parts _ _ h).0)
+known-distinct s (TakeBlock f x r v m i b n g ∷ P) h = after-grant s v b n f g x P (grant_of-take s r v m i b n f g x P h) (known-distinct s P (and_parts _ _ h).0)
 known-distinct s (_ ∷ P) h = known-distinct s P (and_parts _ _ h).0
 
 -- SIZES
@@ -253,8 +253,8 @@ held_laws = record {
       held-grant s 0 b n f g x (Load r k b n f g x) P pooled (and_parts _ _ h).0 (grant_of-load s r k b n f g x P h) refl (λ c. count_laws.load s r k b n f g x P c h)
       (load-unplaced s P r k b n f g x pooled (and_parts _ _ h).0 (row_of s (Load r k b n f g x) P (λ d. refl) h));
   take_block = λ s r v m k b n f g x P pooled h.
-      held-grant s v b n f g x (TakeBlock r v m k b n f g x) P pooled (and_parts _ _ h).0 (grant_of-take s r v m k b n f g x P h) refl (λ c. count_laws.take_block s r v m k b n f g x P c h)
-      (take-unplaced s P r v m k b n f g x pooled (and_parts _ _ h).0 (row_of s (TakeBlock r v m k b n f g x) P (λ d. refl) h));
+      held-grant s v b n f g x (TakeBlock f x r v m k b n g) P pooled (and_parts _ _ h).0 (grant_of-take s r v m k b n f g x P h) refl (λ c. count_laws.take_block s r v m k b n f g x P c h)
+      (take-unplaced s P r v m k b n f g x pooled (and_parts _ _ h).0 (row_of s (TakeBlock f x r v m k b n g) P (λ d. refl) h));
   same_places = λ s P Q same counts. ap (λ (bs : List Block). sizes (filter (is_placed s Q) bs)) same ∙ ap sizes (filter_agree _ _ (λ b. counts b.number) (known s P));
   one_more = one_more;
 }

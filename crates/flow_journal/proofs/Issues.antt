@@ -42,8 +42,8 @@ gone-count : (v k : ℕ) (P : Past) → count (takes_at v k) P ≤ times_by (of_
 gone-count v k [] = omega arith
 gone-count v k (Take r w m i ∷ P) =
     omega (arith, gone-count v k P, comes-count v w m i k [], count-append (of_index k) (comes_at v w (frame m i) []) (flat_map (gone_at v) P), count-cons (takes_at v k) (Take r w m i) P)
-gone-count v k (TakeBlock r w m i b n f g x ∷ P) =
-    omega (arith, gone-count v k P, comes-count v w m i k [], count-append (of_index k) (comes_at v w (frame m i) []) (flat_map (gone_at v) P), count-cons (takes_at v k) (TakeBlock r w m i b n f g x) P)
+gone-count v k (TakeBlock f x r w m i b n g ∷ P) =
+    omega (arith, gone-count v k P, comes-count v w m i k [], count-append (of_index k) (comes_at v w (frame m i) []) (flat_map (gone_at v) P), count-cons (takes_at v k) (TakeBlock f x r w m i b n g) P)
 gone-count v k (PoolDrop r w m i n z ∷ P) =
     omega (arith, gone-count v k P, count-append (of_index k) (comes_at v w (frame m i) []) (flat_map (gone_at v) P))
 gone-count v k (_ ∷ P) = gone-count v k P

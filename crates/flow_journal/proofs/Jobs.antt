@@ -25,12 +25,12 @@ put_hand v m k (Some (Take r w n j)) h =
     let node : w ≡ v = eqb-true w v p.0 in
     let index : k ≡ j = eqb-true k j q.1 in
     (Take r w n j, refl, λ u i. ap (λ (x : ℕ). eqb x u && eqb j i) node ∙ ap (λ (x : ℕ). eqb v u && eqb x i) (sym index))
-put_hand v m k (Some (TakeBlock r w n j b z f g x)) h =
+put_hand v m k (Some (TakeBlock f x r w n j b z g)) h =
     let p = and_parts (eqb w v) (same (frame m k) (frame v j)) h in
     let q = and_parts (eqb m v) (eqb k j) p.1 in
     let node : w ≡ v = eqb-true w v p.0 in
     let index : k ≡ j = eqb-true k j q.1 in
-    (TakeBlock r w n j b z f g x, refl, λ u i. ap (λ (y : ℕ). eqb y u && eqb j i) node ∙ ap (λ (y : ℕ). eqb v u && eqb y i) (sym index))
+    (TakeBlock f x r w n j b z g, refl, λ u i. ap (λ (y : ℕ). eqb y u && eqb j i) node ∙ ap (λ (y : ℕ). eqb v u && eqb y i) (sym index))
 put_hand v m k (Some _) h = absurd (false≢true h)
 
 -- the hand of whoever issues is a load of that frame
@@ -57,8 +57,8 @@ puts-taken s [] v k h = omega arith
 puts-taken s (Load r i b n f g x ∷ P) v k h = puts-taken s P v k (before s (Load r i b n f g x) P h)
 puts-taken s (Take r w m i ∷ P) v k h =
     omega (arith, puts-taken s P v k (before s (Take r w m i) P h), count-cons (takes_at v k) (Take r w m i) (hands P), count-cons (takes_at v k) (Take r w m i) (standing P))
-puts-taken s (TakeBlock r w m i b n f g x ∷ P) v k h =
-    omega (arith, puts-taken s P v k (before s (TakeBlock r w m i b n f g x) P h), count-cons (takes_at v k) (TakeBlock r w m i b n f g x) (hands P), count-cons (takes_at v k) (TakeBlock r w m i b n f g x) (standing P))
+puts-taken s (TakeBlock f x r w m i b n g ∷ P) v k h =
+    omega (arith, puts-taken s P v k (before s (TakeBlock f x r w m i b n g) P h), count-cons (takes_at v k) (TakeBlock f x r w m i b n g) (hands P), count-cons (takes_at v k) (TakeBlock f x r w m i b n g) (standing P))
 puts-taken s (Save r w m i g ∷ P) v k h = puts-taken s P v k (before s (Save r w m i g) P h)
 puts-taken s (Issue r i ∷ P) v k h = omega (arith, puts-taken s P v k (before s (Issue r i) P h), count-let_go-le (takes_at v k) r (hands P))
 puts-taken s (Saved r w m i ∷ P) v k h = omega (arith, puts-taken s P v k (before s (Saved r w m i) P h), count-let_go-le (takes_at v k) r (hands P))

@@ -17,26 +17,26 @@ use Rattle.flow_journal.proofs.Changes.{save_laws}
 
 sorts_no_file : (w : Work) → may_sort w ≡ true → is_file w ≡ false
 sorts_no_file Makes h = refl
-sorts_no_file Passes h = refl
+sorts_no_file (Passes d) h = refl
 sorts_no_file (Watches pre post preset) h = absurd (false≢true h)
 sorts_no_file (Saves whole n) h = absurd (false≢true h)
 
 file_no_sort : (w : Work) → is_file w ≡ true → may_sort w ≡ false
 file_no_sort (Saves whole n) h = refl
 file_no_sort Makes h = absurd (false≢true h)
-file_no_sort Passes h = absurd (false≢true h)
+file_no_sort (Passes d) h = absurd (false≢true h)
 file_no_sort (Watches pre post preset) h = absurd (false≢true h)
 
 sorts_no_ring : (w : Work) (flags : List Bool) (xs : List FrameName) → may_sort w ≡ true → ring_of w flags xs ≡ []
 sorts_no_ring Makes flags xs h = refl
-sorts_no_ring Passes flags xs h = refl
+sorts_no_ring (Passes d) flags xs h = refl
 sorts_no_ring (Watches pre post preset) flags xs h = absurd (false≢true h)
 sorts_no_ring (Saves whole n) flags xs h = absurd (false≢true h)
 
 file_no_ring : (w : Work) (flags : List Bool) (xs : List FrameName) → is_file w ≡ true → ring_of w flags xs ≡ []
 file_no_ring (Saves whole n) flags xs h = refl
 file_no_ring Makes flags xs h = absurd (false≢true h)
-file_no_ring Passes flags xs h = absurd (false≢true h)
+file_no_ring (Passes d) flags xs h = absurd (false≢true h)
 file_no_ring (Watches pre post preset) flags xs h = absurd (false≢true h)
 
 empty_ring : (s : Setting) (v : ℕ) (P : Past) → ring_of (node s v).work (firings v P) (puts v P) ≡ [] → ring s v P ≡ []

@@ -34,13 +34,13 @@ file_unsorted : (w : Work) → is_file w ≡ true → may_sort w ≡ false
 file_unsorted (Saves whole n) h = refl
 file_unsorted (Watches pre post preset) h = refl
 file_unsorted Makes h = absurd (false≢true h)
-file_unsorted Passes h = absurd (false≢true h)
+file_unsorted (Passes d) h = absurd (false≢true h)
 
 file_result : (s : Setting) (v : ℕ) (a : FrameName) (f : Bool) (P : Past) (w : Work) → is_file w ≡ true → result s v a f P w ≡ []
 file_result s v a f P (Saves whole n) h = refl
 file_result s v a f P (Watches pre post preset) h = absurd (false≢true h)
 file_result s v a f P Makes h = absurd (false≢true h)
-file_result s v a f P Passes h = absurd (false≢true h)
+file_result s v a f P (Passes d) h = absurd (false≢true h)
 
 unsorted_file : (s : Setting) (v : ℕ) → is_file (node s v).work ≡ true → is_sorted s v ≡ false
 unsorted_file s v file = ap (λ (b : Bool). b && ltb 0 (node s v).sort) (file_unsorted (node s v).work file)
@@ -115,9 +115,9 @@ last_out s (Take p w i j ∷ P) r q v m k g l h =
       | inl here ↦ let never : Some (Take p w i j) ≡ Some (Save q v m k g) = rw here at h in cc
       | inr away ↦ rw away (last_out s P r q v m k g (and_parts _ _ l).0 (rw away at h))
     ]
-last_out s (TakeBlock p w i j b n f z x ∷ P) r q v m k g l h =
+last_out s (TakeBlock f x p w i j b n z ∷ P) r q v m k g l h =
     elim (cases_Bool (eqb p r)) [
-      | inl here ↦ let never : Some (TakeBlock p w i j b n f z x) ≡ Some (Save q v m k g) = rw here at h in cc
+      | inl here ↦ let never : Some (TakeBlock f x p w i j b n z) ≡ Some (Save q v m k g) = rw here at h in cc
       | inr away ↦ rw away (last_out s P r q v m k g (and_parts _ _ l).0 (rw away at h))
     ]
 last_out s (Save p w i j z ∷ P) r q v m k g l h =

@@ -11,6 +11,7 @@ pub mod EntryCounts
 pub mod Found
 pub mod Rows
 pub mod Leasts
+mod SortLists
 pub mod Dues
 pub mod RingPushes
 pub mod Jobs

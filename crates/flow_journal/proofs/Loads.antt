@@ -57,9 +57,9 @@ loaded-last s (Take p w i j ∷ P) r q k b n f g x l h =
       | inl here ↦ let never : Some (Take p w i j) ≡ Some (Load q k b n f g x) = rw here at h in cc
       | inr away ↦ rw away (loaded-last s P r q k b n f g x (and_parts _ _ l).0 (rw away at h))
     ]
-loaded-last s (TakeBlock p w i j c m d e y ∷ P) r q k b n f g x l h =
+loaded-last s (TakeBlock d y p w i j c m e ∷ P) r q k b n f g x l h =
     elim (cases_Bool (eqb p r)) [
-      | inl here ↦ let never : Some (TakeBlock p w i j c m d e y) ≡ Some (Load q k b n f g x) = rw here at h in cc
+      | inl here ↦ let never : Some (TakeBlock d y p w i j c m e) ≡ Some (Load q k b n f g x) = rw here at h in cc
       | inr away ↦ rw away (loaded-last s P r q k b n f g x (and_parts _ _ l).0 (rw away at h))
     ]
 loaded-last s (Save p w i j z ∷ P) r q k b n f g x l h =

@@ -116,7 +116,7 @@ unmade-clear s (e ∷ P) a h none =
 -- the frame is made in the hand
 abbrev made_in_hand : FrameName → Entry → Bool
 made_in_hand a (Load r k b n f g x) = is_frame a (frame 0 k)
-made_in_hand a (TakeBlock r v m k b n f g x) = is_frame a (frame v k)
+made_in_hand a (TakeBlock f x r v m k b n g) = is_frame a (frame v k)
 made_in_hand a _ = false
 
 -- in how many hands it may be
@@ -126,7 +126,7 @@ in_making a hs = cond (eqb a.maker 0) (count (loads_at a.index) hs) 0 + count (t
 held-split : (a : FrameName) (e : Entry) → bit (holds (is_frame a) e) ≤ bit (holds_by no_frame (is_frame a) e) + bit (made_in_hand a e)
 held-split a (Load r k b n f g x) = omega arith
 held-split a (Take r v m k) = omega arith
-held-split a (TakeBlock r v m k b n f g x) = either (is_frame a (frame v k)) (is_frame a (frame m k))
+held-split a (TakeBlock f x r v m k b n g) = either (is_frame a (frame v k)) (is_frame a (frame m k))
   where
     either : (x y : Bool) → bit (x || y) ≤ bit (false || y) + bit x
     either true y = omega arith
@@ -144,7 +144,7 @@ made-most a (Load r k b n f g x) =
           omega (arith, ap bit is, one)
       | inr other ↦ omega (arith, ap bit other)
     ]
-made-most a (TakeBlock r v m k b n f g x) = omega arith
+made-most a (TakeBlock f x r v m k b n g) = omega arith
 made-most a _ = omega arith
 
 making-cons : (a : FrameName) (e : Entry) (hs : List Entry) → in_making a (e ∷ hs) ≡ cond (eqb a.maker 0) (bit (loads_at a.index e)) 0 + bit (takes_at a.maker a.index e) + in_making a hs
@@ -203,9 +203,9 @@ in_making-take v k hs away =
     omega (arith, none)
 
 -- before its take a maker's frame has no place
-pub untaken-nowhere : (s : Setting) (r v m k b n : ℕ) (f : Bool) (g : ℕ) (x : Bool) (P : Past) → is_legal s (TakeBlock r v m k b n f g x ∷ P) ≡ true → Clear (is_frame (frame v k)) s P
+pub untaken-nowhere : (s : Setting) (r v m k b n : ℕ) (f : Bool) (g : ℕ) (x : Bool) (P : Past) → is_legal s (TakeBlock f x r v m k b n g ∷ P) ≡ true → Clear (is_frame (frame v k)) s P
 untaken-nowhere s r v m k b n f g x P h =
-    let e : Entry = TakeBlock r v m k b n f g x in
+    let e : Entry = TakeBlock f x r v m k b n g in
     let legal : is_legal s P ≡ true = (and_parts _ _ h).0 in
     let one : bit (takes_at v k e) ≡ 1 = ap bit (and_from _ _ (eq-eqb v v refl) (eq-eqb k k refl)) in
     let more = count-cons (takes_at v k) e (standing P) in
@@ -216,9 +216,9 @@ untaken-nowhere s r v m k b n f g x P h =
     nowhere s P (frame v k) legal (let_out-put v k P away ∙ omega (arith, none, taken)) (in_making-take v k (hands P) away ∙ omega (arith, none, taken))
 
 -- nor has it after its take is reclaimed
-pub untaken-again : (s : Setting) (r q v m k b n : ℕ) (f : Bool) (g : ℕ) (x : Bool) (P : Past) → is_legal s (Reclaim r ∷ P) ≡ true → hand r P ≡ Some (TakeBlock q v m k b n f g x) → Clear (is_frame (frame v k)) s (Reclaim r ∷ P)
+pub untaken-again : (s : Setting) (r q v m k b n : ℕ) (f : Bool) (g : ℕ) (x : Bool) (P : Past) → is_legal s (Reclaim r ∷ P) ≡ true → hand r P ≡ Some (TakeBlock f x q v m k b n g) → Clear (is_frame (frame v k)) s (Reclaim r ∷ P)
 untaken-again s r q v m k b n f g x P h held =
-    let e : Entry = TakeBlock q v m k b n f g x in
+    let e : Entry = TakeBlock f x q v m k b n g in
     let legal : is_legal s P ≡ true = (and_parts _ _ h).0 in
     let one : bit (takes_at v k e) ≡ 1 = ap bit (and_from _ _ (eq-eqb v v refl) (eq-eqb k k refl)) in
     let fewer = count-let_go (takes_at v k) r e (hands P) held in

@@ -177,8 +177,8 @@ outputs s v T nz plain t (LoadRefused r k n z ∷ P) h =
     begun-still s v (LoadRefused r k n z) P (owed-first s (LoadRefused r k n z) P (λ d. refl) h) refl refl ∙ (outputs s v T nz plain t P (and_parts _ _ h).0 ∙ sym (t.others (LoadRefused r k n z) P refl))
 outputs s v T nz plain t (Take r w m k ∷ P) h =
     begun-still s v (Take r w m k) P (owed-first s (Take r w m k) P (λ d. refl) h) refl refl ∙ (outputs s v T nz plain t P (and_parts _ _ h).0 ∙ sym (t.others (Take r w m k) P refl))
-outputs s v T nz plain t (TakeBlock r w m k b n f g x ∷ P) h =
-    begun-still s v (TakeBlock r w m k b n f g x) P (owed-first s (TakeBlock r w m k b n f g x) P (λ d. refl) h) refl refl ∙ (outputs s v T nz plain t P (and_parts _ _ h).0 ∙ sym (t.others (TakeBlock r w m k b n f g x) P refl))
+outputs s v T nz plain t (TakeBlock f x r w m k b n g ∷ P) h =
+    begun-still s v (TakeBlock f x r w m k b n g) P (owed-first s (TakeBlock f x r w m k b n g) P (λ d. refl) h) refl refl ∙ (outputs s v T nz plain t P (and_parts _ _ h).0 ∙ sym (t.others (TakeBlock f x r w m k b n g) P refl))
 outputs s v T nz plain t (PoolDrop r w m k n z ∷ P) h =
     begun-still s v (PoolDrop r w m k n z) P (owed-first s (PoolDrop r w m k n z) P (λ d. refl) h) refl refl ∙ (outputs s v T nz plain t P (and_parts _ _ h).0 ∙ sym (t.others (PoolDrop r w m k n z) P refl))
 outputs s v T nz plain t (Save r w m k g ∷ P) h =
@@ -240,7 +240,7 @@ circular_target s v pre post preset work positive = record {
 watched_unsorted : (s : Setting) (v pre post preset : ℕ) → (node s v).work ≡ Watches pre post preset → (v ≢ 0) × (is_sorted s v ≡ false)
 watched_unsorted s v pre post preset work = ((λ e. no_driver (sym (ap (λ (u : ℕ). (node s u).work) e) ∙ work)), rw work refl)
   where
-    no_driver : Passes ≢ Watches pre post preset
+    no_driver : Passes false ≢ Watches pre post preset
     no_driver e = cc
 
 plain_target : (s : Setting) (v : ℕ) → may_sort (node s v).work ≡ true → is_sorted s v ≡ false → Target s v (puts v)
@@ -252,7 +252,7 @@ plain_target s v sorts plain = record {
   where
     plain_result : (w : Work) → may_sort w ≡ true → (m k : ℕ) (f : Bool) (P : Past) → result s v (frame m k) f P w ≡ emit v Plain (frame m k) ∷ []
     plain_result Makes h m k f P = rw plain refl
-    plain_result Passes h m k f P = rw plain refl
+    plain_result (Passes d) h m k f P = rw plain refl
     plain_result (Watches pre post preset) h m k f P = absurd (false≢true h)
     plain_result (Saves whole n) h m k f P = absurd (false≢true h)
 

@@ -15,7 +15,8 @@ use Rattle.flow_journal.specs.Waiting.{Waiting, waiting, placed, placed_all, lea
 use Rattle.flow_journal.specs.Ended.{now}
 use Rattle.flow_journal.specs.Puts.{firings}
 use Rattle.flow_journal.specs.Rings.{ring}
-use Rattle.flow_journal.specs.Breaks.{prev, keeps_step}
+use Rattle.queue_sort.specs.Sorting.{keeps_step}
+use Rattle.flow_journal.specs.Breaks.{prev}
 use Rattle.flow_journal.specs.Following.{emit, goes_out, look, sorted_result, watched_result, result}
 use Rattle.flow_journal.proofs.EntryCounts.{count, bit, count-cons, count-append, emits_at, accepts_at}
 
@@ -85,7 +86,7 @@ pub result-at : (s : Setting) (v : ℕ) (a : FrameName) (f : Bool) (P : Past) (w
 result-at s v a f P (Watches pre post preset) = watched_result-at pre post preset v a f (ring s v P) (firings v P)
 result-at s v a f P (Saves whole count) = refl
 result-at s v a f P Makes = sorted-or-plain-at (is_sorted s v) v a _ (sorted_result-at s v a (waiting s v P) (Put 0 v a.maker a.index f ∷ P))
-result-at s v a f P Passes = sorted-or-plain-at (is_sorted s v) v a _ (sorted_result-at s v a (waiting s v P) (Put 0 v a.maker a.index f ∷ P))
+result-at s v a f P (Passes d) = sorted-or-plain-at (is_sorted s v) v a _ (sorted_result-at s v a (waiting s v P) (Put 0 v a.maker a.index f ∷ P))
 
 -- what goes out of v is no offer
 out_no_offer : (v c k : ℕ) (e : Entry) → is_out_at v e ≡ true → accepts_at c k e ≡ false

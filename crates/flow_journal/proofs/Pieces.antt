@@ -136,9 +136,9 @@ last_piece s (Take p w i j ∷ P) r q v m k g l h =
       | inl here ↦ let never : Some (Take p w i j) ≡ Some (Save q v m k g) = rw here at h in cc
       | inr away ↦ rw away (last_piece s P r q v m k g (and_parts _ _ l).0 (rw away at h))
     ]
-last_piece s (TakeBlock p w i j b n f z x ∷ P) r q v m k g l h =
+last_piece s (TakeBlock f x p w i j b n z ∷ P) r q v m k g l h =
     elim (cases_Bool (eqb p r)) [
-      | inl here ↦ let never : Some (TakeBlock p w i j b n f z x) ≡ Some (Save q v m k g) = rw here at h in cc
+      | inl here ↦ let never : Some (TakeBlock f x p w i j b n z) ≡ Some (Save q v m k g) = rw here at h in cc
       | inr away ↦ rw away (last_piece s P r q v m k g (and_parts _ _ l).0 (rw away at h))
     ]
 last_piece s (Save p w i j z ∷ P) r q v m k g l h =
@@ -224,7 +224,7 @@ front-Reclaim s v r (Save q w m k g) P legal held h =
     ]
 front-Reclaim s v r (Load q k b n f g x) P legal held h = front-from v (Reclaim r ∷ P) (rest_of v P) (h ∙ ap (λ (xs : List FrameName). xs ++ rest_of v P) (sym (saves-Reclaim s v r (Load q k b n f g x) P legal held refl)))
 front-Reclaim s v r (Take q w m k) P legal held h = front-from v (Reclaim r ∷ P) (rest_of v P) (h ∙ ap (λ (xs : List FrameName). xs ++ rest_of v P) (sym (saves-Reclaim s v r (Take q w m k) P legal held refl)))
-front-Reclaim s v r (TakeBlock q w m k b n f g x) P legal held h = front-from v (Reclaim r ∷ P) (rest_of v P) (h ∙ ap (λ (xs : List FrameName). xs ++ rest_of v P) (sym (saves-Reclaim s v r (TakeBlock q w m k b n f g x) P legal held refl)))
+front-Reclaim s v r (TakeBlock f x q w m k b n g) P legal held h = front-from v (Reclaim r ∷ P) (rest_of v P) (h ∙ ap (λ (xs : List FrameName). xs ++ rest_of v P) (sym (saves-Reclaim s v r (TakeBlock f x q w m k b n g) P legal held refl)))
 front-Reclaim s v r e P legal held h = front-from v (Reclaim r ∷ P) (rest_of v P) (h ∙ ap (λ (xs : List FrameName). xs ++ rest_of v P) (sym (saves-Reclaim s v r e P legal held refl)))
 
 -- the saves that stand took the front of the puts

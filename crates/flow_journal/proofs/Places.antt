@@ -50,7 +50,7 @@ no_third p q r only (x ∷ xs) h g =
 holds-third : (t u w : FrameName → Bool) → ((a : FrameName) → t a ≡ false → u a ≡ false → w a ≡ false) → (e : Entry) → holds t e ≡ false → holds u e ≡ false → holds w e ≡ false
 holds-third t u w only (Load r k b n f g x) h i = only (frame 0 k) h i
 holds-third t u w only (Take r v m k) h i = only (frame m k) h i
-holds-third t u w only (TakeBlock r v m k b n f g x) h i =
+holds-third t u w only (TakeBlock f x r v m k b n g) h i =
     let p = or_parts (t (frame v k)) (t (frame m k)) h in
     let q = or_parts (u (frame v k)) (u (frame m k)) i in
     or_from (w (frame v k)) (w (frame m k)) (only (frame v k) p.0 q.0) (only (frame m k) p.1 q.1)
@@ -270,9 +270,9 @@ none_lost s (Load r k b n f g x ∷ P) pooled h =
     let grants : pool_grants s 0 b n f g x P ≡ true = (and_parts (may_load s r k P) (pool_grants s 0 b n f g x P) (row_of s e P (λ d. refl) h)).1 in
     let before : Clear t s P = clear-third (is_lost s P) (has (is_unplaced s P) P) t s P (λ a lost unplaced. granted-third s 0 b n f g x P (frame 0 k) a pooled grants lost unplaced) (none_lost s P pooled legal) (from_places s (is_unplaced s P) P legal (places-placed s P)) (ap (count (carries t)) (owed-first s e P (λ d. refl) h)) in
     clear-more t s e P h (count-one t (frame 0 k) (granted-made s 0 b n f g x P (frame 0 k) pooled grants)) before
-none_lost s (TakeBlock r v m k b n f g x ∷ P) pooled h =
+none_lost s (TakeBlock f x r v m k b n g ∷ P) pooled h =
     let legal : is_legal s P ≡ true = (and_parts _ _ h).0 in
-    let e : Entry = TakeBlock r v m k b n f g x in
+    let e : Entry = TakeBlock f x r v m k b n g in
     let t : FrameName → Bool = is_lost s (e ∷ P) in
     let grants : pool_grants s v b n f g x P ≡ true = (and_parts (may_take s r v (frame m k) P && is_maker s v) (pool_grants s v b n f g x P) (row_of s e P (λ d. refl) h)).1 in
     let before : Clear t s P = clear-third (is_lost s P) (has (is_unplaced s P) P) t s P (λ a lost unplaced. granted-third s v b n f g x P (frame v k) a pooled grants lost unplaced) (none_lost s P pooled legal) (from_places s (is_unplaced s P) P legal (places-placed s P)) (ap (count (carries t)) (owed-first s e P (λ d. refl) h)) in
@@ -301,7 +301,7 @@ places-known s P pooled h b placed =
 pub load-unplaced : (s : Setting) (P : Past) (r k b n : ℕ) (f : Bool) (g : ℕ) (x : Bool) → s.pooled ≡ true → is_legal s P ≡ true → first s P (Load r k b n f g x) ≡ true → refs s P b ≡ 0
 load-unplaced s P r k b n f g x pooled legal h = grants-unplaced s 0 b n f g x P pooled (places-known s P pooled legal) (and_parts (may_load s r k P) (pool_grants s 0 b n f g x P) h).1
 
-pub take-unplaced : (s : Setting) (P : Past) (r v m k b n : ℕ) (f : Bool) (g : ℕ) (x : Bool) → s.pooled ≡ true → is_legal s P ≡ true → first s P (TakeBlock r v m k b n f g x) ≡ true → refs s P b ≡ 0
+pub take-unplaced : (s : Setting) (P : Past) (r v m k b n : ℕ) (f : Bool) (g : ℕ) (x : Bool) → s.pooled ≡ true → is_legal s P ≡ true → first s P (TakeBlock f x r v m k b n g) ≡ true → refs s P b ≡ 0
 take-unplaced s P r v m k b n f g x pooled legal h = grants-unplaced s v b n f g x P pooled (places-known s P pooled legal) (and_parts (may_take s r v (frame m k) P && is_maker s v) (pool_grants s v b n f g x P) h).1
 
 -- in a run blocks are accounted
@@ -314,5 +314,5 @@ runs-load graph makers arrays newer P r k b n f g x h =
 pub runs-take : RunsTakeUnplaced
 runs-take graph makers arrays newer P r v m k b n f g x h =
     let s : Setting = setting_of graph makers arrays in
-    let legal : is_legal s (TakeBlock r v m k b n f g x ∷ P) ≡ true = legal-front s newer (TakeBlock r v m k b n f g x ∷ P) h in
-    take-unplaced s P r v m k b n f g x refl (and_parts _ _ legal).0 (row_of s (TakeBlock r v m k b n f g x) P (λ d. refl) legal)
+    let legal : is_legal s (TakeBlock f x r v m k b n g ∷ P) ≡ true = legal-front s newer (TakeBlock f x r v m k b n g ∷ P) h in
+    take-unplaced s P r v m k b n f g x refl (and_parts _ _ legal).0 (row_of s (TakeBlock f x r v m k b n g) P (λ d. refl) legal)

@@ -229,7 +229,7 @@ loaded-from r k P l = ap (is_load_of k) l.5 ∙ eq-eqb k k refl
 
 -- a job of v with the result a, whoever has it
 abbrev IsResult : ℕ → FrameName → Option Entry → Type 0
-IsResult v a o = ((q : ℕ) × (o ≡ Some (Take q v a.maker a.index))) ⊎ ((a.maker ≡ v) × ((q m b n : ℕ) × (f : Bool) × (g : ℕ) × (x : Bool) × (o ≡ Some (TakeBlock q v m a.index b n f g x))))
+IsResult v a o = ((q : ℕ) × (o ≡ Some (Take q v a.maker a.index))) ⊎ ((a.maker ≡ v) × ((q m b n : ℕ) × (f : Bool) × (g : ℕ) × (x : Bool) × (o ≡ Some (TakeBlock f x q v m a.index b n g))))
 
 result_is : (v : ℕ) (a : FrameName) (o : Option Entry) → is_result_of v a o ≡ true → IsResult v a o
 result_is v a None h = absurd (false≢true h)
@@ -237,7 +237,7 @@ result_is v a (Some (Take q w m k)) h =
     let p = and_parts (eqb w v) (same a (frame m k)) h in
     let e = same-true a (frame m k) p.1 in
     inl (q, rw (eqb-true w v p.0, e) refl)
-result_is v a (Some (TakeBlock q w m k b n f g x)) h =
+result_is v a (Some (TakeBlock f x q w m k b n g)) h =
     let p = and_parts (eqb w v) (same a (frame v k)) h in
     let e = same-true a (frame v k) p.1 in
     inr (ap (λ (c : FrameName). c.maker) e, (q, m, b, n, f, g, x, rw (eqb-true w v p.0, e) refl))
@@ -251,8 +251,8 @@ result-facts r v m k P h =
           inl (subst (λ (q : ℕ). hand r P ≡ Some (Take q v m k)) own t.1)
       | inr t ↦
           let j = t.1 in
-          let own : j.0 ≡ r = eqb-true j.0 r (hand-up r (TakeBlock j.0 v j.1 k j.2 j.3 j.4 j.5 j.6) P j.7) in
-          inr (t.0, (j.1, j.2, j.3, j.4, j.5, j.6, subst (λ (q : ℕ). hand r P ≡ Some (TakeBlock q v j.1 k j.2 j.3 j.4 j.5 j.6)) own j.7))
+          let own : j.0 ≡ r = eqb-true j.0 r (hand-up r (TakeBlock j.4 j.6 j.0 v j.1 k j.2 j.3 j.5) P j.7) in
+          inr (t.0, (j.1, j.2, j.3, j.4, j.5, j.6, subst (λ (q : ℕ). hand r P ≡ Some (TakeBlock j.4 j.6 q v j.1 k j.2 j.3 j.5)) own j.7))
     ]
 
 result-from : (r v m k : ℕ) (P : Past) → HasResult r v m k P → is_result_of v (frame m k) (hand r P) ≡ true

@@ -37,8 +37,8 @@ settled-idle s (Settle r w ∷ P) v h settled =
     ]
 settled-idle s (Take r w m k ∷ P) v h settled =
     omega (arith, settled-idle s P v (and_parts _ _ h).0 settled, count-cons (is_job v) (Take r w m k) (hands P), ap bit (taken-elsewhere s r v w (frame m k) P (may-Take s r w m k P h) settled))
-settled-idle s (TakeBlock r w m k b n f g x ∷ P) v h settled =
-    omega (arith, settled-idle s P v (and_parts _ _ h).0 settled, count-cons (is_job v) (TakeBlock r w m k b n f g x) (hands P), ap bit (taken-elsewhere s r v w (frame m k) P (may-TakeBlock s r w m k b n f g x P h) settled))
+settled-idle s (TakeBlock f x r w m k b n g ∷ P) v h settled =
+    omega (arith, settled-idle s P v (and_parts _ _ h).0 settled, count-cons (is_job v) (TakeBlock f x r w m k b n g) (hands P), ap bit (taken-elsewhere s r v w (frame m k) P (may-TakeBlock s r w m k b n f g x P h) settled))
 settled-idle s (Issue r k ∷ P) v h settled = omega (arith, settled-idle s P v (and_parts _ _ h).0 settled, count-let_go-le (is_job v) r (hands P))
 settled-idle s (Put r w m k f ∷ P) v h settled = omega (arith, settled-idle s P v (and_parts _ _ h).0 settled, count-let_go-le (is_job v) r (hands P))
 settled-idle s (Saved r w m k ∷ P) v h settled = omega (arith, settled-idle s P v (and_parts _ _ h).0 settled, count-let_go-le (is_job v) r (hands P))
@@ -48,7 +48,7 @@ settled-idle s (_ ∷ P) v h settled = settled-idle s P v (and_parts _ _ h).0 se
 result-job : (v : ℕ) (a : FrameName) (o : Option Entry) → is_result_of v a o ≡ true → (e : Entry) × (o ≡ Some e) × (is_job v e ≡ true)
 result-job v a None h = absurd (false≢true h)
 result-job v a (Some (Take r w m k)) h = (Take r w m k, refl, (and_parts (eqb w v) (same a (frame m k)) h).0)
-result-job v a (Some (TakeBlock r w m k b n f g x)) h = (TakeBlock r w m k b n f g x, refl, (and_parts (eqb w v) (same a (frame v k)) h).0)
+result-job v a (Some (TakeBlock f x r w m k b n g)) h = (TakeBlock f x r w m k b n g, refl, (and_parts (eqb w v) (same a (frame v k)) h).0)
 result-job v a (Some _) h = absurd (false≢true h)
 
 -- where a result is put, the node isn't settled

@@ -70,9 +70,9 @@ total-take t s r v m k P h =
     let nodes = leaves t s e P v (bit (t (frame m k))) h (λ u ne. at-same t s P (e ∷ P) u (queue_laws.take_elsewhere r u v m k P (turn ne)) refl refl refl) (shorter t s v m k e P (queue_laws.take s r v m k P row) refl) in
     omega (arith, nodes)
 
-pub total-take_block : (t : FrameName → Bool) (s : Setting) (r v m k b n : ℕ) (f : Bool) (g : ℕ) (x : Bool) (P : Past) → is_legal s (TakeBlock r v m k b n f g x ∷ P) ≡ true → total t s (TakeBlock r v m k b n f g x ∷ P) ≡ total t s P + bit (t (frame v k))
+pub total-take_block : (t : FrameName → Bool) (s : Setting) (r v m k b n : ℕ) (f : Bool) (g : ℕ) (x : Bool) (P : Past) → is_legal s (TakeBlock f x r v m k b n g ∷ P) ≡ true → total t s (TakeBlock f x r v m k b n g ∷ P) ≡ total t s P + bit (t (frame v k))
 total-take_block t s r v m k b n f g x P h =
-    let e : Entry = TakeBlock r v m k b n f g x in
+    let e : Entry = TakeBlock f x r v m k b n g in
     let row : first s P e ≡ true = row_of s e P (λ d. refl) h in
     let nodes = leaves t s e P v (bit (t (frame m k))) h (λ u ne. at-same t s P (e ∷ P) u (queue_laws.take_block_elsewhere r u v m k b n f g x P (turn ne)) refl refl refl) (shorter t s v m k e P (queue_laws.take_block s r v m k b n f g x P row) refl) in
     omega (arith, nodes)
@@ -181,7 +181,7 @@ total-put t s r v m k f d P h held =
 -- how many of the arrays that are made in the hand pass
 abbrev pub made_in : (FrameName → Bool) → Entry → ℕ
 made_in t (Load r k b n f g x) = bit (t (frame 0 k))
-made_in t (TakeBlock r v m k b n f g x) = bit (t (frame v k))
+made_in t (TakeBlock f x r v m k b n g) = bit (t (frame v k))
 made_in t _ = 0
 
 pub total-reclaim : (t : FrameName → Bool) (s : Setting) (r : ℕ) (d : Entry) (P : Past) → is_legal s (Reclaim r ∷ P) ≡ true → hand r P ≡ Some d → total t s P ≡ total t s (Reclaim r ∷ P) + made_in t d
@@ -201,8 +201,8 @@ total-reclaim t s r (Take q v m k) P h held =
     let here : at_node t s (e ∷ P) v ≡ at_node t s P v + bit (t (frame m k)) = omega (arith, at-parts t s (e ∷ P) v, at-parts t s P v, longer, ap (count t) file) in
     let nodes = joins t s e P v (bit (t (frame m k))) h (λ u ne. at-same t s P (e ∷ P) u (queue_laws.reclaim_other u r d P held (ne_eqb v u (turn ne))) refl refl (save_laws.reclaim_other s r u d P legal held refl)) here in
     omega (arith, gone, nodes)
-total-reclaim t s r (TakeBlock q v m k b n f g x) P h held =
-    let d : Entry = TakeBlock q v m k b n f g x in
+total-reclaim t s r (TakeBlock f x q v m k b n g) P h held =
+    let d : Entry = TakeBlock f x q v m k b n g in
     let e : Entry = Reclaim r in
     let legal : is_legal s P ≡ true = (and_parts _ _ h).0 in
     let gone : sum_of (held_by t) (hands P) ≡ held_by t d + sum_of (held_by t) (hands (e ∷ P)) = sum-let_go (held_by t) r d (hands P) held in

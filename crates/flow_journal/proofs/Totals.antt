@@ -65,7 +65,7 @@ sum-one f g w (u ∷ us) same one =
 abbrev pub held_by : (FrameName → Bool) → Entry → ℕ
 held_by t (Load r k b n f g x) = bit (t (frame 0 k))
 held_by t (Take r v m k) = bit (t (frame m k))
-held_by t (TakeBlock r v m k b n f g x) = bit (t (frame v k)) + bit (t (frame m k))
+held_by t (TakeBlock f x r v m k b n g) = bit (t (frame v k)) + bit (t (frame m k))
 held_by t (Save r v m k g) = bit (t (frame m k))
 held_by t _ = 0
 
@@ -92,7 +92,7 @@ blocks-count q P (x ∷ xs) = omega (arith, count-append q (block_of P x) (flat_
 pub hand-count : (s : Setting) (q : ℕ → Bool) (P : Past) (e : Entry) → is_legal s P ≡ true → Stands P e → count q (blocks_in_hand P e) ≡ held_by (has q P) e
 hand-count s q P (Load r k b n f g x) h stands = omega (arith, count-cons q b [], ap bit (any-one q b (block_of P (frame 0 k)) (load-block s P r k b n f g x h (stands r (eq-eqb r r refl)))))
 hand-count s q P (Take r v m k) h stands = frame-count q P (frame m k)
-hand-count s q P (TakeBlock r v m k b n f g x) h stands =
+hand-count s q P (TakeBlock f x r v m k b n g) h stands =
     omega (arith, count-cons q b (block_of P (frame m k)), frame-count q P (frame m k), ap bit (any-one q b (block_of P (frame v k)) (take-block s P r v m k b n f g x h (stands r (eq-eqb r r refl)))))
 hand-count s q P (Save r v m k g) h stands = frame-count q P (frame m k)
 hand-count s q P _ h stands = refl
@@ -164,7 +164,7 @@ tests-same t u a s P agree c =
     hand_agree : (e : Entry) → holds (is_frame a) e ≡ false → held_by t e ≡ held_by u e
     hand_agree (Load r k b n f g x) h = ap bit (agree (frame 0 k) h)
     hand_agree (Take r v m k) h = ap bit (agree (frame m k) h)
-    hand_agree (TakeBlock r v m k b n f g x) h =
+    hand_agree (TakeBlock f x r v m k b n g) h =
         let p = or_parts (is_frame a (frame v k)) (is_frame a (frame m k)) h in
         omega (arith, ap bit (agree (frame v k) p.0), ap bit (agree (frame m k) p.1))
     hand_agree (Save r v m k g) h = ap bit (agree (frame m k) h)

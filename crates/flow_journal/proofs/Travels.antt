@@ -35,7 +35,7 @@ use Rattle.flow_journal.proofs.Rows.{taken_front, save-facts, first_of-next}
 abbrev pub holds_by : (u t : FrameName → Bool) → Entry → Bool
 holds_by u t (Load r k b n f g x) = u (frame 0 k)
 holds_by u t (Take r v m k) = t (frame m k)
-holds_by u t (TakeBlock r v m k b n f g x) = u (frame v k) || t (frame m k)
+holds_by u t (TakeBlock f x r v m k b n g) = u (frame v k) || t (frame m k)
 holds_by u t (Save r v m k g) = t (frame m k)
 holds_by u t _ = false
 
@@ -52,7 +52,7 @@ carries t _ = false
 -- the arrays that the entry makes
 abbrev pub made_by : Entry → List FrameName
 made_by (Load r k b n f g x) = frame 0 k ∷ []
-made_by (TakeBlock r v m k b n f g x) = frame v k ∷ []
+made_by (TakeBlock f x r v m k b n g) = frame v k ∷ []
 made_by _ = []
 
 -- the arrays that the entry lets out of the hand in which they were made or taken
@@ -117,17 +117,17 @@ take-clear u t s r v m k P may c =
 pub may-Take : (s : Setting) (r v m k : ℕ) (P : Past) → is_legal s (Take r v m k ∷ P) ≡ true → may_take s r v (frame m k) P ≡ true
 may-Take s r v m k P h = (and_parts _ _ (row_of s (Take r v m k) P (λ d. refl) h)).0
 
-pub may-TakeBlock : (s : Setting) (r v m k b n : ℕ) (f : Bool) (g : ℕ) (x : Bool) (P : Past) → is_legal s (TakeBlock r v m k b n f g x ∷ P) ≡ true → may_take s r v (frame m k) P ≡ true
-may-TakeBlock s r v m k b n f g x P h = (and_parts _ _ (and_parts (may_take s r v (frame m k) P && is_maker s v) (pool_grants s v b n f g x P) (row_of s (TakeBlock r v m k b n f g x) P (λ d. refl) h)).0).0
+pub may-TakeBlock : (s : Setting) (r v m k b n : ℕ) (f : Bool) (g : ℕ) (x : Bool) (P : Past) → is_legal s (TakeBlock f x r v m k b n g ∷ P) ≡ true → may_take s r v (frame m k) P ≡ true
+may-TakeBlock s r v m k b n f g x P h = (and_parts _ _ (and_parts (may_take s r v (frame m k) P && is_maker s v) (pool_grants s v b n f g x P) (row_of s (TakeBlock f x r v m k b n g) P (λ d. refl) h)).0).0
 
 result-clear : (t : FrameName → Bool) (v : ℕ) (a : FrameName) (o : Option Entry) → is_result_of v a o ≡ true → ((e : Entry) → o ≡ Some e → holds t e ≡ false) → t a ≡ false
 result-clear t v a None h clear = absurd (false≢true h)
 result-clear t v a (Some (Take r w m k)) h clear =
     let p = and_parts (eqb w v) (same a (frame m k)) h in
     ap t (same-true a (frame m k) p.1) ∙ clear (Take r w m k) refl
-result-clear t v a (Some (TakeBlock r w m k b n f g x)) h clear =
+result-clear t v a (Some (TakeBlock f x r w m k b n g)) h clear =
     let p = and_parts (eqb w v) (same a (frame v k)) h in
-    let q = or_parts (t (frame w k)) (t (frame m k)) (clear (TakeBlock r w m k b n f g x) refl) in
+    let q = or_parts (t (frame w k)) (t (frame m k)) (clear (TakeBlock f x r w m k b n g) refl) in
     ap t (same-true a (frame v k) p.1) ∙ (ap (λ (u : ℕ). t (frame u k)) (sym (eqb-true w v p.0)) ∙ q.0)
 result-clear t v a (Some _) h clear = absurd (false≢true h)
 
@@ -168,15 +168,15 @@ goes-le t v w a xs =
 job-clear : (u t : FrameName → Bool) (v : ℕ) (o : Option Entry) → ((e : Entry) → o ≡ Some e → holds_by u t e ≡ false) → count t (job_array v o) ≡ 0
 job-clear u t v None clear = refl
 job-clear u t v (Some (Take r w m k)) clear = omega (arith, comes-le t v w (frame m k) [], none-bit (t (frame m k)) (clear (Take r w m k) refl))
-job-clear u t v (Some (TakeBlock r w m k b n f g x)) clear =
-    let q = or_parts (u (frame w k)) (t (frame m k)) (clear (TakeBlock r w m k b n f g x) refl) in
+job-clear u t v (Some (TakeBlock f x r w m k b n g)) clear =
+    let q = or_parts (u (frame w k)) (t (frame m k)) (clear (TakeBlock f x r w m k b n g) refl) in
     omega (arith, comes-le t v w (frame m k) [], none-bit (t (frame m k)) q.1)
 job-clear u t v (Some _) clear = refl
 
 queues-more : (u t : FrameName → Bool) (s : Setting) (v : ℕ) (e : Entry) (P : Past) → is_legal s (e ∷ P) ≡ true → ClearBy u t s P → count t (queued v (e ∷ P)) ≡ 0
 queues-more u t s v (Accept w m k) P h c = omega (arith, comes-le t v w (frame m k) (queued v P), c.queues v, none-bit (t (frame m k)) (accept-clear u t s w m k P h c))
 queues-more u t s v (Take r w m k) P h c = omega (arith, goes-le t v w (frame m k) (queued v P), c.queues v)
-queues-more u t s v (TakeBlock r w m k b n f g x) P h c = omega (arith, goes-le t v w (frame m k) (queued v P), c.queues v)
+queues-more u t s v (TakeBlock f x r w m k b n g) P h c = omega (arith, goes-le t v w (frame m k) (queued v P), c.queues v)
 queues-more u t s v (PoolDrop r w m k n z) P h c = omega (arith, goes-le t v w (frame m k) (queued v P), c.queues v)
 queues-more u t s v (Reclaim r) P h c =
     omega (arith, count-append t (job_array v (hand r P)) (queued v P), job-clear u t v (hand r P) (λ e held. hand-clear (holds_by u t) r e P held c.roles), c.queues v)
@@ -206,7 +206,7 @@ lists-more u t s v _ P h i c = c.lists v
 
 ring_of-more : (t : FrameName → Bool) (w : Work) (flags : List Bool) (f : Bool) (xs : List FrameName) (a : FrameName) → length flags ≡ length xs → count t (ring_of w (flags ++ f ∷ []) (xs ++ a ∷ [])) ≤ bit (t a) + count t (ring_of w flags xs)
 ring_of-more t Makes flags f xs a long = omega arith
-ring_of-more t Passes flags f xs a long = omega arith
+ring_of-more t (Passes d) flags f xs a long = omega arith
 ring_of-more t (Saves whole n) flags f xs a long = omega arith
 ring_of-more t (Watches pre post preset) flags f xs a long = omega (arith, ring-push pre post preset flags f t xs a long)
 
@@ -289,8 +289,8 @@ or-none a b h g = rw h g
 roles-more : (u t : FrameName → Bool) (s : Setting) (e : Entry) (P : Past) → is_legal s (e ∷ P) ≡ true → ClearBy u t s P → count u (made_by e) ≡ 0 → count (holds_by u t) (hands (e ∷ P)) ≡ 0
 roles-more u t s (Load r k b n f g x) P h c made = one_more_hand (holds_by u t) (Load r k b n f g x) (hands P) (made-clear u (frame 0 k) made) c.roles
 roles-more u t s (Take r v m k) P h c made = one_more_hand (holds_by u t) (Take r v m k) (hands P) (take-clear u t s r v m k P (may-Take s r v m k P h) c) c.roles
-roles-more u t s (TakeBlock r v m k b n f g x) P h c made =
-    one_more_hand (holds_by u t) (TakeBlock r v m k b n f g x) (hands P) (or-none (u (frame v k)) (t (frame m k)) (made-clear u (frame v k) made) (take-clear u t s r v m k P (may-TakeBlock s r v m k b n f g x P h) c)) c.roles
+roles-more u t s (TakeBlock f x r v m k b n g) P h c made =
+    one_more_hand (holds_by u t) (TakeBlock f x r v m k b n g) (hands P) (or-none (u (frame v k)) (t (frame m k)) (made-clear u (frame v k) made) (take-clear u t s r v m k P (may-TakeBlock s r v m k b n f g x P h) c)) c.roles
 roles-more u t s (Save r v m k g) P h c made =
     one_more_hand (holds_by u t) (Save r v m k g) (hands P) (front-clear t (frame m k) (unsaved s v P) (first_of-next (frame m k) (unsaved s v P) (save-facts s r v m k g P (row_of s (Save r v m k g) P (λ d. refl) h)).piece.front) (c.files v)) c.roles
 roles-more u t s (Issue r k) P h c made = fewer_hands (holds_by u t) r (hands P) c.roles
@@ -356,7 +356,7 @@ passed-clear u t s v m k f P none c =
 
 put-calls : (u t : FrameName → Bool) (s : Setting) (v m k : ℕ) (f : Bool) (P : Past) (w : Work) → t (frame m k) ≡ false → ClearBy u t s P → count (carries t) (result s v (frame m k) f P w) ≡ 0
 put-calls u t s v m k f P Makes none c = passed-clear u t s v m k f P none c
-put-calls u t s v m k f P Passes none c = passed-clear u t s v m k f P none c
+put-calls u t s v m k f P (Passes d) none c = passed-clear u t s v m k f P none c
 put-calls u t s v m k f P (Saves whole n) none c = refl
 put-calls u t s v m k f P (Watches pre post preset) none c =
     let flags : List Bool = firings v P in
@@ -392,7 +392,7 @@ clear-start u t s = record {
   where
     no_ring : (t : FrameName → Bool) (w : Work) → count t (ring_of w [] []) ≡ 0
     no_ring t Makes = refl
-    no_ring t Passes = refl
+    no_ring t (Passes d) = refl
     no_ring t (Saves whole n) = refl
     no_ring t (Watches pre post preset) = ap (count t) (kept-nothing pre post preset)
 

@@ -17,7 +17,7 @@ use Rattle.flow_journal.specs.Unsaved.{unsaved}
 -- the block that the entry gives a frame: a Load its own, and a TakeBlock the one that the node makes
 abbrev pub granted_for : FrameName → Entry → List ℕ
 granted_for a (Load r k b n f g x) = if same a (frame 0 k) then b ∷ [] else []
-granted_for a (TakeBlock r v m k b n f g x) = if same a (frame v k) then b ∷ [] else []
+granted_for a (TakeBlock f x r v m k b n g) = if same a (frame v k) then b ∷ [] else []
 granted_for a _ = []
 
 abbrev pub first_of : List ℕ → List ℕ
@@ -32,7 +32,7 @@ block_of P a = first_of (flat_map (granted_for a) (standing P))
 abbrev pub blocks_in_hand : Past → Entry → List ℕ
 blocks_in_hand P (Load r k b n f g x) = b ∷ []
 blocks_in_hand P (Take r v m k) = block_of P (frame m k)
-blocks_in_hand P (TakeBlock r v m k b n f g x) = b ∷ block_of P (frame m k)
+blocks_in_hand P (TakeBlock f x r v m k b n g) = b ∷ block_of P (frame m k)
 blocks_in_hand P (Save r v m k g) = block_of P (frame m k)
 blocks_in_hand P _ = []
 
@@ -58,7 +58,7 @@ is_unplaced s P b = refs s P b == 0
 abbrev pub known : Setting → Past → List Block
 known s [] = []
 known s (Load r k b n f g x ∷ P) = known_after (is_unplaced s P) (Granted b n f g) (known s P)
-known s (TakeBlock r v m k b n f g x ∷ P) = known_after (is_unplaced s P) (Granted b n f g) (known s P)
+known s (TakeBlock f x r v m k b n g ∷ P) = known_after (is_unplaced s P) (Granted b n f g) (known s P)
 known s (e ∷ P) = known s P
 
 -- the bytes of the blocks that have a place

@@ -1,6 +1,6 @@
 -- What went out of a node, the previous id, and the breaks.
-use Rattle.std.specs.Prelude.{ℕ, ◌+◌, ◌==◌, Bool, ◌||◌, List, [], ◌∷◌, flat_map, ℤ, pos, ◌+ℤ◌, if◌then◌else◌}
-use Rattle.std.specs.Ordering.{int_eq}
+use Rattle.std.specs.Prelude.{ℕ, ◌+◌, ◌==◌, List, [], ◌∷◌, flat_map, ℤ, if◌then◌else◌}
+use Rattle.queue_sort.specs.Sorting.{keeps_step}
 use Rattle.flow_journal.specs.declared.entry.Entry.{Entry}
 use Rattle.flow_journal.specs.declared.entry.Entry.TheVariants.{Emit, Save}
 use Rattle.flow_journal.specs.Setting.{Setting, id_at, first_prev}
@@ -24,10 +24,6 @@ prev_of s (k ∷ ks) = id_at s k
 -- the previous id: that of what went out last
 abbrev pub prev : Setting → ℕ → Past → ℤ
 prev s v P = prev_of s (outs v P)
-
--- an id keeps step with the one before it where it is that one or the next
-abbrev pub keeps_step : ℤ → ℤ → Bool
-keeps_step before id = int_eq id before || int_eq id (before +ℤ pos 1)
 
 -- how many of these keep no step, the newest first
 abbrev pub breaks_of : Setting → List ℕ → ℕ

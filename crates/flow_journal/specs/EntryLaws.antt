@@ -14,14 +14,15 @@ use Rattle.flow_journal.specs.Puts.{puts, firings}
 use Rattle.flow_journal.specs.Waiting.{waiting, not_waiting}
 use Rattle.flow_journal.specs.Rings.{ring}
 use Rattle.flow_journal.specs.Unsaved.{standing_saves, unsaved, is_file}
-use Rattle.flow_journal.specs.Breaks.{outs, prev, keeps_step, breaks}
+use Rattle.queue_sort.specs.Sorting.{keeps_step}
+use Rattle.flow_journal.specs.Breaks.{outs, prev, breaks}
 use Rattle.flow_journal.specs.FirstEntries.{first}
 use Rattle.flow_journal.specs.Histories.{is_legal}
 
 abbrev pub moves_queues : Entry → Bool
 moves_queues (Accept w m k) = true
 moves_queues (Take r w m k) = true
-moves_queues (TakeBlock r w m k b n f g x) = true
+moves_queues (TakeBlock f x r w m k b n g) = true
 moves_queues (PoolDrop r w m k n h) = true
 moves_queues (Reclaim r) = true
 moves_queues _ = false
@@ -31,14 +32,14 @@ pub record QueueLaws : Type 0 where
   pub accept : (v m k : ℕ) (P : Past) → queued v (Accept v m k ∷ P) ≡ queued v P ++ frame m k ∷ []
   pub accept_elsewhere : (v w m k : ℕ) (P : Past) → w ≢ v → queued v (Accept w m k ∷ P) ≡ queued v P
   pub take : (s : Setting) (r v m k : ℕ) (P : Past) → first s P (Take r v m k) ≡ true → queued v P ≡ frame m k ∷ queued v (Take r v m k ∷ P)
-  pub take_block : (s : Setting) (r v m k b n : ℕ) (f : Bool) (g : ℕ) (x : Bool) (P : Past) → first s P (TakeBlock r v m k b n f g x) ≡ true → queued v P ≡ frame m k ∷ queued v (TakeBlock r v m k b n f g x ∷ P)
+  pub take_block : (s : Setting) (r v m k b n : ℕ) (f : Bool) (g : ℕ) (x : Bool) (P : Past) → first s P (TakeBlock f x r v m k b n g) ≡ true → queued v P ≡ frame m k ∷ queued v (TakeBlock f x r v m k b n g ∷ P)
   pub pool_drop : (s : Setting) (r v m k n h : ℕ) (P : Past) → first s P (PoolDrop r v m k n h) ≡ true → queued v P ≡ frame m k ∷ queued v (PoolDrop r v m k n h ∷ P)
   pub take_elsewhere : (r v w m k : ℕ) (P : Past) → w ≢ v → queued v (Take r w m k ∷ P) ≡ queued v P
-  pub take_block_elsewhere : (r v w m k b n : ℕ) (f : Bool) (g : ℕ) (x : Bool) (P : Past) → w ≢ v → queued v (TakeBlock r w m k b n f g x ∷ P) ≡ queued v P
+  pub take_block_elsewhere : (r v w m k b n : ℕ) (f : Bool) (g : ℕ) (x : Bool) (P : Past) → w ≢ v → queued v (TakeBlock f x r w m k b n g ∷ P) ≡ queued v P
   pub pool_drop_elsewhere : (r v w m k n h : ℕ) (P : Past) → w ≢ v → queued v (PoolDrop r w m k n h ∷ P) ≡ queued v P
   pub reclaim : (v r q m k : ℕ) (P : Past) → hand r P ≡ Some (Take q v m k) → queued v (Reclaim r ∷ P) ≡ frame m k ∷ queued v P
   pub reclaim_other : (v r : ℕ) (e : Entry) (P : Past) → hand r P ≡ Some e → is_job v e ≡ false → queued v (Reclaim r ∷ P) ≡ queued v P
-  pub reclaim_block : (v r q m k b n : ℕ) (f : Bool) (g : ℕ) (x : Bool) (P : Past) → hand r P ≡ Some (TakeBlock q v m k b n f g x) → queued v (Reclaim r ∷ P) ≡ frame m k ∷ queued v P
+  pub reclaim_block : (v r q m k b n : ℕ) (f : Bool) (g : ℕ) (x : Bool) (P : Past) → hand r P ≡ Some (TakeBlock f x q v m k b n g) → queued v (Reclaim r ∷ P) ≡ frame m k ∷ queued v P
   pub others : (v : ℕ) (e : Entry) (P : Past) → moves_queues e ≡ false → queued v (e ∷ P) ≡ queued v P
 
 abbrev pub lets_go : ℕ → Entry → Bool
@@ -150,7 +151,7 @@ pub record SaveLaws : Type 0 where
 abbrev pub moves_hands : Entry → Bool
 moves_hands (Load r k b n f g x) = true
 moves_hands (Take r v m k) = true
-moves_hands (TakeBlock r v m k b n f g x) = true
+moves_hands (TakeBlock f x r v m k b n g) = true
 moves_hands (Save r v m k g) = true
 moves_hands (Issue r k) = true
 moves_hands (Put r v m k f) = true

@@ -69,7 +69,7 @@ is_load_of k _ = false
 -- The hand is a job of v, and a is the name of its result: that of its array, or at a maker the maker's with the same index.
 abbrev pub is_result_of : ℕ → FrameName → Option Entry → Bool
 is_result_of v a (Some (Take r w m k)) = (w == v) && same a (frame m k)
-is_result_of v a (Some (TakeBlock r w m k b n f g x)) = (w == v) && same a (frame v k)
+is_result_of v a (Some (TakeBlock f x r w m k b n g)) = (w == v) && same a (frame v k)
 is_result_of v a _ = false
 
 -- the hand is a piece of v with this array
@@ -102,7 +102,7 @@ first s P (Load r k b n f g x) = may_load s r k P && pool_grants s 0 b n f g x P
 first s P (LoadRefused r k n h) = may_load s r k P && pool_refuses s 0 n h P
 first s P (Issue r k) = is_load_of k (hand r P)
 first s P (Take r v m k) = may_take s r v (frame m k) P && not (is_maker s v)
-first s P (TakeBlock r v m k b n f g x) = may_take s r v (frame m k) P && is_maker s v && pool_grants s v b n f g x P
+first s P (TakeBlock f x r v m k b n g) = may_take s r v (frame m k) P && is_maker s v && pool_grants s v b n f g x P
 first s P (PoolDrop r v m k n h) = may_take s r v (frame m k) P && is_maker s v && pool_refuses s v n h P
 first s P (Put r v m k f) = is_result_of v (frame m k) (hand r P) && both f (fires_at s v k (node s v).work)
 first s P (Settle r v) = is_role s r && may_settle s v P

@@ -12,7 +12,8 @@ use Rattle.flow_journal.specs.Ended.{now}
 use Rattle.flow_journal.specs.Puts.{firings}
 use Rattle.flow_journal.specs.Waiting.{waiting, Waiting, least_first}
 use Rattle.flow_journal.specs.Rings.{ring}
-use Rattle.flow_journal.specs.Breaks.{prev, keeps_step}
+use Rattle.queue_sort.specs.Sorting.{keeps_step}
+use Rattle.flow_journal.specs.Breaks.{prev}
 
 -- An offer to a child. It is answered by an Accept where the child's queue has room when its turn comes, and else by a Full.
 abbrev pub offer : FrameName → ℕ → Entry

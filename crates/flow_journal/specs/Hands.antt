@@ -9,7 +9,7 @@ use Rattle.flow_journal.specs.Pasts.{Past, frame, comes_at}
 abbrev pub takes_up : ℕ → Entry → Bool
 takes_up r (Load q k b n f g x) = q == r
 takes_up r (Take q v m k) = q == r
-takes_up r (TakeBlock q v m k b n f g x) = q == r
+takes_up r (TakeBlock f x q v m k b n g) = q == r
 takes_up r (Save q v m k g) = q == r
 takes_up r _ = false
 
@@ -18,12 +18,12 @@ abbrev pub let_go : ℕ → Past → Past
 let_go r [] = []
 let_go r (e ∷ P) = if takes_up r e then P else e ∷ let_go r P
 
--- the hands: each Load, Take, TakeBlock and Save after which its role has no Issue, Put, Saved or Reclaim
+-- the hands: each Load, Take, TakeBlock has Issue and Save after which its role no, Put, Saved or Reclaim
 abbrev pub hands : Past → Past
 hands [] = []
 hands (Load r k b n f g x ∷ P) = Load r k b n f g x ∷ hands P
 hands (Take r v m k ∷ P) = Take r v m k ∷ hands P
-hands (TakeBlock r v m k b n f g x ∷ P) = TakeBlock r v m k b n f g x ∷ hands P
+hands (TakeBlock f x r v m k b n g ∷ P) = TakeBlock f x r v m k b n g ∷ hands P
 hands (Save r v m k g ∷ P) = Save r v m k g ∷ hands P
 hands (Issue r k ∷ P) = let_go r (hands P)
 hands (Put r v m k f ∷ P) = let_go r (hands P)
@@ -53,7 +53,7 @@ is_loaded _ = false
 -- the hand is a job of the node
 abbrev pub is_job : ℕ → Entry → Bool
 is_job v (Take r w m k) = w == v
-is_job v (TakeBlock r w m k b n f g x) = w == v
+is_job v (TakeBlock f x r w m k b n g) = w == v
 is_job v _ = false
 
 -- the hand is a piece of the node
@@ -68,5 +68,5 @@ jobs v P = length (filter (is_job v) (hands P))
 -- the array that a hand took from the queue of the node
 abbrev pub job_array : ℕ → Option Entry → List FrameName
 job_array v (Some (Take r w m k)) = comes_at v w (frame m k) []
-job_array v (Some (TakeBlock r w m k b n f g x)) = comes_at v w (frame m k) []
+job_array v (Some (TakeBlock f x r w m k b n g)) = comes_at v w (frame m k) []
 job_array v _ = []

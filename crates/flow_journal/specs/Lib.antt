@@ -29,6 +29,7 @@ pub mod IndexLaws
 pub mod RowFacts
 pub mod RowLaws
 pub mod WaitingLaws
+pub mod SortListLaws
 pub mod LookLaws
 pub mod DueLaws
 pub mod RingPushes

@@ -6,7 +6,8 @@ use Rattle.flow_journal.specs.Setting.{Setting, node, id_at, is_sorted}
 use Rattle.flow_journal.specs.Pasts.{Past}
 use Rattle.flow_journal.specs.Ended.{now}
 use Rattle.flow_journal.specs.Waiting.{Waiting, waiting, least_first}
-use Rattle.flow_journal.specs.Breaks.{prev, keeps_step}
+use Rattle.queue_sort.specs.Sorting.{keeps_step}
+use Rattle.flow_journal.specs.Breaks.{prev}
 use Rattle.flow_journal.specs.Following.{emit, look, calls_for}
 use Rattle.flow_journal.specs.Histories.{is_legal}
 use Rattle.flow_journal.specs.WaitingLaws.{id_of}

@@ -13,7 +13,7 @@ times a xs = length (filter (λ x. same x a) xs)
 -- the array that an entry takes out of the queue of the node
 abbrev pub gone_at : ℕ → Entry → List FrameName
 gone_at v (Take r w m k) = comes_at v w (frame m k) []
-gone_at v (TakeBlock r w m k b n f g x) = comes_at v w (frame m k) []
+gone_at v (TakeBlock f x r w m k b n g) = comes_at v w (frame m k) []
 gone_at v (PoolDrop r w m k n h) = comes_at v w (frame m k) []
 gone_at v _ = []
 

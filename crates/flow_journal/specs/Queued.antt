@@ -12,7 +12,7 @@ abbrev pub queued : ℕ → Past → List FrameName
 queued v [] = []
 queued v (Accept w m k ∷ P) = comes_at v w (frame m k) (queued v P)
 queued v (Take r w m k ∷ P) = goes_at v w (frame m k) (queued v P)
-queued v (TakeBlock r w m k b n f g x ∷ P) = goes_at v w (frame m k) (queued v P)
+queued v (TakeBlock f x r w m k b n g ∷ P) = goes_at v w (frame m k) (queued v P)
 queued v (PoolDrop r w m k n h ∷ P) = goes_at v w (frame m k) (queued v P)
 queued v (Reclaim r ∷ P) = job_array v (hand r P) ++ queued v P
 queued v (e ∷ P) = queued v P

@@ -70,7 +70,7 @@ HasJob r v m k P = hand r P ≡ Some (Take r v m k)
 
 -- the hand of the role is a job of v that makes a frame of this index
 abbrev pub HasMaking : (r v k : ℕ) → Past → Type 0
-HasMaking r v k P = (m b n : ℕ) × (f : Bool) × (g : ℕ) × (x : Bool) × (hand r P ≡ Some (TakeBlock r v m k b n f g x))
+HasMaking r v k P = (m b n : ℕ) × (f : Bool) × (g : ℕ) × (x : Bool) × (hand r P ≡ Some (TakeBlock f x r v m k b n g))
 
 -- the hand of the role is a job of v, whose result is the frame (m, k)
 abbrev pub HasResult : (r v m k : ℕ) → Past → Type 0

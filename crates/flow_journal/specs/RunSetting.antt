@@ -5,7 +5,7 @@ use Rattle.nd_base.specs.declared.attribute.Attr.{Attr}
 use Rattle.nd_base.specs.declared.graph.Graph.{Graph}
 use Rattle.nd_base.specs.declared.graph.NodeRule.{NodeRule}
 use Rattle.nd_base.specs.declared.graph.Kind.{Kind}
-use Rattle.nd_base.specs.declared.graph.Kind.TheVariants.{Roi, Stats, Circular, File}
+use Rattle.nd_base.specs.declared.graph.Kind.TheVariants.{Roi, Stats, Circular, File, Scatter}
 use Rattle.nd_base.specs.declared.graph.Mode.{Mode}
 use Rattle.nd_base.specs.declared.graph.Mode.TheVariants.{Single, Capture, Stream}
 use Rattle.nd_base.specs.declared.plan.Maker.{Maker}
@@ -21,7 +21,8 @@ is_capture Stream = false
 
 abbrev pub work_of : Kind → Work
 work_of (Roi r) = Makes
-work_of (Stats r) = Passes
+work_of (Stats r) = Passes false
+work_of Scatter = Passes true
 work_of (Circular r) = Watches r.pre r.post r.preset
 work_of (File r) = Saves (is_capture r.mode) r.count
 
@@ -36,7 +37,10 @@ need_of (k ∷ ks) m = if k.node == m then k.need else need_of ks m
 -- a circular node fires at an array with these attributes
 abbrev pub kind_fires : Kind → List Attr → Bool
 kind_fires (Circular r) attrs = trigger_fires r attrs
-kind_fires _ attrs = false
+kind_fires (Roi r) attrs = false
+kind_fires (Stats r) attrs = false
+kind_fires (File r) attrs = false
+kind_fires Scatter attrs = false
 
 -- the node fires at this array, whose attributes are those of its frame in the stack, whatever made it
 abbrev pub node_fires : Option NodeRule → Option Array → Bool

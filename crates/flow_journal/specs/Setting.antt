@@ -4,8 +4,8 @@ use Rattle.std.specs.Prelude.{ℕ, zero, suc, ◌+◌, ◌==◌, Bool, true, fal
 pub data Work : Type 0 where
   -- makes an array of its own of each one
   Makes : Work
-  -- passes each array on
-  Passes : Work
+  -- passes each array on; with deals each goes to one child in turn
+  Passes : (deals : Bool) → Work
   -- passes on the arrays inside its trigger windows
   Watches : (pre post preset : ℕ) → Work
   -- saves arrays in groups of count. With whole_groups an array is due only once its group is whole
@@ -37,7 +37,7 @@ pub record Setting : Type 0 where
 
 -- what stands for a node that isn't there: it has no threads
 abbrev pub no_node : Node
-no_node = record { work = Passes; input = 0; queue = 0; threads = 0; sort = 0; sort_time = 0 }
+no_node = record { work = Passes false; input = 0; queue = 0; threads = 0; sort = 0; sort_time = 0 }
 
 -- the rule of a node
 abbrev pub node : Setting → ℕ → Node
@@ -50,7 +50,9 @@ is_node s v = nat_lt 0 v && nat_le v (length s.nodes)
 
 abbrev pub makes : Work → Bool
 makes Makes = true
-makes _ = false
+makes (Passes deals) = false
+makes (Watches pre post preset) = false
+makes (Saves whole_groups count) = false
 
 -- the node makes arrays of its own
 abbrev pub is_maker : Setting → ℕ → Bool
@@ -59,8 +61,9 @@ is_maker s v = makes (node s v).work
 -- only nodes that make or pass arrays on can sort them
 abbrev pub may_sort : Work → Bool
 may_sort Makes = true
-may_sort Passes = true
-may_sort _ = false
+may_sort (Passes deals) = true
+may_sort (Watches pre post preset) = false
+may_sort (Saves whole_groups count) = false
 
 -- the node has a sort list
 abbrev pub is_sorted : Setting → ℕ → Bool

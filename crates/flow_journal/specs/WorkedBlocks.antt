@@ -23,7 +23,7 @@ twelve_bytes =
 
 abbrev pub one_given_up : List Entry
 one_given_up =
-    fed 0 ++ fed 1 ++ (PoolDrop 1 1 0 0 8 8 ∷ TakeBlock 1 1 0 1 0 8 true 1 false ∷ Put 1 1 1 1 false ∷ Emit 1 1 1 Plain ∷ [])
+    fed 0 ++ fed 1 ++ (PoolDrop 1 1 0 0 8 8 ∷ TakeBlock true false 1 1 0 1 0 8 1 ∷ Put 1 1 1 1 false ∷ Emit 1 1 1 Plain ∷ [])
 
 a_free_block_is_given_up : is_history twelve_bytes (after one_given_up) ≡ true
 a_free_block_is_given_up = refl

@@ -10,7 +10,7 @@ use Rattle.flow_journal.specs.Histories.{is_history, is_legal}
 use Rattle.flow_journal.specs.WorkedRuns.{one_node, after, loaded, issued_in_vain, fed, taken}
 
 abbrev pub free_feed : Setting
-free_feed = one_node Passes 1 1 0 100 0 false (pos 1 ∷ pos 2 ∷ pos 3 ∷ [])
+free_feed = one_node (Passes false) 1 1 0 100 0 false (pos 1 ∷ pos 2 ∷ pos 3 ∷ [])
 
 -- the block of the second frame is free again, and the third one gets it
 abbrev pub two_dropped : List Entry

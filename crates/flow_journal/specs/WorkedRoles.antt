@@ -8,7 +8,7 @@ use Rattle.flow_journal.specs.Histories.{is_history}
 use Rattle.flow_journal.specs.WorkedRuns.{one_node, after, fed, taken}
 
 abbrev pub one_worker : Setting
-one_worker = one_node Passes 20 1 0 100 0 false (pos 1 ∷ [])
+one_worker = one_node (Passes false) 20 1 0 100 0 false (pos 1 ∷ [])
 
 abbrev pub worker_left : List Entry
 worker_left = fed 0 ++ taken 1 0 ++ (Leave 1 ∷ Reclaim 1 ∷ [])

@@ -13,7 +13,7 @@ use Rattle.flow_journal.specs.WorkedRuns.{one_node, after, loaded, issued, fed, 
 
 -- a sort list of this size and a sort time of 5
 abbrev pub sorting : ℕ → List ℤ → Setting
-sorting size ids = one_node Passes 20 4 size 5 0 false ids
+sorting size ids = one_node (Passes false) 20 4 size 5 0 false ids
 
 abbrev pub one_two_three : List ℤ
 one_two_three = pos 1 ∷ pos 2 ∷ pos 3 ∷ []

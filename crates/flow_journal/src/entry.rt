@@ -76,15 +76,15 @@ pub enum Entry {
     },
     /// A worker took the array as a job, with a block for the array that the node makes of it.
     TakeBlock {
+        fresh: bool,
+        regrown: bool,
         role: u32,
         node: u32,
         maker: u32,
         index: u32,
         block: u32,
         size: u32,
-        fresh: bool,
         given: u32,
-        regrown: bool,
     },
     /// The pool refused the block of a job, and the array was dropped.
     PoolDrop {

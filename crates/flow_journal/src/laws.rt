@@ -9,6 +9,7 @@ ghost use Rattle.flow_journal.specs.AccountLaws.{BlockLaws, CountLaws, KeptLaws,
 ghost use Rattle.flow_journal.specs.OutputLaws.{OutputLaws};
 ghost use Rattle.flow_journal.specs.RingPushes.{RingPushLaws, RingWindowLaws};
 ghost use Rattle.flow_journal.specs.WaitingLaws.{LeastLaws};
+ghost use Rattle.flow_journal.specs.SortListLaws.{SortListLaws};
 ghost use Rattle.flow_journal.specs.LookLaws.{LookLaws};
 ghost use Rattle.flow_journal.specs.TextLaws.{TextsTellEntries, TextsHaveNoBadLine};
 
@@ -45,9 +46,11 @@ pub fn arrays_come_once()
     ensures emitted { EmitsOnce }
 {}
 
-/// Waiting results go out by id, and those of one id in the order of their puts; and a look takes one at a time.
+/// Waiting results go out by id, and those of one id in the order of their puts, as from a sort list; and a look takes one at a
+/// time.
 pub fn least_goes_first()
     ensures order { LeastLaws }
+    ensures list { SortListLaws }
     ensures looks { LookLaws }
 {}
 

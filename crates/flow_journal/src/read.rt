@@ -10,12 +10,15 @@ use crate::kind::Kind;
 use crate::{Entry, Log, Why};
 use nd_base::OutOfMemory;
 use std::alloc::{AllocError, AllocFailed, Global};
+use thiserror::Error;
 
 /// Why a text is none of a log.
-#[derive(Clone, Copy, Debug, PartialEq, Eq)]
+#[derive(Clone, Copy, Debug, PartialEq, Eq, Error)]
 pub enum LogFault {
     /// Line `n`, from 1, is the first that isn't an entry as it is written, with its newline.
+    #[error("line {n} is no entry")]
     Line { n: u32 },
+    #[error("out of memory")]
     OutOfMemory,
 }
 

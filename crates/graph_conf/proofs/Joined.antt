@@ -1,30 +1,22 @@
 -- The nodes as the definitions see them.
 use Rattle.std.proofs.Common.{◌≡◌, ◌+◌, ◌-◌, ◌<◌, ◌&&◌, ℕ, suc, List, [], ◌∷◌, Bool, true, false, Option, Some, None, Result, Ok, Err, ◌++◌, append_assoc, codes, length, map, take, get_or, cond, refl, ap, sym, ◌∙◌, arith}
-use Rattle.std.specs.Prelude.{sum_by}
 use Rattle.std.specs.List.{list_any, position_from}
 use Rattle.std.specs.Option.{option_map, option_map_or}
 use Rattle.std.specs.Str.{bytes_eq}
-use Rattle.std.proofs.lemmas.Option.{slice_get-map, slice_get-get_or}
-use Rattle.std.proofs.lemmas.List.{take-map, length-map}
-use Rattle.std.proofs.lemmas.List.Sums.{sum_by-cons}
+use Rattle.std.proofs.lemmas.Option.{slice_get-get_or}
 use Rattle.graph_conf.specs.declared.node.NamedNode.{NamedNode}
 use Rattle.nd_base.specs.declared.graph.NodeRule.{NodeRule}
+use Rattle.nd_base.specs.GraphRules.{may_feed}
 use Rattle.toml.specs.Data.{Members}
 use Rattle.graph_conf.specs.declared.fault.GraphFault.{GraphFault}
 use Rattle.graph_conf.specs.declared.fault.GraphFault.TheVariants.{UnknownInput, DoubleName, Cycle}
 use Rattle.graph_conf.specs.Answers.{◌>>=◌}
-use Rattle.graph_conf.specs.Meanings.{named_text, kind_text, node_text, NamedText, NodeText}
 use Rattle.graph_conf.specs.Nodes.{node_of}
-use Rattle.graph_conf.specs.Graphs.{is_double, first_place, has_name, may_feed, nodes_from, input_number, input_numbers, known_input, thread_count, source_of, input_of, refused_node, is_circular, few_threads, with_inputs, linked}
-use Rattle.graph_conf.specs.Links.{rules_with}
-use Rattle.graph_conf.proofs.Known.{list_any_map}
+use Rattle.graph_conf.specs.Graphs.{is_double, first_place, has_name, nodes_from, input_number, input_numbers, known_input, source_of, input_of, refused_node, is_circular, few_threads, with_inputs, linked}
 
-pub is_double-map : (ns : List NamedNode) (k : ℕ) (d : NamedNode) → k < length ns →
-    is_double (map named_text ns) k ≡ list_any (λ n. bytes_eq n.rule.name (get_or ns k d).rule.name) (take k ns)
-is_double-map ns k d within =
-    ap (λ o. option_map_or (λ n. list_any (has_name n.rule.name) (take k (map named_text ns))) o false) (slice_get-map named_text ns k ∙ ap (option_map named_text) (slice_get-get_or ns k d within))
-    ∙ ap (list_any (has_name (get_or ns k d).rule.name)) (take-map named_text k ns)
-    ∙ list_any_map (has_name (get_or ns k d).rule.name) named_text (take k ns)
+pub is_double-at : (ns : List NamedNode) (k : ℕ) (d : NamedNode) → k < length ns →
+    is_double ns k ≡ list_any (λ n. bytes_eq n.rule.name (get_or ns k d).rule.name) (take k ns)
+is_double-at ns k d within = ap (λ o. option_map_or (λ n. list_any (has_name n.rule.name) (take k ns)) o false) (slice_get-get_or ns k d within)
 
 found_later : (here : Bool) (i : ℕ) (more less : Option ℕ) → more ≡ option_map (λ k. k + 1) less → cond here (Some (i + 1)) more ≡ option_map (λ k. k + 1) (cond here (Some i) less)
 found_later true i more less same = refl
@@ -34,10 +26,6 @@ found_later false i more less same = same
 pub position_from-suc : {X : Type 0} (test : X → Bool) (i : ℕ) (xs : List X) → position_from test (i + 1) xs ≡ option_map (λ k. k + 1) (position_from test i xs)
 position_from-suc test i [] = refl
 position_from-suc test i (x ∷ xs) = found_later (test x) i _ _ (position_from-suc test (i + 1) xs)
-
-pub position_from-map : {X Y : Type 0} (test : Y → Bool) (f : X → Y) (i : ℕ) (xs : List X) → position_from test i (map f xs) ≡ position_from (λ x. test (f x)) i xs
-position_from-map test f i [] = refl
-position_from-map test f i (x ∷ xs) = ap (cond (test (f x)) (Some i)) (position_from-map test f (i + 1) xs)
 
 -- a place at which the test fails leaves the search to those after it
 pub place_past : (test : ℕ → Bool) (k n : ℕ) → k < n → test k ≡ false → first_place test (k + 1) (n - (k + 1)) ≡ first_place test k (n - k)
@@ -61,61 +49,47 @@ pub front_nil : {A : Type 0} (r : Result (List A) GraphFault) → in_front [] r 
 front_nil (Ok xs) = refl
 front_nil (Err e) = refl
 
-pub nodes_more : (front : List NamedText) (v : ℕ) (t : Members) (ts : List Members) (n : NamedText) → node_of v t ≡ Ok n →
+pub nodes_more : (front : List NamedNode) (v : ℕ) (t : Members) (ts : List Members) (n : NamedNode) → node_of v t ≡ Ok n →
     in_front front (nodes_from v (t ∷ ts)) ≡ in_front (front ++ n ∷ []) (nodes_from (v + 1) ts)
 nodes_more front v t ts n is =
     ap (λ r. in_front front (r >>= λ m. nodes_from (v + 1) ts >>= λ more. Ok (m ∷ more))) is ∙ front_cons front n (nodes_from (v + 1) ts)
 
-pub nodes_stop : (front : List NamedText) (v : ℕ) (t : Members) (ts : List Members) (e : GraphFault) → node_of v t ≡ Err e → in_front front (nodes_from v (t ∷ ts)) ≡ Err e
+pub nodes_stop : (front : List NamedNode) (v : ℕ) (t : Members) (ts : List Members) (e : GraphFault) → node_of v t ≡ Err e → in_front front (nodes_from v (t ∷ ts)) ≡ Err e
 nodes_stop front v t ts e is = ap (λ r. in_front front (r >>= λ m. nodes_from (v + 1) ts >>= λ more. Ok (m ∷ more))) is
 
-pub inputs_more : (all : List NamedText) (front : List ℕ) (v : ℕ) (n : NamedText) (ns : List NamedText) (k : ℕ) → input_number all n.input ≡ Some k →
+pub inputs_more : (all : List NamedNode) (front : List ℕ) (v : ℕ) (n : NamedNode) (ns : List NamedNode) (k : ℕ) → input_number all n.input ≡ Some k →
     in_front front (input_numbers all v (n ∷ ns)) ≡ in_front (front ++ k ∷ []) (input_numbers all (v + 1) ns)
 inputs_more all front v n ns k is =
     ap (λ o. in_front front (known_input v o >>= λ m. input_numbers all (v + 1) ns >>= λ more. Ok (m ∷ more))) is ∙ front_cons front k (input_numbers all (v + 1) ns)
 
-pub inputs_stop : (all : List NamedText) (front : List ℕ) (v : ℕ) (n : NamedText) (ns : List NamedText) → input_number all n.input ≡ None →
+pub inputs_stop : (all : List NamedNode) (front : List ℕ) (v : ℕ) (n : NamedNode) (ns : List NamedNode) → input_number all n.input ≡ None →
     in_front front (input_numbers all v (n ∷ ns)) ≡ Err (UnknownInput v)
 inputs_stop all front v n ns is = ap (λ o. in_front front (known_input v o >>= λ m. input_numbers all (v + 1) ns >>= λ more. Ok (m ∷ more))) is
 
-pub input_number-map : (ns : List NamedNode) (name : List ℕ) → bytes_eq name (codes "driver") ≡ false →
-    input_number (map named_text ns) name ≡ option_map (λ k. k + 1) (position_from (λ n. bytes_eq n.rule.name name && may_feed (kind_text n.rule.kind)) 0 ns)
-input_number-map ns name other =
-    ap (λ b. cond b (Some 0) (position_from (λ n. has_name name n && may_feed n.rule.kind) 1 (map named_text ns))) other
-    ∙ position_from-map (λ n. has_name name n && may_feed n.rule.kind) named_text 1 ns
-    ∙ position_from-suc (λ n. bytes_eq n.rule.name name && may_feed (kind_text n.rule.kind)) 0 ns
+pub input_number-node : (ns : List NamedNode) (name : List ℕ) → bytes_eq name (codes "driver") ≡ false →
+    input_number ns name ≡ option_map (λ k. k + 1) (position_from (λ n. bytes_eq n.rule.name name && may_feed n.rule.kind) 0 ns)
+input_number-node ns name other =
+    ap (λ b. cond b (Some 0) (position_from (λ n. has_name name n && may_feed n.rule.kind) 1 ns)) other
+    ∙ position_from-suc (λ n. bytes_eq n.rule.name name && may_feed n.rule.kind) 0 ns
 
-pub thread_count-map : (rs : List NodeRule) → thread_count (map node_text rs) ≡ sum_by (λ n. n.threads) rs
-thread_count-map [] = refl
-thread_count-map (r ∷ rs) =
-    sum_by-cons (λ n. n.threads) (node_text r) (map node_text rs) ∙ ap (λ n. r.threads + n) (thread_count-map rs) ∙ sym (sum_by-cons (λ n. n.threads) r rs)
-
-pub texts_with : (ns : List NamedNode) (ks : List ℕ) → map node_text (rules_with ns ks) ≡ with_inputs (map named_text ns) ks
-texts_with [] ks = refl
-texts_with (n ∷ ns) [] = refl
-texts_with (n ∷ ns) (k ∷ ks) = ap (λ ts. record (node_text n.rule) { input = k } ∷ ts) (texts_with ns ks)
-
-pub length-rules_with : (ns : List NamedNode) (ks : List ℕ) → length ks ≡ length ns → length (rules_with ns ks) ≡ length ns
-length-rules_with [] ks same = refl
-length-rules_with (n ∷ ns) [] same = absurd (omega arith)
-length-rules_with (n ∷ ns) (k ∷ ks) same = ap suc (length-rules_with ns ks (omega arith))
+pub length-with_inputs : (ns : List NamedNode) (ks : List ℕ) → length ks ≡ length ns → length (with_inputs ns ks) ≡ length ns
+length-with_inputs [] ks same = refl
+length-with_inputs (n ∷ ns) [] same = absurd (omega arith)
+length-with_inputs (n ∷ ns) (k ∷ ks) same = ap suc (length-with_inputs ns ks (omega arith))
 
 -- once no name is double, each input is known and no inputs lead in a circle, the threads decide
 pub linked_by : (ns : List NamedNode) (ks : List ℕ) →
-    refused_node DoubleName (first_place (is_double (map named_text ns)) 0 (length ns)) ≡ Ok tt →
-    input_numbers (map named_text ns) 1 (map named_text ns) ≡ Ok ks →
+    refused_node DoubleName (first_place (is_double ns) 0 (length ns)) ≡ Ok tt →
+    input_numbers ns 1 ns ≡ Ok ks →
     refused_node Cycle (first_place (is_circular ks) 0 (length ks)) ≡ Ok tt →
-    linked (map named_text ns) ≡ few_threads (map node_text (rules_with ns ks))
+    linked ns ≡ few_threads (with_inputs ns ks)
 unfolding linked
 linked_by ns ks distinct numbers acyclic =
-    let all = map named_text ns in
-    let last : List ℕ → Result (List NodeText) GraphFault = λ js. few_threads (with_inputs all js) in
-    let after : List ℕ → Result (List NodeText) GraphFault = λ js. refused_node Cycle (first_place (is_circular js) 0 (length js)) >>= λ u. last js in
-    ap (λ n. refused_node DoubleName (first_place (is_double all) 0 n) >>= λ u. input_numbers all 1 all >>= after) (length-map ns named_text)
-    ∙ ap (λ r. r >>= λ u. input_numbers all 1 all >>= after) distinct
+    let last : List ℕ → Result (List NodeRule) GraphFault = λ js. few_threads (with_inputs ns js) in
+    let after : List ℕ → Result (List NodeRule) GraphFault = λ js. refused_node Cycle (first_place (is_circular js) 0 (length js)) >>= λ u. last js in
+    ap (λ r. r >>= λ u. input_numbers ns 1 ns >>= after) distinct
     ∙ ap (λ r. r >>= after) numbers
     ∙ ap (λ r. r >>= λ u. last ks) acyclic
-    ∙ ap few_threads (sym (texts_with ns ks))
 
 -- one step up, of so many
 pub step_up : (inputs : List ℕ) (v k n : ℕ) → k < n → source_of inputs (n - (k + 1)) (input_of inputs v) ≡ source_of inputs (n - k) v

@@ -12,10 +12,10 @@ use Rattle.nd_base.specs.Stacks.{IsStack}
 use Rattle.nd_base.specs.declared.array.Dim.{Dim}
 use Rattle.nd_base.specs.declared.array.SampleType.{SampleType}
 use Rattle.cdf_write.specs.Writable.{IsWritable}
-use Rattle.nd_base.specs.GraphRules.{IsGraph, rule_at, input_of}
+use Rattle.nd_base.specs.GraphRules.{makes_arrays, IsGraph, rule_at, input_of}
 use Rattle.nd_base.specs.declared.graph.Graph.{Graph}
 use Rattle.nd_base.specs.declared.graph.NodeRule.{NodeRule}
-use Rattle.chain_plain.specs.Nodes.{is_roi, is_region, regions, maker_within, maker_at}
+use Rattle.chain_plain.specs.Nodes.{is_region, regions, maker_within, maker_at}
 use Rattle.chain_plain.specs.PassingLaws.{rule_within, out_of-maker, IsMaker}
 use Rattle.chain_plain.specs.ContentLaws.{IsArrayShape, plans-sound, maker_at-makes}
 use Rattle.graph_conf.specs.Loads.{kept_by, kept_from, file_bytes, file_bytes_at, first_too_long}
@@ -56,7 +56,7 @@ found_number p k (x ∷ xs) passes among =
           ]
     ]
 
-region_known : (nodes : List NodeRule) (k : ℕ) (o : Option NodeRule) → o ≡ rule_at nodes k → option_map_or (λ n. is_roi n.kind) o false ≡ true → k ≤ length nodes
+region_known : (nodes : List NodeRule) (k : ℕ) (o : Option NodeRule) → o ≡ rule_at nodes k → option_map_or (λ n. makes_arrays n.kind) o false ≡ true → k ≤ length nodes
 region_known nodes k None same h = absurd (cc)
 region_known nodes k (Some n) same h = rule_within nodes k n same
 

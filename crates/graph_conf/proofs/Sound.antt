@@ -11,18 +11,15 @@ use Rattle.std.proofs.lemmas.List.Elements.{recursion_from_All, All-from_recursi
 use Rattle.std.proofs.lemmas.List.Folds.{list_any_at}
 use Rattle.std.proofs.lemmas.Slice.Eq.{bytes_eq-Decides}
 use Rattle.nd_base.specs.declared.graph.NodeRule.{NodeRule}
-use Rattle.nd_base.specs.declared.graph.Kind.{Kind}
-use Rattle.nd_base.specs.declared.graph.Kind.TheVariants.{Roi, Stats, Circular, File}
-use Rattle.nd_base.specs.GraphRules.{IsNode, is_source}
+use Rattle.nd_base.specs.GraphRules.{IsNode, is_source, may_feed}
 use Rattle.nd_base.specs.GraphRules as graph_rules
 use Rattle.graph_conf.specs.declared.fault.GraphFault.{GraphFault}
 use Rattle.graph_conf.specs.declared.fault.GraphFault.TheVariants.{DoubleName, Cycle}
 use Rattle.graph_conf.specs.declared.node.NamedNode.{NamedNode}
 use Rattle.graph_conf.specs.Answers.{◌>>=◌}
-use Rattle.graph_conf.specs.Links.{rules_with, AreLinked}
-use Rattle.graph_conf.specs.Meanings.{kind_text, named_text, node_text, NamedText}
-use Rattle.graph_conf.specs.Graphs.{first_place, refused_node, is_double, has_name, may_feed, input_number, input_numbers, known_input, input_of, source_of, is_circular, thread_count}
-use Rattle.graph_conf.proofs.Joined.{is_double-map, thread_count-map, length-rules_with}
+use Rattle.graph_conf.specs.Links.{AreLinked}
+use Rattle.graph_conf.specs.Graphs.{first_place, refused_node, is_double, has_name, input_number, input_numbers, known_input, input_of, source_of, is_circular, thread_count, with_inputs}
+use Rattle.graph_conf.proofs.Joined.{is_double-at, length-with_inputs}
 
 -- EACH NODE
 
@@ -38,7 +35,7 @@ with_input r k h = record {
   sort_time = h.sort_time;
 }
 
-nodes_with : (ns : List NamedNode) (ks : List ℕ) → AllByRecursion (λ n. IsNode n.rule) ns → AllByRecursion IsNode (rules_with ns ks)
+nodes_with : (ns : List NamedNode) (ks : List ℕ) → AllByRecursion (λ n. IsNode n.rule) ns → AllByRecursion IsNode (with_inputs ns ks)
 nodes_with [] ks h = tt
 nodes_with (n ∷ ns) [] h = tt
 nodes_with (n ∷ ns) (k ∷ ks) h = (with_input n.rule k h.0, nodes_with ns ks h.1)
@@ -64,7 +61,7 @@ not_refused : (fault : ℕ → GraphFault) (o : Option ℕ) → refused_node fau
 not_refused fault None h = refl
 not_refused fault (Some k) h = absurd (cc)
 
-names_with : (ns : List NamedNode) (ks : List ℕ) → length ks ≡ length ns → map (λ r. r.name) (rules_with ns ks) ≡ map (λ n. n.rule.name) ns
+names_with : (ns : List NamedNode) (ks : List ℕ) → length ks ≡ length ns → map (λ r. r.name) (with_inputs ns ks) ≡ map (λ n. n.rule.name) ns
 names_with [] ks same = refl
 names_with (n ∷ ns) [] same = absurd (omega arith)
 names_with (n ∷ ns) (k ∷ ks) same = ap (λ names. n.rule.name ∷ names) (names_with ns ks (omega arith))
@@ -76,7 +73,7 @@ some_named (n ∷ ns) i within = n
 same_text : (xs ys : List ℕ) → xs ≡ ys → bytes_eq xs ys ≡ true
 same_text xs ys same = grind (arith, bytes_eq-Decides)
 
-distinct_names : (ns : List NamedNode) → ((k : ℕ) → k < length ns → is_double (map named_text ns) k ≡ false) → (i j : ℕ) (e : List ℕ) → i < j → j < length ns →
+distinct_names : (ns : List NamedNode) → ((k : ℕ) → k < length ns → is_double ns k ≡ false) → (i j : ℕ) (e : List ℕ) → i < j → j < length ns →
     get_or (map (λ n. n.rule.name) ns) i e ≢ get_or (map (λ n. n.rule.name) ns) j e
 distinct_names ns single i j e before within same =
     let d = some_named ns j within in
@@ -84,16 +81,16 @@ distinct_names ns single i j e before within same =
     let second = get_or-map (λ n. n.rule.name) ns j d e within in
     let names : (get_or (take j ns) i d).rule.name ≡ (get_or ns j d).rule.name = ap (λ n. n.rule.name) (get_or-take j ns i d before) ∙ sym first ∙ same ∙ second in
     let found = list_any_at (λ n. bytes_eq n.rule.name (get_or ns j d).rule.name) (take j ns) i d (omega (arith, length-take-le j ns (omega arith))) (same_text _ _ names) in
-    let none = sym (is_double-map ns j d within) ∙ single j within in
+    let none = sym (is_double-at ns j d within) ∙ single j within in
     absurd (cc)
 
-single_names : (ns : List NamedNode) → refused_node DoubleName (first_place (is_double (map named_text ns)) 0 (length ns)) ≡ Ok tt → (k : ℕ) → k < length ns → is_double (map named_text ns) k ≡ false
-single_names ns h k within = none_found (is_double (map named_text ns)) 0 (length ns) (not_refused DoubleName _ h) k (omega arith) (omega arith)
+single_names : (ns : List NamedNode) → refused_node DoubleName (first_place (is_double ns) 0 (length ns)) ≡ Ok tt → (k : ℕ) → k < length ns → is_double ns k ≡ false
+single_names ns h k within = none_found (is_double ns) 0 (length ns) (not_refused DoubleName _ h) k (omega arith) (omega arith)
 
-names_differ : (ns : List NamedNode) (ks : List ℕ) → length ks ≡ length ns → ((k : ℕ) → k < length ns → is_double (map named_text ns) k ≡ false) → AllPairs (λ m n. m.name ≢ n.name) (rules_with ns ks)
+names_differ : (ns : List NamedNode) (ks : List ℕ) → length ks ≡ length ns → ((k : ℕ) → k < length ns → is_double ns k ≡ false) → AllPairs (λ m n. m.name ≢ n.name) (with_inputs ns ks)
 names_differ ns ks same single i j d before within =
-    let rs = rules_with ns ks in
-    let inside : j < length ns = omega (arith, length-rules_with ns ks same) in
+    let rs = with_inputs ns ks in
+    let inside : j < length ns = omega (arith, length-with_inputs ns ks same) in
     let first : get_or (map (λ r. r.name) rs) i d.name ≡ (get_or rs i d).name = get_or-map (λ r. r.name) rs i d d.name (omega arith) in
     let second : get_or (map (λ r. r.name) rs) j d.name ≡ (get_or rs j d).name = get_or-map (λ r. r.name) rs j d d.name within in
     let names = names_with ns ks same in
@@ -102,7 +99,7 @@ names_differ ns ks same single i j d before within =
 
 -- INPUTS
 
-abbrev Fed : List NamedText → ℕ → Type 0
+abbrev Fed : List NamedNode → ℕ → Type 0
 Fed all k = (name : List ℕ) × (input_number all name ≡ Some k)
 
 known : (v : ℕ) (o : Option ℕ) (next : ℕ → Result (List ℕ) GraphFault) (ks : List ℕ) → (known_input v o >>= next) ≡ Ok ks → (k : ℕ) × (o ≡ Some k) × (next k ≡ Ok ks)
@@ -113,53 +110,47 @@ listed : (r : Result (List ℕ) GraphFault) (k : ℕ) (ks : List ℕ) → (r >>=
 listed (Ok more) k ks h = (more, refl, cc)
 listed (Err e) k ks h = absurd (cc)
 
-all_fed : (all : List NamedText) (v : ℕ) (ms : List NamedText) (ks : List ℕ) → input_numbers all v ms ≡ Ok ks → AllByRecursion (Fed all) ks
+all_fed : (all : List NamedNode) (v : ℕ) (ms : List NamedNode) (ks : List ℕ) → input_numbers all v ms ≡ Ok ks → AllByRecursion (Fed all) ks
 all_fed all v [] ks h = let e : ks ≡ [] = cc in rw e tt
 all_fed all v (m ∷ ms) ks h =
     let (k, is, rest) = known v (input_number all m.input) _ ks h in
     let (more, read, e) = listed (input_numbers all (v + 1) ms) k ks rest in
     rw e ((m.input, is), all_fed all (v + 1) ms more read)
 
-same_feed : (k : Kind) → may_feed (kind_text k) ≡ graph_rules.may_feed k
-same_feed (Roi r) = refl
-same_feed (Stats r) = refl
-same_feed (Circular r) = refl
-same_feed (File r) = refl
-
 -- a node that is found by name and may have children is a source
-found_feeds : (name : List ℕ) (ns : List NamedNode) (ks : List ℕ) (i k : ℕ) → length ks ≡ length ns → position_from (λ n. has_name name n && may_feed n.rule.kind) i (map named_text ns) ≡ Some k →
-    (j : ℕ) × (k ≡ i + j) × (option_map_or (λ n. graph_rules.may_feed n.kind) (slice_get (rules_with ns ks) j) false ≡ true)
+found_feeds : (name : List ℕ) (ns : List NamedNode) (ks : List ℕ) (i k : ℕ) → length ks ≡ length ns → position_from (λ n. has_name name n && may_feed n.rule.kind) i ns ≡ Some k →
+    (j : ℕ) × (k ≡ i + j) × (option_map_or (λ n. may_feed n.kind) (slice_get (with_inputs ns ks) j) false ≡ true)
 found_feeds name [] ks i k same h = absurd (cc)
 found_feeds name (n ∷ ns) [] i k same h = absurd (omega arith)
 found_feeds name (n ∷ ns) (x ∷ ks) i k same h =
-    let test = has_name name (named_text n) && may_feed (kind_text n.rule.kind) in
-    let later = position_from (λ n. has_name name n && may_feed n.rule.kind) (i + 1) (map named_text ns) in
+    let test = has_name name n && may_feed n.rule.kind in
+    let later = position_from (λ n. has_name name n && may_feed n.rule.kind) (i + 1) ns in
     elim (cases_Bool test) [
       | inl here ↦
           let e : Some i ≡ Some k = sym (ap (λ b. cond b (Some i) later) here) ∙ h in
           let at : i ≡ k = cc in
-          (0, omega arith, sym (same_feed n.rule.kind) ∙ (and_parts (has_name name (named_text n)) (may_feed (kind_text n.rule.kind)) here).1)
+          (0, omega arith, (and_parts (has_name name n) (may_feed n.rule.kind) here).1)
       | inr other ↦
           let (j, at, feeds) = found_feeds name ns ks (i + 1) k (omega arith) (sym (ap (λ b. cond b (Some i) later) other) ∙ h) in
           (suc j, omega arith, feeds)
     ]
 
-fed_is_source : (ns : List NamedNode) (ks : List ℕ) (k : ℕ) → length ks ≡ length ns → Fed (map named_text ns) k → IsTrue (is_source (rules_with ns ks) k)
+fed_is_source : (ns : List NamedNode) (ks : List ℕ) (k : ℕ) → length ks ≡ length ns → Fed ns k → IsTrue (is_source (with_inputs ns ks) k)
 fed_is_source ns ks k same fed =
     let name = fed.0 in
-    let found = position_from (λ n. has_name name n && may_feed n.rule.kind) 1 (map named_text ns) in
+    let found = position_from (λ n. has_name name n && may_feed n.rule.kind) 1 ns in
     elim (cases_Bool (bytes_eq name (codes "driver"))) [
       | inl driver ↦
           let e : Some 0 ≡ Some k = sym (ap (λ b. cond b (Some 0) found) driver) ∙ fed.1 in
           let at : 0 ≡ k = cc in
-          subst (λ v. IsTrue (is_source (rules_with ns ks) v)) at refl
+          subst (λ v. IsTrue (is_source (with_inputs ns ks) v)) at refl
       | inr node ↦
           let (j, at, feeds) = found_feeds name ns ks 1 k same (sym (ap (λ b. cond b (Some 0) found) node) ∙ fed.1) in
           let e : suc j ≡ k = omega arith in
-          subst (λ v. IsTrue (is_source (rules_with ns ks) v)) e feeds
+          subst (λ v. IsTrue (is_source (with_inputs ns ks) v)) e feeds
     ]
 
-inputs_with : (P : ℕ → Type 0) (ns : List NamedNode) (ks : List ℕ) → AllByRecursion P ks → AllByRecursion (λ r. P r.input) (rules_with ns ks)
+inputs_with : (P : ℕ → Type 0) (ns : List NamedNode) (ks : List ℕ) → AllByRecursion P ks → AllByRecursion (λ r. P r.input) (with_inputs ns ks)
 inputs_with P [] ks h = tt
 inputs_with P (n ∷ ns) [] h = tt
 inputs_with P (n ∷ ns) (k ∷ ks) h = (h.0, inputs_with P ns ks h.1)
@@ -170,21 +161,21 @@ each P Q f (x ∷ xs) h = (f x h.0, each P Q f xs h.1)
 
 -- CYCLES
 
-input_at : (ns : List NamedNode) (ks : List ℕ) (j : ℕ) → length ks ≡ length ns → option_map_or (λ r. r.input) (slice_get (rules_with ns ks) j) 0 ≡ unwrap_or (slice_get ks j) 0
+input_at : (ns : List NamedNode) (ks : List ℕ) (j : ℕ) → length ks ≡ length ns → option_map_or (λ r. r.input) (slice_get (with_inputs ns ks) j) 0 ≡ unwrap_or (slice_get ks j) 0
 input_at [] [] j same = refl
 input_at [] (k ∷ ks) j same = absurd (omega arith)
 input_at (n ∷ ns) [] j same = absurd (omega arith)
 input_at (n ∷ ns) (k ∷ ks) zero same = refl
 input_at (n ∷ ns) (k ∷ ks) (suc j) same = input_at ns ks j (omega arith)
 
-same_input : (ns : List NamedNode) (ks : List ℕ) (v : ℕ) → length ks ≡ length ns → graph_rules.input_of (rules_with ns ks) v ≡ input_of ks v
+same_input : (ns : List NamedNode) (ks : List ℕ) (v : ℕ) → length ks ≡ length ns → graph_rules.input_of (with_inputs ns ks) v ≡ input_of ks v
 same_input ns ks zero same = refl
 same_input ns ks (suc j) same = input_at ns ks j same
 
-same_source : (ns : List NamedNode) (ks : List ℕ) (steps v : ℕ) → length ks ≡ length ns → graph_rules.source_of (rules_with ns ks) steps v ≡ source_of ks steps v
+same_source : (ns : List NamedNode) (ks : List ℕ) (steps v : ℕ) → length ks ≡ length ns → graph_rules.source_of (with_inputs ns ks) steps v ≡ source_of ks steps v
 same_source ns ks zero v same = refl
 same_source ns ks (suc steps) v same =
-    ap (graph_rules.source_of (rules_with ns ks) steps) (same_input ns ks v same) ∙ same_source ns ks steps (input_of ks v) same
+    ap (graph_rules.source_of (with_inputs ns ks) steps) (same_input ns ks v same) ∙ same_source ns ks steps (input_of ks v) same
 
 driver_stays : (ks : List ℕ) (steps : ℕ) → source_of ks steps 0 ≡ 0
 driver_stays ks zero = refl
@@ -199,22 +190,22 @@ leads_up ks h (suc k) within =
 
 -- what the tests let through is a graph's nodes
 pub are_linked : (ns : List NamedNode) (ks : List ℕ) → All (λ n. IsNode n.rule) ns → length ns ≤ 32 → length ks ≡ length ns →
-    refused_node DoubleName (first_place (is_double (map named_text ns)) 0 (length ns)) ≡ Ok tt →
-    input_numbers (map named_text ns) 1 (map named_text ns) ≡ Ok ks →
+    refused_node DoubleName (first_place (is_double ns) 0 (length ns)) ≡ Ok tt →
+    input_numbers ns 1 ns ≡ Ok ks →
     refused_node Cycle (first_place (is_circular ks) 0 (length ks)) ≡ Ok tt →
-    thread_count (map node_text (rules_with ns ks)) ≤ 64 →
-    AreLinked (rules_with ns ks)
+    thread_count (with_inputs ns ks) ≤ 64 →
+    AreLinked (with_inputs ns ks)
 are_linked ns ks nodes few same distinct numbers acyclic threads =
-    let rs = rules_with ns ks in
-    let count = length-rules_with ns ks same in
+    let rs = with_inputs ns ks in
+    let count = length-with_inputs ns ks same in
     record {
       nodes = All-from_recursion IsNode rs (nodes_with ns ks (recursion_from_All (λ n. IsNode n.rule) ns nodes));
       names = names_differ ns ks same (single_names ns distinct);
       inputs = All-from_recursion (λ n. IsTrue (is_source rs n.input)) rs
-          (inputs_with (λ k. IsTrue (is_source rs k)) ns ks (each (Fed (map named_text ns)) (λ k. IsTrue (is_source rs k)) (λ k fed. fed_is_source ns ks k same fed) ks (all_fed (map named_text ns) 1 (map named_text ns) ks numbers)));
+          (inputs_with (λ k. IsTrue (is_source rs k)) ns ks (each (Fed ns) (λ k. IsTrue (is_source rs k)) (λ k fed. fed_is_source ns ks k same fed) ks (all_fed ns 1 ns ks numbers)));
       acyclic = λ v within.
           let e : length rs ≡ length ks = count ∙ sym same in
           ap (λ s. graph_rules.source_of rs s v) e ∙ same_source ns ks (length ks) v same ∙ leads_up ks acyclic v (omega arith);
       few = omega arith;
-      threads = omega (arith, thread_count-map rs);
+      threads = threads;
     }

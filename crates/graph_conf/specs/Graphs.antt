@@ -9,7 +9,10 @@ use Rattle.graph_conf.specs.declared.fault.GraphFault.{GraphFault}
 use Rattle.graph_conf.specs.declared.fault.GraphFault.TheVariants.{Text, Range, DoubleName, UnknownInput, Cycle}
 use Rattle.graph_conf.specs.Answers.{◌>>=◌}
 use Rattle.graph_conf.specs.Keys.{optional, formed, count, word_in, list_in, at_most, only_keys}
-use Rattle.graph_conf.specs.Meanings.{KindText, roi, stats, circular, file, NodeText, NamedText, GraphText}
+use Rattle.nd_base.specs.declared.graph.NodeRule.{NodeRule}
+use Rattle.graph_conf.specs.declared.node.NamedNode.{NamedNode}
+use Rattle.nd_base.specs.declared.graph.Graph.{Graph}
+use Rattle.nd_base.specs.GraphRules.{may_feed}
 use Rattle.graph_conf.specs.Nodes.{node_of}
 
 -- THE RUN
@@ -38,7 +41,7 @@ run_key table = optional (codes "run") run_table (false, 0) table
 -- EACH NODE BY ITSELF
 
 -- the nodes of these tables, from node v on
-abbrev pub nodes_from : ℕ → List Members → Result (List NamedText) GraphFault
+abbrev pub nodes_from : ℕ → List Members → Result (List NamedNode) GraphFault
 nodes_from v [] = Ok []
 nodes_from v (table ∷ tables) = do
   n ← node_of v table
@@ -50,7 +53,7 @@ node_tables d = do
   tables ← list_in (codes "node") as_table d
   at_most (codes "node") 32 tables
 
-unfoldable pub node_key : Members → Result (List NamedText) GraphFault
+unfoldable pub node_key : Members → Result (List NamedNode) GraphFault
 node_key table = do
   tables ← optional (codes "node") node_tables [] table
   nodes_from 1 tables
@@ -67,22 +70,15 @@ abbrev pub refused_node : (ℕ → GraphFault) → Option ℕ → Result (Unit {
 refused_node fault None = Ok tt
 refused_node fault (Some k) = Err (fault (k + 1))
 
-abbrev pub has_name : List ℕ → NamedText → Bool
+abbrev pub has_name : List ℕ → NamedNode → Bool
 has_name name n = bytes_eq n.rule.name name
 
 -- an earlier node has the name of the node at this place
-abbrev pub is_double : List NamedText → ℕ → Bool
+abbrev pub is_double : List NamedNode → ℕ → Bool
 is_double nodes k = option_map_or (λ n. list_any (has_name n.rule.name) (take k nodes)) (slice_get nodes k) false
 
--- a file node has no children
-abbrev pub may_feed : KindText → Bool
-may_feed (roi r) = true
-may_feed (stats r) = true
-may_feed (circular r) = true
-may_feed (file r) = false
-
 -- the number of the node that an input names, from 1; the driver is 0
-abbrev pub input_number : List NamedText → List ℕ → Option ℕ
+abbrev pub input_number : List NamedNode → List ℕ → Option ℕ
 input_number nodes name =
     if bytes_eq name (codes "driver") then Some 0
     else position_from (λ n. has_name name n && may_feed n.rule.kind) 1 nodes
@@ -92,7 +88,7 @@ known_input v None = Err (UnknownInput v)
 known_input v (Some k) = Ok k
 
 -- the numbers of the inputs of some of the nodes, from node v on
-abbrev pub input_numbers : List NamedText → ℕ → List NamedText → Result (List ℕ) GraphFault
+abbrev pub input_numbers : List NamedNode → ℕ → List NamedNode → Result (List ℕ) GraphFault
 input_numbers nodes v [] = Ok []
 input_numbers nodes v (n ∷ ns) = do
   k ← known_input v (input_number nodes n.input)
@@ -100,7 +96,7 @@ input_numbers nodes v (n ∷ ns) = do
   Ok (k ∷ ks)
 
 -- the nodes with these inputs
-abbrev pub with_inputs : List NamedText → List ℕ → List NodeText
+abbrev pub with_inputs : List NamedNode → List ℕ → List NodeRule
 with_inputs [] ks = []
 with_inputs (n ∷ ns) [] = []
 with_inputs (n ∷ ns) (k ∷ ks) = record n.rule { input = k } ∷ with_inputs ns ks
@@ -118,14 +114,14 @@ source_of inputs (suc steps) v = source_of inputs steps (input_of inputs v)
 abbrev pub is_circular : List ℕ → ℕ → Bool
 is_circular inputs k = not (source_of inputs (length inputs) (k + 1) == 0)
 
-abbrev pub thread_count : List NodeText → ℕ
+abbrev pub thread_count : List NodeRule → ℕ
 thread_count nodes = sum_by (λ n. n.threads) nodes
 
-abbrev pub few_threads : List NodeText → Result (List NodeText) GraphFault
+abbrev pub few_threads : List NodeRule → Result (List NodeRule) GraphFault
 few_threads nodes =
     if nat_lt 64 (thread_count nodes) then Err (Range (codes "threads") (pos (thread_count nodes))) else Ok nodes
 
-unfoldable pub linked : List NamedText → Result (List NodeText) GraphFault
+unfoldable pub linked : List NamedNode → Result (List NodeRule) GraphFault
 linked nodes = do
   distinct ← refused_node DoubleName (first_place (is_double nodes) 0 (length nodes))
   inputs ← input_numbers nodes 1 nodes
@@ -137,7 +133,7 @@ linked nodes = do
 abbrev pub top_keys : List (List ℕ)
 top_keys = codes "run" ∷ codes "node" ∷ []
 
-unfoldable pub graph_of : Members → Result GraphText GraphFault
+unfoldable pub graph_of : Members → Result Graph GraphFault
 graph_of table = do
   known ← only_keys top_keys table
   run ← run_key table
@@ -146,10 +142,10 @@ graph_of table = do
   Ok (record { wait = run.0; limit = run.1; nodes = nodes })
 
 -- the graph of a document, where the bytes are one
-abbrev pub graph_or_text : Option Members → Result GraphText GraphFault
+abbrev pub graph_or_text : Option Members → Result Graph GraphFault
 graph_or_text None = Err Text
 graph_or_text (Some table) = graph_of table
 
 -- the graph that bytes mean, or their first fault
-abbrev pub graph_of_bytes : List ℕ → Result GraphText GraphFault
+abbrev pub graph_of_bytes : List ℕ → Result Graph GraphFault
 graph_of_bytes bytes = if is_utf8 bytes then graph_or_text (parse_document bytes) else Err Text

@@ -3,6 +3,5 @@ pub mod Graphs
 pub mod Keys
 pub mod Links
 pub mod Loads
-pub mod Meanings
 pub mod Nodes
 pub mod Worked

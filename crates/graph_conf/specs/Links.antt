@@ -1,14 +1,7 @@
 -- What holds of the nodes of a graph together.
-use Rattle.std.specs.Prelude.{◌≡◌, ◌≢◌, ℕ, ◌≤◌, List, [], ◌∷◌, length, sum_by, All, AllPairs, IsTrue}
+use Rattle.std.specs.Prelude.{◌≡◌, ◌≢◌, ℕ, ◌≤◌, List, length, sum_by, All, AllPairs, IsTrue}
 use Rattle.nd_base.specs.declared.graph.NodeRule.{NodeRule}
 use Rattle.nd_base.specs.GraphRules.{IsNode, is_source, source_of}
-use Rattle.graph_conf.specs.declared.node.NamedNode.{NamedNode}
-
--- the rules of the nodes, with these inputs
-abbrev pub rules_with : List NamedNode → List ℕ → List NodeRule
-rules_with [] ks = []
-rules_with (n ∷ ns) [] = []
-rules_with (n ∷ ns) (k ∷ ks) = record n.rule { input = k } ∷ rules_with ns ks
 
 -- what a graph's nodes meet
 pub record AreLinked (rules : List NodeRule) : Type 0 where

@@ -7,7 +7,7 @@ use Rattle.nd_base.specs.declared.array.Dim.{Dim}
 use Rattle.nd_base.specs.declared.attribute.FileShape.{FileShape}
 use Rattle.nd_base.specs.declared.graph.Graph.{Graph}
 use Rattle.nd_base.specs.declared.graph.Kind.{Kind}
-use Rattle.nd_base.specs.declared.graph.Kind.TheVariants.{Stats, File}
+use Rattle.nd_base.specs.declared.graph.Kind.TheVariants.{Roi, Stats, Circular, File, Scatter}
 use Rattle.cdf_write.specs.Lengths.{length_of, longest}
 use Rattle.chain_plain.specs.Plans.{shape_at}
 use Rattle.graph_conf.specs.declared.load.LimitFault.{LimitFault}
@@ -26,7 +26,10 @@ profile_lengths (x ∷ y ∷ dims) = x.size + y.size
 -- the numbers that a node keeps of an array of these dimensions
 abbrev pub kept_by : Kind → List Dim → ℕ
 kept_by (Stats r) dims = r.hist_size + (if r.profiles then profile_lengths dims else 0)
-kept_by _ dims = 0
+kept_by (Roi r) dims = 0
+kept_by (Circular r) dims = 0
+kept_by (File r) dims = 0
+kept_by Scatter dims = 0
 
 abbrev pub kept_at : Graph → StackValue → ℕ → ℕ
 kept_at g s v = option_map_or (λ n. kept_by n.kind (shape_at g.nodes s.shape v).dims) (rule_at g.nodes v) 0
@@ -42,7 +45,10 @@ kept g s = kept_from g s 1 (length g.nodes)
 -- the bytes of the longest file that a node writes of arrays of this shape; 0 at other kinds
 abbrev pub file_bytes : Kind → FileShape → (frames : ℕ) → ℕ
 file_bytes (File r) shape frames = length_of shape (min r.count frames)
-file_bytes _ shape frames = 0
+file_bytes (Roi r) shape frames = 0
+file_bytes (Stats r) shape frames = 0
+file_bytes (Circular r) shape frames = 0
+file_bytes Scatter shape frames = 0
 
 abbrev pub file_bytes_at : Graph → StackValue → ℕ → ℕ
 file_bytes_at g s v =

@@ -1,5 +1,6 @@
 -- The keys of a node's table: names, ranges and defaults.
 use Rattle.std.specs.Prelude.{ℕ, ℤ, pos, negsuc, int_lt, Bool, true, false, not, ◌&&◌, ◌||◌, ◌==◌, nat_lt, List, [], ◌∷◌, ◌++◌, codes, Option, Some, None, Result, Ok, Err, if◌then◌else◌}
+use Rattle.nd_base.specs.declared.form.Form.TheVariants.{Classic}
 use Rattle.nd_base.specs.declared.array.SampleType.{SampleType}
 use Rattle.nd_base.specs.declared.array.SampleType.TheVariants.{Int8, UInt8, Int16, UInt16, Int32, UInt32}
 use Rattle.nd_base.specs.declared.graph.RoiRule.{RoiRule}
@@ -16,7 +17,10 @@ use Rattle.graph_conf.specs.declared.kind.KindName.{KindName}
 use Rattle.graph_conf.specs.declared.kind.KindName.TheVariants as kind
 use Rattle.graph_conf.specs.Answers.{◌>>=◌, need, or_calc}
 use Rattle.graph_conf.specs.Keys.{optional, required, number, count, truth, text_in, word_in, numbers, truths, meaning_in, only_keys}
-use Rattle.graph_conf.specs.Meanings.{KindText, roi, stats, circular, file, CircularText, NamedText}
+use Rattle.nd_base.specs.declared.graph.Kind.{Kind}
+use Rattle.nd_base.specs.declared.graph.CircularRule.{CircularRule}
+use Rattle.graph_conf.specs.declared.node.NamedNode.{NamedNode}
+use Rattle.nd_base.specs.declared.graph.Kind.TheVariants.{Roi, Stats, Circular, File}
 
 -- WORDS
 
@@ -46,7 +50,7 @@ keys_of kind.Stats =
 keys_of kind.Circular = shared_keys ++ codes "pre" ∷ codes "post" ∷ codes "preset" ∷ codes "trigger" ∷ codes "a" ∷ codes "b" ∷ []
 keys_of kind.File = shared_keys ++ codes "mode" ∷ codes "count" ∷ []
 
--- several threads, and sorting, are for region and statistics nodes
+-- several threads, and sorting, are for region and statistics nodes, as the rules of graphs say of their kinds
 abbrev pub is_parallel : KindName → Bool
 is_parallel kind.Roi = true
 is_parallel kind.Stats = true
@@ -132,7 +136,7 @@ stats_rule table = do
 abbrev pub attribute_key : List ℕ → Members → Result (List ℕ) GraphFault
 attribute_key key table = optional key (text_in key) [] table
 
-unfoldable pub circular_rule : Members → Result CircularText GraphFault
+unfoldable pub circular_rule : Members → Result CircularRule GraphFault
 circular_rule table = do
   pre ← count (codes "pre") 0 4096 0 table
   post ← count (codes "post") 1 4096 1 table
@@ -157,18 +161,18 @@ file_rule table = do
   mode ← mode_key table
   n ← count (codes "count") 1 65536 1 table
   count ← group_size mode n
-  Ok (record { mode = mode; count = count })
+  Ok (record { mode = mode; count = count; form = Classic })
 
-abbrev pub kind_rule : KindName → Members → Result KindText GraphFault
-kind_rule kind.Roi table = roi_rule table >>= λ r. Ok (roi r)
-kind_rule kind.Stats table = stats_rule table >>= λ r. Ok (stats r)
-kind_rule kind.Circular table = circular_rule table >>= λ r. Ok (circular r)
-kind_rule kind.File table = file_rule table >>= λ r. Ok (file r)
+abbrev pub kind_rule : KindName → Members → Result Kind GraphFault
+kind_rule kind.Roi table = roi_rule table >>= λ r. Ok (Roi r)
+kind_rule kind.Stats table = stats_rule table >>= λ r. Ok (Stats r)
+kind_rule kind.Circular table = circular_rule table >>= λ r. Ok (Circular r)
+kind_rule kind.File table = file_rule table >>= λ r. Ok (File r)
 
 -- THE NODE
 
 -- node v, with its input as it is written
-unfoldable pub node_of : ℕ → Members → Result NamedText GraphFault
+unfoldable pub node_of : ℕ → Members → Result NamedNode GraphFault
 node_of v table = do
   name ← name_key table
   k ← kind_key v table

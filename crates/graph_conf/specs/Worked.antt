@@ -1,5 +1,6 @@
 -- The rules on small texts.
 use Rattle.std.specs.Prelude.{◌≡◌, ℕ, List, [], ◌∷◌, ◌++◌, pos, true, false, Some, None, Result, Ok, Err, codes, refl}
+use Rattle.nd_base.specs.declared.form.Form.TheVariants.{Classic}
 use Rattle.nd_base.specs.declared.array.SampleType.TheVariants.{UInt16}
 use Rattle.nd_base.specs.declared.graph.Mode.TheVariants.{Capture}
 use Rattle.trig_window.specs.declared.expression.CalcFault.TheVariants.{Unexpected}
@@ -7,14 +8,15 @@ use Rattle.trig_window.specs.Expressions.{expression_of, sign_in, parts, chain}
 use Rattle.trig_window.specs.Symbols.{tokens_from, symbol_at}
 use Rattle.toml.proofs.OnLiterals.{toml_on_literals}
 use Rattle.graph_conf.specs.declared.fault.GraphFault.TheVariants.{Text, UnknownKey, KeyType, Range, Missing, UnknownKind, Threads, Calc, DoubleName, UnknownInput, Cycle}
-use Rattle.graph_conf.specs.Meanings.{GraphText, roi, stats, file}
+use Rattle.nd_base.specs.declared.graph.Graph.{Graph}
+use Rattle.nd_base.specs.declared.graph.Kind.TheVariants.{Roi, Stats, File}
 use Rattle.graph_conf.specs.Nodes.{node_of, roi_rule, stats_rule, circular_rule, file_rule}
 use Rattle.toml.specs.Parse.{parse_document}
 use Rattle.graph_conf.specs.declared.fault.GraphFault.{GraphFault}
 use Rattle.graph_conf.specs.Graphs.{graph_or_text, graph_of, run_table, node_key, linked}
 
 -- the graph of a text, which is UTF-8
-abbrev of_text : List ℕ → Result GraphText GraphFault
+abbrev of_text : List ℕ → Result Graph GraphFault
 of_text text = graph_or_text (parse_document text)
 
 -- a file node with these lines more
@@ -24,7 +26,7 @@ file_node lines = codes "[[node]]\nname = 'cap'\nkind = 'file'\ninput = 'driver'
 abbrev stats_node : List ℕ → List ℕ
 stats_node lines = codes "[[node]]\nname = 'st'\nkind = 'stats'\ninput = 'driver'\n" ++ lines
 
-one_file_node : of_text (file_node (codes "count = 5\n")) ≡ Ok (record { wait = false; limit = 0; nodes = record { name = codes "cap"; kind = file (record { mode = Capture; count = 5 }); input = 0; queue = 20; threads = 1; sort = 0; sort_time = 100 } ∷ [] })
+one_file_node : of_text (file_node (codes "count = 5\n")) ≡ Ok (record { wait = false; limit = 0; nodes = record { name = codes "cap"; kind = File (record { mode = Capture; count = 5; form = Classic }); input = 0; queue = 20; threads = 1; sort = 0; sort_time = 100 } ∷ [] })
 unfolding toml_on_literals graph_of run_table node_key linked node_of roi_rule stats_rule circular_rule file_rule
 one_file_node = refl
 
@@ -87,7 +89,7 @@ histogram_of_one_value : of_text (stats_node (codes "hist_size = 4\nhist_lo = 7\
 unfolding toml_on_literals graph_of run_table node_key linked node_of roi_rule stats_rule circular_rule file_rule
 histogram_of_one_value = refl
 
-no_histogram : of_text (stats_node (codes "hist_lo = 7\nhist_hi = 7\n")) ≡ Ok (record { wait = false; limit = 0; nodes = record { name = codes "st"; kind = stats (record { threshold = pos 0; border = 0; hist_size = 0; hist_lo = pos 7; hist_hi = pos 7; profiles = false }); input = 0; queue = 20; threads = 1; sort = 0; sort_time = 100 } ∷ [] })
+no_histogram : of_text (stats_node (codes "hist_lo = 7\nhist_hi = 7\n")) ≡ Ok (record { wait = false; limit = 0; nodes = record { name = codes "st"; kind = Stats (record { threshold = pos 0; border = 0; hist_size = 0; hist_lo = pos 7; hist_hi = pos 7; profiles = false }); input = 0; queue = 20; threads = 1; sort = 0; sort_time = 100 } ∷ [] })
 unfolding toml_on_literals graph_of run_table node_key linked node_of roi_rule stats_rule circular_rule file_rule
 no_histogram = refl
 
@@ -105,8 +107,8 @@ region_of_a_region : of_text (codes "[run]\nfeed = 'wait'\npool = 64\n[[node]]\n
   wait = true;
   limit = 64;
   nodes =
-      record { name = codes "r"; kind = roi (record { min = []; size = []; bin = pos 2 ∷ pos 2 ∷ []; reverse = []; auto = []; scale = 1; out = Some UInt16 }); input = 2; queue = 20; threads = 1; sort = 0; sort_time = 100 }
-      ∷ record { name = codes "q"; kind = roi (record { min = []; size = []; bin = []; reverse = []; auto = []; scale = 1; out = None }); input = 0; queue = 20; threads = 1; sort = 0; sort_time = 100 } ∷ [];
+      record { name = codes "r"; kind = Roi (record { min = []; size = []; bin = pos 2 ∷ pos 2 ∷ []; reverse = []; auto = []; scale = 1; out = Some UInt16 }); input = 2; queue = 20; threads = 1; sort = 0; sort_time = 100 }
+      ∷ record { name = codes "q"; kind = Roi (record { min = []; size = []; bin = []; reverse = []; auto = []; scale = 1; out = None }); input = 0; queue = 20; threads = 1; sort = 0; sort_time = 100 } ∷ [];
 })
 unfolding toml_on_literals graph_of run_table node_key linked node_of roi_rule stats_rule circular_rule file_rule
 region_of_a_region = refl

@@ -2,17 +2,16 @@
 ghost use Rattle.std.specs.Prelude.{◌≡◌, ◌≤◌, ◌<◌, ◌^◌, ◌&&◌, length, map, All, IfSome, IfOk};
 ghost use Rattle.std.specs.List.{list_any, position_from};
 ghost use Rattle.std.specs.Str.{bytes_eq};
-ghost use Rattle.nd_base.specs.GraphRules.{IsNode};
+ghost use Rattle.nd_base.specs.GraphRules.{IsNode, may_feed};
 ghost use Rattle.graph_conf.specs.Answers.{Gives};
 ghost use Rattle.graph_conf.specs.declared.fault.GraphFault.TheVariants.{DoubleName, Cycle};
-ghost use Rattle.graph_conf.specs.Meanings.{kind_text, named_text, node_text};
-ghost use Rattle.graph_conf.specs.Links.{AreLinked, rules_with};
-ghost use Rattle.graph_conf.specs.Graphs.{first_place, refused_node, is_double, may_feed, input_number, input_numbers, input_of, source_of, is_circular, few_threads, thread_count, linked};
+ghost use Rattle.graph_conf.specs.Links.{AreLinked};
+ghost use Rattle.graph_conf.specs.Graphs.{first_place, refused_node, is_double, input_number, input_numbers, input_of, source_of, is_circular, few_threads, thread_count, linked, with_inputs};
 
 use crate::GraphFault;
 use crate::keys::out_of_range;
 use crate::node::NamedNode;
-use nd_base::{Kind, NodeRule};
+use nd_base::NodeRule;
 use std::alloc::{AllocError, Global};
 
 /// The most threads of all nodes together.
@@ -28,7 +27,7 @@ fn is_named(nodes: &[NamedNode], name: &str) -> bool
 // An earlier node has the name of the node at this place.
 fn is_double(nodes: &[NamedNode], place: usize) -> bool
     requires { place < length nodes.now }
-    ensures { result ≡ is_double (map named_text nodes.now) place }
+    ensures { result ≡ is_double nodes.now place }
 {
     is_named(&nodes[..place], nodes[place].rule.name.text())
 }
@@ -36,7 +35,7 @@ fn is_double(nodes: &[NamedNode], place: usize) -> bool
 // No two nodes have one name.
 fn distinct(nodes: &[NamedNode]) -> Result<(), GraphFault>
     requires few { length nodes.now ≤ 32 }
-    ensures { Gives (λ _. tt) result (refused_node DoubleName (first_place (is_double (map named_text nodes.now)) 0 (length nodes.now))) }
+    ensures { Gives (λ _. tt) result (refused_node DoubleName (first_place (is_double nodes.now) 0 (length nodes.now))) }
 {
     for place in 0..nodes.len() {
         if is_double(nodes, place) {
@@ -48,28 +47,18 @@ fn distinct(nodes: &[NamedNode]) -> Result<(), GraphFault>
     Ok(())
 }
 
-// A file node has no children.
-fn may_feed(kind: &Kind) -> bool
-    ensures { result ≡ may_feed (kind_text kind.now) }
-{
-    match kind {
-        Kind::Roi(_) | Kind::Stats(_) | Kind::Circular(_) => true,
-        Kind::File(_) => false,
-    }
-}
-
 // The place of the first node with this name that may have children.
 fn place_of(nodes: &[NamedNode], name: &str) -> Option<usize>
     ensures within { IfSome result (λ k. k < length nodes.now) }
-    ensures place { result ≡ position_from (λ n. bytes_eq n.rule.name name.now && may_feed (kind_text n.rule.kind)) 0 nodes.now }
+    ensures place { result ≡ position_from (λ n. bytes_eq n.rule.name name.now && may_feed n.rule.kind) 0 nodes.now }
 {
-    nodes.iter().position(|node| node.rule.name.text() == name && may_feed(&node.rule.kind))
+    nodes.iter().position(|node| node.rule.name.text() == name && node.rule.kind.may_feed())
 }
 
 // The number of the node that an input names.
 fn input_number(nodes: &[NamedNode], input: &str) -> Option<u32>
     requires few { length nodes.now ≤ 32 }
-    ensures { result ≡ input_number (map named_text nodes.now) input.now }
+    ensures { result ≡ input_number nodes.now input.now }
 {
     if input == "driver" {
         return Some(0);
@@ -83,7 +72,7 @@ fn input_number(nodes: &[NamedNode], input: &str) -> Option<u32>
 // The numbers of the inputs.
 fn input_numbers(alloc: Global, nodes: &[NamedNode]) -> Result<Vec<u32>, GraphFault>
     requires few { length nodes.now ≤ 32 }
-    ensures gives { Gives (λ list. list.items) result (input_numbers (map named_text nodes.now) 1 (map named_text nodes.now)) }
+    ensures gives { Gives (λ list. list.items) result (input_numbers nodes.now 1 nodes.now) }
     ensures len { IfOk result (λ list. length list.items ≡ length nodes.now) }
 {
     let mut inputs = Vec::with_capacity(alloc, nodes.len())?;
@@ -104,7 +93,7 @@ fn with_inputs(
     inputs: &[u32],
 ) -> Result<Vec<NodeRule>, AllocError>
     requires { length inputs.now ≡ length nodes.items }
-    ensures rules { IfOk result (λ list. list.items ≡ rules_with nodes.items inputs.now) }
+    ensures rules { IfOk result (λ list. list.items ≡ with_inputs nodes.items inputs.now) }
     ensures len { IfOk result (λ list. length list.items ≡ length inputs.now) }
 {
     let mut rules = Vec::with_capacity(alloc, inputs.len())?;
@@ -156,7 +145,7 @@ fn acyclic(inputs: &[u32]) -> Result<(), GraphFault>
 // The threads of all nodes together.
 fn thread_count(rules: &[NodeRule]) -> u64
     requires few { length rules.now ≤ 32 }
-    ensures total { result ≡ thread_count (map node_text rules.now) }
+    ensures total { result ≡ thread_count rules.now }
     ensures bound { result < 2 ^ 40 }
 {
     let mut total = 0;
@@ -169,8 +158,8 @@ fn thread_count(rules: &[NodeRule]) -> u64
 // The nodes, where their threads are few enough.
 fn few_threads(alloc: Global, rules: Vec<NodeRule>) -> Result<Vec<NodeRule>, GraphFault>
     requires few { length rules.items ≤ 32 }
-    ensures gives { Gives (λ kept. map node_text kept.items) result (few_threads (map node_text rules.items)) }
-    ensures kept { IfOk result (λ kept. (kept.items ≡ rules.items) × (thread_count (map node_text rules.items) ≤ 64)) }
+    ensures gives { Gives (λ kept. kept.items) result (few_threads rules.items) }
+    ensures kept { IfOk result (λ kept. (kept.items ≡ rules.items) × (thread_count rules.items ≤ 64)) }
 {
     let threads = thread_count(&rules);
     if threads > MOST_THREADS {
@@ -184,7 +173,7 @@ fn few_threads(alloc: Global, rules: Vec<NodeRule>) -> Result<Vec<NodeRule>, Gra
 pub(crate) fn linked(alloc: Global, nodes: Vec<NamedNode>) -> Result<Vec<NodeRule>, GraphFault>
     requires few { length nodes.items ≤ 32 }
     requires sound { All (λ n. IsNode n.rule) nodes.items }
-    ensures gives { Gives (λ list. map node_text list.items) result (linked (map named_text nodes.items)) }
+    ensures gives { Gives (λ list. list.items) result (linked nodes.items) }
     ensures sound { IfOk result (λ list. AreLinked list.items) }
 {
     distinct(&nodes)?;

@@ -7,7 +7,7 @@ ghost use Rattle.graph_conf.specs.Loads.{profile_lengths, kept_by, kept, file_by
 
 use cdf_write::length_with;
 use chain_plain::maker_for;
-use nd_base::{Dim, FileShape, Graph, Kind, Maker, Plan, Stack};
+use nd_base::{Dim, FileShape, Graph, Kind, LONGEST_CLASSIC, Maker, Plan, Stack};
 use thiserror::Error;
 
 /// The most frames times nodes.
@@ -17,7 +17,7 @@ const MOST_ARRIVALS: u64 = 1_048_576;
 const MOST_KEPT: u64 = 67_108_864;
 
 /// The longest file that is written, in bytes.
-const LONGEST: u128 = 2_147_483_647;
+const LONGEST: u128 = LONGEST_CLASSIC as u128;
 
 /// A limit that is passed, and the number that passes it. `node` is the number of a node from 1.
 #[derive(Clone, Copy, Debug, PartialEq, Eq, Error)]
@@ -69,7 +69,7 @@ fn kept_by(kind: &Kind, dims: &[Dim]) -> u64
     match kind {
         Kind::Stats(rule) if rule.profiles => u64::from(rule.hist_size) + profile_lengths(dims),
         Kind::Stats(rule) => u64::from(rule.hist_size),
-        _ => 0,
+        Kind::Roi(_) | Kind::Circular(_) | Kind::File(_) | Kind::Scatter => 0,
     }
 }
 
@@ -100,7 +100,7 @@ fn file_bytes(kind: &Kind, shape: &FileShape, frames: u32, made: &Maker) -> u128
             let count = u64::from(rule.count.min(frames));
             length_with(shape, made.kind, made.dims.as_slice(), count)
         }
-        _ => 0,
+        Kind::Roi(_) | Kind::Stats(_) | Kind::Circular(_) | Kind::Scatter => 0,
     }
 }
 

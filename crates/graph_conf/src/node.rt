@@ -3,7 +3,6 @@ ghost use Rattle.std.specs.Prelude.{◌≡◌, ◌≤◌, pos, false, IsTrue, If
 ghost use Rattle.toml.specs.View.{view, table_view};
 ghost use Rattle.nd_base.specs.GraphRules.{IsNode, IsBetween, is_node_name};
 ghost use Rattle.graph_conf.specs.Answers.{Gives};
-ghost use Rattle.graph_conf.specs.Meanings.{named_text};
 ghost use Rattle.graph_conf.specs.Nodes.{is_parallel, name_key, kind_key, input_key, queue_key, threads_key, sort_key, sort_time_key, node_of};
 
 use crate::GraphFault;
@@ -99,7 +98,7 @@ fn sort_time_key(alloc: Global, table: &Table, kind: KindName) -> Result<u64, Gr
 /// The node of a table, which is node `node`.
 #[tactic(auto, unfolding(crate::specs::Nodes::node_of))]
 pub(crate) fn node_of(alloc: Global, table: &Table, node: u32) -> Result<NamedNode, GraphFault>
-    ensures gives { Gives named_text result (node_of node (table_view table.now)) }
+    ensures gives { Gives (λ x. x) result (node_of node (table_view table.now)) }
     ensures sound { IfOk result (λ n. IsNode n.rule) }
 {
     let name = name_key(alloc, table)?;

@@ -6,7 +6,6 @@ ghost use Rattle.toml.specs.View.{view, array_view, table_view};
 ghost use Rattle.nd_base.specs.GraphRules.{IsNode, IsGraph};
 ghost use Rattle.graph_conf.specs.Answers.{Gives};
 ghost use Rattle.graph_conf.specs.Keys.{all_of};
-ghost use Rattle.graph_conf.specs.Meanings.{named_text, node_text, graph_text};
 ghost use Rattle.graph_conf.specs.Graphs.{feeds, feed_key, run_table, run_key, nodes_from, node_tables, node_key, graph_of, graph_or_text, graph_of_bytes};
 
 use crate::GraphFault;
@@ -94,7 +93,7 @@ fn node_tables<'a>(alloc: Global, value: &'a Value) -> Result<Vec<&'a Table>, Gr
 // The nodes of these tables.
 fn nodes_of(alloc: Global, tables: &[&Table]) -> Result<Vec<NamedNode>, GraphFault>
     requires few { length tables.now ≤ 32 }
-    ensures gives { Gives (λ list. map named_text list.items) result (nodes_from 1 (map (λ t. table_view t.now) tables.now)) }
+    ensures gives { Gives (λ list. list.items) result (nodes_from 1 (map (λ t. table_view t.now) tables.now)) }
     ensures len { IfOk result (λ list. length list.items ≡ length tables.now) }
     ensures sound { IfOk result (λ list. All (λ n. IsNode n.rule) list.items) }
 {
@@ -108,7 +107,7 @@ fn nodes_of(alloc: Global, tables: &[&Table]) -> Result<Vec<NamedNode>, GraphFau
 
 #[tactic(auto, unfolding(crate::specs::Graphs::node_key))]
 fn node_key(alloc: Global, table: &Table) -> Result<Vec<NamedNode>, GraphFault>
-    ensures gives { Gives (λ list. map named_text list.items) result (node_key (table_view table.now)) }
+    ensures gives { Gives (λ list. list.items) result (node_key (table_view table.now)) }
     ensures few { IfOk result (λ list. length list.items ≤ 32) }
     ensures sound { IfOk result (λ list. All (λ n. IsNode n.rule) list.items) }
 {
@@ -122,7 +121,7 @@ fn node_key(alloc: Global, table: &Table) -> Result<Vec<NamedNode>, GraphFault>
 // The graph of a document.
 #[tactic(auto, unfolding(crate::specs::Graphs::graph_of))]
 fn graph_of(alloc: Global, table: &Table) -> Result<Graph, GraphFault>
-    ensures gives { Gives graph_text result (graph_of (table_view table.now)) }
+    ensures gives { Gives (λ x. x) result (graph_of (table_view table.now)) }
     ensures sound { IfOk result IsGraph }
 {
     only_keys(alloc, table, &["run", "node"])?;
@@ -138,7 +137,7 @@ fn graph_of(alloc: Global, table: &Table) -> Result<Graph, GraphFault>
 ///
 /// The first fault, which no other answer replaces but want of memory.
 pub fn read_graph(alloc: Global, bytes: &[u8]) -> Result<Graph, GraphFault>
-    ensures exact { Gives graph_text result (graph_of_bytes bytes.now) }
+    ensures exact { Gives (λ x. x) result (graph_of_bytes bytes.now) }
     ensures sound { IfOk result IsGraph }
 {
     let Ok(text) = std::str::from_utf8(bytes) else {

@@ -4,7 +4,6 @@ ghost use Rattle.toml.specs.View.{view, table_view};
 ghost use Rattle.nd_base.specs.GraphRules.{IsRoi, IsStats, IsCircular, IsFile, IsKind, IsSampleBound};
 ghost use Rattle.nd_base.specs.GraphRules as graph_rules;
 ghost use Rattle.graph_conf.specs.Answers.{Gives};
-ghost use Rattle.graph_conf.specs.Meanings.{circular_text, kind_text};
 ghost use Rattle.graph_conf.specs.Keys.{word_in};
 ghost use Rattle.graph_conf.specs.Nodes.{is_parallel, sample_types, type_key, sample_bound, attribute_key, mode_key, roi_rule, stats_rule, circular_rule, file_rule, kind_rule};
 
@@ -15,7 +14,7 @@ use crate::keys::{
 };
 use crate::kind::KindName;
 use crate::words::{mode_named, sample_type_named};
-use nd_base::{CircularRule, FileRule, Kind, Mode, Name, RoiRule, SampleType, StatsRule};
+use nd_base::{CircularRule, FileRule, Form, Kind, Mode, Name, RoiRule, SampleType, StatsRule};
 use std::alloc::Global;
 use toml::{Table, Value};
 use trig_window::parse_calc;
@@ -115,7 +114,7 @@ fn attribute_key(alloc: Global, table: &Table, key: &str) -> Result<Name, GraphF
 
 #[tactic(auto, unfolding(crate::specs::Nodes::circular_rule))]
 fn circular_rule(alloc: Global, table: &Table) -> Result<CircularRule, GraphFault>
-    ensures gives { Gives circular_text result (circular_rule (table_view table.now)) }
+    ensures gives { Gives (λ x. x) result (circular_rule (table_view table.now)) }
     ensures sound { IfOk result IsCircular }
 {
     let pre = count(alloc, table, "pre", 0, 4_096, 0)? as u32;
@@ -156,12 +155,16 @@ fn file_rule(alloc: Global, table: &Table) -> Result<FileRule, GraphFault>
     if matches!(mode, Mode::Single) && count != 1 {
         return Err(out_of_range(alloc, "count", i64::from(count))?);
     }
-    Ok(FileRule { mode, count })
+    Ok(FileRule {
+        mode,
+        count,
+        form: Form::Classic,
+    })
 }
 
 /// What a node of this kind does.
 pub(crate) fn kind_rule(alloc: Global, kind: KindName, table: &Table) -> Result<Kind, GraphFault>
-    ensures gives { Gives kind_text result (kind_rule kind (table_view table.now)) }
+    ensures gives { Gives (λ x. x) result (kind_rule kind (table_view table.now)) }
     ensures sound { IfOk result IsKind }
     ensures parallel { IfOk result (λ rule. graph_rules.is_parallel rule ≡ is_parallel kind) }
 {

@@ -1,15 +1,15 @@
 -- Laws of samples as numbers.
 use Rattle.std.specs.Prelude.{◌≡◌, ℕ, zero, suc, ◌+◌, ◌*◌, ◌/◌, ◌<◌, ◌≤◌, ◌^◌, ℤ, pos, negsuc, List, [], ◌∷◌, ◌++◌, length, take, drop, slice_get, Some, All, FitsSigned, refl}
-use Rattle.std.specs.Int.{w8, w16, w32, cast_signed, cast_unsigned, FitsUnsigned, from_be_bytes, to_be_bytes}
+use Rattle.std.specs.Int.{w8, w16, w32, w64, cast_signed, cast_unsigned, FitsUnsigned, from_be_bytes, to_be_bytes}
 use Rattle.std.proofs.Common.{ap, sym, subst, ◌∙◌, arith, add_comm, length-append, get_or}
 use Rattle.std.proofs.Math.Nat.{mul-div_cancel, zero-mul, suc-mul, mul-le-mul_right}
 use Rattle.std.proofs.lemmas.List.{drop-drop, take-append-drop, length-take-le, length-drop, take_at, drop_at, nil_from_length}
-use Rattle.std.proofs.lemmas.List.Elements.{All-take, All-drop, All-head, All-tail}
+use Rattle.std.proofs.lemmas.List.Elements.{All-nil, All-cons, All-take, All-drop, All-head, All-tail}
 use Rattle.std.proofs.lemmas.Nat.{be_bytes_2, be_bytes_4, from_be_bytes-to_be_bytes_2, from_be_bytes-to_be_bytes_4}
 use Rattle.std.proofs.lemmas.Int.{of_z-to_z, to_z-of_z, ints}
 use Rattle.nd_base.specs.declared.array.SampleType.{SampleType}
 use Rattle.nd_base.specs.declared.array.SampleType.TheVariants.{Int8, UInt8, Int16, UInt16, Int32, UInt32}
-use Rattle.nd_base.specs.Samples.{width, number, numbers, samples_of, sample_bytes, bytes_of}
+use Rattle.nd_base.specs.Samples.{width, number, numbers, samples_of, sample_bytes, bytes_of, IsSmall}
 
 pub length-numbers : (kind : SampleType) (n : ℕ) (bytes : List ℕ) → length (numbers kind n bytes) ≡ n
 length-numbers kind zero bytes = refl
@@ -57,23 +57,36 @@ slice_get-samples_of kind n k bytes h within =
 abbrev pub AreBytes : List ℕ → Type 0
 AreBytes bytes = All (λ b. b < 256) bytes
 
-byte_within : (bytes : List ℕ) → AreBytes bytes → (i : ℕ) → get_or bytes i 0 < 256
+pub byte_within : (bytes : List ℕ) → AreBytes bytes → (i : ℕ) → get_or bytes i 0 < 256
 byte_within [] small i = omega arith
 byte_within (b ∷ bytes) small zero = small 0 0 (omega arith)
 byte_within (b ∷ bytes) small (suc i) = byte_within bytes (λ k d h. small (suc k) d (omega arith)) i
 
-from_1 : (bytes : List ℕ) → length bytes ≡ 1 → AreBytes bytes → from_be_bytes w8 bytes < 2 ^ 8
-from_1 bytes h small = let a = byte_within bytes small 0 in omega arith
+-- what so many bytes stand for
+pub below_8 : (bytes : List ℕ) → AreBytes bytes → from_be_bytes w8 bytes < 2 ^ 8
+below_8 bytes small = let a = byte_within bytes small 0 in omega arith
 
-from_2 : (bytes : List ℕ) → AreBytes bytes → from_be_bytes w16 bytes < 2 ^ 16
-from_2 bytes small = let a = byte_within bytes small 0 in let b = byte_within bytes small 1 in omega arith
+pub below_16 : (bytes : List ℕ) → AreBytes bytes → from_be_bytes w16 bytes < 2 ^ 16
+below_16 bytes small = let a = byte_within bytes small 0 in let b = byte_within bytes small 1 in omega arith
 
-from_4 : (bytes : List ℕ) → AreBytes bytes → from_be_bytes w32 bytes < 2 ^ 32
-from_4 bytes small =
+pub below_32 : (bytes : List ℕ) → AreBytes bytes → from_be_bytes w32 bytes < 2 ^ 32
+below_32 bytes small =
     let a = byte_within bytes small 0 in
     let b = byte_within bytes small 1 in
     let c = byte_within bytes small 2 in
     let d = byte_within bytes small 3 in
+    omega arith
+
+pub below_64 : (bytes : List ℕ) → AreBytes bytes → from_be_bytes w64 bytes < 2 ^ 64
+below_64 bytes small =
+    let a = byte_within bytes small 0 in
+    let b = byte_within bytes small 1 in
+    let c = byte_within bytes small 2 in
+    let d = byte_within bytes small 3 in
+    let e = byte_within bytes small 4 in
+    let f = byte_within bytes small 5 in
+    let g = byte_within bytes small 6 in
+    let h = byte_within bytes small 7 in
     omega arith
 
 be_bytes_1 : (bytes : List ℕ) (n : ℕ) → length bytes ≡ 1 → AreBytes bytes → n ≡ from_be_bytes w8 bytes → to_be_bytes w8 n ≡ bytes
@@ -83,11 +96,11 @@ be_bytes_1 (b ∷ c ∷ bytes) n h small is = absurd (omega arith)
 
 -- the bytes of the number of a sample's bytes
 pub sample_bytes-number : (kind : SampleType) (bytes : List ℕ) → length bytes ≡ width kind → AreBytes bytes → sample_bytes kind (number kind bytes) ≡ bytes
-sample_bytes-number Int8 bytes h small = be_bytes_1 bytes _ h small (of_z-to_z w8 (from_be_bytes w8 bytes) (from_1 bytes h small))
+sample_bytes-number Int8 bytes h small = be_bytes_1 bytes _ h small (of_z-to_z w8 (from_be_bytes w8 bytes) (below_8 bytes small))
 sample_bytes-number UInt8 bytes h small = be_bytes_1 bytes _ h small refl
-sample_bytes-number Int16 bytes h small = be_bytes_2 bytes _ h (byte_within bytes small) (of_z-to_z w16 (from_be_bytes w16 bytes) (from_2 bytes small))
+sample_bytes-number Int16 bytes h small = be_bytes_2 bytes _ h (byte_within bytes small) (of_z-to_z w16 (from_be_bytes w16 bytes) (below_16 bytes small))
 sample_bytes-number UInt16 bytes h small = be_bytes_2 bytes _ h (byte_within bytes small) refl
-sample_bytes-number Int32 bytes h small = be_bytes_4 bytes _ h (byte_within bytes small) (of_z-to_z w32 (from_be_bytes w32 bytes) (from_4 bytes small))
+sample_bytes-number Int32 bytes h small = be_bytes_4 bytes _ h (byte_within bytes small) (of_z-to_z w32 (from_be_bytes w32 bytes) (below_32 bytes small))
 sample_bytes-number UInt32 bytes h small = be_bytes_4 bytes _ h (byte_within bytes small) refl
 
 bytes_of-numbers : (kind : SampleType) (n : ℕ) (bytes : List ℕ) → length bytes ≡ n * width kind → AreBytes bytes → bytes_of kind (numbers kind n bytes) ≡ bytes
@@ -132,6 +145,45 @@ IsSample Int16 v = FitsSigned w16 v
 IsSample UInt16 v = FitsUnsigned w16 v
 IsSample Int32 v = FitsSigned w32 v
 IsSample UInt32 v = FitsUnsigned w32 v
+
+-- a number of so many bits, read with a sign, fits
+pub signed_8 : (n : ℕ) → n < 2 ^ 8 → FitsSigned w8 (cast_signed w8 n)
+signed_8 n h = omega (arith, ints, h)
+
+pub signed_16 : (n : ℕ) → n < 2 ^ 16 → FitsSigned w16 (cast_signed w16 n)
+signed_16 n h = omega (arith, ints, h)
+
+pub signed_32 : (n : ℕ) → n < 2 ^ 32 → FitsSigned w32 (cast_signed w32 n)
+signed_32 n h = omega (arith, ints, h)
+
+-- the number of bytes is one of its type
+pub number-IsSample : (kind : SampleType) (bytes : List ℕ) → AreBytes bytes → IsSample kind (number kind bytes)
+number-IsSample Int8 bytes small = signed_8 (from_be_bytes w8 bytes) (below_8 bytes small)
+number-IsSample UInt8 bytes small = let few = below_8 bytes small in omega (arith, ints, few)
+number-IsSample Int16 bytes small = signed_16 (from_be_bytes w16 bytes) (below_16 bytes small)
+number-IsSample UInt16 bytes small = let few = below_16 bytes small in omega (arith, ints, few)
+number-IsSample Int32 bytes small = signed_32 (from_be_bytes w32 bytes) (below_32 bytes small)
+number-IsSample UInt32 bytes small = let few = below_32 bytes small in omega (arith, ints, few)
+
+numbers-IsSample : (kind : SampleType) (n : ℕ) (bytes : List ℕ) → AreBytes bytes → All (IsSample kind) (numbers kind n bytes)
+numbers-IsSample kind zero bytes small = All-nil (IsSample kind)
+numbers-IsSample kind (suc n) bytes small =
+    All-cons (IsSample kind) (number kind (take (width kind) bytes)) (numbers kind n (drop (width kind) bytes))
+    (number-IsSample kind (take (width kind) bytes) (All-take (λ b. b < 256) (width kind) bytes small))
+    (numbers-IsSample kind n (drop (width kind) bytes) (All-drop (λ b. b < 256) (width kind) bytes small))
+
+-- and so is each sample of bytes
+pub samples_of-IsSample : (kind : SampleType) (bytes : List ℕ) → AreBytes bytes → All (IsSample kind) (samples_of kind bytes)
+samples_of-IsSample kind bytes small = numbers-IsSample kind (length bytes / width kind) bytes small
+
+-- a sample has at most 32 bits
+pub sample-IsSmall : (kind : SampleType) (v : ℤ) → IsSample kind v → IsSmall v
+sample-IsSmall Int8 v h = omega (arith, ints, h)
+sample-IsSmall UInt8 v h = omega (arith, ints, h)
+sample-IsSmall Int16 v h = omega (arith, ints, h)
+sample-IsSmall UInt16 v h = omega (arith, ints, h)
+sample-IsSmall Int32 v h = omega (arith, ints, h)
+sample-IsSmall UInt32 v h = omega (arith, ints, h)
 
 unsigned_8 : (v : ℤ) → FitsSigned w8 v → from_be_bytes w8 (to_be_bytes w8 (cast_unsigned w8 v)) ≡ cast_unsigned w8 v
 unsigned_8 (pos n) h = omega (arith, ints)

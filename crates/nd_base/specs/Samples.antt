@@ -1,5 +1,5 @@
 -- Samples as whole numbers. In memory and in files a sample is bytes, the most significant first.
-use Rattle.std.specs.Prelude.{ℕ, zero, suc, ◌/◌, ℤ, pos, List, [], ◌∷◌, length, take, drop}
+use Rattle.std.specs.Prelude.{ℕ, zero, suc, ◌/◌, ◌<◌, ◌^◌, unsigned_abs, ℤ, pos, List, [], ◌∷◌, length, take, drop}
 use Rattle.std.specs.List.{flat_map}
 use Rattle.std.specs.Int.{w8, w16, w32, cast_signed, cast_unsigned, from_be_bytes, to_be_bytes}
 use Rattle.nd_base.specs.declared.array.SampleType.{SampleType}
@@ -44,3 +44,7 @@ sample_bytes UInt32 v = to_be_bytes w32 (cast_unsigned w32 v)
 -- the bytes of samples, one after another
 abbrev pub bytes_of : SampleType → List ℤ → List ℕ
 bytes_of kind samples = flat_map (sample_bytes kind) samples
+
+-- a number of at most 32 bits
+abbrev pub IsSmall : ℤ → Type 0
+IsSmall v = unsigned_abs v < 2 ^ 32

@@ -1,15 +1,14 @@
 //! Arrays.
 
-ghost use Rattle.std.specs.Prelude.{◌≡◌, ◌<◌, ◌≤◌, ◌+◌, ◌*◌, length, take, drop, slice_get, Some, None, IsTrue, nat_lt, IfOk, IfErr, IfSome, IfNone, OnOk, option_copied};
+ghost use Rattle.std.specs.Prelude.{◌≡◌, ◌<◌, ◌≤◌, ◌*◌, length, slice_get, Some, None, IsTrue, nat_lt, IfOk, IfErr, IfSome, IfNone, OnOk, option_copied};
 ghost use Rattle.std.specs.List.{list_all};
-ghost use Rattle.std.specs.Int.{w16, w32, from_be_bytes};
-ghost use Rattle.nd_base.specs.Attributes.{attr_of};
-ghost use Rattle.nd_base.specs.Samples.{number, width};
+ghost use Rattle.nd_base.specs.Samples.{width};
 ghost use Rattle.nd_base.specs.Shapes.{has_dimensions, sample_count, most_samples, shape_fault};
 
-use crate::{Attr, AttrValue, Bytes, OutOfMemory, Seq};
+use crate::{AttrValue, Attrs, Bytes, OutOfMemory, Seq, number_at};
 use std::alloc::Global;
 use std::marker::Model;
+use thiserror::Error;
 
 /// The type of the samples: width in bits, and whether they have a sign.
 #[derive(Clone, Copy, Debug, PartialEq, Eq)]
@@ -55,7 +54,7 @@ pub struct Head {
     pub stamp: u64,
     pub sec: i32,
     pub nsec: i32,
-    pub attrs: Seq<Attr>,
+    pub attrs: Attrs,
 }
 
 /// The same head.
@@ -70,12 +69,15 @@ pub fn same_head(head: &Head) -> Result<Head, OutOfMemory>
 }
 
 /// Why an array is refused.
-#[derive(Clone, Copy, Debug, PartialEq, Eq)]
+#[derive(Clone, Copy, Debug, PartialEq, Eq, Error)]
 pub enum ShapeFault {
     /// There are not 1 to 10 dimensions, one of them is empty, or the bytes are not those of the samples.
+    #[error("no array has these dimensions and bytes")]
     BadShape,
     /// There are more than 67,108,864 samples.
+    #[error("too many samples")]
     TooManySamples,
+    #[error("out of memory")]
     OutOfMemory,
 }
 
@@ -159,16 +161,6 @@ fn fault_of(kind: SampleType, dims: &[Dim], bytes: usize) -> Option<ShapeFault>
     }
 }
 
-/// The value of the first of these attributes that has this name.
-fn attr_in<'a>(attrs: &'a [Attr], name: &str) -> Option<&'a AttrValue>
-    ensures { option_copied result ≡ attr_of name.now attrs.now }
-{
-    attrs
-        .iter()
-        .find(|attr| attr.name.text() == name)
-        .map(|attr| &attr.value)
-}
-
 /// The most samples that an array may have.
 pub const MOST_SAMPLES: u64 = 67_108_864;
 
@@ -229,7 +221,7 @@ impl NdArray {
     pub fn attr(&self, name: &str) -> Option<&AttrValue>
         ensures { option_copied result ≡ attr_of name.now self.now.attrs }
     {
-        attr_in(self.head.attrs.as_slice(), name)
+        self.head.attrs.value_of(name)
     }
 
     /// The dimensions, dimension 0 first: 1 to 10 of them, none empty, with at most 67,108,864 samples.
@@ -257,35 +249,4 @@ impl NdArray {
     {
         number_at(self.kind, self.bytes.list(), i * self.kind.width())
     }
-}
-
-/// The number whose bytes begin at place `at`.
-fn number_at(kind: SampleType, bytes: &[u8], at: usize) -> i64
-    requires { at + width kind ≤ length bytes.now }
-    ensures { result ≡ number kind (take (width kind) (drop at bytes.now)) }
-{
-    match kind {
-        SampleType::Int8 => bytes[at].cast_signed() as i64,
-        SampleType::UInt8 => bytes[at] as i64,
-        SampleType::Int16 => pair_at(bytes, at).cast_signed() as i64,
-        SampleType::UInt16 => pair_at(bytes, at) as i64,
-        SampleType::Int32 => word_at(bytes, at).cast_signed() as i64,
-        SampleType::UInt32 => word_at(bytes, at) as i64,
-    }
-}
-
-/// The two bytes at place `at` as a number.
-fn pair_at(bytes: &[u8], at: usize) -> u16
-    requires { at + 2 ≤ length bytes.now }
-    ensures { result ≡ from_be_bytes w16 (take 2 (drop at bytes.now)) }
-{
-    u16::from_be_bytes([bytes[at], bytes[at + 1]])
-}
-
-/// The four bytes at place `at` as a number.
-fn word_at(bytes: &[u8], at: usize) -> u32
-    requires { at + 4 ≤ length bytes.now }
-    ensures { result ≡ from_be_bytes w32 (take 4 (drop at bytes.now)) }
-{
-    u32::from_be_bytes([bytes[at], bytes[at + 1], bytes[at + 2], bytes[at + 3]])
 }

@@ -1,6 +1,6 @@
 //! Attributes of frames, and what the frames of one file have in common.
 
-use crate::{Bytes, Dim, Name, SampleType, Seq};
+use crate::{Bytes, Dim, Form, Name, SampleType, Seq};
 
 /// The value of an attribute. Floating-point numbers pass as their bits.
 #[derive(Clone, Debug, Drop)]
@@ -43,10 +43,11 @@ pub struct Extra {
     pub values: Bytes,
 }
 
-/// What all frames of a file share: sample type, dimensions (dimension 0 is the fastest), the attributes
-/// in their order, the room of a text in bytes, and the global attributes that are handed on.
+/// What all frames of a file share: the form of the file, sample type, dimensions (dimension 0 is the fastest), the
+/// attributes in their order, the room of a text in bytes, and the global attributes that are handed on.
 #[derive(Clone, Debug, Drop)]
 pub struct FileShape {
+    pub form: Form,
     pub kind: SampleType,
     pub dims: Seq<Dim>,
     pub attrs: Seq<AttrColumn>,

@@ -3,7 +3,7 @@
 ghost use Rattle.std.specs.Prelude.{◌≡◌, option_copied};
 ghost use Rattle.nd_base.specs.GraphRules.{rule_at};
 
-use crate::{Name, SampleType, Seq};
+use crate::{Calc, Form, Name, SampleType, Seq};
 
 /// A sign between two parts of an expression.
 #[derive(Clone, Copy, Debug, PartialEq, Eq)]
@@ -19,17 +19,6 @@ pub enum Sign {
     Plus,
     Minus,
     Times,
-}
-
-/// A trigger expression as a tree. `A` and `B` stand for the node's two attributes.
-#[derive(Debug, Drop)]
-pub enum Calc {
-    Number(i64),
-    A,
-    B,
-    Not(Box<Calc>),
-    Neg(Box<Calc>),
-    Two(Sign, Box<Calc>, Box<Calc>),
 }
 
 /// What a region node cuts out. Each list has one value a dimension, from dimension 0 on; a list may be
@@ -81,11 +70,12 @@ pub enum Mode {
     Stream,
 }
 
-/// What a file node writes: `count` arrays a file.
+/// What a file node writes: `count` arrays a file, in this form.
 #[derive(Debug, Drop)]
 pub struct FileRule {
     pub mode: Mode,
     pub count: u32,
+    pub form: Form,
 }
 
 /// What a node does.
@@ -95,6 +85,42 @@ pub enum Kind {
     Stats(StatsRule),
     Circular(CircularRule),
     File(FileRule),
+    /// Each array goes to one child in turn.
+    Scatter,
+}
+
+impl Kind {
+    ghost use Rattle.nd_base.specs.GraphRules.{may_feed, is_parallel, makes_arrays};
+
+    /// Whether a node of this kind may have children.
+    pub fn may_feed(&self) -> bool
+        ensures { result ≡ may_feed self.now }
+    {
+        match self {
+            Kind::Roi(_) | Kind::Stats(_) | Kind::Circular(_) | Kind::Scatter => true,
+            Kind::File(_) => false,
+        }
+    }
+
+    /// Whether a node of this kind may have several threads, and a sort list.
+    pub fn is_parallel(&self) -> bool
+        ensures { result ≡ is_parallel self.now }
+    {
+        match self {
+            Kind::Roi(_) | Kind::Stats(_) => true,
+            Kind::Circular(_) | Kind::File(_) | Kind::Scatter => false,
+        }
+    }
+
+    /// Whether a node of this kind makes arrays of its own.
+    pub fn makes_arrays(&self) -> bool
+        ensures { result ≡ makes_arrays self.now }
+    {
+        match self {
+            Kind::Roi(_) => true,
+            Kind::Stats(_) | Kind::Circular(_) | Kind::File(_) | Kind::Scatter => false,
+        }
+    }
 }
 
 /// A node. `input` is 0 for the driver, or the number of a node from 1; `sort` is the size of the sort

@@ -1,9 +1,11 @@
 //! The answer for want of memory.
 
 use std::alloc::{AllocError, AllocFailed};
+use thiserror::Error;
 
 /// The answer of a call that was refused memory. Nothing else has happened then.
-#[derive(Clone, Copy, Debug, PartialEq, Eq)]
+#[derive(Clone, Copy, Debug, PartialEq, Eq, Error)]
+#[error("out of memory")]
 pub struct OutOfMemory;
 
 impl From<AllocError> for OutOfMemory {

@@ -18,8 +18,9 @@ pub trait Run {
 impl Run for Brand {
     ghost use Rattle.std.specs.Prelude.{[], false};
     ghost use Rattle.nd_base.specs.declared.array.SampleType.TheVariants.{UInt8};
+    ghost use Rattle.nd_base.specs.declared.form.Form.TheVariants.{Classic};
 
-    ghost stack = { record { shape = record { kind = UInt8; dims = []; attrs = []; width = 0; extras = [] }; arrays = [] } };
+    ghost stack = { record { shape = record { form = Classic; kind = UInt8; dims = []; attrs = []; width = 0; extras = [] }; arrays = [] } };
 
     ghost graph = { record { wait = false; limit = 0; nodes = [] } };
 }

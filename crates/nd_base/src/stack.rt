@@ -1,9 +1,10 @@
 //! Stacks.
 
-ghost use Rattle.std.specs.Prelude.{◌≡◌, ◌<◌, ◌≤◌, ◌+◌, ◌*◌, length, take, drop, slice_get, IfSome};
+ghost use Rattle.std.specs.Prelude.{◌≡◌, ◌<◌, ◌≤◌, ◌+◌, ◌*◌, length, take, drop, slice_get, Some, IfOk, IfSome};
 ghost use Rattle.nd_base.specs.SampleLaws.{AreBytes};
 
-use crate::{Bytes, FileShape, Head, Seq, frame_bytes};
+use crate::{Bytes, FileShape, Head, NdArray, OutOfMemory, Seq, frame_bytes, same_head};
+use std::alloc::Global;
 use std::marker::Model;
 
 /// Frames of one shape over the bytes of the file that they come from. The samples of frame k are the bytes
@@ -102,5 +103,23 @@ impl Stack {
         ensures bytes { IfSome (slice_get self.now.arrays k) (λ a. out.new ≡ bytes_of self.now.shape.kind a.samples) }
     {
         out.copy_from_slice(self.frame(k));
+    }
+    /// Frame `k` as an array of its own.
+    ///
+    /// # Errors
+    ///
+    /// Only for want of memory.
+    pub fn array(&self, alloc: Global, k: u32) -> Result<NdArray, OutOfMemory>
+        requires { k < length self.now.arrays }
+        ensures { IfOk result (λ a. slice_get self.now.arrays k ≡ Some a) }
+    {
+        let shape = self.shape();
+        let samples = self.frame(k).to_vec(alloc)?;
+        let head = same_head(self.head(k))?;
+        let dims = shape.dims.as_slice().to_vec(alloc)?;
+        let Ok(array) = NdArray::new(alloc, head, shape.kind, dims, samples) else {
+            unreachable!()
+        };
+        Ok(array)
     }
 }

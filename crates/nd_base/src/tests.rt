@@ -4,27 +4,25 @@ ghost use Rattle.std.specs.Prelude.{◌≡◌, ◌<◌, length, slice_set, IfOk}
 ghost use Rattle.nd_base.specs.Stacks.{frame_size};
 
 use crate::{
-    Attr, AttrValue, Bytes, Dim, FileShape, Head, Name, NdArray, SampleType, Seq, ShapeFault, Stack,
+    AttrValue, Attrs, Bytes, Dim, FileShape, Form, Head, Name, Names, NdArray, OutOfMemory,
+    SampleType, Seq, ShapeFault, Stack,
 };
-use std::alloc::{AllocError, Global};
+use std::alloc::Global;
 use std::test::Fail;
 
-fn head(alloc: Global) -> Result<Head, AllocError> {
+fn head(alloc: Global) -> Result<Head, OutOfMemory> {
     let name = Name::new(String::from_str(alloc, "ColorMode")?);
-    let attr = Attr {
-        name,
-        value: AttrValue::Whole(0),
-    };
+    let names = Names::new(alloc, vec![in alloc; name]?)?;
     Ok(Head {
         id: 7,
         stamp: 1,
         sec: 2,
         nsec: 3,
-        attrs: Seq::new(vec![in alloc; attr]?),
+        attrs: Attrs::new(names, vec![in alloc; AttrValue::Whole(0)]?),
     })
 }
 
-fn dims(alloc: Global, sizes: &[u32]) -> Result<Vec<Dim>, AllocError> {
+fn dims(alloc: Global, sizes: &[u32]) -> Result<Vec<Dim>, OutOfMemory> {
     let mut dims = Vec::new(alloc);
     for size in sizes {
         dims.push(Dim {
@@ -43,7 +41,7 @@ fn zeros(
     kind: SampleType,
     sizes: &[u32],
     bytes: usize,
-) -> Result<Option<ShapeFault>, AllocError> {
+) -> Result<Option<ShapeFault>, OutOfMemory> {
     let samples = vec![in alloc; 0; bytes]?;
     match NdArray::new(alloc, head(alloc)?, kind, dims(alloc, sizes)?, samples) {
         Ok(_) => Ok(None),
@@ -177,7 +175,7 @@ fn parts_come_back_as_they_were_given(rt: HostRuntime) -> Result<(), Fail> {
 }
 
 /// Two frames of two 16-bit samples, 6 bytes apart, after 2 bytes of something else.
-fn two_frames(alloc: Global) -> Result<Stack, AllocError>
+fn two_frames(alloc: Global) -> Result<Stack, OutOfMemory>
     ensures frames { IfOk result (λ s. length s.arrays ≡ 2) }
     ensures size { IfOk result (λ s. frame_size s.shape ≡ 4) }
 {
@@ -188,6 +186,7 @@ fn two_frames(alloc: Global) -> Result<Stack, AllocError>
         reverse: false,
     };
     let shape = FileShape {
+        form: Form::Classic,
         kind: SampleType::Int16,
         dims: Seq::new(vec![in alloc; dim]?),
         attrs: Seq::new(Vec::new(alloc)),

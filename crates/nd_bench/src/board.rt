@@ -5,7 +5,9 @@ ghost use Rattle.flow_core.specs.Worked.{side, worked_graph, IsWorked, IsWorkedP
 
 use flow_core::{Board, Done, Load, Save, Settled, Take, TestFrame};
 use nd_base::SampleType::UInt8;
-use nd_base::{Dim, FileRule, FrameName, Graph, Kind, Maker, Mode, Name, NodeRule, Plan, Run, Seq};
+use nd_base::{
+    Dim, FileRule, Form, FrameName, Graph, Kind, Maker, Mode, Name, NodeRule, Plan, Run, Seq,
+};
 use std::alloc::Global;
 use std::marker::Brand;
 
@@ -29,6 +31,7 @@ fn graph(alloc: Global) -> Option<Graph>
         kind: Kind::File(FileRule {
             mode: Mode::Capture,
             count: 1,
+            form: Form::Classic,
         }),
         input: 0,
         queue: 1,

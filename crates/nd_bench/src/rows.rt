@@ -2,17 +2,19 @@
 
 ghost use Rattle.std.specs.Prelude.{◌≡◌, [], ◌∷◌, IfSome, pos, false, length};
 ghost use Rattle.nd_base.specs.declared.array.SampleType.TheVariants.{UInt8};
+ghost use Rattle.nd_base.specs.declared.form.Form.TheVariants.{Classic};
 
 use crate::frames::{SAMPLES, SIDE, samples};
 use cdf_write::row_bytes;
-use nd_base::{FileShape, Head, SampleType, Seq};
+use nd_base::{Attrs, FileShape, Form, Head, SampleType, Seq};
 use std::alloc::Global;
 
 /// The shape of frames without attributes.
 pub(crate) fn plain_shape(alloc: Global) -> Option<FileShape>
-    ensures { IfSome result (λ shape. shape ≡ record { kind = UInt8; dims = record { size = 1024; offset = pos 0; binning = pos 1; reverse = false } ∷ record { size = 1024; offset = pos 0; binning = pos 1; reverse = false } ∷ []; attrs = []; width = 256; extras = [] }) }
+    ensures { IfSome result (λ shape. shape ≡ record { form = Classic; kind = UInt8; dims = record { size = 1024; offset = pos 0; binning = pos 1; reverse = false } ∷ record { size = 1024; offset = pos 0; binning = pos 1; reverse = false } ∷ []; attrs = []; width = 256; extras = [] }) }
 {
     Some(FileShape {
+        form: Form::Classic,
         kind: SampleType::UInt8,
         dims: Seq::new(Vec::from_slice(alloc, &[SIDE, SIDE]).ok()?),
         attrs: Seq::new(Vec::new(alloc)),
@@ -28,7 +30,7 @@ pub(crate) fn plain_row(
     frame: u32,
     samples: &[u8],
 ) -> Option<Vec<u8>>
-    requires shape { shape.now ≡ record { kind = UInt8; dims = record { size = 1024; offset = pos 0; binning = pos 1; reverse = false } ∷ record { size = 1024; offset = pos 0; binning = pos 1; reverse = false } ∷ []; attrs = []; width = 256; extras = [] } }
+    requires shape { shape.now ≡ record { form = Classic; kind = UInt8; dims = record { size = 1024; offset = pos 0; binning = pos 1; reverse = false } ∷ record { size = 1024; offset = pos 0; binning = pos 1; reverse = false } ∷ []; attrs = []; width = 256; extras = [] } }
     requires samples { length samples.now ≡ SAMPLES }
 {
     let head = Head {
@@ -36,7 +38,7 @@ pub(crate) fn plain_row(
         stamp: 0,
         sec: 0,
         nsec: 0,
-        attrs: Seq::new(Vec::new(alloc)),
+        attrs: Attrs::none(alloc),
     };
     row_bytes(alloc, shape, &head, samples).ok()
 }

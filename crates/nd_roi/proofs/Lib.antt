@@ -1,10 +1,9 @@
-pub mod Blocks
 pub mod Bounds
-pub mod BytePairs
 pub mod Bytes
 pub mod Cuts
 pub mod Gather
 pub mod Lines
 pub mod Places
 pub mod Regions
+pub mod Runs
 pub mod Sums

@@ -15,7 +15,7 @@ use Rattle.nd_roi.specs.declared.cut.Cut.{Cut}
 use Rattle.nd_roi.specs.declared.walk.Axis.{Axis}
 use Rattle.nd_roi.specs.Region.{first_covered}
 use Rattle.nd_roi.specs.Walk.{concat_below, line_bytes, line_total, bytes_of}
-use Rattle.nd_roi.specs.RegionLaws.{range-split}
+use Rattle.nd_base.specs.PlaceLaws.{range-split}
 
 -- the stride of the next dimension is at most the number of samples
 pub stride_most : (dims : List Dim) (k stride most : ℕ) (d : Dim) → list_all (λ d. nat_lt 0 d.size) dims ≡ true → k < length dims → stride * sample_count (drop k dims) ≤ most → stride * (get_or dims k d).size ≤ most

@@ -10,8 +10,9 @@ use Rattle.nd_base.specs.declared.graph.RoiRule.{RoiRule}
 use Rattle.nd_roi.specs.declared.cut.Cut.{Cut}
 use Rattle.nd_roi.specs.declared.walk.Axis.{Axis}
 use Rattle.nd_roi.specs.Cut.{cut, cuts_from, dims_from}
-use Rattle.nd_roi.specs.Region.{place, product_of, indices, first_covered, covered_by, covered, sum_over, sizes_of}
-use Rattle.nd_roi.specs.RegionLaws.{range-split}
+use Rattle.nd_base.specs.Places.{place, product_of, indices, sizes_of}
+use Rattle.nd_roi.specs.Region.{first_covered, covered_by, covered, sum_over}
+use Rattle.nd_base.specs.PlaceLaws.{range-split}
 use Rattle.nd_roi.specs.Walk.{sum_below, lines_total, concat_below, lines, axes_from}
 
 -- sums

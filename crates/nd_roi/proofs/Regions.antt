@@ -18,24 +18,14 @@ use Rattle.nd_base.specs.Shapes.{sample_count}
 use Rattle.nd_roi.specs.declared.cut.Cut.{Cut}
 use Rattle.nd_roi.specs.declared.walk.Axis.{Axis}
 use Rattle.nd_roi.specs.Cut.{cut, cuts_from, dims_from, region_dims, cuts}
-use Rattle.nd_roi.specs.Region.{place, indices, first_covered, covered_by, covered, sum_over, sizes_of, low_bits, reduced, out_type, sample_at, scaled, region_samples}
+use Rattle.nd_base.specs.Places.{place, indices, sizes_of}
+use Rattle.nd_roi.specs.RegionLaws.{low_bits-below_16, low_bits-below_32}
+use Rattle.nd_roi.specs.Region.{first_covered, covered_by, covered, sum_over, low_bits, reduced, out_type, sample_at, scaled, region_samples}
 use Rattle.nd_roi.specs.Walk.{stored, run, lines_total, lines, axes_from, bytes_of, line_bytes}
 use Rattle.nd_roi.proofs.Places.{starts, total_is, lines_are, product-cong, sum_over-flat_map, sum_over-map, sum_over-cong, sum_over-range, sum_below-cong, flat_map-cong, flat_map-flat_map}
 use Rattle.nd_roi.specs.CutLaws.{length-dims_from}
 
 -- bytes as samples
-
-low_bits-below_8 : (z : ℤ) → low_bits 8 z < 2 ^ 8
-low_bits-below_8 (pos n) = omega arith
-low_bits-below_8 (negsuc n) = omega arith
-
-low_bits-below_16 : (z : ℤ) → low_bits 16 z < 2 ^ 16
-low_bits-below_16 (pos n) = omega arith
-low_bits-below_16 (negsuc n) = omega arith
-
-low_bits-below_32 : (z : ℤ) → low_bits 32 z < 2 ^ 32
-low_bits-below_32 (pos n) = omega arith
-low_bits-below_32 (negsuc n) = omega arith
 
 length-bytes_of : (kind : SampleType) (z : ℤ) → length (bytes_of kind z) ≡ width kind
 length-bytes_of Int8 z = refl

@@ -9,23 +9,9 @@ use Rattle.nd_base.specs.declared.array.SampleType.{SampleType}
 use Rattle.nd_base.specs.declared.array.SampleType.TheVariants.{Int8, UInt8, Int16, UInt16, Int32, UInt32}
 use Rattle.nd_base.specs.declared.graph.RoiRule.{RoiRule}
 use Rattle.nd_base.specs.Array.{Array}
+use Rattle.nd_base.specs.Places.{place, product_of, indices, sizes_of}
 use Rattle.nd_roi.specs.declared.cut.Cut.{Cut}
 use Rattle.nd_roi.specs.Cut.{cuts, region_dims}
-
--- the place of an index among the samples of dimensions of these sizes, where dimension 0 is the fastest
-abbrev pub place : (sizes index : List ℕ) → ℕ
-place [] index = 0
-place (n ∷ sizes) [] = 0
-place (n ∷ sizes) (x ∷ index) = x + n * place sizes index
-
--- the indices with their numbers out of these lists, the first number the fastest
-abbrev pub product_of : List (List ℕ) → List (List ℕ)
-product_of [] = [] ∷ []
-product_of (choices ∷ rest) = flat_map (λ index. map (λ x. x ∷ index) choices) (product_of rest)
-
--- all indices of dimensions of these sizes, in the order of their places
-abbrev pub indices : List ℕ → List (List ℕ)
-indices sizes = product_of (map (λ n. range_with_len 0 n) sizes)
 
 -- the first index of one dimension that an output index covers
 abbrev pub first_covered : Cut → ℕ → ℕ
@@ -74,10 +60,6 @@ sample_at sizes samples index = slice_index_or samples (place sizes index) (pos 
 -- a sum as a sample of the output: divided toward zero, then reduced
 abbrev pub scaled : RoiRule → SampleType → ℤ → ℤ
 scaled rule kind total = reduced (out_type rule kind) (int_div total (pos rule.scale))
-
--- the sizes of dimensions
-abbrev pub sizes_of : List Dim → List ℕ
-sizes_of dims = map (λ d. d.size) dims
 
 -- the output's samples
 abbrev pub region_samples : RoiRule → SampleType → List Dim → List ℤ → List ℤ

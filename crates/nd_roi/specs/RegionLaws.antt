@@ -1,30 +1,18 @@
--- Laws of regions: how many samples there are, and that `indices` is the inverse of `place`.
-use Rattle.std.specs.Prelude.{◌≡◌, ℕ, zero, suc, ◌+◌, ◌*◌, ℤ, List, [], ◌∷◌, ◌++◌, length, map, refl}
-use Rattle.std.specs.List.{range_with_len, flat_map}
-use Rattle.std.proofs.Common.{ap, sym, ◌∙◌, arith}
-use Rattle.std.proofs.lemmas.List.{length-append, length-map, map-append}
-use Rattle.std.proofs.lemmas.List.FromFn.{length-range_with_len}
+-- Laws of regions: how many samples there are, and that each is one of the output's type.
+use Rattle.std.specs.Prelude.{◌≡◌, ◌<◌, ◌^◌, ℤ, pos, negsuc, List, length}
+use Rattle.std.proofs.Common.{◌∙◌, arith}
+use Rattle.std.proofs.lemmas.Int.{ints}
+use Rattle.std.proofs.lemmas.List.{length-map}
 use Rattle.nd_base.specs.declared.array.Dim.{Dim}
 use Rattle.nd_base.specs.declared.array.SampleType.{SampleType}
+use Rattle.nd_base.specs.declared.array.SampleType.TheVariants.{Int8, UInt8, Int16, UInt16, Int32, UInt32}
 use Rattle.nd_base.specs.declared.graph.RoiRule.{RoiRule}
-use Rattle.nd_base.specs.Shapes.{product, sample_count}
+use Rattle.nd_base.specs.Places.{indices, sizes_of}
+use Rattle.nd_base.specs.PlaceLaws.{length-indices}
+use Rattle.nd_base.specs.SampleLaws.{IsSample, signed_8, signed_16, signed_32}
+use Rattle.nd_base.specs.Shapes.{sample_count}
 use Rattle.nd_roi.specs.Cut.{cuts, region_dims}
-use Rattle.nd_roi.specs.Region.{place, indices, sizes_of, sum_over, sample_at, covered, scaled, region_samples}
-
--- each list in front of the rest
-length-in_front : (xs : List ℕ) (n : ℕ) (rests : List (List ℕ)) → length xs ≡ n → length (flat_map (λ index. map (λ x. x ∷ index) xs) rests) ≡ n * length rests
-length-in_front xs n [] h = omega arith
-length-in_front xs n (rest ∷ rests) h =
-    let more = flat_map (λ index. map (λ x. x ∷ index) xs) rests in
-    let front : length (map (λ x. x ∷ rest) xs) ≡ n = length-map xs (λ x. x ∷ rest) ∙ h in
-    let back = length-in_front xs n rests h in
-    let both = length-append (map (λ x. x ∷ rest) xs) more in
-    omega (arith, front, back, both)
-
--- there are as many indices as samples
-pub length-indices : (sizes : List ℕ) → length (indices sizes) ≡ product sizes
-length-indices [] = refl
-length-indices (n ∷ sizes) = length-in_front (range_with_len 0 n) n (indices sizes) (length-range_with_len 0 n) ∙ ap (λ m. n * m) (length-indices sizes)
+use Rattle.nd_roi.specs.Region.{low_bits, reduced, sum_over, sample_at, covered, scaled, region_samples}
 
 -- a region has as many samples as its dimensions say
 pub length-region_samples : (rule : RoiRule) (kind : SampleType) (dims : List Dim) (samples : List ℤ) → length (region_samples rule kind dims samples) ≡ sample_count (region_dims rule dims)
@@ -32,39 +20,24 @@ length-region_samples rule kind dims samples =
     let all = indices (sizes_of (region_dims rule dims)) in
     length-map all (λ index. scaled rule kind (sum_over (sample_at (sizes_of dims) samples) (covered (cuts rule dims) index))) ∙ length-indices (sizes_of (region_dims rule dims))
 
--- a range is its front and the rest
-pub range-split : (from m n : ℕ) → range_with_len from (m + n) ≡ range_with_len from m ++ range_with_len (from + m) n
-range-split from zero n = ap (λ k. range_with_len from k) (omega arith) ∙ ap (λ k. range_with_len k n) (omega arith)
-range-split from (suc m) n =
-    let e : suc m + n ≡ suc (m + n) = omega arith in
-    ap (λ k. range_with_len from k) e ∙ ap (λ z. from ∷ z) (range-split (from + 1) m n ∙ ap (λ k. range_with_len (from + 1) m ++ range_with_len k n) (omega arith))
+-- what is left in so many bits is below 2 to their number
+pub low_bits-below_8 : (z : ℤ) → low_bits 8 z < 2 ^ 8
+low_bits-below_8 (pos n) = omega arith
+low_bits-below_8 (negsuc n) = omega arith
 
--- the places of the indices in one row, from its first place on
-places-row : (sizes rest : List ℕ) (size n from : ℕ) → map (place (size ∷ sizes)) (map (λ x. x ∷ rest) (range_with_len from n)) ≡ range_with_len (from + size * place sizes rest) n
-places-row sizes rest size zero from = refl
-places-row sizes rest size (suc n) from = ap (λ z. (from + size * place sizes rest) ∷ z) (places-row sizes rest size n (from + 1) ∙ ap (λ k. range_with_len k n) (omega arith))
+pub low_bits-below_16 : (z : ℤ) → low_bits 16 z < 2 ^ 16
+low_bits-below_16 (pos n) = omega arith
+low_bits-below_16 (negsuc n) = omega arith
 
--- the rows that follow one another
-places-rows : (sizes : List ℕ) (size from count : ℕ) (rests : List (List ℕ)) → map (place sizes) rests ≡ range_with_len from count →
-    map (place (size ∷ sizes)) (flat_map (λ index. map (λ x. x ∷ index) (range_with_len 0 size)) rests) ≡ range_with_len (size * from) (size * count)
-places-rows sizes size from zero [] h = let none : 0 ≡ size * zero = omega arith in ap (range_with_len (size * from)) none
-places-rows sizes size from zero (rest ∷ rests) h = absurd (cc)
-places-rows sizes size from (suc n) [] h = absurd (cc)
-places-rows sizes size from (suc n) (rest ∷ rests) h =
-    let first : place sizes rest ≡ from = cc in
-    let others : map (place sizes) rests ≡ range_with_len (from + 1) n = cc in
-    let more = flat_map (λ index. map (λ x. x ∷ index) (range_with_len 0 size)) rests in
-    let next : size * (from + 1) ≡ size * from + size = omega arith in
-    let count : size + size * n ≡ size * suc n = omega arith in
-    let zero_more : 0 + size * from ≡ size * from = omega arith in
-    let start : 0 + size * place sizes rest ≡ size * from = ap (λ p. 0 + size * p) first ∙ zero_more in
-    map-append (place (size ∷ sizes)) (map (λ x. x ∷ rest) (range_with_len 0 size)) more
-    ∙ ap (λ z. z ++ map (place (size ∷ sizes)) more) (places-row sizes rest size size 0 ∙ ap (λ k. range_with_len k size) start)
-    ∙ ap (λ z. range_with_len (size * from) size ++ z) (places-rows sizes size (from + 1) n rests others ∙ ap (λ k. range_with_len k (size * n)) next)
-    ∙ sym (range-split (size * from) size (size * n))
-    ∙ ap (range_with_len (size * from)) count
+pub low_bits-below_32 : (z : ℤ) → low_bits 32 z < 2 ^ 32
+low_bits-below_32 (pos n) = omega arith
+low_bits-below_32 (negsuc n) = omega arith
 
--- the k-th index has place k
-pub place-indices : (sizes : List ℕ) → map (place sizes) (indices sizes) ≡ range_with_len 0 (product sizes)
-place-indices [] = refl
-place-indices (size ∷ sizes) = places-rows sizes size 0 (product sizes) (indices sizes) (place-indices sizes) ∙ ap (λ k. range_with_len k (size * product sizes)) (omega arith)
+-- a reduced number is a sample of its type
+pub reduced-IsSample : (kind : SampleType) (z : ℤ) → IsSample kind (reduced kind z)
+reduced-IsSample Int8 z = signed_8 (low_bits 8 z) (low_bits-below_8 z)
+reduced-IsSample UInt8 z = let h = low_bits-below_8 z in omega (arith, ints, h)
+reduced-IsSample Int16 z = signed_16 (low_bits 16 z) (low_bits-below_16 z)
+reduced-IsSample UInt16 z = let h = low_bits-below_16 z in omega (arith, ints, h)
+reduced-IsSample Int32 z = signed_32 (low_bits 32 z) (low_bits-below_32 z)
+reduced-IsSample UInt32 z = let h = low_bits-below_32 z in omega (arith, ints, h)

@@ -4,7 +4,8 @@ use Rattle.nd_base.specs.declared.array.Dim.{Dim}
 use Rattle.nd_base.specs.declared.array.SampleType.TheVariants.{Int8, UInt8, Int16, UInt16}
 use Rattle.nd_base.specs.declared.graph.RoiRule.{RoiRule}
 use Rattle.nd_roi.specs.Cut.{region_dims}
-use Rattle.nd_roi.specs.Region.{indices, place, region_samples}
+use Rattle.nd_base.specs.Places.{indices, place}
+use Rattle.nd_roi.specs.Region.{region_samples}
 
 abbrev plain : ℕ → Dim
 plain n = record { size = n; offset = pos 0; binning = pos 1; reverse = false }

@@ -12,19 +12,7 @@ use Rattle.nd_roi.specs.declared.cut.Cut.{Cut}
 use Rattle.nd_roi.specs.declared.walk.Axis.{Axis}
 use Rattle.std.specs.Int.RustNames.{int_div}
 use Rattle.nd_roi.specs.Region.{first_covered, low_bits}
-
--- the sample at a place
-abbrev pub stored : SampleType → List ℕ → ℕ → ℤ
-stored kind bytes p = number kind (take (width kind) (drop (p * width kind) bytes))
-
--- value 0 + value 1 + .. below n
-abbrev pub sum_below : ℕ → (ℕ → ℤ) → ℤ
-sum_below zero value = pos 0
-sum_below (suc n) value = sum_below n value +ℤ value n
-
--- the sum of so many samples from a place on
-abbrev pub run : SampleType → List ℕ → ℕ → ℕ → ℤ
-run kind bytes n p = sum_below n (λ j. stored kind bytes (p + j))
+pub use Rattle.lane_kernels.specs.Plain.{stored, sum_below, run}
 
 -- the sum over the lines that a bin covers along these axes, the slowest first
 abbrev pub lines_total : List Axis → (ℕ → ℤ) → ℕ → ℤ

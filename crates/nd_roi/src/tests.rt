@@ -6,7 +6,7 @@ ghost use Rattle.nd_base.specs.ShapeLaws.{IsSound};
 
 use crate::{fill_region, region};
 use nd_base::SampleType::{Int8, Int16, Int32, UInt8, UInt16, UInt32};
-use nd_base::{Dim, Head, NdArray, RoiRule, SampleType, Seq, ShapeFault};
+use nd_base::{Attrs, Dim, Head, NdArray, RoiRule, SampleType, Seq, ShapeFault};
 use std::alloc::{AllocError, Global};
 use std::test::Fail;
 
@@ -73,7 +73,7 @@ fn is_sound(alloc: Global, kind: SampleType, dims: &[Dim], bytes: &[u8]) -> Resu
         stamp: 0,
         sec: 0,
         nsec: 0,
-        attrs: Seq::new(Vec::new(alloc)),
+        attrs: Attrs::none(alloc),
     };
     NdArray::new(alloc, head, kind, dims, bytes)?;
     Ok(())

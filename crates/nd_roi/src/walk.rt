@@ -42,7 +42,7 @@ pub(crate) const CHUNK: usize = 256;
 pub(crate) fn add_lines(
     kind: SampleType,
     input: &[u8],
-    bin: usize,
+    bin: u32,
     slower: &[Axis],
     base: usize,
     sums: &mut [i64],
@@ -80,7 +80,7 @@ fn gather(job: &Job, input: &[u8], base: usize, done: usize, sums: &mut [i64])
     add_lines(
         job.kind,
         input,
-        bin,
+        line.bin,
         job.slower,
         base + line.min as usize + first * bin,
         sums,

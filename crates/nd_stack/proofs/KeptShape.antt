@@ -14,7 +14,7 @@ use Rattle.nd_base.specs.declared.array.SampleType.{SampleType}
 use Rattle.nd_base.specs.declared.array.SampleType.TheVariants.{Int32}
 use Rattle.nd_base.specs.declared.attribute.AttrColumn.{AttrColumn}
 use Rattle.nd_base.specs.declared.attribute.Extra.{Extra}
-use Rattle.nd_base.specs.SampleLaws.{AreBytes}
+use Rattle.nd_base.specs.SampleLaws.{AreBytes, samples_of-IsSample}
 use Rattle.cdf_read.specs.declared.head.HeadAttr.{HeadAttr}
 use Rattle.cdf_read.specs.declared.head.HeadVar.{HeadVar}
 use Rattle.cdf_read.specs.declared.head.Header.{Header}
@@ -28,7 +28,6 @@ use Rattle.nd_stack.specs.DimLaws.{ascii-IsUtf8}
 use Rattle.nd_stack.specs.LayoutShape.{HasSmallDims}
 use Rattle.nd_stack.specs.SoundLaws.{AreMany-All}
 use Rattle.nd_stack.proofs.Numbers.{All-find}
-use Rattle.nd_stack.proofs.KeptValues.{samples_of-IsSample}
 
 -- NAMES
 

@@ -17,7 +17,7 @@ use Rattle.nd_base.specs.declared.attribute.AttrValue.TheVariants.{Whole, Text, 
 use Rattle.nd_base.specs.declared.attribute.FileShape.{FileShape}
 use Rattle.nd_base.specs.Array.{Array, StackValue}
 use Rattle.nd_base.specs.Samples.{number}
-use Rattle.nd_base.specs.SampleLaws.{AreBytes}
+use Rattle.nd_base.specs.SampleLaws.{AreBytes, number-IsSample, samples_of-IsSample, below_64}
 use Rattle.nd_base.specs.Shapes.{array_of}
 use Rattle.nd_base.specs.Stacks.{frame_size, arrays_at, IsStack}
 use Rattle.nd_base.specs.StackLaws.{stack_at-IsStack}
@@ -45,7 +45,7 @@ use Rattle.nd_stack.proofs.Accepted.{bind-Ok, IsAccepted, frames_of-IsAccepted}
 use Rattle.nd_stack.proofs.Fits.{accepted-FitsFile}
 use Rattle.nd_stack.proofs.HeaderBytes.{Reads-values}
 use Rattle.nd_stack.proofs.KeptShape.{shape_of-HasTextNames, shape_of-HasSmallDims}
-use Rattle.nd_stack.proofs.KeptValues.{number-IsSample, samples_of-IsSample, eight_bytes, attr_value-IsKeptValue}
+use Rattle.nd_stack.proofs.KeptValues.{attr_value-IsKeptValue}
 use Rattle.nd_stack.proofs.Writable.{header_read, stack_of-IsWritable}
 
 -- ATTRIBUTES
@@ -150,7 +150,7 @@ int_for-fits bytes (Some c) k missing small fits = number-IsSample Int32 (cell b
 
 bits_for-fits : (bytes : List ℕ) (column : Option Column) (k : ℕ) → AreBytes bytes → bits_for bytes column k < 2 ^ 64
 bits_for-fits bytes None k small = omega arith
-bits_for-fits bytes (Some c) k small = eight_bytes (cell bytes c k) (cell-AreBytes bytes c k small)
+bits_for-fits bytes (Some c) k small = below_64 (cell bytes c k) (cell-AreBytes bytes c k small)
 
 head_for-IsKeptHead : (bytes : List ℕ) (h : Header) (v : HeadVar) (kind : SampleType) (k : ℕ) → AreBytes bytes → k < 65536 → IsKeptHead (shape_of h v kind) (head_for bytes (times_of h) (attr_vars h) k)
 head_for-IsKeptHead bytes h v kind k small few =

@@ -11,68 +11,9 @@ use Rattle.nd_base.specs.declared.array.SampleType.{SampleType}
 use Rattle.nd_base.specs.declared.array.SampleType.TheVariants.{Int8, UInt8, Int16, UInt16, Int32, UInt32}
 use Rattle.nd_base.specs.declared.attribute.AttrValue.TheVariants.{Whole, Text, Bits64, Bits32}
 use Rattle.nd_base.specs.Samples.{width, number, numbers, samples_of}
-use Rattle.nd_base.specs.SampleLaws.{AreBytes, IsSample}
+use Rattle.nd_base.specs.SampleLaws.{AreBytes, number-IsSample, below_32, below_64}
 use Rattle.nd_stack.specs.AttrVars.{attr_value}
 use Rattle.nd_stack.specs.LayoutHeads.{IsKeptValue}
-
-byte_at : (bytes : List ℕ) → AreBytes bytes → (i : ℕ) → get_or bytes i 0 < 256
-byte_at [] small i = omega arith
-byte_at (b ∷ bytes) small zero = small 0 0 (omega arith)
-byte_at (b ∷ bytes) small (suc i) = byte_at bytes (λ k d h. small (suc k) d (omega arith)) i
-
-one_byte : (bytes : List ℕ) → AreBytes bytes → from_be_bytes w8 bytes < 2 ^ 8
-one_byte bytes small = let a = byte_at bytes small 0 in omega arith
-
-two_bytes : (bytes : List ℕ) → AreBytes bytes → from_be_bytes w16 bytes < 2 ^ 16
-two_bytes bytes small = let a = byte_at bytes small 0 in let b = byte_at bytes small 1 in omega arith
-
-pub four_bytes : (bytes : List ℕ) → AreBytes bytes → from_be_bytes w32 bytes < 2 ^ 32
-four_bytes bytes small =
-    let a = byte_at bytes small 0 in
-    let b = byte_at bytes small 1 in
-    let c = byte_at bytes small 2 in
-    let d = byte_at bytes small 3 in
-    omega arith
-
-pub eight_bytes : (bytes : List ℕ) → AreBytes bytes → from_be_bytes w64 bytes < 2 ^ 64
-eight_bytes bytes small =
-    let a = byte_at bytes small 0 in
-    let b = byte_at bytes small 1 in
-    let c = byte_at bytes small 2 in
-    let d = byte_at bytes small 3 in
-    let e = byte_at bytes small 4 in
-    let f = byte_at bytes small 5 in
-    let g = byte_at bytes small 6 in
-    let h = byte_at bytes small 7 in
-    omega arith
-
-signed_8 : (n : ℕ) → n < 2 ^ 8 → FitsSigned w8 (cast_signed w8 n)
-signed_8 n h = omega (arith, ints, h)
-
-signed_16 : (n : ℕ) → n < 2 ^ 16 → FitsSigned w16 (cast_signed w16 n)
-signed_16 n h = omega (arith, ints, h)
-
-signed_32 : (n : ℕ) → n < 2 ^ 32 → FitsSigned w32 (cast_signed w32 n)
-signed_32 n h = omega (arith, ints, h)
-
--- the number of bytes is one of its type
-pub number-IsSample : (kind : SampleType) (bytes : List ℕ) → AreBytes bytes → IsSample kind (number kind bytes)
-number-IsSample Int8 bytes small = signed_8 (from_be_bytes w8 bytes) (one_byte bytes small)
-number-IsSample UInt8 bytes small = let few = one_byte bytes small in omega (arith, ints, few)
-number-IsSample Int16 bytes small = signed_16 (from_be_bytes w16 bytes) (two_bytes bytes small)
-number-IsSample UInt16 bytes small = let few = two_bytes bytes small in omega (arith, ints, few)
-number-IsSample Int32 bytes small = signed_32 (from_be_bytes w32 bytes) (four_bytes bytes small)
-number-IsSample UInt32 bytes small = let few = four_bytes bytes small in omega (arith, ints, few)
-
-numbers-IsSample : (kind : SampleType) (n : ℕ) (bytes : List ℕ) → AreBytes bytes → All (IsSample kind) (numbers kind n bytes)
-numbers-IsSample kind zero bytes small = All-nil (IsSample kind)
-numbers-IsSample kind (suc n) bytes small =
-    All-cons (IsSample kind) (number kind (take (width kind) bytes)) (numbers kind n (drop (width kind) bytes))
-    (number-IsSample kind (take (width kind) bytes) (All-take (λ b. b < 256) (width kind) bytes small))
-    (numbers-IsSample kind n (drop (width kind) bytes) (All-drop (λ b. b < 256) (width kind) bytes small))
-
-pub samples_of-IsSample : (kind : SampleType) (bytes : List ℕ) → AreBytes bytes → All (IsSample kind) (samples_of kind bytes)
-samples_of-IsSample kind bytes small = numbers-IsSample kind (length bytes / width kind) bytes small
 
 -- no zero byte stands before the first one
 no_zeros : (bytes : List ℕ) → All (λ b. b ≢ 0) (take_while (λ b. not (b == 0)) bytes)
@@ -99,6 +40,6 @@ attr_value-IsKeptValue kind bytes small = by (kind == 1) (kind == 2) (kind == 3)
     by true two three five six = small_signed (number Int8 bytes) (number-IsSample Int8 bytes small)
     by false true three five six = no_zeros bytes
     by false false true five six = short_signed (number Int16 bytes) (number-IsSample Int16 bytes small)
-    by false false false true six = four_bytes bytes small
-    by false false false false true = eight_bytes bytes small
+    by false false false true six = below_32 bytes small
+    by false false false false true = below_64 bytes small
     by false false false false false = number-IsSample Int32 bytes small

@@ -2,6 +2,7 @@
 use Rattle.std.specs.Prelude.{ℕ, ◌==◌, max, not, pos, List, length, map, filter, fold, reverse, drop, slice_index_or, codes, if◌then◌else◌}
 use Rattle.std.specs.List.{range_with_len}
 use Rattle.std.specs.Ordering.{int_eq}
+use Rattle.nd_base.specs.declared.form.Form.TheVariants.{Classic}
 use Rattle.nd_base.specs.declared.array.Dim.{Dim}
 use Rattle.nd_base.specs.declared.array.SampleType.{SampleType}
 use Rattle.nd_base.specs.declared.attribute.AttrColumn.{AttrColumn}
@@ -56,6 +57,7 @@ attr_columns vars = map (λ (a : AttrVar). record { name = a.name; kind = attr_k
 
 abbrev pub shape_of : Header → HeadVar → SampleType → FileShape
 shape_of h v kind = record {
+  form = Classic;
   kind = kind;
   dims = dims_of h v;
   attrs = attr_columns (attr_vars h);

@@ -22,5 +22,4 @@ pub mod LayoutHeads
 pub mod RoundTrip
 pub mod RoundTripTests
 pub mod KeptStacks
-pub mod Rebuilt
 pub mod OpenReads

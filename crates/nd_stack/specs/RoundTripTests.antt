@@ -5,6 +5,7 @@ use Rattle.std.specs.Str.{IsUtf8}
 use Rattle.std.proofs.Common.{arith}
 use Rattle.std.proofs.lemmas.Int.{ints}
 use Rattle.std.proofs.lemmas.List.Elements.{All-nil, All-cons}
+use Rattle.nd_base.specs.declared.form.Form.TheVariants.{Classic}
 use Rattle.nd_base.specs.declared.array.Dim.{Dim}
 use Rattle.nd_base.specs.declared.array.SampleType.TheVariants.{UInt8}
 use Rattle.nd_base.specs.declared.attribute.Attr.{Attr}
@@ -33,7 +34,7 @@ colour = record { name = codes "Colour"; kind = TextKind }
 
 shape : FileShape
 unfolding dim colour
-shape = record { kind = UInt8; dims = dim ∷ []; attrs = colour ∷ []; width = 8; extras = [] }
+shape = record { form = Classic; kind = UInt8; dims = dim ∷ []; attrs = colour ∷ []; width = 8; extras = [] }
 
 red : Attr
 red = record { name = codes "Colour"; value = Text (codes "red") }

@@ -5,7 +5,7 @@ ghost use Rattle.nd_base.specs.Samples.{width, samples_of};
 ghost use Rattle.nd_base.specs.Shapes.{has_dimensions, sample_count, most_samples};
 ghost use Rattle.nd_base.specs.Stacks.{frame_size};
 
-use nd_base::{Dim, FileShape, NdArray, OutOfMemory, SampleType, Seq, Stack, same_head};
+use nd_base::{Dim, FileShape, NdArray, OutOfMemory, SampleType, Seq, Stack};
 use std::alloc::Global;
 
 /// Frame `k` of the stack.
@@ -13,14 +13,7 @@ pub fn array(alloc: Global, stack: &Stack, k: u32) -> Result<NdArray, OutOfMemor
     requires { k < length stack.now.arrays }
     ensures { IfOk result (λ a. slice_get stack.now.arrays k ≡ Some a) }
 {
-    let shape = stack.shape();
-    let samples = stack.frame(k).to_vec(alloc)?;
-    let head = same_head(stack.head(k))?;
-    let dims = shape.dims.as_slice().to_vec(alloc)?;
-    let Ok(array) = NdArray::new(alloc, head, shape.kind, dims, samples) else {
-        unreachable!()
-    };
-    Ok(array)
+    stack.array(alloc, k)
 }
 
 /// The stack's shape with another sample type and other dimensions.
@@ -34,6 +27,7 @@ pub fn shape_for(
 {
     let shape = stack.shape();
     Ok(FileShape {
+        form: shape.form,
         kind,
         dims: Seq::new(dims.to_vec(alloc)?),
         attrs: shape.attrs.clone()?,

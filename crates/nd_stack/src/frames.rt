@@ -13,7 +13,7 @@ use crate::attributes::is_attr_var;
 use crate::column::{frame_count, frame_values, variable_of};
 use crate::integers::{int_at, int_bytes};
 use cdf_read::{HeadVar, Header};
-use nd_base::SampleType;
+use nd_base::{MOST_SAMPLES, SampleType};
 
 /// The value types, by their numbers.
 const CHAR: u32 = 2;
@@ -24,9 +24,6 @@ const DOUBLE: u32 = 6;
 
 /// The most frames.
 const MOST_FRAMES: u64 = 65_536;
-
-/// The most samples of one frame.
-const MOST_SAMPLES: u64 = 67_108_864;
 
 /// The sample type of this number.
 fn numbered(number: i32) -> Option<SampleType>

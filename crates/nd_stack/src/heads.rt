@@ -4,14 +4,15 @@ ghost use Rattle.std.specs.Prelude.{◌≡◌, ◌≤◌, ◌<◌, ℕ, length, 
 ghost use Rattle.std.specs.List.{range_with_len};
 ghost use Rattle.cdf_read.specs.Places.{var_size};
 ghost use Rattle.nd_stack.specs.Sound.{HasCell, HasTimes, HasAttr};
+ghost use Rattle.nd_stack.specs.AttrVars.{attr_names};
 ghost use Rattle.nd_stack.specs.FrameVars.{column_named, times_of, int_for, bits_for};
 ghost use Rattle.nd_stack.specs.StackRules.{head_for};
 
-use crate::attributes::{AttrVar, attrs_for};
+use crate::attributes::{AttrVar, attr_names, attrs_for};
 use crate::column::{Column, cell, column_of, variable_of};
 use crate::integers::{double_of, int_of};
 use cdf_read::Header;
-use nd_base::{Head, OutOfMemory, Seq};
+use nd_base::{Head, Names, OutOfMemory};
 use std::alloc::Global;
 
 /// Where the four per-frame variables stand, where they are there.
@@ -30,6 +31,23 @@ fn column_named(header: &Header, name: &str) -> Option<Column>
 {
     let var = variable_of(header, name)?;
     Some(column_of(header, var))
+}
+
+/// The most bytes that the heads of a stack may take.
+const MOST_HEAD_BYTES: u64 = 1 << 32;
+
+/// The bytes of a head beside its attributes, and those of an attribute that isn't a text.
+const HEAD_BYTES: u64 = 64;
+
+const VALUE_BYTES: u64 = 32;
+
+/// Whether the heads of so many frames with so many attributes would take more than 4 GiB, so that a small file could take a
+/// machine's memory.
+fn take_too_much(frames: u32, attrs: usize) -> bool {
+    let head = (attrs as u64)
+        .saturating_mul(VALUE_BYTES)
+        .saturating_add(HEAD_BYTES);
+    u64::from(frames).saturating_mul(head) > MOST_HEAD_BYTES
 }
 
 /// Where the four per-frame variables stand.
@@ -72,9 +90,11 @@ fn head_for(
     alloc: Global,
     bytes: &[u8],
     times: &Times,
+    names: &Names,
     attrs: &[AttrVar],
     frame: u32,
 ) -> Result<Head, OutOfMemory>
+    requires names { names.now ≡ attr_names attrs.now }
     requires few { frame < 65536 }
     requires times { HasTimes (length bytes.now) frame times.now }
     requires attrs { All (HasAttr (length bytes.now) frame) attrs.now }
@@ -86,7 +106,7 @@ fn head_for(
         stamp: bits_for(bytes, times.stamp, k),
         sec: int_for(bytes, times.sec, k, 0),
         nsec: int_for(bytes, times.nsec, k, 0),
-        attrs: Seq::new(attrs_for(alloc, bytes, attrs, k)?),
+        attrs: attrs_for(alloc, bytes, names, attrs, k)?,
     })
 }
 
@@ -103,9 +123,13 @@ pub(crate) fn heads(
     requires attrs { (k : ℕ) → k < frames → All (HasAttr (length bytes.now) k) attrs.now }
     ensures { IfOk result (λ heads. heads.items ≡ map (head_for bytes.now times.now attrs.now) (range_with_len 0 frames)) }
 {
-    let mut heads = Vec::new(alloc);
+    if take_too_much(frames, attrs.len()) {
+        return Err(OutOfMemory);
+    }
+    let names = attr_names(alloc, attrs)?;
+    let mut heads = Vec::with_capacity(alloc, frames as usize)?;
     for frame in 0..frames {
-        heads.push(head_for(alloc, bytes, times, attrs, frame)?)?;
+        heads.push(head_for(alloc, bytes, times, &names, attrs, frame)?)?;
     }
     Ok(heads)
 }

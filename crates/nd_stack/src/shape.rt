@@ -8,7 +8,7 @@ use crate::attributes::{AttrVar, attr_columns, is_attr_name, width_of};
 use crate::column::length_of;
 use crate::integers::dim_value;
 use cdf_read::{HeadAttr, HeadVar, Header};
-use nd_base::{Dim, Extra, FileShape, OutOfMemory, SampleType, Seq};
+use nd_base::{Dim, Extra, FileShape, Form, OutOfMemory, SampleType, Seq};
 use std::alloc::Global;
 
 /// Dimension `i` of so many.
@@ -75,6 +75,7 @@ pub(crate) fn shape_of(
     ensures { IfOk result (λ shape. shape ≡ shape_of header.now var.now kind) }
 {
     Ok(FileShape {
+        form: Form::Classic,
         kind,
         dims: Seq::new(dims_of(alloc, header, var)?),
         attrs: Seq::new(attr_columns(alloc, attrs)?),

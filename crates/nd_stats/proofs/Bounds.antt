@@ -9,9 +9,11 @@ use Rattle.std.proofs.lemmas.List.Sums.{sum_by-cons}
 use Rattle.nd_base.specs.declared.array.Dim.{Dim}
 use Rattle.nd_base.specs.ShapeLaws.{sample_count-positive}
 use Rattle.nd_base.specs.Shapes.{sample_count}
-use Rattle.nd_stats.specs.Samples.{Sample, sum_of, index_in, size_in}
+use Rattle.nd_base.specs.Places.{index_in, size_in}
+use Rattle.nd_stats.specs.Samples.{Sample, sum_of}
 use Rattle.nd_stats.specs.Measured.{square}
-use Rattle.nd_stats.specs.Tallies.{AreSmall, IsSmall, HasRoom}
+use Rattle.nd_base.specs.Samples.{IsSmall}
+use Rattle.nd_stats.specs.Tallies.{AreSmall, HasRoom}
 use Rattle.nd_stats.proofs.Sums.{abs-add, count-le}
 use Rattle.nd_stats.proofs.Places.{AreSizes}
 

@@ -9,7 +9,8 @@ use Rattle.nd_stats.specs.declared.tally.Sums.{Sums}
 use Rattle.nd_stats.specs.declared.tally.Moments.{Moments}
 use Rattle.nd_stats.specs.declared.tally.Histogram.{Histogram}
 use Rattle.nd_stats.specs.declared.spot.Spot.{Spot}
-use Rattle.nd_stats.specs.Samples.{Sample, index_in, size_in, least_from, greatest_from, is_at_border}
+use Rattle.nd_base.specs.Places.{index_in, size_in}
+use Rattle.nd_stats.specs.Samples.{Sample, least_from, greatest_from, is_at_border}
 use Rattle.nd_stats.specs.Measured.{count_where, value_where, square, has_histogram, has_index, is_in_bin, is_on_border, is_over, is_below, is_above, moment, profile}
 use Rattle.nd_stats.specs.Spots.{IsSpot}
 use Rattle.nd_stats.specs.Tallies.{AreSmall, HasRoom, HaveRoom, added_at, bins_after, counted, one_if}
@@ -50,7 +51,7 @@ sums_more rule dims xs s at_border a b are edge e f g h i =
       border_n = i ∙ ap (λ n. n + one_if at_border) are.border_n ∙ ap (λ x. count_where (is_on_border rule dims) xs + one_if x) edge ∙ sym (count-more (is_on_border rule dims) xs s);
     }
 
-times_counted : (test : Bool) (x : ℕ) (v : ℤ) → pos x *ℤ counted test v ≡ (if test then pos x *ℤ v else pos 0)
+pub times_counted : (test : Bool) (x : ℕ) (v : ℤ) → pos x *ℤ counted test v ≡ (if test then pos x *ℤ v else pos 0)
 times_counted true x v = refl
 times_counted false x v = ap pos (mul-zero x)
 

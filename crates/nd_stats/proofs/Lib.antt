@@ -9,3 +9,11 @@ pub mod Growth
 pub mod Joins
 pub mod Merges
 pub mod Pieces
+pub mod Parts
+pub mod Overs
+pub mod Products
+pub mod Alongs
+pub mod Joinings
+pub mod MomentLines
+pub mod Firsts
+pub mod Totals

@@ -6,7 +6,8 @@ use Rattle.nd_base.specs.declared.array.Dim.{Dim}
 use Rattle.nd_base.specs.declared.graph.StatsRule.{StatsRule}
 use Rattle.nd_base.specs.declared.measure.Measure.{Measure}
 use Rattle.nd_base.specs.Shapes.{sample_count}
-use Rattle.nd_stats.specs.Samples.{Sample, index_in, size_in, table}
+use Rattle.nd_base.specs.Places.{index_in, size_in}
+use Rattle.nd_stats.specs.Samples.{Sample, table}
 use Rattle.nd_stats.specs.Measured.{count_where, value_where, square, has_index, is_in_bin, is_on_border, is_over, is_below, is_above, measured}
 use Rattle.nd_stats.specs.Running.{IsFrame}
 use Rattle.nd_stats.specs.Tallies.{AreSmall, HaveRoom}

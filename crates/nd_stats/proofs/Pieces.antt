@@ -13,13 +13,13 @@ use Rattle.nd_base.specs.declared.array.SampleType.{SampleType}
 use Rattle.nd_base.specs.declared.graph.StatsRule.{StatsRule}
 use Rattle.nd_base.specs.declared.measure.Measure.{Measure}
 use Rattle.nd_base.specs.GraphRules.{IsStats}
-use Rattle.nd_base.specs.Samples.{width, number, numbers}
+use Rattle.nd_base.specs.Samples.{width, number, numbers, IsSmall}
 use Rattle.nd_base.specs.SampleLaws.{length-numbers}
 use Rattle.nd_base.specs.Shapes.{has_dimensions, sample_count, most_samples}
 use Rattle.nd_stats.specs.Samples.{Sample, placed, least_from, greatest_from, least, greatest, table}
 use Rattle.nd_stats.specs.MergingLaws.{length-placed}
 use Rattle.nd_stats.specs.Running.{IsFrame, IsTally}
-use Rattle.nd_stats.specs.Tallies.{AreSmall, IsSmall}
+use Rattle.nd_stats.specs.Tallies.{AreSmall}
 use Rattle.nd_stats.proofs.Bounds.{AreSmall-more}
 
 -- one number more

@@ -4,7 +4,8 @@ use Rattle.std.specs.List.{list_all}
 use Rattle.std.proofs.lemmas.Bool.{and_parts, ltb-true}
 use Rattle.std.proofs.lemmas.Nat.{mod_below, div-mul-add, mod-mul-add, div-add-mod'}
 use Rattle.nd_base.specs.declared.array.Dim.{Dim}
-use Rattle.nd_stats.specs.Samples.{is_near_end, is_at_border, index_in, size_in}
+use Rattle.nd_base.specs.Places.{index_in, size_in}
+use Rattle.nd_stats.specs.Samples.{is_near_end, is_at_border}
 
 pub no_dim : Dim
 no_dim = record { size = 0; offset = pos 0; binning = pos 0; reverse = false }

@@ -3,7 +3,8 @@ use Rattle.std.proofs.Common.{◌≡◌, ℕ, ◌+◌, ◌<◌, ◌≤◌, ◌^�
 use Rattle.nd_base.specs.declared.array.Dim.{Dim}
 use Rattle.nd_base.specs.declared.graph.StatsRule.{StatsRule}
 use Rattle.nd_base.specs.Shapes.{sample_count, most_samples}
-use Rattle.nd_stats.specs.Samples.{Sample, index_in, size_in, table}
+use Rattle.nd_base.specs.Places.{index_in, size_in}
+use Rattle.nd_stats.specs.Samples.{Sample, table}
 use Rattle.nd_stats.specs.Measured.{count_where, value_where, has_index, is_in_bin, profile}
 use Rattle.nd_stats.specs.Tallies.{AreSmall, HasRoom, HaveRoom}
 use Rattle.nd_stats.proofs.Sums.{count-le}

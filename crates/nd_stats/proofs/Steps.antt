@@ -7,7 +7,8 @@ use Rattle.std.proofs.Math.IntN.{+ℤ_idr}
 use Rattle.nd_base.specs.declared.array.Dim.{Dim}
 use Rattle.nd_base.specs.declared.graph.StatsRule.{StatsRule}
 use Rattle.nd_base.specs.GraphRules.{IsStats}
-use Rattle.nd_stats.specs.Samples.{Sample, index_in, table}
+use Rattle.nd_base.specs.Places.{index_in}
+use Rattle.nd_stats.specs.Samples.{Sample, table}
 use Rattle.nd_stats.specs.Measured.{count_where, value_where, has_index, has_histogram, is_in_bin, bin_of}
 use Rattle.nd_stats.specs.Tallies.{added_at, bins_after}
 use Rattle.nd_stats.proofs.Sums.{sum_where-more, count-more}

@@ -36,6 +36,13 @@ pub count-more : (p : Sample → Bool) (xs : List Sample) (s : Sample) → lengt
 count-more p xs s =
     count-append p xs (s ∷ []) ∙ ap (λ n. length (filter p xs) + n) (length-last s (p s))
 
+-- the first sample by itself
+pub count-first : (p : Sample → Bool) (s : Sample) (xs : List Sample) → length (filter p (s ∷ xs)) ≡ (if p s then 1 else 0) + length (filter p xs)
+count-first p s xs = count-append p (s ∷ []) xs ∙ ap (λ n. n + length (filter p xs)) (length-last s (p s))
+
+pub sum_where-first : (p : Sample → Bool) (f : Sample → ℤ) (s : Sample) (xs : List Sample) → sum_of f (filter p (s ∷ xs)) ≡ (if p s then f s else pos 0) +ℤ sum_of f (filter p xs)
+sum_where-first p f s xs = sum_where-append p f (s ∷ []) xs ∙ ap (λ n. n +ℤ sum_of f (filter p xs)) (sum_of-last f s (p s))
+
 pub count-le : (p : Sample → Bool) (xs : List Sample) → length (filter p xs) ≤ length xs
 count-le p [] = omega arith
 count-le p (s ∷ xs) = let rest = count-le p xs in grind arith

@@ -4,6 +4,7 @@ pub mod Measured
 pub mod Spots
 pub mod Tallies
 pub mod Running
+pub mod Over
 pub mod Row
 pub mod Merging
 pub mod Joined

@@ -5,7 +5,8 @@ use Rattle.nd_base.specs.declared.array.SampleType.{SampleType}
 use Rattle.nd_base.specs.declared.graph.StatsRule.{StatsRule}
 use Rattle.nd_base.specs.declared.measure.Measure.{Measure}
 use Rattle.nd_base.specs.Samples.{samples_of}
-use Rattle.nd_stats.specs.Samples.{Sample, placed, index_in, size_in, is_at_border, sum_of, least, greatest, table}
+use Rattle.nd_base.specs.Places.{index_in, size_in}
+use Rattle.nd_stats.specs.Samples.{Sample, placed, is_at_border, sum_of, least, greatest, table}
 
 -- how many samples pass a test
 abbrev pub count_where : (Sample → Bool) → List Sample → ℕ

@@ -11,54 +11,18 @@ use Rattle.nd_base.specs.declared.array.SampleType.{SampleType}
 use Rattle.nd_base.specs.declared.array.SampleType.TheVariants.{Int8, UInt8, Int16, UInt16, Int32, UInt32}
 use Rattle.nd_base.specs.declared.graph.StatsRule.{StatsRule}
 use Rattle.nd_base.specs.declared.measure.Measure.{Measure}
-use Rattle.nd_base.specs.Samples.{width, number, numbers, samples_of}
-use Rattle.nd_base.specs.SampleLaws.{AreBytes, length-samples_of, width-positive}
+use Rattle.nd_base.specs.Samples.{width, number, numbers, samples_of, IsSmall}
+use Rattle.nd_base.specs.SampleLaws.{AreBytes, number-IsSample, sample-IsSmall, length-samples_of, width-positive}
 use Rattle.nd_base.specs.Shapes.{sample_count}
-use Rattle.nd_stats.specs.Samples.{Sample, placed, IsSmall, AreSmall}
+use Rattle.nd_stats.specs.Samples.{Sample, placed, AreSmall}
 use Rattle.nd_stats.specs.Measured.{measured, measure_of}
 use Rattle.nd_stats.specs.Frames.{IsFrame}
 use Rattle.nd_stats.specs.Merging.{AreRising, Pieces, AreMeasures, CanMerge, IsMerged}
 
-byte_below : (bytes : List ℕ) → AreBytes bytes → (i : ℕ) → get_or bytes i 0 < 256
-byte_below [] small i = omega arith
-byte_below (b ∷ bytes) small zero = small 0 0 (omega arith)
-byte_below (b ∷ bytes) small (suc i) = byte_below bytes (λ k d h. small (suc k) d (omega arith)) i
-
-small_signed_8 : (n : ℕ) → n < 2 ^ 8 → IsSmall (cast_signed w8 n)
-small_signed_8 n h = omega (arith, ints)
-
-small_signed_16 : (n : ℕ) → n < 2 ^ 16 → IsSmall (cast_signed w16 n)
-small_signed_16 n h = omega (arith, ints)
-
-small_signed_32 : (n : ℕ) → n < 2 ^ 32 → IsSmall (cast_signed w32 n)
-small_signed_32 n h = omega (arith, ints)
-
-below_8 : (bytes : List ℕ) → AreBytes bytes → from_be_bytes w8 bytes < 2 ^ 8
-below_8 bytes small = let a = byte_below bytes small 0 in omega arith
-
-below_16 : (bytes : List ℕ) → AreBytes bytes → from_be_bytes w16 bytes < 2 ^ 16
-below_16 bytes small = let a = byte_below bytes small 0 in let b = byte_below bytes small 1 in omega arith
-
-below_32 : (bytes : List ℕ) → AreBytes bytes → from_be_bytes w32 bytes < 2 ^ 32
-below_32 bytes small =
-    let a = byte_below bytes small 0 in
-    let b = byte_below bytes small 1 in
-    let c = byte_below bytes small 2 in
-    let d = byte_below bytes small 3 in
-    omega arith
-
-small_number : (kind : SampleType) (bytes : List ℕ) → AreBytes bytes → IsSmall (number kind bytes)
-small_number Int8 bytes small = small_signed_8 (from_be_bytes w8 bytes) (below_8 bytes small)
-small_number UInt8 bytes small = let h = below_8 bytes small in omega (arith, ints)
-small_number Int16 bytes small = small_signed_16 (from_be_bytes w16 bytes) (below_16 bytes small)
-small_number UInt16 bytes small = let h = below_16 bytes small in omega (arith, ints)
-small_number Int32 bytes small = small_signed_32 (from_be_bytes w32 bytes) (below_32 bytes small)
-small_number UInt32 bytes small = let h = below_32 bytes small in omega (arith, ints)
-
-small_placed : (kind : SampleType) (from n : ℕ) (bytes : List ℕ) → AreBytes bytes → AreSmall (placed from (numbers kind n bytes))
+pub small_placed : (kind : SampleType) (from n : ℕ) (bytes : List ℕ) → AreBytes bytes → AreSmall (placed from (numbers kind n bytes))
 small_placed kind from zero bytes small = tt
 small_placed kind from (suc n) bytes small =
-    (small_number kind (take (width kind) bytes) (All-take (λ b. b < 256) (width kind) bytes small), small_placed kind (from + 1) n (drop (width kind) bytes) (All-drop (λ b. b < 256) (width kind) bytes small))
+    (sample-IsSmall kind (number kind (take (width kind) bytes)) (number-IsSample kind (take (width kind) bytes) (All-take (λ b. b < 256) (width kind) bytes small)), small_placed kind (from + 1) n (drop (width kind) bytes) (All-drop (λ b. b < 256) (width kind) bytes small))
 
 small_both : (xs ys : List Sample) → AreSmall xs → AreSmall ys → AreSmall (xs ++ ys)
 small_both [] ys one two = two

@@ -1,6 +1,7 @@
 -- The samples of an array by their places, and where a place lies.
 use Rattle.std.specs.Prelude.{ℕ, zero, suc, ◌+◌, ◌-◌, ◌/◌, ◌%◌, ◌<◌, ◌^◌, unsigned_abs, ◌||◌, nat_lt, nat_le, Bool, false, ℤ, pos, ◌+ℤ◌, List, [], ◌∷◌, int_lt, if◌then◌else◌}
 use Rattle.nd_base.specs.declared.array.Dim.{Dim}
+use Rattle.nd_base.specs.Samples.{IsSmall}
 
 -- a sample: the number of its place in the array, and its value
 pub record Sample : Type 0 where
@@ -11,18 +12,6 @@ pub record Sample : Type 0 where
 abbrev pub placed : ℕ → List ℤ → List Sample
 placed from [] = []
 placed from (v ∷ vs) = record { place = from; value = v } ∷ placed (from + 1) vs
-
--- the index of a place in dimension k, where dimension 0 is the fastest; 0 where there is no such dimension
-abbrev pub index_in : List Dim → ℕ → ℕ → ℕ
-index_in [] k place = 0
-index_in (d ∷ dims) zero place = place % d.size
-index_in (d ∷ dims) (suc k) place = index_in dims k (place / d.size)
-
--- the size of dimension k; 1 where there is no such dimension
-abbrev pub size_in : List Dim → ℕ → ℕ
-size_in [] k = 1
-size_in (d ∷ dims) zero = d.size
-size_in (d ∷ dims) (suc k) = size_in dims k
 
 -- whether an index is one of the first or of the last so many of its dimension
 abbrev pub is_near_end : ℕ → ℕ → ℕ → Bool
@@ -65,10 +54,6 @@ greatest (s ∷ xs) = greatest_from s xs
 abbrev pub table : (ℕ → ℤ) → ℕ → ℕ → List ℤ
 table f k zero = []
 table f k (suc n) = f k ∷ table f (k + 1) n
-
--- a number of at most 32 bits
-abbrev pub IsSmall : ℤ → Type 0
-IsSmall v = unsigned_abs v < 2 ^ 32
 
 -- samples of at most 32 bits
 abbrev pub AreSmall : List Sample → Type 0

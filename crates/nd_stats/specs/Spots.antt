@@ -2,7 +2,8 @@
 use Rattle.std.specs.Prelude.{◌≡◌, ℕ, ◌/◌, List, drop}
 use Rattle.nd_base.specs.declared.array.Dim.{Dim}
 use Rattle.nd_stats.specs.declared.spot.Spot.{Spot}
-use Rattle.nd_stats.specs.Samples.{index_in, size_in, is_at_border}
+use Rattle.nd_base.specs.Places.{index_in, size_in}
+use Rattle.nd_stats.specs.Samples.{is_at_border}
 
 -- a place with its indices in dimensions 0 and 1, and whether its line is at the border
 pub record IsSpot (border : ℕ) (dims : List Dim) (s : Spot) : Type 0 where

@@ -5,8 +5,11 @@
 //! says each of them over the whole list of samples. Measures of pieces are merged ([`Merge`]).
 #![tactic(auto)]
 
+mod extremes;
+mod lines;
 mod measures;
 mod merge;
+mod over;
 mod row;
 mod sample;
 mod spot;

@@ -1,17 +1,20 @@
 //! The measure of an array, and of a piece of one.
 
-ghost use Rattle.std.specs.Prelude.{◌≡◌, ℕ, ◌+◌, ◌*◌, ◌/◌, ◌%◌, ◌<◌, ◌≤◌, length, take, pos, [], IfOk, IsTrue, true, if◌then◌else◌};
+ghost use Rattle.std.specs.Prelude.{◌≡◌, ℕ, ◌+◌, ◌*◌, ◌/◌, ◌%◌, ◌<◌, ◌≤◌, length, take, pos, [], IfOk, IsTrue, true, false, if◌then◌else◌};
 ghost use Rattle.nd_base.specs.GraphRules.{IsStats};
 ghost use Rattle.nd_base.specs.Samples.{number, width, samples_of};
 ghost use Rattle.nd_base.specs.Shapes.{has_dimensions, sample_count, most_samples};
-ghost use Rattle.nd_stats.specs.Samples.{table, placed, size_in};
+ghost use Rattle.nd_base.specs.Places.{size_in};
+ghost use Rattle.nd_stats.specs.Samples.{table, placed};
 ghost use Rattle.nd_stats.specs.Measured.{measure_of};
 ghost use Rattle.nd_stats.specs.Running.{IsTally, IsFrame};
 
-use crate::sample::number_at;
+use crate::extremes::extremes_of;
+use crate::lines::moments_of;
 use crate::spot::{first_size, next_spot, spot_at};
 use crate::tally::{Extremes, Histogram, Moments, Sums, Tally};
-use nd_base::{Dim, Measure, OutOfMemory, SampleType, Seq, StatsRule};
+use lane_kernels::{squares_bytes, sum_bytes};
+use nd_base::{Dim, Measure, OutOfMemory, SampleType, Seq, StatsRule, number_at};
 use std::alloc::Global;
 
 /// So many sums of nothing.
@@ -86,7 +89,8 @@ fn blank_tally(
     })
 }
 
-/// Adds the samples of a piece that begins at place `from`.
+/// Adds the samples of a piece that begins at place `from`, one by one.
+#[inline(always)]
 fn add_all(
     mut tally: Tally,
     rule: &StatsRule,
@@ -110,6 +114,86 @@ fn add_all(
         spot = next_spot(rule.border, dims, line, spot);
     }
     tally
+}
+
+/// The same by code of each sample type.
+fn add_each(
+    tally: Tally,
+    rule: &StatsRule,
+    kind: SampleType,
+    dims: &[Dim],
+    from: u32,
+    samples: &[u8],
+) -> Tally
+    requires frame { IsFrame rule.now dims.now }
+    requires within { from + length samples.now / width kind ≤ sample_count dims.now }
+    requires blank { IsTally rule.now dims.now record { place = from; value = number kind (take (width kind) samples.now) } [] tally }
+    ensures { IsTally rule.now dims.now record { place = from; value = number kind (take (width kind) samples.now) } (placed from (samples_of kind samples.now)) result }
+{
+    match kind {
+        SampleType::Int8 => add_all(tally, rule, SampleType::Int8, dims, from, samples),
+        SampleType::UInt8 => add_all(tally, rule, SampleType::UInt8, dims, from, samples),
+        SampleType::Int16 => add_all(tally, rule, SampleType::Int16, dims, from, samples),
+        SampleType::UInt16 => add_all(tally, rule, SampleType::UInt16, dims, from, samples),
+        SampleType::Int32 => add_all(tally, rule, SampleType::Int32, dims, from, samples),
+        SampleType::UInt32 => add_all(tally, rule, SampleType::UInt32, dims, from, samples),
+    }
+}
+
+/// The numbers of a piece with neither a border nor lists, by passes over its lines and blocks.
+fn tally_plain(
+    mut tally: Tally,
+    rule: &StatsRule,
+    kind: SampleType,
+    dims: &[Dim],
+    from: u32,
+    samples: &[u8],
+) -> Tally
+    requires frame { IsFrame rule.now dims.now }
+    requires whole { length samples.now % width kind ≡ 0 }
+    requires some { 0 < length samples.now / width kind }
+    requires within { from + length samples.now / width kind ≤ sample_count dims.now }
+    requires border { rule.now.border ≡ 0 }
+    requires bins { rule.now.hist_size ≡ 0 }
+    requires profiles { rule.now.profiles ≡ false }
+    requires blank { IsTally rule.now dims.now record { place = from; value = number kind (take (width kind) samples.now) } [] tally }
+    ensures { IsTally rule.now dims.now record { place = from; value = number kind (take (width kind) samples.now) } (placed from (samples_of kind samples.now)) result }
+{
+    tally.extremes = extremes_of(kind, from, samples);
+    tally.sums = Sums {
+        n: (samples.len() / kind.width()) as u32,
+        total: sum_bytes(kind, samples),
+        squares: squares_bytes(kind, samples),
+        border: 0,
+        border_n: 0,
+    };
+    tally.moments = moments_of(rule, kind, dims, from, samples);
+    tally
+}
+
+/// From how many samples on a line is long.
+const LONG: u32 = 16;
+
+/// The numbers of a piece that begins at place `from`.
+fn tally_of(
+    tally: Tally,
+    rule: &StatsRule,
+    kind: SampleType,
+    dims: &[Dim],
+    from: u32,
+    samples: &[u8],
+) -> Tally
+    requires frame { IsFrame rule.now dims.now }
+    requires whole { length samples.now % width kind ≡ 0 }
+    requires some { 0 < length samples.now / width kind }
+    requires within { from + length samples.now / width kind ≤ sample_count dims.now }
+    requires blank { IsTally rule.now dims.now record { place = from; value = number kind (take (width kind) samples.now) } [] tally }
+    ensures { IsTally rule.now dims.now record { place = from; value = number kind (take (width kind) samples.now) } (placed from (samples_of kind samples.now)) result }
+{
+    if rule.border == 0 && rule.hist_size == 0 && !rule.profiles && first_size(dims) >= LONG {
+        return tally_plain(tally, rule, kind, dims, from, samples);
+    }
+    add_each(tally, rule, kind, dims, from, samples)
 }
 
 /// The measure that a tally holds.
@@ -193,7 +277,7 @@ pub fn measure_piece(
 {
     let first = number_at(kind, samples, 0);
     let blank = blank_tally(alloc, rule, dims, from, first)?;
-    let tally = add_all(blank, rule, kind, dims, from, samples);
+    let tally = tally_of(blank, rule, kind, dims, from, samples);
     Ok(measure_from(tally, id))
 }
 

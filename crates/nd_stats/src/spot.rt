@@ -2,7 +2,8 @@
 
 ghost use Rattle.std.specs.Prelude.{◌≡◌, ◌+◌, ◌<◌, ◌^◌, length, true, nat_lt};
 ghost use Rattle.std.specs.List.{list_all};
-ghost use Rattle.nd_stats.specs.Samples.{is_near_end, is_at_border, index_in, size_in};
+ghost use Rattle.nd_base.specs.Places.{index_in, size_in};
+ghost use Rattle.nd_stats.specs.Samples.{is_near_end, is_at_border};
 ghost use Rattle.nd_stats.specs.Spots.{IsSpot};
 
 use nd_base::Dim;
@@ -40,7 +41,7 @@ fn is_at_border(border: u32, dims: &[Dim], place: u32) -> bool
 }
 
 /// The index in the first of these dimensions, 0 where there is none.
-fn first_index(dims: &[Dim], place: u32) -> u32
+pub(crate) fn first_index(dims: &[Dim], place: u32) -> u32
     requires { list_all (λ d. nat_lt 0 d.size) dims.now ≡ true }
     ensures { result ≡ index_in dims.now 0 place }
 {

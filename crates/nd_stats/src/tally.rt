@@ -3,7 +3,8 @@
 ghost use Rattle.std.specs.Prelude.{◌≡◌, ◌≢◌, ◌+◌, ◌*◌, ◌<◌, ◌≤◌, ◌^◌, length, pos, ◌+ℤ◌, ◌-ℤ◌, ◌*ℤ◌, ◌-◌, ◌/◌, ◌≤ℤ◌, ◌<ℤ◌, int_lt, not, ◌&&◌, vec_len, unsigned_abs, IsTrue, if◌then◌else◌};
 ghost use Rattle.nd_base.specs.GraphRules.{IsStats};
 ghost use Rattle.nd_stats.specs.Measured.{bin_of, square, has_histogram};
-ghost use Rattle.nd_stats.specs.Tallies.{IsSmall, HasRoom, HaveRoom, added_at, bins_after, counted, one_if};
+ghost use Rattle.nd_base.specs.Samples.{IsSmall};
+ghost use Rattle.nd_stats.specs.Tallies.{HasRoom, HaveRoom, added_at, bins_after, counted, one_if};
 
 use crate::spot::{Spot, is_on_border};
 use nd_base::{Dim, StatsRule};
@@ -36,7 +37,8 @@ impl Extremes {
 }
 
 /// The value where the test holds, and 0 elsewhere.
-fn counted(test: bool, value: i64) -> i64
+#[inline(always)]
+pub(crate) fn counted(test: bool, value: i64) -> i64
     ensures value { result ≡ counted test value }
     ensures small { IsSmall value → IsSmall result }
 {
@@ -134,6 +136,7 @@ impl Moments {
 }
 
 /// Whether a value reaches the threshold.
+#[inline(always)]
 pub(crate) fn reaches(value: i64, threshold: i64) -> bool
     ensures { result ≡ not (int_lt value threshold) }
 {

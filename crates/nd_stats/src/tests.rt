@@ -8,7 +8,7 @@ ghost use Rattle.nd_stats.specs.Measured.{measure_of};
 
 use crate::{Merge, measure, measure_piece, row_text};
 use nd_base::SampleType::{Int8, Int16, Int32, UInt8, UInt16, UInt32};
-use nd_base::{Dim, Head, Measure, NdArray, OutOfMemory, SampleType, Seq, StatsRule};
+use nd_base::{Attrs, Dim, Head, Measure, NdArray, OutOfMemory, SampleType, Seq, StatsRule};
 use std::alloc::Global;
 use std::test::Fail;
 
@@ -53,7 +53,7 @@ fn array_of(
         stamp: 0,
         sec: 0,
         nsec: 0,
-        attrs: Seq::new(Vec::new(alloc)),
+        attrs: Attrs::none(alloc),
     };
     let samples = Vec::from_slice(alloc, samples)?;
     Ok(NdArray::new(alloc, head, kind, dims, samples)?)

@@ -1,17 +1,6 @@
 //! What a request is answered.
-use std::alloc::AllocError;
 
-/// There was no memory.
-#[derive(Clone, Copy, Debug, PartialEq, Eq)]
-pub struct OutOfMemory;
-
-impl From<AllocError> for OutOfMemory {
-    ghost from_gives = { λ _ _. Unit {0} };
-
-    fn from(_: AllocError) -> Self {
-        OutOfMemory
-    }
-}
+use thiserror::Error;
 
 /// A block that was granted.
 #[derive(Clone, Copy, Debug, PartialEq, Eq)]
@@ -27,7 +16,8 @@ pub struct Grant {
 }
 
 /// The request would pass the limit.
-#[derive(Clone, Copy, Debug, PartialEq, Eq)]
+#[derive(Clone, Copy, Debug, PartialEq, Eq, Error)]
+#[error("the pool holds {held} bytes")]
 pub struct Refused {
     /// The bytes of all blocks that have a hold.
     pub held: u64,

@@ -3,8 +3,8 @@ ghost use Rattle.std.specs.Prelude.{◌≡◌, ◌≢◌, ◌==◌, ◌<◌, ◌
 ghost use Rattle.std.specs.List.{AllByRecursion, list_any};
 ghost use Rattle.pool_ledger.specs.Keys.{IsRising, with_key, without_key, least_from, greatest_below};
 
-use crate::grants::OutOfMemory;
 use crate::key_tree::KeyTree;
+use nd_base::OutOfMemory;
 use std::alloc::{AllocError, Global};
 use std::marker::Model;
 

@@ -2,7 +2,7 @@
 //! holds each block has. The pool has no storage of its own.
 #![tactic(auto)]
 
-pub use grants::{Grant, OutOfMemory, Refused};
+pub use grants::{Grant, Refused};
 pub use pools::Pool;
 
 mod grants;

@@ -3,8 +3,9 @@ ghost use Rattle.std.specs.Prelude.{◌≡◌, ◌≢◌, ℕ, ◌+◌, ◌-◌,
 ghost use Rattle.pool_ledger.specs.Grants.{passes, given_up, new_number, left_after, free_in_order};
 ghost use Rattle.pool_ledger.specs.Ledger.{empty_ledger, blocks, refs, is_free, held, grant_for, answered, after, with_refs, with_block, without_blocks, largest_first, has_block};
 
-use crate::grants::{Grant, OutOfMemory, Refused};
+use crate::grants::{Grant, Refused};
 use crate::key_set::KeySet;
+use nd_base::OutOfMemory;
 use std::alloc::Global;
 use std::collections::VecDeque;
 use std::marker::Model;

@@ -3,7 +3,7 @@ ghost use Rattle.std.specs.Prelude.{◌≡◌, ◌<◌, ◌≤◌, ◌+◌, ◌^
 ghost use Rattle.queue_sort.specs.Inboxes.{InboxState, with_last, with_front, without_front};
 ghost use Rattle.queue_sort.specs.InboxRuns.{Call, Queues};
 
-use crate::out_of_memory::OutOfMemory;
+use nd_base::OutOfMemory;
 use std::alloc::Global;
 use std::collections::VecDeque;
 use std::marker::Model;

@@ -2,11 +2,9 @@
 #![tactic(auto)]
 
 mod inboxes;
-mod out_of_memory;
 mod sort_lists;
 #[cfg(test)]
 mod tests;
 
 pub use inboxes::{Full, Inbox, queues_every_run};
-pub use out_of_memory::OutOfMemory;
 pub use sort_lists::{Due, Placed, SortFull, SortList, Waiting, sorts_every_run};

@@ -2,7 +2,7 @@
 ghost use Rattle.std.specs.Prelude.{ℕ, ℤ, List};
 ghost use Rattle.queue_sort.specs.Runs.{Call, Sorts};
 
-use crate::out_of_memory::OutOfMemory;
+use nd_base::OutOfMemory;
 use std::alloc::Global;
 use std::collections::VecDeque;
 use std::marker::Model;

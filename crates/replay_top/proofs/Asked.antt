@@ -19,7 +19,6 @@ use Rattle.graph_conf.specs.Answers as graphs
 use Rattle.graph_conf.specs.Graphs.{graph_of_bytes}
 use Rattle.graph_conf.specs.Loads as loads
 use Rattle.graph_conf.specs.Loads.{file_bytes_at, first_too_long, limit_fault, answer}
-use Rattle.graph_conf.specs.Meanings.{graph_text}
 use Rattle.replay_top.specs.declared.status.Status.{Status}
 use Rattle.replay_top.specs.declared.status.Status.TheVariants.{Done, StackBytes, Limit}
 use Rattle.replay_top.specs.Answers.{HasGraphRefusal, HasStackRefusal, PassesLimit}
@@ -40,7 +39,7 @@ told_bytes (Some files) name bytes file has is = let same : Some bytes ≡ Some 
 graph_in-short : (bytes : List ℕ) → length bytes ≤ most_graph_bytes → graph_in bytes ≡ graph_or_status (graph_of_bytes bytes)
 graph_in-short bytes short = rw (le-leb (length bytes) most_graph_bytes short) refl
 
-pub graph_in-read : (told : Option Files) (name : List ℕ) (g : Graph) → IsGraphRead told name g → (file : List ℕ) → IsTold told name file → graph_in file ≡ Ok (graph_text g)
+pub graph_in-read : (told : Option Files) (name : List ℕ) (g : Graph) → IsGraphRead told name g → (file : List ℕ) → IsTold told name file → graph_in file ≡ Ok g
 graph_in-read told name g source file is =
     rw (← told_bytes told name source.bytes file source.read is) (graph_in-short source.bytes source.short ∙ ap graph_or_status source.found)
 
@@ -114,7 +113,7 @@ asked-graph answer (Info stack) told refused = absurd refused
 asked-graph answer (Plain graph stack prefix) told refused = λ file is. rw (refused file is) refl
 
 by_graph : (answer : Status) (told : Option Files) (graph stack : List ℕ) (g : Graph) → IsGraphRead told graph g → IsAskedBy (run_status g) answer told stack → (text : List ℕ) → IsTold told graph text → IsRunAsked answer (graph_in text) told stack
-by_graph answer told graph stack g source asked text is = rw (graph_in-read told graph g source text is) (g, refl, asked)
+by_graph answer told graph stack g source asked text is = rw (graph_in-read told graph g source text is) asked
 
 -- the command's stack is refused
 pub asked-stack : (answer : Status) (command : Command) (told : Option Files) → HasStackRefusal told command answer → IsAsked answer command told

@@ -9,7 +9,7 @@ use Rattle.nd_base.specs.Array.{StackValue}
 use Rattle.nd_base.specs.declared.graph.Graph.{Graph}
 use Rattle.nd_base.specs.declared.graph.NodeRule.{NodeRule}
 use Rattle.nd_base.specs.GraphRules.{rule_at}
-use Rattle.replay_top.specs.PlainRun.{passed}
+use Rattle.chain_plain.specs.PlainRun.{passed}
 use Rattle.replay_top.specs.PlainText.{out_line, node_line}
 
 range_more : (a n : ℕ) → range_with_len a (suc n) ≡ range_with_len a n ++ (a + n) ∷ []

@@ -18,8 +18,8 @@ use Rattle.chain_plain.specs.PassingLaws.{rule_within}
 use Rattle.replay_top.specs.BegunFiles.{AreBegun}
 use Rattle.replay_top.specs.BegunLaws.{with_files-append, AreBegun-first, AreBegun-later}
 use Rattle.replay_top.specs.NodeFiles.{file_shape, group_files, kind_files, node_files, plain_files, stats_name, with_files}
-use Rattle.replay_top.specs.PlainRun.{passed, result_of}
-use Rattle.replay_top.specs.PassedLaws.{passed-step}
+use Rattle.chain_plain.specs.PlainRun.{passed, result_of}
+use Rattle.chain_plain.specs.PassedLaws.{passed-step}
 use Rattle.replay_top.proofs.EachNode.{each_more, each_split}
 
 -- WHAT A NODE WRITES

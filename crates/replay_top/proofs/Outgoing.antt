@@ -13,7 +13,7 @@ use Rattle.nd_base.specs.declared.graph.Graph.{Graph}
 use Rattle.cdf_write.specs.Writable.{HasShape, HasColumns}
 use Rattle.file_out.specs.Streams.{IsRow}
 use Rattle.nd_stack.specs.KeptStacks.{IsKeptStack}
-use Rattle.nd_stack.specs.Rebuilt.{frame-rebuilt}
+use Rattle.nd_base.specs.Rebuilt.{frame-rebuilt}
 use Rattle.chain_plain.specs.Content.{content}
 use Rattle.chain_plain.specs.ContentLaws.{frame}
 use Rattle.replay_top.specs.NodeFiles.{file_shape}

@@ -9,6 +9,7 @@ use Rattle.std.proofs.lemmas.Bool.{le-ltb}
 use Rattle.std.proofs.lemmas.Bool.Decides.{nat_tests}
 use Rattle.std.proofs.lemmas.List.{take_all, append-nil}
 use Rattle.nd_base.specs.Array.{Array, StackValue}
+use Rattle.nd_base.specs.declared.form.Form.TheVariants.{Classic}
 use Rattle.nd_base.specs.declared.graph.Graph.{Graph}
 use Rattle.nd_base.specs.declared.graph.NodeRule.{NodeRule}
 use Rattle.nd_base.specs.declared.graph.FileRule.{FileRule}
@@ -25,7 +26,7 @@ use Rattle.replay_top.specs.NodeFiles.{group_name, group_number, group_files, pl
 
 -- one file node named `copy` on the driver, in mode capture, with as many arrays a file as a stack has at most
 abbrev pub copy_rule : FileRule
-copy_rule = record { mode = Capture; count = 65536 }
+copy_rule = record { mode = Capture; count = 65536; form = Classic }
 
 abbrev pub copy_node : NodeRule
 copy_node = record { name = codes "copy"; kind = File copy_rule; input = 0; queue = 20; threads = 1; sort = 0; sort_time = 100 }

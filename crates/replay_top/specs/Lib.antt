@@ -4,8 +4,6 @@ pub mod Reads
 pub mod Command
 pub mod Words
 pub mod Sources
-pub mod PlainRun
-pub mod PassedLaws
 pub mod NodeFiles
 pub mod NodeShapes
 pub mod OutgoingLaws

@@ -12,7 +12,6 @@ use Rattle.graph_conf.specs.declared.load.LimitFault.{LimitFault}
 use Rattle.graph_conf.specs.declared.load.LimitFault.TheVariants.{GraphBytes, StackFile, FileTooLarge}
 use Rattle.graph_conf.specs.Graphs.{graph_of_bytes}
 use Rattle.graph_conf.specs.Loads.{limit_fault}
-use Rattle.graph_conf.specs.Meanings.{GraphText, graph_text}
 use Rattle.replay_top.specs.declared.status.Status.{Status}
 use Rattle.replay_top.specs.declared.status.Status.TheVariants as status
 use Rattle.replay_top.specs.declared.status.Status.TheVariants.{Done, GraphRule, StackBytes, Limit}
@@ -21,12 +20,12 @@ use Rattle.replay_top.specs.Copy.{copy_length}
 use Rattle.replay_top.specs.Sources.{most_graph_bytes, most_stack_bytes}
 
 -- the graph of a file, or the status that refuses it
-abbrev pub graph_or_status : Result GraphText GraphFault → Result GraphText Status
+abbrev pub graph_or_status : Result Graph GraphFault → Result Graph Status
 graph_or_status (Ok g) = Ok g
 graph_or_status (Err graph.Text) = Err status.GraphText
 graph_or_status (Err fault) = Err (GraphRule fault)
 
-abbrev pub graph_in : List ℕ → Result GraphText Status
+abbrev pub graph_in : List ℕ → Result Graph Status
 graph_in file = if nat_le (length file) most_graph_bytes then graph_or_status (graph_of_bytes file) else Err (Limit (GraphBytes (length file)))
 
 -- the stack of a file, or the status that refuses it
@@ -74,9 +73,9 @@ abbrev pub IsAskedBy : (List ℕ → Status) → Status → Option Files → (na
 IsAskedBy asks answer told name = (file : List ℕ) → IsTold told name file → answer ≡ asks file
 
 -- a refused graph decides, and else the stack does, with the graph
-abbrev pub IsRunAsked : Status → Result GraphText Status → Option Files → (stack : List ℕ) → Type 0
+abbrev pub IsRunAsked : Status → Result Graph Status → Option Files → (stack : List ℕ) → Type 0
 IsRunAsked answer (Err refusal) told stack = answer ≡ refusal
-IsRunAsked answer (Ok text) told stack = (g : Graph) × (text ≡ graph_text g) × IsAskedBy (run_status g) answer told stack
+IsRunAsked answer (Ok g) told stack = IsAskedBy (run_status g) answer told stack
 
 -- the status is the one that the command's files ask for, where they are told
 abbrev pub IsAsked : Status → Command → Option Files → Type 0

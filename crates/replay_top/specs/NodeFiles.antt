@@ -7,7 +7,7 @@ use Rattle.nd_base.specs.Array.{Array, StackValue}
 use Rattle.nd_base.specs.declared.attribute.FileShape.{FileShape}
 use Rattle.nd_base.specs.declared.graph.Graph.{Graph}
 use Rattle.nd_base.specs.declared.graph.Kind.{Kind}
-use Rattle.nd_base.specs.declared.graph.Kind.TheVariants.{Stats, File}
+use Rattle.nd_base.specs.declared.graph.Kind.TheVariants.{Roi, Stats, Circular, File, Scatter}
 use Rattle.nd_base.specs.declared.graph.Mode.{Mode}
 use Rattle.nd_base.specs.declared.graph.Mode.TheVariants.{Stream}
 use Rattle.nd_base.specs.GraphRules.{rule_at}
@@ -16,7 +16,7 @@ use Rattle.cdf_write.specs.Layout.{layout}
 use Rattle.nd_stats.specs.Row.{row}
 use Rattle.chain_plain.specs.OneThread.{OneThread}
 use Rattle.chain_plain.specs.Plans.{shape_at}
-use Rattle.replay_top.specs.PlainRun.{result_of}
+use Rattle.chain_plain.specs.PlainRun.{result_of}
 
 -- a file: its name, its bytes, and whether its count of records is put in when it ends
 pub record OutFile : Type 0 where
@@ -52,7 +52,9 @@ group_files mode shape prefix node g (group ∷ groups) =
 abbrev pub kind_files : Kind → FileShape → (prefix node : List ℕ) → OneThread → List OutFile
 kind_files (File r) shape prefix node result = group_files r.mode shape prefix node 0 result.files
 kind_files (Stats r) shape prefix node result = record { name = stats_name prefix node; bytes = flat_map row result.measures; late = false } ∷ []
-kind_files _ shape prefix node result = []
+kind_files (Roi r) shape prefix node result = []
+kind_files (Circular r) shape prefix node result = []
+kind_files Scatter shape prefix node result = []
 
 abbrev pub node_files : Graph → StackValue → List ℕ → ℕ → List OutFile
 node_files g s prefix v = option_map_or (λ n. kind_files n.kind (file_shape g s v) prefix n.name (result_of g s v)) (rule_at g.nodes v) []

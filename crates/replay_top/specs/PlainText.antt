@@ -6,7 +6,7 @@ use Rattle.std.specs.Option.{option_map_or}
 use Rattle.nd_base.specs.Array.{StackValue}
 use Rattle.nd_base.specs.declared.graph.Graph.{Graph}
 use Rattle.nd_base.specs.GraphRules.{rule_at}
-use Rattle.replay_top.specs.PlainRun.{passed}
+use Rattle.chain_plain.specs.PlainRun.{passed}
 use Rattle.replay_top.specs.Printed.{frames_line}
 
 -- the name of a node, how many arrays go out of it, and a newline

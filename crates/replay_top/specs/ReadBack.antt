@@ -15,13 +15,15 @@ use Rattle.nd_base.specs.declared.array.SampleType.TheVariants.{Int8, UInt8, Int
 use Rattle.nd_base.specs.declared.attribute.FileShape.{FileShape}
 use Rattle.nd_base.specs.declared.graph.Graph.{Graph}
 use Rattle.nd_base.specs.declared.graph.Kind.{Kind}
-use Rattle.nd_base.specs.declared.graph.Kind.TheVariants.{Roi, Stats, Circular, File}
+use Rattle.nd_base.specs.declared.graph.Kind.TheVariants.{Roi, Stats, Circular, File, Scatter}
 use Rattle.nd_base.specs.declared.graph.NodeRule.{NodeRule}
 use Rattle.nd_base.specs.declared.graph.RoiRule.{RoiRule}
 use Rattle.nd_base.specs.GraphRules.{IsGraph, IsKind, IsFile, input_of, rule_at}
 use Rattle.nd_base.specs.SampleLaws.{IsSample}
 use Rattle.nd_roi.specs.Cut.{clamped_i32, cut, cut_dim, dims_from, region_dims}
-use Rattle.nd_roi.specs.Region.{low_bits, reduced, out_type, indices, sizes_of, region}
+use Rattle.nd_base.specs.Places.{indices, sizes_of}
+use Rattle.nd_roi.specs.Region.{out_type, region}
+use Rattle.nd_roi.specs.RegionLaws.{reduced-IsSample}
 use Rattle.cdf_write.specs.Lengths.{length_of, longest}
 use Rattle.cdf_write.specs.Writable.{HasShape}
 use Rattle.nd_stack.specs.KeptStacks.{IsKeptStack, IsKeptStack-ReadsBack}
@@ -37,8 +39,8 @@ use Rattle.graph_conf.specs.Loads.{limit_fault}
 use Rattle.replay_top.specs.NodeFiles.{file_shape}
 use Rattle.replay_top.specs.NodeShapes.{file_shape-IsWritable, length_of-le, longest_fits}
 use Rattle.replay_top.specs.OutgoingLaws.{length-arrays_out, arrays_out-all, out_has_shape}
-use Rattle.replay_top.specs.PassedLaws.{passed-frames, passed-few, passed-step}
-use Rattle.replay_top.specs.PlainRun.{passed, result_of}
+use Rattle.chain_plain.specs.PassedLaws.{passed-frames, passed-few, passed-step}
+use Rattle.chain_plain.specs.PlainRun.{passed, result_of}
 
 -- DIMENSIONS
 
@@ -54,37 +56,6 @@ module _ (P : Dim → Type 0) (each : (r : RoiRule) (k : ℕ) (d : Dim) → P (c
   dims_at : (g : Graph) (s : StackValue) (v : ℕ) → All P s.shape.dims → All P (shape_at g.nodes s.shape v).dims
   dims_at g s v all =
       passed_on-both (λ (t u : Shape). All P t.dims) region_shape region_shape (λ r t u h. dims_from-all r 0 t.dims) g.nodes (length g.nodes) v (stack_shape s.shape) (stack_shape s.shape) all
-
--- SAMPLES
-
-low_8 : (z : ℤ) → low_bits 8 z < 2 ^ 8
-low_8 (pos n) = omega arith
-low_8 (negsuc n) = omega arith
-
-low_16 : (z : ℤ) → low_bits 16 z < 2 ^ 16
-low_16 (pos n) = omega arith
-low_16 (negsuc n) = omega arith
-
-low_32 : (z : ℤ) → low_bits 32 z < 2 ^ 32
-low_32 (pos n) = omega arith
-low_32 (negsuc n) = omega arith
-
-signed_8 : (n : ℕ) → n < 2 ^ 8 → FitsSigned w8 (cast_signed w8 n)
-signed_8 n h = omega (arith, ints, h)
-
-signed_16 : (n : ℕ) → n < 2 ^ 16 → FitsSigned w16 (cast_signed w16 n)
-signed_16 n h = omega (arith, ints, h)
-
-signed_32 : (n : ℕ) → n < 2 ^ 32 → FitsSigned w32 (cast_signed w32 n)
-signed_32 n h = omega (arith, ints, h)
-
-reduced-IsSample : (kind : SampleType) (z : ℤ) → IsSample kind (reduced kind z)
-reduced-IsSample Int8 z = signed_8 (low_bits 8 z) (low_8 z)
-reduced-IsSample UInt8 z = let h = low_8 z in omega (arith, ints, h)
-reduced-IsSample Int16 z = signed_16 (low_bits 16 z) (low_16 z)
-reduced-IsSample UInt16 z = let h = low_16 z in omega (arith, ints, h)
-reduced-IsSample Int32 z = signed_32 (low_bits 32 z) (low_32 z)
-reduced-IsSample UInt32 z = let h = low_32 z in omega (arith, ints, h)
 
 region-IsKept : (r : RoiRule) (a : Array) → IsKept a → IsKept (region r a)
 region-IsKept r a h =
@@ -178,6 +149,7 @@ module _ (g : Graph) (s : StackValue) (sound : IsGraph g) (kept : IsKeptStack s)
   kind_back n (Roi r) is same = All-nil (ReadsBack shape)
   kind_back n (Stats r) is same = All-nil (ReadsBack shape)
   kind_back n (Circular r) is same = All-nil (ReadsBack shape)
+  kind_back n Scatter is same = All-nil (ReadsBack shape)
 
   rule_back : (o : Option NodeRule) → o ≡ rule_at g.nodes v → All (ReadsBack shape) (files_of o (arrays_out g.nodes s.arrays v (outputs g.nodes s.arrays v (passed g s (input_of g.nodes v)))))
   rule_back None is = All-nil (ReadsBack shape)

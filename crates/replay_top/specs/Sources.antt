@@ -6,7 +6,6 @@ use Rattle.nd_base.specs.GraphRules.{IsGraph}
 use Rattle.edge_traits.specs.Files.{Files, HasFile}
 use Rattle.nd_stack.specs.StackRules.{stack_of}
 use Rattle.graph_conf.specs.Graphs.{graph_of_bytes}
-use Rattle.graph_conf.specs.Meanings.{graph_text}
 
 -- the most bytes of a stack's file
 abbrev pub most_stack_bytes : ℕ
@@ -33,5 +32,5 @@ pub record IsGraphRead (told : Option Files) (name : List ℕ) (g : Graph) : Typ
   pub bytes : List ℕ
   pub read : HasFile told name bytes
   pub short : length bytes ≤ most_graph_bytes
-  pub found : graph_of_bytes bytes ≡ Ok (graph_text g)
+  pub found : graph_of_bytes bytes ≡ Ok g
   pub sound : IsGraph g

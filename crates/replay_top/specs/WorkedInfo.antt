@@ -3,6 +3,7 @@ use Rattle.std.proofs.Common.{◌≡◌, ℕ, pos, List, [], ◌∷◌, false, r
 use Rattle.std.specs.Prelude.{codes}
 use Rattle.std.proofs.lemmas.Fmt.{decimal_digit}
 use Rattle.nd_base.specs.Array.{Array, StackValue}
+use Rattle.nd_base.specs.declared.form.Form.TheVariants.{Classic}
 use Rattle.nd_base.specs.declared.array.Dim.{Dim}
 use Rattle.nd_base.specs.declared.array.SampleType.TheVariants.{UInt8}
 use Rattle.nd_base.specs.declared.attribute.AttrColumn.{AttrColumn}
@@ -17,7 +18,7 @@ abbrev small : ℕ → Array
 small id = record { id = pos id; stamp = 0; sec = pos 0; nsec = pos 0; kind = UInt8; dims = two ∷ two ∷ []; samples = pos 1 ∷ pos 2 ∷ pos 3 ∷ pos 4 ∷ []; attrs = [] }
 
 abbrev stack : List AttrColumn → List Array → StackValue
-stack attrs arrays = record { shape = record { kind = UInt8; dims = two ∷ two ∷ []; attrs = attrs; width = 256; extras = [] }; arrays = arrays }
+stack attrs arrays = record { shape = record { form = Classic; kind = UInt8; dims = two ∷ two ∷ []; attrs = attrs; width = 256; extras = [] }; arrays = arrays }
 
 abbrev columns : List AttrColumn
 columns =

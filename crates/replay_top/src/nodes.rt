@@ -12,7 +12,7 @@ ghost use Rattle.graph_conf.specs.Loads.{limit_fault};
 ghost use Rattle.file_out.specs.Saving.{IsBegun, IsSaveCause};
 ghost use Rattle.replay_top.specs.BegunFiles.{AreBegun};
 ghost use Rattle.replay_top.specs.NodeFiles.{node_files, plain_files, stats_name, with_files};
-ghost use Rattle.replay_top.specs.PlainRun.{passed};
+ghost use Rattle.chain_plain.specs.PlainRun.{passed};
 
 use crate::groups::save_groups;
 use crate::passing::passed;
@@ -83,7 +83,7 @@ fn save_node<K: Shelf>(
             save_groups(alloc, shelf, prefix, plan, stack, node, file, name, &passed)
         }
         Kind::Stats(stats) => save_stats(alloc, shelf, prefix, plan, stack, node, stats, name),
-        _ => Ok(()),
+        Kind::Roi(_) | Kind::Circular(_) | Kind::Scatter => Ok(()),
     }
 }
 

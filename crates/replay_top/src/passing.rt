@@ -3,7 +3,7 @@
 ghost use Rattle.std.specs.Prelude.{◌≡◌, ◌<◌, ◌≤◌, length, All, IfOk};
 ghost use Rattle.std.specs.List.{range_with_len};
 ghost use Rattle.nd_base.specs.GraphRules.{IsGraph};
-ghost use Rattle.replay_top.specs.PlainRun.{passed};
+ghost use Rattle.chain_plain.specs.PlainRun.{passed};
 
 use chain_plain::plain_outputs;
 use nd_base::{OutOfMemory, Plan, Stack, rule_at};

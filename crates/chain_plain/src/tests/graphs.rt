@@ -7,8 +7,8 @@ ghost use Rattle.chain_plain.specs.Worked.{graph_of, node, cut_out, half, halved
 
 use nd_base::SampleType::UInt16;
 use nd_base::{
-    Calc, CircularRule, FileRule, Graph, Kind, Mode, Name, NodeRule, RoiRule, SampleType, Seq,
-    StatsRule,
+    Calc, CircularRule, FileRule, Form, Graph, Kind, Mode, Name, NodeRule, RoiRule, SampleType,
+    Seq, StatsRule,
 };
 use std::alloc::{AllocError, Global};
 
@@ -71,6 +71,7 @@ pub(super) fn halved(alloc: Global) -> Result<Graph, AllocError>
     let five = FileRule {
         mode: Mode::Capture,
         count: 5,
+        form: Form::Classic,
     };
     Ok(graph_of(vec![in alloc;
         node(alloc, "roi", Kind::Roi(middle), 0)?,
@@ -118,7 +119,7 @@ pub(super) fn watched(alloc: Global, preset: u8) -> Result<Graph, AllocError>
         pre: 2,
         post: 3,
         preset: u32::from(preset),
-        trigger: Calc::A,
+        trigger: Calc::a(),
         a: Name::new(String::from_str(alloc, "Gate")?),
         b: Name::new(String::new(alloc)),
     };

@@ -6,7 +6,7 @@ ghost use Rattle.cdf_write.specs.Writable.{IsWritable};
 
 use crate::{GraphFault, LimitFault, check_load, read_graph};
 use chain_plain::plan;
-use nd_base::{Bytes, Dim, FileShape, Head, SampleType, Seq, Stack};
+use nd_base::{Attrs, Bytes, Dim, FileShape, Form, Head, SampleType, Seq, Stack};
 use std::alloc::{AllocError, Global};
 use std::test::Fail;
 
@@ -22,7 +22,7 @@ fn heads_of(alloc: Global, frames: u32) -> Result<Vec<Head>, AllocError>
             stamp: 0,
             sec: 0,
             nsec: 0,
-            attrs: Seq::new(Vec::new(alloc)),
+            attrs: Attrs::none(alloc),
         })?;
     }
     Ok(heads)
@@ -42,6 +42,7 @@ fn stack_of(alloc: Global, frames: u32, size: u32) -> Result<Stack, AllocError>
         reverse: false,
     };
     let shape = FileShape {
+        form: Form::Classic,
         kind: SampleType::UInt8,
         dims: Seq::new(vec![in alloc; dim]?),
         attrs: Seq::new(Vec::new(alloc)),

@@ -4,7 +4,8 @@ ghost use Rattle.std.specs.Prelude.{◌≡◌, ◌≤◌, length};
 
 use crate::info::info_text;
 use nd_base::{
-    AttrColumn, AttrKind, Bytes, Dim, FileShape, Head, Name, SampleType, Seq, Stack, frame_bytes,
+    AttrColumn, AttrKind, Attrs, Bytes, Dim, FileShape, Form, Head, Name, SampleType, Seq, Stack,
+    frame_bytes,
 };
 use std::alloc::{AllocError, Global};
 use std::test::Fail;
@@ -15,7 +16,7 @@ fn head(alloc: Global, id: i32) -> Head {
         stamp: 0,
         sec: 0,
         nsec: 0,
-        attrs: Seq::new(Vec::new(alloc)),
+        attrs: Attrs::none(alloc),
     }
 }
 
@@ -59,6 +60,7 @@ fn info_of(
     let dims = vec![in alloc; dim(3), dim(2)]?;
     let bytes = vec![in alloc; 7; frame_bytes(kind, &dims)]?;
     let shape = FileShape {
+        form: Form::Classic,
         kind,
         dims: Seq::new(dims),
         attrs: Seq::new(attrs),

@@ -3,7 +3,7 @@ use Rattle.std.specs.Prelude.{slice_get}
 use Rattle.nd_roi.specs.Region.{region}
 use Rattle.nd_base.specs.GraphRules.{rule_at}
 use Rattle.chain_plain.proofs.Arrays.{array_of_none, array_of_roi, array_of_other, answers_some}
-use Rattle.chain_plain.proofs.Rules.{stands, roi_sound}
+use Rattle.chain_plain.proofs.Rules.{stands, roi_sound, no_roi}
 use Rattle.chain_plain.proofs.contents.+array_out_of.Goals as goal
 
 pub returns-in_default : goal.returns-in_default
@@ -33,8 +33,8 @@ returns-in-Roi t c =
     (array_of_roi g c.args.node c.in-Some.rule.now c.in-Roi.roi (slice_get c.args.stack.now.arrays c.args.index) c.in_ok-input.input c.requires.graph some c.in-Roi.is c.in_ok-input.ensures)
     c.region_of.ensures
 
-pub returns-in_default-kind : goal.returns-in_default-kind
-returns-in_default-kind t c =
+pub returns-in-Stats : goal.returns-in-Stats
+returns-in-Stats t c =
     let g = c.args.graph.now in
     let some : Some c.in-Some.rule.now ≡ rule_at g.nodes c.args.node = c.in-Some.ensures ∙ ap (λ ns. rule_at ns c.args.node) c.as_slice.ensures in
-    array_of_other g c.args.node c.in-Some.rule.now (slice_get c.args.stack.now.arrays c.args.index) c.in_ok-input.input c.requires.graph some c.in_default-kind.not-Roi c.in_ok-input.ensures
+    array_of_other g c.args.node c.in-Some.rule.now (slice_get c.args.stack.now.arrays c.args.index) c.in_ok-input.input c.requires.graph some (no_roi c.in-Some.rule.now.kind c.in-Stats.is) c.in_ok-input.ensures

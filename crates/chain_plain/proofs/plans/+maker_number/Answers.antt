@@ -2,7 +2,7 @@ use Rattle.std.proofs.Common.{arith, ◌≡◌, Some, None, length, ap, sym, ◌
 use Rattle.nd_base.specs.GraphRules.{rule_at}
 use Rattle.chain_plain.specs.PassingLaws.{maker_within-none}
 use Rattle.chain_plain.proofs.Rules.{stands}
-use Rattle.chain_plain.proofs.Found.{maker_of_roi, maker_of_other}
+use Rattle.chain_plain.proofs.Found.{maker_of_region, maker_of_other}
 use Rattle.chain_plain.proofs.plans.+maker_number.Goals as goal
 
 pub returns-in_default : goal.returns-in_default
@@ -18,14 +18,8 @@ maker_number-requires t c =
     let near = (stands g c.args.node c.in-Some.rule.now c.requires some).nearer in
     (omega (arith, c.decreases, near), c.requires)
 
-pub returns-in-Roi : goal.returns-in-Roi
-returns-in-Roi t c =
+pub returns : goal.returns
+returns t c =
     let g = c.args.graph.now in
     let some : Some c.in-Some.rule.now ≡ rule_at g.nodes c.args.node = c.in-Some.ensures ∙ ap (λ ns. rule_at ns c.args.node) c.as_slice.ensures in
-    sym (maker_of_roi g c.args.node c.in-Some.rule.now _ c.requires some c.in-Roi.is)
-
-pub returns-in_default-kind : goal.returns-in_default-kind
-returns-in_default-kind t c =
-    let g = c.args.graph.now in
-    let some : Some c.in-Some.rule.now ≡ rule_at g.nodes c.args.node = c.in-Some.ensures ∙ ap (λ ns. rule_at ns c.args.node) c.as_slice.ensures in
-    c.maker_number.ensures ∙ sym (maker_of_other g c.args.node c.in-Some.rule.now c.requires some c.in_default-kind.not-Roi)
+    c.maker_number.ensures ∙ sym (maker_of_other g c.args.node c.in-Some.rule.now c.requires some (sym c.makes_arrays.ensures ∙ c.if-makes_arrays.false))

@@ -4,7 +4,7 @@ use Rattle.chain_plain.specs.declared.shape.Shape.{Shape}
 use Rattle.nd_base.specs.GraphRules.{rule_at}
 use Rattle.chain_plain.specs.Plans.{region_shape, stack_shape, shape_at}
 use Rattle.chain_plain.specs.PassingLaws.{out_of-none}
-use Rattle.chain_plain.proofs.Rules.{stands, out_of-roi, out_of-other, roi_sound}
+use Rattle.chain_plain.proofs.Rules.{stands, out_of-roi, out_of-other, roi_sound, no_roi}
 use Rattle.chain_plain.proofs.shape.+shape_at.Goals as goal
 
 pub returns-in_default-clause-value : goal.returns-in_default-clause-value
@@ -48,12 +48,8 @@ returns-in-Roi-clause-value t c =
     ∙ ap (region_shape c.in-Roi.roi) (sym c.in_ok-input.ensures.value) in
     rw made c.region_shape.ensures.value
 
-pub returns-in_default-kind : goal.returns-in_default-kind
-returns-in_default-kind t c =
+pub returns-in-Stats-clause-value : goal.returns-in-Stats-clause-value
+returns-in-Stats-clause-value t c =
     let g = c.args.graph.now in
     let some : Some c.in-Some.rule.now ≡ rule_at g.nodes c.args.node = c.in-Some.ensures ∙ ap (λ ns. rule_at ns c.args.node) c.as_slice.ensures in
-    record {
-      value = c.in_ok-input.ensures.value ∙ sym (out_of-other region_shape g c.args.node c.in-Some.rule.now (stack_shape c.args.shape.now) c.requires.graph some c.in_default-kind.not-Roi);
-      dimensions = c.in_ok-input.ensures.dimensions;
-      few = c.in_ok-input.ensures.few;
-    }
+    c.in_ok-input.ensures.value ∙ sym (out_of-other region_shape g c.args.node c.in-Some.rule.now (stack_shape c.args.shape.now) c.requires.graph some (no_roi c.in-Some.rule.now.kind c.in-Stats.is))

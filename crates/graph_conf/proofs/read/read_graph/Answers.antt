@@ -6,7 +6,6 @@ use Rattle.toml.specs.View.{table_view}
 use Rattle.toml.specs.Parse.{parse_document}
 use Rattle.graph_conf.specs.declared.fault.GraphFault.TheVariants.{Text}
 use Rattle.graph_conf.specs.Answers.{Gives}
-use Rattle.graph_conf.specs.Meanings.{graph_text}
 use Rattle.graph_conf.specs.Graphs.{graph_or_text, graph_of, graph_of_bytes}
 use Rattle.graph_conf.proofs.read.read_graph.Goals as goal
 
@@ -29,4 +28,4 @@ returns-in-Ok-table_from_str-clause-exact c =
     let parsed : parse_document bytes ≡ Some (table_view c.in-Ok-table_from_str.table) = sym (ap parse_document same) ∙ c.in-Ok-table_from_str.ensures.ok in
     let whole : graph_of_bytes bytes ≡ graph_of (table_view c.in-Ok-table_from_str.table) =
     ap (λ b. cond b (graph_or_text (parse_document bytes)) (Err Text)) (is_utf8-from_IsUtf8 bytes utf8) ∙ ap graph_or_text parsed in
-    subst (λ r. Gives graph_text c.graph_of.result r) (sym whole) c.graph_of.ensures.gives
+    subst (λ r. Gives (λ x. x) c.graph_of.result r) (sym whole) c.graph_of.ensures.gives

@@ -1,5 +1,5 @@
 use Rattle.std.proofs.Common.{◌+◌, ◌<◌, ap, sym, ◌∙◌, arith}
-use Rattle.nd_stats.specs.Samples.{index_in, size_in}
+use Rattle.nd_base.specs.Places.{index_in, size_in}
 use Rattle.nd_stats.proofs.Places.{next_x, next_y, next_row}
 use Rattle.nd_stats.proofs.spot.next_spot.Goals as goal
 

@@ -3,8 +3,8 @@ use Rattle.std.proofs.lemmas.Result.{IfOk-weaker}
 use Rattle.nd_base.specs.GraphRules.{rule_at}
 use Rattle.chain_plain.specs.OneThread.{outputs}
 use Rattle.chain_plain.proofs.Rules.{stands}
-use Rattle.replay_top.specs.PlainRun.{passed}
-use Rattle.replay_top.specs.PassedLaws.{passed-none, passed-rule, passed-frames, passed-few}
+use Rattle.chain_plain.specs.PlainRun.{passed}
+use Rattle.chain_plain.specs.PassedLaws.{passed-none, passed-rule, passed-frames, passed-few}
 use Rattle.replay_top.proofs.PassedOn.{input_within}
 use Rattle.replay_top.proofs.passing.+passed.Goals as goal
 

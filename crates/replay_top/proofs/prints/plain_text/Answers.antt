@@ -1,6 +1,6 @@
 use Rattle.std.proofs.Common.{◌≡◌, ◌++◌, ◌+◌, ◌<◌, length, get_or, ap, sym, ◌∙◌, append_assoc, arith}
 use Rattle.std.specs.List.{flat_map, range_with_len}
-use Rattle.replay_top.specs.PlainRun.{passed}
+use Rattle.chain_plain.specs.PlainRun.{passed}
 use Rattle.replay_top.specs.PlainText.{out_line, node_line}
 use Rattle.replay_top.specs.Printed.{frames_line}
 use Rattle.replay_top.proofs.EachNode.{each_more, node_line-at}

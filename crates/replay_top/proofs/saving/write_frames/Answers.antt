@@ -12,7 +12,7 @@ use Rattle.cdf_write.specs.Writable.{HasColumns}
 use Rattle.file_out.specs.Streams.{Stream}
 use Rattle.file_out.specs.StreamLaws.{HasRange-begun_file}
 use Rattle.file_out.specs.BegunLaws.{IsBegun-whole, IsBegun-BeginStops, IsBegun-AddStops}
-use Rattle.nd_stack.specs.Rebuilt.{frame-rebuilt}
+use Rattle.nd_base.specs.Rebuilt.{frame-rebuilt}
 use Rattle.replay_top.specs.Copy.{copy_file}
 use Rattle.replay_top.proofs.Frames.{begun_copy, begun_copy-more, begun_copy-whole, copy_file-front}
 use Rattle.replay_top.proofs.saving.write_frames.Goals as goal

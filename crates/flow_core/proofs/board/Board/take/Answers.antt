@@ -57,7 +57,7 @@ invariant_of-self g c =
     rw c.put_back.ensures (
       i.0,
       subst (λ (Q : List FrameName). Replays s a.facts a.log.past Q (map name a.unsaved.items) (map (seen name) a.hands.items)) line i.1,
-      All-cons whole p rest (still_whole (parts k) (parts p) c.in_default-part.ensures.err.0 (All_first whole k a.inbox.items rest front i.2)) (All_rest whole k a.inbox.items rest front i.2),
+      All-cons whole p rest (still_whole (parts k) (parts p) (ap parts c.in_default-part.ensures.err.0) (All_first whole k a.inbox.items rest front i.2)) (All_rest whole k a.inbox.items rest front i.2),
       i.3,
       i.4,
       i.5,

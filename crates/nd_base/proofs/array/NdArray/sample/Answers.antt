@@ -33,7 +33,7 @@ returns c =
     let place = within fields.kind fields.dims fields.bytes c.args.self.now.samples c.args.i (ap (λ (a : Array). a.samples) c.self.view_is) count c.requires in
     let width_is : c.width.result ≡ width fields.kind = c.width.ensures in
     let number_is : c.number_at.result ≡ number fields.kind (take (width fields.kind) (drop (c.args.i * width fields.kind) fields.bytes)) =
-    c.number_at.ensures ∙ rw (width_is, c.list.ensures) refl in
+    c.number_at.ensures.value ∙ rw (width_is, c.list.ensures) refl in
     let sample = slice_get-samples_of fields.kind (sample_count fields.dims) c.args.i fields.bytes count place in
     let samples_are : samples_of fields.kind fields.bytes ≡ c.args.self.now.samples = ap (λ (a : Array). a.samples) c.self.view_is in
     rw (← samples_are, sample, ← number_is) (search rules)

@@ -1,0 +1,113 @@
+-- Laws of the positions that go out of nodes.
+use Rattle.std.specs.Prelude.{◌≡◌, ℕ, zero, suc, ◌+◌, ◌<◌, ◌≤◌, Bool, true, false, List, [], ◌∷◌, length, map, All, Option, Some, None, if◌then◌else◌, refl}
+use Rattle.std.specs.List.{range_with_len}
+use Rattle.std.proofs.Common.{ap, sym, ◌∙◌, arith, length-append}
+use Rattle.std.proofs.lemmas.List.Elements.{All-nil, All-cons, All-head, All-tail, All-append, All-from_get_or}
+use Rattle.std.proofs.lemmas.List.FromFn.{length-range_with_len, get_or-range_with_len}
+use Rattle.nd_base.specs.Array.{Array, StackValue}
+use Rattle.nd_base.specs.declared.graph.Graph.{Graph}
+use Rattle.nd_base.specs.declared.graph.Kind.{Kind}
+use Rattle.nd_base.specs.declared.graph.Kind.TheVariants.{Roi, Stats, Circular, File, Scatter}
+use Rattle.nd_base.specs.declared.graph.NodeRule.{NodeRule}
+use Rattle.nd_base.specs.GraphRules.{IsGraph, input_of, source_of, rule_at}
+use Rattle.trig_window.specs.Windows.{at_positions, is_passed}
+use Rattle.chain_plain.specs.OneThread.{fires_at, kind_outputs, rule_outputs, outputs}
+use Rattle.chain_plain.specs.PassingLaws.{rule_within, input_none, input_some}
+use Rattle.chain_plain.specs.PlainRun.{passed_within, passed}
+
+-- A NODE ACTS ON WHAT GOES OUT OF ITS INPUT
+
+-- where so many steps lead to the driver, one more changes nothing
+passed_within-more : (nodes : List NodeRule) (arrays : List Array) (steps v : ℕ) → source_of nodes steps v ≡ 0 → passed_within nodes arrays (suc steps) v ≡ passed_within nodes arrays steps v
+passed_within-more nodes arrays zero zero h = refl
+passed_within-more nodes arrays zero (suc k) h = let e : suc k ≡ 0 = h in absurd (omega (arith, e))
+passed_within-more nodes arrays (suc steps) v h = ap (outputs nodes arrays v) (passed_within-more nodes arrays steps (input_of nodes v) h)
+
+-- what goes out of a node is what it makes of what goes out of its input
+pub passed-step : (g : Graph) (s : StackValue) (v : ℕ) → IsGraph g → v ≤ length g.nodes → passed g s v ≡ outputs g.nodes s.arrays v (passed g s (input_of g.nodes v))
+passed-step g s v sound within = sym (passed_within-more g.nodes s.arrays (length g.nodes) v (sound.acyclic v within))
+
+passed_within-driver : (nodes : List NodeRule) (arrays : List Array) (steps : ℕ) → passed_within nodes arrays steps 0 ≡ range_with_len 0 (length arrays)
+passed_within-driver nodes arrays zero = refl
+passed_within-driver nodes arrays (suc steps) = passed_within-driver nodes arrays steps
+
+passed_within-none : (nodes : List NodeRule) (arrays : List Array) (steps v : ℕ) → None ≡ rule_at nodes v → passed_within nodes arrays steps v ≡ range_with_len 0 (length arrays)
+passed_within-none nodes arrays zero v none = refl
+passed_within-none nodes arrays (suc steps) v none =
+    ap (λ o. rule_outputs o arrays (passed_within nodes arrays steps (input_of nodes v))) (sym none)
+    ∙ ap (passed_within nodes arrays steps) (input_none nodes v none) ∙ passed_within-driver nodes arrays steps
+
+-- all frames go out of the driver, which has no rule
+pub passed-none : (g : Graph) (s : StackValue) (v : ℕ) → None ≡ rule_at g.nodes v → passed g s v ≡ range_with_len 0 (length s.arrays)
+passed-none g s v none = passed_within-none g.nodes s.arrays (length g.nodes) v none
+
+-- and what a node's rule makes of what goes out of its input goes out of the node
+pub passed-rule : (g : Graph) (s : StackValue) (v : ℕ) (n : NodeRule) → IsGraph g → Some n ≡ rule_at g.nodes v → passed g s v ≡ outputs g.nodes s.arrays v (passed g s n.input)
+passed-rule g s v n sound is =
+    passed-step g s v sound (rule_within g.nodes v n is) ∙ ap (λ w. outputs g.nodes s.arrays v (passed g s w)) (input_some g.nodes v n is)
+
+-- NO NODE PASSES ON A POSITION THAT IT DID NOT ACCEPT
+
+one-all : (P : ℕ → Type 0) (b : Bool) (k : ℕ) → P k → All P (if b then k ∷ [] else [])
+one-all P true k h = All-cons P k [] h (All-nil P)
+one-all P false k h = All-nil P
+
+at_positions-all : (P : ℕ → Type 0) (test : ℕ → Bool) (at : ℕ) (ks : List ℕ) → All P ks → All P (at_positions test at ks)
+at_positions-all P test at [] all = All-nil P
+at_positions-all P test at (k ∷ ks) all =
+    All-append P (if test at then k ∷ [] else []) (at_positions test (at + 1) ks) (one-all P (test at) k (All-head P k ks all)) (at_positions-all P test (at + 1) ks (All-tail P k ks all))
+
+kind_outputs-all : (P : ℕ → Type 0) (kind : Kind) (arrays : List Array) (ks : List ℕ) → All P ks → All P (kind_outputs kind arrays ks)
+kind_outputs-all P (Circular r) arrays ks all = at_positions-all P (is_passed r.pre r.post r.preset (map (fires_at r arrays) ks)) 0 ks all
+kind_outputs-all P (Roi r) arrays ks all = all
+kind_outputs-all P (Stats r) arrays ks all = all
+kind_outputs-all P (File r) arrays ks all = all
+kind_outputs-all P Scatter arrays ks all = all
+
+rule_outputs-all : (P : ℕ → Type 0) (rule : Option NodeRule) (arrays : List Array) (ks : List ℕ) → All P ks → All P (rule_outputs rule arrays ks)
+rule_outputs-all P None arrays ks all = all
+rule_outputs-all P (Some n) arrays ks all = kind_outputs-all P n.kind arrays ks all
+
+passed_within-frames : (nodes : List NodeRule) (arrays : List Array) (steps v : ℕ) → All (λ k. k < length arrays) (passed_within nodes arrays steps v)
+passed_within-frames nodes arrays zero v =
+    All-from_get_or (λ k. k < length arrays) (range_with_len 0 (length arrays)) 0
+    (λ i within.
+    let inside : i < length arrays = omega (arith, length-range_with_len 0 (length arrays), within) in
+    omega (arith, get_or-range_with_len 0 (length arrays) i 0 inside, inside))
+passed_within-frames nodes arrays (suc steps) v =
+    rule_outputs-all (λ k. k < length arrays) (rule_at nodes v) arrays (passed_within nodes arrays steps (input_of nodes v)) (passed_within-frames nodes arrays steps (input_of nodes v))
+
+-- what goes out of a node are frames of the stack
+pub passed-frames : (g : Graph) (s : StackValue) (v : ℕ) → All (λ k. k < length s.arrays) (passed g s v)
+passed-frames g s v = passed_within-frames g.nodes s.arrays (length g.nodes) v
+
+-- AND NO MORE OF THEM
+
+one-few : (b : Bool) (k : ℕ) → length (if b then k ∷ [] else []) ≤ 1
+one-few true k = omega arith
+one-few false k = omega arith
+
+at_positions-few : (test : ℕ → Bool) (at : ℕ) (ks : List ℕ) → length (at_positions test at ks) ≤ length ks
+at_positions-few test at [] = omega arith
+at_positions-few test at (k ∷ ks) =
+    omega (arith, length-append (if test at then k ∷ [] else []) (at_positions test (at + 1) ks), one-few (test at) k, at_positions-few test (at + 1) ks)
+
+kind_outputs-few : (kind : Kind) (arrays : List Array) (ks : List ℕ) → length (kind_outputs kind arrays ks) ≤ length ks
+kind_outputs-few (Circular r) arrays ks = at_positions-few (is_passed r.pre r.post r.preset (map (fires_at r arrays) ks)) 0 ks
+kind_outputs-few (Roi r) arrays ks = omega arith
+kind_outputs-few (Stats r) arrays ks = omega arith
+kind_outputs-few (File r) arrays ks = omega arith
+kind_outputs-few Scatter arrays ks = omega arith
+
+rule_outputs-few : (rule : Option NodeRule) (arrays : List Array) (ks : List ℕ) → length (rule_outputs rule arrays ks) ≤ length ks
+rule_outputs-few None arrays ks = omega arith
+rule_outputs-few (Some n) arrays ks = kind_outputs-few n.kind arrays ks
+
+passed_within-few : (nodes : List NodeRule) (arrays : List Array) (steps v : ℕ) → length (passed_within nodes arrays steps v) ≤ length arrays
+passed_within-few nodes arrays zero v = omega (arith, length-range_with_len 0 (length arrays))
+passed_within-few nodes arrays (suc steps) v =
+    omega (arith, rule_outputs-few (rule_at nodes v) arrays (passed_within nodes arrays steps (input_of nodes v)), passed_within-few nodes arrays steps (input_of nodes v))
+
+-- what goes out of a node are at most as many as the stack has
+pub passed-few : (g : Graph) (s : StackValue) (v : ℕ) → length (passed g s v) ≤ length s.arrays
+passed-few g s v = passed_within-few g.nodes s.arrays (length g.nodes) v

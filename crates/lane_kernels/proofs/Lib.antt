@@ -1,0 +1,6 @@
+mod Blocks
+mod BytePairs
+mod Halves
+mod Leasts
+mod Samples
+mod Wraps

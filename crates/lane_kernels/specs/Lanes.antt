@@ -1,0 +1,13 @@
+-- Lanes of 32 bits.
+use Rattle.std.specs.Prelude.{ℤ, pos}
+use Rattle.nd_base.specs.declared.array.SampleType.{SampleType}
+use Rattle.nd_base.specs.declared.array.SampleType.TheVariants.{Int8, UInt8, Int16, UInt16, Int32, UInt32}
+
+-- what a signed lane of 32 bits lacks of a sample
+abbrev pub offset : SampleType → ℤ
+offset Int8 = pos 0
+offset UInt8 = pos 0
+offset Int16 = pos 0
+offset UInt16 = pos 0
+offset Int32 = pos 0
+offset UInt32 = pos 2147483648

@@ -1,0 +1,112 @@
+//! Binned lines.
+
+ghost use Rattle.std.specs.Prelude.{◌≡◌, ℕ, ◌+◌, ◌*◌, ◌/◌, ◌<◌, ◌≤◌, length, pos, ◌+ℤ◌, slice_index_or, map, FitsSigned};
+ghost use Rattle.std.specs.Int.{w64, int_wrap};
+ghost use Rattle.std.specs.List.{range_with_len};
+ghost use Rattle.nd_base.specs.Samples.{width};
+ghost use Rattle.nd_base.specs.declared.array.SampleType.TheVariants.{UInt8};
+ghost use Rattle.lane_kernels.specs.Plain.{run};
+
+use crate::sample::sample_at;
+use nd_base::SampleType;
+use std::simd::prelude::*;
+
+/// The sum of the `bin` samples from a place on.
+#[inline(always)]
+#[tactic(auto, using(crate::proofs::Wraps::wrapping))]
+fn sum_run(kind: SampleType, input: &[u8], bin: usize, place: usize) -> i64
+    requires { place + bin ≤ length input.now / width kind }
+    ensures { result ≡ int_wrap w64 (run kind input.now bin place) }
+{
+    let mut sum = 0i64;
+    for j in 0..bin {
+        sum = sum.wrapping_add(sample_at(kind, input, place + j));
+    }
+    sum
+}
+
+/// Adds `bin` samples to each sum, those from `place` on to the first.
+#[inline(always)]
+#[tactic(auto, using(crate::proofs::Wraps::wrapping))]
+fn add_each(kind: SampleType, input: &[u8], bin: usize, place: usize, sums: &mut [i64])
+    requires { place + length sums.old * bin ≤ length input.now / width kind }
+    ensures { (k : ℕ) → k < length sums.new → slice_index_or sums.new k (pos 0) ≡ int_wrap w64 (slice_index_or sums.old k (pos 0) +ℤ run kind input.now bin (place + k * bin)) }
+{
+    let mut at = place;
+    for sum in sums.iter_mut() {
+        *sum = sum.wrapping_add(sum_run(kind, input, bin, at));
+        at += bin;
+    }
+}
+
+/// How many sums are added to at once.
+const LANES: usize = 8;
+
+/// The sums of each two bytes.
+#[inline(always)]
+fn pair_sums(bytes: u8x16) -> i64x8
+    ensures { result ≡ map (λ k. pos (slice_index_or bytes (k * 2) 0 + slice_index_or bytes (k * 2 + 1) 0)) (range_with_len 0 8) }
+{
+    let first = bytes.swizzle([0, 2, 4, 6, 8, 10, 12, 14]).cast::<u16>();
+    let second = bytes.swizzle([1, 3, 5, 7, 9, 11, 13, 15]).cast::<u16>();
+    (first + second).cast::<i64>()
+}
+
+/// Adds two bytes to each of eight sums, those from `place` on to the first.
+#[inline(always)]
+fn add_lanes(input: &[u8], place: usize, sums: &mut [i64])
+    requires room { place + 16 ≤ length input.now }
+    requires lanes { length sums.old ≡ 8 }
+    requires fit { (k : ℕ) → k < length sums.old → FitsSigned w64 (slice_index_or sums.old k (pos 0)) }
+    ensures { (k : ℕ) → k < length sums.new → slice_index_or sums.new k (pos 0) ≡ int_wrap w64 (slice_index_or sums.old k (pos 0) +ℤ run UInt8 input.now 2 (place + k * 2)) }
+{
+    let more = pair_sums(u8x16::from_slice(&input[place..]));
+    (i64x8::from_slice(sums) + more).copy_to_slice(sums);
+}
+
+/// Adds two bytes to each sum, those from `place` on to the first.
+fn add_byte_pairs(input: &[u8], place: usize, sums: &mut [i64])
+    requires within { place + length sums.old * 2 ≤ length input.now }
+    requires fit { (k : ℕ) → k < length sums.old → FitsSigned w64 (slice_index_or sums.old k (pos 0)) }
+    ensures { (k : ℕ) → k < length sums.new → slice_index_or sums.new k (pos 0) ≡ int_wrap w64 (slice_index_or sums.old k (pos 0) +ℤ run UInt8 input.now 2 (place + k * 2)) }
+{
+    let mut done = 0;
+    while sums.len() - done >= LANES {
+        let end = done + LANES;
+        add_lanes(input, place + done * 2, &mut sums[done..end]);
+        done = end;
+    }
+    add_each(
+        SampleType::UInt8,
+        input,
+        2,
+        place + done * 2,
+        &mut sums[done..],
+    );
+}
+
+/// Adds `bin` samples to each sum. The usual bins have code of their own.
+#[inline(always)]
+pub(crate) fn add_runs(kind: SampleType, line: &[u8], bin: usize, sums: &mut [i64])
+    requires within { length sums.old * bin ≤ length line.now / width kind }
+    ensures { (k : ℕ) → k < length sums.new → slice_index_or sums.new k (pos 0) ≡ int_wrap w64 (slice_index_or sums.old k (pos 0) +ℤ run kind line.now bin (k * bin)) }
+{
+    match bin {
+        1 => add_each(kind, line, 1, 0, sums),
+        2 => add_each(kind, line, 2, 0, sums),
+        4 => add_each(kind, line, 4, 0, sums),
+        _ => add_each(kind, line, bin, 0, sums),
+    }
+}
+
+/// The same of unsigned bytes, two by two in lanes.
+pub(crate) fn add_bytes(line: &[u8], bin: usize, sums: &mut [i64])
+    requires within { length sums.old * bin ≤ length line.now }
+    requires fit { (k : ℕ) → k < length sums.old → FitsSigned w64 (slice_index_or sums.old k (pos 0)) }
+    ensures { (k : ℕ) → k < length sums.new → slice_index_or sums.new k (pos 0) ≡ int_wrap w64 (slice_index_or sums.old k (pos 0) +ℤ run UInt8 line.now bin (k * bin)) }
+{
+    match bin {
+        2 => add_byte_pairs(line, 0, sums),
+        _ => add_runs(SampleType::UInt8, line, bin, sums),
+    }
+}

@@ -1,0 +1,109 @@
+//! Sums, extremes and squares over samples as bytes, the most significant byte first.
+#![tactic(auto)]
+
+ghost use Rattle.std.specs.Prelude.{◌≡◌, ◌≢◌, ℕ, ◌*◌, ◌/◌, ◌%◌, ◌<◌, ◌≤◌, ◌+ℤ◌, pos, length, slice_index_or, FitsSigned};
+ghost use Rattle.std.specs.Int.{w64, int_wrap};
+ghost use Rattle.nd_base.specs.Samples.{width, samples_of};
+ghost use Rattle.nd_base.specs.Shapes.{most_samples};
+ghost use Rattle.lane_kernels.specs.Plain.{total, squares, least, greatest, stored, run};
+
+mod binned;
+mod extremes;
+mod sample;
+mod sums;
+
+use nd_base::SampleType;
+pub use sample::sample_at;
+
+/// The sum of the samples.
+pub fn sum_bytes(kind: SampleType, samples: &[u8]) -> i64
+    requires whole { length samples.now % width kind ≡ 0 }
+    requires few { length samples.now / width kind ≤ most_samples }
+    ensures { result ≡ total (samples_of kind samples.now) }
+{
+    match kind {
+        SampleType::Int8 => sums::sum(SampleType::Int8, samples),
+        SampleType::UInt8 => sums::sum(SampleType::UInt8, samples),
+        SampleType::Int16 => sums::sum(SampleType::Int16, samples),
+        SampleType::UInt16 => sums::sum(SampleType::UInt16, samples),
+        SampleType::Int32 => sums::sum(SampleType::Int32, samples),
+        SampleType::UInt32 => sums::sum(SampleType::UInt32, samples),
+    }
+}
+
+/// The sum of the squares of the samples.
+pub fn squares_bytes(kind: SampleType, samples: &[u8]) -> u128
+    requires whole { length samples.now % width kind ≡ 0 }
+    requires few { length samples.now / width kind ≤ most_samples }
+    ensures { result ≡ squares (samples_of kind samples.now) }
+{
+    match kind {
+        SampleType::Int8 => sums::squares(SampleType::Int8, samples),
+        SampleType::UInt8 => sums::squares(SampleType::UInt8, samples),
+        SampleType::Int16 => sums::squares(SampleType::Int16, samples),
+        SampleType::UInt16 => sums::squares(SampleType::UInt16, samples),
+        SampleType::Int32 => sums::squares(SampleType::Int32, samples),
+        SampleType::UInt32 => sums::squares(SampleType::UInt32, samples),
+    }
+}
+
+/// The least sample; None where there is none.
+pub fn min_bytes(kind: SampleType, samples: &[u8]) -> Option<i64>
+    ensures { result ≡ least (samples_of kind samples.now) }
+{
+    match kind {
+        SampleType::Int8 => extremes::min(SampleType::Int8, samples),
+        SampleType::UInt8 => extremes::min(SampleType::UInt8, samples),
+        SampleType::Int16 => extremes::min(SampleType::Int16, samples),
+        SampleType::UInt16 => extremes::min(SampleType::UInt16, samples),
+        SampleType::Int32 => extremes::min(SampleType::Int32, samples),
+        SampleType::UInt32 => extremes::min(SampleType::UInt32, samples),
+    }
+}
+
+/// The greatest sample; None where there is none.
+pub fn max_bytes(kind: SampleType, samples: &[u8]) -> Option<i64>
+    ensures { result ≡ greatest (samples_of kind samples.now) }
+{
+    match kind {
+        SampleType::Int8 => extremes::max(SampleType::Int8, samples),
+        SampleType::UInt8 => extremes::max(SampleType::UInt8, samples),
+        SampleType::Int16 => extremes::max(SampleType::Int16, samples),
+        SampleType::UInt16 => extremes::max(SampleType::UInt16, samples),
+        SampleType::Int32 => extremes::max(SampleType::Int32, samples),
+        SampleType::UInt32 => extremes::max(SampleType::UInt32, samples),
+    }
+}
+
+/// The place of the first sample with this value, and the number of samples where none has it.
+pub fn first_place(kind: SampleType, samples: &[u8], value: i64) -> usize
+    ensures within { result ≤ length samples.now / width kind }
+    ensures here { result < length samples.now / width kind → stored kind samples.now result ≡ value }
+    ensures first { (k : ℕ) → k < result → stored kind samples.now k ≢ value }
+{
+    match kind {
+        SampleType::Int8 => extremes::first_place(SampleType::Int8, samples, value),
+        SampleType::UInt8 => extremes::first_place(SampleType::UInt8, samples, value),
+        SampleType::Int16 => extremes::first_place(SampleType::Int16, samples, value),
+        SampleType::UInt16 => extremes::first_place(SampleType::UInt16, samples, value),
+        SampleType::Int32 => extremes::first_place(SampleType::Int32, samples, value),
+        SampleType::UInt32 => extremes::first_place(SampleType::UInt32, samples, value),
+    }
+}
+
+/// Adds to number i of `sums` the samples `i * bin` to `i * bin + bin - 1` of the line. A sum that leaves its type wraps.
+pub fn add_binned(kind: SampleType, line: &[u8], bin: u32, sums: &mut [i64])
+    requires within { length sums.old * bin ≤ length line.now / width kind }
+    requires fit { (k : ℕ) → k < length sums.old → FitsSigned w64 (slice_index_or sums.old k (pos 0)) }
+    ensures { (k : ℕ) → k < length sums.new → slice_index_or sums.new k (pos 0) ≡ int_wrap w64 (slice_index_or sums.old k (pos 0) +ℤ run kind line.now bin (k * bin)) }
+{
+    let bin = bin as usize;
+    match kind {
+        SampleType::Int8 => binned::add_runs(SampleType::Int8, line, bin, sums),
+        SampleType::UInt8 => binned::add_bytes(line, bin, sums),
+        SampleType::Int16 => binned::add_runs(SampleType::Int16, line, bin, sums),
+        SampleType::UInt16 => binned::add_runs(SampleType::UInt16, line, bin, sums),
+        SampleType::Int32 => binned::add_runs(SampleType::Int32, line, bin, sums),
+        SampleType::UInt32 => binned::add_runs(SampleType::UInt32, line, bin, sums),
+    }
+}

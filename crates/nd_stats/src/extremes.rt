@@ -1,0 +1,82 @@
+//! The extremes of a piece, block by block.
+
+ghost use Rattle.std.specs.Prelude.{◌≡◌, ◌+◌, ◌/◌, ◌<◌, ◌≤◌, ◌++◌, List, length, take, int_lt, if◌then◌else◌};
+ghost use Rattle.nd_base.specs.Samples.{width, number, samples_of};
+ghost use Rattle.nd_base.specs.Shapes.{most_samples};
+ghost use Rattle.nd_stats.specs.Samples.{placed, least, greatest};
+ghost use Rattle.nd_stats.specs.Running.{AreExtremes};
+
+use crate::sample::part;
+use crate::tally::Extremes;
+use lane_kernels::{first_place, max_bytes, min_bytes, sample_at};
+use nd_base::SampleType;
+
+/// How many samples a block has.
+const BLOCK: usize = 4096;
+
+/// The lesser of a value and the least sample of a block, with its place. The block begins at `place`; its least sample is
+/// looked for only where it is below the value.
+fn lesser(kind: SampleType, block: &[u8], place: u32, value: i64, at: u32) -> (i64, u32)
+    requires some { 0 < length block.now / width kind }
+    requires few { place + length block.now / width kind ≤ most_samples }
+    ensures value { result.0 ≡ (if int_lt (least (placed place (samples_of kind block.now))).value value then (least (placed place (samples_of kind block.now))).value else value) }
+    ensures at { result.1 ≡ (if int_lt (least (placed place (samples_of kind block.now))).value value then (least (placed place (samples_of kind block.now))).place else at) }
+{
+    let Some(min) = min_bytes(kind, block) else {
+        return (value, at);
+    };
+    if min < value {
+        (min, place + first_place(kind, block, min) as u32)
+    } else {
+        (value, at)
+    }
+}
+
+/// The greater of a value and the greatest sample of a block, with its place.
+fn greater(kind: SampleType, block: &[u8], place: u32, value: i64, at: u32) -> (i64, u32)
+    requires some { 0 < length block.now / width kind }
+    requires few { place + length block.now / width kind ≤ most_samples }
+    ensures value { result.0 ≡ (if int_lt value (greatest (placed place (samples_of kind block.now))).value then (greatest (placed place (samples_of kind block.now))).value else value) }
+    ensures at { result.1 ≡ (if int_lt value (greatest (placed place (samples_of kind block.now))).value then (greatest (placed place (samples_of kind block.now))).place else at) }
+{
+    let Some(max) = max_bytes(kind, block) else {
+        return (value, at);
+    };
+    if max > value {
+        (max, place + first_place(kind, block, max) as u32)
+    } else {
+        (value, at)
+    }
+}
+
+/// The extremes of a piece that begins at place `from`.
+pub(crate) fn extremes_of(kind: SampleType, from: u32, samples: &[u8]) -> Extremes
+    requires some { 0 < length samples.now / width kind }
+    requires few { from + length samples.now / width kind ≤ most_samples }
+    ensures { AreExtremes record { place = from; value = number kind (take (width kind) samples.now) } (placed from (samples_of kind samples.now)) result }
+{
+    let count = samples.len() / kind.width();
+    let first = sample_at(kind, samples, 0);
+    let mut extremes = Extremes {
+        min: first,
+        min_at: from,
+        max: first,
+        max_at: from,
+    };
+    let mut done = 0;
+    while done < count {
+        let size = (count - done).min(BLOCK);
+        let place = from + done as u32;
+        let block = part(kind, samples, done, size);
+        let (min, min_at) = lesser(kind, block, place, extremes.min, extremes.min_at);
+        let (max, max_at) = greater(kind, block, place, extremes.max, extremes.max_at);
+        extremes = Extremes {
+            min,
+            min_at,
+            max,
+            max_at,
+        };
+        done += size;
+    }
+    extremes
+}

@@ -1,0 +1,137 @@
+//! The samples of a line that reach the threshold.
+
+ghost use Rattle.std.specs.Prelude.{◌≡◌, ◌+◌, ◌*◌, ◌/◌, ◌<◌, ◌≤◌, ◌^◌, ◌*ℤ◌, ◌+ℤ◌, length, pos, int_lt, not, unsigned_abs};
+ghost use Rattle.nd_base.specs.Samples.{width, samples_of, IsSmall};
+ghost use Rattle.nd_stats.specs.Samples.{placed};
+ghost use Rattle.nd_stats.specs.Tallies.{counted};
+ghost use Rattle.nd_stats.specs.Over.{IsOver};
+
+use crate::sample::part;
+use crate::tally::{counted, reaches};
+use lane_kernels::sample_at;
+use nd_base::SampleType;
+
+/// How many samples reach the threshold, their sum, and the sum of each times its index.
+#[derive(Clone, Copy)]
+pub(crate) struct Over {
+    pub count: u32,
+    pub sum: i64,
+    pub weighted: i64,
+}
+
+/// How many samples a block has, so that its indices are small.
+const BLOCK: usize = 128;
+
+/// A value times its index in a block.
+#[inline(always)]
+fn weighted(index: usize, value: i64) -> i64
+    requires index { index < 128 }
+    requires value { IsSmall value }
+    ensures value { result ≡ pos index *ℤ value }
+    ensures bound { unsigned_abs result ≤ 549755813888 }
+{
+    i64::from(index as u8) * value
+}
+
+/// The numbers of a block.
+#[inline(always)]
+fn block_over(kind: SampleType, threshold: i64, block: &[u8]) -> Over
+    requires { length block.now / width kind ≤ 128 }
+    ensures over { IsOver threshold (placed 0 (samples_of kind block.now)) result }
+    ensures few { result.count ≤ length block.now / width kind }
+    ensures sum { unsigned_abs result.sum ≤ length block.now / width kind * 4294967296 }
+    ensures weighted { unsigned_abs result.weighted ≤ length block.now / width kind * 549755813888 }
+{
+    let mut count = 0u32;
+    let mut sum = 0i64;
+    let mut moment = 0i64;
+    for index in 0..block.len() / kind.width() {
+        let value = sample_at(kind, block, index);
+        let is_over = reaches(value, threshold);
+        let kept = counted(is_over, value);
+        count += u32::from(is_over);
+        sum += kept;
+        moment += weighted(index, kept);
+    }
+    Over {
+        count,
+        sum,
+        weighted: moment,
+    }
+}
+
+/// The weighted sum of samples that lie `by` places further.
+#[inline(always)]
+fn shifted(weighted: i64, by: usize, sum: i64) -> i64
+    requires by { by ≤ 8192 }
+    requires sum { unsigned_abs sum ≤ 2 ^ 39 }
+    requires weighted { unsigned_abs weighted ≤ 2 ^ 46 }
+    ensures value { result ≡ weighted +ℤ (pos by *ℤ sum) }
+    ensures bound { unsigned_abs result ≤ 2 ^ 53 }
+{
+    weighted + i64::from(by as u16) * sum
+}
+
+impl Over {
+    /// Takes up the numbers of the samples behind these, of which there are `done`.
+    #[inline(always)]
+    fn join(&mut self, later: &Over, done: usize)
+        requires done { done ≤ 8192 }
+        requires count { self.old.count ≤ 8192 }
+        requires sum { unsigned_abs self.old.sum ≤ 2 ^ 46 }
+        requires weighted { unsigned_abs self.old.weighted ≤ 2 ^ 60 }
+        requires more { later.now.count ≤ 128 }
+        requires more_sum { unsigned_abs later.now.sum ≤ 2 ^ 39 }
+        requires more_weighted { unsigned_abs later.now.weighted ≤ 2 ^ 46 }
+        ensures count { self.new.count ≡ self.old.count + later.now.count }
+        ensures sum { self.new.sum ≡ self.old.sum +ℤ later.now.sum }
+        ensures weighted { self.new.weighted ≡ self.old.weighted +ℤ (later.now.weighted +ℤ (pos done *ℤ later.now.sum)) }
+    {
+        self.count += later.count;
+        self.sum += later.sum;
+        self.weighted += shifted(later.weighted, done, later.sum);
+    }
+}
+
+/// The numbers of a part of a line.
+#[inline(always)]
+fn part_over(kind: SampleType, threshold: i64, line: &[u8]) -> Over
+    requires { length line.now / width kind ≤ 8192 }
+    ensures over { IsOver threshold (placed 0 (samples_of kind line.now)) result }
+    ensures few { result.count ≤ 8192 }
+    ensures sum { unsigned_abs result.sum ≤ 2 ^ 46 }
+    ensures weighted { unsigned_abs result.weighted ≤ 2 ^ 60 }
+{
+    let count = line.len() / kind.width();
+    let mut over = Over {
+        count: 0,
+        sum: 0,
+        weighted: 0,
+    };
+    let mut done = 0;
+    while done < count {
+        let size = (count - done).min(BLOCK);
+        let block = block_over(kind, threshold, part(kind, line, done, size));
+        over.join(&block, done);
+        done += size;
+    }
+    over
+}
+
+/// The numbers of a part of a line, by code of each sample type.
+pub(crate) fn line_over(kind: SampleType, threshold: i64, line: &[u8]) -> Over
+    requires { length line.now / width kind ≤ 8192 }
+    ensures over { IsOver threshold (placed 0 (samples_of kind line.now)) result }
+    ensures few { result.count ≤ 8192 }
+    ensures sum { unsigned_abs result.sum ≤ 2 ^ 46 }
+    ensures weighted { unsigned_abs result.weighted ≤ 2 ^ 60 }
+{
+    match kind {
+        SampleType::Int8 => part_over(SampleType::Int8, threshold, line),
+        SampleType::UInt8 => part_over(SampleType::UInt8, threshold, line),
+        SampleType::Int16 => part_over(SampleType::Int16, threshold, line),
+        SampleType::UInt16 => part_over(SampleType::UInt16, threshold, line),
+        SampleType::Int32 => part_over(SampleType::Int32, threshold, line),
+        SampleType::UInt32 => part_over(SampleType::UInt32, threshold, line),
+    }
+}
