@@ -1,0 +1,14 @@
+pub mod Drops
+pub mod Results
+pub mod DropLaws
+pub mod CauseLaws
+pub mod OneThreadLaws
+pub mod OrderLaws
+pub mod BufferLaws
+pub mod FeedLaws
+pub mod PlainLaws
+pub mod WorkedOutputs
+pub mod WorkedDrops
+pub mod WorkedOrder
+pub mod WorkedFeeds
+pub mod WorkedGraphs
