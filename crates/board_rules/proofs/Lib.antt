@@ -1,0 +1,12 @@
+pub mod WorkedRun
+pub mod WorkedStorage
+pub mod Moved
+pub mod Makers
+pub mod Legal
+pub mod Own
+pub mod Storage
+pub mod Only
+pub mod Moves
+pub mod Callers
+pub mod Answered
+pub mod OneLog

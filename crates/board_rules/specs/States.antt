@@ -1,0 +1,65 @@
+-- What a board is seen as: one list, which tells its log and no more of its state than what was handed out and what came back.
+use Rattle.std.specs.Prelude.{ℕ, ◌==◌, Bool, false, List, [], ◌∷◌, Option, Some, None, if◌then◌else◌}
+use Rattle.nd_base.specs.Parts.{Parts}
+use Rattle.nd_base.specs.declared.frame.FrameName.{FrameName}
+use Rattle.flow_journal.specs.declared.entry.Entry.{Entry}
+use Rattle.flow_journal.specs.declared.entry.Entry.TheVariants.{Load, LoadRefused, Issue, Take, TakeBlock, PoolDrop, Put, Settle, Save, Saved, Close, Leave, Reclaim}
+use Rattle.board_rules.specs.declared.told.Told.{Told}
+use Rattle.flow_journal.specs.Pasts.{Past}
+use Rattle.flow_journal.specs.Hands.{takes_up}
+
+-- the entries, THE NEWEST FIRST
+abbrev pub BoardState : Type 0
+BoardState = List Told
+
+-- the log alone
+abbrev pub past : BoardState → Past
+past [] = []
+past (t ∷ b) = t.entry ∷ past b
+
+-- an entry with nothing beside it
+abbrev pub plain : Entry → Told
+plain e = record { entry = e; lent = None; lost = [] }
+
+-- an entry that makes a hand, with the part that was handed out
+abbrev pub lends : Entry → Option Parts → Told
+lends e parts = record { entry = e; lent = parts; lost = [] }
+
+-- a Reclaim, with the blocks of which something stayed away
+abbrev pub loses : ℕ → List ℕ → Told
+loses r blocks = record { entry = Reclaim r; lent = None; lost = blocks }
+
+-- the part that the role has of the array in its hand: what was told beside the newest entry that gave it a hand
+abbrev pub lent_to : ℕ → BoardState → Option Parts
+lent_to r [] = None
+lent_to r (t ∷ b) = if takes_up r t.entry then t.lent else lent_to r b
+
+-- the role whose move the entry begins; an entry that only follows begins none
+abbrev pub begins : Entry → Option ℕ
+begins (Load r k b n f g x) = Some r
+begins (LoadRefused r k n h) = Some r
+begins (Issue r k) = Some r
+begins (Take r v m k) = Some r
+begins (TakeBlock f x r v m k b n g) = Some r
+begins (PoolDrop r v m k n h) = Some r
+begins (Put r v m k f) = Some r
+begins (Settle r v) = Some r
+begins (Save r v m k g) = Some r
+begins (Saved r v m k) = Some r
+begins (Close r) = Some r
+begins (Leave r) = Some r
+begins (Reclaim r) = Some r
+begins _ = None
+
+-- a take at a maker, with the block that was granted
+abbrev pub take_block : (r v : ℕ) → FrameName → (b n : ℕ) → (f : Bool) → (g : ℕ) → (x : Bool) → Entry
+take_block r v a b n f g x = TakeBlock f x r v a.maker a.index b n g
+
+abbrev pub is_role_of : ℕ → Option ℕ → Bool
+is_role_of r (Some q) = q == r
+is_role_of r None = false
+
+-- what a role knows by itself: the entries that begin its own moves, with what was told beside them
+abbrev pub own : ℕ → BoardState → BoardState
+own r [] = []
+own r (t ∷ b) = if is_role_of r (begins t.entry) then t ∷ own r b else own r b

@@ -1,0 +1,4 @@
+pub mod Leaving
+pub mod Playing
+pub mod Reversed
+pub mod Additions

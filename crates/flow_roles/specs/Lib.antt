@@ -1,0 +1,4 @@
+pub mod Lasts
+pub mod Passes
+pub mod Operations
+pub mod Leaving

@@ -1,0 +1,19 @@
+//! The roles of a run, and the desk at which they make their calls.
+//!
+//! A desk is a board that roles share: each call of theirs is one call of the board, at one place of the one log. A role
+//! knows of the board what its pass knows: a front of the log, and the moves that it made itself.
+#![tactic(auto)]
+
+mod desk;
+mod last;
+mod left_desk;
+mod operation;
+mod played;
+mod plays;
+
+pub use desk::Desk;
+pub use last::{Last, after_close, after_issue, after_load, after_progress, after_take};
+pub use left_desk::{LeftDesk, LeftPass, Stage};
+pub use operation::{DeskOp, DeskReply};
+pub use played::Played;
+pub use plays::{operations_are_moves, play};

@@ -1,0 +1,34 @@
+//! The calls of a desk, as values.
+
+use board_rules::{Done, Load, NotYours, Progress, Save, Settled, Take};
+use nd_base::Held;
+
+/// A call of a desk. Each tells the role that makes it.
+#[derive(Drop)]
+pub enum DeskOp<F> {
+    Load { role: u32, tick: u64 },
+    Issue { role: u32, frame: F },
+    Take { role: u32, node: u32 },
+    Put { role: u32, done: Done<F> },
+    Settle { role: u32, node: u32 },
+    Close { role: u32 },
+    Leave { role: u32 },
+    Save { role: u32, node: u32 },
+    Saved { role: u32, frame: F },
+    Progress { role: u32 },
+}
+
+/// What the board answered to the call of this name.
+#[derive(Drop)]
+pub enum DeskReply<F: Held> {
+    Load(Load<F::Blank>),
+    Issue(Result<(), NotYours<F>>),
+    Take(Take<F>),
+    Put(Result<(), NotYours<F>>),
+    Settle(Settled),
+    Close(Settled),
+    Leave,
+    Save(Save<F>),
+    Saved(Result<(), NotYours<F>>),
+    Progress(Progress),
+}
