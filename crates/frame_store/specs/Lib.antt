@@ -1,0 +1,4 @@
+pub mod Content
+pub mod Sealed
+pub mod Lending
+pub mod WorkedRun

@@ -1,0 +1,4 @@
+pub mod Names
+pub mod Fields
+pub mod Shares
+pub mod Steps
