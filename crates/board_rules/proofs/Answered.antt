@@ -38,7 +38,7 @@ use Rattle.board_rules.specs.Feeding.{load_refusal, LoadAnswers, IssueGives, wai
 use Rattle.board_rules.specs.Working.{take_refusal, asked, TakeAnswers, PutGives, waits_to_settle, SettleGives}
 use Rattle.board_rules.specs.Saving.{save_refusal, place_of, group_size, SaveAnswers, SavedGives}
 use Rattle.board_rules.specs.Leaving.{reclaim_refusal, ReclaimGives}
-use Rattle.board_rules.specs.Ends.{progress_of}
+use Rattle.flow_journal.specs.Notes.{progress_of}
 use Rattle.board_rules.specs.AnswerLaws.{AnswersExist}
 use Rattle.board_rules.proofs.Legal.{may_take, may_save}
 

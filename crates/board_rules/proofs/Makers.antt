@@ -38,14 +38,14 @@ block-suits s P r v m k b n f g x (d ∷ ds) h = absurd (false≢true h)
 
 pub hands-suit : (s : Setting) (P : Past) → is_legal s P ≡ true → list_all (suits s) (hands P) ≡ true
 hands-suit s [] h = refl
-hands-suit s (Load r k b n f g x ∷ P) h = hands-suit s P (and_parts (is_legal s P) _ h).0
+hands-suit s (Load r k b n f g x ∷ P) h = suits-kept s r (hands P) (hands-suit s P (and_parts (is_legal s P) _ h).0)
 hands-suit s (Take r v m k ∷ P) h =
     let p = and_parts (is_legal s P) (next s P (Take r v m k) (owed s P)) h in
-    and_from _ _ (take-suits s P r v m k (owed s P) p.1) (hands-suit s P p.0)
+    and_from _ _ (take-suits s P r v m k (owed s P) p.1) (suits-kept s r (hands P) (hands-suit s P p.0))
 hands-suit s (TakeBlock f x r v m k b n g ∷ P) h =
     let p = and_parts (is_legal s P) (next s P (TakeBlock f x r v m k b n g) (owed s P)) h in
-    and_from _ _ (block-suits s P r v m k b n f g x (owed s P) p.1) (hands-suit s P p.0)
-hands-suit s (Save r v m k g ∷ P) h = hands-suit s P (and_parts (is_legal s P) _ h).0
+    and_from _ _ (block-suits s P r v m k b n f g x (owed s P) p.1) (suits-kept s r (hands P) (hands-suit s P p.0))
+hands-suit s (Save r v m k g ∷ P) h = suits-kept s r (hands P) (hands-suit s P (and_parts (is_legal s P) _ h).0)
 hands-suit s (Issue r k ∷ P) h = suits-kept s r (hands P) (hands-suit s P (and_parts (is_legal s P) _ h).0)
 hands-suit s (Put r v m k f ∷ P) h = suits-kept s r (hands P) (hands-suit s P (and_parts (is_legal s P) _ h).0)
 hands-suit s (Saved r v m k ∷ P) h = suits-kept s r (hands P) (hands-suit s P (and_parts (is_legal s P) _ h).0)

@@ -6,7 +6,8 @@ use Rattle.nd_base.specs.declared.frame.FrameName.{FrameName}
 use Rattle.flow_journal.specs.declared.entry.Entry.{Entry}
 use Rattle.flow_journal.specs.declared.entry.Entry.TheVariants.{Load, LoadRefused, Tick, Issue, Emit, Accept, Full, Take, TakeBlock, PoolDrop, Put, SortDrop, Settle, Save, Saved, Close, Leave, Reclaim}
 use Rattle.flow_journal.specs.declared.entry.Why.TheVariants.{Plain, Flush, Ring}
-use Rattle.flow_journal.specs.Setting.{Setting, Work, Makes, Passes, Watches, Saves, node, is_sorted, children, node_numbers, id_at}
+use Rattle.flow_journal.specs.Setting.{Setting, Work, Makes, Passes, Watches, Saves, node, is_sorted, node_numbers, id_at}
+use Rattle.flow_journal.specs.Turns.{offered_to}
 use Rattle.flow_journal.specs.Pasts.{Past, frame}
 use Rattle.flow_journal.specs.Queued.{has_room}
 use Rattle.flow_journal.specs.Ended.{now}
@@ -130,7 +131,7 @@ fit-first s P (Load r k b n f g x) = refl
 fit-first s P (LoadRefused r k n h) = refl
 fit-first s P (Tick t) = fit-tick s 3 refl refl t P
 fit-first s P (Issue r k) = refl
-fit-first s P (Emit v m k why) = fit-map 3 (offer (frame m k)) (children s v) (λ x. refl)
+fit-first s P (Emit v m k why) = fit-map 3 (offer (frame m k)) (offered_to s P v) (λ x. refl)
 fit-first s P (Accept v m k) = refl
 fit-first s P (Full v m k) = refl
 fit-first s P (Take r v m k) = refl
@@ -149,7 +150,7 @@ fit-first s P (Reclaim r) = refl
 pub fit-next : (s : Setting) (tick n : ℕ) (P : Past) (d : Entry) → fits (suc n) d ≡ true → all_fit n (calls_for s P (made_of s tick P d)) ≡ true
 fit-next s tick n P (Tick t) h =
     fit-tick s n (room-two n h) (room-below n h) (max t tick) P
-fit-next s tick n P (Emit v m k why) h = fit-map n (offer (frame m k)) (children s v) (λ x. room-one n h)
+fit-next s tick n P (Emit v m k why) h = fit-map n (offer (frame m k)) (offered_to s P v) (λ x. room-one n h)
 fit-next s tick n P (Accept v m k) h =
     elim (cases_Bool (has_room s P v)) [
       | inl room ↦ rw room refl

@@ -6,7 +6,8 @@ use Rattle.flow_journal.specs.declared.entry.Entry.{Entry}
 use Rattle.flow_journal.specs.declared.entry.Entry.TheVariants.{Load, LoadRefused, Tick, Issue, Emit, Accept, Full, Take, TakeBlock, PoolDrop, Put, SortDrop, Settle, Save, Saved, Close, Leave, Reclaim}
 use Rattle.flow_journal.specs.declared.entry.Why.{Why}
 use Rattle.flow_journal.specs.declared.entry.Why.TheVariants.{Plain, Step, Late, Flush, Ring, Now}
-use Rattle.flow_journal.specs.Setting.{Setting, node, children}
+use Rattle.flow_journal.specs.Setting.{Setting, node}
+use Rattle.flow_journal.specs.Turns.{offered_to}
 use Rattle.flow_journal.specs.Pasts.{Past, frame}
 use Rattle.flow_journal.specs.Queued.{has_room}
 use Rattle.flow_journal.specs.Ended.{now}
@@ -128,7 +129,7 @@ shallow-map f xs h = shallow (map f xs) (fit-map 2 f xs h)
 -- nor does what is made of others call for any
 ticks-next : (s : Setting) (tick n : ℕ) (P : Past) (d : Entry) → fits n d ≡ true → is_tick d ≡ false → no_ticks (calls_for s P (made_of s tick P d)) ≡ true
 ticks-next s tick n P (Tick t) f no_ = absurd (true≢false no_)
-ticks-next s tick n P (Emit v m k why) f no_ = shallow-map (offer (frame m k)) (children s v) (λ x. refl)
+ticks-next s tick n P (Emit v m k why) f no_ = shallow-map (offer (frame m k)) (offered_to s P v) (λ x. refl)
 ticks-next s tick n P (Accept v m k) f no_ =
     elim (cases_Bool (has_room s P v)) [
       | inl room ↦ rw room refl

@@ -70,10 +70,10 @@ keeps r d H I e = ap (λ (xs : Past). if takes_up r d then d ∷ xs else xs) e
 
 own-step : (r : ℕ) (d : Entry) (P Q : Past) → is_role_of r (begins d) ≡ true → mine r (hands Q) ≡ mine r (hands P)
     → mine r (hands (d ∷ Q)) ≡ mine r (hands (d ∷ P))
-own-step r (Load q k b n f g x) P Q h e = keeps r (Load q k b n f g x) (hands Q) (hands P) e
-own-step r (Take q v m k) P Q h e = keeps r (Take q v m k) (hands Q) (hands P) e
-own-step r (TakeBlock f x q v m k b n g) P Q h e = keeps r (TakeBlock f x q v m k b n g) (hands Q) (hands P) e
-own-step r (Save q v m k g) P Q h e = keeps r (Save q v m k g) (hands Q) (hands P) e
+own-step r (Load q k b n f g x) P Q h e = keeps r (Load q k b n f g x) (let_go q (hands Q)) (let_go q (hands P)) (ends-own q r P Q h e)
+own-step r (Take q v m k) P Q h e = keeps r (Take q v m k) (let_go q (hands Q)) (let_go q (hands P)) (ends-own q r P Q h e)
+own-step r (TakeBlock f x q v m k b n g) P Q h e = keeps r (TakeBlock f x q v m k b n g) (let_go q (hands Q)) (let_go q (hands P)) (ends-own q r P Q h e)
+own-step r (Save q v m k g) P Q h e = keeps r (Save q v m k g) (let_go q (hands Q)) (let_go q (hands P)) (ends-own q r P Q h e)
 own-step r (Issue q k) P Q h e = ends-own q r P Q h e
 own-step r (Put q v m k f) P Q h e = ends-own q r P Q h e
 own-step r (Saved q v m k) P Q h e = ends-own q r P Q h e
@@ -90,10 +90,10 @@ other-end : (q r : ℕ) (P : Past) → eqb q r ≡ false → mine r (let_go q (h
 other-end q r P h = let-go-other q r (hands P) (λ e. true≢false (sym (eq-eqb q r e) ∙ h))
 
 other-step : (r : ℕ) (d : Entry) (P : Past) → is_role_of r (begins d) ≡ false → mine r (hands (d ∷ P)) ≡ mine r (hands P)
-other-step r (Load q k b n f g x) P h = rw h refl
-other-step r (Take q v m k) P h = rw h refl
-other-step r (TakeBlock f x q v m k b n g) P h = rw h refl
-other-step r (Save q v m k g) P h = rw h refl
+other-step r (Load q k b n f g x) P h = rw h (other-end q r P h)
+other-step r (Take q v m k) P h = rw h (other-end q r P h)
+other-step r (TakeBlock f x q v m k b n g) P h = rw h (other-end q r P h)
+other-step r (Save q v m k g) P h = rw h (other-end q r P h)
 other-step r (Issue q k) P h = other-end q r P h
 other-step r (Put q v m k f) P h = other-end q r P h
 other-step r (Saved q v m k) P h = other-end q r P h

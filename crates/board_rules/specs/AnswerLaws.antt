@@ -10,7 +10,7 @@ use Rattle.board_rules.specs.declared.answers.Done.{Done}
 use Rattle.board_rules.specs.declared.answers.NotYours.{NotYours}
 use Rattle.board_rules.specs.declared.answers.Left.{Left}
 use Rattle.board_rules.specs.declared.answers.NoReclaim.{NoReclaim}
-use Rattle.board_rules.specs.declared.answers.Progress.{Progress}
+use Rattle.flow_journal.specs.declared.progress.Progress.{Progress}
 use Rattle.board_rules.specs.States.{BoardState, past}
 use Rattle.board_rules.specs.InHand.{IsOnePart, TellParts}
 use Rattle.board_rules.specs.Runs.{Frames, Call, Loads, Issues, Takes, Puts, Settles, Saves, Saveds, Closes, Leaves, Reclaims, Asks, Finishes, Gives, wants_memory}

@@ -16,13 +16,13 @@ use Rattle.board_rules.specs.declared.answers.Done.{Done}
 use Rattle.board_rules.specs.declared.answers.NotYours.{NotYours}
 use Rattle.board_rules.specs.declared.answers.Left.{Left}
 use Rattle.board_rules.specs.declared.answers.NoReclaim.{NoReclaim}
-use Rattle.board_rules.specs.declared.answers.Progress.{Progress}
+use Rattle.flow_journal.specs.declared.progress.Progress.{Progress}
 use Rattle.board_rules.specs.States.{BoardState, past}
 use Rattle.board_rules.specs.Feeding.{LoadGives, MayIssue, IssueGives, CloseGives}
 use Rattle.board_rules.specs.Working.{TakeGives, IsAtNode, MayPut, PutGives, SettleGives}
 use Rattle.board_rules.specs.Saving.{SaveGives, MaySaved, SavedGives}
 use Rattle.board_rules.specs.Leaving.{LeaveGives, MayReclaim, ReclaimGives}
-use Rattle.board_rules.specs.Ends.{progress_of}
+use Rattle.flow_journal.specs.Notes.{progress_of}
 
 -- what a run knows of its frames: F is their type, O that of the run, B that of blanks
 pub record Frames (F B : Type 0) : Type 0 where

@@ -10,7 +10,7 @@ use Rattle.board_rules.specs.declared.answers.Settled.TheVariants as settled
 use Rattle.board_rules.specs.States.{BoardState, past, plain, lends}
 use Rattle.board_rules.specs.Moving.{moved}
 use Rattle.board_rules.specs.InHand.{just}
-use Rattle.board_rules.specs.Ends.{progress_of}
+use Rattle.flow_journal.specs.Notes.{progress_of}
 use Rattle.board_rules.specs.Runs.{Frames, Call, Loads, Issues, Takes, Puts, Settles, Saves as SavesOne, Saveds, Closes, Finishes, Runs}
 use Rattle.board_rules.specs.Worked.{Sample, parts_of, whole, part, Bytes, size_of, fed, taken, put, closed, settled as settled_by}
 

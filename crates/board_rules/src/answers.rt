@@ -144,20 +144,3 @@ pub struct NoReclaim<F: Held> {
     pub why: NoWhy,
     pub back: Left<F>,
 }
-
-/// How far a run has come.
-#[derive(Clone, Copy, Debug, PartialEq, Eq)]
-pub struct Progress {
-    /// The entries of the log.
-    pub entries: u32,
-    /// The arrays that came to nodes.
-    pub offered: u64,
-    /// Those that a node dropped.
-    pub dropped: u64,
-    /// The pieces that were saved.
-    pub saved: u64,
-    /// Some role has left.
-    pub left: bool,
-    /// The run is finished.
-    pub done: bool,
-}

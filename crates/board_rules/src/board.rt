@@ -13,10 +13,11 @@ ghost use Rattle.board_rules.specs.Feeding.{LoadGives, HasRoom, MayIssue, IssueG
 ghost use Rattle.board_rules.specs.Working.{TakeGives, LendsJob, IsAtNode, MayPut, PutGives, SettleGives};
 ghost use Rattle.board_rules.specs.Saving.{SaveGives, LendsPiece, MaySaved, SavedGives};
 ghost use Rattle.board_rules.specs.Leaving.{LeaveGives, MayReclaim, ReclaimGives};
-ghost use Rattle.board_rules.specs.Ends.{progress_of, measured};
+ghost use Rattle.board_rules.specs.Ends.{measured};
+ghost use Rattle.flow_journal.specs.Notes.{progress_of};
 
-use crate::{Done, Left, Load, Measures, NoReclaim, NotYours, Progress, Save, Settled, Take};
-use flow_journal::Log;
+use crate::{Done, Left, Load, Measures, NoReclaim, NotYours, Save, Settled, Take};
+use flow_journal::{Log, Progress};
 use nd_base::{Held, OutOfMemory, Plan};
 use std::alloc::Global;
 

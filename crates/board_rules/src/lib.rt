@@ -9,9 +9,7 @@ mod laws;
 mod measures;
 mod told;
 
-pub use answers::{
-    Done, HandName, Left, Load, NoReclaim, NoWhy, NotYours, Progress, Save, Settled, Take,
-};
+pub use answers::{Done, HandName, Left, Load, NoReclaim, NoWhy, NotYours, Save, Settled, Take};
 pub use board::BoardCalls;
 pub use laws::{calls_add_moves, calls_have_answers, calls_keep_histories, own_entries_tell_hands};
 pub use measures::Measures;

@@ -3,6 +3,7 @@ use Rattle.std.proofs.Common.{◌≡◌, ℕ, suc, ◌+◌, ◌-◌, ◌<◌, �
 use Rattle.std.specs.Prelude.{filter, drop}
 use Rattle.std.proofs.lemmas.Bool.{and_parts, eq-eqb, lt-ltb, le-ltb}
 use Rattle.nd_base.specs.declared.frame.FrameName.{FrameName}
+use Rattle.flow_journal.proofs.Hands.{takes-alone}
 use Rattle.flow_journal.specs.declared.entry.Entry.{Entry}
 use Rattle.flow_journal.specs.declared.entry.Entry.TheVariants as entry
 use Rattle.flow_journal.specs.declared.entry.Why.TheVariants.{Plain}
@@ -50,17 +51,19 @@ load_replays {B} rules s f r t P Q U K are h role none =
     let e : Entry = entry.Load r f.offered 0 0 false 0 false in
     let unloaded : length (filter is_loaded (hands P)) ≡ 0 = (test_laws.loaded P).0 m.unloaded in
     let empty : bit f.loaded ≡ 0 = sym h.loads ∙ unloaded in
+    let loaded_one : is_history s (entry.Tick (max f.tick t) ∷ e ∷ P) ≡ true = subst (λ (R : Past). is_history s R ≡ true) (sym (loaded_as s f r t P Q U K h)) (load-legal {B = B} rules s r t P are h.history role none) in
+    let same = takes-alone s r e P (eq-eqb r r refl) (and_parts (is_legal s (e ∷ P)) _ (legal_of s (entry.Tick (max f.tick t) ∷ e ∷ P) loaded_one)).0 in
     record {
-      history = subst (λ (R : Past). is_history s R ≡ true) (sym (loaded_as s f r t P Q U K h)) (load-legal {B = B} rules s r t P are h.history role none);
+      history = loaded_one;
       nobody_left = h.nobody_left;
       queues = h.queues;
       unsaves = h.unsaves;
       keeps = kept-same (set K r (Loaded f.offered)) (e ∷ P) (entry.Tick (max f.tick t)) (λ q. refl) (λ q. refl) (kept-up K P r e (Loaded f.offered) (λ q. refl) (λ q. refl) refl h.keeps);
       offers = rw (add-one, h.offers) refl;
-      loads = ap suc unloaded;
-      works = h.works;
-      pieces = h.pieces;
-      all_hands = let a = h.all_hands in omega (arith, a, empty);
+      loads = ap (λ (hs : Past). length (filter is_loaded (e ∷ hs))) same ∙ ap suc unloaded;
+      works = ap (λ (hs : Past). length (filter (is_job 1) hs)) same ∙ h.works;
+      pieces = ap (λ (hs : Past). length (filter (is_piece 1) hs)) same ∙ h.pieces;
+      all_hands = let a = h.all_hands in omega (arith, a, empty, ap (λ (hs : Past). length (filter each hs)) same);
       puts_are = h.puts_are;
       saves_are = h.saves_are;
       now_is = refl;
@@ -209,17 +212,19 @@ take_one : {F O B : Type 0} (rules : Rules) (s : Setting) (f : Facts) (r : ℕ) 
 take_one {F} {O} {B} rules s f r a P Q U K are h role here none =
     let e : Entry = entry.Take r 1 a.maker a.index in
     let next : is_next a (queued 1 P) ≡ true = rw h.queues (same_refl a) in
+    let taken_one : is_history s (e ∷ P) ≡ true = take-legal {F = F} {O = O} {B = B} rules s r 1 a P are h.history role here none next in
+    let same = takes-alone s r e P (eq-eqb r r refl) (legal_of s (e ∷ P) taken_one) in
     record {
-      history = take-legal {F = F} {O = O} {B = B} rules s r 1 a P are h.history role here none next;
+      history = taken_one;
       nobody_left = h.nobody_left;
       queues = ap (without a) h.queues ∙ without-head a Q;
       unsaves = h.unsaves;
       keeps = kept-up K P r e (Job 1 a) (λ q. refl) (λ q. refl) (refl, refl, refl) h.keeps;
       offers = h.offers;
-      loads = h.loads;
-      works = let b = h.works in omega (arith, b);
-      pieces = h.pieces;
-      all_hands = let b = h.all_hands in omega (arith, b);
+      loads = ap (λ (hs : Past). length (filter is_loaded hs)) same ∙ h.loads;
+      works = let b = h.works in omega (arith, b, ap (λ (hs : Past). length (filter (is_job 1) hs)) same);
+      pieces = ap (λ (hs : Past). length (filter (is_piece 1) hs)) same ∙ h.pieces;
+      all_hands = let b = h.all_hands in omega (arith, b, ap (λ (hs : Past). length (filter each hs)) same);
       puts_are = h.puts_are;
       saves_are = h.saves_are;
       now_is = h.now_is;
@@ -297,17 +302,19 @@ save_one {F} rules s f r a g P Q U K are h role here none group =
     let row : first s P e ≡ true = save-row {F = F} rules s r 1 a g P are role here none next group in
     let alone : length (filter (is_piece 1) (hands P)) ≡ 0 = (test_laws.pieces 1 P).0 m.alone in
     let empty : bit f.saving ≡ 0 = sym h.pieces ∙ alone in
+    let saved_one : is_history s (e ∷ P) ≡ true = save-legal {F = F} rules s r 1 a g P are h.history role here none next group in
+    let same = takes-alone s r e P (eq-eqb r r refl) (legal_of s (e ∷ P) saved_one) in
     record {
-      history = save-legal {F = F} rules s r 1 a g P are h.history role here none next group;
+      history = saved_one;
       nobody_left = h.nobody_left;
       queues = h.queues;
       unsaves = tail_is a _ _ (sym (save_laws.save s r 1 a.maker a.index g P (legal_of s P h.history) row) ∙ h.unsaves);
       keeps = kept-up K P r e (Piece 1 a) (λ q. refl) (λ q. refl) (refl, refl, refl) h.keeps;
       offers = h.offers;
-      loads = h.loads;
-      works = h.works;
-      pieces = ap suc alone;
-      all_hands = let b = h.all_hands in omega (arith, b, empty);
+      loads = ap (λ (hs : Past). length (filter is_loaded hs)) same ∙ h.loads;
+      works = ap (λ (hs : Past). length (filter (is_job 1) hs)) same ∙ h.works;
+      pieces = ap (λ (hs : Past). length (filter (is_piece 1) (e ∷ hs))) same ∙ ap suc alone;
+      all_hands = let b = h.all_hands in omega (arith, b, empty, ap (λ (hs : Past). length (filter each hs)) same);
       puts_are = h.puts_are;
       saves_are = let b = h.saves_are in let c = save_laws.saved r 1 a.maker a.index g P in ap length c ∙ (length-append (standing_saves 1 P) (a ∷ []) ∙ omega (arith, b));
       now_is = h.now_is;

@@ -2,7 +2,7 @@
 use Rattle.std.proofs.Common.{◌≡◌, ℕ, ◌+◌, ◌≤◌, Bool, true, false, cond, eqb, List, [], ◌∷◌, ◌++◌, length, map, refl, sym, ap, ◌∙◌, subst, arith, Some}
 use Rattle.std.specs.Prelude.{flat_map}
 use Rattle.std.specs.List.{list_any, find}
-use Rattle.std.proofs.lemmas.Bool.{and_parts, eqb-true, true≢false, false≢true}
+use Rattle.std.proofs.lemmas.Bool.{and_parts, eqb-true, true≢false, false≢true, eq-eqb}
 use Rattle.nd_base.specs.declared.frame.FrameName.{FrameName}
 use Rattle.flow_journal.specs.declared.entry.Entry.{Entry}
 use Rattle.flow_journal.specs.declared.entry.Entry.TheVariants.{Load, LoadRefused, Tick, Issue, Emit, Accept, Full, Take, TakeBlock, PoolDrop, Put, SortDrop, Settle, Save, Saved, Close, Leave, Reclaim}
@@ -19,12 +19,12 @@ use Rattle.flow_journal.proofs.Steps.{same_refl}
 use Rattle.flow_journal.proofs.EntryCounts.{bit, count-cons, count-append}
 use Rattle.flow_journal.proofs.Found.{found_up}
 use Rattle.flow_journal.proofs.Counts.{hand-standing}
-use Rattle.flow_journal.proofs.Hands.{takes_up-one, flat-let_go}
+use Rattle.flow_journal.proofs.Hands.{takes_up-one, flat-let_go, stood, takes-alone}
 use Rattle.flow_journal.proofs.Offers.{is_number}
 use Rattle.flow_journal.proofs.FrameBlocks.{Stands, has, or-false, load-block, take-block}
 use Rattle.flow_journal.proofs.Making.{unloaded-nowhere, reclaimed-nowhere, untaken-nowhere, untaken-again}
 use Rattle.flow_journal.proofs.Places.{map-count}
-use Rattle.flow_journal.proofs.Totals.{held_by, total, hand-count, blocks-count, refs-total, tests-same}
+use Rattle.flow_journal.proofs.Totals.{held_by, total, hand-count, blocks-count, refs-total, tests-same, sum_of}
 use Rattle.flow_journal.proofs.TotalChanges.{kept_count, total-accept, total-take, total-take_block, total-pool_drop, total-issue, total-saved, total-emit, total-emit_unsorted, total-sort_drop, total-settle, total-save, total-put, made_in, total-reclaim}
 
 -- BLOCKS OF FRAMES
@@ -45,7 +45,7 @@ none_granted (TakeBlock f x r v m k b n g) a h = absurd (true≢false h)
 none_granted _ a h = refl
 
 block-reclaimed : (s : Setting) (r : ℕ) (e : Entry) (P : Past) (a : FrameName) → is_legal s P ≡ true → hand r P ≡ Some e → granted_for a e ≡ [] → block_of (Reclaim r ∷ P) a ≡ block_of P a
-block-reclaimed s r e P a legal held none = ap first_of (flat-let_go (granted_for a) r e (standing P) (hand-standing s P r e legal held) none)
+block-reclaimed s r e P a legal held none = ap (λ (es : List Entry). first_of (flat_map (granted_for a) es)) (stood r e P held) ∙ ap first_of (flat-let_go (granted_for a) r e (standing P) (hand-standing s P r e legal held) none)
 
 -- the newest hand stands
 newest_load : (s : Setting) (r k b n : ℕ) (f : Bool) (g : ℕ) (x : Bool) (P : Past) → is_legal s (Load r k b n f g x ∷ P) ≡ true → block_of (Load r k b n f g x ∷ P) (frame 0 k) ≡ b ∷ []
@@ -113,7 +113,7 @@ load-count s r k c n f g x P b h =
     let u : FrameName → Bool = has (is_number b) (e ∷ P) in
     let made : u (frame 0 k) ≡ list_any (is_number b) (c ∷ []) = ap (list_any (is_number b)) (newest_load s r k c n f g x P h) in
     let others : total u s P ≡ total t s P = tests-same u t (frame 0 k) s P (λ a other. ap (list_any (is_number b)) (block_laws.load_other r k c n f g x P a other)) (unloaded-nowhere s r k c n f g x P h) in
-    let whole : total u s (e ∷ P) ≡ bit (u (frame 0 k)) + total u s P = omega arith in
+    let whole : total u s (e ∷ P) ≡ bit (u (frame 0 k)) + total u s P = omega (arith, ap (sum_of (held_by u)) (takes-alone s r e P (eq-eqb r r refl) h)) in
     omega (arith, refs-total s b (e ∷ P) h, whole, ap bit (made ∙ or-false (eqb c b)), others, before s e P b h, one_among b c)
 
 take_block-count : (s : Setting) (r v m k c n : ℕ) (f : Bool) (g : ℕ) (x : Bool) (P : Past) (b : ℕ) → is_legal s (TakeBlock f x r v m k c n g ∷ P) ≡ true → refs s (TakeBlock f x r v m k c n g ∷ P) b ≡ refs s P b + times_among b (c ∷ [])

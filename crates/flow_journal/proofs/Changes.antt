@@ -1,6 +1,6 @@
 -- What each entry changes.
 use Rattle.std.proofs.Common.{◌≡◌, ◌≢◌, ℕ, ◌+◌, Bool, true, false, not, ◌&&◌, cond, eqb, List, [], ◌∷◌, ◌++◌, refl, sym, ap, ◌∙◌, subst, arith, Option, Some, None}
-use Rattle.std.specs.List.{find}
+use Rattle.std.specs.List.{find, flat_map}
 use Rattle.std.proofs.lemmas.Bool.{and_parts, false≢true, true≢false, eq-eqb, ne_eqb, eqb-true, eqb-false, or_left}
 use Rattle.nd_base.specs.declared.frame.FrameName.{FrameName}
 use Rattle.trig_window.specs.Windows.{kept}
@@ -8,14 +8,14 @@ use Rattle.flow_journal.specs.declared.entry.Entry.{Entry}
 use Rattle.flow_journal.specs.declared.entry.Entry.TheVariants.{Load, LoadRefused, Tick, Issue, Emit, Accept, Full, Take, TakeBlock, PoolDrop, Put, SortDrop, Settle, Save, Saved, Reclaim}
 use Rattle.flow_journal.specs.Setting.{Setting, Watches, node, is_maker, id_at}
 use Rattle.flow_journal.specs.Pasts.{Past, frame}
-use Rattle.flow_journal.specs.Hands.{takes_up, let_go, hands, hand, standing, is_job, job_array}
+use Rattle.flow_journal.specs.Hands.{takes_up, let_go, hands, hand, standing, is_job, job_array, is_free}
 use Rattle.flow_journal.specs.Ended.{now, is_settled}
-use Rattle.flow_journal.specs.Offered.{offered, offered_frames}
+use Rattle.flow_journal.specs.Offered.{offered, offered_frames, loads}
 use Rattle.flow_journal.specs.Queued.{queued}
 use Rattle.flow_journal.specs.Puts.{puts, firings}
 use Rattle.flow_journal.specs.Waiting.{waiting}
 use Rattle.flow_journal.specs.Rings.{ring_of, ring}
-use Rattle.flow_journal.specs.Unsaved.{standing_saves, unsaved}
+use Rattle.flow_journal.specs.Unsaved.{standing_saves, unsaved, is_file}
 use Rattle.queue_sort.specs.Sorting.{keeps_step}
 use Rattle.flow_journal.specs.Breaks.{prev_of, outs, prev, breaks_of, breaks}
 use Rattle.flow_journal.specs.FirstEntries.{first, may_take, pool_grants, pool_refuses}
@@ -27,9 +27,9 @@ use Rattle.flow_journal.proofs.Emissions.{flags-puts, waiting-unsorted}
 use Rattle.flow_journal.proofs.Pieces.{saves-front, unsaved-file, unsaved-Put, unsaved-Put_elsewhere, unsaved-Save, unsaved-Save_elsewhere, unsaved-Reclaim, unsaved-Reclaim_other, piece-file}
 use Rattle.flow_journal.proofs.Counts.{hand-standing}
 use Rattle.flow_journal.proofs.Loads.{loaded-last, offered-Reclaim_other}
-use Rattle.flow_journal.proofs.LastOuts.{outs-let_go, last_out}
+use Rattle.flow_journal.proofs.LastOuts.{outs-let_go, last_out, outs_of, off}
 use Rattle.flow_journal.proofs.Settled.{put-unsettled}
-use Rattle.flow_journal.proofs.Hands.{find-none, find-let_go, free-let_go, hands-Apart}
+use Rattle.flow_journal.proofs.Hands.{find-none, find-let_go, free-let_go, hands-Apart, hands-first, stood}
 use Rattle.flow_journal.proofs.Rows.{taken_front}
 
 queue_others : (v : ℕ) (e : Entry) (P : Past) → moves_queues e ≡ false → queued v (e ∷ P) ≡ queued v P
@@ -69,7 +69,7 @@ hand_up r (Save q v m k g) P h = rw h refl
 hand_up r _ P h = absurd (false≢true h)
 
 dropped : (s : Setting) (r q : ℕ) (P : Past) → is_legal s P ≡ true → eqb q r ≡ true → find (takes_up r) (let_go q (hands P)) ≡ None
-dropped s r q P h same = subst (λ (i : ℕ). find (takes_up r) (let_go i (hands P)) ≡ None) (sym (eqb-true q r same)) (find-none (takes_up r) (let_go r (hands P)) (free-let_go r (hands P) (hands-Apart s P h)))
+dropped s r q P h same = subst (λ (i : ℕ). find (takes_up r) (let_go i (hands P)) ≡ None) (sym (eqb-true q r same)) (find-none (takes_up r) (let_go r (hands P)) (free-let_go r (hands P) (hands-Apart P)))
 
 hand_down : (s : Setting) (r : ℕ) (e : Entry) (P : Past) → is_legal s (e ∷ P) ≡ true → lets_go r e ≡ true → hand r (e ∷ P) ≡ None
 hand_down s r (Issue q k) P h u = dropped s r q P (and_parts _ _ h).0 u
@@ -79,10 +79,10 @@ hand_down s r (Reclaim q) P h u = dropped s r q P (and_parts _ _ h).0 u
 hand_down s r _ P h u = absurd (false≢true u)
 
 hand_others : (r : ℕ) (e : Entry) (P : Past) → takes_up r e ≡ false → lets_go r e ≡ false → hand r (e ∷ P) ≡ hand r P
-hand_others r (Load q k b n f g x) P u l = rw u refl
-hand_others r (Take q v m k) P u l = rw u refl
-hand_others r (TakeBlock f x q v m k b n g) P u l = rw u refl
-hand_others r (Save q v m k g) P u l = rw u refl
+hand_others r (Load q k b n f g x) P u l = rw u (find-let_go q r (hands P) (eqb-false q r u))
+hand_others r (Take q v m k) P u l = rw u (find-let_go q r (hands P) (eqb-false q r u))
+hand_others r (TakeBlock f x q v m k b n g) P u l = rw u (find-let_go q r (hands P) (eqb-false q r u))
+hand_others r (Save q v m k g) P u l = rw u (find-let_go q r (hands P) (eqb-false q r u))
 hand_others r (Issue q k) P u l = find-let_go q r (hands P) (eqb-false q r l)
 hand_others r (Put q v m k f) P u l = find-let_go q r (hands P) (eqb-false q r l)
 hand_others r (Saved q v m k) P u l = find-let_go q r (hands P) (eqb-false q r l)
@@ -112,7 +112,7 @@ offer_laws = record {
   accept_elsewhere = λ v w m k P ne. comes_elsewhere v w (frame m k) (offered v P) ne;
   full_elsewhere = λ v w m k P ne. comes_elsewhere v w (frame m k) (offered v P) ne;
   others = offer_others;
-  reclaim = λ s r q k b n f g x P h held. loaded-last s P r q k b n f g x h held;
+  reclaim = λ s r q k b n f g x P h held. loaded-last s P r q k b n f g x h held ∙ ap (λ (es : List Entry). k ∷ flat_map loads es) (sym (stood r (Load q k b n f g x) P held));
   reclaim_other = offered-Reclaim_other;
   frames_others = frames_others;
 }
@@ -205,13 +205,6 @@ save_laws = record {
   saved_others = saved_others;
 }
 
-hands-up : (r : ℕ) (e : Entry) (P : Past) → takes_up r e ≡ true → hands (e ∷ P) ≡ e ∷ hands P
-hands-up r (Load q k b n f g x) P h = refl
-hands-up r (Take q v m k) P h = refl
-hands-up r (TakeBlock f x q v m k b n g) P h = refl
-hands-up r (Save q v m k g) P h = refl
-hands-up r _ P h = absurd (false≢true h)
-
 hands-down : (r : ℕ) (d : Entry) (P : Past) → lets_go r d ≡ true → hands (d ∷ P) ≡ let_go r (hands P)
 hands-down r (Issue q k) P h = ap (λ (i : ℕ). let_go i (hands P)) (eqb-true q r h)
 hands-down r (Put q v m k f) P h = ap (λ (i : ℕ). let_go i (hands P)) (eqb-true q r h)
@@ -219,8 +212,8 @@ hands-down r (Saved q v m k) P h = ap (λ (i : ℕ). let_go i (hands P)) (eqb-tr
 hands-down r (Reclaim q) P h = ap (λ (i : ℕ). let_go i (hands P)) (eqb-true q r h)
 hands-down r _ P h = absurd (false≢true h)
 
-counts-up : (p : Entry → Bool) (r : ℕ) (e : Entry) (P : Past) → takes_up r e ≡ true → count p (hands (e ∷ P)) ≡ bit (p e) + count p (hands P)
-counts-up p r e P up = ap (count p) (hands-up r e P up) ∙ count-cons p e (hands P)
+counts-up : (p : Entry → Bool) (r : ℕ) (e : Entry) (P : Past) → takes_up r e ≡ true → is_free r P ≡ true → count p (hands (e ∷ P)) ≡ bit (p e) + count p (hands P)
+counts-up p r e P up free = ap (count p) (hands-first r e P up free) ∙ count-cons p e (hands P)
 
 counts-down : (p : Entry → Bool) (r : ℕ) (e d : Entry) (P : Past) → lets_go r d ≡ true → hand r P ≡ Some e → count p (hands P) ≡ bit (p e) + count p (hands (d ∷ P))
 counts-down p r e d P down held = count-let_go p r e (hands P) held ∙ ap (λ (hs : List Entry). bit (p e) + count p hs) (sym (hands-down r d P down))
@@ -238,8 +231,8 @@ hands_others _ P h = refl
 
 pub job_laws : JobLaws
 job_laws = record {
-  up = λ p r e P up passes. omega (arith, counts-up p r e P up, ap bit passes);
-  up_other = λ p r e P up fails. omega (arith, counts-up p r e P up, ap bit fails);
+  up = λ p r e P up free passes. omega (arith, counts-up p r e P up free, ap bit passes);
+  up_other = λ p r e P up free fails. omega (arith, counts-up p r e P up free, ap bit fails);
   down = λ p r e d P down held passes. omega (arith, counts-down p r e d P down held, ap bit passes);
   down_other = λ p r e d P down held fails. omega (arith, counts-down p r e d P down held, ap bit fails);
   others = hands_others;
@@ -259,14 +252,21 @@ out_now : (s : Setting) (v k : ℕ) (ks : List ℕ) (b : Bool) → b ≡ true �
 out_now s v k ks true h = refl
 out_now s v k ks false h = absurd (false≢true h)
 
+-- a piece that is reclaimed went out last
+less_out : (s : Setting) (r q v m k g : ℕ) (P : Past) → is_legal s P ≡ true → hand r P ≡ Some (Save q v m k g) → outs s v P ≡ k ∷ outs s v (Reclaim r ∷ P)
+less_out s r q v m k g P h held =
+    let file : is_file (node s v).work ≡ true = piece-file s r q v m k g P h held in
+    ap (λ (b : Bool). outs_of b v (standing P)) file ∙ (last_out s P r q v m k g h held
+    ∙ (ap (λ (es : List Entry). k ∷ outs_of true v es) (sym (stood r (Save q v m k g) P held)) ∙ ap (λ (b : Bool). k ∷ outs_of b v (standing (Reclaim r ∷ P))) (sym file)))
+
 pub clock_laws : ClockLaws
 clock_laws = record {
-  emit = λ s v m k why P. out_now s v k (outs v P) (eqb v v) (eq-eqb v v refl);
-  save = λ s r v m k g P. out_now s v k (outs v P) (eqb v v) (eq-eqb v v refl);
-  emit_elsewhere = λ s v w m k why P ne. ap (λ (b : Bool). prev_of s (cond b (k ∷ []) [] ++ outs v P)) (ne_eqb w v ne);
-  save_elsewhere = λ s r v w m k g P ne. ap (λ (b : Bool). prev_of s (cond b (k ∷ []) [] ++ outs v P)) (ne_eqb w v ne);
-  reclaim = λ s r q v m k g P h held. last_out s P r q v m k g h held;
-  reclaim_other = λ s r v e P h held none. ap (prev_of s) (outs-let_go v r e (standing P) (hand-standing s P r e h held) none);
+  emit = λ s v m k why P other. out_now s v k (outs s v P) (not (is_file (node s v).work) && eqb v v) (rw other (eq-eqb v v refl));
+  save = λ s r v m k g P file. out_now s v k (outs s v P) (is_file (node s v).work && eqb v v) (rw file (eq-eqb v v refl));
+  emit_elsewhere = λ s v w m k why P ne. ap (λ (b : Bool). prev_of s (cond b (k ∷ []) [] ++ outs s v P)) (off (not (is_file (node s v).work)) (eqb w v) (ne_eqb w v ne));
+  save_elsewhere = λ s r v w m k g P ne. ap (λ (b : Bool). prev_of s (cond b (k ∷ []) [] ++ outs s v P)) (off (is_file (node s v).work) (eqb w v) (ne_eqb w v ne));
+  reclaim = less_out;
+  reclaim_other = λ s r v e P h held none. ap (λ (es : List Entry). prev_of s (outs_of (is_file (node s v).work) v es)) (stood r e P held) ∙ ap (prev_of s) (outs-let_go (is_file (node s v).work) v r e (standing P) (hand-standing s P r e h held) none);
   prev_others = prev_others;
   tick = λ t P. refl;
   now_others = now_others;
@@ -290,12 +290,12 @@ break_others s v _ P h = refl
 pub break_laws : BreakLaws
 break_laws = record {
   none = λ s v. refl;
-  emit = λ s v m k why P. break_now s v k (outs v P) (eqb v v) (eq-eqb v v refl);
-  save = λ s r v m k g P. break_now s v k (outs v P) (eqb v v) (eq-eqb v v refl);
-  emit_elsewhere = λ s v w m k why P ne. ap (λ (b : Bool). breaks_of s (cond b (k ∷ []) [] ++ outs v P)) (ne_eqb w v ne);
-  save_elsewhere = λ s r v w m k g P ne. ap (λ (b : Bool). breaks_of s (cond b (k ∷ []) [] ++ outs v P)) (ne_eqb w v ne);
-  reclaim = λ s r q v m k g P h held. ap (breaks_of s) (last_out s P r q v m k g h held);
-  reclaim_other = λ s r v e P h held none. ap (breaks_of s) (outs-let_go v r e (standing P) (hand-standing s P r e h held) none);
+  emit = λ s v m k why P other. break_now s v k (outs s v P) (not (is_file (node s v).work) && eqb v v) (rw other (eq-eqb v v refl));
+  save = λ s r v m k g P file. break_now s v k (outs s v P) (is_file (node s v).work && eqb v v) (rw file (eq-eqb v v refl));
+  emit_elsewhere = λ s v w m k why P ne. ap (λ (b : Bool). breaks_of s (cond b (k ∷ []) [] ++ outs s v P)) (off (not (is_file (node s v).work)) (eqb w v) (ne_eqb w v ne));
+  save_elsewhere = λ s r v w m k g P ne. ap (λ (b : Bool). breaks_of s (cond b (k ∷ []) [] ++ outs s v P)) (off (is_file (node s v).work) (eqb w v) (ne_eqb w v ne));
+  reclaim = λ s r q v m k g P h held. ap (breaks_of s) (less_out s r q v m k g P h held);
+  reclaim_other = λ s r v e P h held none. ap (λ (es : List Entry). breaks_of s (outs_of (is_file (node s v).work) v es)) (stood r e P held) ∙ ap (breaks_of s) (outs-let_go (is_file (node s v).work) v r e (standing P) (hand-standing s P r e h held) none);
   others = break_others;
 }
 

@@ -2,17 +2,17 @@
 use Rattle.std.proofs.Common.{◌≡◌, ◌≢◌, ℕ, ◌+◌, Bool, true, false, List, [], ◌∷◌, ◌++◌, length, refl, sym, ap, ◌∙◌, subst, eqb, arith, Option, Some, None, inl, inr}
 use Rattle.std.specs.Prelude.{filter, flat_map}
 use Rattle.std.specs.List.{find}
-use Rattle.std.proofs.lemmas.Bool.{and_parts, false≢true, cases_Bool, eqb-true, eqb-false, not-true}
+use Rattle.std.proofs.lemmas.Bool.{and_parts, false≢true, cases_Bool, eqb-true, eqb-false}
 use Rattle.std.proofs.lemmas.List.{length-append, append-nil}
 use Rattle.std.proofs.lemmas.List.Elements.{filter-append}
 use Rattle.nd_base.specs.declared.frame.FrameName.{FrameName}
 use Rattle.flow_journal.specs.declared.entry.Entry.{Entry}
 use Rattle.flow_journal.specs.declared.entry.Entry.TheVariants.{Load, Issue, Accept, Take, TakeBlock, PoolDrop, Put, Save, Saved, Reclaim}
 use Rattle.flow_journal.proofs.Steps.{next_is}
-use Rattle.flow_journal.proofs.Hands.{Apart, hands-Apart, free-let_go, find-none, find-let_go, row_of}
+use Rattle.flow_journal.proofs.Hands.{Apart, hands-Apart, free-let_go, find-none, find-let_go, row_of, stands-less, stood, reclaim-held}
 use Rattle.flow_journal.specs.FirstEntries.{may_take, is_next}
 use Rattle.flow_journal.specs.Following.{owed}
-use Rattle.flow_journal.specs.Hands.{takes_up, let_go, hands, hand, standing, job_array, is_free}
+use Rattle.flow_journal.specs.Hands.{takes_up, let_go, hands, hand, standing, job_array}
 use Rattle.flow_journal.specs.Histories.{next, is_legal}
 use Rattle.flow_journal.specs.Pasts.{Past, frame, same, without, comes_at, goes_at}
 use Rattle.flow_journal.specs.Queued.{queued}
@@ -55,23 +55,26 @@ still_held r q e hs apart h =
       | inr away ↦ let other : q ≢ r = eqb-false q r away in (other, sym (find-let_go q r hs other) ∙ h)
     ]
 
+pub still_other : (r q : ℕ) (e : Entry) (hs : List Entry) → eqb q r ≡ false → find (takes_up r) (let_go q hs) ≡ Some e → find (takes_up r) hs ≡ Some e
+still_other r q e hs away h = sym (find-let_go q r hs (eqb-false q r away)) ∙ h
+
 -- a hand stands until its role lets it go
 pub hand-standing : (s : Setting) (P : Past) (r : ℕ) (e : Entry) → is_legal s P ≡ true → hand r P ≡ Some e → find (takes_up r) (standing P) ≡ Some e
 hand-standing s [] r e l h = cc
 hand-standing s (Load q k b n f g x ∷ P) r e l h =
-    elim (cases_Bool (eqb q r)) [ inl here ↦ rw here (rw here at h) | inr away ↦ rw away (hand-standing s P r e (and_parts _ _ l).0 (rw away at h)) ]
+    elim (cases_Bool (eqb q r)) [ inl here ↦ rw here (rw here at h) | inr away ↦ rw away (hand-standing s P r e (and_parts _ _ l).0 (still_other r q e (hands P) away (rw away at h))) ]
 hand-standing s (Take q v m k ∷ P) r e l h =
-    elim (cases_Bool (eqb q r)) [ inl here ↦ rw here (rw here at h) | inr away ↦ rw away (hand-standing s P r e (and_parts _ _ l).0 (rw away at h)) ]
+    elim (cases_Bool (eqb q r)) [ inl here ↦ rw here (rw here at h) | inr away ↦ rw away (hand-standing s P r e (and_parts _ _ l).0 (still_other r q e (hands P) away (rw away at h))) ]
 hand-standing s (TakeBlock f x q v m k b n g ∷ P) r e l h =
-    elim (cases_Bool (eqb q r)) [ inl here ↦ rw here (rw here at h) | inr away ↦ rw away (hand-standing s P r e (and_parts _ _ l).0 (rw away at h)) ]
+    elim (cases_Bool (eqb q r)) [ inl here ↦ rw here (rw here at h) | inr away ↦ rw away (hand-standing s P r e (and_parts _ _ l).0 (still_other r q e (hands P) away (rw away at h))) ]
 hand-standing s (Save q v m k g ∷ P) r e l h =
-    elim (cases_Bool (eqb q r)) [ inl here ↦ rw here (rw here at h) | inr away ↦ rw away (hand-standing s P r e (and_parts _ _ l).0 (rw away at h)) ]
-hand-standing s (Issue q k ∷ P) r e l h = hand-standing s P r e (and_parts _ _ l).0 (still_held r q e (hands P) (hands-Apart s P (and_parts _ _ l).0) h).1
-hand-standing s (Put q v m k f ∷ P) r e l h = hand-standing s P r e (and_parts _ _ l).0 (still_held r q e (hands P) (hands-Apart s P (and_parts _ _ l).0) h).1
-hand-standing s (Saved q v m k ∷ P) r e l h = hand-standing s P r e (and_parts _ _ l).0 (still_held r q e (hands P) (hands-Apart s P (and_parts _ _ l).0) h).1
+    elim (cases_Bool (eqb q r)) [ inl here ↦ rw here (rw here at h) | inr away ↦ rw away (hand-standing s P r e (and_parts _ _ l).0 (still_other r q e (hands P) away (rw away at h))) ]
+hand-standing s (Issue q k ∷ P) r e l h = hand-standing s P r e (and_parts _ _ l).0 (still_held r q e (hands P) (hands-Apart P) h).1
+hand-standing s (Put q v m k f ∷ P) r e l h = hand-standing s P r e (and_parts _ _ l).0 (still_held r q e (hands P) (hands-Apart P) h).1
+hand-standing s (Saved q v m k ∷ P) r e l h = hand-standing s P r e (and_parts _ _ l).0 (still_held r q e (hands P) (hands-Apart P) h).1
 hand-standing s (Reclaim q ∷ P) r e l h =
-    let still = still_held r q e (hands P) (hands-Apart s P (and_parts _ _ l).0) h in
-    find-let_go q r (standing P) still.0 ∙ hand-standing s P r e (and_parts _ _ l).0 still.1
+    let still = still_held r q e (hands P) (hands-Apart P) h in
+    ap (find (takes_up r)) (stands-less s q P l) ∙ (find-let_go q r (standing P) still.0 ∙ hand-standing s P r e (and_parts _ _ l).0 still.1)
 hand-standing s (_ ∷ P) r e l h = hand-standing s P r e (and_parts _ _ l).0 h
 
 gone-job : (v r : ℕ) (e : Entry) → takes_up r e ≡ true → gone_at v e ≡ job_array v (Some e)
@@ -126,12 +129,12 @@ queued-by s (PoolDrop r w m k n b ∷ P) v t h =
 queued-by s (Reclaim r ∷ P) v t h =
     let legal = (and_parts (is_legal s P) (next s P (Reclaim r) (owed s P)) h).0 in
     let rest = queued-by s P v t legal in
-    let held : is_free r P ≡ false = not-true (is_free r P) (and_parts _ _ (and_parts _ _ (row_of s (Reclaim r) P (λ d. refl) h)).0).0 in
-    let some = some_hand (hand r P) held in
+    let some = some_hand (hand r P) (reclaim-held s r P h) in
     let less = times-let_go t v r some.0 (standing P) (hand-standing s P r some.0 legal some.1) in
     let job = ap (λ (o : Option Entry). times_by t (job_array v o)) some.1 in
     let back = times-append t (job_array v (hand r P)) (queued v P) in
-    omega (arith, rest, less, job, back)
+    let left : times_by t (gone v (Reclaim r ∷ P)) ≡ times_by t (flat_map (gone_at v) (let_go r (standing P))) = ap (λ (es : List Entry). times_by t (flat_map (gone_at v) es)) (stood r some.0 P some.1) in
+    omega (arith, rest, less, job, back, left)
 queued-by s (_ ∷ P) v t h = queued-by s P v t (and_parts _ _ h).0
 
 pub queued-counts : (s : Setting) (P : Past) (v : ℕ) (a : FrameName) → is_legal s P ≡ true → times a (accepts v P) ≡ times a (queued v P) + times a (gone v P)

@@ -1,13 +1,14 @@
 -- A node emits each of its results once at most.
 use Rattle.std.proofs.Common.{◌≡◌, ◌≢◌, ℕ, ◌+◌, ◌≤◌, Bool, true, false, ◌&&◌, cond, eqb, List, [], ◌∷◌, ◌++◌, map, length, drop, refl, sym, ap, ◌∙◌, subst, arith, inl, inr, length-append, ◌⊎◌}
-use Rattle.std.proofs.lemmas.Bool.{and_parts, and_from, false≢true, true≢false, eq-eqb, ne_eqb, eqb-true, cases_Bool}
+use Rattle.std.proofs.lemmas.Bool.{and_parts, and_from, false≢true, true≢false, eq-eqb, ne_eqb, eqb-true, eqb-false, cases_Bool}
 use Rattle.nd_base.specs.declared.frame.FrameName.{FrameName}
 use Rattle.trig_window.specs.Windows.{is_trigger, is_passed, kept}
 use Rattle.flow_journal.specs.declared.entry.Entry.{Entry}
 use Rattle.flow_journal.specs.declared.entry.Entry.TheVariants.{Load, LoadRefused, Tick, Issue, Emit, Put, SortDrop, Settle}
 use Rattle.flow_journal.specs.declared.entry.Why.{Why}
 use Rattle.flow_journal.specs.declared.entry.Why.TheVariants.{Plain, Flush, Ring, Now}
-use Rattle.flow_journal.specs.Setting.{Setting, Work, Makes, Passes, Watches, Saves, may_sort, node, is_sorted, node_numbers, children}
+use Rattle.flow_journal.specs.Setting.{Setting, Work, Makes, Passes, Watches, Saves, may_sort, node, is_sorted, node_numbers}
+use Rattle.flow_journal.specs.Turns.{offered_to}
 use Rattle.flow_journal.specs.Pasts.{Past, frame, same, comes_at}
 use Rattle.flow_journal.specs.Ended.{is_settled, now}
 use Rattle.flow_journal.specs.Puts.{puts, firings}
@@ -16,10 +17,10 @@ use Rattle.flow_journal.specs.Rings.{ring, ring_of}
 use Rattle.flow_journal.specs.Following.{offer, emit, look, sorted_result, result, calls_for, owed}
 use Rattle.flow_journal.specs.Histories.{is_legal}
 use Rattle.flow_journal.proofs.Steps.{same_refl, same-true, comes_here, comes_elsewhere}
-use Rattle.flow_journal.proofs.EntryCounts.{count, bit, count-cons, count-append, count-drop, emits_at, puts_at, owed-first, owed-answered, answers-by_Emit, answers-by_SortDrop, answers-by_Tick}
+use Rattle.flow_journal.proofs.EntryCounts.{count, bit, count-cons, count-append, count-drop, emits_at, puts_at, puts_of, owed-first, owed-answered, answers-by_Emit, answers-by_SortDrop, answers-by_Tick}
 use Rattle.flow_journal.proofs.Outs.{AllOutAt, out_of, is_out_at, of_index, emits-le, none_elsewhere, result-at, flush-at, waits, count-flush, count-sorted_result, count-least_first, goes_out-at}
 use Rattle.flow_journal.proofs.Offers.{once_numbered}
-use Rattle.flow_journal.proofs.Issues.{looks, looks-le, no_emits_in_offers, owed-Emit}
+use Rattle.flow_journal.proofs.Issues.{looks, looks-le}
 use Rattle.flow_journal.proofs.RingCounts.{ring-push, kept-nothing}
 
 -- TICKS STAND ALONE
@@ -33,13 +34,13 @@ out_no_tick v (Emit w m i why) h = refl
 out_no_tick v (SortDrop w m i) h = refl
 out_no_tick v _ h = absurd (false≢true h)
 
-no_ticks : (v : ℕ) (ds : List Entry) → AllOutAt v ds → count is_tick ds ≡ 0
+pub no_ticks : (v : ℕ) (ds : List Entry) → AllOutAt v ds → count is_tick ds ≡ 0
 no_ticks v [] h = refl
 no_ticks v (d ∷ ds) h =
     let p = and_parts (is_out_at v d) _ h in
     omega (arith, count-cons is_tick d ds, ap bit (out_no_tick v d p.0), no_ticks v ds p.1)
 
-no_ticks_in_offers : (a : FrameName) (cs : List ℕ) → count is_tick (map (offer a) cs) ≡ 0
+pub no_ticks_in_offers : (a : FrameName) (cs : List ℕ) → count is_tick (map (offer a) cs) ≡ 0
 no_ticks_in_offers a [] = refl
 no_ticks_in_offers a (c ∷ cs) = no_ticks_in_offers a cs
 
@@ -47,7 +48,7 @@ look_if-ticks : (s : Setting) (P : Past) (u : ℕ) (b : Bool) → count is_tick 
 look_if-ticks s P u true = no_ticks u (look s u P) (goes_out-at s u _ _ _)
 look_if-ticks s P u false = refl
 
-looks-ticks : (s : Setting) (P : Past) (us : List ℕ) → count is_tick (looks s P us) ≡ 0
+pub looks-ticks : (s : Setting) (P : Past) (us : List ℕ) → count is_tick (looks s P us) ≡ 0
 looks-ticks s P [] = refl
 looks-ticks s P (u ∷ us) = omega (arith, count-append is_tick (cond (is_sorted s u) (look s u P) []) (looks s P us), look_if-ticks s P u (is_sorted s u), looks-ticks s P us)
 
@@ -64,7 +65,7 @@ alone-rest (d ∷ e ∷ ds) (inr few) = absurd (omega (arith, few))
 alone-more : (calls ds : List Entry) → count is_tick calls ≡ 0 → TickAlone ds → TickAlone (calls ++ drop 1 ds)
 alone-more calls ds h alone = inl (omega (arith, count-append is_tick calls (drop 1 ds), h, alone-rest ds alone))
 
-tick_alone : (s : Setting) (P : Past) → is_legal s P ≡ true → TickAlone (owed s P)
+pub tick_alone : (s : Setting) (P : Past) → is_legal s P ≡ true → TickAlone (owed s P)
 tick_alone s [] h = inl refl
 tick_alone s (Load r i b n f g x ∷ P) h =
     let none : owed s P ≡ [] = owed-first s (Load r i b n f g x) P (λ d. refl) h in
@@ -74,7 +75,7 @@ tick_alone s (LoadRefused r i n z ∷ P) h =
     inr (omega (arith, ap (λ (ds : List Entry). length (drop 1 ds)) none))
 tick_alone s (Tick t ∷ P) h = alone-more (calls_for s P (Tick t)) (owed s P) (looks-ticks s (Tick t ∷ P) (node_numbers s)) (tick_alone s P (and_parts _ _ h).0)
 tick_alone s (Issue r i ∷ P) h = alone-more (calls_for s P (Issue r i)) (owed s P) refl (tick_alone s P (and_parts _ _ h).0)
-tick_alone s (Emit w m i why ∷ P) h = alone-more (calls_for s P (Emit w m i why)) (owed s P) (no_ticks_in_offers (frame m i) (children s w)) (tick_alone s P (and_parts _ _ h).0)
+tick_alone s (Emit w m i why ∷ P) h = alone-more (calls_for s P (Emit w m i why)) (owed s P) (no_ticks_in_offers (frame m i) (offered_to s P w)) (tick_alone s P (and_parts _ _ h).0)
 tick_alone s (Put r w m i f ∷ P) h = alone-more (calls_for s P (Put r w m i f)) (owed s P) (no_ticks w (calls_for s P (Put r w m i f)) (result-at s w (frame m i) f P (node s w).work)) (tick_alone s P (and_parts _ _ h).0)
 tick_alone s (Settle r w ∷ P) h = alone-more (calls_for s P (Settle r w)) (owed s P) (no_ticks w (calls_for s P (Settle r w)) (flush-at w (least_first s (waiting s w P)))) (tick_alone s P (and_parts _ _ h).0)
 tick_alone s (_ ∷ P) h = inl (alone-rest (owed s P) (tick_alone s P (and_parts _ _ h).0))
@@ -169,17 +170,17 @@ owed-waits s (Put r w m i f ∷ P) v t nz sorted h =
 owed-waits s (Emit w m i why ∷ P) v t nz sorted h =
     let legal : is_legal s P ≡ true = (and_parts _ _ h).0 in
     let was = owed-Emit_out s w m i why P v t h in
-    let whole = count-append (out_of v t) (map (offer (frame m i)) (children s w)) (drop 1 (owed s P)) in
+    let whole = count-append (out_of v t) (map (offer (frame m i)) (offered_to s P w)) (drop 1 (owed s P)) in
     elim (cases_Bool (eqb w v)) [
       | inl here ↦
           let there = owed-Emit_out s w m i why P v (λ x. same x (frame m i)) h in
           let some : 1 ≤ count (waits (λ x. same x (frame m i))) (waiting s v P) = omega (arith, owed-waits s P v (λ x. same x (frame m i)) nz sorted legal, there, ap bit (and_from _ _ here (same_refl (frame m i)))) in
           let hit : (eqb w v && t (frame m i)) ≡ t (frame m i) = ap (λ (x : Bool). x && t (frame m i)) here in
           let goes : waiting s v (Emit w m i why ∷ P) ≡ not_waiting (frame m i) (waiting s v P) = rw here refl in
-          omega (arith, whole, no_outs_in_offers v t (frame m i) (children s w), was, ap bit hit, owed-waits s P v t nz sorted legal, removed (frame m i) t (waiting s v P) some, ap (count (waits t)) goes)
+          omega (arith, whole, no_outs_in_offers v t (frame m i) (offered_to s P w), was, ap bit hit, owed-waits s P v t nz sorted legal, removed (frame m i) t (waiting s v P) some, ap (count (waits t)) goes)
       | inr away ↦
           let stays : waiting s v (Emit w m i why ∷ P) ≡ waiting s v P = rw away refl in
-          omega (arith, whole, no_outs_in_offers v t (frame m i) (children s w), was, owed-waits s P v t nz sorted legal, ap (count (waits t)) stays)
+          omega (arith, whole, no_outs_in_offers v t (frame m i) (offered_to s P w), was, owed-waits s P v t nz sorted legal, ap (count (waits t)) stays)
     ]
 owed-waits s (SortDrop w m i ∷ P) v t nz sorted h =
     let legal : is_legal s P ≡ true = (and_parts _ _ h).0 in
@@ -216,48 +217,67 @@ owed-waits s (Issue r i ∷ P) v t nz sorted h =
     omega (arith, owed-waits s P v t nz sorted (and_parts _ _ h).0, count-cons (out_of v t) (Emit 0 0 i Plain) (drop 1 (owed s P)), ap bit away, count-drop (out_of v t) (owed s P))
 owed-waits s (_ ∷ P) v t nz sorted h = omega (arith, owed-waits s P v t nz sorted (and_parts _ _ h).0, count-drop (out_of v t) (owed s P))
 
--- what went out of a sorted node and what waits there was put
-pub sorted-emits : (s : Setting) (P : Past) (v k : ℕ) → v ≢ 0 → is_sorted s v ≡ true → is_legal s P ≡ true → count (emits_at v k) P + count (waits (of_index k)) (waiting s v P) ≤ count (puts_at v k) P
-sorted-emits s [] v k nz sorted h = omega arith
-sorted-emits s (Put r w m i f ∷ P) v k nz sorted h =
-    let before = sorted-emits s P v k nz sorted (and_parts _ _ h).0 in
+pub puts-of_index : (v k : ℕ) (P : Past) → count (puts_of v (of_index k)) P ≡ count (puts_at v k) P
+puts-of_index v k [] = refl
+puts-of_index v k (Put r w m i f ∷ P) = omega (arith, puts-of_index v k P, count-cons (puts_of v (of_index k)) (Put r w m i f) P, count-cons (puts_at v k) (Put r w m i f) P)
+puts-of_index v k (_ ∷ P) = puts-of_index v k P
+
+-- what waits of the emission or drop that comes
+pub drop-waits : (s : Setting) (v m i : ℕ) (P : Past) → v ≢ 0 → is_sorted s v ≡ true → is_legal s (SortDrop v m i ∷ P) ≡ true → 1 ≤ count (waits (λ x. same x (frame m i))) (waiting s v P)
+drop-waits s v m i P nz sorted h =
+    let there = owed-SortDrop_out s v m i P v (λ x. same x (frame m i)) h in
+    omega (arith, owed-waits s P v (λ x. same x (frame m i)) nz sorted (and_parts _ _ h).0, there, ap bit (and_from _ _ (eq-eqb v v refl) (same_refl (frame m i))))
+
+emit-waits : (s : Setting) (v m i : ℕ) (why : Why) (P : Past) → v ≢ 0 → is_sorted s v ≡ true → is_legal s (Emit v m i why ∷ P) ≡ true → 1 ≤ count (waits (λ x. same x (frame m i))) (waiting s v P)
+emit-waits s v m i why P nz sorted h =
+    let there = owed-Emit_out s v m i why P v (λ x. same x (frame m i)) h in
+    omega (arith, owed-waits s P v (λ x. same x (frame m i)) nz sorted (and_parts _ _ h).0, there, ap bit (and_from _ _ (eq-eqb v v refl) (same_refl (frame m i))))
+
+-- what was put at a sorted node went out, was dropped or waits
+pub sorted-outs : (s : Setting) (P : Past) (v : ℕ) (t : FrameName → Bool) → v ≢ 0 → is_sorted s v ≡ true → is_legal s P ≡ true → count (out_of v t) P + count (waits t) (waiting s v P) ≡ count (puts_of v t) P
+sorted-outs s [] v t nz sorted h = refl
+sorted-outs s (Put r w m i f ∷ P) v t nz sorted h =
+    let before = sorted-outs s P v t nz sorted (and_parts _ _ h).0 in
     let new : Waiting = record { array = frame m i; tick = now P } in
     elim (cases_Bool (eqb w v)) [
       | inl here ↦
-          let is : w ≡ v = eqb-true w v here in
-          let goes : waiting s v (Put r w m i f ∷ P) ≡ waiting s v P ++ new ∷ [] = subst (λ (u : ℕ). waiting s v (Put r u m i f ∷ P) ≡ waiting s v P ++ new ∷ []) (sym is) (waiting-put s v r m i f P sorted) in
-          let hit : puts_at v k (Put r w m i f) ≡ eqb i k = ap (λ (x : Bool). x && eqb i k) here in
-          omega (arith, before, ap (count (waits (of_index k))) goes, count-append (waits (of_index k)) (waiting s v P) (new ∷ []), count-cons (waits (of_index k)) new [], count-cons (puts_at v k) (Put r w m i f) P, ap bit hit)
+          let goes : waiting s v (Put r w m i f ∷ P) ≡ waiting s v P ++ new ∷ [] = subst (λ (u : ℕ). waiting s v (Put r u m i f ∷ P) ≡ waiting s v P ++ new ∷ []) (sym (eqb-true w v here)) (waiting-put s v r m i f P sorted) in
+          let hit : puts_of v t (Put r w m i f) ≡ t (frame m i) = ap (λ (x : Bool). x && t (frame m i)) here in
+          omega (arith, before, ap (count (waits t)) goes, count-append (waits t) (waiting s v P) (new ∷ []), count-cons (waits t) new [], count-cons (puts_of v t) (Put r w m i f) P, ap bit hit)
       | inr away ↦
-          let ne : w ≢ v = λ e. true≢false (sym (eq-eqb w v e) ∙ away) in
-          omega (arith, before, ap (count (waits (of_index k))) (waiting-put_elsewhere s v r w m i f P sorted ne), count-cons (puts_at v k) (Put r w m i f) P)
+          let miss : puts_of v t (Put r w m i f) ≡ false = ap (λ (x : Bool). x && t (frame m i)) away in
+          omega (arith, before, ap (count (waits t)) (waiting-put_elsewhere s v r w m i f P sorted (eqb-false w v away)), count-cons (puts_of v t) (Put r w m i f) P, ap bit miss)
     ]
-sorted-emits s (Emit w m i why ∷ P) v k nz sorted h =
-    let legal : is_legal s P ≡ true = (and_parts _ _ h).0 in
-    let before = sorted-emits s P v k nz sorted legal in
+sorted-outs s (Emit w m i why ∷ P) v t nz sorted h =
+    let before = sorted-outs s P v t nz sorted (and_parts _ _ h).0 in
     elim (cases_Bool (eqb w v)) [
       | inl here ↦
-          let there = owed-Emit_out s w m i why P v (λ x. same x (frame m i)) h in
-          let some : 1 ≤ count (waits (λ x. same x (frame m i))) (waiting s v P) = omega (arith, owed-waits s P v (λ x. same x (frame m i)) nz sorted legal, there, ap bit (and_from _ _ here (same_refl (frame m i)))) in
-          let hit : emits_at v k (Emit w m i why) ≡ eqb i k = ap (λ (x : Bool). x && eqb i k) here in
+          let some = emit-waits s v m i why P nz sorted (subst (λ (u : ℕ). is_legal s (Emit u m i why ∷ P) ≡ true) (eqb-true w v here) h) in
+          let hit : out_of v t (Emit w m i why) ≡ t (frame m i) = ap (λ (x : Bool). x && t (frame m i)) here in
           let goes : waiting s v (Emit w m i why ∷ P) ≡ not_waiting (frame m i) (waiting s v P) = rw here refl in
-          omega (arith, before, removed (frame m i) (of_index k) (waiting s v P) some, ap (count (waits (of_index k))) goes, count-cons (emits_at v k) (Emit w m i why) P, ap bit hit)
+          omega (arith, before, removed (frame m i) t (waiting s v P) some, ap (count (waits t)) goes, count-cons (out_of v t) (Emit w m i why) P, ap bit hit)
       | inr away ↦
-          let miss : emits_at v k (Emit w m i why) ≡ false = ap (λ (x : Bool). x && eqb i k) away in
+          let miss : out_of v t (Emit w m i why) ≡ false = ap (λ (x : Bool). x && t (frame m i)) away in
           let stays : waiting s v (Emit w m i why ∷ P) ≡ waiting s v P = rw away refl in
-          omega (arith, before, ap (count (waits (of_index k))) stays, count-cons (emits_at v k) (Emit w m i why) P, ap bit miss)
+          omega (arith, before, ap (count (waits t)) stays, count-cons (out_of v t) (Emit w m i why) P, ap bit miss)
     ]
-sorted-emits s (SortDrop w m i ∷ P) v k nz sorted h =
-    let before = sorted-emits s P v k nz sorted (and_parts _ _ h).0 in
+sorted-outs s (SortDrop w m i ∷ P) v t nz sorted h =
+    let before = sorted-outs s P v t nz sorted (and_parts _ _ h).0 in
     elim (cases_Bool (eqb w v)) [
       | inl here ↦
+          let some = drop-waits s v m i P nz sorted (subst (λ (u : ℕ). is_legal s (SortDrop u m i ∷ P) ≡ true) (eqb-true w v here) h) in
+          let hit : out_of v t (SortDrop w m i) ≡ t (frame m i) = ap (λ (x : Bool). x && t (frame m i)) here in
           let goes : waiting s v (SortDrop w m i ∷ P) ≡ not_waiting (frame m i) (waiting s v P) = rw here refl in
-          omega (arith, before, removed-le (frame m i) (of_index k) (waiting s v P), ap (count (waits (of_index k))) goes)
+          omega (arith, before, removed (frame m i) t (waiting s v P) some, ap (count (waits t)) goes, count-cons (out_of v t) (SortDrop w m i) P, ap bit hit)
       | inr away ↦
+          let miss : out_of v t (SortDrop w m i) ≡ false = ap (λ (x : Bool). x && t (frame m i)) away in
           let stays : waiting s v (SortDrop w m i ∷ P) ≡ waiting s v P = rw away refl in
-          omega (arith, before, ap (count (waits (of_index k))) stays)
+          omega (arith, before, ap (count (waits t)) stays, count-cons (out_of v t) (SortDrop w m i) P, ap bit miss)
     ]
-sorted-emits s (_ ∷ P) v k nz sorted h = sorted-emits s P v k nz sorted (and_parts _ _ h).0
+sorted-outs s (_ ∷ P) v t nz sorted h = sorted-outs s P v t nz sorted (and_parts _ _ h).0
+
+pub sorted-emits : (s : Setting) (P : Past) (v k : ℕ) → v ≢ 0 → is_sorted s v ≡ true → is_legal s P ≡ true → count (emits_at v k) P + count (waits (of_index k)) (waiting s v P) ≤ count (puts_at v k) P
+sorted-emits s P v k nz sorted h = omega (arith, sorted-outs s P v (of_index k) nz sorted h, emits-le v k P, puts-of_index v k P)
 
 -- OTHER NODES
 
@@ -296,98 +316,103 @@ kept_at s v P = ring_of (node s v).work (firings v P) (puts v P)
 ring-le : (s : Setting) (v : ℕ) (P : Past) (q : FrameName → Bool) → count q (ring s v P) ≤ count q (kept_at s v P)
 ring-le s v P q = elim (is_settled v P) as (λ b. count q (cond b [] (kept_at s v P)) ≤ count q (kept_at s v P)) [ true ↦ omega arith | false ↦ omega arith ]
 
-emits-map : (v k : ℕ) (why : Why) (xs : List FrameName) → count (emits_at v k) (map (emit v why) xs) ≡ count (of_index k) xs
-emits-map v k why [] = refl
-emits-map v k why (x ∷ xs) =
-    let hit : emits_at v k (emit v why x) ≡ of_index k x = ap (λ (b : Bool). b && of_index k x) (eq-eqb v v refl) in
-    omega (arith, emits-map v k why xs, count-cons (emits_at v k) (emit v why x) (map (emit v why) xs), ap bit hit, count-cons (of_index k) x xs)
+emits-map : (v : ℕ) (t : FrameName → Bool) (why : Why) (xs : List FrameName) → count (out_of v t) (map (emit v why) xs) ≡ count t xs
+emits-map v t why [] = refl
+emits-map v t why (x ∷ xs) =
+    let hit : out_of v t (emit v why x) ≡ t x = ap (λ (b : Bool). b && t x) (eq-eqb v v refl) in
+    omega (arith, emits-map v t why xs, count-cons (out_of v t) (emit v why x) (map (emit v why) xs), ap bit hit, count-cons t x xs)
 
-emits-one : (v k : ℕ) (why : Why) (a : FrameName) → count (emits_at v k) (emit v why a ∷ []) ≡ bit (of_index k a)
-emits-one v k why a =
-    let hit : emits_at v k (emit v why a) ≡ of_index k a = ap (λ (b : Bool). b && of_index k a) (eq-eqb v v refl) in
-    omega (arith, count-cons (emits_at v k) (emit v why a) [], ap bit hit)
+emits-one : (v : ℕ) (t : FrameName → Bool) (why : Why) (a : FrameName) → count (out_of v t) (emit v why a ∷ []) ≡ bit (t a)
+emits-one v t why a =
+    let hit : out_of v t (emit v why a) ≡ t a = ap (λ (b : Bool). b && t a) (eq-eqb v v refl) in
+    omega (arith, count-cons (out_of v t) (emit v why a) [], ap bit hit)
 
-watched-count : (v k : ℕ) (a : FrameName) (xs : List FrameName) (b c : Bool) → count (emits_at v k) (cond b (map (emit v Ring) xs) [] ++ cond c (emit v Now a ∷ []) []) ≡ cond b (count (of_index k) xs) 0 + cond c (bit (of_index k a)) 0
-watched-count v k a xs true true = count-append (emits_at v k) (map (emit v Ring) xs) (emit v Now a ∷ []) ∙ omega (arith, emits-map v k Ring xs, emits-one v k Now a)
-watched-count v k a xs true false = count-append (emits_at v k) (map (emit v Ring) xs) [] ∙ omega (arith, emits-map v k Ring xs)
-watched-count v k a xs false true = omega (arith, emits-one v k Now a)
-watched-count v k a xs false false = refl
+watched-count : (v : ℕ) (t : FrameName → Bool) (a : FrameName) (xs : List FrameName) (b c : Bool) → count (out_of v t) (cond b (map (emit v Ring) xs) [] ++ cond c (emit v Now a ∷ []) []) ≡ cond b (count t xs) 0 + cond c (bit (t a)) 0
+watched-count v t a xs true true = count-append (out_of v t) (map (emit v Ring) xs) (emit v Now a ∷ []) ∙ omega (arith, emits-map v t Ring xs, emits-one v t Now a)
+watched-count v t a xs true false = count-append (out_of v t) (map (emit v Ring) xs) [] ∙ omega (arith, emits-map v t Ring xs)
+watched-count v t a xs false true = omega (arith, emits-one v t Now a)
+watched-count v t a xs false false = refl
 
 cond-le : (b : Bool) (m n : ℕ) → m ≤ n → cond b m 0 ≤ cond b n 0
 cond-le true m n h = h
 cond-le false m n h = omega arith
 
 -- what a put sends out and leaves in the ring
-result-unsorted : (s : Setting) (v k : ℕ) (a : FrameName) (f : Bool) (P : Past) (w : Work) → is_sorted s v ≡ false → length (firings v P) ≡ length (puts v P) → count (of_index k) (ring s v P) ≤ count (of_index k) (ring_of w (firings v P) (puts v P)) → count (emits_at v k) (result s v a f P w) + count (of_index k) (ring_of w (firings v P ++ f ∷ []) (puts v P ++ a ∷ [])) ≤ bit (of_index k a) + count (of_index k) (ring_of w (firings v P) (puts v P))
-result-unsorted s v k a f P Makes u long le = let plain : result s v a f P Makes ≡ emit v Plain a ∷ [] = rw u refl in omega (arith, ap (count (emits_at v k)) plain, emits-one v k Plain a)
-result-unsorted s v k a f P (Passes d) u long le = let plain : result s v a f P (Passes d) ≡ emit v Plain a ∷ [] = rw u refl in omega (arith, ap (count (emits_at v k)) plain, emits-one v k Plain a)
-result-unsorted s v k a f P (Saves whole n) u long le = omega arith
-result-unsorted s v k a f P (Watches pre post preset) u long le =
+result-unsorted : (s : Setting) (v : ℕ) (t : FrameName → Bool) (a : FrameName) (f : Bool) (P : Past) (w : Work) → is_sorted s v ≡ false → length (firings v P) ≡ length (puts v P) → count t (ring s v P) ≤ count t (ring_of w (firings v P) (puts v P)) → count (out_of v t) (result s v a f P w) + count t (ring_of w (firings v P ++ f ∷ []) (puts v P ++ a ∷ [])) ≤ bit (t a) + count t (ring_of w (firings v P) (puts v P))
+result-unsorted s v t a f P Makes u long le = let plain : result s v a f P Makes ≡ emit v Plain a ∷ [] = rw u refl in omega (arith, ap (count (out_of v t)) plain, emits-one v t Plain a)
+result-unsorted s v t a f P (Passes d) u long le = let plain : result s v a f P (Passes d) ≡ emit v Plain a ∷ [] = rw u refl in omega (arith, ap (count (out_of v t)) plain, emits-one v t Plain a)
+result-unsorted s v t a f P (Saves whole n) u long le = omega arith
+result-unsorted s v t a f P (Watches pre post preset) u long le =
     let flags : List Bool = firings v P in
     let xs : List FrameName = puts v P in
     let b : Bool = is_trigger post preset (flags ++ f ∷ []) (length flags) in
     let c : Bool = is_passed pre post preset (flags ++ f ∷ []) (length flags) in
-    let sent = watched-count v k a (ring s v P) b c in
-    omega (arith, sent, cond-le b (count (of_index k) (ring s v P)) (count (of_index k) (kept pre post preset flags xs)) le, ring-push pre post preset flags f (of_index k) xs a long)
+    let sent = watched-count v t a (ring s v P) b c in
+    omega (arith, sent, cond-le b (count t (ring s v P)) (count t (kept pre post preset flags xs)) le, ring-push pre post preset flags f t xs a long)
 
-empty_ring : (k : ℕ) (w : Work) → count (of_index k) (ring_of w [] []) ≡ 0
-empty_ring k Makes = refl
-empty_ring k (Passes d) = refl
-empty_ring k (Saves whole n) = refl
-empty_ring k (Watches pre post preset) = ap (count (of_index k)) (kept-nothing pre post preset)
+empty_ring : (t : FrameName → Bool) (w : Work) → count t (ring_of w [] []) ≡ 0
+empty_ring t Makes = refl
+empty_ring t (Passes d) = refl
+empty_ring t (Saves whole n) = refl
+empty_ring t (Watches pre post preset) = ap (count t) (kept-nothing pre post preset)
 
-unsorted-none : (s : Setting) (v k : ℕ) → 0 + 0 + count (of_index k) (ring_of (node s v).work [] []) ≤ 0
-unsorted-none s v k = omega (arith, empty_ring k (node s v).work)
+unsorted-none : (s : Setting) (v : ℕ) (t : FrameName → Bool) → 0 + 0 + count t (ring_of (node s v).work [] []) ≤ 0
+unsorted-none s v t = omega (arith, empty_ring t (node s v).work)
 
 -- what went out of a node that isn't sorted, what will, and its ring were put
-pub unsorted-emits : (s : Setting) (P : Past) (v k : ℕ) → v ≢ 0 → is_sorted s v ≡ false → is_legal s P ≡ true → count (emits_at v k) P + count (emits_at v k) (owed s P) + count (of_index k) (kept_at s v P) ≤ count (puts_at v k) P
-unsorted-emits s [] v k nz u h = unsorted-none s v k
-unsorted-emits s (Put r w m i f ∷ P) v k nz u h =
-    let before = unsorted-emits s P v k nz u (and_parts _ _ h).0 in
+pub unsorted-outs : (s : Setting) (P : Past) (v : ℕ) (t : FrameName → Bool) → v ≢ 0 → is_sorted s v ≡ false → is_legal s P ≡ true → count (out_of v t) P + count (out_of v t) (owed s P) + count t (kept_at s v P) ≤ count (puts_of v t) P
+unsorted-outs s [] v t nz u h = unsorted-none s v t
+unsorted-outs s (Put r w m i f ∷ P) v t nz u h =
+    let before = unsorted-outs s P v t nz u (and_parts _ _ h).0 in
     let none : owed s P ≡ [] = owed-first s (Put r w m i f) P (λ d. refl) h in
     elim (cases_Bool (eqb w v)) [
       | inl here ↦
           let is : w ≡ v = eqb-true w v here in
-          subst (λ (x : ℕ). count (emits_at v k) P + count (emits_at v k) (owed s (Put r x m i f ∷ P)) + count (of_index k) (kept_at s v (Put r x m i f ∷ P)) ≤ count (puts_at v k) (Put r x m i f ∷ P)) (sym is)
-          (let whole : count (emits_at v k) (owed s (Put r v m i f ∷ P)) ≡ count (emits_at v k) (calls_for s P (Put r v m i f)) + 0 = count-append (emits_at v k) (calls_for s P (Put r v m i f)) (drop 1 (owed s P)) ∙ ap (λ (ds : List Entry). count (emits_at v k) (calls_for s P (Put r v m i f)) + count (emits_at v k) (drop 1 ds)) none in
+          subst (λ (x : ℕ). count (out_of v t) P + count (out_of v t) (owed s (Put r x m i f ∷ P)) + count t (kept_at s v (Put r x m i f ∷ P)) ≤ count (puts_of v t) (Put r x m i f ∷ P)) (sym is)
+          (let whole : count (out_of v t) (owed s (Put r v m i f ∷ P)) ≡ count (out_of v t) (calls_for s P (Put r v m i f)) + 0 = count-append (out_of v t) (calls_for s P (Put r v m i f)) (drop 1 (owed s P)) ∙ ap (λ (ds : List Entry). count (out_of v t) (calls_for s P (Put r v m i f)) + count (out_of v t) (drop 1 ds)) none in
           let flags : firings v (Put r v m i f ∷ P) ≡ firings v P ++ f ∷ [] = comes_here v f (firings v P) in
           let arrays : puts v (Put r v m i f ∷ P) ≡ puts v P ++ frame m i ∷ [] = comes_here v (frame m i) (puts v P) in
           let after : kept_at s v (Put r v m i f ∷ P) ≡ ring_of (node s v).work (firings v P ++ f ∷ []) (puts v P ++ frame m i ∷ []) = ap (λ (fs : List Bool). ring_of (node s v).work fs (puts v (Put r v m i f ∷ P))) flags ∙ ap (λ (xs : List FrameName). ring_of (node s v).work (firings v P ++ f ∷ []) xs) arrays in
-          let hit : puts_at v k (Put r v m i f) ≡ eqb i k = ap (λ (x : Bool). x && eqb i k) (eq-eqb v v refl) in
-          omega (arith, before, whole, ap (count (of_index k)) after, result-unsorted s v k (frame m i) f P (node s v).work u (flags-puts v P) (ring-le s v P (of_index k)), count-cons (puts_at v k) (Put r v m i f) P, ap bit hit))
+          let hit : puts_of v t (Put r v m i f) ≡ t (frame m i) = ap (λ (x : Bool). x && t (frame m i)) (eq-eqb v v refl) in
+          omega (arith, before, whole, ap (count t) after, result-unsorted s v t (frame m i) f P (node s v).work u (flags-puts v P) (ring-le s v P t), count-cons (puts_of v t) (Put r v m i f) P, ap bit hit))
       | inr away ↦
           let ne : w ≢ v = λ e. true≢false (sym (eq-eqb w v e) ∙ away) in
-          let whole = count-append (emits_at v k) (calls_for s P (Put r w m i f)) (drop 1 (owed s P)) in
+          let whole = count-append (out_of v t) (calls_for s P (Put r w m i f)) (drop 1 (owed s P)) in
           let flags : firings v (Put r w m i f ∷ P) ≡ firings v P = comes_elsewhere v w f (firings v P) ne in
           let arrays : puts v (Put r w m i f ∷ P) ≡ puts v P = comes_elsewhere v w (frame m i) (puts v P) ne in
           let after : kept_at s v (Put r w m i f ∷ P) ≡ kept_at s v P = ap (λ (fs : List Bool). ring_of (node s v).work fs (puts v (Put r w m i f ∷ P))) flags ∙ ap (λ (xs : List FrameName). ring_of (node s v).work (firings v P) xs) arrays in
-          omega (arith, before, whole, emits-le v k (calls_for s P (Put r w m i f)), none_elsewhere w v (of_index k) (calls_for s P (Put r w m i f)) ne (result-at s w (frame m i) f P (node s w).work), count-drop (emits_at v k) (owed s P), ap (count (of_index k)) after, count-cons (puts_at v k) (Put r w m i f) P)
+          omega (arith, before, whole, none_elsewhere w v t (calls_for s P (Put r w m i f)) ne (result-at s w (frame m i) f P (node s w).work), count-drop (out_of v t) (owed s P), ap (count t) after, count-cons (puts_of v t) (Put r w m i f) P)
     ]
-unsorted-emits s (Emit w m i why ∷ P) v k nz u h =
-    omega (arith, unsorted-emits s P v k nz u (and_parts _ _ h).0, owed-Emit s w m i why P v k h, count-append (emits_at v k) (map (offer (frame m i)) (children s w)) (drop 1 (owed s P)), no_emits_in_offers v k (frame m i) (children s w), count-cons (emits_at v k) (Emit w m i why) P)
-unsorted-emits s (Tick t ∷ P) v k nz u h =
-    let none : count (out_of v (of_index k)) (looks s (Tick t ∷ P) (node_numbers s)) ≤ 0 = subst (λ (b : Bool). count (out_of v (of_index k)) (looks s (Tick t ∷ P) (node_numbers s)) ≤ cond b (count (waits (of_index k)) (waiting s v P)) 0) u (looks-le s (Tick t ∷ P) v (of_index k) (node_numbers s) (once_numbered s v)) in
-    omega (arith, unsorted-emits s P v k nz u (and_parts _ _ h).0, count-append (emits_at v k) (calls_for s P (Tick t)) (drop 1 (owed s P)), emits-le v k (calls_for s P (Tick t)), none, count-drop (emits_at v k) (owed s P))
-unsorted-emits s (Settle r w ∷ P) v k nz u h =
-    let whole = count-append (emits_at v k) (calls_for s P (Settle r w)) (drop 1 (owed s P)) in
+unsorted-outs s (Emit w m i why ∷ P) v t nz u h =
+    omega (arith, unsorted-outs s P v t nz u (and_parts _ _ h).0, owed-Emit_out s w m i why P v t h, count-append (out_of v t) (map (offer (frame m i)) (offered_to s P w)) (drop 1 (owed s P)), no_outs_in_offers v t (frame m i) (offered_to s P w), count-cons (out_of v t) (Emit w m i why) P)
+unsorted-outs s (SortDrop w m i ∷ P) v t nz u h =
+    omega (arith, unsorted-outs s P v t nz u (and_parts _ _ h).0, owed-SortDrop_out s w m i P v t h, count-cons (out_of v t) (SortDrop w m i) P)
+unsorted-outs s (Tick z ∷ P) v t nz u h =
+    let none : count (out_of v t) (looks s (Tick z ∷ P) (node_numbers s)) ≤ 0 = subst (λ (b : Bool). count (out_of v t) (looks s (Tick z ∷ P) (node_numbers s)) ≤ cond b (count (waits t) (waiting s v P)) 0) u (looks-le s (Tick z ∷ P) v t (node_numbers s) (once_numbered s v)) in
+    omega (arith, unsorted-outs s P v t nz u (and_parts _ _ h).0, count-append (out_of v t) (calls_for s P (Tick z)) (drop 1 (owed s P)), none, count-drop (out_of v t) (owed s P))
+unsorted-outs s (Settle r w ∷ P) v t nz u h =
+    let whole = count-append (out_of v t) (calls_for s P (Settle r w)) (drop 1 (owed s P)) in
     elim (cases_Bool (eqb w v)) [
       | inl here ↦
           let is : w ≡ v = eqb-true w v here in
           let calls : calls_for s P (Settle r w) ≡ [] = ap (λ (x : ℕ). calls_for s P (Settle r x)) is ∙ ap (λ (ws : List Waiting). map (λ (x : Waiting). emit v Flush x.array) (least_first s ws)) (waiting-unsorted s v P u) in
-          omega (arith, unsorted-emits s P v k nz u (and_parts _ _ h).0, whole, ap (count (emits_at v k)) calls, count-drop (emits_at v k) (owed s P))
+          omega (arith, unsorted-outs s P v t nz u (and_parts _ _ h).0, whole, ap (count (out_of v t)) calls, count-drop (out_of v t) (owed s P))
       | inr away ↦
           let ne : w ≢ v = λ e. true≢false (sym (eq-eqb w v e) ∙ away) in
-          omega (arith, unsorted-emits s P v k nz u (and_parts _ _ h).0, whole, emits-le v k (calls_for s P (Settle r w)), none_elsewhere w v (of_index k) (calls_for s P (Settle r w)) ne (flush-at w (least_first s (waiting s w P))), count-drop (emits_at v k) (owed s P))
+          omega (arith, unsorted-outs s P v t nz u (and_parts _ _ h).0, whole, none_elsewhere w v t (calls_for s P (Settle r w)) ne (flush-at w (least_first s (waiting s w P))), count-drop (out_of v t) (owed s P))
     ]
-unsorted-emits s (Issue r i ∷ P) v k nz u h =
-    let away : (eqb 0 v && eqb i k) ≡ false = ap (λ (x : Bool). x && eqb i k) (ne_eqb 0 v (λ e. nz (sym e))) in
-    omega (arith, unsorted-emits s P v k nz u (and_parts _ _ h).0, count-cons (emits_at v k) (Emit 0 0 i Plain) (drop 1 (owed s P)), ap bit away, count-drop (emits_at v k) (owed s P))
-unsorted-emits s (_ ∷ P) v k nz u h = omega (arith, unsorted-emits s P v k nz u (and_parts _ _ h).0, count-drop (emits_at v k) (owed s P))
+unsorted-outs s (Issue r i ∷ P) v t nz u h =
+    let away : (eqb 0 v && t (frame 0 i)) ≡ false = ap (λ (x : Bool). x && t (frame 0 i)) (ne_eqb 0 v (λ e. nz (sym e))) in
+    omega (arith, unsorted-outs s P v t nz u (and_parts _ _ h).0, count-cons (out_of v t) (Emit 0 0 i Plain) (drop 1 (owed s P)), ap bit away, count-drop (out_of v t) (owed s P))
+unsorted-outs s (_ ∷ P) v t nz u h = omega (arith, unsorted-outs s P v t nz u (and_parts _ _ h).0, count-drop (out_of v t) (owed s P))
 
--- so a node emits no more of an index than it accepted
-pub emits-puts : (s : Setting) (P : Past) (v k : ℕ) → v ≢ 0 → is_legal s P ≡ true → count (emits_at v k) P ≤ count (puts_at v k) P
-emits-puts s P v k nz h =
+-- so no more goes out of a node than was put there
+pub outs-puts : (s : Setting) (P : Past) (v : ℕ) (t : FrameName → Bool) → v ≢ 0 → is_legal s P ≡ true → count (out_of v t) P ≤ count (puts_of v t) P
+outs-puts s P v t nz h =
     elim (cases_Bool (is_sorted s v)) [
-      | inl sorted ↦ omega (arith, sorted-emits s P v k nz sorted h)
-      | inr unsorted ↦ omega (arith, unsorted-emits s P v k nz unsorted h)
+      | inl sorted ↦ omega (arith, sorted-outs s P v t nz sorted h)
+      | inr unsorted ↦ omega (arith, unsorted-outs s P v t nz unsorted h)
     ]
+
+pub emits-puts : (s : Setting) (P : Past) (v k : ℕ) → v ≢ 0 → is_legal s P ≡ true → count (emits_at v k) P ≤ count (puts_at v k) P
+emits-puts s P v k nz h = omega (arith, outs-puts s P v (of_index k) nz h, emits-le v k P, puts-of_index v k P)

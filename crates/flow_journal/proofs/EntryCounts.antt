@@ -4,11 +4,12 @@ use Rattle.std.specs.Prelude.{filter}
 use Rattle.std.specs.List.{find}
 use Rattle.std.proofs.lemmas.Bool.{and_parts, false≢true, true≢false, eqb-true, cases_Bool}
 use Rattle.std.proofs.lemmas.List.Elements.{filter-append}
+use Rattle.nd_base.specs.declared.frame.FrameName.{FrameName}
 use Rattle.flow_journal.specs.declared.entry.Entry.{Entry}
-use Rattle.flow_journal.specs.declared.entry.Entry.TheVariants.{Load, Tick, Emit, Accept, Full, Take, TakeBlock, Put, SortDrop}
+use Rattle.flow_journal.specs.declared.entry.Entry.TheVariants.{Load, Tick, Emit, Accept, Full, Take, TakeBlock, PoolDrop, Put, SortDrop}
 use Rattle.flow_journal.specs.declared.entry.Why.{Why}
 use Rattle.flow_journal.specs.Setting.{Setting}
-use Rattle.flow_journal.specs.Pasts.{Past}
+use Rattle.flow_journal.specs.Pasts.{Past, frame}
 use Rattle.flow_journal.specs.Hands.{takes_up, let_go}
 use Rattle.flow_journal.specs.Queued.{has_room}
 use Rattle.flow_journal.specs.FirstEntries.{first}
@@ -67,14 +68,45 @@ abbrev pub accepts_at : ℕ → ℕ → Entry → Bool
 accepts_at c k (Accept w m j) = eqb w c && eqb j k
 accepts_at c k _ = false
 
+-- the entry is an Accept or a Full at c of index k, or an offer to it
+abbrev pub arrives_at : ℕ → ℕ → Entry → Bool
+arrives_at c k (Accept w m j) = eqb w c && eqb j k
+arrives_at c k (Full w m j) = eqb w c && eqb j k
+arrives_at c k _ = false
+
+pub arrives-le : (c k : ℕ) (es : List Entry) → count (accepts_at c k) es ≤ count (arrives_at c k) es
+arrives-le c k [] = omega arith
+arrives-le c k (Accept w m j ∷ es) = omega (arith, arrives-le c k es, count-cons (accepts_at c k) (Accept w m j) es, count-cons (arrives_at c k) (Accept w m j) es)
+arrives-le c k (Full w m j ∷ es) = omega (arith, arrives-le c k es, count-cons (arrives_at c k) (Full w m j) es)
+arrives-le c k (_ ∷ es) = arrives-le c k es
+
 abbrev pub puts_at : ℕ → ℕ → Entry → Bool
 puts_at v k (Put r w m j f) = eqb w v && eqb j k
 puts_at v k _ = false
+
+-- the entry is a put at v of an array that passes the test
+abbrev pub puts_of : ℕ → (FrameName → Bool) → Entry → Bool
+puts_of v t (Put r w m j f) = eqb w v && t (frame m j)
+puts_of v t _ = false
 
 abbrev pub takes_at : ℕ → ℕ → Entry → Bool
 takes_at v k (Take r w m j) = eqb w v && eqb j k
 takes_at v k (TakeBlock f x r w m j b n g) = eqb w v && eqb j k
 takes_at v k _ = false
+
+-- the entry takes an array of index k out of the queue of v
+abbrev pub leaves_at : ℕ → ℕ → Entry → Bool
+leaves_at v k (Take r w m j) = eqb w v && eqb j k
+leaves_at v k (TakeBlock f x r w m j b n g) = eqb w v && eqb j k
+leaves_at v k (PoolDrop r w m j n h) = eqb w v && eqb j k
+leaves_at v k _ = false
+
+pub takes-le : (v k : ℕ) (es : List Entry) → count (takes_at v k) es ≤ count (leaves_at v k) es
+takes-le v k [] = omega arith
+takes-le v k (Take r w m j ∷ es) = omega (arith, takes-le v k es, count-cons (takes_at v k) (Take r w m j) es, count-cons (leaves_at v k) (Take r w m j) es)
+takes-le v k (TakeBlock f x r w m j b n g ∷ es) = omega (arith, takes-le v k es, count-cons (takes_at v k) (TakeBlock f x r w m j b n g) es, count-cons (leaves_at v k) (TakeBlock f x r w m j b n g) es)
+takes-le v k (PoolDrop r w m j n h ∷ es) = omega (arith, takes-le v k es, count-cons (leaves_at v k) (PoolDrop r w m j n h) es)
+takes-le v k (_ ∷ es) = takes-le v k es
 
 abbrev pub loads_at : ℕ → Entry → Bool
 loads_at k (Load r j b n f g x) = eqb j k
@@ -146,3 +178,13 @@ pub answers-by_Tick : (s : Setting) (P : Past) (t : ℕ) (d : Entry) → answers
 answers-by_Tick s P t (Tick u) h = (u, refl)
 answers-by_Tick s P t (Accept c n j) h = absurd (true≢false (sym h ∙ offer-other s P (Tick t) c n j refl refl))
 answers-by_Tick s P t _ h = absurd (false≢true h)
+
+-- what a Full answers is of its node and index
+pub answers-by_Full : (s : Setting) (P : Past) (v m k c j : ℕ) (d : Entry) → answers s P (Full v m k) d ≡ true → arrives_at c j d ≡ arrives_at c j (Full v m k)
+answers-by_Full s P v m k c j (Accept w n i) h =
+    elim (cases_Bool (has_room s P w)) [
+      | inl room ↦ absurd (false≢true (rw room at h))
+      | inr full ↦ let p = three-same w n i v m k (rw full at h) in ap (λ (x : ℕ). eqb x c && eqb i j) p.0 ∙ ap (λ (x : ℕ). eqb v c && eqb x j) p.2
+    ]
+answers-by_Full s P v m k c j (Full w n i) h = let p = three-same w n i v m k h in ap (λ (x : ℕ). eqb x c && eqb i j) p.0 ∙ ap (λ (x : ℕ). eqb v c && eqb x j) p.2
+answers-by_Full s P v m k c j _ h = absurd (false≢true h)

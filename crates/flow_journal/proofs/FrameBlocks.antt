@@ -193,4 +193,4 @@ some_blocks s q P (e ∷ hs) h stand =
 -- a hand's block passes a test where its frame's does
 pub hands-blocks : (s : Setting) (q : ℕ → Bool) (P : Past) → is_legal s P ≡ true → list_any q (flat_map (blocks_in_hand P) (hands P)) ≡ list_any (holds (has q P)) (hands P)
 hands-blocks s q P h =
-    any-flat q (blocks_in_hand P) (hands P) ∙ some_blocks s q P (hands P) h (all_stand P (hands P) (hands-Apart s P h) (λ r e held. hand-standing s P r e h held))
+    any-flat q (blocks_in_hand P) (hands P) ∙ some_blocks s q P (hands P) h (all_stand P (hands P) (hands-Apart P) (λ r e held. hand-standing s P r e h held))

@@ -1,14 +1,14 @@
--- In a legal history each role has one hand at most, and one block at most is loaded.
-use Rattle.std.proofs.Common.{◌≡◌, ◌≢◌, ℕ, ◌≤◌, arith, Bool, true, false, cond, ◌||◌, List, [], ◌∷◌, ◌++◌, refl, sym, ap, ◌∙◌, subst, eqb, length, suc, Some, None, inl, inr}
+-- Each role has one hand at most, and in a legal history one block at most is loaded.
+use Rattle.std.proofs.Common.{◌≡◌, ◌≢◌, ℕ, ◌≤◌, arith, Bool, true, false, cond, ◌||◌, List, [], ◌∷◌, ◌++◌, refl, sym, ap, ◌∙◌, subst, eqb, length, suc, Option, Some, None, inl, inr}
 use Rattle.std.specs.Prelude.{is_none, filter, flat_map}
 use Rattle.std.specs.List.{list_any, find}
-use Rattle.std.proofs.lemmas.Bool.{and_parts, false≢true, true≢false, eq-eqb, ne_eqb, eqb-true, cases_Bool, or_parts, or_from}
+use Rattle.std.proofs.lemmas.Bool.{and_parts, not-true, false≢true, true≢false, eq-eqb, ne_eqb, eqb-true, cases_Bool, or_parts, or_from}
 use Rattle.nd_base.specs.declared.frame.FrameName.{FrameName}
 use Rattle.flow_journal.specs.declared.entry.Entry.{Entry}
 use Rattle.flow_journal.specs.declared.entry.Entry.TheVariants.{Load, Issue, Take, TakeBlock, Put, Save, Saved, Reclaim}
 use Rattle.flow_journal.specs.FirstEntries.{first, may_load, may_take}
 use Rattle.flow_journal.specs.Following.{owed}
-use Rattle.flow_journal.specs.Hands.{takes_up, let_go, hands, is_loaded, is_job, is_free}
+use Rattle.flow_journal.specs.Hands.{takes_up, let_go, hands, hand, standing, is_loaded, is_job, is_free}
 use Rattle.flow_journal.specs.Histories.{next, answers, is_legal}
 use Rattle.flow_journal.specs.Pasts.{Past, frame}
 use Rattle.flow_journal.specs.Setting.{Setting}
@@ -79,9 +79,10 @@ pub next-first : (s : Setting) (P : Past) (e : Entry) → ((d : Entry) → answe
 next-first s P e never [] h = h
 next-first s P e never (d ∷ ds) h = absurd (true≢false (sym h ∙ never d))
 
-Apart-more : (r : ℕ) (e : Entry) (P : Past) → takes_up r e ≡ true → is_free r P ≡ true → Apart (hands P) → Apart (e ∷ hands P)
-Apart-more r e P up free h =
-    (λ q u. subst (λ i. list_any (takes_up i) (hands P) ≡ false) (eqb-true r q (sym (takes_up-one r q e up) ∙ u)) (none-find (takes_up r) (hands P) free), h)
+-- the new hand takes the place of the old one
+Apart-more : (r : ℕ) (e : Entry) (P : Past) → takes_up r e ≡ true → Apart (hands P) → Apart (e ∷ let_go r (hands P))
+Apart-more r e P up apart =
+    (λ q u. subst (λ i. list_any (takes_up i) (let_go r (hands P)) ≡ false) (eqb-true r q (sym (takes_up-one r q e up) ∙ u)) (free-let_go r (hands P) apart), Apart-let_go r (hands P) apart)
 
 load-free : (s : Setting) (r k : ℕ) (P : Past) → may_load s r k P ≡ true → is_free r P ≡ true
 load-free s r k P h = none-free r P (load-facts s r k P h).acts.free
@@ -105,18 +106,53 @@ was_free s r (Save q v m k g) P u h =
     rw (sym (eqb-true q r u)) (and_parts _ _ (and_parts _ _ (and_parts _ _ (row_of s (Save q v m k g) P (λ d. refl) h)).0).0).1
 was_free s r _ P u h = absurd (false≢true u)
 
--- in a legal history each role has one hand at most
-pub hands-Apart : (s : Setting) (P : Past) → is_legal s P ≡ true → Apart (hands P)
-hands-Apart s [] h = tt
-hands-Apart s (Load r k b n f g x ∷ P) h = Apart-more r (Load r k b n f g x) P (eq-eqb r r refl) (was_free s r (Load r k b n f g x) P (eq-eqb r r refl) h) (hands-Apart s P (and_parts _ _ h).0)
-hands-Apart s (Take r v m k ∷ P) h = Apart-more r (Take r v m k) P (eq-eqb r r refl) (was_free s r (Take r v m k) P (eq-eqb r r refl) h) (hands-Apart s P (and_parts _ _ h).0)
-hands-Apart s (TakeBlock f x r v m k b n g ∷ P) h = Apart-more r (TakeBlock f x r v m k b n g) P (eq-eqb r r refl) (was_free s r (TakeBlock f x r v m k b n g) P (eq-eqb r r refl) h) (hands-Apart s P (and_parts _ _ h).0)
-hands-Apart s (Save r v m k g ∷ P) h = Apart-more r (Save r v m k g) P (eq-eqb r r refl) (was_free s r (Save r v m k g) P (eq-eqb r r refl) h) (hands-Apart s P (and_parts _ _ h).0)
-hands-Apart s (Issue r k ∷ P) h = Apart-let_go r (hands P) (hands-Apart s P (and_parts _ _ h).0)
-hands-Apart s (Put r v m k f ∷ P) h = Apart-let_go r (hands P) (hands-Apart s P (and_parts _ _ h).0)
-hands-Apart s (Saved r v m k ∷ P) h = Apart-let_go r (hands P) (hands-Apart s P (and_parts _ _ h).0)
-hands-Apart s (Reclaim r ∷ P) h = Apart-let_go r (hands P) (hands-Apart s P (and_parts _ _ h).0)
-hands-Apart s (_ ∷ P) h = hands-Apart s P (and_parts _ _ h).0
+-- who has no hand lets none go
+let_go-none : (r : ℕ) (hs : List Entry) → list_any (takes_up r) hs ≡ false → let_go r hs ≡ hs
+let_go-none r [] h = refl
+let_go-none r (e ∷ hs) h = let both = or_parts (takes_up r e) (list_any (takes_up r) hs) h in rw both.0 (ap (λ (es : List Entry). e ∷ es) (let_go-none r hs both.1))
+
+hands-up : (r : ℕ) (e : Entry) (P : Past) → takes_up r e ≡ true → hands (e ∷ P) ≡ e ∷ let_go r (hands P)
+hands-up r (Load q k b n f g x) P u = ap (λ (i : ℕ). Load q k b n f g x ∷ let_go i (hands P)) (eqb-true q r u)
+hands-up r (Take q v m k) P u = ap (λ (i : ℕ). Take q v m k ∷ let_go i (hands P)) (eqb-true q r u)
+hands-up r (TakeBlock f x q v m k b n g) P u = ap (λ (i : ℕ). TakeBlock f x q v m k b n g ∷ let_go i (hands P)) (eqb-true q r u)
+hands-up r (Save q v m k g) P u = ap (λ (i : ℕ). Save q v m k g ∷ let_go i (hands P)) (eqb-true q r u)
+hands-up r _ P u = absurd (false≢true u)
+
+-- whoever takes something up in a legal history has nothing to let go
+pub takes-alone : (s : Setting) (r : ℕ) (e : Entry) (P : Past) → takes_up r e ≡ true → is_legal s (e ∷ P) ≡ true → let_go r (hands P) ≡ hands P
+takes-alone s r e P u h = let_go-none r (hands P) (none-find (takes_up r) (hands P) (was_free s r e P u h))
+
+-- whoever had no hand has one more
+pub hands-first : (r : ℕ) (e : Entry) (P : Past) → takes_up r e ≡ true → is_free r P ≡ true → hands (e ∷ P) ≡ e ∷ hands P
+hands-first r e P u free = hands-up r e P u ∙ ap (λ (hs : List Entry). e ∷ hs) (let_go-none r (hands P) (none-find (takes_up r) (hands P) free))
+
+-- as has whoever takes something up in a legal history
+pub hands-more : (s : Setting) (r : ℕ) (e : Entry) (P : Past) → takes_up r e ≡ true → is_legal s (e ∷ P) ≡ true → hands (e ∷ P) ≡ e ∷ hands P
+hands-more s r e P u h = hands-first r e P u (was_free s r e P u h)
+
+-- and whose hand is taken back had one
+pub reclaim-held : (s : Setting) (r : ℕ) (P : Past) → is_legal s (Reclaim r ∷ P) ≡ true → is_free r P ≡ false
+reclaim-held s r P h = not-true (is_free r P) (and_parts _ _ (and_parts _ _ (row_of s (Reclaim r) P (λ d. refl) h)).0).0
+
+-- then it stands no more
+pub stood : (r : ℕ) (e : Entry) (P : Past) → hand r P ≡ Some e → standing (Reclaim r ∷ P) ≡ Reclaim r ∷ let_go r (standing P)
+stood r e P held = ap (λ (o : Option Entry). Reclaim r ∷ cond (is_none o) (standing P) (let_go r (standing P))) held
+
+pub stands-less : (s : Setting) (r : ℕ) (P : Past) → is_legal s (Reclaim r ∷ P) ≡ true → standing (Reclaim r ∷ P) ≡ Reclaim r ∷ let_go r (standing P)
+stands-less s r P h = rw (reclaim-held s r P h) refl
+
+-- no role has two hands
+pub hands-Apart : (P : Past) → Apart (hands P)
+hands-Apart [] = tt
+hands-Apart (Load r k b n f g x ∷ P) = Apart-more r (Load r k b n f g x) P (eq-eqb r r refl) (hands-Apart P)
+hands-Apart (Take r v m k ∷ P) = Apart-more r (Take r v m k) P (eq-eqb r r refl) (hands-Apart P)
+hands-Apart (TakeBlock f x r v m k b n g ∷ P) = Apart-more r (TakeBlock f x r v m k b n g) P (eq-eqb r r refl) (hands-Apart P)
+hands-Apart (Save r v m k g ∷ P) = Apart-more r (Save r v m k g) P (eq-eqb r r refl) (hands-Apart P)
+hands-Apart (Issue r k ∷ P) = Apart-let_go r (hands P) (hands-Apart P)
+hands-Apart (Put r v m k f ∷ P) = Apart-let_go r (hands P) (hands-Apart P)
+hands-Apart (Saved r v m k ∷ P) = Apart-let_go r (hands P) (hands-Apart P)
+hands-Apart (Reclaim r ∷ P) = Apart-let_go r (hands P) (hands-Apart P)
+hands-Apart (_ ∷ P) = hands-Apart P
 
 -- at most one of these hands is a loaded block
 abbrev pub OneLoaded : List Entry → Type 0
@@ -137,10 +173,10 @@ hands-OneLoaded s [] h = tt
 hands-OneLoaded s (Load r k b n f g x ∷ P) h =
     let f = row_of s (Load r k b n f g x) P (λ d. refl) h in
     let m : may_load s r k P ≡ true = (and_parts _ _ f).0 in
-    (λ u. (load-facts s r k P m).unloaded, hands-OneLoaded s P (and_parts _ _ h).0)
-hands-OneLoaded s (Take r v m k ∷ P) h = (λ u. absurd (false≢true u), hands-OneLoaded s P (and_parts _ _ h).0)
-hands-OneLoaded s (TakeBlock f x r v m k b n g ∷ P) h = (λ u. absurd (false≢true u), hands-OneLoaded s P (and_parts _ _ h).0)
-hands-OneLoaded s (Save r v m k g ∷ P) h = (λ u. absurd (false≢true u), hands-OneLoaded s P (and_parts _ _ h).0)
+    (λ u. none-let_go is_loaded r (hands P) (load-facts s r k P m).unloaded, OneLoaded-let_go r (hands P) (hands-OneLoaded s P (and_parts _ _ h).0))
+hands-OneLoaded s (Take r v m k ∷ P) h = (λ u. absurd (false≢true u), OneLoaded-let_go r (hands P) (hands-OneLoaded s P (and_parts _ _ h).0))
+hands-OneLoaded s (TakeBlock f x r v m k b n g ∷ P) h = (λ u. absurd (false≢true u), OneLoaded-let_go r (hands P) (hands-OneLoaded s P (and_parts _ _ h).0))
+hands-OneLoaded s (Save r v m k g ∷ P) h = (λ u. absurd (false≢true u), OneLoaded-let_go r (hands P) (hands-OneLoaded s P (and_parts _ _ h).0))
 hands-OneLoaded s (Issue r k ∷ P) h = OneLoaded-let_go r (hands P) (hands-OneLoaded s P (and_parts _ _ h).0)
 hands-OneLoaded s (Put r v m k f ∷ P) h = OneLoaded-let_go r (hands P) (hands-OneLoaded s P (and_parts _ _ h).0)
 hands-OneLoaded s (Saved r v m k ∷ P) h = OneLoaded-let_go r (hands P) (hands-OneLoaded s P (and_parts _ _ h).0)
@@ -219,8 +255,16 @@ few_apart r (e ∷ hs) h =
       | inr away ↦ rw away (few_apart r hs h.1)
     ]
 
-pub one-hand : (s : Setting) (P : Past) (r : ℕ) → is_legal s P ≡ true → length (filter (takes_up r) (hands P)) ≤ 1
-one-hand s P r h = few_apart r (hands P) (hands-Apart s P h)
+pub one-hand : (P : Past) (r : ℕ) → length (filter (takes_up r) (hands P)) ≤ 1
+one-hand P r = few_apart r (hands P) (hands-Apart P)
+
+-- a role that takes something up has this alone
+pub takes-this : (r : ℕ) (e : Entry) (P : Past) → takes_up r e ≡ true → hand r (e ∷ P) ≡ Some e
+takes-this r e P u = ap (find (takes_up r)) (hands-up r e P u) ∙ rw u refl
+
+-- a reclaim without a hand takes nothing back
+pub stands-all : (r : ℕ) (P : Past) → is_free r P ≡ true → standing (Reclaim r ∷ P) ≡ Reclaim r ∷ standing P
+stands-all r P free = rw free refl
 
 few_loaded : (hs : List Entry) → OneLoaded hs → length (filter is_loaded hs) ≤ 1
 few_loaded [] h = omega arith

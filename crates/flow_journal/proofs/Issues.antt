@@ -4,24 +4,23 @@ use Rattle.std.specs.Prelude.{flat_map}
 use Rattle.std.proofs.lemmas.Bool.{and_parts, and_from, true≢false, eq-eqb, eqb-true, cases_Bool}
 use Rattle.nd_base.specs.declared.frame.FrameName.{FrameName}
 use Rattle.flow_journal.specs.declared.entry.Entry.{Entry}
-use Rattle.flow_journal.specs.declared.entry.Entry.TheVariants.{Load, Tick, Issue, Emit, Accept, Take, TakeBlock, PoolDrop, Put, Settle, Saved, Reclaim}
+use Rattle.flow_journal.specs.declared.entry.Entry.TheVariants.{Emit, Accept, Take, TakeBlock, PoolDrop, Put, Settle}
 use Rattle.flow_journal.specs.declared.entry.Why.{Why}
-use Rattle.flow_journal.specs.declared.entry.Why.TheVariants.{Plain}
-use Rattle.flow_journal.specs.Setting.{Setting, node, is_role, is_sorted, node_numbers, children}
+use Rattle.flow_journal.specs.Setting.{Setting, is_role, is_sorted}
 use Rattle.flow_journal.specs.Pasts.{Past, frame, comes_at}
 use Rattle.flow_journal.specs.Hands.{hands, standing}
 use Rattle.flow_journal.specs.QueueCounts.{gone_at}
 use Rattle.flow_journal.specs.Accepted.{accepts}
-use Rattle.flow_journal.specs.Waiting.{waiting, least_first}
+use Rattle.flow_journal.specs.Waiting.{waiting}
 use Rattle.flow_journal.specs.FirstEntries.{may_settle}
-use Rattle.flow_journal.specs.Following.{offer, look, calls_for, owed}
+use Rattle.flow_journal.specs.Following.{offer, look, owed}
 use Rattle.flow_journal.specs.Histories.{is_legal}
 use Rattle.flow_journal.proofs.Hands.{row_of}
-use Rattle.flow_journal.proofs.Counts.{times_by, queued-by, hand-standing}
-use Rattle.flow_journal.proofs.EntryCounts.{count, bit, count-cons, count-append, count-drop, count-let_go, count-let_go-le, emits_at, accepts_at, takes_at, loads_at, owed-answered, answers-by_Emit}
-use Rattle.flow_journal.proofs.Jobs.{puts-taken, issued_hand, putting_hand, reclaim_hand}
-use Rattle.flow_journal.proofs.Outs.{out_of, of_index, emits-le, none_elsewhere, result-at, flush-at, goes_out-at, waits, count-look}
-use Rattle.flow_journal.proofs.Offers.{is_number, none_numbered_0, none_at_driver}
+use Rattle.flow_journal.proofs.Counts.{times_by, queued-by}
+use Rattle.flow_journal.proofs.EntryCounts.{count, bit, count-cons, count-append, count-let_go, emits_at, accepts_at, takes_at, takes-le, leaves_at, owed-answered, answers-by_Emit}
+use Rattle.flow_journal.proofs.Jobs.{puts-taken, putting_hand}
+use Rattle.flow_journal.proofs.Outs.{out_of, of_index, none_elsewhere, goes_out-at, waits, count-look}
+use Rattle.flow_journal.proofs.Offers.{is_number, none_at_driver}
 use Rattle.flow_journal.proofs.Rows.{settle-facts}
 
 -- TAKES
@@ -38,19 +37,23 @@ accepts-count v k [] = refl
 accepts-count v k (Accept w m i ∷ P) = comes-count v w m i k (accepts v P) ∙ omega (arith, accepts-count v k P, count-cons (accepts_at v k) (Accept w m i) P)
 accepts-count v k (_ ∷ P) = accepts-count v k P
 
-gone-count : (v k : ℕ) (P : Past) → count (takes_at v k) P ≤ times_by (of_index k) (flat_map (gone_at v) P)
-gone-count v k [] = omega arith
-gone-count v k (Take r w m i ∷ P) =
-    omega (arith, gone-count v k P, comes-count v w m i k [], count-append (of_index k) (comes_at v w (frame m i) []) (flat_map (gone_at v) P), count-cons (takes_at v k) (Take r w m i) P)
-gone-count v k (TakeBlock f x r w m i b n g ∷ P) =
-    omega (arith, gone-count v k P, comes-count v w m i k [], count-append (of_index k) (comes_at v w (frame m i) []) (flat_map (gone_at v) P), count-cons (takes_at v k) (TakeBlock f x r w m i b n g) P)
-gone-count v k (PoolDrop r w m i n z ∷ P) =
-    omega (arith, gone-count v k P, count-append (of_index k) (comes_at v w (frame m i) []) (flat_map (gone_at v) P))
-gone-count v k (_ ∷ P) = gone-count v k P
+gone-leaves : (v k : ℕ) (P : Past) → times_by (of_index k) (flat_map (gone_at v) P) ≡ count (leaves_at v k) P
+gone-leaves v k [] = refl
+gone-leaves v k (Take r w m i ∷ P) =
+    omega (arith, gone-leaves v k P, comes-count v w m i k [], count-append (of_index k) (comes_at v w (frame m i) []) (flat_map (gone_at v) P), count-cons (leaves_at v k) (Take r w m i) P)
+gone-leaves v k (TakeBlock f x r w m i b n g ∷ P) =
+    omega (arith, gone-leaves v k P, comes-count v w m i k [], count-append (of_index k) (comes_at v w (frame m i) []) (flat_map (gone_at v) P), count-cons (leaves_at v k) (TakeBlock f x r w m i b n g) P)
+gone-leaves v k (PoolDrop r w m i n z ∷ P) =
+    omega (arith, gone-leaves v k P, comes-count v w m i k [], count-append (of_index k) (comes_at v w (frame m i) []) (flat_map (gone_at v) P), count-cons (leaves_at v k) (PoolDrop r w m i n z) P)
+gone-leaves v k (_ ∷ P) = gone-leaves v k P
+
+-- what left the queue was accepted
+pub leaves-accepted : (s : Setting) (P : Past) (v k : ℕ) → is_legal s P ≡ true → count (leaves_at v k) (standing P) ≤ count (accepts_at v k) P
+leaves-accepted s P v k h = omega (arith, queued-by s P v (of_index k) h, accepts-count v k P, gone-leaves v k (standing P))
 
 -- what is taken was accepted
 pub takes-accepted : (s : Setting) (P : Past) (v k : ℕ) → is_legal s P ≡ true → count (takes_at v k) (standing P) ≤ count (accepts_at v k) P
-takes-accepted s P v k h = omega (arith, queued-by s P v (of_index k) h, accepts-count v k P, gone-count v k (standing P))
+takes-accepted s P v k h = omega (arith, leaves-accepted s P v k h, takes-le v k (standing P))
 
 -- who puts does so at a node
 pub puts_at_node : (s : Setting) (r w m i : ℕ) (f : Bool) (P : Past) → is_legal s (Put r w m i f ∷ P) ≡ true → w ≢ 0
@@ -117,26 +120,3 @@ owed-Emit s w m i why P v k h =
     let was : count (emits_at v k) (owed s P) ≡ bit (eqb w v && eqb i k) + count (emits_at v k) a.rest = ap (count (emits_at v k)) a.is ∙ (count-cons (emits_at v k) a.head a.rest ∙ ap (λ (d : Entry). bit (emits_at v k d) + count (emits_at v k) a.rest) same.1) in
     let left : count (emits_at v k) (drop 1 (owed s P)) ≡ count (emits_at v k) a.rest = ap (λ (ds : List Entry). count (emits_at v k) (drop 1 ds)) a.is in
     omega (arith, was, left)
-
--- what the driver emitted and will emit was loaded, and so is what is in hand
-pub issues-loaded : (s : Setting) (P : Past) (k : ℕ) → is_legal s P ≡ true → count (emits_at 0 k) P + count (emits_at 0 k) (owed s P) + count (loads_at k) (hands P) ≤ count (loads_at k) (standing P)
-issues-loaded s [] k h = omega arith
-issues-loaded s (Load r i b n f g x ∷ P) k h =
-    omega (arith, issues-loaded s P k (and_parts _ _ h).0, count-drop (emits_at 0 k) (owed s P), count-cons (loads_at k) (Load r i b n f g x) (hands P), count-cons (loads_at k) (Load r i b n f g x) (standing P))
-issues-loaded s (Issue r i ∷ P) k h =
-    let e = issued_hand s r i P h in
-    omega (arith, issues-loaded s P k (and_parts _ _ h).0, count-drop (emits_at 0 k) (owed s P), count-cons (emits_at 0 k) (Emit 0 0 i Plain) (drop 1 (owed s P)), count-let_go (loads_at k) r e.0 (hands P) e.1, ap bit (e.2 k))
-issues-loaded s (Emit w m i why ∷ P) k h =
-    omega (arith, issues-loaded s P k (and_parts _ _ h).0, owed-Emit s w m i why P 0 k h, count-append (emits_at 0 k) (map (offer (frame m i)) (children s w)) (drop 1 (owed s P)), no_emits_in_offers 0 k (frame m i) (children s w), count-cons (emits_at 0 k) (Emit w m i why) P)
-issues-loaded s (Tick t ∷ P) k h =
-    omega (arith, issues-loaded s P k (and_parts _ _ h).0, count-append (emits_at 0 k) (calls_for s P (Tick t)) (drop 1 (owed s P)), emits-le 0 k (calls_for s P (Tick t)), looks-none s (Tick t ∷ P) 0 (of_index k) (node_numbers s) (none_numbered_0 s), count-drop (emits_at 0 k) (owed s P))
-issues-loaded s (Put r w m i f ∷ P) k h =
-    omega (arith, issues-loaded s P k (and_parts _ _ h).0, count-append (emits_at 0 k) (calls_for s P (Put r w m i f)) (drop 1 (owed s P)), emits-le 0 k (calls_for s P (Put r w m i f)), none_elsewhere w 0 (of_index k) (calls_for s P (Put r w m i f)) (puts_at_node s r w m i f P h) (result-at s w (frame m i) f P (node s w).work), count-drop (emits_at 0 k) (owed s P), count-let_go-le (loads_at k) r (hands P))
-issues-loaded s (Settle r w ∷ P) k h =
-    omega (arith, issues-loaded s P k (and_parts _ _ h).0, count-append (emits_at 0 k) (calls_for s P (Settle r w)) (drop 1 (owed s P)), emits-le 0 k (calls_for s P (Settle r w)), none_elsewhere w 0 (of_index k) (calls_for s P (Settle r w)) (settles_node s r w P h) (flush-at w (least_first s (waiting s w P))), count-drop (emits_at 0 k) (owed s P))
-issues-loaded s (Saved r w m i ∷ P) k h = omega (arith, issues-loaded s P k (and_parts _ _ h).0, count-drop (emits_at 0 k) (owed s P), count-let_go-le (loads_at k) r (hands P))
-issues-loaded s (Reclaim r ∷ P) k h =
-    let e = reclaim_hand s r P h in
-    let legal : is_legal s P ≡ true = (and_parts _ _ h).0 in
-    omega (arith, issues-loaded s P k legal, count-drop (emits_at 0 k) (owed s P), count-let_go (loads_at k) r e.0 (hands P) e.1, count-let_go (loads_at k) r e.0 (standing P) (hand-standing s P r e.0 legal e.1))
-issues-loaded s (_ ∷ P) k h = omega (arith, issues-loaded s P k (and_parts _ _ h).0, count-drop (emits_at 0 k) (owed s P))

@@ -15,12 +15,15 @@ mod SortLists
 pub mod Dues
 pub mod RingPushes
 pub mod Jobs
+pub mod Dealing
 pub mod Outs
 pub mod Offers
 pub mod Issues
 pub mod RingCounts
 pub mod Emissions
+pub mod Driver
 pub mod Once
+pub mod InQueues
 pub mod Changes
 pub mod Pieces
 pub mod Travels
@@ -30,6 +33,7 @@ pub mod Loads
 pub mod LastOuts
 pub mod FrameBlocks
 pub mod Grants
+pub mod Limits
 pub mod Places
 pub mod Totals
 pub mod TotalChanges
@@ -39,3 +43,7 @@ pub mod Kept
 pub mod Looks
 pub mod Outputs
 pub mod Indices
+pub mod Buckets
+pub mod Lengths
+pub mod Cuts
+pub mod Goings

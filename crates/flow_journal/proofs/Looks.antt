@@ -1,12 +1,13 @@
 -- What goes out of a sort list, one emission after the other.
 use Rattle.std.proofs.Common.{◌≡◌, ℕ, ◌+◌, Bool, true, false, eqb, ltb, List, [], ◌∷◌, ◌++◌, length, map, ℤ, refl, sym, ap, ◌∙◌, arith, inl, inr}
-use Rattle.std.proofs.lemmas.Bool.{and_parts, and_from, eq-eqb, cases_Bool}
+use Rattle.std.proofs.lemmas.Bool.{and_parts, and_from, eq-eqb, cases_Bool, false≢true}
 use Rattle.nd_base.specs.declared.frame.FrameName.{FrameName}
+use Rattle.flow_journal.specs.Unsaved.{is_file}
 use Rattle.flow_journal.specs.declared.entry.Entry.{Entry}
 use Rattle.flow_journal.specs.declared.entry.Entry.TheVariants.{Emit, Put, SortDrop}
 use Rattle.flow_journal.specs.declared.entry.Why.{Why}
 use Rattle.flow_journal.specs.declared.entry.Why.TheVariants.{Step, Late, Flush}
-use Rattle.flow_journal.specs.Setting.{Setting, may_sort, node, id_at, is_sorted}
+use Rattle.flow_journal.specs.Setting.{Setting, may_sort, node, id_at, is_sorted, Work, Makes, Passes, Watches, Saves}
 use Rattle.flow_journal.specs.Pasts.{Past, frame, same}
 use Rattle.flow_journal.specs.Ended.{now}
 use Rattle.flow_journal.specs.Waiting.{Waiting, not_waiting, waiting, least_first}
@@ -19,7 +20,7 @@ use Rattle.flow_journal.specs.LookLaws.{IsLeastWaiting, LookLaws}
 use Rattle.flow_journal.proofs.Steps.{same_refl}
 use Rattle.flow_journal.proofs.EntryCounts.{count, bit, count-cons, puts_at}
 use Rattle.flow_journal.proofs.Outs.{of_index, waits}
-use Rattle.flow_journal.proofs.Emissions.{sorted-emits, result-sorted, waiting-put}
+use Rattle.flow_journal.proofs.Emissions.{sorted-emits, result-sorted, waiting-put, waiting-unsorted}
 use Rattle.flow_journal.proofs.Jobs.{puts-taken}
 use Rattle.flow_journal.proofs.Issues.{takes-accepted}
 use Rattle.flow_journal.proofs.Once.{accepts-once}
@@ -37,12 +38,30 @@ goes-late s v before tick w ws h g = rw (h, g) refl
 goes-none : (s : Setting) (v : ℕ) (before : ℤ) (tick : ℕ) (w : Waiting) (ws : List Waiting) → keeps_step before (id_of s w) ≡ false → ltb (w.tick + (node s v).sort_time) tick ≡ false → goes_out s v before tick (w ∷ ws) ≡ []
 goes-none s v before tick w ws h g = rw (h, g) refl
 
+sorts_no_file : (w : Work) → may_sort w ≡ true → is_file w ≡ false
+sorts_no_file Makes h = refl
+sorts_no_file (Passes d) h = refl
+sorts_no_file (Watches pre post preset) h = refl
+sorts_no_file (Saves whole n) h = absurd (false≢true h)
+
+-- a node with a sort list saves nothing
+pub sorted_no_file : (s : Setting) (v : ℕ) → is_sorted s v ≡ true → is_file (node s v).work ≡ false
+sorted_no_file s v h = sorts_no_file (node s v).work (and_parts (may_sort (node s v).work) (ltb 0 (node s v).sort) h).0
+
+-- where something waits the node has a sort list
+waits_sorted : (s : Setting) (v : ℕ) (P : Past) (w : Waiting) (rest : List Waiting) → IsLeastWaiting s v P w rest → is_sorted s v ≡ true
+waits_sorted s v P w rest h =
+    elim (cases_Bool (is_sorted s v)) [
+      | inl sorted ↦ sorted
+      | inr plain ↦ let never : [] ≡ w ∷ rest = sym (ap (least_first s) (waiting-unsorted s v P plain)) ∙ h in cc
+    ]
+
 -- after the least one went out
 look-rest : (s : Setting) (v : ℕ) (why : Why) (P : Past) (w : Waiting) (rest : List Waiting) → IsLeastWaiting s v P w rest → look s v (emit v why w.array ∷ P) ≡ goes_out s v (id_of s w) (now P) rest
 look-rest s v why P w rest h =
     let e : Entry = emit v why w.array in
     let left : least_first s (waiting s v (e ∷ P)) ≡ rest = ap (least_first s) (put_laws.goes s v w.array.maker w.array.index why P) ∙ least_laws.left s (waiting s v P) w rest h in
-    ap (λ (before : ℤ). goes_out s v before (now P) (least_first s (waiting s v (e ∷ P)))) (clock_laws.emit s v w.array.maker w.array.index why P)
+    ap (λ (before : ℤ). goes_out s v before (now P) (least_first s (waiting s v (e ∷ P)))) (clock_laws.emit s v w.array.maker w.array.index why P (sorted_no_file s v (waits_sorted s v P w rest h)))
     ∙ ap (goes_out s v (id_of s w) (now P)) left
 
 look-least : (s : Setting) (v : ℕ) (P : Past) (w : Waiting) (rest : List Waiting) → IsLeastWaiting s v P w rest → look s v P ≡ goes_out s v (prev s v P) (now P) (w ∷ rest)
@@ -86,7 +105,7 @@ put_steps s r v m k f P sorted h in_step =
     let Q : Past = Put r v m k f ∷ P in
     let e : Entry = Emit v m k Step in
     let waits_then : waiting s v (e ∷ Q) ≡ waiting s v P = put_laws.goes s v m k Step Q ∙ gone-again s r v m k f P sorted h in
-    let after : look s v (e ∷ Q) ≡ goes_out s v (id_at s k) (now P) (least_first s (waiting s v P)) = ap (λ (before : ℤ). goes_out s v before (now P) (least_first s (waiting s v (e ∷ Q)))) (clock_laws.emit s v m k Step Q) ∙ ap (λ (ws : List Waiting). goes_out s v (id_at s k) (now P) (least_first s ws)) waits_then in
+    let after : look s v (e ∷ Q) ≡ goes_out s v (id_at s k) (now P) (least_first s (waiting s v P)) = ap (λ (before : ℤ). goes_out s v before (now P) (least_first s (waiting s v (e ∷ Q)))) (clock_laws.emit s v m k Step Q (sorted_no_file s v sorted)) ∙ ap (λ (ws : List Waiting). goes_out s v (id_at s k) (now P) (least_first s ws)) waits_then in
     put_result s r v m k f P sorted ∙ (rw in_step refl ∙ ap (λ (ds : List Entry). e ∷ ds) (sym after))
 
 put_full : (s : Setting) (r v m k : ℕ) (f : Bool) (P : Past) → is_sorted s v ≡ true → is_legal s (Put r v m k f ∷ P) ≡ true → keeps_step (prev s v P) (id_at s k) ≡ false → length (waiting s v P) ≡ (node s v).sort → calls_for s P (Put r v m k f) ≡ SortDrop v m k ∷ look s v (SortDrop v m k ∷ Put r v m k f ∷ P)

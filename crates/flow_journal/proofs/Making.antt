@@ -3,19 +3,19 @@ use Rattle.std.proofs.Common.{◌≡◌, ◌≢◌, ℕ, ◌+◌, ◌≤◌, Boo
 use Rattle.std.proofs.lemmas.Bool.{and_parts, and_from, eq-eqb, eqb-true, cases_Bool}
 use Rattle.nd_base.specs.declared.frame.FrameName.{FrameName}
 use Rattle.flow_journal.specs.declared.entry.Entry.{Entry}
-use Rattle.flow_journal.specs.declared.entry.Entry.TheVariants.{Load, Issue, Take, TakeBlock, Put, Save, Saved, Reclaim}
+use Rattle.flow_journal.specs.declared.entry.Entry.TheVariants.{Load, Issue, Take, TakeBlock, Put, Save, Reclaim}
 use Rattle.flow_journal.specs.Setting.{Setting}
 use Rattle.flow_journal.specs.Pasts.{Past, frame, same}
 use Rattle.flow_journal.specs.Hands.{hands, hand, standing}
 use Rattle.flow_journal.specs.Histories.{is_legal}
 use Rattle.flow_journal.proofs.Rows.{row_laws}
 use Rattle.flow_journal.proofs.Hands.{row_of}
-use Rattle.flow_journal.proofs.Counts.{hand-standing}
-use Rattle.flow_journal.proofs.EntryCounts.{count, bit, count-cons, count-let_go, count-let_go-le, accepts_at, puts_at, takes_at, loads_at}
-use Rattle.flow_journal.proofs.Jobs.{puts-taken, issued_hand, reclaim_hand}
+use Rattle.flow_journal.proofs.EntryCounts.{count, bit, count-cons, count-let_go, accepts_at, puts_at, takes_at, loads_at}
+use Rattle.flow_journal.proofs.Jobs.{puts-taken}
 use Rattle.flow_journal.proofs.Offers.{none_at_driver}
 use Rattle.flow_journal.proofs.FrameBlocks.{loads-cons}
 use Rattle.flow_journal.proofs.Issues.{takes-accepted, puts_at_node}
+use Rattle.flow_journal.proofs.Driver.{issues_at, issues-loads}
 use Rattle.flow_journal.proofs.Once.{load-once, accepts-once}
 use Rattle.flow_journal.proofs.Travels.{holds_by, holds, issued_by, made_by, ClearBy, Clear, clear-start, clear_by-more, hand-clear}
 
@@ -26,28 +26,6 @@ is_frame a x = same x a
 -- none at all
 abbrev pub no_frame : FrameName → Bool
 no_frame x = false
-
--- ISSUES
-
-abbrev issues_at : ℕ → Entry → Bool
-issues_at k (Issue r i) = eqb i k
-issues_at k _ = false
-
--- what was issued was loaded, and so is what is in hand
-issues_of_loads : (s : Setting) (P : Past) (k : ℕ) → is_legal s P ≡ true → count (issues_at k) P + count (loads_at k) (hands P) ≤ count (loads_at k) (standing P)
-issues_of_loads s [] k h = omega arith
-issues_of_loads s (Load r i b n f g x ∷ P) k h =
-    omega (arith, issues_of_loads s P k (and_parts _ _ h).0, count-cons (loads_at k) (Load r i b n f g x) (hands P), count-cons (loads_at k) (Load r i b n f g x) (standing P))
-issues_of_loads s (Issue r i ∷ P) k h =
-    let e = issued_hand s r i P h in
-    omega (arith, issues_of_loads s P k (and_parts _ _ h).0, count-cons (issues_at k) (Issue r i) P, count-let_go (loads_at k) r e.0 (hands P) e.1, ap bit (e.2 k))
-issues_of_loads s (Put r w m i f ∷ P) k h = omega (arith, issues_of_loads s P k (and_parts _ _ h).0, count-let_go-le (loads_at k) r (hands P))
-issues_of_loads s (Saved r w m i ∷ P) k h = omega (arith, issues_of_loads s P k (and_parts _ _ h).0, count-let_go-le (loads_at k) r (hands P))
-issues_of_loads s (Reclaim r ∷ P) k h =
-    let e = reclaim_hand s r P h in
-    let legal : is_legal s P ≡ true = (and_parts _ _ h).0 in
-    omega (arith, issues_of_loads s P k legal, count-let_go (loads_at k) r e.0 (hands P) e.1, count-let_go (loads_at k) r e.0 (standing P) (hand-standing s P r e.0 legal e.1))
-issues_of_loads s (_ ∷ P) k h = issues_of_loads s P k (and_parts _ _ h).0
 
 -- NO PLACE ELSEWHERE
 
@@ -170,7 +148,7 @@ unloaded-nowhere s r k b n f g x P h =
     let e : Entry = Load r k b n f g x in
     let legal : is_legal s P ≡ true = (and_parts _ _ h).0 in
     let none : count (loads_at k) (standing P) ≡ 0 = omega (arith, load-once s (e ∷ P) k h, count-cons (loads_at k) e (standing P), ap bit (eq-eqb k k refl)) in
-    let issued = issues_of_loads s P k legal in
+    let issued = issues-loads s P k legal in
     let takes = puts-taken s P 0 k legal in
     nowhere s P (frame 0 k) legal (omega (arith, none, issued)) (omega (arith, none, issued, takes, none_taken s P k legal))
 
@@ -181,7 +159,7 @@ reclaimed-nowhere s r q k b n f g x P h held =
     let legal : is_legal s P ≡ true = (and_parts _ _ h).0 in
     let fewer = count-let_go (loads_at k) r e (hands P) held in
     let one : bit (loads_at k e) ≡ 1 = ap bit (eq-eqb k k refl) in
-    let issued = issues_of_loads s P k legal in
+    let issued = issues-loads s P k legal in
     let most = load-once s P k legal in
     let takes = puts-taken s (Reclaim r ∷ P) 0 k h in
     let same_issues : count (issues_at k) (Reclaim r ∷ P) ≡ count (issues_at k) P = refl in

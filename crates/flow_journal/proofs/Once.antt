@@ -1,27 +1,28 @@
 -- A node accepts an array of each index once at most.
-use Rattle.std.proofs.Common.{◌≡◌, ◌≢◌, ℕ, zero, suc, ◌+◌, ◌≤◌, Bool, true, false, eqb, List, [], ◌∷◌, ◌++◌, refl, sym, ap, ◌∙◌, subst, arith, inl, inr}
+use Rattle.std.proofs.Common.{◌≡◌, ◌≢◌, ℕ, zero, suc, ◌+◌, ◌≤◌, Bool, true, false, eqb, ltb, List, [], ◌∷◌, ◌++◌, length, refl, sym, ap, ◌∙◌, subst, arith, inl, inr}
 use Rattle.std.specs.Prelude.{flat_map}
 use Rattle.std.specs.List.{list_any}
-use Rattle.std.proofs.lemmas.Bool.{and_parts, or_from, ne_eqb, eqb-true, eq-eqb, true≢false, or_parts, cases_Bool}
+use Rattle.std.proofs.lemmas.Bool.{and_parts, or_from, ne_eqb, eqb-true, eq-eqb, true≢false, or_parts, lt-ltb, cases_Bool}
 use Rattle.pool_ledger.specs.Grants.{above, missing_from, least_missing}
 use Rattle.flow_journal.specs.declared.entry.Entry.{Entry}
-use Rattle.flow_journal.specs.declared.entry.Entry.TheVariants.{Load, LoadRefused, Emit, Accept, Reclaim}
+use Rattle.flow_journal.specs.declared.entry.Entry.TheVariants.{Load, LoadRefused, Emit, Accept, Full, Reclaim}
 use Rattle.flow_journal.specs.Setting.{Setting, node}
 use Rattle.flow_journal.specs.Pasts.{Past}
 use Rattle.flow_journal.specs.Hands.{standing}
-use Rattle.flow_journal.specs.Offered.{loads, offered_frames, next_index}
+use Rattle.flow_journal.specs.Offered.{loads, offered_frames}
 use Rattle.flow_journal.specs.FirstEntries.{may_load, pool_grants}
 use Rattle.flow_journal.specs.Following.{owed}
 use Rattle.flow_journal.specs.Histories.{is_legal}
-use Rattle.flow_journal.proofs.Hands.{row_of}
-use Rattle.flow_journal.proofs.EntryCounts.{count, bit, count-cons, count-let_go-le, emits_at, accepts_at, loads_at, owed-answered, answers-by_Accept}
+use Rattle.flow_journal.proofs.Hands.{row_of, stands-less}
+use Rattle.flow_journal.proofs.EntryCounts.{count, bit, count-cons, count-let_go-le, emits_at, accepts_at, arrives_at, arrives-le, loads_at, owed-answered, answers-by_Accept, answers-by_Full}
 use Rattle.flow_journal.proofs.Jobs.{puts-taken}
-use Rattle.flow_journal.proofs.Offers.{accepts-emitted}
-use Rattle.flow_journal.proofs.Issues.{takes-accepted, issues-loaded, comes-count, accepts-count}
+use Rattle.flow_journal.proofs.Offers.{arrives-emitted}
+use Rattle.flow_journal.proofs.Issues.{takes-accepted, comes-count, accepts-count}
 use Rattle.flow_journal.proofs.Counts.{times_by}
 use Rattle.flow_journal.proofs.Outs.{of_index}
 use Rattle.flow_journal.specs.Accepted.{accepts, emitted}
 use Rattle.flow_journal.proofs.Emissions.{emits-puts}
+use Rattle.flow_journal.proofs.Driver.{emits-loaded}
 use Rattle.flow_journal.proofs.Rows.{load-facts}
 
 -- THE LEAST MISSING NUMBER
@@ -65,45 +66,68 @@ not_loaded k (Load r i b n f g x ∷ P) h =
 not_loaded k (LoadRefused r i n z ∷ P) h = not_loaded k P (among-append k (i ∷ []) (flat_map loads P) h).1
 not_loaded k (_ ∷ P) h = not_loaded k P h
 
--- of each frame one load stands at most
-pub load-once : (s : Setting) (P : Past) (k : ℕ) → is_legal s P ≡ true → count (loads_at k) (standing P) ≤ 1
-load-once s [] k h = omega arith
-load-once s (Load r i b n f g x ∷ P) k h =
-    let before = load-once s P k (and_parts _ _ h).0 in
+bit-le : (b : Bool) → bit b ≤ 1
+bit-le true = omega arith
+bit-le false = omega arith
+
+-- of each frame of the stack one load stands at most, and of no other any
+pub load-few : (s : Setting) (P : Past) (k : ℕ) → is_legal s P ≡ true → count (loads_at k) (standing P) ≤ bit (ltb k (length s.ids))
+load-few s [] k h = omega arith
+load-few s (Load r i b n f g x ∷ P) k h =
+    let before = load-few s P k (and_parts _ _ h).0 in
     let may : may_load s r i P ≡ true = (and_parts (may_load s r i P) (pool_grants s 0 b n f g x P) (row_of s (Load r i b n f g x) P (λ d. refl) h)).0 in
-    let turn : i ≡ next_index P = (load-facts s r i P may).in_turn in
-    let none : count (loads_at i) (standing P) ≡ 0 = not_loaded i (standing P) (subst (λ (j : ℕ). is_among j (offered_frames P) ≡ false) (sym turn) (least_missing-not_among (offered_frames P))) in
+    let facts = load-facts s r i P may in
+    let none : count (loads_at i) (standing P) ≡ 0 = not_loaded i (standing P) (subst (λ (j : ℕ). is_among j (offered_frames P) ≡ false) (sym facts.in_turn) (least_missing-not_among (offered_frames P))) in
     elim (cases_Bool (eqb i k)) [
       | inl same ↦
-          let none_k : count (loads_at k) (standing P) ≡ 0 = subst (λ (j : ℕ). count (loads_at j) (standing P) ≡ 0) (eqb-true i k same) none in
-          omega (arith, none_k, count-cons (loads_at k) (Load r i b n f g x) (standing P), ap bit same)
+          let is : i ≡ k = eqb-true i k same in
+          let none_k : count (loads_at k) (standing P) ≡ 0 = subst (λ (j : ℕ). count (loads_at j) (standing P) ≡ 0) is none in
+          let low : ltb k (length s.ids) ≡ true = subst (λ (j : ℕ). ltb j (length s.ids) ≡ true) is (lt-ltb i (length s.ids) facts.some) in
+          omega (arith, none_k, count-cons (loads_at k) (Load r i b n f g x) (standing P), ap bit same, ap bit low)
       | inr other ↦ omega (arith, before, count-cons (loads_at k) (Load r i b n f g x) (standing P), ap bit other)
     ]
-load-once s (Reclaim r ∷ P) k h = omega (arith, load-once s P k (and_parts _ _ h).0, count-let_go-le (loads_at k) r (standing P))
-load-once s (_ ∷ P) k h = load-once s P k (and_parts _ _ h).0
+load-few s (Reclaim r ∷ P) k h = omega (arith, load-few s P k (and_parts _ _ h).0, count-let_go-le (loads_at k) r (standing P), ap (count (loads_at k)) (stands-less s r P h))
+load-few s (_ ∷ P) k h = load-few s P k (and_parts _ _ h).0
 
--- ACCEPTS
+pub load-once : (s : Setting) (P : Past) (k : ℕ) → is_legal s P ≡ true → count (loads_at k) (standing P) ≤ 1
+load-once s P k h = omega (arith, load-few s P k h, bit-le (ltb k (length s.ids)))
 
--- a node emits no more of an index than it accepted, and the driver no more than was loaded
-pub emits-once : (s : Setting) (P : Past) (v k : ℕ) → is_legal s P ≡ true → ((c : ℕ) → count (accepts_at c k) P ≤ 1) → count (emits_at v k) P ≤ 1
-emits-once s P v k h once =
+-- ARRIVALS
+
+-- a node emits no more of an index than came to it, and the driver no more than was loaded
+emits-bounded : (s : Setting) (P : Past) (v k : ℕ) → is_legal s P ≡ true → ((c : ℕ) → count (arrives_at c k) P ≤ bit (ltb k (length s.ids))) → count (emits_at v k) P ≤ bit (ltb k (length s.ids))
+emits-bounded s P v k h few =
     elim (cases_Bool (eqb v 0)) [
-      | inl driver ↦ subst (λ (u : ℕ). count (emits_at u k) P ≤ 1) (sym (eqb-true v 0 driver)) (omega (arith, issues-loaded s P k h, load-once s P k h))
+      | inl driver ↦ subst (λ (u : ℕ). count (emits_at u k) P ≤ bit (ltb k (length s.ids))) (sym (eqb-true v 0 driver)) (omega (arith, emits-loaded s P k h, load-few s P k h))
       | inr at_node ↦
           let nz : v ≢ 0 = λ e. true≢false (sym (eq-eqb v 0 e) ∙ at_node) in
-          omega (arith, emits-puts s P v k nz h, puts-taken s P v k h, takes-accepted s P v k h, once v)
+          omega (arith, emits-puts s P v k nz h, puts-taken s P v k h, takes-accepted s P v k h, arrives-le v k P, few v)
     ]
 
-pub accepts-once : (s : Setting) (P : Past) (c k : ℕ) → is_legal s P ≡ true → count (accepts_at c k) P ≤ 1
-accepts-once s [] c k h = omega arith
-accepts-once s (Accept w m i ∷ P) c k h =
+-- of each frame of the stack one array comes to a node at most, and of no other any
+pub arrives-few : (s : Setting) (P : Past) (c k : ℕ) → is_legal s P ≡ true → count (arrives_at c k) P ≤ bit (ltb k (length s.ids))
+arrives-few s [] c k h = omega arith
+arrives-few s (Accept w m i ∷ P) c k h =
     let legal : is_legal s P ≡ true = (and_parts _ _ h).0 in
     let a = owed-answered s (Accept w m i) P refl h in
     let same = answers-by_Accept s P w m i a.head a.answer in
-    let was : count (accepts_at c k) (owed s P) ≡ bit (accepts_at c k (Accept w m i)) + count (accepts_at c k) a.rest = ap (count (accepts_at c k)) a.is ∙ (count-cons (accepts_at c k) a.head a.rest ∙ ap (λ (d : Entry). bit (accepts_at c k d) + count (accepts_at c k) a.rest) same) in
-    let once = emits-once s P (node s c).input k legal (λ (u : ℕ). accepts-once s P u k legal) in
-    omega (arith, accepts-emitted s P c k legal, was, once, count-cons (accepts_at c k) (Accept w m i) P)
-accepts-once s (_ ∷ P) c k h = accepts-once s P c k (and_parts _ _ h).0
+    let was : count (arrives_at c k) (owed s P) ≡ bit (arrives_at c k (Accept w m i)) + count (arrives_at c k) a.rest = ap (count (arrives_at c k)) a.is ∙ (count-cons (arrives_at c k) a.head a.rest ∙ ap (λ (d : Entry). bit (arrives_at c k d) + count (arrives_at c k) a.rest) same) in
+    let few = emits-bounded s P (node s c).input k legal (λ (u : ℕ). arrives-few s P u k legal) in
+    omega (arith, arrives-emitted s P c k legal, was, few, count-cons (arrives_at c k) (Accept w m i) P)
+arrives-few s (Full w m i ∷ P) c k h =
+    let legal : is_legal s P ≡ true = (and_parts _ _ h).0 in
+    let a = owed-answered s (Full w m i) P refl h in
+    let same = answers-by_Full s P w m i c k a.head a.answer in
+    let was : count (arrives_at c k) (owed s P) ≡ bit (arrives_at c k (Full w m i)) + count (arrives_at c k) a.rest = ap (count (arrives_at c k)) a.is ∙ (count-cons (arrives_at c k) a.head a.rest ∙ ap (λ (b : Bool). bit b + count (arrives_at c k) a.rest) same) in
+    let few = emits-bounded s P (node s c).input k legal (λ (u : ℕ). arrives-few s P u k legal) in
+    omega (arith, arrives-emitted s P c k legal, was, few, count-cons (arrives_at c k) (Full w m i) P)
+arrives-few s (_ ∷ P) c k h = arrives-few s P c k (and_parts _ _ h).0
+
+pub accepts-once : (s : Setting) (P : Past) (c k : ℕ) → is_legal s P ≡ true → count (accepts_at c k) P ≤ 1
+accepts-once s P c k h = omega (arith, arrives-le c k P, arrives-few s P c k h, bit-le (ltb k (length s.ids)))
+
+pub emits-few : (s : Setting) (P : Past) (v k : ℕ) → is_legal s P ≡ true → count (emits_at v k) P ≤ bit (ltb k (length s.ids))
+emits-few s P v k h = emits-bounded s P v k h (λ (u : ℕ). arrives-few s P u k h)
 
 emitted-count : (v k : ℕ) (P : Past) → times_by (of_index k) (emitted v P) ≡ count (emits_at v k) P
 emitted-count v k [] = refl
@@ -114,4 +138,4 @@ pub accepts_once-law : (s : Setting) (P : Past) (v k : ℕ) → is_legal s P ≡
 accepts_once-law s P v k h = omega (arith, accepts-once s P v k h, accepts-count v k P)
 
 pub emits_once-law : (s : Setting) (P : Past) (v k : ℕ) → is_legal s P ≡ true → times_by (of_index k) (emitted v P) ≤ 1
-emits_once-law s P v k h = omega (arith, emits-once s P v k h (λ (u : ℕ). accepts-once s P u k h), emitted-count v k P)
+emits_once-law s P v k h = omega (arith, emits-few s P v k h, bit-le (ltb k (length s.ids)), emitted-count v k P)

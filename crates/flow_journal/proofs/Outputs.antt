@@ -1,5 +1,5 @@
 -- What went out of a node without a sort list, and what must still go out of it.
-use Rattle.std.proofs.Common.{◌≡◌, ◌≢◌, ℕ, ◌≤◌, Bool, true, false, cond, eqb, List, [], ◌∷◌, ◌++◌, map, length, drop, refl, sym, ap, ◌∙◌, subst, inl, inr}
+use Rattle.std.proofs.Common.{◌≡◌, ◌≢◌, ℕ, ◌+◌, ◌≤◌, Bool, true, false, ◌&&◌, cond, eqb, List, [], ◌∷◌, ◌++◌, map, length, drop, refl, sym, ap, ◌∙◌, subst, arith, inl, inr}
 use Rattle.std.specs.Prelude.{flat_map}
 use Rattle.std.specs.List.{list_all}
 use Rattle.std.proofs.lemmas.Bool.{and_parts, true≢false, false≢true, eqb-true, eqb-false, cases_Bool}
@@ -11,21 +11,26 @@ use Rattle.flow_journal.specs.declared.entry.Entry.{Entry}
 use Rattle.flow_journal.specs.declared.entry.Entry.TheVariants.{Load, LoadRefused, Tick, Issue, Emit, Accept, Full, Take, TakeBlock, PoolDrop, Put, SortDrop, Settle, Save, Saved, Close, Leave, Reclaim}
 use Rattle.flow_journal.specs.declared.entry.Why.{Why}
 use Rattle.flow_journal.specs.declared.entry.Why.TheVariants.{Plain, Flush, Ring, Now}
-use Rattle.flow_journal.specs.Setting.{Setting, Work, Makes, Passes, Watches, Saves, node, may_sort, is_sorted, node_numbers, children}
-use Rattle.flow_journal.specs.Pasts.{Past, frame, comes_at}
+use Rattle.flow_journal.specs.Setting.{Setting, Work, Makes, Passes, Watches, Saves, node, may_sort, is_sorted, node_numbers}
+use Rattle.flow_journal.specs.Turns.{offered_to}
+use Rattle.flow_journal.specs.Pasts.{Past, frame, same, comes_at}
 use Rattle.flow_journal.specs.Puts.{puts, firings}
 use Rattle.flow_journal.specs.Waiting.{Waiting, waiting, least_first}
 use Rattle.flow_journal.specs.Rings.{ring}
+use Rattle.flow_journal.specs.QueueCounts.{times}
 use Rattle.flow_journal.specs.Accepted.{emitted}
 use Rattle.flow_journal.specs.Following.{offer, emit, look, result, calls_for, owed}
 use Rattle.flow_journal.specs.Histories.{answers, is_legal, is_history, is_nothing}
 use Rattle.flow_journal.specs.Pushes.{is_nothing-true}
-use Rattle.flow_journal.specs.OutputLaws.{OutputLaws}
+use Rattle.flow_journal.specs.OutputLaws.{sort_dropped, issued, OutputLaws}
 use Rattle.flow_journal.proofs.Steps.{comes_here, comes_elsewhere}
 use Rattle.flow_journal.proofs.Hands.{row_of}
-use Rattle.flow_journal.proofs.EntryCounts.{owed-first, owed-answered, answers-by_Emit, answers-by_Accept, answers-by_SortDrop, answers-by_Tick}
-use Rattle.flow_journal.proofs.Outs.{is_out_at, AllOutAt, flush-at, goes_out-at, result-at}
-use Rattle.flow_journal.proofs.Emissions.{waiting-unsorted, flags-puts}
+use Rattle.flow_journal.proofs.Counts.{times_by}
+use Rattle.flow_journal.proofs.EntryCounts.{count, bit, count-cons, count-append, puts_of, owed-first, owed-answered, answers-by_Emit, answers-by_Accept, answers-by_SortDrop, answers-by_Tick}
+use Rattle.flow_journal.proofs.Outs.{out_of, waits, is_out_at, AllOutAt, flush-at, goes_out-at, result-at}
+use Rattle.flow_journal.proofs.Issues.{puts_at_node}
+use Rattle.flow_journal.proofs.Emissions.{sorted-outs, waiting-unsorted, flags-puts}
+use Rattle.flow_journal.proofs.LastOuts.{any_array, none_out}
 use Rattle.flow_journal.proofs.Settled.{put-unsettled}
 use Rattle.flow_journal.proofs.Changes.{ring_laws}
 
@@ -102,67 +107,68 @@ abbrev lets_none_out : Entry → Bool
 lets_none_out (Emit w m k why) = false
 lets_none_out _ = true
 
-none_out : (v : ℕ) (d : Entry) → lets_none_out d ≡ true → outs_of v (d ∷ []) ≡ []
-none_out v (Emit w m k why) h = absurd (false≢true h)
-none_out v _ h = refl
+quiet_out : (v : ℕ) (d : Entry) → lets_none_out d ≡ true → outs_of v (d ∷ []) ≡ []
+quiet_out v (Emit w m k why) h = absurd (false≢true h)
+quiet_out v _ h = refl
 
--- the entry is a put at the node
+-- the entry is a put at the node, or an issue
 abbrev puts_here : ℕ → Entry → Bool
 puts_here v (Put r w m k f) = eqb w v
+puts_here v (Issue r k) = true
 puts_here v _ = false
 
--- what a node without a sort list has to let out by its puts
+-- what a node without a sort list has to let out by its puts, and the driver by its issues
 record Target (s : Setting) (v : ℕ) (T : Past → List FrameName) : Type 0 where
   start : T [] ≡ []
   put : (r m k : ℕ) (f : Bool) (P : Past) → is_legal s (Put r v m k f ∷ P) ≡ true → T (Put r v m k f ∷ P) ≡ T P ++ outs_of v (calls_for s P (Put r v m k f))
+  issue : (r k : ℕ) (P : Past) → T (Issue r k ∷ P) ≡ T P ++ outs_of v (calls_for s P (Issue r k))
   others : (e : Entry) (P : Past) → puts_here v e ≡ false → T (e ∷ P) ≡ T P
 
-outputs : (s : Setting) (v : ℕ) (T : Past → List FrameName) → v ≢ 0 → is_sorted s v ≡ false → Target s v T → (P : Past) → is_legal s P ≡ true → so_far s v P ≡ T P
-outputs s v T nz plain t [] h = sym t.start
-outputs s v T nz plain t (Put r w m k f ∷ P) h =
+outputs : (s : Setting) (v : ℕ) (T : Past → List FrameName) → is_sorted s v ≡ false → Target s v T → (P : Past) → is_legal s P ≡ true → so_far s v P ≡ T P
+outputs s v T plain t [] h = sym t.start
+outputs s v T plain t (Put r w m k f ∷ P) h =
     let legal : is_legal s P ≡ true = (and_parts _ _ h).0 in
     let none : owed s P ≡ [] = owed-first s (Put r w m k f) P (λ d. refl) h in
     elim (cases_Bool (eqb w v)) [
       | inl here ↦
           subst (λ (u : ℕ). is_legal s (Put r u m k f ∷ P) ≡ true → so_far s v (Put r u m k f ∷ P) ≡ T (Put r u m k f ∷ P)) (sym (eqb-true w v here))
-          (λ g. begun s v (Put r v m k f) P none refl ∙ (ap (λ (xs : List FrameName). xs ++ outs_of v (calls_for s P (Put r v m k f))) (outputs s v T nz plain t P legal) ∙ sym (t.put r m k f P g))) h
-      | inr away ↦ begun-still s v (Put r w m k f) P none refl (outs-elsewhere w v (calls_for s P (Put r w m k f)) (eqb-false w v away) (result-at s w (frame m k) f P (node s w).work)) ∙ (outputs s v T nz plain t P legal ∙ sym (t.others (Put r w m k f) P away))
+          (λ g. begun s v (Put r v m k f) P none refl ∙ (ap (λ (xs : List FrameName). xs ++ outs_of v (calls_for s P (Put r v m k f))) (outputs s v T plain t P legal) ∙ sym (t.put r m k f P g))) h
+      | inr away ↦ begun-still s v (Put r w m k f) P none refl (outs-elsewhere w v (calls_for s P (Put r w m k f)) (eqb-false w v away) (result-at s w (frame m k) f P (node s w).work)) ∙ (outputs s v T plain t P legal ∙ sym (t.others (Put r w m k f) P away))
     ]
-outputs s v T nz plain t (Emit w m k why ∷ P) h =
+outputs s v T plain t (Emit w m k why ∷ P) h =
     let legal : is_legal s P ≡ true = (and_parts _ _ h).0 in
     let a = owed-answered s (Emit w m k why) P refl h in
     let is = answers-by_Emit s P w m k why a.head a.answer in
     let here : outs_of v (a.head ∷ []) ≡ comes_at v w (frame m k) [] = ap (λ (d : Entry). outs_of v (d ∷ [])) is.1 ∙ append-nil (comes_at v w (frame m k) []) in
     let more : emitted v (Emit w m k why ∷ P) ≡ emitted v P ++ outs_of v (a.head ∷ []) = comes-last v w (frame m k) (emitted v P) ∙ ap (λ (xs : List FrameName). emitted v P ++ xs) (sym here) in
-    went_on s v (Emit w m k why) a.head a.rest P a.is (outs-offers v (frame m k) (children s w)) more ∙ (outputs s v T nz plain t P legal ∙ sym (t.others (Emit w m k why) P refl))
+    went_on s v (Emit w m k why) a.head a.rest P a.is (outs-offers v (frame m k) (offered_to s P w)) more ∙ (outputs s v T plain t P legal ∙ sym (t.others (Emit w m k why) P refl))
   where
     comes-last : (v w : ℕ) (a : FrameName) (xs : List FrameName) → comes_at v w a xs ≡ xs ++ comes_at v w a []
     comes-last v w a xs = elim (eqb w v) as (λ b. cond b (xs ++ a ∷ []) xs ≡ xs ++ cond b (a ∷ []) []) [ true ↦ refl | false ↦ sym (append-nil xs) ]
-outputs s v T nz plain t (Accept w m k ∷ P) h =
+outputs s v T plain t (Accept w m k ∷ P) h =
     let a = owed-answered s (Accept w m k) P refl h in
     let quiet : outs_of v (a.head ∷ []) ≡ [] = ap (λ (d : Entry). outs_of v (d ∷ [])) (answers-by_Accept s P w m k a.head a.answer) in
-    went_on s v (Accept w m k) a.head a.rest P a.is refl (sym (ap (λ (xs : List FrameName). emitted v P ++ xs) quiet ∙ append-nil (emitted v P))) ∙ (outputs s v T nz plain t P (and_parts _ _ h).0 ∙ sym (t.others (Accept w m k) P refl))
-outputs s v T nz plain t (Full w m k ∷ P) h =
+    went_on s v (Accept w m k) a.head a.rest P a.is refl (sym (ap (λ (xs : List FrameName). emitted v P ++ xs) quiet ∙ append-nil (emitted v P))) ∙ (outputs s v T plain t P (and_parts _ _ h).0 ∙ sym (t.others (Accept w m k) P refl))
+outputs s v T plain t (Full w m k ∷ P) h =
     let a = owed-answered s (Full w m k) P refl h in
-    let quiet : outs_of v (a.head ∷ []) ≡ [] = none_out v a.head (answers-by_Full s P w m k a.head a.answer) in
-    went_on s v (Full w m k) a.head a.rest P a.is refl (sym (ap (λ (xs : List FrameName). emitted v P ++ xs) quiet ∙ append-nil (emitted v P))) ∙ (outputs s v T nz plain t P (and_parts _ _ h).0 ∙ sym (t.others (Full w m k) P refl))
+    let quiet : outs_of v (a.head ∷ []) ≡ [] = quiet_out v a.head (answers-by_Full s P w m k a.head a.answer) in
+    went_on s v (Full w m k) a.head a.rest P a.is refl (sym (ap (λ (xs : List FrameName). emitted v P ++ xs) quiet ∙ append-nil (emitted v P))) ∙ (outputs s v T plain t P (and_parts _ _ h).0 ∙ sym (t.others (Full w m k) P refl))
   where
     answers-by_Full : (s : Setting) (P : Past) (v m k : ℕ) (d : Entry) → answers s P (Full v m k) d ≡ true → lets_none_out d ≡ true
     answers-by_Full s P v m k (Emit w n j why) h = h
     answers-by_Full s P v m k _ h = refl
-outputs s v T nz plain t (SortDrop w m k ∷ P) h =
+outputs s v T plain t (SortDrop w m k ∷ P) h =
     let a = owed-answered s (SortDrop w m k) P refl h in
     let quiet : outs_of v (a.head ∷ []) ≡ [] = ap (λ (d : Entry). outs_of v (d ∷ [])) (answers-by_SortDrop s P w m k a.head a.answer) in
-    went_on s v (SortDrop w m k) a.head a.rest P a.is refl (sym (ap (λ (xs : List FrameName). emitted v P ++ xs) quiet ∙ append-nil (emitted v P))) ∙ (outputs s v T nz plain t P (and_parts _ _ h).0 ∙ sym (t.others (SortDrop w m k) P refl))
-outputs s v T nz plain t (Tick u ∷ P) h =
+    went_on s v (SortDrop w m k) a.head a.rest P a.is refl (sym (ap (λ (xs : List FrameName). emitted v P ++ xs) quiet ∙ append-nil (emitted v P))) ∙ (outputs s v T plain t P (and_parts _ _ h).0 ∙ sym (t.others (SortDrop w m k) P refl))
+outputs s v T plain t (Tick u ∷ P) h =
     let a = owed-answered s (Tick u) P refl h in
     let quiet : outs_of v (a.head ∷ []) ≡ [] = ap (λ (d : Entry). outs_of v (d ∷ [])) (answers-by_Tick s P u a.head a.answer).1 in
-    went_on s v (Tick u) a.head a.rest P a.is (outs-looks s v (Tick u ∷ P) (node_numbers s) plain) (sym (ap (λ (xs : List FrameName). emitted v P ++ xs) quiet ∙ append-nil (emitted v P))) ∙ (outputs s v T nz plain t P (and_parts _ _ h).0 ∙ sym (t.others (Tick u) P refl))
-outputs s v T nz plain t (Issue r k ∷ P) h =
+    went_on s v (Tick u) a.head a.rest P a.is (outs-looks s v (Tick u ∷ P) (node_numbers s) plain) (sym (ap (λ (xs : List FrameName). emitted v P ++ xs) quiet ∙ append-nil (emitted v P))) ∙ (outputs s v T plain t P (and_parts _ _ h).0 ∙ sym (t.others (Tick u) P refl))
+outputs s v T plain t (Issue r k ∷ P) h =
     let none : owed s P ≡ [] = owed-first s (Issue r k) P (λ d. refl) h in
-    let driver : outs_of v (calls_for s P (Issue r k)) ≡ [] = ap (λ (xs : List FrameName). xs ++ []) (comes_elsewhere v 0 (frame 0 k) [] (λ e. nz (sym e))) in
-    begun-still s v (Issue r k) P none refl driver ∙ (outputs s v T nz plain t P (and_parts _ _ h).0 ∙ sym (t.others (Issue r k) P refl))
-outputs s v T nz plain t (Settle r w ∷ P) h =
+    begun s v (Issue r k) P none refl ∙ (ap (λ (xs : List FrameName). xs ++ outs_of v (calls_for s P (Issue r k))) (outputs s v T plain t P (and_parts _ _ h).0) ∙ sym (t.issue r k P))
+outputs s v T plain t (Settle r w ∷ P) h =
     let none : owed s P ≡ [] = owed-first s (Settle r w) P (λ d. refl) h in
     let quiet : outs_of v (calls_for s P (Settle r w)) ≡ [] = elim (cases_Bool (eqb w v)) [
       | inl here ↦
@@ -170,34 +176,34 @@ outputs s v T nz plain t (Settle r w ∷ P) h =
           ap (λ (ws : List Waiting). outs_of v (map (λ u. emit w Flush u.array) (least_first s ws))) (waiting-unsorted s w P off)
       | inr away ↦ outs-elsewhere w v (calls_for s P (Settle r w)) (eqb-false w v away) (flush-at w (least_first s (waiting s w P)))
     ] in
-    begun-still s v (Settle r w) P none refl quiet ∙ (outputs s v T nz plain t P (and_parts _ _ h).0 ∙ sym (t.others (Settle r w) P refl))
-outputs s v T nz plain t (Load r k b n f g x ∷ P) h =
-    begun-still s v (Load r k b n f g x) P (owed-first s (Load r k b n f g x) P (λ d. refl) h) refl refl ∙ (outputs s v T nz plain t P (and_parts _ _ h).0 ∙ sym (t.others (Load r k b n f g x) P refl))
-outputs s v T nz plain t (LoadRefused r k n z ∷ P) h =
-    begun-still s v (LoadRefused r k n z) P (owed-first s (LoadRefused r k n z) P (λ d. refl) h) refl refl ∙ (outputs s v T nz plain t P (and_parts _ _ h).0 ∙ sym (t.others (LoadRefused r k n z) P refl))
-outputs s v T nz plain t (Take r w m k ∷ P) h =
-    begun-still s v (Take r w m k) P (owed-first s (Take r w m k) P (λ d. refl) h) refl refl ∙ (outputs s v T nz plain t P (and_parts _ _ h).0 ∙ sym (t.others (Take r w m k) P refl))
-outputs s v T nz plain t (TakeBlock f x r w m k b n g ∷ P) h =
-    begun-still s v (TakeBlock f x r w m k b n g) P (owed-first s (TakeBlock f x r w m k b n g) P (λ d. refl) h) refl refl ∙ (outputs s v T nz plain t P (and_parts _ _ h).0 ∙ sym (t.others (TakeBlock f x r w m k b n g) P refl))
-outputs s v T nz plain t (PoolDrop r w m k n z ∷ P) h =
-    begun-still s v (PoolDrop r w m k n z) P (owed-first s (PoolDrop r w m k n z) P (λ d. refl) h) refl refl ∙ (outputs s v T nz plain t P (and_parts _ _ h).0 ∙ sym (t.others (PoolDrop r w m k n z) P refl))
-outputs s v T nz plain t (Save r w m k g ∷ P) h =
-    begun-still s v (Save r w m k g) P (owed-first s (Save r w m k g) P (λ d. refl) h) refl refl ∙ (outputs s v T nz plain t P (and_parts _ _ h).0 ∙ sym (t.others (Save r w m k g) P refl))
-outputs s v T nz plain t (Saved r w m k ∷ P) h =
-    begun-still s v (Saved r w m k) P (owed-first s (Saved r w m k) P (λ d. refl) h) refl refl ∙ (outputs s v T nz plain t P (and_parts _ _ h).0 ∙ sym (t.others (Saved r w m k) P refl))
-outputs s v T nz plain t (Close r ∷ P) h =
-    begun-still s v (Close r) P (owed-first s (Close r) P (λ d. refl) h) refl refl ∙ (outputs s v T nz plain t P (and_parts _ _ h).0 ∙ sym (t.others (Close r) P refl))
-outputs s v T nz plain t (Leave r ∷ P) h =
-    begun-still s v (Leave r) P (owed-first s (Leave r) P (λ d. refl) h) refl refl ∙ (outputs s v T nz plain t P (and_parts _ _ h).0 ∙ sym (t.others (Leave r) P refl))
-outputs s v T nz plain t (Reclaim r ∷ P) h =
-    begun-still s v (Reclaim r) P (owed-first s (Reclaim r) P (λ d. refl) h) refl refl ∙ (outputs s v T nz plain t P (and_parts _ _ h).0 ∙ sym (t.others (Reclaim r) P refl))
+    begun-still s v (Settle r w) P none refl quiet ∙ (outputs s v T plain t P (and_parts _ _ h).0 ∙ sym (t.others (Settle r w) P refl))
+outputs s v T plain t (Load r k b n f g x ∷ P) h =
+    begun-still s v (Load r k b n f g x) P (owed-first s (Load r k b n f g x) P (λ d. refl) h) refl refl ∙ (outputs s v T plain t P (and_parts _ _ h).0 ∙ sym (t.others (Load r k b n f g x) P refl))
+outputs s v T plain t (LoadRefused r k n z ∷ P) h =
+    begun-still s v (LoadRefused r k n z) P (owed-first s (LoadRefused r k n z) P (λ d. refl) h) refl refl ∙ (outputs s v T plain t P (and_parts _ _ h).0 ∙ sym (t.others (LoadRefused r k n z) P refl))
+outputs s v T plain t (Take r w m k ∷ P) h =
+    begun-still s v (Take r w m k) P (owed-first s (Take r w m k) P (λ d. refl) h) refl refl ∙ (outputs s v T plain t P (and_parts _ _ h).0 ∙ sym (t.others (Take r w m k) P refl))
+outputs s v T plain t (TakeBlock f x r w m k b n g ∷ P) h =
+    begun-still s v (TakeBlock f x r w m k b n g) P (owed-first s (TakeBlock f x r w m k b n g) P (λ d. refl) h) refl refl ∙ (outputs s v T plain t P (and_parts _ _ h).0 ∙ sym (t.others (TakeBlock f x r w m k b n g) P refl))
+outputs s v T plain t (PoolDrop r w m k n z ∷ P) h =
+    begun-still s v (PoolDrop r w m k n z) P (owed-first s (PoolDrop r w m k n z) P (λ d. refl) h) refl refl ∙ (outputs s v T plain t P (and_parts _ _ h).0 ∙ sym (t.others (PoolDrop r w m k n z) P refl))
+outputs s v T plain t (Save r w m k g ∷ P) h =
+    begun-still s v (Save r w m k g) P (owed-first s (Save r w m k g) P (λ d. refl) h) refl refl ∙ (outputs s v T plain t P (and_parts _ _ h).0 ∙ sym (t.others (Save r w m k g) P refl))
+outputs s v T plain t (Saved r w m k ∷ P) h =
+    begun-still s v (Saved r w m k) P (owed-first s (Saved r w m k) P (λ d. refl) h) refl refl ∙ (outputs s v T plain t P (and_parts _ _ h).0 ∙ sym (t.others (Saved r w m k) P refl))
+outputs s v T plain t (Close r ∷ P) h =
+    begun-still s v (Close r) P (owed-first s (Close r) P (λ d. refl) h) refl refl ∙ (outputs s v T plain t P (and_parts _ _ h).0 ∙ sym (t.others (Close r) P refl))
+outputs s v T plain t (Leave r ∷ P) h =
+    begun-still s v (Leave r) P (owed-first s (Leave r) P (λ d. refl) h) refl refl ∙ (outputs s v T plain t P (and_parts _ _ h).0 ∙ sym (t.others (Leave r) P refl))
+outputs s v T plain t (Reclaim r ∷ P) h =
+    begun-still s v (Reclaim r) P (owed-first s (Reclaim r) P (λ d. refl) h) refl refl ∙ (outputs s v T plain t P (and_parts _ _ h).0 ∙ sym (t.others (Reclaim r) P refl))
 
 -- in a history nothing more must go out
-outputs-all : (s : Setting) (v : ℕ) (T : Past → List FrameName) → v ≢ 0 → is_sorted s v ≡ false → Target s v T → (P : Past) → is_history s P ≡ true → emitted v P ≡ T P
-outputs-all s v T nz plain t P h =
+outputs-all : (s : Setting) (v : ℕ) (T : Past → List FrameName) → is_sorted s v ≡ false → Target s v T → (P : Past) → is_history s P ≡ true → emitted v P ≡ T P
+outputs-all s v T plain t P h =
     let p = and_parts (is_legal s P) (is_nothing (owed s P)) h in
     let none : so_far s v P ≡ emitted v P = ap (λ (ds : List Entry). emitted v P ++ outs_of v ds) (is_nothing-true (owed s P) p.1) ∙ append-nil (emitted v P) in
-    sym none ∙ outputs s v T nz plain t P p.0
+    sym none ∙ outputs s v T plain t P p.0
 
 -- PUTS
 
@@ -205,10 +211,17 @@ flags_others : (v : ℕ) (e : Entry) (P : Past) → puts_here v e ≡ false → 
 flags_others v (Put r w m k f) P h = (comes_elsewhere v w f (firings v P) (eqb-false w v h), comes_elsewhere v w (frame m k) (puts v P) (eqb-false w v h))
 flags_others v _ P h = (refl, refl)
 
-circular_target : (s : Setting) (v pre post preset : ℕ) → (node s v).work ≡ Watches pre post preset → 1 ≤ post → Target s v (λ P. passed_items pre post preset (firings v P) (puts v P))
-circular_target s v pre post preset work positive = record {
+-- only the driver lets out what is issued
+issued_elsewhere : (s : Setting) (v : ℕ) → v ≢ 0 → (xs : List FrameName) (r k : ℕ) (P : Past) → xs ≡ xs ++ outs_of v (calls_for s P (Issue r k))
+issued_elsewhere s v nz xs r k P =
+    let quiet : outs_of v (calls_for s P (Issue r k)) ≡ [] = ap (λ (ys : List FrameName). ys ++ []) (comes_elsewhere v 0 (frame 0 k) [] (λ e. nz (sym e))) in
+    sym (ap (λ (ys : List FrameName). xs ++ ys) quiet ∙ append-nil xs)
+
+circular_target : (s : Setting) (v pre post preset : ℕ) → v ≢ 0 → (node s v).work ≡ Watches pre post preset → 1 ≤ post → Target s v (λ P. passed_items pre post preset (firings v P) (puts v P))
+circular_target s v pre post preset nz work positive = record {
   start = refl;
   put = put;
+  issue = λ r k P. issued_elsewhere s v nz (passed_items pre post preset (firings v P) (puts v P)) r k P;
   others = λ e P h. let o = flags_others v e P h in ap (λ (fs : List Bool). passed_items pre post preset fs (puts v (e ∷ P))) o.0 ∙ ap (passed_items pre post preset (firings v P)) o.1;
 }
   where
@@ -243,10 +256,11 @@ watched_unsorted s v pre post preset work = ((λ e. no_driver (sym (ap (λ (u : 
     no_driver : Passes false ≢ Watches pre post preset
     no_driver e = cc
 
-plain_target : (s : Setting) (v : ℕ) → may_sort (node s v).work ≡ true → is_sorted s v ≡ false → Target s v (puts v)
-plain_target s v sorts plain = record {
+plain_target : (s : Setting) (v : ℕ) → v ≢ 0 → may_sort (node s v).work ≡ true → is_sorted s v ≡ false → Target s v (puts v)
+plain_target s v nz sorts plain = record {
   start = refl;
   put = λ r m k f P h. comes_here v (frame m k) (puts v P) ∙ ap (λ (xs : List FrameName). puts v P ++ xs) (sym (ap (outs_of v) (plain_result (node s v).work sorts m k f P) ∙ outs-emits v Plain (frame m k ∷ [])));
+  issue = λ r k P. issued_elsewhere s v nz (puts v P) r k P;
   others = λ e P h. (flags_others v e P h).1;
 }
   where
@@ -256,8 +270,64 @@ plain_target s v sorts plain = record {
     plain_result (Watches pre post preset) h m k f P = absurd (false≢true h)
     plain_result (Saves whole n) h m k f P = absurd (false≢true h)
 
+driver_target : (s : Setting) → Target s 0 issued
+driver_target s = record {
+  start = refl;
+  put = λ r m k f P h. absurd (puts_at_node s r 0 m k f P h refl);
+  issue = λ r k P. ap (λ (xs : List FrameName). issued P ++ xs) (sym (outs-emits 0 Plain (frame 0 k ∷ [])));
+  others = others;
+}
+  where
+    others : (e : Entry) (P : Past) → puts_here 0 e ≡ false → issued (e ∷ P) ≡ issued P
+    others (Issue r k) P h = absurd (true≢false h)
+    others _ P h = refl
+
+-- OTHER NODES
+
+-- where nothing goes out of a node, it emits nothing
+none_emitted : (v : ℕ) (P : Past) → count (out_of v any_array) P ≡ 0 → emitted v P ≡ []
+none_emitted v [] h = refl
+none_emitted v (Emit w m k why ∷ P) h =
+    let one = count-cons (out_of v any_array) (Emit w m k why) P in
+    elim (cases_Bool (eqb w v)) [
+      | inl here ↦ absurd (omega (arith, h, one, ap (λ (b : Bool). bit (b && true)) here))
+      | inr away ↦ comes_elsewhere v w (frame m k) (emitted v P) (eqb-false w v away) ∙ none_emitted v P (omega (arith, h, one))
+    ]
+none_emitted v (SortDrop w m k ∷ P) h = none_emitted v P (omega (arith, h, count-cons (out_of v any_array) (SortDrop w m k) P))
+none_emitted v (_ ∷ P) h = none_emitted v P h
+
+times-comes : (v w : ℕ) (t : FrameName → Bool) (a : FrameName) (xs : List FrameName) → times_by t (comes_at v w a xs) ≡ times_by t xs + bit (eqb w v && t a)
+times-comes v w t a xs =
+    elim (cases_Bool (eqb w v)) [
+      | inl here ↦ rw here (count-append t xs (a ∷ []) ∙ omega (arith, count-cons t a []))
+      | inr away ↦ rw away (omega arith)
+    ]
+
+out_listed : (v : ℕ) (t : FrameName → Bool) (P : Past) → count (out_of v t) P ≡ times_by t (emitted v P) + times_by t (sort_dropped v P)
+out_listed v t [] = refl
+out_listed v t (Emit w m k why ∷ P) = omega (arith, out_listed v t P, times-comes v w t (frame m k) (emitted v P), count-cons (out_of v t) (Emit w m k why) P)
+out_listed v t (SortDrop w m k ∷ P) = omega (arith, out_listed v t P, times-comes v w t (frame m k) (sort_dropped v P), count-cons (out_of v t) (SortDrop w m k) P)
+out_listed v t (_ ∷ P) = out_listed v t P
+
+put_listed : (v : ℕ) (t : FrameName → Bool) (P : Past) → count (puts_of v t) P ≡ times_by t (puts v P)
+put_listed v t [] = refl
+put_listed v t (Put r w m k f ∷ P) = omega (arith, put_listed v t P, times-comes v w t (frame m k) (puts v P), count-cons (puts_of v t) (Put r w m k f) P)
+put_listed v t (_ ∷ P) = put_listed v t P
+
+waiting_listed : (t : FrameName → Bool) (ws : List Waiting) → count (waits t) ws ≡ times_by t (map (λ (w : Waiting). w.array) ws)
+waiting_listed t [] = refl
+waiting_listed t (w ∷ ws) = omega (arith, waiting_listed t ws, count-cons (waits t) w ws, count-cons t w.array (map (λ (u : Waiting). u.array) ws))
+
+sorted_all : (s : Setting) (v : ℕ) (a : FrameName) (P : Past) → v ≢ 0 → is_sorted s v ≡ true → is_legal s P ≡ true → times a (puts v P) ≡ times a (emitted v P) + times a (sort_dropped v P) + times a (map (λ (w : Waiting). w.array) (waiting s v P))
+sorted_all s v a P nz sorted h =
+    let is_a : FrameName → Bool = λ x. same x a in
+    omega (arith, sorted-outs s P v is_a nz sorted h, out_listed v is_a P, put_listed v is_a P, waiting_listed is_a (waiting s v P))
+
 pub output_laws : OutputLaws
 output_laws = record {
-  circular = λ s v pre post preset P work positive h. let u = watched_unsorted s v pre post preset work in outputs-all s v _ u.0 u.1 (circular_target s v pre post preset work positive) P h;
-  unsorted = λ s v P nz sorts plain h. outputs-all s v _ nz plain (plain_target s v sorts plain) P h;
+  circular = λ s v pre post preset P work positive h. let u = watched_unsorted s v pre post preset work in outputs-all s v _ u.1 (circular_target s v pre post preset u.0 work positive) P h;
+  unsorted = λ s v P nz sorts plain h. outputs-all s v _ plain (plain_target s v nz sorts plain) P h;
+  sorted = sorted_all;
+  file = λ s v P file h. none_emitted v P (omega (arith, none_out s P v file h));
+  driver = λ s P h. outputs-all s 0 issued refl (driver_target s) P h;
 }

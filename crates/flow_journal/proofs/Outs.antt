@@ -18,7 +18,7 @@ use Rattle.flow_journal.specs.Rings.{ring}
 use Rattle.queue_sort.specs.Sorting.{keeps_step}
 use Rattle.flow_journal.specs.Breaks.{prev}
 use Rattle.flow_journal.specs.Following.{emit, goes_out, look, sorted_result, watched_result, result}
-use Rattle.flow_journal.proofs.EntryCounts.{count, bit, count-cons, count-append, emits_at, accepts_at}
+use Rattle.flow_journal.proofs.EntryCounts.{count, bit, count-cons, count-append, emits_at, arrives_at}
 
 -- the entry is an emission or a drop of v, of an array that passes the test
 abbrev pub out_of : ℕ → (FrameName → Bool) → Entry → Bool
@@ -89,16 +89,16 @@ result-at s v a f P Makes = sorted-or-plain-at (is_sorted s v) v a _ (sorted_res
 result-at s v a f P (Passes d) = sorted-or-plain-at (is_sorted s v) v a _ (sorted_result-at s v a (waiting s v P) (Put 0 v a.maker a.index f ∷ P))
 
 -- what goes out of v is no offer
-out_no_offer : (v c k : ℕ) (e : Entry) → is_out_at v e ≡ true → accepts_at c k e ≡ false
+out_no_offer : (v c k : ℕ) (e : Entry) → is_out_at v e ≡ true → arrives_at c k e ≡ false
 out_no_offer v c k (Emit w m i why) h = refl
 out_no_offer v c k (SortDrop w m i) h = refl
 out_no_offer v c k _ h = absurd (false≢true h)
 
-pub no_offers : (v c k : ℕ) (ds : List Entry) → AllOutAt v ds → count (accepts_at c k) ds ≡ 0
+pub no_offers : (v c k : ℕ) (ds : List Entry) → AllOutAt v ds → count (arrives_at c k) ds ≡ 0
 no_offers v c k [] h = refl
 no_offers v c k (d ∷ ds) h =
     let p = and_parts (is_out_at v d) (list_all (is_out_at v) ds) h in
-    omega (arith, count-cons (accepts_at c k) d ds, ap bit (out_no_offer v c k d p.0), no_offers v c k ds p.1)
+    omega (arith, count-cons (arrives_at c k) d ds, ap bit (out_no_offer v c k d p.0), no_offers v c k ds p.1)
 
 -- and goes out of no other node
 out_elsewhere : (v u : ℕ) (t : FrameName → Bool) (e : Entry) → v ≢ u → is_out_at v e ≡ true → (out_of u t e ≡ false)

@@ -13,8 +13,8 @@ use Rattle.flow_journal.specs.Unsaved.{saves, standing_saves, unsaved, is_file}
 use Rattle.flow_journal.specs.FirstEntries.{first, is_next}
 use Rattle.flow_journal.specs.Histories.{is_legal}
 use Rattle.flow_journal.proofs.Steps.{comes_here, comes_elsewhere, next_is, without-head}
-use Rattle.flow_journal.proofs.Hands.{takes_up-one, row_of, find-let_go, find-none_is, hands-Apart}
-use Rattle.flow_journal.proofs.Counts.{hand-standing, still_held}
+use Rattle.flow_journal.proofs.Hands.{takes_up-one, row_of, find-let_go, find-none_is, hands-Apart, hands-more, stood}
+use Rattle.flow_journal.proofs.Counts.{hand-standing, still_held, still_other}
 use Rattle.flow_journal.proofs.EntryCounts.{count, bit, count-cons, count-let_go, count-let_go-le}
 use Rattle.flow_journal.proofs.Jobs.{reclaim_hand}
 use Rattle.flow_journal.proofs.Found.{none_counted}
@@ -27,7 +27,7 @@ one-piece s [] v h = omega arith
 one-piece s (Save r w m k g ∷ P) v h =
     let before = one-piece s P v (and_parts _ _ h).0 in
     let facts = (save-facts s r w m k g P (row_of s (Save r w m k g) P (λ d. refl) h)).piece in
-    let one = count-cons (is_piece v) (Save r w m k g) (hands P) in
+    let one = ap (count (is_piece v)) (hands-more s r (Save r w m k g) P (eq-eqb r r refl) h) ∙ count-cons (is_piece v) (Save r w m k g) (hands P) in
     elim (cases_Bool (eqb w v)) [
       | inl here ↦
           let none : count (is_piece v) (hands P) ≡ 0 = subst (λ (u : ℕ). count (is_piece u) (hands P) ≡ 0) (eqb-true w v here) (none_counted (is_piece w) (hands P) facts.none) in
@@ -38,6 +38,9 @@ one-piece s (Issue r k ∷ P) v h = omega (arith, one-piece s P v (and_parts _ _
 one-piece s (Put r w m k f ∷ P) v h = omega (arith, one-piece s P v (and_parts _ _ h).0, count-let_go-le (is_piece v) r (hands P))
 one-piece s (Saved r w m k ∷ P) v h = omega (arith, one-piece s P v (and_parts _ _ h).0, count-let_go-le (is_piece v) r (hands P))
 one-piece s (Reclaim r ∷ P) v h = omega (arith, one-piece s P v (and_parts _ _ h).0, count-let_go-le (is_piece v) r (hands P))
+one-piece s (Load r k b n f g x ∷ P) v h = omega (arith, one-piece s P v (and_parts _ _ h).0, count-let_go-le (is_piece v) r (hands P))
+one-piece s (Take r w m k ∷ P) v h = omega (arith, one-piece s P v (and_parts _ _ h).0, count-let_go-le (is_piece v) r (hands P))
+one-piece s (TakeBlock f x r w m k b n g ∷ P) v h = omega (arith, one-piece s P v (and_parts _ _ h).0, count-let_go-le (is_piece v) r (hands P))
 one-piece s (_ ∷ P) v h = one-piece s P v (and_parts _ _ h).0
 
 -- two roles have no two pieces of one node
@@ -58,11 +61,14 @@ none_stray : (s : Setting) (P : Past) → is_legal s P ≡ true → count (is_st
 none_stray s [] h = refl
 none_stray s (Save r v m k g ∷ P) h =
     let facts = (save-facts s r v m k g P (row_of s (Save r v m k g) P (λ d. refl) h)).piece in
-    omega (arith, none_stray s P (and_parts _ _ h).0, count-cons (is_stray s) (Save r v m k g) (hands P), ap (λ (b : Bool). bit (not b)) facts.file)
+    omega (arith, none_stray s P (and_parts _ _ h).0, count-cons (is_stray s) (Save r v m k g) (let_go r (hands P)), count-let_go-le (is_stray s) r (hands P), ap (λ (b : Bool). bit (not b)) facts.file)
 none_stray s (Issue r k ∷ P) h = omega (arith, none_stray s P (and_parts _ _ h).0, count-let_go-le (is_stray s) r (hands P))
 none_stray s (Put r v m k f ∷ P) h = omega (arith, none_stray s P (and_parts _ _ h).0, count-let_go-le (is_stray s) r (hands P))
 none_stray s (Saved r v m k ∷ P) h = omega (arith, none_stray s P (and_parts _ _ h).0, count-let_go-le (is_stray s) r (hands P))
 none_stray s (Reclaim r ∷ P) h = omega (arith, none_stray s P (and_parts _ _ h).0, count-let_go-le (is_stray s) r (hands P))
+none_stray s (Load r k b n f g x ∷ P) h = omega (arith, none_stray s P (and_parts _ _ h).0, count-let_go-le (is_stray s) r (hands P))
+none_stray s (Take r w m k ∷ P) h = omega (arith, none_stray s P (and_parts _ _ h).0, count-let_go-le (is_stray s) r (hands P))
+none_stray s (TakeBlock f x r w m k b n g ∷ P) h = omega (arith, none_stray s P (and_parts _ _ h).0, count-let_go-le (is_stray s) r (hands P))
 none_stray s (_ ∷ P) h = none_stray s P (and_parts _ _ h).0
 
 -- whoever has a piece has it of a file node
@@ -129,17 +135,17 @@ last_piece s [] r q v m k g l h = cc
 last_piece s (Load p i b n f z x ∷ P) r q v m k g l h =
     elim (cases_Bool (eqb p r)) [
       | inl here ↦ let never : Some (Load p i b n f z x) ≡ Some (Save q v m k g) = rw here at h in cc
-      | inr away ↦ rw away (last_piece s P r q v m k g (and_parts _ _ l).0 (rw away at h))
+      | inr away ↦ rw away (last_piece s P r q v m k g (and_parts _ _ l).0 (still_other r p (Save q v m k g) (hands P) away (rw away at h)))
     ]
 last_piece s (Take p w i j ∷ P) r q v m k g l h =
     elim (cases_Bool (eqb p r)) [
       | inl here ↦ let never : Some (Take p w i j) ≡ Some (Save q v m k g) = rw here at h in cc
-      | inr away ↦ rw away (last_piece s P r q v m k g (and_parts _ _ l).0 (rw away at h))
+      | inr away ↦ rw away (last_piece s P r q v m k g (and_parts _ _ l).0 (still_other r p (Save q v m k g) (hands P) away (rw away at h)))
     ]
 last_piece s (TakeBlock f x p w i j b n z ∷ P) r q v m k g l h =
     elim (cases_Bool (eqb p r)) [
       | inl here ↦ let never : Some (TakeBlock f x p w i j b n z) ≡ Some (Save q v m k g) = rw here at h in cc
-      | inr away ↦ rw away (last_piece s P r q v m k g (and_parts _ _ l).0 (rw away at h))
+      | inr away ↦ rw away (last_piece s P r q v m k g (and_parts _ _ l).0 (still_other r p (Save q v m k g) (hands P) away (rw away at h)))
     ]
 last_piece s (Save p w i j z ∷ P) r q v m k g l h =
     elim (cases_Bool (eqb p r)) [
@@ -150,24 +156,25 @@ last_piece s (Save p w i j z ∷ P) r q v m k g l h =
           subst (λ (u : ℕ). comes_at v u (frame i j) (saves v (standing P)) ≡ saves v (standing P) ++ frame m k ∷ []) (sym is.0) (comes_here v (frame i j) (saves v (standing P)) ∙ ap (λ (a : FrameName). saves v (standing P) ++ a ∷ []) is.1) in
           rw here took
       | inr away ↦
-          let before : hand r P ≡ Some (Save q v m k g) = rw away at h in
+          let before : hand r P ≡ Some (Save q v m k g) = still_other r p (Save q v m k g) (hands P) away (rw away at h) in
           let facts = (save-facts s p w i j z P (row_of s (Save p w i j z) P (λ d. refl) l)).piece in
           let other : w ≢ v = λ e. true≢false (sym (eq-eqb v w (sym e)) ∙ find-none_is (takes_up r) (is_piece w) (Save q v m k g) (hands P) facts.none before) in
           let rest = last_piece s P r q v m k g (and_parts _ _ l).0 before in
           rw away (comes_elsewhere v w (frame i j) (saves v (standing P)) other ∙ (rest ∙ ap (λ (xs : List FrameName). xs ++ frame m k ∷ []) (sym (comes_elsewhere v w (frame i j) (saves v (let_go r (standing P))) other))))
     ]
-last_piece s (Issue p i ∷ P) r q v m k g l h = last_piece s P r q v m k g (and_parts _ _ l).0 (still_held r p (Save q v m k g) (hands P) (hands-Apart s P (and_parts _ _ l).0) h).1
-last_piece s (Put p w i j f ∷ P) r q v m k g l h = last_piece s P r q v m k g (and_parts _ _ l).0 (still_held r p (Save q v m k g) (hands P) (hands-Apart s P (and_parts _ _ l).0) h).1
-last_piece s (Saved p w i j ∷ P) r q v m k g l h = last_piece s P r q v m k g (and_parts _ _ l).0 (still_held r p (Save q v m k g) (hands P) (hands-Apart s P (and_parts _ _ l).0) h).1
+last_piece s (Issue p i ∷ P) r q v m k g l h = last_piece s P r q v m k g (and_parts _ _ l).0 (still_held r p (Save q v m k g) (hands P) (hands-Apart P) h).1
+last_piece s (Put p w i j f ∷ P) r q v m k g l h = last_piece s P r q v m k g (and_parts _ _ l).0 (still_held r p (Save q v m k g) (hands P) (hands-Apart P) h).1
+last_piece s (Saved p w i j ∷ P) r q v m k g l h = last_piece s P r q v m k g (and_parts _ _ l).0 (still_held r p (Save q v m k g) (hands P) (hands-Apart P) h).1
 last_piece s (Reclaim p ∷ P) r q v m k g l h =
     let legal : is_legal s P ≡ true = (and_parts _ _ l).0 in
-    let still = still_held r p (Save q v m k g) (hands P) (hands-Apart s P legal) h in
+    let still = still_held r p (Save q v m k g) (hands P) (hands-Apart P) h in
     let e = reclaim_hand s p P l in
     let none : is_piece v e.0 ≡ false = no_two_pieces s P v r p (Save q v m k g) e.0 legal (λ x. still.0 (sym x)) still.1 e.1 (eq-eqb v v refl) in
-    let stood : find (takes_up p) (standing P) ≡ Some e.0 = hand-standing s P p e.0 legal e.1 in
+    let stands : find (takes_up p) (standing P) ≡ Some e.0 = hand-standing s P p e.0 legal e.1 in
     let rest = last_piece s P r q v m k g legal still.1 in
-    let front : saves v (let_go p (let_go r (standing P))) ≡ saves v (let_go r (standing P)) = saves-let_go v p e.0 (let_go r (standing P)) (find-let_go r p (standing P) (λ x. still.0 (sym x)) ∙ stood) none in
-    saves-let_go v p e.0 (standing P) stood none ∙ (rest ∙ ap (λ (xs : List FrameName). xs ++ frame m k ∷ []) (sym front ∙ ap (saves v) (let_go-swap p r (standing P) still.0)))
+    let front : saves v (let_go p (let_go r (standing P))) ≡ saves v (let_go r (standing P)) = saves-let_go v p e.0 (let_go r (standing P)) (find-let_go r p (standing P) (λ x. still.0 (sym x)) ∙ stands) none in
+    subst (λ (es : List Entry). saves v es ≡ saves v (let_go r es) ++ frame m k ∷ []) (sym (stood p e.0 P e.1))
+    (saves-let_go v p e.0 (standing P) stands none ∙ (rest ∙ ap (λ (xs : List FrameName). xs ++ frame m k ∷ []) (sym front ∙ ap (saves v) (let_go-swap p r (standing P) still.0))))
 last_piece s (_ ∷ P) r q v m k g l h = last_piece s P r q v m k g (and_parts _ _ l).0 h
 
 -- THE FRONT OF THE PUTS
@@ -209,10 +216,11 @@ puts-Save s v r m k g P h row =
 puts-Reclaim : (s : Setting) (v r q m k g : ℕ) (P : Past) → IsFront v P → is_legal s P ≡ true → hand r P ≡ Some (Save q v m k g) → puts v P ≡ standing_saves v (Reclaim r ∷ P) ++ (frame m k ∷ rest_of v P)
 puts-Reclaim s v r q m k g P h legal held =
     h ∙ (ap (λ (xs : List FrameName). xs ++ rest_of v P) (last_piece s P r q v m k g legal held)
-    ∙ append_assoc (saves v (let_go r (standing P))) (frame m k ∷ []) (rest_of v P))
+    ∙ (append_assoc (saves v (let_go r (standing P))) (frame m k ∷ []) (rest_of v P)
+    ∙ ap (λ (es : List Entry). saves v es ++ (frame m k ∷ rest_of v P)) (sym (stood r (Save q v m k g) P held))))
 
 saves-Reclaim : (s : Setting) (v r : ℕ) (e : Entry) (P : Past) → is_legal s P ≡ true → hand r P ≡ Some e → is_piece v e ≡ false → standing_saves v (Reclaim r ∷ P) ≡ standing_saves v P
-saves-Reclaim s v r e P legal held none = saves-let_go v r e (standing P) (hand-standing s P r e legal held) none
+saves-Reclaim s v r e P legal held none = ap (saves v) (stood r e P held) ∙ saves-let_go v r e (standing P) (hand-standing s P r e legal held) none
 
 front-Reclaim : (s : Setting) (v r : ℕ) (e : Entry) (P : Past) → is_legal s P ≡ true → hand r P ≡ Some e → IsFront v P → IsFront v (Reclaim r ∷ P)
 front-Reclaim s v r (Save q w m k g) P legal held h =

@@ -9,7 +9,7 @@ use Rattle.flow_journal.specs.declared.entry.Entry.{Entry}
 use Rattle.flow_journal.specs.declared.entry.Entry.TheVariants.{Load, Take, TakeBlock, Save, Reclaim}
 use Rattle.flow_journal.specs.Setting.{Setting, Node, no_node, node, is_maker, may_sort, numbers_from, node_numbers}
 use Rattle.flow_journal.specs.Pasts.{Past, frame, same, minus}
-use Rattle.flow_journal.specs.Hands.{takes_up, let_go, hands, standing}
+use Rattle.flow_journal.specs.Hands.{takes_up, let_go, hands, standing, is_free}
 use Rattle.flow_journal.specs.Queued.{queued}
 use Rattle.flow_journal.specs.Waiting.{Waiting, waiting}
 use Rattle.flow_journal.specs.Rings.{ring, ring_of}
@@ -258,7 +258,11 @@ any-first q (b ∷ bs) h = or_from (q b) false (or_parts (q b) (list_any q bs) h
 reclaimed-third : (s : Setting) (r : ℕ) (P : Past) (a : FrameName) → is_legal s P ≡ true → is_lost s P a ≡ false → is_lost s (Reclaim r ∷ P) a ≡ false
 reclaimed-third s r P a h lost =
     let whole : list_any (is_unknown s P) (grants_of a (standing P)) ≡ false = ap (list_any (is_unknown s P)) (sym (first_of-few (grants_of a (standing P)) (grant-once s P a h))) ∙ lost in
-    any-first (is_unknown s P) (grants_of a (let_go r (standing P))) (any-let_go (is_unknown s P) a r (standing P) whole)
+    let fewer : list_any (is_unknown s P) (first_of (grants_of a (let_go r (standing P)))) ≡ false = any-first (is_unknown s P) (grants_of a (let_go r (standing P))) (any-let_go (is_unknown s P) a r (standing P) whole) in
+    elim (is_free r P) as (λ b. list_any (is_unknown s P) (first_of (grants_of a (Reclaim r ∷ cond b (standing P) (let_go r (standing P))))) ≡ false) [
+      | true ↦ any-first (is_unknown s P) (grants_of a (standing P)) whole
+      | false ↦ fewer
+    ]
 
 -- no array at a place has a block that isn't known, nor has one that is owed
 pub none_lost : (s : Setting) (P : Past) → s.pooled ≡ true → is_legal s P ≡ true → Clear (is_lost s P) s P

@@ -3,10 +3,10 @@ use Rattle.std.proofs.Common.{◌≡◌, ℕ, Bool, true, false, eqb, [], ◌∷
 use Rattle.std.proofs.lemmas.Bool.{and_parts, false≢true, true≢false, eqb-true, cases_Bool}
 use Rattle.nd_base.specs.declared.frame.FrameName.{FrameName}
 use Rattle.flow_journal.specs.declared.entry.Entry.{Entry}
-use Rattle.flow_journal.specs.declared.entry.Entry.TheVariants.{Issue, Take, TakeBlock, Put, Settle, Saved, Reclaim}
+use Rattle.flow_journal.specs.declared.entry.Entry.TheVariants.{Issue, Take, TakeBlock, Put, Settle, Saved, Reclaim, Load, Save}
 use Rattle.flow_journal.specs.Setting.{Setting, node, is_role}
 use Rattle.flow_journal.specs.Pasts.{Past, frame, same}
-use Rattle.flow_journal.specs.Hands.{hands, hand, is_job, jobs}
+use Rattle.flow_journal.specs.Hands.{hands, hand, is_job, jobs, let_go}
 use Rattle.flow_journal.specs.Ended.{is_settled}
 use Rattle.flow_journal.specs.FirstEntries.{first, may_take, may_settle, is_result_of, fires_at, both}
 use Rattle.flow_journal.specs.Histories.{is_legal}
@@ -36,13 +36,15 @@ settled-idle s (Settle r w ∷ P) v h settled =
       | inr away ↦ settled-idle s P v (and_parts _ _ h).0 (rw away at settled)
     ]
 settled-idle s (Take r w m k ∷ P) v h settled =
-    omega (arith, settled-idle s P v (and_parts _ _ h).0 settled, count-cons (is_job v) (Take r w m k) (hands P), ap bit (taken-elsewhere s r v w (frame m k) P (may-Take s r w m k P h) settled))
+    omega (arith, settled-idle s P v (and_parts _ _ h).0 settled, count-cons (is_job v) (Take r w m k) (let_go r (hands P)), count-let_go-le (is_job v) r (hands P), ap bit (taken-elsewhere s r v w (frame m k) P (may-Take s r w m k P h) settled))
 settled-idle s (TakeBlock f x r w m k b n g ∷ P) v h settled =
-    omega (arith, settled-idle s P v (and_parts _ _ h).0 settled, count-cons (is_job v) (TakeBlock f x r w m k b n g) (hands P), ap bit (taken-elsewhere s r v w (frame m k) P (may-TakeBlock s r w m k b n f g x P h) settled))
+    omega (arith, settled-idle s P v (and_parts _ _ h).0 settled, count-cons (is_job v) (TakeBlock f x r w m k b n g) (let_go r (hands P)), count-let_go-le (is_job v) r (hands P), ap bit (taken-elsewhere s r v w (frame m k) P (may-TakeBlock s r w m k b n f g x P h) settled))
 settled-idle s (Issue r k ∷ P) v h settled = omega (arith, settled-idle s P v (and_parts _ _ h).0 settled, count-let_go-le (is_job v) r (hands P))
 settled-idle s (Put r w m k f ∷ P) v h settled = omega (arith, settled-idle s P v (and_parts _ _ h).0 settled, count-let_go-le (is_job v) r (hands P))
 settled-idle s (Saved r w m k ∷ P) v h settled = omega (arith, settled-idle s P v (and_parts _ _ h).0 settled, count-let_go-le (is_job v) r (hands P))
 settled-idle s (Reclaim r ∷ P) v h settled = omega (arith, settled-idle s P v (and_parts _ _ h).0 settled, count-let_go-le (is_job v) r (hands P))
+settled-idle s (Load r k b n f g x ∷ P) v h settled = omega (arith, settled-idle s P v (and_parts _ _ h).0 settled, count-let_go-le (is_job v) r (hands P))
+settled-idle s (Save r w m k g ∷ P) v h settled = omega (arith, settled-idle s P v (and_parts _ _ h).0 settled, count-let_go-le (is_job v) r (hands P))
 settled-idle s (_ ∷ P) v h settled = settled-idle s P v (and_parts _ _ h).0 settled
 
 result-job : (v : ℕ) (a : FrameName) (o : Option Entry) → is_result_of v a o ≡ true → (e : Entry) × (o ≡ Some e) × (is_job v e ≡ true)

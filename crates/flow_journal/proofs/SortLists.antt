@@ -4,10 +4,10 @@ use Rattle.std.specs.Prelude.{filter}
 use Rattle.std.proofs.lemmas.Int.{ints}
 use Rattle.std.proofs.lemmas.List.{map-append}
 use Rattle.queue_sort.specs.Sorting as sorting
-use Rattle.flow_journal.specs.Setting.{Setting, id_at}
+use Rattle.flow_journal.specs.Setting.{Setting}
 use Rattle.flow_journal.specs.Waiting.{Waiting, placed, least_first}
-use Rattle.flow_journal.specs.WaitingLaws.{id_of, LeastLaws}
-use Rattle.flow_journal.specs.SortListLaws.{as_listed, as_list, SortListLaws}
+use Rattle.flow_journal.specs.WaitingLaws.{id_of}
+use Rattle.flow_journal.specs.SortListLaws.{as_listed, SortListLaws}
 use Rattle.flow_journal.proofs.Leasts.{least_laws}
 
 -- a test of what f gives

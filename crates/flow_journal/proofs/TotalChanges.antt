@@ -17,7 +17,7 @@ use Rattle.flow_journal.specs.Histories.{is_legal}
 use Rattle.flow_journal.proofs.Steps.{same_refl}
 use Rattle.flow_journal.proofs.EntryCounts.{count, bit, count-cons, count-append}
 use Rattle.flow_journal.proofs.Found.{found_up}
-use Rattle.flow_journal.proofs.Hands.{row_of}
+use Rattle.flow_journal.proofs.Hands.{row_of, takes-alone}
 use Rattle.flow_journal.proofs.Outs.{waits}
 use Rattle.flow_journal.proofs.Rows.{row_laws}
 use Rattle.flow_journal.proofs.Emissions.{removed, owed-waits, owed-Emit_out, owed-SortDrop_out, waiting-unsorted}
@@ -68,14 +68,14 @@ total-take t s r v m k P h =
     let e : Entry = Take r v m k in
     let row : first s P e ≡ true = row_of s e P (λ d. refl) h in
     let nodes = leaves t s e P v (bit (t (frame m k))) h (λ u ne. at-same t s P (e ∷ P) u (queue_laws.take_elsewhere r u v m k P (turn ne)) refl refl refl) (shorter t s v m k e P (queue_laws.take s r v m k P row) refl) in
-    omega (arith, nodes)
+    omega (arith, nodes, ap (sum_of (held_by t)) (takes-alone s r e P (eq-eqb r r refl) h))
 
 pub total-take_block : (t : FrameName → Bool) (s : Setting) (r v m k b n : ℕ) (f : Bool) (g : ℕ) (x : Bool) (P : Past) → is_legal s (TakeBlock f x r v m k b n g ∷ P) ≡ true → total t s (TakeBlock f x r v m k b n g ∷ P) ≡ total t s P + bit (t (frame v k))
 total-take_block t s r v m k b n f g x P h =
     let e : Entry = TakeBlock f x r v m k b n g in
     let row : first s P e ≡ true = row_of s e P (λ d. refl) h in
     let nodes = leaves t s e P v (bit (t (frame m k))) h (λ u ne. at-same t s P (e ∷ P) u (queue_laws.take_block_elsewhere r u v m k b n f g x P (turn ne)) refl refl refl) (shorter t s v m k e P (queue_laws.take_block s r v m k b n f g x P row) refl) in
-    omega (arith, nodes)
+    omega (arith, nodes, ap (sum_of (held_by t)) (takes-alone s r e P (eq-eqb r r refl) h))
 
 pub total-pool_drop : (t : FrameName → Bool) (s : Setting) (r v m k n z : ℕ) (P : Past) → is_legal s (PoolDrop r v m k n z ∷ P) ≡ true → total t s P ≡ total t s (PoolDrop r v m k n z ∷ P) + bit (t (frame m k))
 total-pool_drop t s r v m k n z P h =
@@ -158,7 +158,7 @@ total-save t s r v m k g P h =
     let fewer : count t (unsaved s v P) ≡ bit (t (frame m k)) + count t (unsaved s v (e ∷ P)) = ap (count t) (save_laws.save s r v m k g P legal row) ∙ count-cons t (frame m k) (unsaved s v (e ∷ P)) in
     let here : at_node t s P v ≡ at_node t s (e ∷ P) v + bit (t (frame m k)) = omega (arith, at-parts t s (e ∷ P) v, at-parts t s P v, fewer) in
     let nodes = leaves t s e P v (bit (t (frame m k))) h (λ u ne. at-same t s P (e ∷ P) u refl refl refl (save_laws.save_elsewhere s r u v m k g P (turn ne))) here in
-    omega (arith, nodes)
+    omega (arith, nodes, ap (sum_of (held_by t)) (takes-alone s r e P (eq-eqb r r refl) h))
 
 -- PUTS
 

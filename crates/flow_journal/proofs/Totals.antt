@@ -107,7 +107,7 @@ refs-total s b P h =
     let q : ℕ → Bool = is_number b in
     let arrays : List FrameName = flat_map (arrays_at s P) (node_numbers s) in
     let whole = count-append q (flat_map (blocks_in_hand P) (hands P)) (flat_map (block_of P) arrays) in
-    let roles = hands-count s q P (hands P) h (all_stand P (hands P) (hands-Apart s P h) (λ r e held. hand-standing s P r e h held)) in
+    let roles = hands-count s q P (hands P) h (all_stand P (hands P) (hands-Apart P) (λ r e held. hand-standing s P r e h held)) in
     omega (arith, whole, roles, blocks-count q P arrays, count-flat (has q P) (arrays_at s P) (node_numbers s))
 
 -- ONE MORE ENTRY

@@ -8,7 +8,8 @@ use Rattle.flow_journal.specs.declared.entry.Entry.{Entry}
 use Rattle.flow_journal.specs.declared.entry.Entry.TheVariants.{Load, Tick, Issue, Emit, Accept, Take, TakeBlock, PoolDrop, Put, SortDrop, Settle, Save, Saved, Reclaim}
 use Rattle.flow_journal.specs.declared.entry.Why.{Why}
 use Rattle.flow_journal.specs.declared.entry.Why.TheVariants.{Plain, Ring, Now}
-use Rattle.flow_journal.specs.Setting.{Setting, Work, Makes, Passes, Watches, Saves, node, is_sorted, is_maker, node_numbers, children}
+use Rattle.flow_journal.specs.Setting.{Setting, Work, Makes, Passes, Watches, Saves, node, is_sorted, is_maker, node_numbers}
+use Rattle.flow_journal.specs.Turns.{offered_to}
 use Rattle.flow_journal.specs.Pasts.{Past, frame, same, without, comes_at, goes_at}
 use Rattle.flow_journal.specs.Hands.{let_go, hands, hand, is_piece, job_array}
 use Rattle.flow_journal.specs.Ended.{is_settled, now}
@@ -277,8 +278,8 @@ files-more u t s v _ P h i c = c.files v
 
 -- HANDS
 
-one_more_hand : (p : Entry → Bool) (e : Entry) (hs : List Entry) → p e ≡ false → count p hs ≡ 0 → count p (e ∷ hs) ≡ 0
-one_more_hand p e hs none h = omega (arith, count-cons p e hs, none-bit (p e) none, h)
+one_more_hand : (p : Entry → Bool) (r : ℕ) (e : Entry) (hs : List Entry) → p e ≡ false → count p hs ≡ 0 → count p (e ∷ let_go r hs) ≡ 0
+one_more_hand p r e hs none h = omega (arith, count-cons p e (let_go r hs), count-let_go-le p r hs, none-bit (p e) none, h)
 
 fewer_hands : (p : Entry → Bool) (r : ℕ) (hs : List Entry) → count p hs ≡ 0 → count p (let_go r hs) ≡ 0
 fewer_hands p r hs h = omega (arith, count-let_go-le p r hs, h)
@@ -287,12 +288,12 @@ or-none : (a b : Bool) → a ≡ false → b ≡ false → (a || b) ≡ false
 or-none a b h g = rw h g
 
 roles-more : (u t : FrameName → Bool) (s : Setting) (e : Entry) (P : Past) → is_legal s (e ∷ P) ≡ true → ClearBy u t s P → count u (made_by e) ≡ 0 → count (holds_by u t) (hands (e ∷ P)) ≡ 0
-roles-more u t s (Load r k b n f g x) P h c made = one_more_hand (holds_by u t) (Load r k b n f g x) (hands P) (made-clear u (frame 0 k) made) c.roles
-roles-more u t s (Take r v m k) P h c made = one_more_hand (holds_by u t) (Take r v m k) (hands P) (take-clear u t s r v m k P (may-Take s r v m k P h) c) c.roles
+roles-more u t s (Load r k b n f g x) P h c made = one_more_hand (holds_by u t) r (Load r k b n f g x) (hands P) (made-clear u (frame 0 k) made) c.roles
+roles-more u t s (Take r v m k) P h c made = one_more_hand (holds_by u t) r (Take r v m k) (hands P) (take-clear u t s r v m k P (may-Take s r v m k P h) c) c.roles
 roles-more u t s (TakeBlock f x r v m k b n g) P h c made =
-    one_more_hand (holds_by u t) (TakeBlock f x r v m k b n g) (hands P) (or-none (u (frame v k)) (t (frame m k)) (made-clear u (frame v k) made) (take-clear u t s r v m k P (may-TakeBlock s r v m k b n f g x P h) c)) c.roles
+    one_more_hand (holds_by u t) r (TakeBlock f x r v m k b n g) (hands P) (or-none (u (frame v k)) (t (frame m k)) (made-clear u (frame v k) made) (take-clear u t s r v m k P (may-TakeBlock s r v m k b n f g x P h) c)) c.roles
 roles-more u t s (Save r v m k g) P h c made =
-    one_more_hand (holds_by u t) (Save r v m k g) (hands P) (front-clear t (frame m k) (unsaved s v P) (first_of-next (frame m k) (unsaved s v P) (save-facts s r v m k g P (row_of s (Save r v m k g) P (λ d. refl) h)).piece.front) (c.files v)) c.roles
+    one_more_hand (holds_by u t) r (Save r v m k g) (hands P) (front-clear t (frame m k) (unsaved s v P) (first_of-next (frame m k) (unsaved s v P) (save-facts s r v m k g P (row_of s (Save r v m k g) P (λ d. refl) h)).piece.front) (c.files v)) c.roles
 roles-more u t s (Issue r k) P h c made = fewer_hands (holds_by u t) r (hands P) c.roles
 roles-more u t s (Put r v m k f) P h c made = fewer_hands (holds_by u t) r (hands P) c.roles
 roles-more u t s (Saved r v m k) P h c made = fewer_hands (holds_by u t) r (hands P) c.roles
@@ -368,7 +369,7 @@ put-calls u t s v m k f P (Watches pre post preset) none c =
 calls-clear : (u t : FrameName → Bool) (s : Setting) (e : Entry) (P : Past) → is_legal s (e ∷ P) ≡ true → count t (issued_by e) ≡ 0 → ClearBy u t s P → count (carries t) (calls_for s P e) ≡ 0
 calls-clear u t s (Tick z) P h i c = looks-clear t s (Tick z ∷ P) (node_numbers s) c.lists
 calls-clear u t s (Issue r k) P h i c = one_emit-clear t 0 Plain (frame 0 k) (made-clear t (frame 0 k) i)
-calls-clear u t s (Emit v m k why) P h i c = offers-clear t (frame m k) (children s v) (emit-clear u t s v m k why P h c)
+calls-clear u t s (Emit v m k why) P h i c = offers-clear t (frame m k) (offered_to s P v) (emit-clear u t s v m k why P h c)
 calls-clear u t s (Put r v m k f) P h i c = put-calls u t s v m k f P (node s v).work (made-clear t (frame m k) i) c
 calls-clear u t s (Settle r v) P h i c =
     let ws : List Waiting = least_first s (waiting s v P) in

@@ -6,7 +6,7 @@ use Rattle.flow_journal.specs.declared.entry.Entry.TheVariants.{Load, LoadRefuse
 use Rattle.flow_journal.specs.declared.entry.Why.{Why}
 use Rattle.flow_journal.specs.Setting.{Setting, Watches, node, id_at, is_sorted}
 use Rattle.flow_journal.specs.Pasts.{Past, frame}
-use Rattle.flow_journal.specs.Hands.{hands, hand, takes_up, is_loaded, is_job, is_piece}
+use Rattle.flow_journal.specs.Hands.{hands, hand, takes_up, is_loaded, is_job, is_piece, is_free}
 use Rattle.flow_journal.specs.Ended.{now, closes, is_closed, settles, is_settled, leaves, leaves_as, has_left_any, has_left, reclaims, was_reclaimed}
 use Rattle.flow_journal.specs.Offered.{offered, offered_frames}
 use Rattle.flow_journal.specs.Queued.{queued}
@@ -162,8 +162,8 @@ moves_hands _ = false
 -- A test of hands counts one more where a hand that passes it is taken up, and one less where its role lets it go. So are jobs counted,
 -- pieces and loaded blocks.
 pub record JobLaws : Type 0 where
-  pub up : (p : Entry → Bool) (r : ℕ) (e : Entry) (P : Past) → takes_up r e ≡ true → p e ≡ true → length (filter p (hands (e ∷ P))) ≡ length (filter p (hands P)) + 1
-  pub up_other : (p : Entry → Bool) (r : ℕ) (e : Entry) (P : Past) → takes_up r e ≡ true → p e ≡ false → length (filter p (hands (e ∷ P))) ≡ length (filter p (hands P))
+  pub up : (p : Entry → Bool) (r : ℕ) (e : Entry) (P : Past) → takes_up r e ≡ true → is_free r P ≡ true → p e ≡ true → length (filter p (hands (e ∷ P))) ≡ length (filter p (hands P)) + 1
+  pub up_other : (p : Entry → Bool) (r : ℕ) (e : Entry) (P : Past) → takes_up r e ≡ true → is_free r P ≡ true → p e ≡ false → length (filter p (hands (e ∷ P))) ≡ length (filter p (hands P))
   pub down : (p : Entry → Bool) (r : ℕ) (e d : Entry) (P : Past) → lets_go r d ≡ true → hand r P ≡ Some e → p e ≡ true → length (filter p (hands P)) ≡ length (filter p (hands (d ∷ P))) + 1
   pub down_other : (p : Entry → Bool) (r : ℕ) (e d : Entry) (P : Past) → lets_go r d ≡ true → hand r P ≡ Some e → p e ≡ false → length (filter p (hands (d ∷ P))) ≡ length (filter p (hands P))
   pub others : (e : Entry) (P : Past) → moves_hands e ≡ false → hands (e ∷ P) ≡ hands P
@@ -181,11 +181,11 @@ ticks _ = false
 -- An emission and a save set the previous id of their node, a Tick sets now, and a Close and a Settle end. A piece that is reclaimed
 -- isn't out any more.
 pub record ClockLaws : Type 0 where
-  pub emit : (s : Setting) (v m k : ℕ) (why : Why) (P : Past) → prev s v (Emit v m k why ∷ P) ≡ id_at s k
-  pub save : (s : Setting) (r v m k g : ℕ) (P : Past) → prev s v (Save r v m k g ∷ P) ≡ id_at s k
+  pub emit : (s : Setting) (v m k : ℕ) (why : Why) (P : Past) → is_file (node s v).work ≡ false → prev s v (Emit v m k why ∷ P) ≡ id_at s k
+  pub save : (s : Setting) (r v m k g : ℕ) (P : Past) → is_file (node s v).work ≡ true → prev s v (Save r v m k g ∷ P) ≡ id_at s k
   pub emit_elsewhere : (s : Setting) (v w m k : ℕ) (why : Why) (P : Past) → w ≢ v → prev s v (Emit w m k why ∷ P) ≡ prev s v P
   pub save_elsewhere : (s : Setting) (r v w m k g : ℕ) (P : Past) → w ≢ v → prev s v (Save r w m k g ∷ P) ≡ prev s v P
-  pub reclaim : (s : Setting) (r q v m k g : ℕ) (P : Past) → is_legal s P ≡ true → hand r P ≡ Some (Save q v m k g) → outs v P ≡ k ∷ outs v (Reclaim r ∷ P)
+  pub reclaim : (s : Setting) (r q v m k g : ℕ) (P : Past) → is_legal s P ≡ true → hand r P ≡ Some (Save q v m k g) → outs s v P ≡ k ∷ outs s v (Reclaim r ∷ P)
   pub reclaim_other : (s : Setting) (r v : ℕ) (e : Entry) (P : Past) → is_legal s P ≡ true → hand r P ≡ Some e → is_piece v e ≡ false → prev s v (Reclaim r ∷ P) ≡ prev s v P
   pub prev_others : (s : Setting) (v : ℕ) (e : Entry) (P : Past) → lets_out e ≡ false → prev s v (e ∷ P) ≡ prev s v P
   pub tick : (t : ℕ) (P : Past) → now (Tick t ∷ P) ≡ t
@@ -198,8 +198,8 @@ pub record ClockLaws : Type 0 where
 -- An emission and a save count as a break where the id keeps no step with the previous one. A piece that is reclaimed counts no more.
 pub record BreakLaws : Type 0 where
   pub none : (s : Setting) (v : ℕ) → breaks s v [] ≡ 0
-  pub emit : (s : Setting) (v m k : ℕ) (why : Why) (P : Past) → breaks s v (Emit v m k why ∷ P) ≡ breaks s v P + (if keeps_step (prev s v P) (id_at s k) then 0 else 1)
-  pub save : (s : Setting) (r v m k g : ℕ) (P : Past) → breaks s v (Save r v m k g ∷ P) ≡ breaks s v P + (if keeps_step (prev s v P) (id_at s k) then 0 else 1)
+  pub emit : (s : Setting) (v m k : ℕ) (why : Why) (P : Past) → is_file (node s v).work ≡ false → breaks s v (Emit v m k why ∷ P) ≡ breaks s v P + (if keeps_step (prev s v P) (id_at s k) then 0 else 1)
+  pub save : (s : Setting) (r v m k g : ℕ) (P : Past) → is_file (node s v).work ≡ true → breaks s v (Save r v m k g ∷ P) ≡ breaks s v P + (if keeps_step (prev s v P) (id_at s k) then 0 else 1)
   pub emit_elsewhere : (s : Setting) (v w m k : ℕ) (why : Why) (P : Past) → w ≢ v → breaks s v (Emit w m k why ∷ P) ≡ breaks s v P
   pub save_elsewhere : (s : Setting) (r v w m k g : ℕ) (P : Past) → w ≢ v → breaks s v (Save r w m k g ∷ P) ≡ breaks s v P
   pub reclaim : (s : Setting) (r q v m k g : ℕ) (P : Past) → is_legal s P ≡ true → hand r P ≡ Some (Save q v m k g) → breaks s v P ≡ breaks s v (Reclaim r ∷ P) + (if keeps_step (prev s v (Reclaim r ∷ P)) (id_at s k) then 0 else 1)

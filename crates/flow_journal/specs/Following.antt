@@ -6,8 +6,9 @@ use Rattle.flow_journal.specs.declared.entry.Entry.{Entry}
 use Rattle.flow_journal.specs.declared.entry.Entry.TheVariants.{Load, LoadRefused, Tick, Issue, Emit, Accept, Put, SortDrop, Settle}
 use Rattle.flow_journal.specs.declared.entry.Why.{Why}
 use Rattle.flow_journal.specs.declared.entry.Why.TheVariants.{Plain, Step, Late, Flush, Ring, Now}
-use Rattle.flow_journal.specs.Setting.{Setting, Work, Watches, Saves, node, is_sorted, children, node_numbers, id_at}
+use Rattle.flow_journal.specs.Setting.{Setting, Work, Watches, Saves, node, is_sorted, node_numbers, id_at}
 use Rattle.flow_journal.specs.Pasts.{Past, frame}
+use Rattle.flow_journal.specs.Turns.{offered_to}
 use Rattle.flow_journal.specs.Ended.{now}
 use Rattle.flow_journal.specs.Puts.{firings}
 use Rattle.flow_journal.specs.Waiting.{waiting, Waiting, least_first}
@@ -65,8 +66,8 @@ calls_for s P (LoadRefused r k n h) = Tick (now P) ∷ []
 -- a look at each sorted node
 calls_for s P (Tick t) = flat_map (λ v. if is_sorted s v then look s v (Tick t ∷ P) else []) (node_numbers s)
 calls_for s P (Issue r k) = emit 0 Plain (frame 0 k) ∷ []
--- an offer to each child
-calls_for s P (Emit v m k why) = map (offer (frame m k)) (children s v)
+-- an offer to each child, or by a node that deals to one
+calls_for s P (Emit v m k why) = map (offer (frame m k)) (offered_to s P v)
 calls_for s P (Put r v m k f) = result s v (frame m k) f P (node s v).work
 -- all that waits, the least first
 calls_for s P (Settle r v) = map (λ w. emit v Flush w.array) (least_first s (waiting s v P))

@@ -18,13 +18,13 @@ abbrev pub let_go : ℕ → Past → Past
 let_go r [] = []
 let_go r (e ∷ P) = if takes_up r e then P else e ∷ let_go r P
 
--- the hands: each Load, Take, TakeBlock has Issue and Save after which its role no, Put, Saved or Reclaim
+-- The hands: of each role its last Load, Take, TakeBlock or Save, where no Issue, Put, Saved or Reclaim of that role came after it.
 abbrev pub hands : Past → Past
 hands [] = []
-hands (Load r k b n f g x ∷ P) = Load r k b n f g x ∷ hands P
-hands (Take r v m k ∷ P) = Take r v m k ∷ hands P
-hands (TakeBlock f x r v m k b n g ∷ P) = TakeBlock f x r v m k b n g ∷ hands P
-hands (Save r v m k g ∷ P) = Save r v m k g ∷ hands P
+hands (Load r k b n f g x ∷ P) = Load r k b n f g x ∷ let_go r (hands P)
+hands (Take r v m k ∷ P) = Take r v m k ∷ let_go r (hands P)
+hands (TakeBlock f x r v m k b n g ∷ P) = TakeBlock f x r v m k b n g ∷ let_go r (hands P)
+hands (Save r v m k g ∷ P) = Save r v m k g ∷ let_go r (hands P)
 hands (Issue r k ∷ P) = let_go r (hands P)
 hands (Put r v m k f ∷ P) = let_go r (hands P)
 hands (Saved r v m k ∷ P) = let_go r (hands P)
@@ -39,10 +39,10 @@ hand r P = find (takes_up r) (hands P)
 abbrev pub is_free : ℕ → Past → Bool
 is_free r P = is_none (hand r P)
 
--- the entries that stand: all but the hands that a Reclaim ended
+-- the entries that stand: all but the hands that a Reclaim ended, which without a hand ends none
 abbrev pub standing : Past → Past
 standing [] = []
-standing (Reclaim r ∷ P) = Reclaim r ∷ let_go r (standing P)
+standing (Reclaim r ∷ P) = Reclaim r ∷ (if is_free r P then standing P else let_go r (standing P))
 standing (e ∷ P) = e ∷ standing P
 
 -- the hand is a loaded block

@@ -1,18 +1,18 @@
 -- LAWS of legal histories.
-use Rattle.std.specs.Prelude.{◌≡◌, ℕ, ◌+◌, ◌≤◌, ◌==◌, Bool, true, false, List, [], ◌∷◌, ◌++◌, ◌↔◌, length, filter}
+use Rattle.std.specs.Prelude.{◌≡◌, ℕ, ◌+◌, ◌≤◌, ◌==◌, Bool, true, false, List, [], ◌∷◌, ◌++◌, ◌↔◌, length, filter, Some}
 use Rattle.nd_base.specs.Array.{Array}
 use Rattle.nd_base.specs.declared.frame.FrameName.{FrameName}
 use Rattle.nd_base.specs.declared.graph.Graph.{Graph}
 use Rattle.nd_base.specs.declared.plan.Maker.{Maker}
 use Rattle.pool_ledger.specs.Grants.{has_number}
 use Rattle.flow_journal.specs.declared.entry.Entry.{Entry}
-use Rattle.flow_journal.specs.declared.entry.Entry.TheVariants.{Load, TakeBlock}
+use Rattle.flow_journal.specs.declared.entry.Entry.TheVariants.{Load, TakeBlock, Reclaim}
 use Rattle.flow_journal.specs.Accounts.{refs, is_unplaced, known}
 use Rattle.flow_journal.specs.FirstEntries.{first}
 use Rattle.flow_journal.specs.Setting.{Setting}
 use Rattle.flow_journal.specs.RunSetting.{setting_of}
 use Rattle.flow_journal.specs.Pasts.{Past}
-use Rattle.flow_journal.specs.Hands.{takes_up, hands, is_loaded, is_piece, jobs}
+use Rattle.flow_journal.specs.Hands.{takes_up, let_go, hands, hand, is_free, standing, is_loaded, is_piece, jobs}
 use Rattle.flow_journal.specs.Ended.{is_settled}
 use Rattle.flow_journal.specs.Queued.{queued}
 use Rattle.flow_journal.specs.QueueCounts.{times, gone}
@@ -41,9 +41,18 @@ IsListOfMoves s P = (ms : List (List Entry)) × (are_moves s [] ms ≡ true) × 
 abbrev pub HistoriesAreMoves : Type 0
 HistoriesAreMoves = (s : Setting) (P : Past) → (is_history s P ≡ true) ↔ IsListOfMoves s P
 
--- a role has one hand at most
+-- of any log, a role has one hand at most,
 abbrev pub OneHandARole : Type 0
-OneHandARole = (s : Setting) (P : Past) (r : ℕ) → is_legal s P ≡ true → length (filter (takes_up r) (hands P)) ≤ 1
+OneHandARole = (P : Past) (r : ℕ) → length (filter (takes_up r) (hands P)) ≤ 1
+
+-- that which it took up last,
+abbrev pub LastHandARole : Type 0
+LastHandARole = (r : ℕ) (e : Entry) (P : Past) → takes_up r e ≡ true → hand r (e ∷ P) ≡ Some e
+
+-- and a reclaim takes back this hand, and without one nothing
+pub record ReclaimsTheHand : Type 0 where
+  pub held : (r : ℕ) (e : Entry) (P : Past) → hand r P ≡ Some e → standing (Reclaim r ∷ P) ≡ Reclaim r ∷ let_go r (standing P)
+  pub free : (r : ℕ) (P : Past) → is_free r P ≡ true → standing (Reclaim r ∷ P) ≡ Reclaim r ∷ standing P
 
 -- one block at most is loaded
 abbrev pub OneBlockLoaded : Type 0

@@ -4,6 +4,7 @@ pub mod Hands
 pub mod Ended
 pub mod Offered
 pub mod Queued
+pub mod Turns
 pub mod Puts
 pub mod Waiting
 pub mod Rings
@@ -17,17 +18,22 @@ pub mod Pushes
 pub mod Moves
 pub mod Finished
 pub mod Accepted
+pub mod Notes
 pub mod RunSetting
 pub mod Spelling
 pub mod Reading
 pub mod TextFaults
 pub mod TextLaws
 pub mod QueueCounts
+pub mod QueueOrder
 pub mod HistoryLaws
 pub mod EntryLaws
 pub mod IndexLaws
+pub mod LengthLaws
 pub mod RowFacts
 pub mod RowLaws
+pub mod MoveLists
+pub mod MoveLaws
 pub mod WaitingLaws
 pub mod SortListLaws
 pub mod LookLaws
@@ -35,6 +41,7 @@ pub mod DueLaws
 pub mod RingPushes
 pub mod OutputLaws
 pub mod AccountLaws
+pub mod LimitLaws
 pub mod Journal
 pub mod FirstBad
 pub mod WorkedRuns
@@ -44,3 +51,5 @@ pub mod WorkedQueues
 pub mod WorkedSorting
 pub mod WorkedBlocks
 pub mod WorkedRoles
+pub mod WorkedDealing
+pub mod WorkedReclaims

@@ -1,5 +1,5 @@
 -- LAWS that tie what waits at a node to a sort list: the list holds what waits, the least first.
-use Rattle.std.specs.Prelude.{◌≡◌, ℕ, List, [], ◌∷◌, ◌++◌, map, drop, nat_lt, ◌-◌}
+use Rattle.std.specs.Prelude.{◌≡◌, ℕ, List, [], ◌∷◌, ◌++◌, map, nat_lt, ◌-◌}
 use Rattle.nd_base.specs.declared.frame.FrameName.{FrameName}
 use Rattle.queue_sort.specs.declared.sort_lists.Waiting as listed
 use Rattle.queue_sort.specs.Sorting as sorting

@@ -1,8 +1,12 @@
 //! What holds of every legal history. Each function is a law: it does nothing, and its contract says what holds.
 
 ghost use Rattle.flow_journal.specs.EntryLaws.{BreakLaws, ClockLaws, HandLaws, JobLaws, OfferLaws, PutLaws, QueueLaws, RingLaws, RoleLaws, SaveLaws};
-ghost use Rattle.flow_journal.specs.HistoryLaws.{MovesKeepHistories, FrontsAreLegal, FrontsAreHistories, HistoriesAreMoves, OneHandARole, OneBlockLoaded, OnePieceANode, SettledAreIdle, QueuesInCounts, AcceptsOnce, EmitsOnce, PlacesAreKnown, LoadsAreUnplaced, TakesAreUnplaced, RunsLoadUnplaced, RunsTakeUnplaced, RunsPlacesAreKnown};
+ghost use Rattle.flow_journal.specs.HistoryLaws.{MovesKeepHistories, FrontsAreLegal, FrontsAreHistories, HistoriesAreMoves, OneHandARole, LastHandARole, ReclaimsTheHand, OneBlockLoaded, OnePieceANode, SettledAreIdle, QueuesInCounts, AcceptsOnce, EmitsOnce, PlacesAreKnown, LoadsAreUnplaced, TakesAreUnplaced, RunsLoadUnplaced, RunsTakeUnplaced, RunsPlacesAreKnown};
 ghost use Rattle.flow_journal.specs.IndexLaws.{IndexLaws};
+ghost use Rattle.flow_journal.specs.LengthLaws.{LengthLaws};
+ghost use Rattle.flow_journal.specs.LimitLaws.{LimitLaws};
+ghost use Rattle.flow_journal.specs.MoveLaws.{LogsGoOn, MoveLaws};
+ghost use Rattle.flow_journal.specs.QueueOrder.{QueuesInOrder};
 ghost use Rattle.flow_journal.specs.RowLaws.{TestLaws, RowLaws};
 ghost use Rattle.flow_journal.specs.DueLaws.{DueLaws};
 ghost use Rattle.flow_journal.specs.AccountLaws.{BlockLaws, CountLaws, KeptLaws, KnownLaws, HeldLaws};
@@ -30,6 +34,8 @@ pub fn moves_begin_by_rows()
 /// What roles have in hand.
 pub fn hands_are_few()
     ensures roles { OneHandARole }
+    ensures last { LastHandARole }
+    ensures reclaims { ReclaimsTheHand }
     ensures loaded { OneBlockLoaded }
     ensures pieces { OnePieceANode }
     ensures settled { SettledAreIdle }
@@ -38,6 +44,11 @@ pub fn hands_are_few()
 /// What is queued is what came and didn't leave.
 pub fn queues_count()
     ensures { QueuesInCounts }
+{}
+
+/// The next array of a queue is the one that was given back last, or else the one that came first.
+pub fn queues_are_in_order()
+    ensures { QueuesInOrder }
 {}
 
 /// No array comes twice.
@@ -65,7 +76,7 @@ pub fn rings_are_windows<T>()
     ensures windows { RingWindowLaws T }
 {}
 
-/// What goes out of a node without a sort list.
+/// What goes out of a node, of each kind, and of the driver.
 pub fn nodes_emit_their_results()
     ensures { OutputLaws }
 {}
@@ -109,4 +120,20 @@ pub fn grants_are_unplaced()
 pub fn texts_tell_entries()
     ensures one { TextsTellEntries }
     ensures read { TextsHaveNoBadLine }
+{}
+
+/// How many entries a log can have.
+pub fn logs_are_short()
+    ensures { LengthLaws }
+{}
+
+/// A log is cut into moves by the kinds of its entries, in one way, and what is owed can always come.
+pub fn moves_are_cut_by_kind()
+    ensures moves { MoveLaws }
+    ensures goes_on { LogsGoOn }
+{}
+
+/// With a limit the known blocks are within it, and no block is given up that needn't be.
+pub fn pools_keep_their_limit()
+    ensures { LimitLaws }
 {}

@@ -8,6 +8,7 @@ mod entry;
 mod kind;
 mod laws;
 mod log;
+mod progress;
 mod read;
 mod spelling;
 #[cfg(test)]
@@ -17,9 +18,11 @@ mod write;
 pub use entry::{Entry, Why};
 pub use laws::{
     arrays_come_once, entries_change_facts, entries_move_blocks, grants_are_unplaced,
-    hands_are_few, histories_are_moves, least_goes_first, moves_begin_by_rows,
-    pieces_come_in_groups, queues_count, rings_are_windows, texts_tell_entries,
+    hands_are_few, histories_are_moves, least_goes_first, logs_are_short, moves_are_cut_by_kind,
+    moves_begin_by_rows, nodes_emit_their_results, pieces_come_in_groups, pools_keep_their_limit,
+    queues_are_in_order, queues_count, rings_are_windows, texts_tell_entries,
 };
 pub use log::Log;
+pub use progress::{Progress, Quiet, Watch};
 pub use read::{LogFault, read_text};
 pub use write::write_text;

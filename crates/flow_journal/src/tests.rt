@@ -1,8 +1,8 @@
-//! The worked log both ways, each kind of entry once, and texts that are none of a log.
+//! The worked log both ways, each kind of entry once, texts that are none of a log, and nobody who is told.
 
 ghost use Rattle.std.specs.Prelude.{◌≤◌, length};
 
-use crate::{Entry, Log, LogFault, Why, read_text, write_text};
+use crate::{Entry, Log, LogFault, Progress, Quiet, Watch, Why, read_text, write_text};
 use nd_base::OutOfMemory;
 use std::alloc::Global;
 use std::test::Fail;
@@ -297,5 +297,23 @@ fn the_first_bad_line_is_named(rt: HostRuntime) -> Result<(), Fail> {
             assert_eq!(rt; fault, LogFault::Line { n }, "{text}");
         }
     }
+    Ok(())
+}
+
+#[test]
+fn nobody_takes_each_note(rt: HostRuntime) -> Result<(), Fail> {
+    let progress = Progress {
+        entries: 11,
+        offered: 1,
+        dropped: 0,
+        saved: 1,
+        left: false,
+        done: true,
+    };
+    let mut nobody = Quiet;
+    for _ in 0..3 {
+        nobody.note(rt.alloc(), &progress)?;
+    }
+    assert_eq!(rt; nobody, Quiet);
     Ok(())
 }

@@ -24,7 +24,7 @@ use Rattle.board_rules.specs.Feeding.{LoadGives, IssueGives, CloseGives}
 use Rattle.board_rules.specs.Working.{TakeGives, PutGives, SettleGives}
 use Rattle.board_rules.specs.Saving.{SaveGives, SavedGives}
 use Rattle.board_rules.specs.Leaving.{LeaveGives}
-use Rattle.board_rules.specs.Ends.{progress_of}
+use Rattle.flow_journal.specs.Notes.{progress_of}
 use Rattle.flow_roles.specs.declared.last.Last.{Last}
 use Rattle.flow_roles.specs.declared.last.Last.TheVariants as last
 use Rattle.flow_roles.specs.declared.left_desk.LeftPass.{LeftPass}

@@ -7,7 +7,7 @@ use Rattle.board_rules.specs.declared.answers.Take.TheVariants as take
 use Rattle.board_rules.specs.declared.answers.Settled.{Settled}
 use Rattle.board_rules.specs.declared.answers.Settled.TheVariants as settled
 use Rattle.board_rules.specs.declared.answers.NotYours.{NotYours}
-use Rattle.board_rules.specs.declared.answers.Progress.{Progress}
+use Rattle.flow_journal.specs.declared.progress.Progress.{Progress}
 use Rattle.flow_roles.specs.declared.last.Last.{Last}
 use Rattle.flow_roles.specs.declared.last.Last.TheVariants as last
 

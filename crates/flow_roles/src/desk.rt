@@ -8,12 +8,13 @@ ghost use Rattle.board_rules.specs.Feeding.{LoadGives, HasRoom, MayIssue, IssueG
 ghost use Rattle.board_rules.specs.Working.{TakeGives, LendsJob, IsAtNode, MayPut, PutGives, SettleGives};
 ghost use Rattle.board_rules.specs.Saving.{SaveGives, LendsPiece, MaySaved, SavedGives};
 ghost use Rattle.board_rules.specs.Leaving.{LeaveGives};
-ghost use Rattle.board_rules.specs.Ends.{progress_of};
+ghost use Rattle.flow_journal.specs.Notes.{progress_of};
 ghost use Rattle.flow_roles.specs.Lasts.{last_load, last_given, last_take, last_close, last_progress};
 ghost use Rattle.flow_roles.specs.Passes.{Called};
 ghost use Rattle.flow_roles.specs.declared.last.Last.TheVariants.{Gone, Other};
 
-use board_rules::{Done, Load, NotYours, Progress, Save, Settled, Take};
+use board_rules::{Done, Load, NotYours, Save, Settled, Take};
+use flow_journal::Progress;
 use nd_base::Held;
 use std::alloc::Global;
 use std::sync::Wait;

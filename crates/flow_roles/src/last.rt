@@ -3,7 +3,8 @@
 ghost use Rattle.std.specs.Prelude.{◌≡◌};
 ghost use Rattle.flow_roles.specs.Lasts.{last_load, last_given, last_take, last_close, last_progress};
 
-use board_rules::{Load, NotYours, Progress, Settled, Take};
+use board_rules::{Load, NotYours, Settled, Take};
+use flow_journal::Progress;
 use nd_base::Held;
 
 /// What the last call answered, as far as a role that ends tells it.

@@ -9,7 +9,8 @@ ghost use Rattle.flow_roles.specs.Lasts.{last_given};
 ghost use Rattle.flow_roles.specs.Passes.{Called};
 
 use crate::{Desk, Last};
-use board_rules::{Done, HandName, Load, NotYours, Progress, Save, Settled, Take};
+use board_rules::{Done, HandName, Load, NotYours, Save, Settled, Take};
+use flow_journal::Progress;
 use nd_base::Held;
 use std::alloc::Global;
 use std::sync::Wait;

@@ -1,6 +1,7 @@
 //! The calls of a desk, as values.
 
-use board_rules::{Done, Load, NotYours, Progress, Save, Settled, Take};
+use board_rules::{Done, Load, NotYours, Save, Settled, Take};
+use flow_journal::Progress;
 use nd_base::Held;
 
 /// A call of a desk. Each tells the role that makes it.

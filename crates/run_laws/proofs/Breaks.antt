@@ -1,6 +1,7 @@
 -- So the breaks of a sorted node are those of its emissions that are marked late or flush.
 use Rattle.std.proofs.Common.{◌≡◌, ◌≢◌, ℕ, ◌+◌, Bool, true, false, not, ◌&&◌, cond, eqb, List, [], ◌∷◌, ◌++◌, refl, sym, ap, ◌∙◌, subst, arith, inl, inr, ◌⊎◌, Some}
 use Rattle.std.proofs.lemmas.Bool.{and_parts, false≢true, true≢false, eq-eqb, eqb-true, eqb-false, cases_Bool}
+use Rattle.flow_journal.proofs.Looks.{sorted_no_file}
 use Rattle.flow_journal.specs.declared.entry.Entry.{Entry}
 use Rattle.flow_journal.specs.declared.entry.Entry.TheVariants.{Emit, Save, Reclaim}
 use Rattle.flow_journal.specs.declared.entry.Why.{Why}
@@ -58,7 +59,7 @@ counted s (Emit w m k why ∷ P) v sorted h =
       | inr away ↦ omega (arith, before, break_laws.emit_elsewhere s v w m k why P (eqb-false w v away), ap (λ (b : Bool). let n : ℕ = cond (b && not steps) 1 0 in n) (elsewhere why away))
       | inl here ↦
           let is : w ≡ v = eqb-true w v here in
-          let now_breaks : breaks s v (Emit w m k why ∷ P) ≡ breaks s v P + cond steps 0 1 = subst (λ (u : ℕ). breaks s v (Emit u m k why ∷ P) ≡ breaks s v P + cond steps 0 1) (sym is) (break_laws.emit s v m k why P) in
+          let now_breaks : breaks s v (Emit w m k why ∷ P) ≡ breaks s v P + cond steps 0 1 = subst (λ (u : ℕ). breaks s v (Emit u m k why ∷ P) ≡ breaks s v P + cond steps 0 1) (sym is) (break_laws.emit s v m k why P (sorted_no_file s v sorted)) in
           let fit : fits why steps ≡ true = emission-fits s P v m k why sorted (subst (λ (u : ℕ). is_legal s (Emit u m k why ∷ P) ≡ true) is h) in
           omega (arith, before, now_breaks, same why steps fit here)
     ]

@@ -1,5 +1,5 @@
 -- The frames that came to the driver.
-use Rattle.std.proofs.Common.{◌≡◌, ℕ, ◌+◌, true, false, ◌&&◌, eqb, List, [], ◌∷◌, length, refl, ap, ◌∙◌, arith, inl, inr}
+use Rattle.std.proofs.Common.{◌≡◌, ℕ, ◌+◌, true, false, ◌&&◌, eqb, List, [], ◌∷◌, length, refl, ap, ◌∙◌, arith, inl, inr, cond}
 use Rattle.std.specs.Prelude.{flat_map}
 use Rattle.std.specs.List.{list_all}
 use Rattle.std.proofs.lemmas.Bool.{and_parts, false≢true, eqb-true, cases_Bool}
@@ -7,7 +7,7 @@ use Rattle.flow_journal.specs.declared.entry.Entry.{Entry}
 use Rattle.flow_journal.specs.declared.entry.Entry.TheVariants.{Load, LoadRefused, Reclaim}
 use Rattle.flow_journal.specs.Setting.{Setting, node_numbers}
 use Rattle.flow_journal.specs.Pasts.{Past}
-use Rattle.flow_journal.specs.Hands.{takes_up, let_go, hands, standing}
+use Rattle.flow_journal.specs.Hands.{takes_up, let_go, hands, standing, is_free}
 use Rattle.flow_journal.specs.Ended.{is_closed}
 use Rattle.flow_journal.specs.Offered.{loads, offered_frames, next_index}
 use Rattle.flow_journal.specs.IndexLaws.{below}
@@ -33,7 +33,11 @@ refusals-let_go r (e ∷ es) =
 pub refusals-stand : (P : Past) → count is_refused_load (standing P) ≡ count is_refused_load P
 refusals-stand [] = refl
 refusals-stand (LoadRefused r k n z ∷ P) = omega (arith, refusals-stand P)
-refusals-stand (Reclaim r ∷ P) = omega (arith, refusals-let_go r (standing P), refusals-stand P)
+refusals-stand (Reclaim r ∷ P) =
+    elim (is_free r P) as (λ b. count is_refused_load (Reclaim r ∷ cond b (standing P) (let_go r (standing P))) ≡ count is_refused_load P) [
+      | true ↦ refusals-stand P
+      | false ↦ omega (arith, refusals-let_go r (standing P), refusals-stand P)
+    ]
 refusals-stand (_ ∷ P) = refusals-stand P
 
 frames-split : (P : Past) → length (flat_map loads P) ≡ length (flat_map load_index P) + count is_refused_load P

@@ -7,17 +7,19 @@ use Rattle.nd_base.specs.declared.frame.FrameName.{FrameName}
 use Rattle.flow_journal.specs.declared.entry.Entry.{Entry}
 use Rattle.flow_journal.specs.declared.entry.Entry.TheVariants.{Load, LoadRefused, Tick, Issue, Emit, Accept, Full, Take, TakeBlock, PoolDrop, Put, SortDrop, Settle, Save, Saved, Close, Leave, Reclaim}
 use Rattle.flow_journal.specs.Setting.{Setting, Node, node, is_node, is_sorted, numbers_from, node_numbers, children}
+use Rattle.flow_journal.specs.Turns.{offered_to}
 use Rattle.flow_journal.specs.Pasts.{Past, frame}
-use Rattle.flow_journal.specs.Hands.{hands, is_loaded}
+use Rattle.flow_journal.specs.Hands.{hands, is_loaded, let_go}
 use Rattle.flow_journal.specs.Queued.{queued, has_room}
 use Rattle.flow_journal.specs.Waiting.{waiting, least_first}
 use Rattle.flow_journal.specs.Following.{offer, look, calls_for, owed}
 use Rattle.flow_journal.specs.Histories.{is_legal}
 use Rattle.flow_journal.proofs.Rows.{row_laws, test_laws}
-use Rattle.flow_journal.proofs.Hands.{row_of}
+use Rattle.flow_journal.proofs.Hands.{row_of, takes-alone}
 use Rattle.flow_journal.proofs.Changes.{queue_laws}
 use Rattle.flow_journal.proofs.EntryCounts.{count, bit, count-cons, count-append, count-drop, count-let_go, count-let_go-le, owed-first, owed-answered, answers-by_Accept}
 use Rattle.flow_journal.proofs.Outs.{is_out_at, AllOutAt, out_of, none_elsewhere, result-at, flush-at, goes_out-at}
+use Rattle.flow_journal.proofs.Dealing.{count-offered}
 use Rattle.flow_journal.proofs.Offers.{is_number, none_numbered_0, child_once}
 use Rattle.flow_journal.proofs.Issues.{looks-none, puts_at_node, settles_node}
 use Rattle.flow_journal.proofs.Emissions.{owed-Emit_out, no_outs_in_offers}
@@ -100,7 +102,7 @@ fed s (Load r k b n f g x ∷ P) v child wait input h quiet =
     let outs : count (out_of 0 any) (owed s P) ≡ 0 = ap (count (out_of 0 any)) none in
     let offers : count (offers_to v) (owed s P) ≡ 0 = ap (count (offers_to v)) none in
     record {
-      few = omega (arith, unloaded, outs, offers, less-owed s (out_of 0 any) (Load r k b n f g x) P, less-owed s (offers_to v) (Load r k b n f g x) P, count-cons is_loaded (Load r k b n f g x) (hands P));
+      few = omega (arith, unloaded, outs, offers, less-owed s (out_of 0 any) (Load r k b n f g x) P, less-owed s (offers_to v) (Load r k b n f g x) P, ap (count is_loaded) (takes-alone s r (Load r k b n f g x) P (eq-eqb r r refl) h), count-cons is_loaded (Load r k b n f g x) (let_go r (hands P)));
       room = λ some. listed (has_room s P) v (children s 0) (facts.room wait) child;
       none = before.none;
     }
@@ -112,11 +114,11 @@ fed s (Issue r k ∷ P) v child wait input h quiet =
     let l = (row_laws.issue s P r k).0 (row_of s (Issue r k) P (λ d. refl) h) in
     go_on s v (Issue r k) P (omega (arith, less-owed s (out_of 0 any) (Issue r k) P, less-owed s (offers_to v) (Issue r k) P, count-let_go is_loaded r _ (hands P) l.5)) (λ room. room) refl (fed s P v child wait input (and_parts _ _ h).0 quiet)
 fed s (Emit w m i why ∷ P) v child wait input h quiet =
-    let whole_outs = count-append (out_of 0 any) (map (offer (frame m i)) (children s w)) (drop 1 (owed s P)) in
-    let whole_offers = count-append (offers_to v) (map (offer (frame m i)) (children s w)) (drop 1 (owed s P)) in
+    let whole_outs = count-append (out_of 0 any) (map (offer (frame m i)) (offered_to s P w)) (drop 1 (owed s P)) in
+    let whole_offers = count-append (offers_to v) (map (offer (frame m i)) (offered_to s P w)) (drop 1 (owed s P)) in
     let was = owed-Emit_out s w m i why P 0 any h in
     let at_input : bit (eqb (node s v).input w) ≡ bit (eqb w 0 && true) = ap (λ (u : ℕ). bit (eqb u w)) input ∙ turned w in
-    go_on s v (Emit w m i why) P (omega (arith, whole_outs, whole_offers, was, no_outs_in_offers 0 any (frame m i) (children s w), offers-are v (frame m i) (children s w), child_once s w v, at_input, count-drop (offers_to v) (owed s P))) (λ room. room) refl (fed s P v child wait input (and_parts _ _ h).0 quiet)
+    go_on s v (Emit w m i why) P (omega (arith, whole_outs, whole_offers, was, no_outs_in_offers 0 any (frame m i) (offered_to s P w), offers-are v (frame m i) (offered_to s P w), count-offered (is_number v) s P w, child_once s w v, at_input, count-drop (offers_to v) (owed s P))) (λ room. room) refl (fed s P v child wait input (and_parts _ _ h).0 quiet)
   where
     turned : (w : ℕ) → bit (eqb 0 w) ≡ bit (eqb w 0 && true)
     turned zero = refl
@@ -155,22 +157,22 @@ fed s (Full w m i ∷ P) v child wait input h quiet =
 fed s (Take r w m i ∷ P) v child wait input h quiet =
     let before = fed s P v child wait input (and_parts _ _ h).0 quiet in
     elim (cases_Bool (eqb w v)) [
-      | inl here ↦ subst (λ (u : ℕ). is_legal s (Take r u m i ∷ P) ≡ true → Fed s v (Take r u m i ∷ P)) (sym (eqb-true w v here)) (λ g. go_on s v (Take r v m i) P (omega (arith, less-owed s (out_of 0 any) (Take r v m i) P, less-owed s (offers_to v) (Take r v m i) P)) (shorter s v (Take r v m i) (frame m i) P (queue_laws.take s r v m i P (row_of s (Take r v m i) P (λ d. refl) g))) refl before) h
-      | inr away ↦ go_on s v (Take r w m i) P (omega (arith, less-owed s (out_of 0 any) (Take r w m i) P, less-owed s (offers_to v) (Take r w m i) P)) (stays s v (Take r w m i) P (queue_laws.take_elsewhere r v w m i P (eqb-false w v away))) refl before
+      | inl here ↦ subst (λ (u : ℕ). is_legal s (Take r u m i ∷ P) ≡ true → Fed s v (Take r u m i ∷ P)) (sym (eqb-true w v here)) (λ g. go_on s v (Take r v m i) P (omega (arith, less-owed s (out_of 0 any) (Take r v m i) P, less-owed s (offers_to v) (Take r v m i) P, count-let_go-le is_loaded r (hands P))) (shorter s v (Take r v m i) (frame m i) P (queue_laws.take s r v m i P (row_of s (Take r v m i) P (λ d. refl) g))) refl before) h
+      | inr away ↦ go_on s v (Take r w m i) P (omega (arith, less-owed s (out_of 0 any) (Take r w m i) P, less-owed s (offers_to v) (Take r w m i) P, count-let_go-le is_loaded r (hands P))) (stays s v (Take r w m i) P (queue_laws.take_elsewhere r v w m i P (eqb-false w v away))) refl before
     ]
 fed s (TakeBlock f x r w m i b n g ∷ P) v child wait input h quiet =
     let before = fed s P v child wait input (and_parts _ _ h).0 quiet in
     let e : ℕ → Entry = λ u. TakeBlock f x r u m i b n g in
     elim (cases_Bool (eqb w v)) [
-      | inl here ↦ subst (λ (u : ℕ). is_legal s (e u ∷ P) ≡ true → Fed s v (e u ∷ P)) (sym (eqb-true w v here)) (λ o. go_on s v (e v) P (omega (arith, less-owed s (out_of 0 any) (e v) P, less-owed s (offers_to v) (e v) P)) (shorter s v (e v) (frame m i) P (queue_laws.take_block s r v m i b n f g x P (row_of s (e v) P (λ d. refl) o))) refl before) h
-      | inr away ↦ go_on s v (e w) P (omega (arith, less-owed s (out_of 0 any) (e w) P, less-owed s (offers_to v) (e w) P)) (stays s v (e w) P (queue_laws.take_block_elsewhere r v w m i b n f g x P (eqb-false w v away))) refl before
+      | inl here ↦ subst (λ (u : ℕ). is_legal s (e u ∷ P) ≡ true → Fed s v (e u ∷ P)) (sym (eqb-true w v here)) (λ o. go_on s v (e v) P (omega (arith, less-owed s (out_of 0 any) (e v) P, less-owed s (offers_to v) (e v) P, count-let_go-le is_loaded r (hands P))) (shorter s v (e v) (frame m i) P (queue_laws.take_block s r v m i b n f g x P (row_of s (e v) P (λ d. refl) o))) refl before) h
+      | inr away ↦ go_on s v (e w) P (omega (arith, less-owed s (out_of 0 any) (e w) P, less-owed s (offers_to v) (e w) P, count-let_go-le is_loaded r (hands P))) (stays s v (e w) P (queue_laws.take_block_elsewhere r v w m i b n f g x P (eqb-false w v away))) refl before
     ]
 fed s (PoolDrop r w m i n z ∷ P) v child wait input h quiet =
     let before = fed s P v child wait input (and_parts _ _ h).0 quiet in
     let e : ℕ → Entry = λ u. PoolDrop r u m i n z in
     elim (cases_Bool (eqb w v)) [
-      | inl here ↦ subst (λ (u : ℕ). is_legal s (e u ∷ P) ≡ true → Fed s v (e u ∷ P)) (sym (eqb-true w v here)) (λ o. go_on s v (e v) P (omega (arith, less-owed s (out_of 0 any) (e v) P, less-owed s (offers_to v) (e v) P)) (shorter s v (e v) (frame m i) P (queue_laws.pool_drop s r v m i n z P (row_of s (e v) P (λ d. refl) o))) refl before) h
-      | inr away ↦ go_on s v (e w) P (omega (arith, less-owed s (out_of 0 any) (e w) P, less-owed s (offers_to v) (e w) P)) (stays s v (e w) P (queue_laws.pool_drop_elsewhere r v w m i n z P (eqb-false w v away))) refl before
+      | inl here ↦ subst (λ (u : ℕ). is_legal s (e u ∷ P) ≡ true → Fed s v (e u ∷ P)) (sym (eqb-true w v here)) (λ o. go_on s v (e v) P (omega (arith, less-owed s (out_of 0 any) (e v) P, less-owed s (offers_to v) (e v) P, count-let_go-le is_loaded r (hands P))) (shorter s v (e v) (frame m i) P (queue_laws.pool_drop s r v m i n z P (row_of s (e v) P (λ d. refl) o))) refl before) h
+      | inr away ↦ go_on s v (e w) P (omega (arith, less-owed s (out_of 0 any) (e w) P, less-owed s (offers_to v) (e w) P, count-let_go-le is_loaded r (hands P))) (stays s v (e w) P (queue_laws.pool_drop_elsewhere r v w m i n z P (eqb-false w v away))) refl before
     ]
 fed s (Put r w m i f ∷ P) v child wait input h quiet =
     let at : AllOutAt w (calls_for s P (Put r w m i f)) = result-at s w (frame m i) f P (node s w).work in
@@ -184,7 +186,7 @@ fed s (Reclaim r ∷ P) v child wait input h quiet = absurd (true≢false quiet)
 fed s (SortDrop w m i ∷ P) v child wait input h quiet =
     go_on s v (SortDrop w m i) P (omega (arith, less-owed s (out_of 0 any) (SortDrop w m i) P, less-owed s (offers_to v) (SortDrop w m i) P)) (λ room. room) refl (fed s P v child wait input (and_parts _ _ h).0 quiet)
 fed s (Save r w m i g ∷ P) v child wait input h quiet =
-    go_on s v (Save r w m i g) P (omega (arith, less-owed s (out_of 0 any) (Save r w m i g) P, less-owed s (offers_to v) (Save r w m i g) P)) (λ room. room) refl (fed s P v child wait input (and_parts _ _ h).0 quiet)
+    go_on s v (Save r w m i g) P (omega (arith, less-owed s (out_of 0 any) (Save r w m i g) P, less-owed s (offers_to v) (Save r w m i g) P, count-let_go-le is_loaded r (hands P))) (λ room. room) refl (fed s P v child wait input (and_parts _ _ h).0 quiet)
 fed s (Close r ∷ P) v child wait input h quiet =
     go_on s v (Close r) P (omega (arith, less-owed s (out_of 0 any) (Close r) P, less-owed s (offers_to v) (Close r) P)) (λ room. room) refl (fed s P v child wait input (and_parts _ _ h).0 quiet)
 fed s (Leave r ∷ P) v child wait input h quiet =

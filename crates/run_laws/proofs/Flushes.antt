@@ -6,7 +6,8 @@ use Rattle.flow_journal.specs.declared.entry.Entry.{Entry}
 use Rattle.flow_journal.specs.declared.entry.Entry.TheVariants.{Tick, Emit, Put, Settle}
 use Rattle.flow_journal.specs.declared.entry.Why.{Why}
 use Rattle.flow_journal.specs.declared.entry.Why.TheVariants.{Flush}
-use Rattle.flow_journal.specs.Setting.{Setting, node, id_at, is_sorted, node_numbers, children}
+use Rattle.flow_journal.specs.Setting.{Setting, node, id_at, is_sorted, node_numbers}
+use Rattle.flow_journal.specs.Turns.{offered_to}
 use Rattle.flow_journal.specs.Pasts.{Past, frame}
 use Rattle.flow_journal.specs.Ended.{now, has_ended, closes, is_closed, settles, is_settled}
 use Rattle.flow_journal.specs.Waiting.{Waiting, waiting, least_first}
@@ -69,7 +70,7 @@ both-none v xs ys a b = omega (arith, count-append (flushes v) xs (drop 1 ys), a
 none-owed : (s : Setting) (P : Past) (v : ℕ) → has_ended (node s v).input P ≡ false → is_legal s P ≡ true → count (flushes v) (owed s P) ≡ 0
 none-owed s [] v open_ h = refl
 none-owed s (Tick t ∷ P) v open_ h = both-none v (calls_for s P (Tick t)) (owed s P) (none-looks (flushes v) (misses_looks v) s (Tick t ∷ P) (node_numbers s)) (none-owed s P v (not_before (node s v).input (Tick t) P open_) (and_parts _ _ h).0)
-none-owed s (Emit w i j why ∷ P) v open_ h = both-none v (calls_for s P (Emit w i j why)) (owed s P) (none-offers (flushes v) (misses v) (frame i j) (children s w)) (none-owed s P v (not_before (node s v).input (Emit w i j why) P open_) (and_parts _ _ h).0)
+none-owed s (Emit w i j why ∷ P) v open_ h = both-none v (calls_for s P (Emit w i j why)) (owed s P) (none-offers (flushes v) (misses v) (frame i j) (offered_to s P w)) (none-owed s P v (not_before (node s v).input (Emit w i j why) P open_) (and_parts _ _ h).0)
 none-owed s (Put r w i j f ∷ P) v open_ h = both-none v (calls_for s P (Put r w i j f)) (owed s P) (none-result s v w (frame i j) f P) (none-owed s P v (not_before (node s v).input (Put r w i j f) P open_) (and_parts _ _ h).0)
 none-owed s (Settle r w ∷ P) v open_ h =
     let before : has_ended (node s v).input P ≡ false = not_before (node s v).input (Settle r w) P open_ in

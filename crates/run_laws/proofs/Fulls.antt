@@ -6,7 +6,8 @@ use Rattle.std.proofs.lemmas.Bool.{and_parts, false≢true, true≢false, eqb-tr
 use Rattle.nd_base.specs.declared.frame.FrameName.{FrameName}
 use Rattle.flow_journal.specs.declared.entry.Entry.{Entry}
 use Rattle.flow_journal.specs.declared.entry.Entry.TheVariants.{Tick, Emit, Accept, Full, Put, Settle}
-use Rattle.flow_journal.specs.Setting.{Setting, node, is_sorted, node_numbers, children}
+use Rattle.flow_journal.specs.Setting.{Setting, node, is_sorted, node_numbers}
+use Rattle.flow_journal.specs.Turns.{offered_to}
 use Rattle.flow_journal.specs.Pasts.{Past, frame}
 use Rattle.flow_journal.specs.Queued.{has_room}
 use Rattle.flow_journal.specs.Waiting.{waiting, least_first}
@@ -49,7 +50,7 @@ no_fulls-offers a (c ∷ cs) = no_fulls-offers a cs
 pub no_full_owed : (s : Setting) (P : Past) → count is_any_full (owed s P) ≡ 0
 no_full_owed s [] = refl
 no_full_owed s (Tick t ∷ P) = omega (arith, no_full_owed s P, less-owed s is_any_full (Tick t) P, no_fulls-looks s (Tick t ∷ P) (node_numbers s))
-no_full_owed s (Emit w m i why ∷ P) = omega (arith, no_full_owed s P, less-owed s is_any_full (Emit w m i why) P, no_fulls-offers (frame m i) (children s w))
+no_full_owed s (Emit w m i why ∷ P) = omega (arith, no_full_owed s P, less-owed s is_any_full (Emit w m i why) P, no_fulls-offers (frame m i) (offered_to s P w))
 no_full_owed s (Put r w m i f ∷ P) = omega (arith, no_full_owed s P, less-owed s is_any_full (Put r w m i f) P, no_fulls w (calls_for s P (Put r w m i f)) (result-at s w (frame m i) f P (node s w).work))
 no_full_owed s (Settle r w ∷ P) = omega (arith, no_full_owed s P, less-owed s is_any_full (Settle r w) P, no_fulls w (calls_for s P (Settle r w)) (flush-at w (least_first s (waiting s w P))))
 no_full_owed s (e ∷ P) = omega (arith, no_full_owed s P, count-drop is_any_full (owed s P))

@@ -6,7 +6,7 @@ use Rattle.std.proofs.lemmas.Bool.{and_parts, and_from, cases_Bool}
 use Rattle.std.proofs.lemmas.List.{append-nil}
 use Rattle.nd_base.specs.declared.frame.FrameName.{FrameName}
 use Rattle.flow_journal.specs.declared.entry.Entry.{Entry}
-use Rattle.flow_journal.specs.declared.entry.Entry.TheVariants.{Issue, Take, TakeBlock, Put, Saved, Reclaim}
+use Rattle.flow_journal.specs.declared.entry.Entry.TheVariants.{Issue, Take, TakeBlock, Put, Saved, Reclaim, Load, Save}
 use Rattle.flow_journal.specs.Setting.{Setting, is_maker}
 use Rattle.flow_journal.specs.Pasts.{Past}
 use Rattle.flow_journal.specs.Hands.{takes_up, let_go, hands, is_job, job_array}
@@ -87,14 +87,16 @@ pub hands-fit : (s : Setting) (P : Past) → is_legal s P ≡ true → list_all 
 hands-fit s [] h = refl
 hands-fit s (Take r w m k ∷ P) h =
     let row = (row_laws.take s P r w m k).0 (row_of s (Take r w m k) P (λ d. refl) h) in
-    and_from _ _ (ap not row.1) (hands-fit s P (and_parts _ _ h).0)
+    and_from _ _ (ap not row.1) (fits-less s r (hands P) (hands-fit s P (and_parts _ _ h).0))
 hands-fit s (TakeBlock f x r w m k b n g ∷ P) h =
     let row = (row_laws.take_block s P r w m k b n f g x).0 (row_of s (TakeBlock f x r w m k b n g) P (λ d. refl) h) in
-    and_from _ _ row.1 (hands-fit s P (and_parts _ _ h).0)
+    and_from _ _ row.1 (fits-less s r (hands P) (hands-fit s P (and_parts _ _ h).0))
 hands-fit s (Issue r k ∷ P) h = fits-less s r (hands P) (hands-fit s P (and_parts _ _ h).0)
 hands-fit s (Put r w m k f ∷ P) h = fits-less s r (hands P) (hands-fit s P (and_parts _ _ h).0)
 hands-fit s (Saved r w m k ∷ P) h = fits-less s r (hands P) (hands-fit s P (and_parts _ _ h).0)
 hands-fit s (Reclaim r ∷ P) h = fits-less s r (hands P) (hands-fit s P (and_parts _ _ h).0)
+hands-fit s (Load r k b n f g x ∷ P) h = fits-less s r (hands P) (hands-fit s P (and_parts _ _ h).0)
+hands-fit s (Save r w m k g ∷ P) h = fits-less s r (hands P) (hands-fit s P (and_parts _ _ h).0)
 hands-fit s (_ ∷ P) h = hands-fit s P (and_parts _ _ h).0
 
 pub found-fits : (s : Setting) (r : ℕ) (e : Entry) (hs : List Entry) → list_all (fits s) hs ≡ true → find (takes_up r) hs ≡ Some e → fits s e ≡ true

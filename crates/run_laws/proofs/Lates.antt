@@ -8,7 +8,8 @@ use Rattle.flow_journal.specs.declared.entry.Entry.{Entry}
 use Rattle.flow_journal.specs.declared.entry.Entry.TheVariants.{Tick, Emit, Put, SortDrop, Settle}
 use Rattle.flow_journal.specs.declared.entry.Why.{Why}
 use Rattle.flow_journal.specs.declared.entry.Why.TheVariants.{Step, Late, Flush}
-use Rattle.flow_journal.specs.Setting.{Setting, node, id_at, is_sorted, node_numbers, children}
+use Rattle.flow_journal.specs.Setting.{Setting, node, id_at, is_sorted, node_numbers}
+use Rattle.flow_journal.specs.Turns.{offered_to}
 use Rattle.flow_journal.specs.Pasts.{Past, frame, same}
 use Rattle.flow_journal.specs.Ended.{now}
 use Rattle.flow_journal.specs.Waiting.{Waiting, not_waiting, waiting, least_first}
@@ -171,7 +172,7 @@ late-owed s (Emit w i j why ∷ P) v m k nz sorted h =
     let t : FrameName → Bool = λ x. same x (frame m k) in
     let legal : is_legal s P ≡ true = (and_parts _ _ h).0 in
     let before = late-owed s P v m k nz sorted legal in
-    let less : count (lates v t) (owed s (Emit w i j why ∷ P)) ≤ count (lates v t) (drop 1 (owed s P)) = omega (arith, count-append (lates v t) (map (offer (frame i j)) (children s w)) (drop 1 (owed s P)), none-offers (lates v t) (misses v t) (frame i j) (children s w)) in
+    let less : count (lates v t) (owed s (Emit w i j why ∷ P)) ≤ count (lates v t) (drop 1 (owed s P)) = omega (arith, count-append (lates v t) (map (offer (frame i j)) (offered_to s P w)) (drop 1 (owed s P)), none-offers (lates v t) (misses v t) (frame i j) (offered_to s P w)) in
     elim (cases_Bool (eqb w v)) [
       | inr away ↦ let stays : waiting s v (Emit w i j why ∷ P) ≡ waiting s v P = rw away refl in omega (arith, before, less, count-drop (lates v t) (owed s P), ap (count (overdue s v (now P) t)) stays)
       | inl here ↦
@@ -227,7 +228,7 @@ more-owed v t xs ys a b = omega (arith, count-append (lates v t) xs (drop 1 ys),
 none-late : (s : Setting) (P : Past) (v : ℕ) (t : FrameName → Bool) → is_sorted s v ≡ false → count (lates v t) (owed s P) ≡ 0
 none-late s [] v t plain = refl
 none-late s (Tick u ∷ P) v t plain = more-owed v t (calls_for s P (Tick u)) (owed s P) (plain-looks s (Tick u ∷ P) v t (node_numbers s) plain) (none-late s P v t plain)
-none-late s (Emit w i j why ∷ P) v t plain = more-owed v t (calls_for s P (Emit w i j why)) (owed s P) (none-offers (lates v t) (misses v t) (frame i j) (children s w)) (none-late s P v t plain)
+none-late s (Emit w i j why ∷ P) v t plain = more-owed v t (calls_for s P (Emit w i j why)) (owed s P) (none-offers (lates v t) (misses v t) (frame i j) (offered_to s P w)) (none-late s P v t plain)
 none-late s (Settle r w ∷ P) v t plain = more-owed v t (calls_for s P (Settle r w)) (owed s P) (lates-flush v w t (least_first s (waiting s w P))) (none-late s P v t plain)
 none-late s (Put r w i j f ∷ P) v t plain = more-owed v t (calls_for s P (Put r w i j f)) (owed s P) (called (cases_Bool (eqb w v))) (none-late s P v t plain)
   where

@@ -7,17 +7,17 @@ use Rattle.std.proofs.lemmas.List.{append_assoc, map-append}
 use Rattle.std.proofs.lemmas.List.Elements.{filter-append}
 use Rattle.nd_base.specs.declared.frame.FrameName.{FrameName}
 use Rattle.flow_journal.specs.declared.entry.Entry.{Entry}
-use Rattle.flow_journal.specs.declared.entry.Entry.TheVariants.{Issue, Accept, Take, TakeBlock, PoolDrop, Put, SortDrop, Saved, Reclaim}
+use Rattle.flow_journal.specs.declared.entry.Entry.TheVariants.{Issue, Accept, Take, TakeBlock, PoolDrop, Put, SortDrop, Saved, Reclaim, Load, Save}
 use Rattle.flow_journal.specs.Setting.{Setting, node, is_maker, is_sorted}
 use Rattle.flow_journal.specs.Pasts.{Past, frame, same, comes_at}
-use Rattle.flow_journal.specs.Hands.{let_go, hands, hand, is_job, job_array}
+use Rattle.flow_journal.specs.Hands.{let_go, hands, hand, is_job, job_array, takes_up}
 use Rattle.flow_journal.specs.Queued.{queued}
 use Rattle.flow_journal.specs.Puts.{puts}
 use Rattle.flow_journal.specs.Accepted.{accepts, is_dropped_by, accepted}
 use Rattle.flow_journal.specs.Histories.{is_legal}
 use Rattle.flow_journal.proofs.Steps.{comes_here, comes_elsewhere, same_refl}
 use Rattle.flow_journal.proofs.Rows.{row_laws}
-use Rattle.flow_journal.proofs.Hands.{row_of}
+use Rattle.flow_journal.proofs.Hands.{row_of, hands-more, takes-alone}
 use Rattle.flow_journal.proofs.Changes.{queue_laws}
 use Rattle.flow_journal.proofs.EntryCounts.{count, bit, count-cons, count-let_go-le, accepts_at}
 use Rattle.flow_journal.proofs.Jobs.{reclaim_hand}
@@ -123,6 +123,14 @@ line-let_go s r v d e P held other down p acc q l =
     (ap (λ (xs : List FrameName). xs ++ queued v (d ∷ P)) (ap (jobs_at v) down ∙ other_goes v r e (hands P) held other) ∙ ap (λ (xs : List FrameName). jobs_at v (hands P) ++ xs) q)
     (omega (arith, l.few, ap (count (is_job v)) down, count-let_go-le (is_job v) r (hands P))) l
 
+-- whoever takes up no job of the node
+held_other : (s : Setting) (r v : ℕ) (e : Entry) (P : Past) → takes_up r e ≡ true → is_job v e ≡ false → puts v (e ∷ P) ≡ puts v P → accepted s v (e ∷ P) ≡ accepted s v P → queued v (e ∷ P) ≡ queued v P → is_legal s (e ∷ P) ≡ true → Line s v P → Line s v (e ∷ P)
+held_other s r v e P up other p a q h l =
+    let more = hands-more s r e P up h in
+    same_line s v e P p a
+    (ap (λ (xs : List FrameName). xs ++ queued v (e ∷ P)) (ap (jobs_at v) more ∙ ap (λ (xs : List FrameName). xs ++ jobs_at v (hands P)) (no_job v e other)) ∙ ap (λ (xs : List FrameName). jobs_at v (hands P) ++ xs) q)
+    (omega (arith, l.few, ap (count (is_job v)) more, count-cons (is_job v) e (hands P), ap bit other)) l
+
 job_is : (v m i : ℕ) → comes_at v v (frame m i) [] ≡ frame m i ∷ []
 job_is v m i = comes_here v (frame m i) []
 
@@ -157,10 +165,8 @@ line s (Take r w m i ∷ P) v plain one h =
       | inl here ↦ subst (λ (u : ℕ). is_legal s (Take r u m i ∷ P) ≡ true → Line s v (Take r u m i ∷ P)) (sym (eqb-true w v here))
           (λ g. let row = row_of s (Take r v m i) P (λ d. refl) g in
           let facts = ((row_laws.take s P r v m i).0 row).0 in
-          line-take s v (Take r v m i) (frame m i) P refl refl refl (job_is v m i) (queue_laws.take s r v m i P row) (omega (arith, facts.room, one)) l) h
-      | inr away ↦ same_line s v (Take r w m i) P refl refl
-          (ap (λ (xs : List FrameName). (xs ++ jobs_at v (hands P)) ++ queued v (Take r w m i ∷ P)) (no_job v (Take r w m i) away) ∙ ap (λ (xs : List FrameName). jobs_at v (hands P) ++ xs) (queue_laws.take_elsewhere r v w m i P (eqb-false w v away)))
-          (omega (arith, l.few, count-cons (is_job v) (Take r w m i) (hands P), ap bit away)) l
+          line-take s v (Take r v m i) (frame m i) P refl refl (hands-more s r (Take r v m i) P (eq-eqb r r refl) g) (job_is v m i) (queue_laws.take s r v m i P row) (omega (arith, facts.room, one)) l) h
+      | inr away ↦ held_other s r v (Take r w m i) P (eq-eqb r r refl) away refl refl (queue_laws.take_elsewhere r v w m i P (eqb-false w v away)) h l
     ]
 line s (TakeBlock f x r w m i b n g ∷ P) v plain one h =
     let l = line s P v plain one (and_parts _ _ h).0 in
@@ -168,10 +174,8 @@ line s (TakeBlock f x r w m i b n g ∷ P) v plain one h =
       | inl here ↦ subst (λ (u : ℕ). is_legal s (TakeBlock f x r u m i b n g ∷ P) ≡ true → Line s v (TakeBlock f x r u m i b n g ∷ P)) (sym (eqb-true w v here))
           (λ o. let row = row_of s (TakeBlock f x r v m i b n g) P (λ d. refl) o in
           let facts = ((row_laws.take_block s P r v m i b n f g x).0 row).0 in
-          line-take s v (TakeBlock f x r v m i b n g) (frame m i) P refl refl refl (job_is v m i) (queue_laws.take_block s r v m i b n f g x P row) (omega (arith, facts.room, one)) l) h
-      | inr away ↦ same_line s v (TakeBlock f x r w m i b n g) P refl refl
-          (ap (λ (xs : List FrameName). (xs ++ jobs_at v (hands P)) ++ queued v (TakeBlock f x r w m i b n g ∷ P)) (no_job v (TakeBlock f x r w m i b n g) away) ∙ ap (λ (xs : List FrameName). jobs_at v (hands P) ++ xs) (queue_laws.take_block_elsewhere r v w m i b n f g x P (eqb-false w v away)))
-          (omega (arith, l.few, count-cons (is_job v) (TakeBlock f x r w m i b n g) (hands P), ap bit away)) l
+          line-take s v (TakeBlock f x r v m i b n g) (frame m i) P refl refl (hands-more s r (TakeBlock f x r v m i b n g) P (eq-eqb r r refl) o) (job_is v m i) (queue_laws.take_block s r v m i b n f g x P row) (omega (arith, facts.room, one)) l) h
+      | inr away ↦ held_other s r v (TakeBlock f x r w m i b n g) P (eq-eqb r r refl) away refl refl (queue_laws.take_block_elsewhere r v w m i b n f g x P (eqb-false w v away)) h l
     ]
 line s (Issue r i ∷ P) v plain one h =
     let l = line s P v plain one (and_parts _ _ h).0 in
@@ -223,4 +227,6 @@ line s (Reclaim r ∷ P) v plain one h =
           | inr away ↦ line-let_go s r v (Reclaim r) (TakeBlock f x q w m k b n g) P held away refl refl refl (queue_laws.reclaim_other v r (TakeBlock f x q w m k b n g) P held away) l
         ]
     back e held l = line-let_go s r v (Reclaim r) e P held refl refl refl refl (queue_laws.reclaim_other v r e P held refl) l
+line s (Load r k b n f g x ∷ P) v plain one h = held_other s r v (Load r k b n f g x) P (eq-eqb r r refl) refl refl refl refl h (line s P v plain one (and_parts _ _ h).0)
+line s (Save r w m k g ∷ P) v plain one h = held_other s r v (Save r w m k g) P (eq-eqb r r refl) refl refl refl refl h (line s P v plain one (and_parts _ _ h).0)
 line s (_ ∷ P) v plain one h = let l = line s P v plain one (and_parts _ _ h).0 in same_line s v _ P refl refl refl l.few l

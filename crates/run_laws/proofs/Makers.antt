@@ -30,11 +30,11 @@ use Rattle.flow_journal.specs.Unsaved.{is_file}
 use Rattle.flow_journal.specs.Accepted.{accepts, is_dropped_by, accepted, emitted}
 use Rattle.flow_journal.specs.Histories.{is_legal, is_history}
 use Rattle.flow_journal.specs.RunSetting.{setting_of, work_of}
-use Rattle.flow_journal.proofs.EntryCounts.{count, bit, count-cons}
+use Rattle.flow_journal.proofs.EntryCounts.{count, bit, count-cons, puts_of}
 use Rattle.run_laws.specs.Results.{IsFinishedRun, put_out, indices, contents, outcome, AreInOrder, AreInSomeOrder}
 use Rattle.run_laws.proofs.Dropping.{count-filter-le}
 use Rattle.run_laws.proofs.Finishes.{saves-are}
-use Rattle.run_laws.proofs.Sorted.{puts_of, puts-accepted}
+use Rattle.run_laws.proofs.Sorted.{puts-accepted}
 use Rattle.run_laws.proofs.Permutations.{permute-pieces}
 use Rattle.run_laws.proofs.Names.{emits_of, accepts_of, emitted-of, accepts-list, accepts-emitted-of, emits-put, watched-put, makers-name, driver-emits}
 use Rattle.run_laws.proofs.Runs.{node-is, known, one-is, out-emitted, out-saved, positions, some_order}

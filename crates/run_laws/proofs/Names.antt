@@ -6,7 +6,8 @@ use Rattle.trig_window.specs.Windows.{at_positions, is_passed}
 use Rattle.flow_journal.specs.declared.entry.Entry.{Entry}
 use Rattle.flow_journal.specs.declared.entry.Entry.TheVariants.{Tick, Issue, Emit, Accept, Take, Put, SortDrop, Settle}
 use Rattle.flow_journal.specs.declared.entry.Why.TheVariants.{Plain}
-use Rattle.flow_journal.specs.Setting.{Setting, Watches, node, is_maker, may_sort, is_sorted, node_numbers, children}
+use Rattle.flow_journal.specs.Setting.{Setting, Watches, node, is_maker, may_sort, is_sorted, node_numbers}
+use Rattle.flow_journal.specs.Turns.{offered_to}
 use Rattle.flow_journal.specs.Pasts.{Past, frame, comes_at}
 use Rattle.flow_journal.specs.Hands.{hands}
 use Rattle.flow_journal.specs.Puts.{puts, firings}
@@ -18,13 +19,13 @@ use Rattle.flow_journal.proofs.Rows.{row_laws}
 use Rattle.flow_journal.proofs.Hands.{row_of}
 use Rattle.flow_journal.proofs.Outputs.{output_laws}
 use Rattle.flow_journal.proofs.Counts.{times_by}
-use Rattle.flow_journal.proofs.EntryCounts.{count, bit, count-cons, count-append, count-drop, owed-answered, answers-by_Accept}
+use Rattle.flow_journal.proofs.EntryCounts.{count, bit, count-cons, count-append, count-drop, owed-answered, answers-by_Accept, puts_of}
 use Rattle.flow_journal.proofs.Outs.{out_of, none_elsewhere, result-at, flush-at}
+use Rattle.flow_journal.proofs.Dealing.{count-offered}
 use Rattle.flow_journal.proofs.Offers.{is_number, none_numbered_0, child_once}
 use Rattle.flow_journal.proofs.Issues.{looks-none, puts_at_node, settles_node}
-use Rattle.flow_journal.proofs.Emissions.{owed-Emit_out, owed-SortDrop_out, no_outs_in_offers}
+use Rattle.flow_journal.proofs.Emissions.{owed-Emit_out, owed-SortDrop_out, no_outs_in_offers, sorted-outs}
 use Rattle.run_laws.proofs.Jobs.{hands-fit, found-fits}
-use Rattle.run_laws.proofs.Sorted.{puts_of, sorted-outs}
 use Rattle.run_laws.proofs.Feeds.{offers_to, no_offers, no_offers-looks}
 
 -- the entry is an emission of v of an array that passes the test
@@ -89,13 +90,13 @@ offers-some c m i t (u ∷ us) h =
 turn : (a b : ℕ) → bit (eqb a b) ≤ bit (eqb b a)
 turn a b = elim (cases_Bool (eqb a b)) [ inl is ↦ omega (arith, ap bit is, ap bit (eq-eqb b a (sym (eqb-true a b is)))) | inr off ↦ omega (arith, ap bit off) ]
 
-offers-of_emit : (s : Setting) (v m i c : ℕ) (t : FrameName → Bool) → count (accepts_of c t) (map (offer (frame m i)) (children s v)) ≤ bit (eqb v (node s c).input && t (frame m i))
-offers-of_emit s v m i c t =
+offers-of_emit : (s : Setting) (P : Past) (v m i c : ℕ) (t : FrameName → Bool) → count (accepts_of c t) (map (offer (frame m i)) (offered_to s P v)) ≤ bit (eqb v (node s c).input && t (frame m i))
+offers-of_emit s P v m i c t =
     elim (cases_Bool (t (frame m i))) [
-      | inr off ↦ omega (arith, offers-none c m i t (children s v) off)
+      | inr off ↦ omega (arith, offers-none c m i t (offered_to s P v) off)
       | inl is ↦
           let same : (eqb v (node s c).input && t (frame m i)) ≡ eqb v (node s c).input = elim (eqb v (node s c).input) as (λ b. (b && t (frame m i)) ≡ b) [ true ↦ is | false ↦ refl ] in
-          omega (arith, offers-some c m i t (children s v) is, child_once s v c, turn (node s c).input v, ap bit same)
+          omega (arith, offers-some c m i t (offered_to s P v) is, count-offered (is_number c) s P v, child_once s v c, turn (node s c).input v, ap bit same)
     ]
 
 -- what is accepted and what is still offered was emitted by the input, by the same name
@@ -108,7 +109,7 @@ accepts-emitted-of s (Accept w m i ∷ P) c t h =
     let left : count (accepts_of c t) (drop 1 (owed s P)) ≡ count (accepts_of c t) a.rest = ap (λ (ds : List Entry). count (accepts_of c t) (drop 1 ds)) a.is in
     omega (arith, accepts-emitted-of s P c t (and_parts _ _ h).0, was, left, count-cons (accepts_of c t) (Accept w m i) P)
 accepts-emitted-of s (Emit w m i why ∷ P) c t h =
-    omega (arith, accepts-emitted-of s P c t (and_parts _ _ h).0, offers-of_emit s w m i c t, count-append (accepts_of c t) (map (offer (frame m i)) (children s w)) (drop 1 (owed s P)), count-drop (accepts_of c t) (owed s P), count-cons (emits_of (node s c).input t) (Emit w m i why) P)
+    omega (arith, accepts-emitted-of s P c t (and_parts _ _ h).0, offers-of_emit s P w m i c t, count-append (accepts_of c t) (map (offer (frame m i)) (offered_to s P w)) (drop 1 (owed s P)), count-drop (accepts_of c t) (owed s P), count-cons (emits_of (node s c).input t) (Emit w m i why) P)
 accepts-emitted-of s (Tick u ∷ P) c t h =
     omega (arith, accepts-emitted-of s P c t (and_parts _ _ h).0, count-append (accepts_of c t) (calls_for s P (Tick u)) (drop 1 (owed s P)), offers-le c t (calls_for s P (Tick u)), no_offers-looks s (Tick u ∷ P) c (node_numbers s), count-drop (accepts_of c t) (owed s P))
 accepts-emitted-of s (Put r w m i f ∷ P) c t h =
@@ -173,7 +174,7 @@ driver-names s [] t own h = refl
 driver-names s (Issue r k ∷ P) t own h =
     omega (arith, driver-names s P t own (and_parts _ _ h).0, count-cons (out_of 0 t) (Emit 0 0 k Plain) (drop 1 (owed s P)), ap bit (own k), count-drop (out_of 0 t) (owed s P))
 driver-names s (Emit w m i why ∷ P) t own h =
-    omega (arith, driver-names s P t own (and_parts _ _ h).0, owed-Emit_out s w m i why P 0 t h, count-append (out_of 0 t) (map (offer (frame m i)) (children s w)) (drop 1 (owed s P)), no_outs_in_offers 0 t (frame m i) (children s w), count-cons (out_of 0 t) (Emit w m i why) P)
+    omega (arith, driver-names s P t own (and_parts _ _ h).0, owed-Emit_out s w m i why P 0 t h, count-append (out_of 0 t) (map (offer (frame m i)) (offered_to s P w)) (drop 1 (owed s P)), no_outs_in_offers 0 t (frame m i) (offered_to s P w), count-cons (out_of 0 t) (Emit w m i why) P)
 driver-names s (SortDrop w m i ∷ P) t own h =
     omega (arith, driver-names s P t own (and_parts _ _ h).0, owed-SortDrop_out s w m i P 0 t h, count-cons (out_of 0 t) (SortDrop w m i) P)
 driver-names s (Tick u ∷ P) t own h =

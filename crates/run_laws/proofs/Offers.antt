@@ -9,6 +9,7 @@ use Rattle.flow_journal.specs.declared.entry.Entry.{Entry}
 use Rattle.flow_journal.specs.declared.entry.Entry.TheVariants.{Load, LoadRefused, Tick, Issue, Emit, Accept, Full, Put, SortDrop, Settle}
 use Rattle.flow_journal.specs.declared.entry.Why.{Why}
 use Rattle.flow_journal.specs.Setting.{Setting, node, is_node, is_sorted, node_numbers, children}
+use Rattle.flow_journal.specs.Turns.{deals, in_turn, dealt_to, offered_to}
 use Rattle.flow_journal.specs.Pasts.{Past, frame, comes_at}
 use Rattle.flow_journal.specs.Offered.{offered}
 use Rattle.flow_journal.specs.Waiting.{waiting, least_first}
@@ -18,6 +19,7 @@ use Rattle.flow_journal.specs.Histories.{answers, is_nothing, is_legal, is_histo
 use Rattle.flow_journal.specs.Pushes.{is_nothing-true}
 use Rattle.flow_journal.proofs.EntryCounts.{count, bit, count-cons, owed-first, owed-answered, answers-by_Emit, answers-by_Accept, answers-by_SortDrop, answers-by_Tick}
 use Rattle.flow_journal.proofs.Outs.{is_out_at, AllOutAt, result-at, flush-at, goes_out-at, all-append}
+use Rattle.flow_journal.proofs.Dealing.{count-offered}
 use Rattle.flow_journal.proofs.Offers.{is_number, child_once}
 use Rattle.run_laws.proofs.Feeds.{child_of}
 use Rattle.run_laws.proofs.Fulls.{is_any_full, no_full_owed, head-no_full, full-answers}
@@ -89,23 +91,23 @@ leads s (Emit w m i why ∷ P) h =
     let a = owed-answered s (Emit w m i why) P refl h in
     let x = answers-by_Emit s P w m i why a.head a.answer in
     let still : list_all is_other a.rest ≡ true = behind-emission (owed s P) a.head a.rest w m i x.0 a.is x.1 (leads s P (and_parts _ _ h).0) in
-    lead-offers (frame m i) (children s w) (drop 1 (owed s P)) (ap (λ (ds : List Entry). list_all is_other (drop 1 ds)) a.is ∙ still)
+    lead-offers (frame m i) (offered_to s P w) (drop 1 (owed s P)) (ap (λ (ds : List Entry). list_all is_other (drop 1 ds)) a.is ∙ still)
 leads s (e ∷ P) h = lead-rest (owed s P) (leads s P (and_parts _ _ h).0)
 
 -- WHAT IS OFFERED TO A NODE
 
 -- the arrays of the offers to v among these
-abbrev offered_to : ℕ → List Entry → List FrameName
-offered_to v [] = []
-offered_to v (Accept w m k ∷ ds) = if w == v then frame m k ∷ offered_to v ds else offered_to v ds
-offered_to v (d ∷ ds) = offered_to v ds
+abbrev offers_to_node : ℕ → List Entry → List FrameName
+offers_to_node v [] = []
+offers_to_node v (Accept w m k ∷ ds) = if w == v then frame m k ∷ offers_to_node v ds else offers_to_node v ds
+offers_to_node v (d ∷ ds) = offers_to_node v ds
 
-none-to : (v : ℕ) (ds : List Entry) → list_all is_other ds ≡ true → offered_to v ds ≡ []
+none-to : (v : ℕ) (ds : List Entry) → list_all is_other ds ≡ true → offers_to_node v ds ≡ []
 none-to v [] h = refl
 none-to v (Accept w m k ∷ ds) h = absurd (false≢true h)
 none-to v (_ ∷ ds) h = none-to v ds h
 
-to-append : (v : ℕ) (xs ys : List Entry) → offered_to v (xs ++ ys) ≡ offered_to v xs ++ offered_to v ys
+to-append : (v : ℕ) (xs ys : List Entry) → offers_to_node v (xs ++ ys) ≡ offers_to_node v xs ++ offers_to_node v ys
 to-append v [] ys = refl
 to-append v (Accept w m k ∷ xs) ys =
     elim (cases_Bool (eqb w v)) [
@@ -114,7 +116,7 @@ to-append v (Accept w m k ∷ xs) ys =
     ]
 to-append v (_ ∷ xs) ys = to-append v xs ys
 
-to-none : (v : ℕ) (a : FrameName) (cs : List ℕ) → count (is_number v) cs ≡ 0 → offered_to v (map (offer a) cs) ≡ []
+to-none : (v : ℕ) (a : FrameName) (cs : List ℕ) → count (is_number v) cs ≡ 0 → offers_to_node v (map (offer a) cs) ≡ []
 to-none v a [] h = refl
 to-none v a (c ∷ cs) h =
     elim (cases_Bool (eqb c v)) [
@@ -122,7 +124,7 @@ to-none v a (c ∷ cs) h =
       | inr away ↦ rw away (to-none v a cs (omega (arith, h, count-cons (is_number v) c cs, ap bit away)))
     ]
 
-to-one : (v : ℕ) (a : FrameName) (cs : List ℕ) → count (is_number v) cs ≡ 1 → offered_to v (map (offer a) cs) ≡ a ∷ []
+to-one : (v : ℕ) (a : FrameName) (cs : List ℕ) → count (is_number v) cs ≡ 1 → offers_to_node v (map (offer a) cs) ≡ a ∷ []
 to-one v a [] h = absurd (omega (arith, h))
 to-one v a (c ∷ cs) h =
     elim (cases_Bool (eqb c v)) [
@@ -131,15 +133,16 @@ to-one v a (c ∷ cs) h =
     ]
 
 -- an emission is offered to the node once where it is the input's, and else not at all
-to-child : (s : Setting) (v w m i : ℕ) → is_node s v ≡ true → offered_to v (map (offer (frame m i)) (children s w)) ≡ comes_at (node s v).input w (frame m i) []
-to-child s v w m i number =
+to-child : (s : Setting) (P : Past) (v w m i : ℕ) → is_node s v ≡ true → deals s (node s v).input ≡ false → offers_to_node v (map (offer (frame m i)) (offered_to s P w)) ≡ comes_at (node s v).input w (frame m i) []
+to-child s P v w m i number alike =
     elim (cases_Bool (eqb w (node s v).input)) [
       | inl here ↦
           let is : (node s v).input ≡ w = sym (eqb-true w (node s v).input here) in
-          rw here (to-one v (frame m i) (children s w) (omega (arith, child_of s v w number is, child_once s w v, ap bit (eq-eqb (node s v).input w is))))
+          let all : offered_to s P w ≡ children s w = ap (λ (b : Bool). cond b (dealt_to s P (in_turn s P w)) (children s w)) (sym (ap (deals s) is) ∙ alike) in
+          rw here (to-one v (frame m i) (offered_to s P w) (ap (count (is_number v)) all ∙ omega (arith, child_of s v w number is, child_once s w v, ap bit (eq-eqb (node s v).input w is))))
       | inr away ↦
           let off : eqb (node s v).input w ≡ false = ne_eqb (node s v).input w (λ e. eqb-false w (node s v).input away (sym e)) in
-          rw away (to-none v (frame m i) (children s w) (omega (arith, child_once s w v, ap bit off)))
+          rw away (to-none v (frame m i) (offered_to s P w) (omega (arith, count-offered (is_number v) s P w, child_once s w v, ap bit off)))
     ]
 
 comes-more : (v w : ℕ) (a : FrameName) (xs : List FrameName) → comes_at v w a xs ≡ xs ++ comes_at v w a []
@@ -147,67 +150,67 @@ comes-more v w a xs = elim (eqb w v) as (λ b. cond b (xs ++ a ∷ []) xs ≡ xs
 
 -- what answers an offer was owed as this offer
 abbrev ComesSo : Setting → ℕ → Past → Type 0
-ComesSo s v P = offered v P ++ offered_to v (owed s P) ≡ emitted (node s v).input P
+ComesSo s v P = offered v P ++ offers_to_node v (owed s P) ≡ emitted (node s v).input P
 
-offer-answered : (s : Setting) (v w m i : ℕ) (P : Past) (head : Entry) (rest : List Entry) → owed s P ≡ head ∷ rest → head ≡ Accept w m i → ComesSo s v P → comes_at v w (frame m i) (offered v P) ++ offered_to v (drop 1 (owed s P)) ≡ emitted (node s v).input P
+offer-answered : (s : Setting) (v w m i : ℕ) (P : Past) (head : Entry) (rest : List Entry) → owed s P ≡ head ∷ rest → head ≡ Accept w m i → ComesSo s v P → comes_at v w (frame m i) (offered v P) ++ offers_to_node v (drop 1 (owed s P)) ≡ emitted (node s v).input P
 offer-answered s v w m i P head rest is first before =
     let whole : owed s P ≡ Accept w m i ∷ rest = is ∙ ap (λ (d : Entry). d ∷ rest) first in
-    let left : offered_to v (drop 1 (owed s P)) ≡ offered_to v rest = ap (λ (ds : List Entry). offered_to v (drop 1 ds)) whole in
-    let was : offered v P ++ offered_to v (Accept w m i ∷ rest) ≡ emitted (node s v).input P = ap (λ (ds : List Entry). offered v P ++ offered_to v ds) (sym whole) ∙ before in
+    let left : offers_to_node v (drop 1 (owed s P)) ≡ offers_to_node v rest = ap (λ (ds : List Entry). offers_to_node v (drop 1 ds)) whole in
+    let was : offered v P ++ offers_to_node v (Accept w m i ∷ rest) ≡ emitted (node s v).input P = ap (λ (ds : List Entry). offered v P ++ offers_to_node v ds) (sym whole) ∙ before in
     ap (λ (xs : List FrameName). comes_at v w (frame m i) (offered v P) ++ xs) left
     ∙ (elim (cases_Bool (eqb w v)) [
-      | inl here ↦ rw here (append_assoc (offered v P) (frame m i ∷ []) (offered_to v rest))
+      | inl here ↦ rw here (append_assoc (offered v P) (frame m i ∷ []) (offers_to_node v rest))
       | inr away ↦ rw away refl
     ] ∙ was)
 
 -- an entry that is owed nothing to the node, before or after it
-still-comes : (s : Setting) (v : ℕ) (e : Entry) (P : Past) → offered v (e ∷ P) ≡ offered v P → emitted (node s v).input (e ∷ P) ≡ emitted (node s v).input P → offered_to v (owed s (e ∷ P)) ≡ offered_to v (owed s P) → ComesSo s v P → ComesSo s v (e ∷ P)
+still-comes : (s : Setting) (v : ℕ) (e : Entry) (P : Past) → offered v (e ∷ P) ≡ offered v P → emitted (node s v).input (e ∷ P) ≡ emitted (node s v).input P → offers_to_node v (owed s (e ∷ P)) ≡ offers_to_node v (owed s P) → ComesSo s v P → ComesSo s v (e ∷ P)
 still-comes s v e P same_offers same_out same_owed before =
-    ap (λ (xs : List FrameName). xs ++ offered_to v (owed s (e ∷ P))) same_offers ∙ (ap (λ (xs : List FrameName). offered v P ++ xs) same_owed ∙ (before ∙ sym same_out))
+    ap (λ (xs : List FrameName). xs ++ offers_to_node v (owed s (e ∷ P))) same_offers ∙ (ap (λ (xs : List FrameName). offered v P ++ xs) same_owed ∙ (before ∙ sym same_out))
 
-begun-none : (s : Setting) (v : ℕ) (e : Entry) (P : Past) → ((d : Entry) → answers s P e d ≡ false) → is_legal s (e ∷ P) ≡ true → list_all is_other (calls_for s P e) ≡ true → offered_to v (owed s (e ∷ P)) ≡ offered_to v (owed s P)
+begun-none : (s : Setting) (v : ℕ) (e : Entry) (P : Past) → ((d : Entry) → answers s P e d ≡ false) → is_legal s (e ∷ P) ≡ true → list_all is_other (calls_for s P e) ≡ true → offers_to_node v (owed s (e ∷ P)) ≡ offers_to_node v (owed s P)
 begun-none s v e P never h others =
     let none : owed s P ≡ [] = owed-first s e P never h in
-    none-to v (owed s (e ∷ P)) (begun-other s e P none others) ∙ sym (ap (offered_to v) none)
+    none-to v (owed s (e ∷ P)) (begun-other s e P none others) ∙ sym (ap (offers_to_node v) none)
 
-comes-so : (s : Setting) (P : Past) (v : ℕ) → is_node s v ≡ true → is_legal s P ≡ true → ComesSo s v P
-comes-so s [] v number h = refl
-comes-so s (Emit w m i why ∷ P) v number h =
+comes-so : (s : Setting) (P : Past) (v : ℕ) → is_node s v ≡ true → deals s (node s v).input ≡ false → is_legal s P ≡ true → ComesSo s v P
+comes-so s [] v number alike h = refl
+comes-so s (Emit w m i why ∷ P) v number alike h =
     let a = owed-answered s (Emit w m i why) P refl h in
     let x = answers-by_Emit s P w m i why a.head a.answer in
     let still : list_all is_other a.rest ≡ true = behind-emission (owed s P) a.head a.rest w m i x.0 a.is x.1 (leads s P (and_parts _ _ h).0) in
-    let none_left : offered_to v (drop 1 (owed s P)) ≡ [] = ap (λ (ds : List Entry). offered_to v (drop 1 ds)) a.is ∙ none-to v a.rest still in
-    let none_before : offered_to v (owed s P) ≡ [] = ap (offered_to v) (a.is ∙ ap (λ (d : Entry). d ∷ a.rest) x.1) ∙ none-to v a.rest still in
-    let before : offered v P ≡ emitted (node s v).input P = sym (append-nil (offered v P)) ∙ (ap (λ (xs : List FrameName). offered v P ++ xs) (sym none_before) ∙ comes-so s P v number (and_parts _ _ h).0) in
-    let now_owed : offered_to v (owed s (Emit w m i why ∷ P)) ≡ comes_at (node s v).input w (frame m i) [] =
-    to-append v (map (offer (frame m i)) (children s w)) (drop 1 (owed s P)) ∙ (ap (λ (xs : List FrameName). offered_to v (map (offer (frame m i)) (children s w)) ++ xs) none_left ∙ (append-nil (offered_to v (map (offer (frame m i)) (children s w))) ∙ to-child s v w m i number)) in
+    let none_left : offers_to_node v (drop 1 (owed s P)) ≡ [] = ap (λ (ds : List Entry). offers_to_node v (drop 1 ds)) a.is ∙ none-to v a.rest still in
+    let none_before : offers_to_node v (owed s P) ≡ [] = ap (offers_to_node v) (a.is ∙ ap (λ (d : Entry). d ∷ a.rest) x.1) ∙ none-to v a.rest still in
+    let before : offered v P ≡ emitted (node s v).input P = sym (append-nil (offered v P)) ∙ (ap (λ (xs : List FrameName). offered v P ++ xs) (sym none_before) ∙ comes-so s P v number alike (and_parts _ _ h).0) in
+    let now_owed : offers_to_node v (owed s (Emit w m i why ∷ P)) ≡ comes_at (node s v).input w (frame m i) [] =
+    to-append v (map (offer (frame m i)) (offered_to s P w)) (drop 1 (owed s P)) ∙ (ap (λ (xs : List FrameName). offers_to_node v (map (offer (frame m i)) (offered_to s P w)) ++ xs) none_left ∙ (append-nil (offers_to_node v (map (offer (frame m i)) (offered_to s P w))) ∙ to-child s P v w m i number alike)) in
     ap (λ (xs : List FrameName). offered v P ++ xs) now_owed ∙ (ap (λ (xs : List FrameName). xs ++ comes_at (node s v).input w (frame m i) []) before ∙ sym (comes-more (node s v).input w (frame m i) (emitted (node s v).input P)))
-comes-so s (Accept w m i ∷ P) v number h =
+comes-so s (Accept w m i ∷ P) v number alike h =
     let a = owed-answered s (Accept w m i) P refl h in
-    offer-answered s v w m i P a.head a.rest a.is (answers-by_Accept s P w m i a.head a.answer) (comes-so s P v number (and_parts _ _ h).0)
-comes-so s (Full w m i ∷ P) v number h =
+    offer-answered s v w m i P a.head a.rest a.is (answers-by_Accept s P w m i a.head a.answer) (comes-so s P v number alike (and_parts _ _ h).0)
+comes-so s (Full w m i ∷ P) v number alike h =
     let a = owed-answered s (Full w m i) P refl h in
     let none : count is_any_full (a.head ∷ a.rest) ≡ 0 = sym (ap (count is_any_full) a.is) ∙ no_full_owed s P in
-    offer-answered s v w m i P a.head a.rest a.is (full-answers s P w m i a.head a.answer (head-no_full a.head a.rest none)).0 (comes-so s P v number (and_parts _ _ h).0)
-comes-so s (SortDrop w m i ∷ P) v number h =
+    offer-answered s v w m i P a.head a.rest a.is (full-answers s P w m i a.head a.answer (head-no_full a.head a.rest none)).0 (comes-so s P v number alike (and_parts _ _ h).0)
+comes-so s (SortDrop w m i ∷ P) v number alike h =
     let a = owed-answered s (SortDrop w m i) P refl h in
-    let left : offered_to v (drop 1 (owed s P)) ≡ offered_to v a.rest = ap (λ (ds : List Entry). offered_to v (drop 1 ds)) a.is in
-    let was : offered_to v (owed s P) ≡ offered_to v a.rest = ap (offered_to v) (a.is ∙ ap (λ (d : Entry). d ∷ a.rest) (answers-by_SortDrop s P w m i a.head a.answer)) in
-    still-comes s v (SortDrop w m i) P refl refl (left ∙ sym was) (comes-so s P v number (and_parts _ _ h).0)
-comes-so s (Tick t ∷ P) v number h =
+    let left : offers_to_node v (drop 1 (owed s P)) ≡ offers_to_node v a.rest = ap (λ (ds : List Entry). offers_to_node v (drop 1 ds)) a.is in
+    let was : offers_to_node v (owed s P) ≡ offers_to_node v a.rest = ap (offers_to_node v) (a.is ∙ ap (λ (d : Entry). d ∷ a.rest) (answers-by_SortDrop s P w m i a.head a.answer)) in
+    still-comes s v (SortDrop w m i) P refl refl (left ∙ sym was) (comes-so s P v number alike (and_parts _ _ h).0)
+comes-so s (Tick t ∷ P) v number alike h =
     let a = owed-answered s (Tick t) P refl h in
     let x = answers-by_Tick s P t a.head a.answer in
-    let now_none : offered_to v (owed s (Tick t ∷ P)) ≡ [] = none-to v (owed s (Tick t ∷ P)) (all-append is_other (calls_for s P (Tick t)) (drop 1 (owed s P)) (looks_other s (Tick t ∷ P) (node_numbers s)) (ap (list_all is_other) (tick-alone s t P h))) in
+    let now_none : offers_to_node v (owed s (Tick t ∷ P)) ≡ [] = none-to v (owed s (Tick t ∷ P)) (all-append is_other (calls_for s P (Tick t)) (drop 1 (owed s P)) (looks_other s (Tick t ∷ P) (node_numbers s)) (ap (list_all is_other) (tick-alone s t P h))) in
     let alone : a.rest ≡ [] = sym (ap (drop 1) a.is) ∙ tick-alone s t P h in
-    let was : offered_to v (owed s P) ≡ [] = ap (offered_to v) (a.is ∙ ap (λ (d : Entry). d ∷ a.rest) x.1) ∙ ap (offered_to v) alone in
-    still-comes s v (Tick t) P refl refl (now_none ∙ sym was) (comes-so s P v number (and_parts _ _ h).0)
-comes-so s (Put r w m i f ∷ P) v number h = still-comes s v (Put r w m i f) P refl refl (begun-none s v (Put r w m i f) P (λ d. refl) h (out_other w (calls_for s P (Put r w m i f)) (result-at s w (frame m i) f P (node s w).work))) (comes-so s P v number (and_parts _ _ h).0)
-comes-so s (Settle r w ∷ P) v number h = still-comes s v (Settle r w) P refl refl (begun-none s v (Settle r w) P (λ d. refl) h (out_other w (calls_for s P (Settle r w)) (flush-at w (least_first s (waiting s w P))))) (comes-so s P v number (and_parts _ _ h).0)
-comes-so s (e ∷ P) v number h = still-comes s v e P refl refl (begun-none s v e P (λ d. refl) h refl) (comes-so s P v number (and_parts _ _ h).0)
+    let was : offers_to_node v (owed s P) ≡ [] = ap (offers_to_node v) (a.is ∙ ap (λ (d : Entry). d ∷ a.rest) x.1) ∙ ap (offers_to_node v) alone in
+    still-comes s v (Tick t) P refl refl (now_none ∙ sym was) (comes-so s P v number alike (and_parts _ _ h).0)
+comes-so s (Put r w m i f ∷ P) v number alike h = still-comes s v (Put r w m i f) P refl refl (begun-none s v (Put r w m i f) P (λ d. refl) h (out_other w (calls_for s P (Put r w m i f)) (result-at s w (frame m i) f P (node s w).work))) (comes-so s P v number alike (and_parts _ _ h).0)
+comes-so s (Settle r w ∷ P) v number alike h = still-comes s v (Settle r w) P refl refl (begun-none s v (Settle r w) P (λ d. refl) h (out_other w (calls_for s P (Settle r w)) (flush-at w (least_first s (waiting s w P))))) (comes-so s P v number alike (and_parts _ _ h).0)
+comes-so s (e ∷ P) v number alike h = still-comes s v e P refl refl (begun-none s v e P (λ d. refl) h refl) (comes-so s P v number alike (and_parts _ _ h).0)
 
--- in a history each emission was offered to each child, in order
-pub comes : (s : Setting) (P : Past) (v : ℕ) → is_node s v ≡ true → is_history s P ≡ true → offered v P ≡ emitted (node s v).input P
-comes s P v number h =
+-- in a history each emission of a node that doesn't deal was offered to each child, in order
+pub comes : (s : Setting) (P : Past) (v : ℕ) → is_node s v ≡ true → deals s (node s v).input ≡ false → is_history s P ≡ true → offered v P ≡ emitted (node s v).input P
+comes s P v number alike h =
     let both = and_parts (is_legal s P) (is_nothing (owed s P)) h in
-    let none : offered_to v (owed s P) ≡ [] = ap (offered_to v) (is_nothing-true (owed s P) both.1) in
-    sym (append-nil (offered v P)) ∙ (ap (λ (xs : List FrameName). offered v P ++ xs) (sym none) ∙ comes-so s P v number both.0)
+    let none : offers_to_node v (owed s P) ≡ [] = ap (offers_to_node v) (is_nothing-true (owed s P) both.1) in
+    sym (append-nil (offered v P)) ∙ (ap (λ (xs : List FrameName). offered v P ++ xs) (sym none) ∙ comes-so s P v number alike both.0)

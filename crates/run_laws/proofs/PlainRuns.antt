@@ -1,14 +1,18 @@
 -- Without a drop and without a break the positions that go out of each node are those of the plain run.
-use Rattle.std.proofs.Common.{◌≡◌, ℕ, zero, suc, ◌≤◌, ◌<◌, Bool, true, false, not, cond, eqb, List, [], ◌∷◌, ◌++◌, filter, length, refl, sym, ap, ◌∙◌, subst, arith, inl, inr, ◌⊎◌, Option, Some, None}
+use Rattle.std.proofs.Common.{◌≡◌, ◌≢◌, ℕ, zero, suc, ◌≤◌, ◌<◌, Bool, true, false, not, cond, eqb, List, [], ◌∷◌, ◌++◌, filter, length, refl, sym, ap, ◌∙◌, subst, arith, inl, inr, ◌⊎◌, Option, Some, None}
 use Rattle.std.specs.Prelude.{All, IsTrue, reverse, slice_get}
 use Rattle.std.specs.List.{list_any, flat_map}
 use Rattle.std.specs.Option.{option_map_or}
 use Rattle.std.proofs.lemmas.Bool.{and_parts, or_parts, false≢true, true≢false, eqb-true, cases_Bool}
 use Rattle.std.proofs.lemmas.List.{append-nil, length-map, map-append, reverse-append}
+use Rattle.std.proofs.lemmas.List.Elements.{All-get_or}
+use Rattle.std.proofs.lemmas.Option.{slice_get_within, get_or_from_slice_get}
 use Rattle.std.proofs.lemmas.List.Sorted.{IsPermutation-sym, IsPermutation-reverse, All-permutation}
 use Rattle.nd_base.specs.Array.{Array, StackValue}
 use Rattle.nd_base.specs.declared.frame.FrameName.{FrameName}
 use Rattle.nd_base.specs.declared.graph.Graph.{Graph}
+use Rattle.nd_base.specs.declared.graph.Kind.{Kind}
+use Rattle.nd_base.specs.declared.graph.Kind.TheVariants.{Roi, Stats, Circular, File, Scatter}
 use Rattle.nd_base.specs.declared.graph.NodeRule.{NodeRule}
 use Rattle.nd_base.specs.declared.plan.Maker.{Maker}
 use Rattle.nd_base.specs.GraphRules.{IsGraph, IsNode, is_parallel, may_feed, is_source, rule_at}
@@ -18,30 +22,32 @@ use Rattle.chain_plain.specs.PassedLaws.{passed-step, passed-none, passed-rule, 
 use Rattle.chain_plain.specs.PassingLaws.{rule_within}
 use Rattle.chain_plain.proofs.Depths.{depth}
 use Rattle.chain_plain.proofs.Rules.{stands}
+use Rattle.flow_journal.proofs.Found.{found_up}
+use Rattle.flow_journal.proofs.LastOuts.{outs_of, no_out}
 use Rattle.flow_journal.specs.declared.entry.Entry.{Entry}
 use Rattle.flow_journal.specs.declared.entry.Entry.TheVariants.{LoadRefused, Emit, Accept, Full, PoolDrop, SortDrop, Save, Reclaim}
 use Rattle.flow_journal.specs.Setting.{Setting, Node, node, is_node, may_sort}
+use Rattle.flow_journal.specs.Turns.{is_dealing, deals}
 use Rattle.flow_journal.specs.Pasts.{Past, frame, comes_at}
-use Rattle.flow_journal.specs.Hands.{hand, standing, is_loaded, is_piece}
+use Rattle.flow_journal.specs.Hands.{hand, standing, is_loaded, is_piece, let_go, takes_up}
 use Rattle.flow_journal.specs.Offered.{loads, offered}
 use Rattle.flow_journal.specs.Unsaved.{is_file}
-use Rattle.flow_journal.specs.Breaks.{outs, breaks_of}
+use Rattle.flow_journal.specs.Breaks.{outs, breaks_of, out_at}
 use Rattle.flow_journal.specs.Accepted.{accepts, is_dropped_by, accepted, emitted}
 use Rattle.flow_journal.specs.Histories.{is_legal, is_history}
 use Rattle.flow_journal.specs.IndexLaws.{below}
-use Rattle.flow_journal.specs.RunSetting.{setting_of}
+use Rattle.flow_journal.specs.RunSetting.{work_of, setting_of}
 use Rattle.flow_journal.proofs.Rows.{row_laws}
-use Rattle.flow_journal.proofs.Hands.{row_of}
+use Rattle.flow_journal.proofs.Hands.{row_of, stood, flat-let_go}
 use Rattle.flow_journal.proofs.Counts.{hand-standing}
 use Rattle.flow_journal.proofs.EntryCounts.{count, count-cons}
 use Rattle.flow_journal.proofs.Jobs.{reclaim_hand}
-use Rattle.flow_journal.proofs.LastOuts.{outs-let_go}
 use Rattle.flow_journal.proofs.Once.{emits_once-law}
 use Rattle.flow_journal.proofs.Pieces.{piece-file}
 use Rattle.flow_journal.proofs.Outs.{of_index}
 use Rattle.run_laws.specs.Drops.{is_refused_load, load_index, drops, has_drop}
 use Rattle.run_laws.specs.Results.{IsFinishedRun, put_out, indices, contents, outcome}
-use Rattle.run_laws.specs.PlainLaws.{IsSmooth, ArePlain, HasDistinctIds}
+use Rattle.run_laws.specs.PlainLaws.{IsSmooth, ArePlain, HasNoDealer, HasDistinctIds}
 use Rattle.run_laws.proofs.Driver.{refusals-stand, all-came}
 use Rattle.run_laws.proofs.Finishes.{ended-idle}
 use Rattle.run_laws.proofs.Falling.{times_in, same_falling, reverse-below, count-reverse, AreInStep, ids-in_step, falls-unbroken, falls}
@@ -64,32 +70,21 @@ one-reversed : (b : Bool) (i : ℕ) (ks : List ℕ) → reverse ks ++ cond b (i 
 one-reversed true i ks = sym (reverse-append (i ∷ []) ks)
 one-reversed false i ks = append-nil (reverse ks)
 
--- at a node that is no file node these are the emissions
-pub emitted-outs : (s : Setting) (P : Past) (v : ℕ) → is_file (node s v).work ≡ false → is_legal s P ≡ true → indices (emitted v P) ≡ reverse (outs v P)
-emitted-outs s [] v other h = refl
-emitted-outs s (Emit w m i why ∷ P) v other h =
-    indices-comes v w m i (emitted v P) ∙ (ap (λ (ks : List ℕ). ks ++ cond (eqb w v) (i ∷ []) []) (emitted-outs s P v other (and_parts _ _ h).0) ∙ one-reversed (eqb w v) i (outs v P))
-emitted-outs s (Save r w m i g ∷ P) v other h =
-    let file = ((row_laws.save s P r w m i g).0 (row_of s (Save r w m i g) P (λ d. refl) h)).piece.file in
-    let away : eqb w v ≡ false = no_save (cases_Bool (eqb w v)) file in
-    emitted-outs s P v other (and_parts _ _ h).0 ∙ ap (λ (b : Bool). reverse (cond b (i ∷ []) [] ++ outs v P)) (sym away)
-  where
-    no_save : (eqb w v ≡ true) ⊎ (eqb w v ≡ false) → is_file (node s w).work ≡ true → eqb w v ≡ false
-    no_save (inr away) file = away
-    no_save (inl here) file = absurd (true≢false (sym (subst (λ (u : ℕ). is_file (node s u).work ≡ true) (eqb-true w v here) file) ∙ other))
-emitted-outs s (Reclaim r ∷ P) v other h =
+emissions-out : (s : Setting) (P : Past) (v : ℕ) → is_legal s P ≡ true → indices (emitted v P) ≡ reverse (outs_of false v (standing P))
+emissions-out s [] v h = refl
+emissions-out s (Emit w m i why ∷ P) v h =
+    indices-comes v w m i (emitted v P) ∙ (ap (λ (ks : List ℕ). ks ++ cond (eqb w v) (i ∷ []) []) (emissions-out s P v (and_parts _ _ h).0) ∙ one-reversed (eqb w v) i (outs_of false v (standing P)))
+emissions-out s (Reclaim r ∷ P) v h =
     let legal : is_legal s P ≡ true = (and_parts _ _ h).0 in
     let e = reclaim_hand s r P h in
-    emitted-outs s P v other legal ∙ ap reverse (sym (outs-let_go v r e.0 (standing P) (hand-standing s P r e.0 legal e.1) (no_piece e.0 e.1 legal)))
-  where
-    no_piece : (e : Entry) → hand r P ≡ Some e → is_legal s P ≡ true → is_piece v e ≡ false
-    no_piece (Save q w m i g) held legal =
-        elim (cases_Bool (eqb w v)) [
-          | inr away ↦ away
-          | inl here ↦ absurd (true≢false (sym (subst (λ (u : ℕ). is_file (node s u).work ≡ true) (eqb-true w v here) (piece-file s r q w m i g P legal held)) ∙ other))
-        ]
-    no_piece e held legal = refl
-emitted-outs s (e ∷ P) v other h = emitted-outs s P v other (and_parts _ _ h).0
+    let stands = hand-standing s P r e.0 legal e.1 in
+    let same : outs_of false v (let_go r (standing P)) ≡ outs_of false v (standing P) = flat-let_go (out_at false v) r e.0 (standing P) stands (no_out v r e.0 (found_up (takes_up r) e.0 (standing P) stands)) in
+    emissions-out s P v legal ∙ ap reverse (sym (ap (outs_of false v) (stood r e.0 P e.1) ∙ same))
+emissions-out s (_ ∷ P) v h = emissions-out s P v (and_parts _ _ h).0
+
+-- at a node that is no file node these are the emissions
+pub emitted-outs : (s : Setting) (P : Past) (v : ℕ) → is_file (node s v).work ≡ false → is_legal s P ≡ true → indices (emitted v P) ≡ reverse (outs s v P)
+emitted-outs s P v other h = emissions-out s P v h ∙ ap (λ (b : Bool). reverse (outs_of b v (standing P))) (sym other)
 
 -- WITHOUT A DROP
 
@@ -110,9 +105,9 @@ all-kept p [] none = refl
 all-kept p (x ∷ xs) none = rw (none x) (ap (λ (ys : List FrameName). x ∷ ys) (all-kept p xs none))
 
 -- all that a node's input emitted is accepted for good
-pub accepted-all : (s : Setting) (P : Past) (v : ℕ) → is_node s v ≡ true → is_history s P ≡ true → has_drop P ≡ false → accepted s v P ≡ emitted (node s v).input P
-accepted-all s P v number h none =
-    all-kept (λ a. list_any (is_dropped_by s v a) P) (accepts v P) (λ a. none-dropped s v a P none) ∙ (accepts-offered v P none ∙ comes s P v number h)
+pub accepted-all : (s : Setting) (P : Past) (v : ℕ) → is_node s v ≡ true → deals s (node s v).input ≡ false → is_history s P ≡ true → has_drop P ≡ false → accepted s v P ≡ emitted (node s v).input P
+accepted-all s P v number alike h none =
+    all-kept (λ a. list_any (is_dropped_by s v a) P) (accepts v P) (λ a. none-dropped s v a P none) ∙ (accepts-offered v P none ∙ comes s P v number alike h)
 
 none-refused : (P : Past) → has_drop P ≡ false → count is_refused_load P ≡ 0
 none-refused [] h = refl
@@ -125,7 +120,7 @@ unrefused (LoadRefused r k n z ∷ es) h = absurd (omega (arith, h, count-cons i
 unrefused (e ∷ es) h = ap (λ (ks : List ℕ). load_index e ++ ks) (unrefused es (omega (arith, h, count-cons is_refused_load e es)))
 
 -- the driver emits all frames, in order
-driver-all : (s : Setting) (P : Past) → IsFinishedRun s P → has_drop P ≡ false → outs 0 P ≡ below (length s.ids)
+driver-all : (s : Setting) (P : Past) → IsFinishedRun s P → has_drop P ≡ false → outs s 0 P ≡ below (length s.ids)
 driver-all s P run none =
     let legal : is_legal s P ≡ true = (and_parts _ _ run.legal).0 in
     driver-outs s P run.legal (ap (list_any is_loaded) (ended-idle s P run.finished))
@@ -133,7 +128,7 @@ driver-all s P run none =
 
 -- IN A RUN
 
-module _ (g : Graph) (makers : List Maker) (stack : StackValue) (P : Past) (sound : IsGraph g) (apart : HasDistinctIds stack) (smooth : IsSmooth g makers stack P) where
+module _ (g : Graph) (makers : List Maker) (stack : StackValue) (P : Past) (sound : IsGraph g) (whole : HasNoDealer g) (apart : HasDistinctIds stack) (smooth : IsSmooth g makers stack P) where
   abbrev s : Setting
   s = setting_of g makers stack.arrays
 
@@ -146,22 +141,40 @@ module _ (g : Graph) (makers : List Maker) (stack : StackValue) (P : Past) (soun
   as_many : length s.ids ≡ length stack.arrays
   as_many = length-map stack.arrays (λ (a : Array). a.id)
 
-  driver : outs 0 P ≡ below (length stack.arrays)
+  driver : outs s 0 P ≡ below (length stack.arrays)
   driver = driver-all s P smooth.run smooth.kept ∙ ap below as_many
 
   step : AreInStep s (length stack.arrays)
   step = ids-in_step s (length stack.arrays) (omega (arith, as_many)) apart (ap (breaks_of s) (sym driver) ∙ smooth.in_step 0 (omega arith))
 
-  times-out : (v k : ℕ) → is_file (node s v).work ≡ false → times_in k (outs v P) ≡ count (of_index k) (emitted v P)
-  times-out v k other = omega (arith, count-reverse (λ j. eqb j k) (outs v P), ap (times_in k) (emitted-outs s P v other legal), indices-count k (emitted v P))
+  times-out : (v k : ℕ) → is_file (node s v).work ≡ false → times_in k (outs s v P) ≡ count (of_index k) (emitted v P)
+  times-out v k other = omega (arith, count-reverse (λ j. eqb j k) (outs s v P), ap (times_in k) (emitted-outs s P v other legal), indices-count k (emitted v P))
 
-  falling : (v : ℕ) → v ≤ length g.nodes → is_file (node s v).work ≡ false → Inside (indices (emitted v P)) → falls (outs v P) ≡ true
+  falling : (v : ℕ) → v ≤ length g.nodes → is_file (node s v).work ≡ false → Inside (indices (emitted v P)) → falls (outs s v P) ≡ true
   falling v within other inside =
-      let there : Inside (reverse (outs v P)) = subst Inside (emitted-outs s P v other legal) inside in
-      falls-unbroken s (length stack.arrays) (outs v P) step
-      (All-permutation (λ k. k < length stack.arrays) (reverse (outs v P)) (outs v P) (IsPermutation-sym (outs v P) (reverse (outs v P)) (IsPermutation-reverse (outs v P))) there)
+      let there : Inside (reverse (outs s v P)) = subst Inside (emitted-outs s P v other legal) inside in
+      falls-unbroken s (length stack.arrays) (outs s v P) step
+      (All-permutation (λ k. k < length stack.arrays) (reverse (outs s v P)) (outs s v P) (IsPermutation-sym (outs s v P) (reverse (outs s v P)) (IsPermutation-reverse (outs s v P))) there)
       (λ k. omega (arith, times-out v k other, emits_once-law s P v k legal))
       (smooth.in_step v within)
+
+  never_deals : (k : Kind) → k ≢ Scatter → is_dealing (work_of k) ≡ false
+  never_deals (Roi r) h = refl
+  never_deals (Stats r) h = refl
+  never_deals (Circular r) h = refl
+  never_deals (File r) h = refl
+  never_deals Scatter h = absurd (h refl)
+
+  -- a node that feeds others gives each of them all
+  alike : (u : ℕ) → IsTrue (is_source g.nodes u) → deals s u ≡ false
+  alike zero source = refl
+  alike (suc k) source = by (slice_get g.nodes k) refl
+    where
+      by : (o : Option NodeRule) → o ≡ slice_get g.nodes k → deals s (suc k) ≡ false
+      by None is = absurd (false≢true (ap (λ (o : Option NodeRule). option_map_or (λ (n : NodeRule). may_feed n.kind) o false) is ∙ source))
+      by (Some n) is =
+          let other : n.kind ≢ Scatter = subst (λ (m : NodeRule). m.kind ≢ Scatter) (get_or_from_slice_get g.nodes k n n (sym is)) (All-get_or (λ (m : NodeRule). m.kind ≢ Scatter) g.nodes k n (slice_get_within g.nodes k n (sym is)) whole) in
+          ap (λ (m : Node). is_dealing m.work) (node-is g makers stack.arrays (suc k) n (sym is)) ∙ never_deals n.kind other
 
   -- a node that has children
   record Feeds (u : ℕ) : Type 0 where
@@ -188,18 +201,18 @@ module _ (g : Graph) (makers : List Maker) (stack : StackValue) (P : Past) (soun
       node_sound = (stands g v n sound (sym rule)).sound
 
       all : accepted s v P ≡ emitted n.input P
-      all = accepted-all s P v d.number smooth.run.legal smooth.kept ∙ ap (λ (m : Node). emitted m.input P) (node-is g makers stack.arrays v n rule)
+      all = accepted-all s P v d.number (ap (λ (m : Node). deals s m.input) (node-is g makers stack.arrays v n rule) ∙ alike n.input (input-source g sound v n rule)) smooth.run.legal smooth.kept ∙ ap (λ (m : Node). emitted m.input P) (node-is g makers stack.arrays v n rule)
 
       taken : indices (accepted s v P) ≡ passed g stack n.input
       taken = ap indices all ∙ before
 
-      whole : passed g stack v ≡ outputs g.nodes stack.arrays v (passed g stack n.input)
-      whole = passed-rule g stack v n sound (sym rule)
+      onward : passed g stack v ≡ outputs g.nodes stack.arrays v (passed g stack n.input)
+      onward = passed-rule g stack v n sound (sym rule)
 
       by : (is_parallel n.kind ≡ true) ⊎ (is_parallel n.kind ≡ false) → indices (put_out s v P) ≡ passed g stack v
       by (inr alone) =
           positions g makers stack.arrays P v n sound rule (node_sound.one_thread alone) (node_sound.unsorted alone) smooth.run
-          ∙ (ap (outputs g.nodes stack.arrays v) taken ∙ sym whole)
+          ∙ (ap (outputs g.nodes stack.arrays v) taken ∙ sym onward)
       by (inl several) =
           let p = parallel-passes n.kind stack.arrays (passed g stack n.input) several in
           let no_save : is_file (node s v).work ≡ false = ap is_file d.work ∙ p.2 in
@@ -207,12 +220,12 @@ module _ (g : Graph) (makers : List Maker) (stack : StackValue) (P : Past) (soun
           let input = feeds n.input (input-source g sound v n rule) in
           let frames : Inside (passed g stack n.input) = passed-frames g stack n.input in
           let inside : Inside (indices (emitted v P)) = All-permutation (λ k. k < length stack.arrays) (indices (accepted s v P)) (indices (emitted v P)) (emits-permute s P v d.number sorts smooth.run) (subst Inside (sym taken) frames) in
-          let same : outs v P ≡ outs n.input P = same_falling (outs v P) (outs n.input P)
+          let same : outs s v P ≡ outs s n.input P = same_falling (outs s v P) (outs s n.input P)
           (falling v (rule_within g.nodes v n (sym rule)) no_save inside) (falling n.input input.within input.no_save (subst Inside (sym before) frames))
           (λ k. omega (arith, times-out v k no_save, times-out n.input k input.no_save, emits-accepted s P v k d.number sorts smooth.run, ap (count (of_index k)) all)) in
           ap indices (out-emitted g makers stack.arrays v P no_save)
           ∙ (emitted-outs s P v no_save legal ∙ (ap reverse same ∙ (sym (emitted-outs s P n.input input.no_save legal) ∙ (before
-          ∙ (sym (outputs-are g makers stack.arrays v n n.kind (passed g stack n.input) rule refl ∙ p.0) ∙ sym whole)))))
+          ∙ (sym (outputs-are g makers stack.arrays v n n.kind (passed g stack n.input) rule refl ∙ p.0) ∙ sym onward)))))
 
   sources : (d v : ℕ) → depth g.nodes (length g.nodes) v < d → IsTrue (is_source g.nodes v) → indices (emitted v P) ≡ passed g stack v
   sources zero v low source = absurd (omega (arith, low))

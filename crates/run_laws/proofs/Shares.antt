@@ -21,10 +21,11 @@ use Rattle.flow_journal.proofs.EntryCounts.{count, bit, count-cons, count-append
 use Rattle.flow_journal.proofs.Outs.{of_index, waits}
 use Rattle.flow_journal.proofs.Issues.{accepts-count}
 use Rattle.flow_journal.proofs.Once.{accepts-once, accepts_once-law}
+use Rattle.flow_journal.proofs.Emissions.{sorted-outs, puts-of_index, drop-waits}
 use Rattle.run_laws.specs.Drops.{is_sort_drop}
 use Rattle.run_laws.proofs.Tallies.{pool_drops_at, accepts-all, no_sort_drops}
 use Rattle.run_laws.proofs.Dropping.{drop-away, drop-here, none-goes, count-filter-le, same-le}
-use Rattle.run_laws.proofs.Sorted.{sort_drops_at, sort-le, sorted-outs, outs-split, puts-of_index, puts-accepted, drop-waits, waits-le}
+use Rattle.run_laws.proofs.Sorted.{sort_drops_at, sort-le, outs-split, puts-accepted, waits-le}
 
 -- the entry drops at v an array whose index passes the test
 abbrev pub drops_by : ℕ → (ℕ → Bool) → Entry → Bool

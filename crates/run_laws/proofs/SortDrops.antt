@@ -7,7 +7,8 @@ use Rattle.trig_window.specs.Windows.{is_trigger, is_passed}
 use Rattle.flow_journal.specs.declared.entry.Entry.{Entry}
 use Rattle.flow_journal.specs.declared.entry.Entry.TheVariants.{Tick, Emit, Put, SortDrop, Settle}
 use Rattle.flow_journal.specs.declared.entry.Why.TheVariants.{Plain, Step, Flush}
-use Rattle.flow_journal.specs.Setting.{Setting, Work, Makes, Passes, Watches, Saves, node, id_at, is_sorted, node_numbers, children}
+use Rattle.flow_journal.specs.Setting.{Setting, Work, Makes, Passes, Watches, Saves, node, id_at, is_sorted, node_numbers}
+use Rattle.flow_journal.specs.Turns.{offered_to}
 use Rattle.flow_journal.specs.Pasts.{Past, frame}
 use Rattle.flow_journal.specs.Ended.{now}
 use Rattle.flow_journal.specs.Puts.{firings}
@@ -78,7 +79,7 @@ none-behind : (s : Setting) (P : Past) → count is_any_sort_drop (drop 1 (owed 
 none-behind s [] = refl
 none-behind s (Put r w m i f ∷ P) = drop-first (calls_for s P (Put r w m i f)) (drop 1 (owed s P)) (result-after s w (frame m i) f P (node s w).work) (none-behind s P)
 none-behind s (Tick t ∷ P) = none-rest (owed s (Tick t ∷ P)) (none-both (calls_for s P (Tick t)) (drop 1 (owed s P)) (none-looks is_any_sort_drop misses_looks s (Tick t ∷ P) (node_numbers s)) (none-behind s P))
-none-behind s (Emit w m i why ∷ P) = none-rest (owed s (Emit w m i why ∷ P)) (none-both (calls_for s P (Emit w m i why)) (drop 1 (owed s P)) (none-offers is_any_sort_drop misses (frame m i) (children s w)) (none-behind s P))
+none-behind s (Emit w m i why ∷ P) = none-rest (owed s (Emit w m i why ∷ P)) (none-both (calls_for s P (Emit w m i why)) (drop 1 (owed s P)) (none-offers is_any_sort_drop misses (frame m i) (offered_to s P w)) (none-behind s P))
 none-behind s (Settle r w ∷ P) = none-rest (owed s (Settle r w ∷ P)) (none-both (calls_for s P (Settle r w)) (drop 1 (owed s P)) (none-flush w (least_first s (waiting s w P))) (none-behind s P))
 none-behind s (e ∷ P) = none-rest (owed s (e ∷ P)) (none-behind s P)
 
@@ -154,7 +155,7 @@ forced s (Put r w i j f ∷ P) v m k h =
         let ours : IsForced s P v m k v m k = record { node_is = refl; maker = refl; index = refl; sorted = is.sorted; full = is.full; out = is.out } in
         subst (λ (e : Entry). FullListFacts s v m k (e ∷ P)) same_put (full-facts s P r v m k f ours)
 forced s (Tick t ∷ P) v m k h = no_put s v m k (Tick t) P (none-looks is_any_sort_drop misses_looks s (Tick t ∷ P) (node_numbers s)) h
-forced s (Emit w i j why ∷ P) v m k h = no_put s v m k (Emit w i j why) P (none-offers is_any_sort_drop misses (frame i j) (children s w)) h
+forced s (Emit w i j why ∷ P) v m k h = no_put s v m k (Emit w i j why) P (none-offers is_any_sort_drop misses (frame i j) (offered_to s P w)) h
 forced s (Settle r w ∷ P) v m k h = no_put s v m k (Settle r w) P (none-flush w (least_first s (waiting s w P))) h
 forced s (e ∷ P) v m k h = no_put s v m k e P refl h
 

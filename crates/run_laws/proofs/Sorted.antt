@@ -1,14 +1,14 @@
 -- What was put at a sorted node went out, was dropped or waits; and what was put at a node that makes nothing was accepted there.
 use Rattle.std.proofs.Common.{◌≡◌, ◌≢◌, ℕ, ◌+◌, ◌≤◌, Bool, true, false, ◌&&◌, eqb, List, [], ◌∷◌, ◌++◌, refl, sym, ap, ◌∙◌, subst, arith, inl, inr, ◌⊎◌}
 use Rattle.std.specs.Prelude.{flat_map}
-use Rattle.std.proofs.lemmas.Bool.{and_parts, and_from, true≢false, eqb-true, eqb-false, cases_Bool}
+use Rattle.std.proofs.lemmas.Bool.{and_parts, and_from, true≢false, eqb-true, eqb-false, cases_Bool, eq-eqb}
 use Rattle.nd_base.specs.declared.frame.FrameName.{FrameName}
 use Rattle.flow_journal.specs.declared.entry.Entry.{Entry}
-use Rattle.flow_journal.specs.declared.entry.Entry.TheVariants.{Issue, Emit, Take, TakeBlock, PoolDrop, Put, SortDrop, Saved, Reclaim}
+use Rattle.flow_journal.specs.declared.entry.Entry.TheVariants.{Issue, Emit, Take, TakeBlock, PoolDrop, Put, SortDrop, Saved, Reclaim, Load, Save}
 use Rattle.flow_journal.specs.declared.entry.Why.{Why}
 use Rattle.flow_journal.specs.Setting.{Setting, is_maker, is_sorted}
 use Rattle.flow_journal.specs.Pasts.{Past, frame, same, comes_at}
-use Rattle.flow_journal.specs.Hands.{hands, standing}
+use Rattle.flow_journal.specs.Hands.{hands, standing, let_go}
 use Rattle.flow_journal.specs.QueueCounts.{gone_at}
 use Rattle.flow_journal.specs.Waiting.{Waiting, waiting, not_waiting}
 use Rattle.flow_journal.specs.Ended.{now}
@@ -16,23 +16,18 @@ use Rattle.flow_journal.specs.Accepted.{accepts}
 use Rattle.flow_journal.specs.Histories.{is_legal}
 use Rattle.flow_journal.proofs.Steps.{same_refl}
 use Rattle.flow_journal.proofs.Rows.{row_laws}
-use Rattle.flow_journal.proofs.Hands.{row_of}
+use Rattle.flow_journal.proofs.Hands.{row_of, takes-alone, stood}
 use Rattle.flow_journal.proofs.Changes.{put_laws}
 use Rattle.flow_journal.proofs.Counts.{times_by, queued-by, hand-standing}
-use Rattle.flow_journal.proofs.EntryCounts.{count, bit, count-cons, count-append, count-let_go, puts_at, emits_at}
+use Rattle.flow_journal.proofs.EntryCounts.{count, bit, count-cons, count-append, count-let_go, puts_at, puts_of, emits_at}
 use Rattle.flow_journal.proofs.Jobs.{reclaim_hand}
 use Rattle.flow_journal.proofs.Outs.{out_of, of_index, waits}
-use Rattle.flow_journal.proofs.Emissions.{removed, owed-Emit_out, owed-SortDrop_out, owed-waits}
+use Rattle.flow_journal.proofs.Emissions.{puts-of_index, sorted-outs}
 use Rattle.run_laws.specs.Drops.{is_sort_drop}
 use Rattle.run_laws.proofs.Tallies.{no_sort_drops}
 use Rattle.run_laws.proofs.Jobs.{hands-fit, found-fits}
 
--- the entry is a put at v of an array that passes the test
-abbrev pub puts_of : ℕ → (FrameName → Bool) → Entry → Bool
-puts_of v t (Put r w m j f) = eqb w v && t (frame m j)
-puts_of v t _ = false
-
--- or a take of one
+-- the entry is a take at v of an array that passes the test
 abbrev pub takes_of : ℕ → (FrameName → Bool) → Entry → Bool
 takes_of v t (Take r w m j) = eqb w v && t (frame m j)
 takes_of v t (TakeBlock f x r w m j b n g) = eqb w v && t (frame m j)
@@ -43,33 +38,11 @@ abbrev pub sort_drops_at : ℕ → ℕ → Entry → Bool
 sort_drops_at v k (SortDrop w m j) = eqb w v && eqb j k
 sort_drops_at v k _ = false
 
-pub puts-of_index : (v k : ℕ) (P : Past) → count (puts_of v (of_index k)) P ≡ count (puts_at v k) P
-puts-of_index v k [] = refl
-puts-of_index v k (Put r w m i f ∷ P) = omega (arith, puts-of_index v k P, count-cons (puts_of v (of_index k)) (Put r w m i f) P, count-cons (puts_at v k) (Put r w m i f) P)
-puts-of_index v k (_ ∷ P) = puts-of_index v k P
-
 pub outs-split : (v k : ℕ) (P : Past) → count (out_of v (of_index k)) P ≡ count (emits_at v k) P + count (sort_drops_at v k) P
 outs-split v k [] = refl
 outs-split v k (Emit w m i why ∷ P) = omega (arith, outs-split v k P, count-cons (out_of v (of_index k)) (Emit w m i why) P, count-cons (emits_at v k) (Emit w m i why) P)
 outs-split v k (SortDrop w m i ∷ P) = omega (arith, outs-split v k P, count-cons (out_of v (of_index k)) (SortDrop w m i) P, count-cons (sort_drops_at v k) (SortDrop w m i) P)
 outs-split v k (_ ∷ P) = outs-split v k P
-
--- what waits of the emission or drop that comes
-pub drop-waits : (s : Setting) (v m i : ℕ) (P : Past) → v ≢ 0 → is_sorted s v ≡ true → is_legal s (SortDrop v m i ∷ P) ≡ true → 1 ≤ count (waits (λ x. same x (frame m i))) (waiting s v P)
-drop-waits s v m i P nz sorted h =
-    let there = owed-SortDrop_out s v m i P v (λ x. same x (frame m i)) h in
-    omega (arith, owed-waits s P v (λ x. same x (frame m i)) nz sorted (and_parts _ _ h).0, there, ap bit (and_from _ _ (eqb_same v) (same_refl (frame m i))))
-  where
-    eqb_same : (v : ℕ) → eqb v v ≡ true
-    eqb_same v = (and_parts (eqb v v) (eqb 0 0) (same_refl (frame v 0))).0
-
-emit-waits : (s : Setting) (v m i : ℕ) (why : Why) (P : Past) → v ≢ 0 → is_sorted s v ≡ true → is_legal s (Emit v m i why ∷ P) ≡ true → 1 ≤ count (waits (λ x. same x (frame m i))) (waiting s v P)
-emit-waits s v m i why P nz sorted h =
-    let there = owed-Emit_out s v m i why P v (λ x. same x (frame m i)) h in
-    omega (arith, owed-waits s P v (λ x. same x (frame m i)) nz sorted (and_parts _ _ h).0, there, ap bit (and_from _ _ (eqb_same v) (same_refl (frame m i))))
-  where
-    eqb_same : (v : ℕ) → eqb v v ≡ true
-    eqb_same v = (and_parts (eqb v v) (eqb 0 0) (same_refl (frame v 0))).0
 
 -- what waits with this name has this index
 pub waits-le : (m i : ℕ) (ws : List Waiting) → count (waits (λ a. same a (frame m i))) ws ≤ count (waits (of_index i)) ws
@@ -77,48 +50,6 @@ waits-le m i [] = omega arith
 waits-le m i (w ∷ ws) =
     let one : bit (same w.array (frame m i)) ≤ bit (eqb w.array.index i) = elim (eqb w.array.maker m) as (λ b. bit (b && eqb w.array.index i) ≤ bit (eqb w.array.index i)) [ true ↦ omega arith | false ↦ omega arith ] in
     omega (arith, one, waits-le m i ws, count-cons (waits (λ a. same a (frame m i))) w ws, count-cons (waits (of_index i)) w ws)
-
-pub sorted-outs : (s : Setting) (P : Past) (v : ℕ) (t : FrameName → Bool) → v ≢ 0 → is_sorted s v ≡ true → is_legal s P ≡ true → count (out_of v t) P + count (waits t) (waiting s v P) ≡ count (puts_of v t) P
-sorted-outs s [] v t nz sorted h = refl
-sorted-outs s (Put r w m i f ∷ P) v t nz sorted h =
-    let before = sorted-outs s P v t nz sorted (and_parts _ _ h).0 in
-    let new : Waiting = record { array = frame m i; tick = now P } in
-    elim (cases_Bool (eqb w v)) [
-      | inl here ↦
-          let goes : waiting s v (Put r w m i f ∷ P) ≡ waiting s v P ++ new ∷ [] = subst (λ (u : ℕ). waiting s v (Put r u m i f ∷ P) ≡ waiting s v P ++ new ∷ []) (sym (eqb-true w v here)) (put_laws.waits s r v m i f P sorted) in
-          let hit : puts_of v t (Put r w m i f) ≡ t (frame m i) = ap (λ (x : Bool). x && t (frame m i)) here in
-          omega (arith, before, ap (count (waits t)) goes, count-append (waits t) (waiting s v P) (new ∷ []), count-cons (waits t) new [], count-cons (puts_of v t) (Put r w m i f) P, ap bit hit)
-      | inr away ↦
-          let miss : puts_of v t (Put r w m i f) ≡ false = ap (λ (x : Bool). x && t (frame m i)) away in
-          omega (arith, before, ap (count (waits t)) (put_laws.waits_elsewhere s r v w m i f P sorted (eqb-false w v away)), count-cons (puts_of v t) (Put r w m i f) P, ap bit miss)
-    ]
-sorted-outs s (Emit w m i why ∷ P) v t nz sorted h =
-    let before = sorted-outs s P v t nz sorted (and_parts _ _ h).0 in
-    elim (cases_Bool (eqb w v)) [
-      | inl here ↦
-          let some = emit-waits s v m i why P nz sorted (subst (λ (u : ℕ). is_legal s (Emit u m i why ∷ P) ≡ true) (eqb-true w v here) h) in
-          let hit : out_of v t (Emit w m i why) ≡ t (frame m i) = ap (λ (x : Bool). x && t (frame m i)) here in
-          let goes : waiting s v (Emit w m i why ∷ P) ≡ not_waiting (frame m i) (waiting s v P) = rw here refl in
-          omega (arith, before, removed (frame m i) t (waiting s v P) some, ap (count (waits t)) goes, count-cons (out_of v t) (Emit w m i why) P, ap bit hit)
-      | inr away ↦
-          let miss : out_of v t (Emit w m i why) ≡ false = ap (λ (x : Bool). x && t (frame m i)) away in
-          let stays : waiting s v (Emit w m i why ∷ P) ≡ waiting s v P = rw away refl in
-          omega (arith, before, ap (count (waits t)) stays, count-cons (out_of v t) (Emit w m i why) P, ap bit miss)
-    ]
-sorted-outs s (SortDrop w m i ∷ P) v t nz sorted h =
-    let before = sorted-outs s P v t nz sorted (and_parts _ _ h).0 in
-    elim (cases_Bool (eqb w v)) [
-      | inl here ↦
-          let some = drop-waits s v m i P nz sorted (subst (λ (u : ℕ). is_legal s (SortDrop u m i ∷ P) ≡ true) (eqb-true w v here) h) in
-          let hit : out_of v t (SortDrop w m i) ≡ t (frame m i) = ap (λ (x : Bool). x && t (frame m i)) here in
-          let goes : waiting s v (SortDrop w m i ∷ P) ≡ not_waiting (frame m i) (waiting s v P) = rw here refl in
-          omega (arith, before, removed (frame m i) t (waiting s v P) some, ap (count (waits t)) goes, count-cons (out_of v t) (SortDrop w m i) P, ap bit hit)
-      | inr away ↦
-          let miss : out_of v t (SortDrop w m i) ≡ false = ap (λ (x : Bool). x && t (frame m i)) away in
-          let stays : waiting s v (SortDrop w m i ∷ P) ≡ waiting s v P = rw away refl in
-          omega (arith, before, ap (count (waits t)) stays, count-cons (out_of v t) (SortDrop w m i) P, ap bit miss)
-    ]
-sorted-outs s (_ ∷ P) v t nz sorted h = sorted-outs s P v t nz sorted (and_parts _ _ h).0
 
 pub none-at : (v k : ℕ) (P : Past) → count (sort_drops_at v k) P ≤ count (is_sort_drop v) P
 none-at v k [] = omega arith
@@ -139,9 +70,9 @@ sort-le s P v k nz h =
 puts-taken-of : (s : Setting) (P : Past) (v : ℕ) (t : FrameName → Bool) → is_maker s v ≡ false → is_legal s P ≡ true → count (puts_of v t) P + count (takes_of v t) (hands P) ≡ count (takes_of v t) (standing P)
 puts-taken-of s [] v t pass h = refl
 puts-taken-of s (Take r w m i ∷ P) v t pass h =
-    omega (arith, puts-taken-of s P v t pass (and_parts _ _ h).0, count-cons (takes_of v t) (Take r w m i) (hands P), count-cons (takes_of v t) (Take r w m i) (standing P))
+    omega (arith, puts-taken-of s P v t pass (and_parts _ _ h).0, ap (count (takes_of v t)) (takes-alone s r (Take r w m i) P (eq-eqb r r refl) h), count-cons (takes_of v t) (Take r w m i) (let_go r (hands P)), count-cons (takes_of v t) (Take r w m i) (standing P))
 puts-taken-of s (TakeBlock f x r w m i b n g ∷ P) v t pass h =
-    omega (arith, puts-taken-of s P v t pass (and_parts _ _ h).0, count-cons (takes_of v t) (TakeBlock f x r w m i b n g) (hands P), count-cons (takes_of v t) (TakeBlock f x r w m i b n g) (standing P))
+    omega (arith, puts-taken-of s P v t pass (and_parts _ _ h).0, ap (count (takes_of v t)) (takes-alone s r (TakeBlock f x r w m i b n g) P (eq-eqb r r refl) h), count-cons (takes_of v t) (TakeBlock f x r w m i b n g) (let_go r (hands P)), count-cons (takes_of v t) (TakeBlock f x r w m i b n g) (standing P))
 puts-taken-of s (Issue r i ∷ P) v t pass h =
     let l = (row_laws.issue s P r i).0 (row_of s (Issue r i) P (λ d. refl) h) in
     omega (arith, puts-taken-of s P v t pass (and_parts _ _ h).0, count-let_go (takes_of v t) r _ (hands P) l.5)
@@ -168,7 +99,9 @@ puts-taken-of s (Put r w m i f ∷ P) v t pass h =
 puts-taken-of s (Reclaim r ∷ P) v t pass h =
     let e = reclaim_hand s r P h in
     let legal : is_legal s P ≡ true = (and_parts _ _ h).0 in
-    omega (arith, puts-taken-of s P v t pass legal, count-let_go (takes_of v t) r e.0 (hands P) e.1, count-let_go (takes_of v t) r e.0 (standing P) (hand-standing s P r e.0 legal e.1))
+    omega (arith, puts-taken-of s P v t pass legal, ap (count (takes_of v t)) (stood r e.0 P e.1), count-let_go (takes_of v t) r e.0 (hands P) e.1, count-let_go (takes_of v t) r e.0 (standing P) (hand-standing s P r e.0 legal e.1))
+puts-taken-of s (Load r i b n f g x ∷ P) v t pass h = omega (arith, puts-taken-of s P v t pass (and_parts _ _ h).0, ap (count (takes_of v t)) (takes-alone s r (Load r i b n f g x) P (eq-eqb r r refl) h))
+puts-taken-of s (Save r w m i g ∷ P) v t pass h = omega (arith, puts-taken-of s P v t pass (and_parts _ _ h).0, ap (count (takes_of v t)) (takes-alone s r (Save r w m i g) P (eq-eqb r r refl) h))
 puts-taken-of s (_ ∷ P) v t pass h = puts-taken-of s P v t pass (and_parts _ _ h).0
 
 pub comes-of : (v w : ℕ) (t : FrameName → Bool) (a : FrameName) → times_by t (comes_at v w a []) ≡ bit (eqb w v && t a)

@@ -5,12 +5,14 @@ use Rattle.std.specs.List.{list_all}
 use Rattle.std.proofs.lemmas.Bool.{and_parts, and_from, false≢true, eq-eqb, eqb-true, eqb-false, ne_eqb, cases_Bool}
 use Rattle.std.proofs.lemmas.List.{append-nil}
 use Rattle.nd_base.specs.declared.frame.FrameName.{FrameName}
+use Rattle.flow_journal.proofs.Looks.{sorted_no_file}
 use Rattle.flow_journal.specs.declared.entry.Entry.{Entry}
 use Rattle.flow_journal.specs.declared.entry.Entry.TheVariants.{Load, LoadRefused, Tick, Issue, Emit, Accept, Full, Take, TakeBlock, PoolDrop, Put, SortDrop, Settle, Save, Saved, Close, Leave, Reclaim}
 use Rattle.flow_journal.specs.declared.entry.Why.{Why}
 use Rattle.flow_journal.specs.declared.entry.Why.TheVariants.{Plain, Step, Late, Flush, Ring, Now}
 use Rattle.flow_journal.specs.Queued.{has_room}
-use Rattle.flow_journal.specs.Setting.{Setting, node, id_at, is_sorted, node_numbers, children}
+use Rattle.flow_journal.specs.Setting.{Setting, node, id_at, is_sorted, node_numbers}
+use Rattle.flow_journal.specs.Turns.{offered_to}
 use Rattle.flow_journal.specs.Pasts.{Past, frame}
 use Rattle.flow_journal.specs.Ended.{now}
 use Rattle.flow_journal.specs.Waiting.{Waiting, waiting, least_first}
@@ -217,13 +219,13 @@ steps s (Emit w m i why ∷ P) v nz sorted h =
     elim (cases_Bool (eqb w v)) [
       | inl here ↦
           let both : (fits x.0 (keeps_step (prev s v P) (id_at s i)) && chain s v (id_at s i) a.rest) ≡ true = rw here at c in
-          let same : prev s v (Emit w m i why ∷ P) ≡ id_at s i = subst (λ (u : ℕ). prev s v (Emit u m i why ∷ P) ≡ id_at s i) (sym (eqb-true w v here)) (clock_laws.emit s v m i why P) in
+          let same : prev s v (Emit w m i why ∷ P) ≡ id_at s i = subst (λ (u : ℕ). prev s v (Emit u m i why ∷ P) ≡ id_at s i) (sym (eqb-true w v here)) (clock_laws.emit s v m i why P (sorted_no_file s v sorted)) in
           subst (λ (b : ℤ). chain s v b (owed s (Emit w m i why ∷ P)) ≡ true) (sym same)
-          (chain-quiet s v (id_at s i) (map (offer (frame m i)) (children s w)) (drop 1 (owed s P)) (quiet-offers v (frame m i) (children s w)) (subst (λ (ds : List Entry). chain s v (id_at s i) ds ≡ true) (sym left) (and_parts (fits x.0 (keeps_step (prev s v P) (id_at s i))) (chain s v (id_at s i) a.rest) both).1))
+          (chain-quiet s v (id_at s i) (map (offer (frame m i)) (offered_to s P w)) (drop 1 (owed s P)) (quiet-offers v (frame m i) (offered_to s P w)) (subst (λ (ds : List Entry). chain s v (id_at s i) ds ≡ true) (sym left) (and_parts (fits x.0 (keeps_step (prev s v P) (id_at s i))) (chain s v (id_at s i) a.rest) both).1))
       | inr away ↦
           let on : chain s v (prev s v P) a.rest ≡ true = rw away at c in
           subst (λ (b : ℤ). chain s v b (owed s (Emit w m i why ∷ P)) ≡ true) (sym (clock_laws.emit_elsewhere s v w m i why P (eqb-false w v away)))
-          (chain-quiet s v (prev s v P) (map (offer (frame m i)) (children s w)) (drop 1 (owed s P)) (quiet-offers v (frame m i) (children s w)) (subst (λ (ds : List Entry). chain s v (prev s v P) ds ≡ true) (sym left) on))
+          (chain-quiet s v (prev s v P) (map (offer (frame m i)) (offered_to s P w)) (drop 1 (owed s P)) (quiet-offers v (frame m i) (offered_to s P w)) (subst (λ (ds : List Entry). chain s v (prev s v P) ds ≡ true) (sym left) on))
     ]
 steps s (Accept w m i ∷ P) v nz sorted h =
     let a = owed-answered s (Accept w m i) P refl h in

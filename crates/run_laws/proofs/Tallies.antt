@@ -2,16 +2,17 @@
 use Rattle.std.proofs.Common.{◌≡◌, ◌≢◌, ℕ, ◌+◌, Bool, true, false, ◌&&◌, cond, eqb, ltb, List, [], ◌∷◌, ◌++◌, map, drop, length, refl, sym, ap, ◌∙◌, subst, arith, inl, inr, ℤ}
 use Rattle.std.specs.Prelude.{flat_map}
 use Rattle.std.specs.List.{list_all}
-use Rattle.std.proofs.lemmas.Bool.{and_parts, false≢true, eqb-true, eqb-false, cases_Bool}
+use Rattle.std.proofs.lemmas.Bool.{and_parts, false≢true, eqb-true, eqb-false, cases_Bool, eq-eqb}
 use Rattle.nd_base.specs.declared.frame.FrameName.{FrameName}
 use Rattle.trig_window.specs.Windows.{is_trigger, is_passed}
 use Rattle.flow_journal.specs.declared.entry.Entry.{Entry}
-use Rattle.flow_journal.specs.declared.entry.Entry.TheVariants.{Tick, Issue, Emit, Take, TakeBlock, PoolDrop, Put, SortDrop, Settle, Saved, Reclaim}
+use Rattle.flow_journal.specs.declared.entry.Entry.TheVariants.{Tick, Issue, Emit, Take, TakeBlock, PoolDrop, Put, SortDrop, Settle, Saved, Reclaim, Load, Save}
 use Rattle.flow_journal.specs.declared.entry.Why.{Why}
 use Rattle.flow_journal.specs.declared.entry.Why.TheVariants.{Flush, Ring, Now}
-use Rattle.flow_journal.specs.Setting.{Setting, Work, Makes, Passes, Watches, Saves, node, id_at, is_sorted, node_numbers, children}
+use Rattle.flow_journal.specs.Setting.{Setting, Work, Makes, Passes, Watches, Saves, node, id_at, is_sorted, node_numbers}
+use Rattle.flow_journal.specs.Turns.{offered_to}
 use Rattle.flow_journal.specs.Pasts.{Past, frame, comes_at}
-use Rattle.flow_journal.specs.Hands.{takes_up, hands, standing}
+use Rattle.flow_journal.specs.Hands.{takes_up, hands, standing, let_go}
 use Rattle.flow_journal.specs.Queued.{queued}
 use Rattle.flow_journal.specs.QueueCounts.{gone_at}
 use Rattle.flow_journal.specs.Puts.{firings}
@@ -22,7 +23,7 @@ use Rattle.queue_sort.specs.Sorting.{keeps_step}
 use Rattle.flow_journal.specs.Following.{offer, emit, goes_out, look, result, calls_for, owed}
 use Rattle.flow_journal.specs.Histories.{is_legal}
 use Rattle.flow_journal.proofs.Rows.{row_laws}
-use Rattle.flow_journal.proofs.Hands.{row_of}
+use Rattle.flow_journal.proofs.Hands.{row_of, takes-alone, stood}
 use Rattle.flow_journal.proofs.Found.{found_up}
 use Rattle.flow_journal.proofs.Counts.{times_by, queued-by, hand-standing}
 use Rattle.flow_journal.proofs.EntryCounts.{count, bit, count-cons, count-append, count-drop, count-let_go, takes_at, puts_at, owed-answered, answers-by_SortDrop}
@@ -60,16 +61,16 @@ drops-stand s (Reclaim r ∷ P) v k h =
     let e = reclaim_hand s r P h in
     let legal : is_legal s P ≡ true = (and_parts _ _ h).0 in
     let found = hand-standing s P r e.0 legal e.1 in
-    omega (arith, drops-stand s P v k legal, count-let_go (pool_drops_at v k) r e.0 (standing P) found, ap bit (hand_no_drop v k r e.0 (found_up (takes_up r) e.0 (standing P) found)))
+    omega (arith, drops-stand s P v k legal, ap (count (pool_drops_at v k)) (stood r e.0 P e.1), count-let_go (pool_drops_at v k) r e.0 (standing P) found, ap bit (hand_no_drop v k r e.0 (found_up (takes_up r) e.0 (standing P) found)))
 drops-stand s (_ ∷ P) v k h = drops-stand s P v k (and_parts _ _ h).0
 
 -- what was taken for good was put or is in hand
 puts-taken-all : (s : Setting) (P : Past) (v k : ℕ) → is_legal s P ≡ true → count (puts_at v k) P + count (takes_at v k) (hands P) ≡ count (takes_at v k) (standing P)
 puts-taken-all s [] v k h = refl
 puts-taken-all s (Take r w m i ∷ P) v k h =
-    omega (arith, puts-taken-all s P v k (and_parts _ _ h).0, count-cons (takes_at v k) (Take r w m i) (hands P), count-cons (takes_at v k) (Take r w m i) (standing P))
+    omega (arith, puts-taken-all s P v k (and_parts _ _ h).0, ap (count (takes_at v k)) (takes-alone s r (Take r w m i) P (eq-eqb r r refl) h), count-cons (takes_at v k) (Take r w m i) (let_go r (hands P)), count-cons (takes_at v k) (Take r w m i) (standing P))
 puts-taken-all s (TakeBlock f x r w m i b n g ∷ P) v k h =
-    omega (arith, puts-taken-all s P v k (and_parts _ _ h).0, count-cons (takes_at v k) (TakeBlock f x r w m i b n g) (hands P), count-cons (takes_at v k) (TakeBlock f x r w m i b n g) (standing P))
+    omega (arith, puts-taken-all s P v k (and_parts _ _ h).0, ap (count (takes_at v k)) (takes-alone s r (TakeBlock f x r w m i b n g) P (eq-eqb r r refl) h), count-cons (takes_at v k) (TakeBlock f x r w m i b n g) (let_go r (hands P)), count-cons (takes_at v k) (TakeBlock f x r w m i b n g) (standing P))
 puts-taken-all s (Issue r i ∷ P) v k h =
     let l = (row_laws.issue s P r i).0 (row_of s (Issue r i) P (λ d. refl) h) in
     omega (arith, puts-taken-all s P v k (and_parts _ _ h).0, count-let_go (takes_at v k) r _ (hands P) l.5)
@@ -84,7 +85,9 @@ puts-taken-all s (Put r w m i f ∷ P) v k h =
 puts-taken-all s (Reclaim r ∷ P) v k h =
     let e = reclaim_hand s r P h in
     let legal : is_legal s P ≡ true = (and_parts _ _ h).0 in
-    omega (arith, puts-taken-all s P v k legal, count-let_go (takes_at v k) r e.0 (hands P) e.1, count-let_go (takes_at v k) r e.0 (standing P) (hand-standing s P r e.0 legal e.1))
+    omega (arith, puts-taken-all s P v k legal, ap (count (takes_at v k)) (stood r e.0 P e.1), count-let_go (takes_at v k) r e.0 (hands P) e.1, count-let_go (takes_at v k) r e.0 (standing P) (hand-standing s P r e.0 legal e.1))
+puts-taken-all s (Load r i b n f g x ∷ P) v k h = omega (arith, puts-taken-all s P v k (and_parts _ _ h).0, ap (count (takes_at v k)) (takes-alone s r (Load r i b n f g x) P (eq-eqb r r refl) h))
+puts-taken-all s (Save r w m i g ∷ P) v k h = omega (arith, puts-taken-all s P v k (and_parts _ _ h).0, ap (count (takes_at v k)) (takes-alone s r (Save r w m i g) P (eq-eqb r r refl) h))
 puts-taken-all s (_ ∷ P) v k h = puts-taken-all s P v k (and_parts _ _ h).0
 
 -- each accepted array of an index is in one of four places
@@ -167,7 +170,7 @@ none-owed s (Put r w m i f ∷ P) v plain =
     ] in
     omega (arith, none-owed s P v plain, count-append (is_sort_drop v) (calls_for s P (Put r w m i f)) (drop 1 (owed s P)), calls, count-drop (is_sort_drop v) (owed s P))
 none-owed s (Tick t ∷ P) v plain = omega (arith, none-owed s P v plain, count-append (is_sort_drop v) (calls_for s P (Tick t)) (drop 1 (owed s P)), none-looked s v (Tick t ∷ P) (node_numbers s), count-drop (is_sort_drop v) (owed s P))
-none-owed s (Emit w m i why ∷ P) v plain = omega (arith, none-owed s P v plain, count-append (is_sort_drop v) (map (offer (frame m i)) (children s w)) (drop 1 (owed s P)), none-offered v (frame m i) (children s w), count-drop (is_sort_drop v) (owed s P))
+none-owed s (Emit w m i why ∷ P) v plain = omega (arith, none-owed s P v plain, count-append (is_sort_drop v) (map (offer (frame m i)) (offered_to s P w)) (drop 1 (owed s P)), none-offered v (frame m i) (offered_to s P w), count-drop (is_sort_drop v) (owed s P))
 none-owed s (Settle r w ∷ P) v plain = omega (arith, none-owed s P v plain, count-append (is_sort_drop v) (calls_for s P (Settle r w)) (drop 1 (owed s P)), none-flushed v w (least_first s (waiting s w P)), count-drop (is_sort_drop v) (owed s P))
 none-owed s (_ ∷ P) v plain = omega (arith, none-owed s P v plain, count-drop (is_sort_drop v) (owed s P))
 

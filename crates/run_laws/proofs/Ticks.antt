@@ -6,7 +6,8 @@ use Rattle.std.proofs.lemmas.Bool.{and_parts, and_from, false≢true}
 use Rattle.nd_base.specs.declared.frame.FrameName.{FrameName}
 use Rattle.flow_journal.specs.declared.entry.Entry.{Entry}
 use Rattle.flow_journal.specs.declared.entry.Entry.TheVariants.{Load, LoadRefused, Tick, Emit, Put, Settle}
-use Rattle.flow_journal.specs.Setting.{Setting, node, is_sorted, node_numbers, children}
+use Rattle.flow_journal.specs.Setting.{Setting, node, is_sorted, node_numbers}
+use Rattle.flow_journal.specs.Turns.{offered_to}
 use Rattle.flow_journal.specs.Pasts.{Past, frame}
 use Rattle.flow_journal.specs.Waiting.{waiting, least_first}
 use Rattle.flow_journal.specs.Following.{offer, look, calls_for, owed}
@@ -63,7 +64,7 @@ ticks s [] h = refl
 ticks s (Load r k b n f g x ∷ P) h = ap (λ (ds : List Entry). is_nothing (drop 1 ds)) (owed-first s (Load r k b n f g x) P (λ d. refl) h)
 ticks s (LoadRefused r k n z ∷ P) h = ap (λ (ds : List Entry). is_nothing (drop 1 ds)) (owed-first s (LoadRefused r k n z) P (λ d. refl) h)
 ticks s (Tick t ∷ P) h = ends-more (calls_for s P (Tick t)) (drop 1 (owed s P)) (looks_no_tick s (Tick t ∷ P) (node_numbers s)) (ends-rest (owed s P) (ticks s P (and_parts _ _ h).0))
-ticks s (Emit w m i why ∷ P) h = ends-more (calls_for s P (Emit w m i why)) (drop 1 (owed s P)) (offers_no_tick (frame m i) (children s w)) (ends-rest (owed s P) (ticks s P (and_parts _ _ h).0))
+ticks s (Emit w m i why ∷ P) h = ends-more (calls_for s P (Emit w m i why)) (drop 1 (owed s P)) (offers_no_tick (frame m i) (offered_to s P w)) (ends-rest (owed s P) (ticks s P (and_parts _ _ h).0))
 ticks s (Put r w m i f ∷ P) h = ends-more (calls_for s P (Put r w m i f)) (drop 1 (owed s P)) (out_no_tick w (calls_for s P (Put r w m i f)) (result-at s w (frame m i) f P (node s w).work)) (ends-rest (owed s P) (ticks s P (and_parts _ _ h).0))
 ticks s (Settle r w ∷ P) h = ends-more (calls_for s P (Settle r w)) (drop 1 (owed s P)) (out_no_tick w (calls_for s P (Settle r w)) (flush-at w (least_first s (waiting s w P)))) (ends-rest (owed s P) (ticks s P (and_parts _ _ h).0))
 ticks s (_ ∷ P) h = ends-rest (owed s P) (ticks s P (and_parts _ _ h).0)

@@ -1,6 +1,7 @@
 -- LAWS: all that came to a node was accepted for good or dropped, all that its input emitted came to it, and every frame came.
 use Rattle.std.specs.Prelude.{◌≡◌, ◌≢◌, ℕ, ◌+◌, true, false, length}
 use Rattle.flow_journal.specs.Setting.{Setting, node, is_node}
+use Rattle.flow_journal.specs.Turns.{deals}
 use Rattle.flow_journal.specs.Pasts.{Past}
 use Rattle.flow_journal.specs.Breaks.{outs}
 use Rattle.flow_journal.specs.Offered.{offered, offered_frames}
@@ -11,9 +12,9 @@ use Rattle.flow_journal.specs.IndexLaws.{below}
 use Rattle.run_laws.specs.Drops.{fulls, pool_drops, sort_drops, loaded_frames, refused}
 use Rattle.run_laws.specs.Results.{IsFinishedRun}
 
--- what was offered to a node is what its input emitted, in this order
+-- what was offered to a node is what its input emitted, in this order, where the input doesn't deal it out
 abbrev pub EmissionsAreOffered : Type 0
-EmissionsAreOffered = (s : Setting) (P : Past) (v : ℕ) → is_node s v ≡ true → is_history s P ≡ true → offered v P ≡ emitted (node s v).input P
+EmissionsAreOffered = (s : Setting) (P : Past) (v : ℕ) → is_node s v ≡ true → deals s (node s v).input ≡ false → is_history s P ≡ true → offered v P ≡ emitted (node s v).input P
 
 -- it was accepted for good or dropped
 abbrev pub OffersAreAcceptedOrDropped : Type 0
@@ -25,7 +26,7 @@ FramesAreLoadedOrRefused = (P : Past) → length (offered_frames P) ≡ length (
 
 -- where no block is loaded the driver emitted what was loaded for good, in this order
 abbrev pub LoadedFramesAreIssued : Type 0
-LoadedFramesAreIssued = (s : Setting) (P : Past) → is_history s P ≡ true → has_loaded P ≡ false → outs 0 P ≡ loaded_frames P
+LoadedFramesAreIssued = (s : Setting) (P : Past) → is_history s P ≡ true → has_loaded P ≡ false → outs s 0 P ≡ loaded_frames P
 
 -- each frame was offered, and once
 abbrev pub EveryFrameIsOffered : Type 0

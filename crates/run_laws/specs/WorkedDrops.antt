@@ -39,7 +39,7 @@ a_refused_frame_counts = refl
 and_every_frame_came : offered_frames (after third_refused) ≡ below 3
 and_every_frame_came = refl
 
-the_driver_emits_what_was_loaded : outs 0 (after third_refused) ≡ loaded_frames (after third_refused)
+the_driver_emits_what_was_loaded : outs small_pool 0 (after third_refused) ≡ loaded_frames (after third_refused)
 the_driver_emits_what_was_loaded = refl
 
 -- a second drop of one array isn't legal, and would count twice
@@ -74,7 +74,7 @@ another_emitted_is_illegal = refl
 another_emitted_is_finished : is_finished one_file (after another_emitted) ≡ true
 another_emitted_is_finished = refl
 
-and_was_not_loaded : (outs 0 (after another_emitted) ≡ 7 ∷ []) × (loaded_frames (after another_emitted) ≡ 0 ∷ [])
+and_was_not_loaded : (outs one_file 0 (after another_emitted) ≡ 7 ∷ []) × (loaded_frames (after another_emitted) ≡ 0 ∷ [])
 and_was_not_loaded = (refl, refl)
 
 -- one frame is loaded twice

@@ -1,8 +1,8 @@
 use Rattle.std.proofs.Common.{◌≡◌, ℕ, true, false, refl, ap, ◌∙◌}
-use Rattle.board_rules.specs.declared.answers.Progress.{Progress}
+use Rattle.flow_journal.specs.declared.progress.Progress.{Progress}
 use Rattle.board_rules.specs.States.{past}
 use Rattle.board_rules.specs.RunMeasures.{run_setting}
-use Rattle.board_rules.specs.Ends.{progress_of}
+use Rattle.flow_journal.specs.Notes.{progress_of}
 use Rattle.flow_roles.specs.declared.last.Last.TheVariants.{Left}
 use Rattle.flow_roles.specs.declared.left_desk.LeftPass.{LeftPass}
 use Rattle.flow_roles.specs.Leaving.{leaves_at}
