@@ -1,5 +1,7 @@
 pub mod Arenas
 pub mod Shelves
+pub mod BegunFiles
 pub mod Libraries
+pub mod Ticking
 pub mod Sets
 pub mod Untold

@@ -3,6 +3,8 @@ pub mod FaultLaws
 pub mod Files
 pub mod FileLaws
 pub mod Written
+pub mod Ticks
+pub mod Waiting
 pub mod RealFiles
 pub mod Memory
 pub mod Arena

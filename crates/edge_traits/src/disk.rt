@@ -1,6 +1,9 @@
 //! Real files and standard output. What they hold is not told; what a call does to an open file is,
 //! as far as the file tells it.
 
+mod begun_file;
+mod file_table;
+mod interrupted;
 mod kept_file;
 mod library;
 mod shelf;
@@ -17,8 +20,9 @@ pub use library::DiskLibrary;
 pub use shelf::DiskShelf;
 pub use sink::OutSink;
 use std::fs::OpenOptions;
-use std::io;
+use std::os::unix::fs::FileTypeExt;
 use std::rt::Files;
+use std::{fs, io};
 
 /// One more fault.
 fn fault(faults: &mut u64) -> Failed
@@ -40,7 +44,15 @@ fn counted<T>(faults: &mut u64, done: io::Result<T>) -> Result<T, Failed>
     }
 }
 
-/// Opens a file. No system takes a name longer than the limit.
+/// Whether a name is a pipe's. To open one may block until somebody opens its other end.
+fn is_pipe<R: Files>(rt: &R, name: &str) -> bool {
+    match fs::metadata(rt, name) {
+        Ok(found) => found.file_type().is_fifo(),
+        Err(_) => false,
+    }
+}
+
+/// Opens a file that is no pipe. No system takes a name longer than the limit.
 fn open<R: Files>(
     rt: &R,
     how: &OpenOptions,
@@ -50,7 +62,7 @@ fn open<R: Files>(
     ensures fits { OnOk result (length name.now ≤ 4096) }
     ensures cause { Counts faults.old faults.new result }
 {
-    if name.len() > NAME_LIMIT {
+    if name.len() > NAME_LIMIT || is_pipe(rt, name) {
         return Err(fault(faults));
     }
     counted(faults, how.open(rt, name))

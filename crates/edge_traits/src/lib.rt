@@ -3,19 +3,29 @@
 //! them stand objects in memory for tests, and adapters over real files and standard output.
 #![tactic(auto)]
 
+mod clock;
 mod disk;
 mod failed;
+mod gate;
+mod gates;
 mod library;
 mod memory;
+mod real_clock;
 mod shelf;
 mod sink;
 #[cfg(test)]
 mod tests;
 
+pub use clock::Clock;
 pub use disk::{DiskLibrary, DiskShelf, OutSink};
 pub use failed::Failed;
+pub use gate::Gate;
+pub use gates::{AppendGate, OpenGate, PairGate};
 pub use library::Library;
-pub use memory::{MemLibrary, MemShelf, MemSink, SureLibrary};
+pub use memory::{
+    MemClock, MemLibrary, MemShelf, MemSink, SlowLibrary, SlowSink, SureLibrary, ToldShelf,
+};
+pub use real_clock::RealClock;
 pub use shelf::Shelf;
 pub use sink::Sink;
 

@@ -4,9 +4,14 @@ ghost use Rattle.std.specs.Prelude.{◌≡◌, ◌≢◌, ◌+◌, ◌≤◌, �
 ghost use Rattle.edge_traits.specs.Faults.{Rose};
 ghost use Rattle.edge_traits.specs.Files.{file_at, with_file, Stands, HasRange};
 
+mod clocks;
+mod counted_files;
+mod gates;
+mod real_files;
+mod slow;
+
 use crate::{
-    DiskLibrary, DiskShelf, Failed, Library, MemLibrary, MemShelf, MemSink, OutSink, Shelf, Sink,
-    SureLibrary,
+    DiskShelf, Failed, Library, MemLibrary, MemShelf, MemSink, OutSink, Shelf, Sink, SureLibrary,
 };
 use std::alloc::{AllocError, Global};
 use std::process::Abort;
@@ -254,40 +259,6 @@ fn step_on_disk<R: Files>(shelf: &mut DiskShelf<'_, R>, step: &Step<'_>) -> Resu
         Step::Patch(name, off, bytes) => shelf.patch(name, *off, bytes),
         Step::Finish(name) => shelf.finish(name),
     }
-}
-
-#[test]
-fn real_files_are_written_and_read_back(rt: HostRuntime) -> Result<(), Fail> {
-    let alloc = rt.alloc();
-    let mut shelf = DiskShelf::new(&rt);
-    assert_eq!(rt; save(&mut shelf, "one", b"abc", b"defgh"), Ok(()));
-    for (call, answer) in &[
-        (Step::Create("two"), OK),
-        (Step::Append("two", b"xyz"), OK),
-        (Step::Append("one", b"ij"), OK),
-        (Step::Patch("one", 2, b"CDE"), OK),
-        (Step::Append("one", b"k"), OK),
-        (Step::Finish("one"), OK),
-        (Step::Create("two"), OK),
-        (Step::Append("two", b"z"), OK),
-        (Step::Append("three", b"z"), FAILED),
-        (Step::Create("no/folder"), FAILED),
-    ] {
-        assert_eq!(rt; step_on_disk(&mut shelf, call), *answer);
-    }
-    assert_eq!(rt; shelf.faults(), 2);
-    let mut library = DiskLibrary::new(&rt);
-    for (name, want) in &[("one", "abCDEfghijk"), ("two", "z")] {
-        let (bytes, end) = read_in_threes(alloc, &mut library, name)?;
-        assert_eq!(rt; bytes.as_slice(), want.as_bytes());
-        assert_eq!(rt; end, Ok(0));
-    }
-    assert_eq!(rt; library.size("one"), Ok(11));
-    assert_eq!(rt; library.size("three"), Err(Failed));
-    assert_eq!(rt; library.read_at("three", 0, &mut [0; 2]), Err(Failed));
-    assert_eq!(rt; library.size("."), Err(Failed));
-    assert_eq!(rt; library.faults(), 3);
-    Ok(())
 }
 
 #[test]

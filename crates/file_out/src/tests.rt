@@ -5,9 +5,12 @@ ghost use Rattle.std.specs.Option.{ForSome};
 ghost use Rattle.file_out.specs.Examples.{two_by_two};
 ghost use Rattle.file_out.specs.Streams.{IsRow};
 
+mod part_shelf;
+
 use crate::{Row, SaveFault, StreamFile, save_group};
 use edge_traits::{MemShelf, Shelf};
 use nd_base::{Attrs, Bytes, Dim, FileShape, Form, Head, SampleType, Seq};
+use part_shelf::PartShelf;
 use std::alloc::{AllocError, Global};
 use std::test::Fail;
 
@@ -90,9 +93,10 @@ fn both(alloc: Global) -> Result<Vec<Row>, AllocError>
     ensures each { IfOk result (λ rows. All (λ r. IsRow two_by_two r.head r.samples) rows.items) }
     ensures count { IfOk result (λ rows. length rows.items ≡ 2) }
 {
-    let first = frame(alloc, 1, [1, 2, 3, 4])?;
-    let second = frame(alloc, 2, [5, 6, 7, 8])?;
-    Ok(vec![in alloc; first, second]?)
+    let mut rows = Vec::new(alloc);
+    rows.push(frame(alloc, 1, [1, 2, 3, 4])?)?;
+    rows.push(frame(alloc, 2, [5, 6, 7, 8])?)?;
+    Ok(rows)
 }
 
 /// Saves both frames as a group.
@@ -186,6 +190,7 @@ fn a_stream_has_no_count_until_the_patch(rt: HostRuntime) -> Result<(), Fail> {
             "{call}"
         );
         assert_eq!(rt; shelf.faults(), 1);
+        assert_eq!(rt; shelf.calls(), call + 1);
         let left = shelf.bytes("a.nc");
         assert_eq!(rt; left.map(|bytes| bytes.len()), length, "{call}");
         assert!(rt; left.is_none_or(|bytes| open.starts_with(bytes)));
@@ -194,5 +199,35 @@ fn a_stream_has_no_count_until_the_patch(rt: HostRuntime) -> Result<(), Fail> {
     assert_eq!(rt; stream(alloc, &mut last, None), Err(SaveFault::Failed));
     let left = last.bytes("a.nc").ok_or("no file")?;
     assert_eq!(rt; left, two_frames(alloc, 2)?.as_slice());
+    Ok(())
+}
+
+#[test]
+fn a_failed_append_leaves_a_part_of_its_piece(rt: HostRuntime) -> Result<(), Fail> {
+    let alloc = rt.alloc();
+    let rows = [
+        (1, 0, 0),
+        (1, 100, 100),
+        (2, 10, 550),
+        (3, 23, 587),
+        (3, 24, 588),
+    ];
+    for (failing, added, length) in rows {
+        for numrecs in [None, Some(2)] {
+            let mut part = PartShelf {
+                shelf: shelf(alloc, &[])?,
+                failing,
+                added,
+                faults: 0,
+            };
+            let fault = stream(alloc, &mut part, numrecs);
+            assert_eq!(rt; fault, Err(SaveFault::Failed), "{failing}");
+            assert_eq!(rt; (part.faults, part.shelf.calls()), (1, failing + 1));
+            let whole = two_frames(alloc, numrecs.unwrap_or(u32::MAX))?;
+            let left = part.shelf.bytes("a.nc").ok_or("no file")?;
+            assert_eq!(rt; left.len(), length, "{failing}");
+            assert!(rt; whole.starts_with(left));
+        }
+    }
     Ok(())
 }

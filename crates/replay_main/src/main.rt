@@ -51,13 +51,16 @@ fn run(rt: &(impl Files + Print + AllocGlobal), words: &[String]) -> Status {
     match words {
         [word] if word.as_str() == "--help" || word.as_str() == "-h" => printed(rt.print(HELP)),
         [word] if word.as_str() == "--version" => printed(rt.print(VERSION)),
-        _ => tool_top(
-            rt.alloc(),
-            words,
-            &mut DiskLibrary::new(rt),
-            &mut DiskShelf::new(rt),
-            &mut OutSink::new(rt),
-        ),
+        _ => match DiskShelf::new(rt.alloc(), rt) {
+            Ok(mut shelf) => tool_top(
+                rt.alloc(),
+                words,
+                &mut DiskLibrary::new(rt),
+                &mut shelf,
+                &mut OutSink::new(rt),
+            ),
+            Err(_) => Status::OutOfMemory,
+        },
     }
 }
 

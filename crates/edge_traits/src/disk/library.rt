@@ -6,10 +6,10 @@ ghost use Rattle.edge_traits.specs.Faults.{Counts};
 ghost use Rattle.edge_traits.specs.RealFiles.{Steps, Seeks, Reads};
 
 use super::kept_file::KeptFile;
-use super::{counted, fault, file_of};
+use super::{counted, fault, file_of, interrupted};
 use crate::{Failed, Library};
 use std::fs::{OpenFile, OpenOptions};
-use std::io::{Read, Seek, SeekFrom};
+use std::io::{Seek, SeekFrom};
 use std::marker::Model;
 use std::rt::Files;
 
@@ -90,7 +90,7 @@ impl<'a, R: Files> Library for DiskLibrary<'a, R> {
             &mut self.faults,
         )?;
         counted(&mut self.faults, file.seek(SeekFrom::Start(off)))?;
-        let count = counted(&mut self.faults, file.read(buf))?;
+        let count = counted(&mut self.faults, interrupted::read(&mut file, buf))?;
         self.kept.keep(name, file);
         Ok(count)
     }

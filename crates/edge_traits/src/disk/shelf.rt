@@ -1,45 +1,66 @@
 //! Real files to write.
 
-ghost use Rattle.std.specs.Prelude.{◌≡◌, None, pos, OnOk};
-ghost use Rattle.std.specs.declared.io.traits.SeekFrom.TheVariants.{Start, End};
+ghost use Rattle.std.specs.Prelude.{◌≡◌, ◌≤◌, ◌∷◌, List, None, Some, [], length, IfOk, OnOk, IsSome};
 ghost use Rattle.edge_traits.specs.Faults.{Counts};
-ghost use Rattle.edge_traits.specs.RealFiles.{without, IsKept, Steps, Writes};
+ghost use Rattle.edge_traits.specs.RealFiles.{Begun, emptying, keeping, find_begun, without_begun, MayClose, Takes, Writes, WritesTo};
 
-use super::kept_file::KeptFile;
-use super::{counted, file_of, open};
-use crate::{Failed, Shelf};
+use super::begun_file::BegunFile;
+use super::file_table::FileTable;
+use super::{counted, fault, open};
+use crate::{Failed, OutOfMemory, Shelf};
+use std::alloc::Global;
 use std::fs::OpenOptions;
 use std::io::{Seek, SeekFrom, Write};
 use std::marker::Model;
 use std::rt::Files;
 
-/// The files of the running machine, by their paths. The last one that was written stays open
-/// until it is finished.
+/// The files of the running machine, by their paths. A name that was created stays open until it
+/// is finished, beside up to 63 others; of more names those that were used longest ago are closed,
+/// and opened again when they are written. A write goes to the place where the bytes end that this
+/// shelf gave the name, whatever others add to the file.
 #[derive(Drop)]
 pub struct DiskShelf<'a, R: Files> {
     rt: &'a R,
-    kept: KeptFile<R::File>,
+    files: FileTable<R::File>,
     faults: u64,
 }
 
 impl<'a, R: Files> Model for DiskShelf<'a, R> {
-    ghost use Rattle.edge_traits.specs.RealFiles.{Adapter};
+    ghost use Rattle.edge_traits.specs.RealFiles.{BegunFiles};
 
-    ghost Value = { Adapter R.File };
+    ghost Value = { BegunFiles R.File };
 
-    ghost view = { λ s. record { last = s.kept; faults = s.faults } };
+    ghost view = { λ s. record { files = s.files; faults = s.faults } };
+}
+
+/// Opens a file that is to be empty, and makes it where it isn't there.
+fn emptying() -> OpenOptions
+    ensures { result ≡ emptying }
+{
+    let mut how = OpenOptions::new();
+    how.write(true).create(true).truncate(true);
+    how
+}
+
+/// Opens a file that is there and keeps what it has.
+fn keeping() -> OpenOptions
+    ensures { result ≡ keeping }
+{
+    let mut how = OpenOptions::new();
+    how.write(true);
+    how
 }
 
 impl<'a, R: Files> DiskShelf<'a, R> {
-    /// No call has failed yet.
-    pub fn new(rt: &'a R) -> DiskShelf<'a, R>
-        ensures { result ≡ record { last = None; faults = 0 } }
+    /// No call has failed yet. It takes the memory for 64 names.
+    pub fn new(alloc: Global, rt: &'a R) -> Result<DiskShelf<'a, R>, OutOfMemory>
+        ensures { IfOk result (λ s. s ≡ record { files = []; faults = 0 }) }
     {
-        DiskShelf {
+        Ok(DiskShelf {
             rt,
-            kept: KeptFile::new(),
+            files: FileTable::new(alloc)?,
             faults: 0,
-        }
+        })
     }
 
     /// How many calls failed.
@@ -49,23 +70,103 @@ impl<'a, R: Files> DiskShelf<'a, R> {
         self.faults
     }
 
-    /// Writes all bytes from this place of the file on.
-    fn write_from(&mut self, name: &str, place: SeekFrom, bytes: &[u8]) -> Result<(), Failed>
-        ensures writes { OnOk result (Steps self.old.last self.new.last name.now
-            (Writes R.File.stream_position R.File.stream_bytes R.File.contents place bytes.now)) }
+    /// Opens a file, where need be in place of another.
+    fn opened(&mut self, how: &OpenOptions, name: &str) -> Result<R::File, Failed>
+        ensures fits { OnOk result (length name.now ≤ 4096) }
+        ensures files { MayClose self.old.files self.new.files }
         ensures cause { Counts self.old.faults self.new.faults result }
     {
-        let mut file = file_of(
-            self.rt,
-            &mut self.kept,
-            OpenOptions::new().write(true),
-            name,
-            &mut self.faults,
-        )?;
-        counted(&mut self.faults, file.seek(place))?;
-        counted(&mut self.faults, file.write_all(bytes))?;
-        self.kept.keep(name, file);
-        Ok(())
+        counted(&mut self.faults, self.files.make_room())?;
+        open(self.rt, how, name, &mut self.faults)
+    }
+
+    /// Keeps a file for the next call on its name.
+    fn kept(&mut self, file: BegunFile<R::File>) -> Result<(), Failed>
+        ensures kept { OnOk result (self.new.files ≡ file ∷ self.old.files) }
+        ensures cause { Counts self.old.faults self.new.faults result }
+    {
+        match self.files.keep(file) {
+            Ok(()) => Ok(()),
+            Err(_) => Err(fault(&mut self.faults)),
+        }
+    }
+
+    /// A file that was closed, open again; where it can't be it is kept as it was.
+    fn reopened(
+        &mut self,
+        mut file: BegunFile<R::File>,
+        name: &str,
+    ) -> Result<BegunFile<R::File>, Failed>
+        ensures again { IfOk result (λ b. (f : R.File) × (b ≡ record {
+          name = file.name;
+          ends = file.ends;
+          file = Some (f, 0);
+        })) }
+        ensures others { OnOk result (MayClose self.old.files self.new.files) }
+        ensures cause { Counts self.old.faults self.new.faults result }
+    {
+        match self.opened(&keeping(), name) {
+            Ok(open) => {
+                file.reopen(open);
+                Ok(file)
+            }
+            Err(failed) => {
+                let _ = self.files.keep(file);
+                Err(failed)
+            }
+        }
+    }
+
+    /// A file that this shelf hasn't begun: the one that is there, at its end.
+    fn found(&mut self, name: &str) -> Result<BegunFile<R::File>, Failed>
+        ensures takes { IfOk result (λ b. Takes R.File.stream_position R.File.stream_bytes None
+            name.now b) }
+        ensures others { OnOk result (MayClose self.old.files self.new.files) }
+        ensures cause { Counts self.old.faults self.new.faults result }
+    {
+        let mut file = self.opened(&keeping(), name)?;
+        let ends = counted(&mut self.faults, file.seek(SeekFrom::End(0)))?;
+        Ok(BegunFile::at_end(name, file, ends))
+    }
+
+    /// The file of a name, open and taken out.
+    #[tactic(auto, using(crate::proofs::BegunFiles::begun))]
+    fn taken(&mut self, name: &str) -> Result<BegunFile<R::File>, Failed>
+        ensures takes { IfOk result (λ b. Takes R.File.stream_position R.File.stream_bytes
+            (find_begun self.old.files name.now) name.now b) }
+        ensures name { IfOk result (λ b. b.name ≡ name.now) }
+        ensures is_open { IfOk result (λ b. IsSome b.file) }
+        ensures others { OnOk result (MayClose (without_begun self.old.files name.now)
+            self.new.files) }
+        ensures cause { Counts self.old.faults self.new.faults result }
+    {
+        match self.files.take(name) {
+            Some(file) if file.is_open() => Ok(file),
+            Some(file) => self.reopened(file, name),
+            None => self.found(name),
+        }
+    }
+
+    /// Writes a piece to an open file from a byte on, and keeps the file.
+    fn write_kept(
+        &mut self,
+        mut file: BegunFile<R::File>,
+        at: u64,
+        bytes: &[u8],
+    ) -> Result<(), Failed>
+        requires { IsSome file.file }
+        ensures writes { OnOk result ((to : Begun R.File) × Writes R.File.stream_position
+            R.File.stream_bytes R.File.contents at bytes.now file to ×
+            (self.new.files ≡ to ∷ self.old.files)) }
+        ensures cause { Counts self.old.faults self.new.faults result }
+    {
+        if bytes.len() as u64 > u64::MAX - at {
+            self.kept(file)?;
+            return Err(fault(&mut self.faults));
+        }
+        let written = file.write_from(at, bytes);
+        self.kept(file)?;
+        counted(&mut self.faults, written)
     }
 }
 
@@ -76,42 +177,51 @@ impl<'a, R: Files> Shelf for DiskShelf<'a, R> {
 
     ghost faults = { λ s. s.faults };
 
+    #[tactic(auto, using(crate::proofs::BegunFiles::begun))]
     fn create(&mut self, name: &str) -> Result<(), Failed>
-        ensures opened { OnOk result (IsKept self.new.last name.now) }
+        ensures begun { OnOk result ((file : R.File) × (others : List (Begun R.File)) ×
+            (self.new.files ≡ record {
+              name = name.now;
+              ends = 0;
+              file = Some (file, 0);
+            } ∷ others) × MayClose (without_begun self.old.files name.now) others) }
         ensures cause { Counts self.old.faults self.new.faults result }
     {
-        let file = open(
-            self.rt,
-            OpenOptions::new().write(true).create(true).truncate(true),
-            name,
-            &mut self.faults,
-        )?;
-        self.kept.keep(name, file);
-        Ok(())
+        drop(self.files.take(name));
+        let file = self.opened(&emptying(), name)?;
+        self.kept(BegunFile::at_end(name, file, 0))
     }
 
     fn append(&mut self, name: &str, bytes: &[u8]) -> Result<(), Failed>
-        ensures writes { OnOk result (Steps self.old.last self.new.last name.now
-            (Writes R.File.stream_position R.File.stream_bytes R.File.contents (End (pos 0)) bytes.now)) }
+        ensures writes { OnOk result (WritesTo R.File.stream_position R.File.stream_bytes
+            R.File.contents (λ from. from.ends) bytes.now self.old.files self.new.files name.now) }
         ensures cause { Counts self.old.faults self.new.faults result }
     {
-        self.write_from(name, SeekFrom::End(0), bytes)
+        let file = self.taken(name)?;
+        let at = file.ends();
+        self.write_kept(file, at, bytes)?;
+        Ok(())
     }
 
     fn patch(&mut self, name: &str, off: u64, bytes: &[u8]) -> Result<(), Failed>
-        ensures writes { OnOk result (Steps self.old.last self.new.last name.now
-            (Writes R.File.stream_position R.File.stream_bytes R.File.contents (Start off) bytes.now)) }
+        ensures writes { OnOk result (WritesTo R.File.stream_position R.File.stream_bytes
+            R.File.contents (λ from. off) bytes.now self.old.files self.new.files name.now) }
         ensures cause { Counts self.old.faults self.new.faults result }
     {
-        self.write_from(name, SeekFrom::Start(off), bytes)
+        let file = self.taken(name)?;
+        self.write_kept(file, off, bytes)?;
+        Ok(())
     }
 
     fn finish(&mut self, name: &str) -> Result<(), Failed>
-        ensures let_go { self.new.last ≡ without self.old.last name.now }
+        ensures let_go { self.new.files ≡ without_begun self.old.files name.now }
         ensures cause { Counts self.old.faults self.new.faults result }
     {
-        match self.kept.take(name) {
-            Some(mut file) => counted(&mut self.faults, file.flush()),
+        let Some(mut file) = self.files.take(name) else {
+            return Ok(());
+        };
+        match file.close() {
+            Some(mut open) => counted(&mut self.faults, open.flush()),
             None => Ok(()),
         }
     }

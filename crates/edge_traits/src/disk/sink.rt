@@ -4,7 +4,7 @@ ghost use Rattle.std.specs.Prelude.{◌≡◌, ◌<◌, ◌≤◌, length, IfOk}
 ghost use Rattle.std.specs.Io.KnownBytes.{WriteAppends};
 ghost use Rattle.edge_traits.specs.Faults.{Counts};
 
-use super::{counted, fault};
+use super::{counted, fault, interrupted};
 use crate::{Failed, Sink};
 use std::io;
 use std::io::{Printer, Write};
@@ -61,7 +61,10 @@ impl<W: Write + Drop> Sink for OutSink<W> {
             result bytes.now }
         ensures cause { Counts self.old.faults self.new.faults result }
     {
-        match counted(&mut self.faults, self.writer.write(bytes))? {
+        match counted(
+            &mut self.faults,
+            interrupted::write(&mut self.writer, bytes),
+        )? {
             0 => Err(fault(&mut self.faults)),
             count => Ok(count),
         }
