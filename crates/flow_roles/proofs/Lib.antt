@@ -2,3 +2,10 @@ pub mod Leaving
 pub mod Playing
 pub mod Reversed
 pub mod Additions
+pub mod Calls
+pub mod RoleCalls
+pub mod FeederCalls
+pub mod Named
+pub mod WorkerCalls
+pub mod Results
+pub mod Reclaims

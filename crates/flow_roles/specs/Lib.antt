@@ -2,3 +2,8 @@ pub mod Lasts
 pub mod Passes
 pub mod Operations
 pub mod Leaving
+pub mod RoleMoves
+pub mod RoleEnds
+pub mod Feeder
+pub mod Worker
+pub mod FeederTicks

@@ -5,15 +5,22 @@
 #![tactic(auto)]
 
 mod desk;
+mod feeding;
+mod job;
 mod last;
 mod left_desk;
 mod operation;
 mod played;
 mod plays;
+mod role_end;
+mod working;
 
 pub use desk::Desk;
+pub use feeding::feed_role;
 pub use last::{Last, after_close, after_issue, after_load, after_progress, after_take};
 pub use left_desk::{LeftDesk, LeftPass, Stage};
 pub use operation::{DeskOp, DeskReply};
 pub use played::Played;
 pub use plays::{operations_are_moves, play};
+pub use role_end::RoleEnd;
+pub use working::work_role;

@@ -125,11 +125,16 @@ module _ (g : Graph) (makers : List Maker) (arrays : List Array) (P : Past) (sou
               (omega (arith, watched-put s P (suc k) r.pre r.post r.preset (wrong (maker_at g.nodes n.input)) work sound_rule.post.0 h, put_so (suc k) n (maker_at g.nodes n.input) rule (ap makes work) before))
           by_kind (File r) kind = absurd (false≢true (sym (ap may_feed kind) ∙ feeds))
 
-  -- what comes to a node has the name of its input's maker
+  -- what a node accepted, dropped later or not, has the name of its input's maker
+  pub accepts-named : (v : ℕ) (n : NodeRule) → rule_at g.nodes v ≡ Some n → count (wrong (maker_at g.nodes n.input)) (accepts v P) ≡ 0
+  accepts-named v n rule =
+      let none = passed v n (maker_at g.nodes n.input) rule (named (suc (depth g.nodes (length g.nodes) n.input)) n.input (omega arith) (input-source g sound v n rule)) in
+      omega (arith, none, accepts-list v (wrong (maker_at g.nodes n.input)) P)
+
+  -- and so has what it accepted for good
   pub comes-named : (v : ℕ) (n : NodeRule) → rule_at g.nodes v ≡ Some n → count (wrong (maker_at g.nodes n.input)) (accepted s v P) ≡ 0
   comes-named v n rule =
-      let none = passed v n (maker_at g.nodes n.input) rule (named (suc (depth g.nodes (length g.nodes) n.input)) n.input (omega arith) (input-source g sound v n rule)) in
-      omega (arith, none, accepts-list v (wrong (maker_at g.nodes n.input)) P, count-filter-le (wrong (maker_at g.nodes n.input)) (λ a. not (list_any (is_dropped_by s v a) P)) (accepts v P))
+      omega (arith, accepts-named v n rule, count-filter-le (wrong (maker_at g.nodes n.input)) (λ a. not (list_any (is_dropped_by s v a) P)) (accepts v P))
 
   -- and what goes out of it that of its own
   pub out-named : (v : ℕ) (n : NodeRule) → rule_at g.nodes v ≡ Some n → IsFinishedRun s P → count (wrong (maker_at g.nodes v)) (put_out s v P) ≡ 0

@@ -1,0 +1,35 @@
+use Rattle.std.proofs.Common.{length}
+use Rattle.board_rules.specs.RunMeasures.{run_setting}
+use Rattle.flow_roles.specs.RoleMoves.{worker_logs}
+use Rattle.flow_roles.specs.Feeder.{name_of, parts_of}
+use Rattle.flow_roles.proofs.RoleCalls.{fresh-nothing}
+use Rattle.flow_roles.proofs.Reclaims.{comes-back}
+use Rattle.flow_roles.proofs.working.work_role.Goals as goal
+
+pub loop-init : goal.loop-init
+loop-init g c = (c.requires.ours, fresh-nothing (worker_logs c.args.node) c.args.role (g.D.Desk.knows c.args.pass) c.requires.fresh)
+
+pub work_round-requires-clause-ours : goal.work_round-requires-clause-ours
+work_round-requires-clause-ours g c = c.loop.invariant.0
+
+pub work_round-requires-clause-nothing : goal.work_round-requires-clause-nothing
+work_round-requires-clause-nothing g c = c.loop.invariant.1
+
+pub loop-preserved : goal.loop-preserved
+loop-preserved g c = (c.work_round.ensures.ours, c.in-Again.ensures.gone)
+
+pub returns-in-End-clause-role : goal.returns-in-End-clause-role
+returns-in-End-clause-role g c = c.in-End.ensures.gone.role
+
+pub returns-in-End-clause-moves : goal.returns-in-End-clause-moves
+returns-in-End-clause-moves g c = c.in-End.ensures.gone.moves
+
+pub returns-in-End-clause-last : goal.returns-in-End-clause-last
+returns-in-End-clause-last g c = c.in-End.ensures.gone.last
+
+pub returns-in-End-clause-left : goal.returns-in-End-clause-left
+returns-in-End-clause-left g c = c.in-End.ensures.gone.handed
+
+pub returns-in-End-clause-reclaimed : goal.returns-in-End-clause-reclaimed
+returns-in-End-clause-reclaimed g c =
+    comes-back name_of parts_of length (run_setting g.R.Run.graph g.R.Run.stack) c.args.role (g.D.Desk.knows c.work_round.new.pass).made c.in-End.left c.in-End.ensures.gone.handed

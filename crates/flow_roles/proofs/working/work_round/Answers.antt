@@ -1,0 +1,55 @@
+use Rattle.std.proofs.Common.{refl, length}
+use Rattle.board_rules.specs.declared.answers.Take.TheVariants.{Left, Busy, Ended, Idle, PoolDrop, OutOfMemory, Job}
+use Rattle.board_rules.specs.RunMeasures.{run_setting}
+use Rattle.flow_roles.specs.RoleMoves.{worker_logs}
+use Rattle.flow_roles.specs.RoleEnds.{worker_ends}
+use Rattle.flow_roles.specs.Feeder.{name_of, parts_of}
+use Rattle.flow_roles.proofs.RoleCalls.{gone-again, gone-free, leave-free, worker-quiet}
+use Rattle.flow_roles.proofs.WorkerCalls.{take-goes, take-left-seen, take-ended-seen, take-isnt-busy, take-drops, take-works}
+use Rattle.flow_roles.proofs.working.work_round.Goals as goal
+
+pub returns-in-Left-clause-gone : goal.returns-in-Left-clause-gone
+returns-in-Left-clause-gone g c =
+    let s = run_setting g.R.Run.graph g.R.Run.stack in
+    let r = c.args.role in
+    let v = c.args.node in
+    let call = c.in-Left.ensures.called in
+    gone-free name_of parts_of length s (worker_logs v) (worker_ends v) r _ c.ended.result c.ended.ensures
+    (take-goes name_of parts_of length s r v _ _ c.requires.nothing Left refl call) (take-left-seen name_of parts_of length s r v _ _ c.requires.nothing call)
+
+pub returns-in-Ended-clause-gone : goal.returns-in-Ended-clause-gone
+returns-in-Ended-clause-gone g c =
+    let s = run_setting g.R.Run.graph g.R.Run.stack in
+    let r = c.args.role in
+    let v = c.args.node in
+    let call = c.in-Ended.ensures.called in
+    gone-free name_of parts_of length s (worker_logs v) (worker_ends v) r _ c.ended-in-Ended.result c.ended-in-Ended.ensures
+    (take-goes name_of parts_of length s r v _ _ c.requires.nothing Ended refl call) (take-ended-seen name_of parts_of length s r v _ _ c.requires.nothing call)
+
+pub unreachable-requires : goal.unreachable-requires
+unreachable-requires g c =
+    let s = run_setting g.R.Run.graph g.R.Run.stack in
+    take-isnt-busy name_of parts_of length s c.args.role c.args.node _ _ c.requires.nothing c.in-Busy.ensures.called
+
+pub settle_or_wait-requires-clause-nothing : goal.settle_or_wait-requires-clause-nothing
+settle_or_wait-requires-clause-nothing g c =
+    let s = run_setting g.R.Run.graph g.R.Run.stack in
+    take-goes name_of parts_of length s c.args.role c.args.node _ _ c.requires.nothing Idle refl c.in-Idle.ensures.called
+
+pub returns-in-PoolDrop-clause-gone : goal.returns-in-PoolDrop-clause-gone
+returns-in-PoolDrop-clause-gone g c =
+    let s = run_setting g.R.Run.graph g.R.Run.stack in
+    take-drops name_of parts_of length s c.args.role c.args.node _ _ c.requires.nothing _ _ c.in-PoolDrop.ensures.called
+
+pub returns-in-OutOfMemory-clause-gone : goal.returns-in-OutOfMemory-clause-gone
+returns-in-OutOfMemory-clause-gone g c =
+    let s = run_setting g.R.Run.graph g.R.Run.stack in
+    let r = c.args.role in
+    let v = c.args.node in
+    let n = take-goes name_of parts_of length s r v _ _ c.requires.nothing OutOfMemory refl c.in-OutOfMemory.ensures.called in
+    leave-free name_of parts_of length s (worker_logs v) (worker_ends v) r _ _ c.nothing.result n (worker-quiet v) refl (λ P h. h) c.nothing.ensures c.leave.ensures.called
+
+pub work_on-requires-clause-job : goal.work_on-requires-clause-job
+work_on-requires-clause-job g c =
+    take-works g.R.Run.graph g.R.Run.stack c.args.role c.args.node c.in-Job.node c.in-Job.input _ _ c.requires.graph c.requires.node c.requires.nothing c.in-Job.blank
+    c.in-Job.ensures.called c.in-Job.ensures.lent

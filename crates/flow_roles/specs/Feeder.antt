@@ -1,0 +1,28 @@
+-- The feeder with a frame in hand, and what its frames are.
+use Rattle.std.specs.Prelude.{◌≡◌, ℕ, ◌<◌, ◌≤◌, true, length, Option, Some, IsTrue}
+use Rattle.std.specs.List.{list_all}
+use Rattle.nd_base.specs.Parts.{Parts}
+use Rattle.nd_base.specs.declared.frame.FrameName.{FrameName}
+use Rattle.frame_store.specs.Sealed.{Sealed}
+use Rattle.flow_journal.specs.Setting.{Setting}
+use Rattle.flow_journal.specs.Pasts.{frame}
+use Rattle.flow_journal.specs.Hands.{hand}
+use Rattle.board_rules.specs.States.{past}
+use Rattle.board_rules.specs.InHand.{is_load_of, granted_size}
+use Rattle.flow_roles.specs.Passes.{Pass}
+use Rattle.flow_roles.specs.RoleMoves.{feeder_logs}
+
+abbrev pub name_of : Sealed → FrameName
+name_of f = f.name
+
+abbrev pub parts_of : Sealed → Option Parts
+parts_of f = Some f.parts
+
+-- the feeder has frame k in hand, which is to be filled into storage of so many bytes
+pub record HasLoaded (s : Setting) (k size : ℕ) (p : Pass) : Type 0 where
+  pub role : p.role ≡ 0
+  pub moves : list_all feeder_logs (past p.made) ≡ true
+  pub loaded : IsTrue (is_load_of (frame 0 k) (hand 0 (past p.made)))
+  pub granted : granted_size (hand 0 (past p.made)) ≡ size
+  pub there : k < length s.ids
+  pub room : s.need 0 ≤ size

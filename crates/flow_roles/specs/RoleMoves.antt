@@ -1,0 +1,40 @@
+-- Which moves a role makes, and what its pass says before its first call and between two calls.
+use Rattle.std.specs.Prelude.{◌≡◌, ℕ, ◌==◌, Bool, true, [], None, is_none}
+use Rattle.std.specs.List.{list_all}
+use Rattle.flow_journal.specs.declared.entry.Entry.{Entry}
+use Rattle.flow_journal.specs.declared.entry.Entry.TheVariants.{Load, LoadRefused, Issue, Take, TakeBlock, PoolDrop, Put, Settle, Close, Leave}
+use Rattle.flow_journal.specs.Hands.{hand}
+use Rattle.board_rules.specs.States.{past, begins}
+use Rattle.flow_roles.specs.declared.last.Last.TheVariants.{Fresh}
+use Rattle.flow_roles.specs.Passes.{Pass}
+
+-- an entry of the feeder's moves: what begins no move goes on with one of these
+abbrev pub feeder_logs : Entry → Bool
+feeder_logs (Load r k b n f g x) = true
+feeder_logs (LoadRefused r k n h) = true
+feeder_logs (Issue r k) = true
+feeder_logs (Close r) = true
+feeder_logs (Leave r) = true
+feeder_logs e = is_none (begins e)
+
+-- an entry of the moves of a worker at node v
+abbrev pub worker_logs : ℕ → Entry → Bool
+worker_logs v (Take r w m k) = w == v
+worker_logs v (TakeBlock f x r w m k b n g) = w == v
+worker_logs v (PoolDrop r w m k n h) = w == v
+worker_logs v (Put r w m k f) = w == v
+worker_logs v (Settle r w) = w == v
+worker_logs v (Leave r) = true
+worker_logs v e = is_none (begins e)
+
+-- the pass of this role, which has made no call yet
+pub record IsFresh (r : ℕ) (p : Pass) : Type 0 where
+  pub role : p.role ≡ r
+  pub last : p.last ≡ Fresh
+  pub made : p.made ≡ []
+
+-- the pass of this role, whose moves have such entries alone, and which has nothing in hand
+pub record HasNothing (logs : Entry → Bool) (r : ℕ) (p : Pass) : Type 0 where
+  pub role : p.role ≡ r
+  pub moves : list_all logs (past p.made) ≡ true
+  pub free : hand r (past p.made) ≡ None

@@ -1,0 +1,188 @@
+//! The feeder.
+
+ghost use Rattle.std.specs.Prelude.{◌≡◌, ◌<◌, ◌≤◌, ◌^◌, ◌++◌, length, drop, IsTrue, true, [], ◌∷◌};
+ghost use Rattle.std.specs.List.{list_all};
+ghost use Rattle.nd_base.specs.Stacks.{frame_size};
+ghost use Rattle.frame_store.specs.Content.{IsContent};
+ghost use Rattle.flow_journal.specs.Hands.{hand};
+ghost use Rattle.board_rules.specs.States.{past, lent_to};
+ghost use Rattle.board_rules.specs.RunMeasures.{run_setting};
+ghost use Rattle.flow_roles.specs.RoleMoves.{feeder_logs, IsFresh, HasNothing};
+ghost use Rattle.flow_roles.specs.RoleEnds.{feeder_ends, IsOfHand, HasGone, MayComeBack};
+ghost use Rattle.flow_roles.specs.Feeder.{name_of, parts_of, HasLoaded};
+ghost use Rattle.flow_roles.specs.FeederTicks.{GoesOn, FeedsByTheClock};
+
+use crate::role_end::{Round, ended, nothing, wait};
+use crate::{Desk, RoleEnd};
+use board_rules::{Load, Settled};
+use edge_traits::{Clock, Gate};
+use frame_store::{Blank, Frame};
+use nd_base::{FrameName, Run, Stack};
+use std::alloc::Global;
+use std::sync::Wait;
+
+/// The feeder's role.
+const FEEDER: u32 = 0;
+
+/// The driver's number.
+const DRIVER: u32 = 0;
+
+fn write_all(from: &[u8], to: &mut [u8])
+    requires { length from.now ≡ length to.old }
+    ensures { to.new ≡ from.now }
+{
+    to.copy_from_slice(from);
+}
+
+fn write_front(from: &[u8], to: &mut [u8])
+    requires { length from.now ≤ length to.old }
+    ensures { to.new ≡ from.now ++ drop (length from.now) to.old }
+{
+    write_all(from, &mut to[..from.len()]);
+}
+
+/// The frame of this name with these samples, on this storage.
+fn filled<R: Run>(name: FrameName, samples: &[u8], blank: Blank) -> Frame<R>
+    requires few { length samples.now < 2 ^ 32 }
+    requires room { length samples.now ≤ length blank }
+    requires content { IsContent R.graph R.stack name samples.now }
+    ensures name { result.name ≡ name }
+    ensures parts { (result.parts.size ≡ length blank) × (result.parts.here ≡ 2 ^ 32) }
+{
+    let mut blank = blank;
+    write_front(samples, blank.bytes());
+    blank.seal(name, samples.len() as u32)
+}
+
+/// Frame `index` of the stack, on this storage.
+fn frame_on<R: Run>(stack: &Stack, index: u32, blank: Blank) -> Frame<R>
+    requires stack { stack.now ≡ R.stack }
+    requires frame { index < length stack.now.arrays }
+    requires room { frame_size stack.now.shape ≤ length blank }
+    ensures name { result.name ≡ record { maker = 0; index = index } }
+    ensures parts { (result.parts.size ≡ length blank) × (result.parts.here ≡ 2 ^ 32) }
+{
+    let _shape = stack.shape();
+    let name = FrameName {
+        maker: DRIVER,
+        index,
+    };
+    filled(name, stack.frame(index), blank)
+}
+
+/// Fills the loaded frame and issues it.
+fn issue_loaded<R: Run, D: Desk<Frame<R>>, G: Gate, W: Wait>(
+    rt: &W,
+    alloc: Global,
+    desk: &D,
+    pass: &mut D::Pass,
+    stack: &Stack,
+    gate: &G,
+    index: u32,
+    blank: Blank,
+)
+    requires ours { D.ours desk.now pass.old }
+    requires stack { stack.now ≡ R.stack }
+    requires loaded { HasLoaded (run_setting R.graph R.stack) index (length blank) (D.knows pass.old) }
+    ensures ours { D.ours desk.now pass.new }
+    ensures issued { HasNothing feeder_logs 0 (D.knows pass.new) }
+    ensures calls { GoesOn (run_setting R.graph R.stack) (D.knows pass.old) [] (D.knows pass.new) }
+{
+    gate.before(DRIVER, index);
+    let frame = frame_on::<R>(stack, index, blank);
+    gate.after(DRIVER, index);
+    let Ok(()) = desk.issue(rt, alloc, pass, FEEDER, frame) else {
+        unreachable!()
+    };
+}
+
+/// Closes the feed, once every frame was offered.
+fn close_feed<R: Run, D: Desk<Frame<R>>, G: Gate, W: Wait>(
+    rt: &W,
+    alloc: Global,
+    desk: &D,
+    pass: &mut D::Pass,
+    gate: &G,
+) -> Round<Frame<R>>
+    requires ours { D.ours desk.now pass.old }
+    requires nothing { HasNothing feeder_logs 0 (D.knows pass.old) }
+    ensures ours { D.ours desk.now pass.new }
+    ensures gone { HasGone name_of parts_of length feeder_logs feeder_ends 0 (D.knows pass.new) result }
+    ensures calls { GoesOn (run_setting R.graph R.stack) (D.knows pass.old) [] (D.knows pass.new) }
+{
+    match desk.close(rt, alloc, pass, FEEDER) {
+        Settled::Done => ended(),
+        Settled::NotYet => wait(gate),
+    }
+}
+
+/// One load, and what it asks for.
+fn feed_round<R: Run, D: Desk<Frame<R>>, G: Gate, W: Wait>(
+    rt: &W,
+    alloc: Global,
+    desk: &D,
+    pass: &mut D::Pass,
+    stack: &Stack,
+    gate: &G,
+    tick: u64,
+) -> Round<Frame<R>>
+    requires ours { D.ours desk.now pass.old }
+    requires stack { stack.now ≡ R.stack }
+    requires nothing { HasNothing feeder_logs 0 (D.knows pass.old) }
+    ensures ours { D.ours desk.now pass.new }
+    ensures gone { HasGone name_of parts_of length feeder_logs feeder_ends 0 (D.knows pass.new) result }
+    ensures calls { GoesOn (run_setting R.graph R.stack) (D.knows pass.old) (tick ∷ []) (D.knows pass.new) }
+{
+    match desk.load(rt, alloc, pass, FEEDER, tick) {
+        Load::Left => ended(),
+        Load::Busy => wait(gate),
+        Load::NotYet => wait(gate),
+        Load::Ended => close_feed(rt, alloc, desk, pass, gate),
+        Load::Refused { .. } => Round::Again,
+        Load::OutOfMemory => {
+            desk.leave(rt, alloc, pass, FEEDER);
+            Round::End {
+                left: nothing(),
+                want: true,
+            }
+        }
+        Load::Loaded { index, blank } => {
+            issue_loaded(rt, alloc, desk, pass, stack, gate, index, blank);
+            Round::Again
+        }
+    }
+}
+
+/// Feeds the frames of the stack: reads the clock, loads the next frame, fills the storage that it got and issues it, until
+/// every frame was offered and the feed is closed, another role has left, or memory is wanting.
+pub fn feed_role<R: Run, D: Desk<Frame<R>>, C: Clock, G: Gate, W: Wait>(
+    rt: &W,
+    alloc: Global,
+    desk: &D,
+    pass: D::Pass,
+    stack: &Stack,
+    clock: &mut C,
+    gate: &G,
+) -> RoleEnd<Frame<R>, D::Pass>
+    requires ours { D.ours desk.now pass }
+    requires fresh { IsFresh 0 (D.knows pass) }
+    requires stack { stack.now ≡ R.stack }
+    ensures ours { D.ours desk.now result.pass }
+    ensures role { (D.knows result.pass).role ≡ 0 }
+    ensures moves { list_all feeder_logs (past (D.knows result.pass).made) ≡ true }
+    ensures last { IsTrue (feeder_ends (D.knows result.pass).last (past (D.knows result.pass).seen) result.want) }
+    ensures left { IsOfHand name_of parts_of length (lent_to 0 (D.knows result.pass).made) (hand 0 (past (D.knows result.pass).made))
+        result.left.input result.left.made result.left.blank }
+    ensures reclaimed { MayComeBack name_of parts_of length (run_setting R.graph R.stack) 0 (D.knows result.pass).made result.left }
+    ensures ticks { FeedsByTheClock (run_setting R.graph R.stack) (D.knows pass) (D.knows result.pass) (C.coming clock.old) (C.coming clock.new) }
+{
+    let mut pass = pass;
+    for _ in rt.forever() {
+        let tick = clock.tick();
+        match feed_round(rt, alloc, desk, &mut pass, stack, gate, tick) {
+            Round::Again => {}
+            Round::End { left, want } => return RoleEnd { pass, left, want },
+        }
+    }
+    unreachable!()
+}

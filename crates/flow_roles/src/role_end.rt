@@ -1,0 +1,53 @@
+//! How roles end.
+
+ghost use Rattle.std.specs.Prelude.{◌≡◌, None, false};
+
+use board_rules::Left;
+use edge_traits::Gate;
+use nd_base::Held;
+
+/// The end of a role: its pass, what it has of what was handed out for its hand, and whether memory was wanting.
+#[derive(Drop)]
+pub struct RoleEnd<F: Held, P> {
+    pub pass: P,
+    pub left: Left<F>,
+    pub want: bool,
+}
+
+/// What a round of a role comes to.
+#[derive(Drop)]
+pub(crate) enum Round<F: Held> {
+    /// The role goes on, with nothing in hand.
+    Again,
+    /// It has ended.
+    End { left: Left<F>, want: bool },
+}
+
+/// What a role without a hand leaves.
+pub(crate) fn nothing<F: Held>() -> Left<F>
+    ensures { result ≡ record { input = None; made = None; blank = None } }
+{
+    Left {
+        input: None,
+        made: None,
+        blank: None,
+    }
+}
+
+/// The end of a role that needs nothing more.
+pub(crate) fn ended<F: Held>() -> Round<F>
+    ensures { result ≡ Round.End (record { input = None; made = None; blank = None }) false }
+{
+    Round::End {
+        left: nothing(),
+        want: false,
+    }
+}
+
+/// Waits, and then the role goes on.
+pub(crate) fn wait<F: Held, G: Gate>(gate: &G) -> Round<F>
+    ensures { result ≡ Round.Again }
+{
+    gate.idle();
+    Round::Again
+}
