@@ -1,4 +1,4 @@
-//! Workload `journal`: a log of many entries, and its text.
+//! Workloads `log` and `journal`: a log of many entries, and its text.
 
 use flow_journal::{Entry, Log, Why, write_text};
 use std::alloc::Global;
@@ -41,12 +41,22 @@ fn entry_at(place: u32) -> Entry {
     }
 }
 
-/// Logs so many entries and writes their text. The checksum is its length.
-pub(crate) fn journal(alloc: Global, count: u32) -> Option<u64> {
+/// A log of so many entries.
+pub(crate) fn log_of(alloc: Global, count: u32) -> Option<Log> {
     let mut log = Log::new(alloc, count).ok()?;
     for place in 0..count {
         log.push(entry_at(place));
     }
-    let text = write_text(alloc, &log).ok()?;
+    Some(log)
+}
+
+/// Logs so many entries. The checksum is their number.
+pub(crate) fn log(alloc: Global, count: u32) -> Option<u64> {
+    Some(log_of(alloc, count)?.entries().len() as u64)
+}
+
+/// Logs so many entries and writes their text. The checksum is its length.
+pub(crate) fn journal(alloc: Global, count: u32) -> Option<u64> {
+    let text = write_text(alloc, &log_of(alloc, count)?).ok()?;
     Some(text.len() as u64)
 }

@@ -10,6 +10,7 @@ mod lock;
 mod measure;
 mod pool;
 mod region;
+mod report;
 mod rows;
 mod sort;
 mod stack;
@@ -64,9 +65,11 @@ fn run<T: Threads + Wait + Sync>(
         "board" => board::board(alloc, count),
         "header" => header::header(alloc, count),
         "journal" => journal::journal(alloc, count),
+        "log" => journal::log(alloc, count),
         "measure" => measure::measure(alloc, count),
         "pool" => pool::pool(alloc, count),
         "region" => region::region(alloc, count),
+        "report" => report::report(alloc, count),
         "rows" => rows::rows(alloc, count),
         "sort-rising" => sort::sort(alloc, Order::Rising, count),
         "sort-falling" => sort::sort(alloc, Order::Falling, count),
