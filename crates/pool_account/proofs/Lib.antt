@@ -1,0 +1,4 @@
+pub mod Carrying
+pub mod Ledgers
+pub mod Bounds
+pub mod Laws

@@ -1,0 +1,4 @@
+pub mod Account
+pub mod TellLaws
+pub mod HoldLaws
+pub mod EntryLaws
