@@ -1,5 +1,5 @@
 -- How many blocks a pool knows after a call.
-use Rattle.std.proofs.Common.{◌≡◌, ℕ, ◌+◌, ◌≤◌, Bool, true, false, List, [], ◌∷◌, length, nat_lt, not, filter, take, arith, refl, if◌then◌else◌}
+use Rattle.std.proofs.Common.{◌≡◌, ℕ, ◌+◌, ◌≤◌, Bool, true, false, List, [], ◌∷◌, length, nat_lt, not, filter, take, arith, if◌then◌else◌}
 use Rattle.std.proofs.lemmas.List.{length-map}
 use Rattle.pool_ledger.specs.Grants.{Answer, Refused, Granted, has_number}
 use Rattle.pool_ledger.specs.Ledger.{Known, Ledger, with_known, with_count, recounted, without, largest_first, after}
@@ -30,13 +30,7 @@ known-after p (Granted b n true given) =
     let gone = take given (largest_first p) in
     omega (arith, length-with_known (record { number = b; size = n; count = 1 }) (without gone p.known), length-filter-le (λ k. not (has_number k.number gone)) p.known)
 
--- no answer changes the room
-pub room-after : (p : Ledger) (a : Answer) → (after p a).room ≡ p.room
-room-after p Refused = refl
-room-after p (Granted b n false given) = refl
-room-after p (Granted b n true given) = refl
-
 pub length-with_count : (b count : ℕ) (ks : List Known) → length (with_count b count ks) ≡ length ks
 length-with_count b count ks = length-map ks (recounted b count)
 
-pub ruleset counts = (known-after, room-after, length-with_count)
+pub ruleset counts = (known-after, length-with_count)

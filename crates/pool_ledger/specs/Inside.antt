@@ -48,16 +48,17 @@ empty_slot = record { size = 0; count = 0 }
 abbrev pub ledger_of : Inside → Ledger
 ledger_of a = record { limit = a.limit; room = a.room; known = known_from 0 a.slots.items; unnamed = a.unnamed.items }
 
--- what a pool's tables keep
+-- What a pool's tables keep. The slots are no more than the room, which fits a number: so does the number that follows theirs, and a
+-- grant can be told where the room is used up.
 pub record IsSound (a : Inside) : Type 0 where
   pub slots_fit : length a.slots.items ≤ a.room
   pub slots_room : a.room ≤ vec_capacity a.slots
   pub room_fits : a.room < 2 ^ 32
   pub in_range : AllByRecursion (λ (s : Slot). (s.size < 2 ^ 32) × (s.size ≡ 0 → s.count ≡ 0)) a.slots.items
   pub free_keys : a.free.keys ≡ free_from 0 a.slots.items
-  pub free_room : a.free.room ≡ a.room
+  pub free_room : a.room ≤ a.free.room
   pub unused_keys : a.unused.keys ≡ unused_from 0 a.slots.items
-  pub unused_room : a.unused.room ≡ a.room
+  pub unused_room : a.room ≤ a.unused.room
   pub unnamed_fit : length a.unnamed.items + length (known_from 0 a.slots.items) ≤ a.room
   pub unnamed_room : a.room ≤ deque_capacity a.unnamed
   pub standing_is : a.standing ≡ sum_by (λ (s : Slot). s.size) a.slots.items

@@ -56,6 +56,11 @@ abbrev pub answered : ℕ → Answer → Result Grant RefusedAnswer
 answered held Refused = Err (record { held = held })
 answered held (Granted b n fresh given) = Ok (record { block = b; size = n; fresh = fresh; given_up = given })
 
+-- the answer grants a new block
+abbrev pub needs_room : Answer → Bool
+needs_room Refused = false
+needs_room (Granted b n fresh given) = fresh
+
 -- the same with so many holds, where it is the block with this number
 abbrev pub recounted : (b count : ℕ) → Known → Known
 recounted b count k = if k.number == b then record k { count = count } else k

@@ -1,10 +1,12 @@
--- What a change of holds leaves.
-use Rattle.std.specs.Prelude.{◌≡◌, ◌≢◌, ℕ, ◌<◌, true, false, not, nat_lt, ◌==◌, List, [], ◌∷◌, filter, map, refl}
+-- What a change of holds leaves, and what room is for.
+use Rattle.std.specs.Prelude.{◌≡◌, ◌≢◌, ℕ, ◌<◌, true, false, not, nat_lt, ◌==◌, List, [], ◌∷◌, filter, map, Ok, Err, refl}
 use Rattle.std.proofs.Common.{inl, inr, ap, sym, ◌∙◌, arith}
 use Rattle.std.proofs.lemmas.Bool.{eqb-true, ne_eqb, cases_Bool}
 use Rattle.pool_ledger.specs.Grants.{Block, Answer, Refused, Granted, has_number, largest_free, left_after, known_after}
 use Rattle.pool_ledger.specs.GrantLaws.{SameBlocks, same_front, same_swap, same_trans, same_itself, same_by}
-use Rattle.pool_ledger.specs.Ledger.{Known, Ledger, block_of, blocks, refs, count_of, with_count, with_refs, with_known, without, is_free, after}
+use Rattle.pool_ledger.specs.Ledger.{Known, Ledger, block_of, blocks, refs, count_of, with_count, with_refs, with_known, without, is_free, grant_for, answered, needs_room, after}
+use Rattle.pool_ledger.specs.declared.grants.Grant.{Grant}
+use Rattle.pool_ledger.specs.declared.grants.Refused.{Refused as RefusedAnswer}
 
 blocks-with_count : (b count : ℕ) (ks : List Known) → map block_of (with_count b count ks) ≡ map block_of ks
 blocks-with_count b count [] = refl
@@ -69,3 +71,17 @@ after-known p (Granted b n true given) =
     same_trans (record { number = b; size = n } ∷ left_after given (is_free p) (blocks p)) (record { number = b; size = n } ∷ map block_of (without gone p.known)) (map block_of (with_known (record { number = b; size = n; count = 1 }) (without gone p.known)))
     (same_by (record { number = b; size = n } ∷ left_after given (is_free p) (blocks p)) (record { number = b; size = n } ∷ map block_of (without gone p.known)) (ap (λ bs. record { number = b; size = n } ∷ bs) (sym left)))
     (blocks-with_known (record { number = b; size = n; count = 1 }) (without gone p.known))
+
+-- an answer that is given asks for room exactly where its block is a new one
+pub needs_room-answered : (held : ℕ) (a : Answer) (g : Grant) → answered held a ≡ Ok g → needs_room a ≡ g.fresh
+needs_room-answered held Refused g e = absurd (cc)
+needs_room-answered held (Granted b n f k) g e = cc
+
+-- and a refusal asks for none
+pub needs_room-refused : (held : ℕ) (a : Answer) (r : RefusedAnswer) → answered held a ≡ Err r → needs_room a ≡ false
+needs_room-refused held Refused r e = refl
+needs_room-refused held (Granted b n f k) r e = absurd (cc)
+
+-- room is no part of a grant
+pub grant_for-room : (n room : ℕ) (p : Ledger) → grant_for n (record p { room = room }) ≡ grant_for n p
+grant_for-room n room p = refl

@@ -1,5 +1,5 @@
-//! A set of numbers in order, which takes no memory once it is made.
-ghost use Rattle.std.specs.Prelude.{◌≡◌, ◌≢◌, ◌==◌, ◌<◌, ◌+◌, [], length, true, IfOk, vec_len, vec_capacity};
+//! A set of numbers in order, which takes memory only where room is made.
+ghost use Rattle.std.specs.Prelude.{◌≡◌, ◌≢◌, ◌==◌, ◌<◌, ◌≤◌, ◌+◌, max, [], length, true, OnOk, OnErr, vec_len, vec_capacity};
 ghost use Rattle.std.specs.List.{AllByRecursion, list_any};
 ghost use Rattle.pool_ledger.specs.Keys.{IsRising, with_key, without_key, least_from, greatest_below};
 
@@ -50,20 +50,33 @@ fn take_spare(spare: &mut Vec<Box<KeyTree>>) -> Box<KeyTree>
 }
 
 impl KeySet {
-    /// An empty set.
-    pub fn new(alloc: Global, room: u32) -> Result<KeySet, OutOfMemory>
-        ensures { IfOk result (λ s. s ≡ record { room = room; keys = [] }) }
+    /// An empty set without room.
+    pub fn new(alloc: Global) -> KeySet
+        ensures { result ≡ record { room = 0; keys = [] } }
     {
-        let forks = 2 * room as usize;
-        let mut spare = Vec::with_capacity(alloc, forks)?;
-        for _ in 0..forks {
-            spare.push_reserved(empty_tree(alloc)?);
-        }
-        Ok(KeySet {
-            room,
+        KeySet {
+            room: 0,
             tree: KeyTree::new(),
-            spare,
-        })
+            spare: Vec::new(alloc),
+        }
+    }
+
+    /// Makes room for so many keys, which are one more than it has room for at most.
+    pub fn make_room(&mut self, alloc: Global, room: u32) -> Result<(), OutOfMemory>
+        requires { room ≤ self.old.room + 1 }
+        ensures made { OnOk result (self.new ≡ record self.old { room = max self.old.room room }) }
+        ensures refused { OnErr result (self.new ≡ self.old) }
+    {
+        if room <= self.room {
+            return Ok(());
+        }
+        let low = empty_tree(alloc)?;
+        let high = empty_tree(alloc)?;
+        self.spare.reserve(2 * room as usize - self.spare.len())?;
+        self.spare.push_reserved(low);
+        self.spare.push_reserved(high);
+        self.room = room;
+        Ok(())
     }
 
     /// The least key from `bound` on.

@@ -1,7 +1,7 @@
 //! The blocks of a pool, and the holds that they have.
-ghost use Rattle.std.specs.Prelude.{◌≡◌, ◌≢◌, ℕ, ◌+◌, ◌-◌, ◌*◌, ◌/◌, ◌%◌, ◌<◌, ◌≤◌, ◌^◌, ◌↔◌, ◌∷◌, ◌++◌, [], IsTrue, IfOk, OnErr, length, take, drop, slice_get, true};
+ghost use Rattle.std.specs.Prelude.{◌≡◌, ◌≢◌, ℕ, ◌+◌, ◌-◌, ◌*◌, ◌/◌, ◌%◌, ◌<◌, ◌≤◌, ◌^◌, ◌↔◌, ◌∷◌, ◌++◌, [], IsTrue, IfOk, OnOk, OnErr, length, take, drop, slice_get, true};
 ghost use Rattle.pool_ledger.specs.Grants.{passes, given_up, new_number, left_after, free_in_order};
-ghost use Rattle.pool_ledger.specs.Ledger.{empty_ledger, blocks, refs, is_free, held, grant_for, answered, after, with_refs, with_block, without_blocks, largest_first, has_block};
+ghost use Rattle.pool_ledger.specs.Ledger.{empty_ledger, blocks, refs, is_free, held, grant_for, answered, needs_room, after, with_refs, with_block, without_blocks, largest_first, has_block};
 
 use crate::grants::{Grant, Refused};
 use crate::key_set::KeySet;
@@ -22,7 +22,7 @@ struct Slot {
 
 /// A pool of blocks, each with a number, a size in bytes and a count of holds.
 ///
-/// A block without a hold is free. No call but `new` takes memory.
+/// A block without a hold is free. No call but `make_room` takes memory.
 #[derive(Drop)]
 pub struct Pool {
     limit: u64,
@@ -61,22 +61,39 @@ fn key_of(size: u32, number: u32) -> u64
 }
 
 impl Pool {
-    /// An empty pool with a limit in bytes, where 0 is no limit, and room for so many blocks.
-    ///
-    /// This is the only call that takes memory.
-    pub fn new(alloc: Global, limit: u64, room: u32) -> Result<Pool, OutOfMemory>
-        ensures { IfOk result (λ p. p ≡ empty_ledger limit room) }
+    /// An empty pool with a limit in bytes, where 0 is no limit. It has no room for a block yet.
+    pub fn new(alloc: Global, limit: u64) -> Result<Pool, OutOfMemory>
+        ensures { IfOk result (λ p. p ≡ empty_ledger limit 0) }
     {
         Ok(Pool {
             limit,
-            room,
-            slots: Vec::with_capacity(alloc, room as usize)?,
-            free: KeySet::new(alloc, room)?,
-            unused: KeySet::new(alloc, room)?,
-            unnamed: VecDeque::with_capacity(alloc, room as usize)?,
+            room: 0,
+            slots: Vec::new(alloc),
+            free: KeySet::new(alloc),
+            unused: KeySet::new(alloc),
+            unnamed: VecDeque::new(alloc),
             standing: 0,
             held: 0,
         })
+    }
+
+    /// Takes the memory that one more new block needs. It changes nothing but the room.
+    pub fn make_room(&mut self, alloc: Global) -> Result<(), OutOfMemory>
+        requires { length self.old.known < 4294967295 }
+        ensures made { OnOk result (length self.new.known < self.new.room) }
+        ensures rest { self.new ≡ record self.old { room = self.new.room } }
+        ensures refused { OnErr result (self.new ≡ self.old) }
+    {
+        if self.slots.len() < self.room as usize || self.room == u32::MAX {
+            return Ok(());
+        }
+        let room = self.room + 1;
+        self.slots.reserve(1)?;
+        self.unnamed.reserve(room as usize - self.unnamed.len())?;
+        self.free.make_room(alloc, room)?;
+        self.unused.make_room(alloc, room)?;
+        self.room = room;
+        Ok(())
     }
 
     /// The holds of a block, 0 where no block has this number.
@@ -124,8 +141,7 @@ impl Pool {
 
     /// What `ask` would answer now.
     pub fn peek(&self, n: u32) -> Result<Grant, Refused>
-        requires some { n ≢ 0 }
-        requires room { length self.now.known < self.now.room }
+        requires { n ≢ 0 }
         ensures { result ≡ answered (held self.now) (grant_for n self.now) }
     {
         if self.passes_limit(self.held, n) {
@@ -144,11 +160,11 @@ impl Pool {
 
     /// Grants a block of at least `n` bytes, and gives it one hold.
     ///
-    /// A free block that is large enough serves first. Else a new block is made, and free blocks are given up where
-    /// the limit asks for it; `given_next` names them.
+    /// A free block that is large enough serves first. Else a new block is made, for which there has to be room, and
+    /// free blocks are given up where the limit asks for it; `given_next` names them.
     pub fn ask(&mut self, n: u32) -> Result<Grant, Refused>
         requires some { n ≢ 0 }
-        requires room { length self.old.known < self.old.room }
+        requires room { needs_room (grant_for n self.old) ≡ true → length self.old.known < self.old.room }
         requires named { self.old.unnamed ≡ [] }
         ensures answer { result ≡ answered (held self.old) (grant_for n self.old) }
         ensures after { self.new ≡ after self.old (grant_for n self.old) }

@@ -12,8 +12,10 @@ const fn fresh(block: u32, size: u32, given_up: u32) -> Result<Grant, Refused> {
 
 #[test]
 fn a_limit_of_ten_is_shared_by_reuse_and_giving_up(rt: HostRuntime) -> Result<(), Fail> {
-    let mut pool = Pool::new(rt.alloc(), 10, 8)?;
+    let mut pool = Pool::new(rt.alloc(), 10)?;
+    pool.make_room(rt.alloc())?;
     assert_eq!(rt; pool.ask(4), fresh(0, 4, 0));
+    pool.make_room(rt.alloc())?;
     assert_eq!(rt; pool.ask(6), fresh(1, 6, 0));
     assert_eq!(rt; pool.ask(1), Err(Refused { held: 10 }));
     assert!(rt; pool.drop_hold(1));
@@ -28,6 +30,7 @@ fn a_limit_of_ten_is_shared_by_reuse_and_giving_up(rt: HostRuntime) -> Result<()
     );
     assert!(rt; pool.drop_hold(0));
     assert!(rt; pool.drop_hold(1));
+    pool.make_room(rt.alloc())?;
     assert_eq!(rt; pool.ask(7), fresh(0, 7, 2));
     assert_eq!(rt; pool.given_next(), Some(1));
     assert_eq!(rt; pool.given_next(), Some(0));
@@ -38,9 +41,10 @@ fn a_limit_of_ten_is_shared_by_reuse_and_giving_up(rt: HostRuntime) -> Result<()
 
 #[test]
 fn a_limit_of_exactly_the_need_is_enough(rt: HostRuntime) -> Result<(), Fail> {
-    let mut pool = Pool::new(rt.alloc(), 4, 2)?;
+    let mut pool = Pool::new(rt.alloc(), 4)?;
     assert_eq!(rt; pool.peek(5), Err(Refused { held: 0 }));
     assert_eq!(rt; pool.peek(4), fresh(0, 4, 0));
+    pool.make_room(rt.alloc())?;
     assert_eq!(rt; pool.ask(4), fresh(0, 4, 0));
     assert_eq!(rt; pool.peek(1), Err(Refused { held: 4 }));
     Ok(())
@@ -48,7 +52,8 @@ fn a_limit_of_exactly_the_need_is_enough(rt: HostRuntime) -> Result<(), Fail> {
 
 #[test]
 fn holds_are_counted_and_a_block_is_free_at_its_last_drop(rt: HostRuntime) -> Result<(), Fail> {
-    let mut pool = Pool::new(rt.alloc(), 0, 2)?;
+    let mut pool = Pool::new(rt.alloc(), 0)?;
+    pool.make_room(rt.alloc())?;
     assert_eq!(rt; pool.ask(3), fresh(0, 3, 0));
     pool.hold(0);
     assert_eq!(rt; pool.refs(0), 2);

@@ -4,6 +4,5 @@ use Rattle.nd_bench.proofs.pool.pool.Given as goal
 abbrev pub invariant-loop-frame : goal.invariant-loop-frame
 invariant-loop-frame l = record {
   known : length l.pool.known ≤ l.frame;
-  room : l.count ≤ l.pool.room;
   named : l.pool.unnamed ≡ [];
 }
