@@ -4,7 +4,7 @@ use Rattle.std.proofs.Common.{inl, inr, ap, sym, ◌∙◌, arith}
 use Rattle.std.proofs.lemmas.Bool.{eqb-true, ne_eqb, cases_Bool}
 use Rattle.pool_ledger.specs.Grants.{Block, Answer, Refused, Granted, has_number, largest_free, left_after, known_after}
 use Rattle.pool_ledger.specs.GrantLaws.{SameBlocks, same_front, same_swap, same_trans, same_itself, same_by}
-use Rattle.pool_ledger.specs.Ledger.{Known, Ledger, block_of, blocks, refs, count_of, with_count, with_refs, with_known, without, is_free, grant_for, answered, needs_room, after}
+use Rattle.pool_ledger.specs.Ledger.{Known, Ledger, block_of, blocks, refs, count_of, with_count, with_refs, with_known, without, is_free, answered, needs_room, after}
 use Rattle.pool_ledger.specs.declared.grants.Grant.{Grant}
 use Rattle.pool_ledger.specs.declared.grants.Refused.{Refused as RefusedAnswer}
 
@@ -81,7 +81,3 @@ needs_room-answered held (Granted b n f k) g e = cc
 pub needs_room-refused : (held : ℕ) (a : Answer) (r : RefusedAnswer) → answered held a ≡ Err r → needs_room a ≡ false
 needs_room-refused held Refused r e = refl
 needs_room-refused held (Granted b n f k) r e = absurd (cc)
-
--- room is no part of a grant
-pub grant_for-room : (n room : ℕ) (p : Ledger) → grant_for n (record p { room = room }) ≡ grant_for n p
-grant_for-room n room p = refl

@@ -11,28 +11,32 @@ const fn fresh(block: u32, size: u32, given_up: u32) -> Result<Grant, Refused> {
 }
 
 #[test]
-fn a_limit_of_ten_is_shared_by_reuse_and_giving_up(rt: HostRuntime) -> Result<(), Fail> {
+fn a_free_block_is_granted_again(rt: HostRuntime) -> Result<(), Fail> {
     let mut pool = Pool::new(rt.alloc(), 10)?;
     pool.make_room(rt.alloc())?;
-    assert_eq!(rt; pool.ask(4), fresh(0, 4, 0));
-    pool.make_room(rt.alloc())?;
-    assert_eq!(rt; pool.ask(6), fresh(1, 6, 0));
-    assert_eq!(rt; pool.ask(1), Err(Refused { held: 10 }));
-    assert!(rt; pool.drop_hold(1));
+    assert_eq!(rt; pool.ask(6), fresh(0, 6, 0));
+    assert_eq!(rt; pool.peek(5), Err(Refused { held: 6 }));
+    assert!(rt; pool.drop_hold(0));
     assert_eq!(rt;
         pool.ask(5),
         Ok(Grant {
-            block: 1,
+            block: 0,
             size: 6,
             fresh: false,
             given_up: 0
         })
     );
-    assert!(rt; pool.drop_hold(0));
-    assert!(rt; pool.drop_hold(1));
+    Ok(())
+}
+
+#[test]
+fn a_free_block_is_given_up_and_named(rt: HostRuntime) -> Result<(), Fail> {
+    let mut pool = Pool::new(rt.alloc(), 10)?;
     pool.make_room(rt.alloc())?;
-    assert_eq!(rt; pool.ask(7), fresh(0, 7, 2));
-    assert_eq!(rt; pool.given_next(), Some(1));
+    assert_eq!(rt; pool.ask(6), fresh(0, 6, 0));
+    assert!(rt; pool.drop_hold(0));
+    pool.make_room(rt.alloc())?;
+    assert_eq!(rt; pool.ask(7), fresh(0, 7, 1));
     assert_eq!(rt; pool.given_next(), Some(0));
     assert_eq!(rt; pool.given_next(), None);
     assert_eq!(rt; pool.ask(4), Err(Refused { held: 7 }));

@@ -1,4 +1,4 @@
-use Rattle.std.proofs.Common.{◌≡◌, ◌<◌, length, ap, sym, arith, rules}
+use Rattle.std.proofs.Common.{length, ap, arith}
 use Rattle.pool_ledger.specs.Ledger.{Ledger}
 use Rattle.pool_ledger.proofs.SlotLists.{length-known_from}
 use Rattle.pool_ledger.proofs.pools.Pool.make_room.Goals as goal
