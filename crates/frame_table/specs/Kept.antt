@@ -78,8 +78,8 @@ at_home size (Frame a (Some p)) = Some ((p.here == 2 ^ 32) && (p.size == size))
 at_home size (Storage n) = Some (n == size)
 
 -- the storage was made anew: exactly where it isn't at home, where that is told
-abbrev pub IsRegrown : Option Bool → Bool → Type 0
-IsRegrown home regrown = IfSome home (λ h. regrown ≡ not h)
+abbrev pub IsMadeAnew : Option Bool → Bool → Type 0
+IsMadeAnew home regrown = IfSome home (λ h. regrown ≡ not h)
 
 -- no storage of this size is at home, where that is told
 abbrev pub IsAway : Option Bool → Type 0

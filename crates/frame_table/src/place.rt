@@ -1,7 +1,7 @@
 //! The place of a block.
 
 ghost use Rattle.std.specs.Prelude.{◌≡◌, IfOk, IfErr, is_err};
-ghost use Rattle.frame_table.specs.Kept.{at_home, IsLeft, IsRegrown};
+ghost use Rattle.frame_table.specs.Kept.{at_home, IsLeft, IsMadeAnew};
 ghost use Rattle.frame_table.specs.Places.{kept};
 
 use nd_base::Held;
@@ -18,7 +18,7 @@ impl<F: Held> Place<F> {
     /// The storage of this size that is at home here, or else what stays here.
     pub(crate) fn into_storage(self, size: u32) -> Result<F::Blank, Place<F>>
         ensures size { IfOk result (λ blank. F.bytes_of blank ≡ size) }
-        ensures home { IsRegrown (at_home size (kept F.name_of F.parts F.bytes_of self)) (is_err result) }
+        ensures home { IsMadeAnew (at_home size (kept F.name_of F.parts F.bytes_of self)) (is_err result) }
         ensures left { IfErr result (λ p. IsLeft size (kept F.name_of F.parts F.bytes_of self) (kept F.name_of F.parts F.bytes_of p)) }
     {
         let blank = match self {

@@ -1,6 +1,6 @@
 //! A frame on shared storage, which does not tell its parts, for tests.
 
-ghost use Rattle.std.specs.Prelude.{◌≡◌, ◌^◌, ◌<◌};
+ghost use Rattle.std.specs.Prelude.{◌≡◌, IfOk};
 
 use nd_base::{FrameName, Held, Named, OutOfMemory, Run};
 use std::alloc::Global;
@@ -16,7 +16,7 @@ pub struct SharedBlank {
 /// A frame on shared storage.
 #[derive(Drop)]
 pub struct SharedFrame<R: Run> {
-    name: FrameName,
+    pub name: FrameName,
     blank: Arc<SharedBlank, Global>,
     run: PhantomData<R>,
 }
@@ -27,11 +27,9 @@ impl SharedBlank {
     /// # Errors
     ///
     /// Only for want of memory.
-    pub fn seal<R: Run>(
-        self,
-        alloc: Global,
-        name: FrameName,
-    ) -> Result<SharedFrame<R>, OutOfMemory> {
+    pub fn seal<R: Run>(self, alloc: Global, name: FrameName) -> Result<SharedFrame<R>, OutOfMemory>
+        ensures { IfOk result (λ frame. frame.name ≡ name) }
+    {
         Ok(SharedFrame {
             name,
             blank: Arc::new(alloc, self)?,

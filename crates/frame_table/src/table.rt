@@ -1,7 +1,7 @@
 //! The table.
 
 ghost use Rattle.std.specs.Prelude.{◌≡◌, ◌<◌, ◌≤◌, [], length, IfOk, OnOk, OnErr};
-ghost use Rattle.frame_table.specs.Kept.{Empty, Frame, Storage, kept_at, with_kept, with_room, MayLend, IsPartOf, less_one, IsUntold, MayGiveBack, united, at_home, IsRegrown, IsAway, IsSized, IsRefused};
+ghost use Rattle.frame_table.specs.Kept.{Empty, Frame, Storage, kept_at, with_kept, with_room, MayLend, IsPartOf, less_one, IsUntold, MayGiveBack, united, at_home, IsMadeAnew, IsAway, IsSized, IsRefused};
 
 use crate::place::Place;
 use nd_base::{Held, OutOfMemory};
@@ -134,7 +134,7 @@ impl<F: Held> FrameTable<F> {
     ) -> Result<Taken<F::Blank>, OutOfMemory>
         requires { block < length self.old }
         ensures size { IfOk result (λ taken. F.bytes_of taken.blank ≡ size) }
-        ensures regrown { IfOk result (λ taken. IsRegrown (at_home size (kept_at self.old block)) taken.regrown) }
+        ensures regrown { IfOk result (λ taken. IsMadeAnew (at_home size (kept_at self.old block)) taken.regrown) }
         ensures place { OnOk result (self.new ≡ with_kept self.old block Empty) }
         ensures away { OnErr result (IsAway (at_home size (kept_at self.old block))) }
         ensures same { IsSized size (kept_at self.old block) → OnErr result (self.new ≡ self.old) }
