@@ -494,7 +494,7 @@ reclaims-once s (Reclaim q ∷ P) r h =
         ]
 reclaims-once s (_ ∷ P) r h = reclaims-once s P r (and_parts _ _ h).0
 
-reclaims-few : (s : Setting) (P : Past) → is_legal s P ≡ true → count is_reclaim P ≤ last_role s
+pub reclaims-few : (s : Setting) (P : Past) → is_legal s P ≡ true → count is_reclaim P ≤ last_role s
 reclaims-few s P h = one_in_buckets is_reclaim role_of (λ r e. reclaims r e) reclaim-buckets (last_role s) P (λ r. reclaims-once s P r h)
 
 -- ALL ENTRIES

@@ -1,0 +1,3 @@
+pub mod ToldLogs
+pub mod Inside
+pub mod ReclaimLaws
