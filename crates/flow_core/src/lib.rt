@@ -12,8 +12,6 @@ mod facts;
 mod hand;
 mod laws;
 mod measures;
-mod shared_frame;
-mod test_frame;
 #[cfg(test)]
 mod tests;
 
@@ -21,5 +19,3 @@ pub use answers::{Done, HandName, Load, NotYours, Save, Settled, Take};
 pub use board::Board;
 pub use laws::logs_are_histories;
 pub use measures::Measures;
-pub use shared_frame::{SharedBlank, SharedFrame};
-pub use test_frame::{TestBlank, TestFrame};

@@ -3,10 +3,9 @@
 ghost use Rattle.std.specs.Prelude.{◌≡◌, ◌≤◌, IfOk, None, false};
 ghost use Rattle.flow_core.specs.Worked.{side, worked_graph, IsWorked, IsWorkedPlan, HasFrames};
 
-use crate::{
-    Board, Done, HandName, Load, NotYours, Save, Settled, Take, TestFrame, logs_are_histories,
-};
+use crate::{Board, Done, HandName, Load, NotYours, Save, Settled, Take, logs_are_histories};
 use flow_journal::{Entry, Log, Why};
+use frame_table::TestFrame;
 use nd_base::SampleType::UInt8;
 use nd_base::{
     Dim, FileRule, Form, FrameName, Graph, Kind, Maker, Mode, Name, NodeRule, Plan, Run, Seq,

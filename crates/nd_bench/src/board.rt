@@ -3,7 +3,8 @@
 ghost use Rattle.std.specs.Prelude.{◌≡◌, ◌≤◌, [], false, IfSome, length};
 ghost use Rattle.flow_core.specs.Worked.{side, worked_graph, IsWorked, IsWorkedPlan, HasFrames};
 
-use flow_core::{Board, Done, Load, Save, Settled, Take, TestFrame};
+use flow_core::{Board, Done, Load, Save, Settled, Take};
+use frame_table::TestFrame;
 use nd_base::SampleType::UInt8;
 use nd_base::{
     Dim, FileRule, Form, FrameName, Graph, Kind, Maker, Mode, Name, NodeRule, Plan, Run, Seq,
