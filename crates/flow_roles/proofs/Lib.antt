@@ -9,3 +9,5 @@ pub mod Named
 pub mod WorkerCalls
 pub mod Results
 pub mod Reclaims
+pub mod TurnCalls
+pub mod TurnJoins

@@ -7,3 +7,4 @@ pub mod RoleEnds
 pub mod Feeder
 pub mod Worker
 pub mod FeederTicks
+pub mod TurnPasses

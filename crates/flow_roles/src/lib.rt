@@ -13,6 +13,7 @@ mod operation;
 mod played;
 mod plays;
 mod role_end;
+mod turn_desk;
 mod working;
 
 pub use desk::Desk;
@@ -23,4 +24,5 @@ pub use operation::{DeskOp, DeskReply};
 pub use played::Played;
 pub use plays::{operations_are_moves, play};
 pub use role_end::RoleEnd;
+pub use turn_desk::{TurnPass, share_board, take_back};
 pub use working::work_role;

@@ -1,0 +1,289 @@
+//! A board that roles share under the turn lock.
+
+ghost use Rattle.std.specs.Prelude.{◌≡◌, ℕ, ◌<◌, ◌≤◌, ◌+◌, true, [], reverse, All, Any, Some, slice_get, length, vec_len, IfOk};
+ghost use Rattle.flow_journal.specs.Setting.{last_role};
+ghost use Rattle.flow_journal.specs.Histories.{is_history};
+ghost use Rattle.board_rules.specs.States.{past};
+ghost use Rattle.board_rules.specs.Movers.{moves_by};
+ghost use Rattle.board_rules.specs.RunMeasures.{run_setting, run_measure};
+ghost use Rattle.flow_roles.specs.declared.last.Last.{Last};
+ghost use Rattle.flow_roles.specs.Passes.{Called, only_drain_saves};
+ghost use Rattle.flow_roles.specs.Operations.{frames_of, role_of, MayPlay, Replies, Lends};
+ghost use Rattle.flow_roles.specs.TurnPasses.{HasOneRole, role_in, moves_in, known_by, IsPassOf, IsFreshOf, IsWithin, HasMade};
+
+use crate::{
+    Desk, DeskOp, DeskReply, Last, Played, after_close, after_issue, after_load, after_progress,
+    after_take,
+};
+use board_rules::{BoardCalls, Done, Load, NotYours, Save, Settled, Take};
+use flow_journal::Progress;
+use nd_base::{Held, OutOfMemory};
+use std::alloc::Global;
+use std::sync::Wait;
+use turn_lock::{Pass, TurnLock};
+
+/// What a role makes its calls with, where the board is under a turn lock.
+#[derive(Drop)]
+pub struct TurnPass<F: Held, B: BoardCalls<F>> {
+    pub inner: Pass<Played<F, B>>,
+    pub last: Last,
+}
+
+// One call of the board, in the role's turn.
+fn make<F: Held, B: BoardCalls<F>, W: Wait>(
+    desk: &TurnLock<Played<F, B>>,
+    rt: &W,
+    alloc: Global,
+    pass: &mut Pass<Played<F, B>>,
+    op: DeskOp<F>,
+) -> DeskReply<F>
+    requires ours { IsPassOf desk.now.id pass.old }
+    requires role { role_in pass.old.made ≡ role_of op }
+    requires may { MayPlay (frames_of F.name_of F.parts F.bytes_of (run_measure F.Of.graph F.Of.stack)) (run_setting F.Of.graph F.Of.stack)
+        (reverse (moves_in pass.old.made)) op }
+    ensures ours { IsPassOf desk.now.id pass.new }
+    ensures called { (before answered : Last) → Called (run_setting F.Of.graph F.Of.stack)
+        (λ old new. Replies (frames_of F.name_of F.parts F.bytes_of (run_measure F.Of.graph F.Of.stack)) (run_setting F.Of.graph F.Of.stack) old op result new)
+        answered (known_by pass.old before) (known_by pass.new answered) }
+    ensures lends { Lends (frames_of F.name_of F.parts F.bytes_of (run_measure F.Of.graph F.Of.stack)) (run_setting F.Of.graph F.Of.stack) op result
+        (reverse (moves_in pass.new.made)) }
+{
+    desk.call(rt, alloc, pass, op)
+}
+
+impl<F: Held, B: BoardCalls<F>> Desk<F> for TurnLock<Played<F, B>> {
+    type Pass = TurnPass<F, B>;
+
+    ghost ours = { λ l p. IsPassOf l.id p.inner };
+
+    ghost knows = { λ p. known_by p.inner p.last };
+
+    fn load<W: Wait>(
+        &self,
+        rt: &W,
+        alloc: Global,
+        pass: &mut TurnPass<F, B>,
+        role: u32,
+        tick: u64,
+    ) -> Load<F::Blank> {
+        match make(self, rt, alloc, &mut pass.inner, DeskOp::Load { role, tick }) {
+            DeskReply::Load(answer) => {
+                pass.last = after_load(&answer);
+                answer
+            }
+            _ => unreachable!(),
+        }
+    }
+
+    fn issue<W: Wait>(
+        &self,
+        rt: &W,
+        alloc: Global,
+        pass: &mut TurnPass<F, B>,
+        role: u32,
+        frame: F,
+    ) -> Result<(), NotYours<F>> {
+        match make(self, rt, alloc, &mut pass.inner, DeskOp::Issue { role, frame }) {
+            DeskReply::Issue(answer) => {
+                pass.last = after_issue(&answer);
+                answer
+            }
+            _ => unreachable!(),
+        }
+    }
+
+    fn take<W: Wait>(
+        &self,
+        rt: &W,
+        alloc: Global,
+        pass: &mut TurnPass<F, B>,
+        role: u32,
+        node: u32,
+    ) -> Take<F> {
+        match make(self, rt, alloc, &mut pass.inner, DeskOp::Take { role, node }) {
+            DeskReply::Take(answer) => {
+                pass.last = after_take(&answer);
+                answer
+            }
+            _ => unreachable!(),
+        }
+    }
+
+    fn put<W: Wait>(
+        &self,
+        rt: &W,
+        alloc: Global,
+        pass: &mut TurnPass<F, B>,
+        role: u32,
+        done: Done<F>,
+    ) -> Result<(), NotYours<F>> {
+        match make(self, rt, alloc, &mut pass.inner, DeskOp::Put { role, done }) {
+            DeskReply::Put(answer) => {
+                pass.last = after_issue(&answer);
+                answer
+            }
+            _ => unreachable!(),
+        }
+    }
+
+    fn settle<W: Wait>(
+        &self,
+        rt: &W,
+        alloc: Global,
+        pass: &mut TurnPass<F, B>,
+        role: u32,
+        node: u32,
+    ) -> Settled {
+        match make(self, rt, alloc, &mut pass.inner, DeskOp::Settle { role, node }) {
+            DeskReply::Settle(answer) => {
+                pass.last = Last::Other;
+                answer
+            }
+            _ => unreachable!(),
+        }
+    }
+
+    fn close<W: Wait>(
+        &self,
+        rt: &W,
+        alloc: Global,
+        pass: &mut TurnPass<F, B>,
+        role: u32,
+    ) -> Settled {
+        match make(self, rt, alloc, &mut pass.inner, DeskOp::Close { role }) {
+            DeskReply::Close(answer) => {
+                pass.last = after_close(answer);
+                answer
+            }
+            _ => unreachable!(),
+        }
+    }
+
+    fn leave<W: Wait>(&self, rt: &W, alloc: Global, pass: &mut TurnPass<F, B>, role: u32) {
+        match make(self, rt, alloc, &mut pass.inner, DeskOp::Leave { role }) {
+            DeskReply::Leave => pass.last = Last::Gone,
+            _ => unreachable!(),
+        }
+    }
+
+    fn save<W: Wait>(
+        &self,
+        rt: &W,
+        alloc: Global,
+        pass: &mut TurnPass<F, B>,
+        role: u32,
+        node: u32,
+    ) -> Save<F> {
+        match make(self, rt, alloc, &mut pass.inner, DeskOp::Save { role, node }) {
+            DeskReply::Save(answer) => {
+                pass.last = Last::Other;
+                answer
+            }
+            _ => unreachable!(),
+        }
+    }
+
+    fn saved<W: Wait>(
+        &self,
+        rt: &W,
+        alloc: Global,
+        pass: &mut TurnPass<F, B>,
+        role: u32,
+        frame: F,
+    ) -> Result<(), NotYours<F>> {
+        match make(self, rt, alloc, &mut pass.inner, DeskOp::Saved { role, frame }) {
+            DeskReply::Saved(answer) => {
+                pass.last = after_issue(&answer);
+                answer
+            }
+            _ => unreachable!(),
+        }
+    }
+
+    fn progress<W: Wait>(
+        &self,
+        rt: &W,
+        alloc: Global,
+        pass: &mut TurnPass<F, B>,
+        role: u32,
+    ) -> Progress {
+        match make(self, rt, alloc, &mut pass.inner, DeskOp::Progress { role }) {
+            DeskReply::Progress(answer) => {
+                pass.last = after_progress(answer);
+                answer
+            }
+            _ => unreachable!(),
+        }
+    }
+}
+
+/// A board that nobody has called under a turn lock, with a pass for each of so many roles: pass k, from 0, is that of role k.
+///
+/// # Errors
+///
+/// `OutOfMemory`: the board is gone then.
+pub fn share_board<F: Held, B: BoardCalls<F>>(
+    alloc: Global,
+    board: B,
+    roles: u32,
+) -> Result<(TurnLock<Played<F, B>>, Vec<TurnPass<F, B>>), OutOfMemory>
+    requires started { B.shown board ≡ [] }
+    requires some { 0 < roles }
+    ensures seats { IfOk result (λ r. (r.0.seats ≡ roles) × (vec_len r.1 ≡ roles)) }
+    ensures fresh { IfOk result (λ r. (k : ℕ) (p : _) → slice_get r.1.items k ≡ Some p → IsFreshOf r.0.id k p.inner p.last) }
+{
+    let (desk, inners) = TurnLock::new(alloc, Played::new(board), roles)?;
+    let passes = inners
+        .into_iter()
+        .map(|inner| TurnPass {
+            inner,
+            last: Last::Fresh,
+        })
+        .collect(alloc)?;
+    Ok((desk, passes))
+}
+
+// The passes of all roles as one.
+fn join_all<F: Held, B: BoardCalls<F>>(
+    desk: &TurnLock<Played<F, B>>,
+    mut passes: Vec<TurnPass<F, B>>,
+) -> Pass<Played<F, B>>
+    requires ours { All (λ p. IsPassOf desk.now.id p.inner) passes.items }
+    requires some { 0 < vec_len passes }
+    ensures lock { result.lock ≡ desk.now.id }
+    ensures roles { length result.made ≡ vec_len passes }
+    ensures each { All (λ p. IsWithin p.inner result) passes.items }
+    ensures seen { Any (λ p. p.inner.seen ≡ result.seen) passes.items }
+{
+    let TurnPass { inner, last: _ } = passes.pop().unwrap();
+    let mut keep = inner;
+    while let Some(pass) = passes.pop() {
+        let TurnPass { inner, last: _ } = pass;
+        desk.join(&mut keep, inner);
+    }
+    keep
+}
+
+/// The board again, once the passes of all roles are back. All that a pass has seen stands there, and of its role's moves just
+/// those that the pass made; and no other role has made any.
+pub fn take_back<F: Held, B: BoardCalls<F>>(
+    desk: TurnLock<Played<F, B>>,
+    passes: Vec<TurnPass<F, B>>,
+) -> B
+    requires ours { All (λ p. IsPassOf desk.id p.inner) passes.items }
+    requires all { (0 < vec_len passes) × (vec_len passes ≡ desk.seats) }
+    ensures moves { All (λ p. HasMade (B.shown result) (known_by p.inner p.last)) passes.items }
+    ensures seen { Any (λ p. (known_by p.inner p.last).seen ≡ B.shown result) passes.items }
+    ensures others { (r : ℕ) → desk.seats ≤ r → moves_by r (B.shown result) ≡ [] }
+    ensures legal { is_history (run_setting F.Of.graph F.Of.stack) (past (B.shown result)) ≡ true }
+    ensures drained { only_drain_saves (run_setting F.Of.graph F.Of.stack) (past (B.shown result)) ≡ true }
+{
+    let keep = join_all(&desk, passes);
+    match desk.close(keep) {
+        Ok(played) => {
+            let Played { board, frames: _ } = played;
+            board
+        }
+        Err(_) => unreachable!(),
+    }
+}
