@@ -1,5 +1,5 @@
 -- What a call of the turn lock says in the words of a desk.
-use Rattle.std.proofs.Common.{◌≡◌, ℕ, ◌≤◌, true, List, [], ◌∷◌, ◌++◌, refl, sym, ap, ◌∙◌, subst, subst₂, Option, Some, None}
+use Rattle.std.proofs.Common.{◌≡◌, ℕ, ◌≤◌, true, List, [], ◌∷◌, ◌++◌, refl, sym, ap, ◌∙◌, subst, subst₂, Option, Some, None, Result}
 use Rattle.std.specs.Prelude.{reverse}
 use Rattle.std.proofs.lemmas.List.{reverse-reverse, reverse-append}
 use Rattle.nd_base.specs.Parts.{Parts}
@@ -14,13 +14,17 @@ use Rattle.board_rules.specs.declared.answers.Take.{Take}
 use Rattle.board_rules.specs.declared.answers.Take.TheVariants.{Job}
 use Rattle.board_rules.specs.declared.answers.Save.{Save}
 use Rattle.board_rules.specs.declared.answers.Save.TheVariants.{Piece}
+use Rattle.board_rules.specs.declared.answers.NotYours.{NotYours}
+use Rattle.board_rules.specs.declared.answers.Done.{Done}
+use Rattle.board_rules.specs.declared.answers.Settled.{Settled}
+use Rattle.flow_journal.specs.declared.progress.Progress.{Progress}
 use Rattle.board_rules.specs.States.{BoardState, past, lent_to, begins}
 use Rattle.board_rules.specs.Movers.{moves_by, IsMoveOf}
 use Rattle.board_rules.specs.InHand.{granted_size, OfSome}
 use Rattle.board_rules.specs.Feeding.{HasRoom}
 use Rattle.board_rules.specs.Working.{LendsJob}
 use Rattle.board_rules.specs.Saving.{LendsPiece}
-use Rattle.board_rules.specs.Runs.{Frames}
+use Rattle.board_rules.specs.Runs.{Frames, Call}
 use Rattle.board_rules.proofs.Moves.{moves-tell}
 use Rattle.turn_lock.specs.declared.rule.Moves.{Moves}
 use Rattle.turn_lock.specs.Logs.{GoesOn, IsMove, moves_of}
@@ -34,7 +38,7 @@ use Rattle.flow_roles.specs.declared.operation.DeskOp.TheVariants as op
 use Rattle.flow_roles.specs.declared.operation.DeskReply.{DeskReply}
 use Rattle.flow_roles.specs.declared.operation.DeskReply.TheVariants as reply
 use Rattle.flow_roles.specs.Passes.{Pass, Called, only_drain_saves}
-use Rattle.flow_roles.specs.Operations.{role_of, begins_of, MayPlay, MayBePlayed, Replies, Lends, IsPlayed}
+use Rattle.flow_roles.specs.Operations.{role_of, begins_of, MayPlay, MayBePlayed, call_of, GivesCall, Replies, Lends, IsPlayed}
 use Rattle.flow_roles.specs.TurnPasses.{HasOneRole, role_in, moves_in, known_by}
 use Rattle.flow_roles.proofs.Reversed.{moves_reversed}
 
@@ -68,25 +72,26 @@ moves-back r log mine is =
 
 -- A CALL
 
+pub may-call : {F B : Type 0} (fs : Frames F B) (s : Setting) (o : DeskOp F) (made : List (Moves Told)) → HasOneRole made → role_in made ≡ role_of o
+    → MayPlay fs s (reverse (moves_in made)) o → MayCall (role_of o) (λ (mine : List Told). MayBePlayed fs s mine o) made
+may-call fs s o [] one is h = absurd one
+may-call fs s o (m ∷ []) one is h = (is, h)
+may-call fs s o (m ∷ n ∷ ms) one is h = absurd one
+
+-- the role's moves grow by what the call adds
+one-more : (added : List Told) (made : List (Moves Told)) → HasOneRole made
+    → HasOneRole (adds added made) × (role_in (adds added made) ≡ role_in made) × (reverse (moves_in (adds added made)) ≡ reverse added ++ reverse (moves_in made))
+one-more added [] one = absurd one
+one-more added (m ∷ []) one = (tt, refl, reverse-append m.entries added)
+one-more added (m ∷ n ∷ ms) one = absurd one
+
+-- of its one role the pass has made just these moves
+pub exact-one : (log : List Told) (made : List (Moves Told)) → HasOneRole made → AreExact begins_of log made → moves_by (role_in made) (reverse log) ≡ reverse (moves_in made)
+exact-one log [] one a = absurd one
+exact-one log (m ∷ []) one a = moves-back m.role log m.entries a.0
+exact-one log (m ∷ n ∷ ms) one a = absurd one
+
 module _ {F B O : Type 0} (fs : Frames F B) (s : Setting) where
-  pub may-call : (o : DeskOp F) (made : List (Moves Told)) → HasOneRole made → role_in made ≡ role_of o → MayPlay fs s (reverse (moves_in made)) o
-      → MayCall (role_of o) (λ (mine : List Told). MayBePlayed fs s mine o) made
-  may-call o [] one is h = absurd one
-  may-call o (m ∷ []) one is h = (is, h)
-  may-call o (m ∷ n ∷ ms) one is h = absurd one
-
-  -- the role's moves grow by what the call adds
-  one-more : (added : List Told) (made : List (Moves Told)) → HasOneRole made
-      → HasOneRole (adds added made) × (role_in (adds added made) ≡ role_in made) × (reverse (moves_in (adds added made)) ≡ reverse added ++ reverse (moves_in made))
-  one-more added [] one = absurd one
-  one-more added (m ∷ []) one = (tt, refl, reverse-append m.entries added)
-  one-more added (m ∷ n ∷ ms) one = absurd one
-
-  exact-one : (log : List Told) (made : List (Moves Told)) → HasOneRole made → AreExact begins_of log made → moves_by (role_in made) (reverse log) ≡ reverse (moves_in made)
-  exact-one log [] one a = absurd one
-  exact-one log (m ∷ []) one a = moves-back m.role log m.entries a.0
-  exact-one log (m ∷ n ∷ ms) one a = absurd one
-
   pub calls-one : (o : DeskOp F) (answer : DeskReply F B O) (old new : PassFacts Told) → HasOneRole old.made
       → lock.Called begins_of (role_of o) (λ before added. IsPlayed fs s before o answer added) old new → HasOneRole new.made
   calls-one o answer old new one c = subst (λ (ms : List (Moves Told)). HasOneRole ms) (sym c.5) (one-more c.1 old.made one).0
@@ -153,9 +158,102 @@ pub called-lends : {F B O : Type 0} (fs : Frames F B) (s : Setting) (o : DeskOp 
     → role_in old.made ≡ role_of o → lock.Called begins_of (role_of o) (λ before added. IsPlayed fs s before o answer added) old new
     → Lends fs s o answer (reverse (moves_in new.made))
 called-lends fs s o answer old new one is c =
-    let more = one-more fs s c.1 old.made one in
+    let more = one-more c.1 old.made one in
     let ours = subst (λ (ms : List (Moves Told)). HasOneRole ms) (sym c.5) more.0 in
     let role_ : role_in new.made ≡ role_of o = ap (λ (ms : List (Moves Told)). role_in ms) c.5 ∙ (more.1 ∙ is) in
-    let exact_ = subst (λ (r : ℕ). moves_by r (reverse new.seen) ≡ reverse (moves_in new.made)) role_ (exact-one fs s new.seen new.made ours c.6) in
+    let exact_ = subst (λ (r : ℕ). moves_by r (reverse new.seen) ≡ reverse (moves_in new.made)) role_ (exact-one new.seen new.made ours c.6) in
     let back : reverse ((old.seen ++ c.0) ++ c.1) ≡ reverse new.seen = ap (λ (xs : List Told). reverse xs) (sym c.2) in
     lends-made fs s o answer (reverse new.seen) (reverse (moves_in new.made)) exact_ (subst (λ (b : BoardState). Lends fs s o answer b) back c.3.lends)
+
+-- A REPLY HAS THE NAME OF ITS OPERATION
+
+-- where it has not, the two make no call
+not-called : {F B O : Type 0} (fs : Frames F B) (s : Setting) (o : DeskOp F) (answer : DeskReply F B O) (l : Last) (old new : Pass) → call_of o answer ≡ None
+    → Called s (λ b d. Replies fs s b o answer d) l old new → ⊥
+not-called {F} {B} {O} fs s o answer l old new none c =
+    subst (λ (x : Option (Call F B O)). GivesCall fs s (c.between ++ old.seen) x new.seen) none c.answer
+
+load-other : {F B O : Type 0} (r tick : ℕ) (answer : DeskReply F B O) → ((x : Load B) → answer ≡ reply.Load x → ⊥) → call_of (op.Load r tick) answer ≡ None
+load-other r tick (reply.Load x) not = absurd (not x refl)
+load-other r tick _ not = refl
+
+pub load-replied : {F B O : Type 0} (fs : Frames F B) (s : Setting) (r tick : ℕ) (answer : DeskReply F B O) (l : Last) (old new : Pass) → ((x : Load B) → answer ≡ reply.Load x → ⊥)
+    → Called s (λ b d. Replies fs s b (op.Load r tick) answer d) l old new → ⊥
+load-replied fs s r tick answer l old new not c = not-called fs s (op.Load r tick) answer l old new (load-other r tick answer not) c
+
+issue-other : {F B O : Type 0} (r : ℕ) (f : F) (answer : DeskReply F B O) → ((x : Result (Unit {0}) (NotYours F)) → answer ≡ reply.Issue x → ⊥) → call_of (op.Issue r f) answer ≡ None
+issue-other r f (reply.Issue x) not = absurd (not x refl)
+issue-other r f _ not = refl
+
+pub issue-replied : {F B O : Type 0} (fs : Frames F B) (s : Setting) (r : ℕ) (f : F) (answer : DeskReply F B O) (l : Last) (old new : Pass) → ((x : Result (Unit {0}) (NotYours F)) → answer ≡ reply.Issue x → ⊥)
+    → Called s (λ b d. Replies fs s b (op.Issue r f) answer d) l old new → ⊥
+issue-replied fs s r f answer l old new not c = not-called fs s (op.Issue r f) answer l old new (issue-other r f answer not) c
+
+take-other : {F B O : Type 0} (r v : ℕ) (answer : DeskReply F B O) → ((x : Take F B O) → answer ≡ reply.Take x → ⊥) → call_of (op.Take r v) answer ≡ None
+take-other r v (reply.Take x) not = absurd (not x refl)
+take-other r v _ not = refl
+
+pub take-replied : {F B O : Type 0} (fs : Frames F B) (s : Setting) (r v : ℕ) (answer : DeskReply F B O) (l : Last) (old new : Pass) → ((x : Take F B O) → answer ≡ reply.Take x → ⊥)
+    → Called s (λ b d. Replies fs s b (op.Take r v) answer d) l old new → ⊥
+take-replied fs s r v answer l old new not c = not-called fs s (op.Take r v) answer l old new (take-other r v answer not) c
+
+put-other : {F B O : Type 0} (r : ℕ) (done : Done F) (answer : DeskReply F B O) → ((x : Result (Unit {0}) (NotYours F)) → answer ≡ reply.Put x → ⊥) → call_of (op.Put r done) answer ≡ None
+put-other r done (reply.Put x) not = absurd (not x refl)
+put-other r done _ not = refl
+
+pub put-replied : {F B O : Type 0} (fs : Frames F B) (s : Setting) (r : ℕ) (done : Done F) (answer : DeskReply F B O) (l : Last) (old new : Pass) → ((x : Result (Unit {0}) (NotYours F)) → answer ≡ reply.Put x → ⊥)
+    → Called s (λ b d. Replies fs s b (op.Put r done) answer d) l old new → ⊥
+put-replied fs s r done answer l old new not c = not-called fs s (op.Put r done) answer l old new (put-other r done answer not) c
+
+settle-other : {F B O : Type 0} (r v : ℕ) (answer : DeskReply F B O) → ((x : Settled) → answer ≡ reply.Settle x → ⊥) → call_of (op.Settle r v) answer ≡ None
+settle-other r v (reply.Settle x) not = absurd (not x refl)
+settle-other r v _ not = refl
+
+pub settle-replied : {F B O : Type 0} (fs : Frames F B) (s : Setting) (r v : ℕ) (answer : DeskReply F B O) (l : Last) (old new : Pass) → ((x : Settled) → answer ≡ reply.Settle x → ⊥)
+    → Called s (λ b d. Replies fs s b (op.Settle r v) answer d) l old new → ⊥
+settle-replied fs s r v answer l old new not c = not-called fs s (op.Settle r v) answer l old new (settle-other r v answer not) c
+
+close-other : {F B O : Type 0} (r : ℕ) (answer : DeskReply F B O) → ((x : Settled) → answer ≡ reply.Close x → ⊥) → call_of (op.Close r) answer ≡ None
+close-other r (reply.Close x) not = absurd (not x refl)
+close-other r _ not = refl
+
+pub close-replied : {F B O : Type 0} (fs : Frames F B) (s : Setting) (r : ℕ) (answer : DeskReply F B O) (l : Last) (old new : Pass) → ((x : Settled) → answer ≡ reply.Close x → ⊥)
+    → Called s (λ b d. Replies fs s b (op.Close r) answer d) l old new → ⊥
+close-replied fs s r answer l old new not c = not-called fs s (op.Close r) answer l old new (close-other r answer not) c
+
+leave-other : {F B O : Type 0} (r : ℕ) (answer : DeskReply F B O) → (answer ≡ reply.Leave → ⊥) → call_of (op.Leave r) answer ≡ None
+leave-other r reply.Leave not = absurd (not refl)
+leave-other r _ not = refl
+
+pub leave-replied : {F B O : Type 0} (fs : Frames F B) (s : Setting) (r : ℕ) (answer : DeskReply F B O) (l : Last) (old new : Pass) → (answer ≡ reply.Leave → ⊥)
+    → Called s (λ b d. Replies fs s b (op.Leave r) answer d) l old new → ⊥
+leave-replied fs s r answer l old new not c = not-called fs s (op.Leave r) answer l old new (leave-other r answer not) c
+
+save-other : {F B O : Type 0} (r v : ℕ) (answer : DeskReply F B O) → ((x : Save F) → answer ≡ reply.Save x → ⊥) → call_of (op.Save r v) answer ≡ None
+save-other r v (reply.Save x) not = absurd (not x refl)
+save-other r v _ not = refl
+
+pub save-replied : {F B O : Type 0} (fs : Frames F B) (s : Setting) (r v : ℕ) (answer : DeskReply F B O) (l : Last) (old new : Pass) → ((x : Save F) → answer ≡ reply.Save x → ⊥)
+    → Called s (λ b d. Replies fs s b (op.Save r v) answer d) l old new → ⊥
+save-replied fs s r v answer l old new not c = not-called fs s (op.Save r v) answer l old new (save-other r v answer not) c
+
+saved-other : {F B O : Type 0} (r : ℕ) (f : F) (answer : DeskReply F B O) → ((x : Result (Unit {0}) (NotYours F)) → answer ≡ reply.Saved x → ⊥) → call_of (op.Saved r f) answer ≡ None
+saved-other r f (reply.Saved x) not = absurd (not x refl)
+saved-other r f _ not = refl
+
+pub saved-replied : {F B O : Type 0} (fs : Frames F B) (s : Setting) (r : ℕ) (f : F) (answer : DeskReply F B O) (l : Last) (old new : Pass) → ((x : Result (Unit {0}) (NotYours F)) → answer ≡ reply.Saved x → ⊥)
+    → Called s (λ b d. Replies fs s b (op.Saved r f) answer d) l old new → ⊥
+saved-replied fs s r f answer l old new not c = not-called fs s (op.Saved r f) answer l old new (saved-other r f answer not) c
+
+progress-other : {F B O : Type 0} (r : ℕ) (answer : DeskReply F B O) → ((x : Progress) → answer ≡ reply.Progress x → ⊥) → call_of (op.Progress r) answer ≡ None
+progress-other r (reply.Progress x) not = absurd (not x refl)
+progress-other r _ not = refl
+
+pub progress-replied : {F B O : Type 0} (fs : Frames F B) (s : Setting) (r : ℕ) (answer : DeskReply F B O) (l : Last) (old new : Pass) → ((x : Progress) → answer ≡ reply.Progress x → ⊥)
+    → Called s (λ b d. Replies fs s b (op.Progress r) answer d) l old new → ⊥
+progress-replied fs s r answer l old new not c = not-called fs s (op.Progress r) answer l old new (progress-other r answer not) c
+
+-- the pass keeps what was answered
+pub told-last : (s : Setting) (gives : BoardState → BoardState → Type 0) (answered l : Last) (old : Pass) (new : PassFacts Told) → l ≡ answered
+    → Called s gives answered old (known_by new answered) → Called s gives answered old (known_by new l)
+told-last s gives answered l old new is c = subst (λ (x : Last). Called s gives answered old (known_by new x)) (sym is) c

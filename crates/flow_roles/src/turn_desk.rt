@@ -6,6 +6,8 @@ ghost use Rattle.flow_journal.specs.Histories.{is_history};
 ghost use Rattle.board_rules.specs.States.{past};
 ghost use Rattle.board_rules.specs.Movers.{moves_by};
 ghost use Rattle.board_rules.specs.RunMeasures.{run_setting, run_measure};
+ghost use Rattle.board_rules.specs.Working.{IsAtNode, MayPut, PutGives};
+ghost use Rattle.flow_roles.specs.Lasts.{last_given};
 ghost use Rattle.flow_roles.specs.declared.last.Last.{Last};
 ghost use Rattle.flow_roles.specs.Passes.{Called, only_drain_saves};
 ghost use Rattle.flow_roles.specs.Operations.{frames_of, role_of, MayPlay, Replies, Lends};
@@ -116,7 +118,17 @@ impl<F: Held, B: BoardCalls<F>> Desk<F> for TurnLock<Played<F, B>> {
         pass: &mut TurnPass<F, B>,
         role: u32,
         done: Done<F>,
-    ) -> Result<(), NotYours<F>> {
+    ) -> Result<(), NotYours<F>>
+        requires pass { IsPassOf self.now.id pass.old.inner × ((known_by pass.old.inner pass.old.last).role ≡ role) }
+        requires role { role < last_role (run_setting F.Of.graph F.Of.stack) }
+        requires node { IsAtNode (run_setting F.Of.graph F.Of.stack) done }
+        requires of_job { MayPut F.name_of F.parts (run_measure F.Of.graph F.Of.stack) (run_setting F.Of.graph F.Of.stack)
+            (known_by pass.old.inner pass.old.last).made role done }
+        ensures ours { IsPassOf self.now.id pass.new.inner }
+        ensures called { Called (run_setting F.Of.graph F.Of.stack)
+            (λ old new. PutGives F.name_of (run_setting F.Of.graph F.Of.stack) old role done result new)
+            (last_given result) (known_by pass.old.inner pass.old.last) (known_by pass.new.inner pass.new.last) }
+    {
         match make(self, rt, alloc, &mut pass.inner, DeskOp::Put { role, done }) {
             DeskReply::Put(answer) => {
                 pass.last = after_issue(&answer);
