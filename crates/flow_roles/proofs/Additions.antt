@@ -1,12 +1,12 @@
 -- What a played board adds to the lock's log.
-use Rattle.std.proofs.Common.{◌≡◌, true, List, ◌++◌, refl, sym, ap, ◌∙◌, subst, subst₂}
+use Rattle.std.proofs.Common.{◌≡◌, true, List, ◌++◌, sym, ap, ◌∙◌, subst, subst₂}
 use Rattle.std.specs.Prelude.{reverse}
 use Rattle.std.proofs.lemmas.List.{reverse-reverse, reverse-append}
 use Rattle.flow_journal.specs.Setting.{Setting}
 use Rattle.flow_journal.specs.Histories.{is_history}
 use Rattle.board_rules.specs.declared.told.Told.{Told}
 use Rattle.board_rules.specs.States.{BoardState, past}
-use Rattle.board_rules.specs.Movers.{moves_by, IsMoveOf}
+use Rattle.board_rules.specs.Movers.{moves_by}
 use Rattle.board_rules.specs.Runs.{Frames}
 use Rattle.turn_lock.specs.Logs.{IsMove, moves_of}
 use Rattle.flow_roles.specs.declared.operation.DeskOp.{DeskOp}

@@ -8,9 +8,8 @@ use Rattle.nd_base.specs.Parts.{Parts}
 use Rattle.flow_journal.specs.declared.entry.Entry.{Entry}
 use Rattle.flow_journal.specs.declared.entry.Entry.TheVariants.{Load, LoadRefused, Issue, Take, TakeBlock, PoolDrop, Put, Settle, Save, Saved, Close, Leave, Reclaim}
 use Rattle.flow_journal.specs.Setting.{Setting}
-use Rattle.flow_journal.specs.Pasts.{Past}
 use Rattle.flow_journal.specs.Hands.{takes_up, hand}
-use Rattle.flow_journal.specs.Histories.{is_legal, is_history}
+use Rattle.flow_journal.specs.Histories.{is_legal}
 use Rattle.flow_journal.specs.EntryLaws.{lets_go}
 use Rattle.flow_journal.proofs.Changes.{hand_laws}
 use Rattle.board_rules.specs.declared.told.Told.{Told}
@@ -41,12 +40,12 @@ quiet r (Reclaim q) h = cc
 quiet r _ h = (refl, refl)
 
 -- these entries begin no move
-abbrev GoesAfter : BoardState → Type 0
+abbrev pub GoesAfter : BoardState → Type 0
 GoesAfter [] = Unit {0}
 GoesAfter (u ∷ more) = (begins u.entry ≡ None) × GoesAfter more
 
 -- and so it is with what comes after the first entry of a move
-from-move : (r : ℕ) (more : BoardState) (t : Told) → IsMoveOf r (more ++ t ∷ []) → GoesAfter more
+pub from-move : (r : ℕ) (more : BoardState) (t : Told) → IsMoveOf r (more ++ t ∷ []) → GoesAfter more
 from-move r [] t h = tt
 from-move r (u ∷ []) t h = (h.0, tt)
 from-move r (u ∷ w ∷ more) t h = (h.0, from-move r (w ∷ more) t h.1)

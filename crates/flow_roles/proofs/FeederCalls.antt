@@ -1,16 +1,15 @@
 -- What the feeder's calls leave of its pass.
-use Rattle.std.proofs.Common.{◌≡◌, ◌⊎◌, ℕ, ◌<◌, ◌≤◌, Bool, true, false, not, ◌&&◌, ◌||◌, eqb, cond, leb, [], ◌∷◌, ◌++◌, length, refl, sym, ap, ◌∙◌, subst, arith, Option, Some, None, Result, Ok, Err, inl, inr}
-use Rattle.std.specs.Prelude.{IsTrue}
-use Rattle.std.specs.List.{list_all, list_any}
-use Rattle.std.proofs.lemmas.Bool.{cases_Bool, eq-eqb, eqb-true, false≢true, true≢false, and_parts, and_from, leb-false}
+use Rattle.std.proofs.Common.{◌≡◌, ◌⊎◌, ℕ, ◌<◌, Bool, true, false, not, ◌&&◌, ◌||◌, cond, leb, ◌++◌, length, refl, sym, ap, ◌∙◌, arith, Option, Some, None, Ok, Err, inl, inr}
+use Rattle.std.specs.List.{list_all}
+use Rattle.std.proofs.lemmas.Bool.{cases_Bool, eq-eqb, false≢true, and_parts, and_from, leb-false}
 use Rattle.nd_base.specs.Parts.{Parts}
 use Rattle.nd_base.specs.declared.frame.FrameName.{FrameName}
 use Rattle.pool_ledger.specs.Grants.{Answer, Granted}
 use Rattle.pool_ledger.specs.Grants as pool
 use Rattle.flow_journal.specs.declared.entry.Entry.{Entry}
-use Rattle.flow_journal.specs.declared.entry.Entry.TheVariants.{Load, LoadRefused, Issue, Close, Leave}
-use Rattle.flow_journal.specs.Setting.{Setting, children, last_role}
-use Rattle.flow_journal.specs.Pasts.{Past, frame, same}
+use Rattle.flow_journal.specs.declared.entry.Entry.TheVariants.{Load, LoadRefused, Issue, Close}
+use Rattle.flow_journal.specs.Setting.{Setting, children}
+use Rattle.flow_journal.specs.Pasts.{frame}
 use Rattle.flow_journal.specs.Hands.{hand, is_free}
 use Rattle.flow_journal.specs.Ended.{closes, is_closed, has_left_any}
 use Rattle.flow_journal.specs.Offered.{next_index}
@@ -22,20 +21,20 @@ use Rattle.board_rules.specs.declared.answers.Load.{Load as load_answer}
 use Rattle.board_rules.specs.declared.answers.Load.TheVariants as load
 use Rattle.board_rules.specs.declared.answers.NotYours.{NotYours}
 use Rattle.board_rules.specs.declared.answers.Settled.TheVariants as settled
-use Rattle.board_rules.specs.States.{BoardState, past, plain, lent_to}
+use Rattle.board_rules.specs.States.{BoardState, past, plain}
 use Rattle.board_rules.specs.Moving.{moved_at}
-use Rattle.board_rules.specs.InHand.{is_load_of, granted_size}
+use Rattle.board_rules.specs.InHand.{is_load_of}
 use Rattle.board_rules.specs.Feeding.{is_sent_away, load_refusal, LoadAnswers, LoadGives, HasRoom, IssueGives, CloseGives}
 use Rattle.board_rules.proofs.Legal.{may_load}
 use Rattle.flow_roles.specs.declared.last.Last.{Last}
 use Rattle.flow_roles.specs.declared.last.Last.TheVariants as last
-use Rattle.flow_roles.specs.Lasts.{last_load, last_given, last_close}
+use Rattle.flow_roles.specs.Lasts.{last_load}
 use Rattle.flow_roles.specs.Passes.{Pass, Called}
 use Rattle.flow_roles.specs.RoleMoves.{feeder_logs, HasNothing}
-use Rattle.flow_roles.specs.RoleEnds.{feeder_ends, IsOfHand, HasEnded}
+use Rattle.flow_roles.specs.RoleEnds.{feeder_ends}
 use Rattle.flow_roles.specs.Feeder.{HasLoaded}
-use Rattle.flow_roles.proofs.Calls.{Moved, here, unmoved, moved, hand-before, role-after}
-use Rattle.flow_roles.proofs.RoleCalls.{feeder-quiet, kept, ends-free}
+use Rattle.flow_roles.proofs.Calls.{here, unmoved, moved, hand-before, role-after}
+use Rattle.flow_roles.proofs.RoleCalls.{feeder-quiet, kept}
 
 -- WHAT A LOAD ANSWERS
 
@@ -49,10 +48,10 @@ is_still load.OutOfMemory = true
 is_still (load.Refused k h) = false
 is_still (load.Loaded k blank) = false
 
-abbrev no_refusal : (B : Type 0) → Option (load_answer B)
+abbrev pub no_refusal : (B : Type 0) → Option (load_answer B)
 no_refusal B = None
 
-load-still : {F B : Type 0} (parts : F → Option Parts) (bytes_of : B → ℕ) (s : Setting) (old new : BoardState) (r tick : ℕ) (o : Option (load_answer B)) (g : Answer)
+pub load-still : {F B : Type 0} (parts : F → Option Parts) (bytes_of : B → ℕ) (s : Setting) (old new : BoardState) (r tick : ℕ) (o : Option (load_answer B)) (g : Answer)
     (a : load_answer B) → is_still a ≡ true → LoadAnswers parts bytes_of s old r tick o g a new → new ≡ old
 load-still parts bytes_of s old new r tick (Some x) g a h c = c.1
 load-still parts bytes_of s old new r tick None (Granted b n f g) load.OutOfMemory h c = c.1
@@ -97,24 +96,24 @@ load-left parts bytes_of s old new r tick None (Granted b n f g) is c = absurd c
 load-left parts bytes_of s old new r tick None pool.Refused is c = absurd c
 
 -- a refused frame: nothing changed, or it is a move
-load-refused : {F B : Type 0} (parts : F → Option Parts) (bytes_of : B → ℕ) (s : Setting) (old new : BoardState) (r tick k z : ℕ) (o : Option (load_answer B)) (g : Answer)
+pub load-refused : {F B : Type 0} (parts : F → Option Parts) (bytes_of : B → ℕ) (s : Setting) (old new : BoardState) (r tick k z : ℕ) (o : Option (load_answer B)) (g : Answer)
     → LoadAnswers parts bytes_of s old r tick o g (load.Refused k z) new → (new ≡ old) ⊎ (new ≡ moved_at s tick (plain (LoadRefused r k (s.need 0) z)) old)
 load-refused parts bytes_of s old new r tick k z (Some x) g c = inl c.1
 load-refused parts bytes_of s old new r tick k z None pool.Refused c = inr c.2
 load-refused parts bytes_of s old new r tick k z None (Granted b n f g) c = absurd c
 
 -- what is known of a loaded frame
-record Loaded (s : Setting) (old new : BoardState) (r tick k size : ℕ) : Type 0 where
-  n : ℕ
-  b : ℕ
-  f : Bool
-  g : ℕ
-  x : Bool
-  sized : size ≡ n
-  there : k < length s.ids
-  move : new ≡ moved_at s tick (plain (Load r k b n f g x)) old
+pub record Loaded (s : Setting) (old new : BoardState) (r tick k size : ℕ) : Type 0 where
+  pub n : ℕ
+  pub b : ℕ
+  pub f : Bool
+  pub g : ℕ
+  pub x : Bool
+  pub sized : size ≡ n
+  pub there : k < length s.ids
+  pub move : new ≡ moved_at s tick (plain (Load r k b n f g x)) old
 
-load-loaded : {F B : Type 0} (parts : F → Option Parts) (bytes_of : B → ℕ) (s : Setting) (old new : BoardState) (r tick k : ℕ) (blank : B) (o : Option (load_answer B)) (g : Answer)
+pub load-loaded : {F B : Type 0} (parts : F → Option Parts) (bytes_of : B → ℕ) (s : Setting) (old new : BoardState) (r tick k : ℕ) (blank : B) (o : Option (load_answer B)) (g : Answer)
     → load_refusal s r (past old) ≡ o → LoadAnswers parts bytes_of s old r tick o g (load.Loaded k blank) new → Loaded s old new r tick k (bytes_of blank)
 load-loaded {F} {B} parts bytes_of s old new r tick k blank (Some x) g is c =
     absurd (loaded-by {B = B} k blank (is_sent_away s r (past old)) (has_loaded (past old) || not (is_free r (past old))) (leb (length s.ids) (next_index (past old)))

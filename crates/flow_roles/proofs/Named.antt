@@ -1,7 +1,7 @@
 -- In a run the array of a job has the name of the maker of what comes to the node.
-use Rattle.std.proofs.Common.{◌≡◌, ◌≢◌, ℕ, zero, suc, ◌≤◌, ◌<◌, Bool, true, false, not, eqb, ltb, leb, List, [], ◌∷◌, length, refl, sym, ap, ◌∙◌, subst, arith, Option, Some, None, inl, inr}
-use Rattle.std.specs.Prelude.{find, slice_get, flat_map}
-use Rattle.std.proofs.lemmas.Bool.{and_parts, false≢true, eq-eqb, eqb-true, cases_Bool, ltb-true, leb-true}
+use Rattle.std.proofs.Common.{◌≡◌, ℕ, zero, suc, ◌≤◌, Bool, true, not, eqb, ltb, leb, List, [], ◌∷◌, length, sym, ap, ◌∙◌, arith, Some, inl, inr}
+use Rattle.std.specs.Prelude.{find, flat_map}
+use Rattle.std.proofs.lemmas.Bool.{and_parts, false≢true, eqb-true, cases_Bool, leb-true}
 use Rattle.std.proofs.lemmas.List.{length-map}
 use Rattle.std.proofs.lemmas.Option.{slice_get_cases}
 use Rattle.nd_base.specs.Array.{StackValue}
@@ -13,12 +13,12 @@ use Rattle.chain_plain.specs.Nodes.{maker_at}
 use Rattle.chain_plain.specs.Plans.{makers_of}
 use Rattle.chain_plain.proofs.Rules.{stands}
 use Rattle.flow_journal.specs.declared.entry.Entry.{Entry}
-use Rattle.flow_journal.specs.declared.entry.Entry.TheVariants.{Load, LoadRefused, Tick, Issue, Emit, Accept, Full, Take, TakeBlock, PoolDrop, Put, SortDrop, Settle, Save, Saved, Close, Leave, Reclaim}
+use Rattle.flow_journal.specs.declared.entry.Entry.TheVariants.{Take, TakeBlock}
 use Rattle.flow_journal.specs.Setting.{is_node}
 use Rattle.flow_journal.specs.RunSetting.{node_of}
 use Rattle.flow_journal.specs.Pasts.{Past, frame, same}
 use Rattle.flow_journal.specs.Hands.{takes_up, hand, standing}
-use Rattle.flow_journal.specs.QueueCounts.{gone_at, gone}
+use Rattle.flow_journal.specs.QueueCounts.{gone_at}
 use Rattle.flow_journal.specs.Histories.{is_legal, is_history}
 use Rattle.flow_journal.proofs.Counts.{hand-standing, queued-by}
 use Rattle.flow_journal.proofs.EntryCounts.{count, bit, count-cons, count-append}

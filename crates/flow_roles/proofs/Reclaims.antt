@@ -1,5 +1,5 @@
 -- What a role leaves may be reclaimed.
-use Rattle.std.proofs.Common.{◌≡◌, ℕ, [], ◌∷◌, refl, sym, ap, ◌∙◌, subst, subst₂, Option, Some, None}
+use Rattle.std.proofs.Common.{◌≡◌, ℕ, sym, ap, ◌∙◌, subst₂, Option, Some, None}
 use Rattle.std.specs.Prelude.{IsTrue}
 use Rattle.std.proofs.lemmas.Bool.{true≢false}
 use Rattle.nd_base.specs.Parts.{Parts}
@@ -10,9 +10,7 @@ use Rattle.flow_journal.specs.Setting.{Setting}
 use Rattle.flow_journal.specs.Hands.{hand}
 use Rattle.board_rules.specs.declared.answers.Left.{Left}
 use Rattle.board_rules.specs.States.{BoardState, past, lent_to}
-use Rattle.board_rules.specs.Movers.{moves_by}
 use Rattle.board_rules.specs.InHand.{has_part_of, has_grant, granted_size, IsWholeOf, OfSome, TellParts}
-use Rattle.board_rules.specs.Leaving.{MayReclaim}
 use Rattle.board_rules.proofs.Moves.{moves-tell}
 use Rattle.flow_roles.specs.RoleEnds.{IsOfHand, MayComeBack}
 

@@ -1,15 +1,15 @@
 -- What frames and results hold.
 use Rattle.std.proofs.Common.{◌≡◌, ℕ, ◌<◌, ◌≤◌, ◌*◌, ◌^◌, Bool, true, false, cond, eqb, ℤ, List, [], ◌∷◌, length, map, refl, sym, ap, ◌∙◌, subst, subst₂, arith, Option, Some, None, Result, Ok, Err, inl, inr}
-use Rattle.std.specs.Prelude.{IsTrue, is_some, IfSome, IfOk, IsSomeAnd, slice_get, find}
+use Rattle.std.specs.Prelude.{is_some, IfSome, IfOk, IsSomeAnd, slice_get, find}
 use Rattle.std.specs.Option.{option_map, option_map_or}
 use Rattle.std.proofs.lemmas.Bool.{cases_Bool, false≢true}
 use Rattle.std.proofs.lemmas.Nat.{mul-le}
 use Rattle.std.proofs.lemmas.List.{length-map}
 use Rattle.std.proofs.lemmas.Option.{slice_get_cases}
 use Rattle.nd_base.specs.Array.{Array, StackValue}
-use Rattle.nd_base.specs.GraphRules.{IsGraph, IsRoi, IsStats, IsKind, input_of, rule_at, makes_arrays}
+use Rattle.nd_base.specs.GraphRules.{IsGraph, IsRoi, IsStats, IsKind, rule_at, makes_arrays}
 use Rattle.nd_base.specs.Samples.{width, samples_of}
-use Rattle.nd_base.specs.Shapes.{has_dimensions, sample_count, most_samples}
+use Rattle.nd_base.specs.Shapes.{sample_count}
 use Rattle.nd_base.specs.Stacks.{frame_size, IsStack, HasShape, head_of}
 use Rattle.nd_base.specs.declared.array.Dim.{Dim}
 use Rattle.nd_base.specs.declared.array.Head.{Head}

@@ -1,8 +1,7 @@
 -- The lock's log and a board's: the one is the other, the oldest entry first.
-use Rattle.std.proofs.Common.{◌≡◌, ℕ, Bool, true, false, eqb, List, [], ◌∷◌, ◌++◌, refl, sym, ap, ◌∙◌, subst, Option, Some, None, inl, inr, if◌then◌else◌}
+use Rattle.std.proofs.Common.{◌≡◌, ℕ, Bool, true, false, List, [], ◌∷◌, ◌++◌, refl, sym, ap, ◌∙◌, subst, Option, Some, None, if◌then◌else◌}
 use Rattle.std.specs.Prelude.{reverse}
-use Rattle.std.proofs.lemmas.Bool.{cases_Bool}
-use Rattle.std.proofs.lemmas.List.{reverse-reverse, reverse-append, append_assoc, append-nil}
+use Rattle.std.proofs.lemmas.List.{reverse-append, append-nil}
 use Rattle.board_rules.specs.declared.told.Told.{Told}
 use Rattle.board_rules.specs.States.{BoardState, begins, is_role_of}
 use Rattle.board_rules.specs.Movers.{first_some, mover, moves_by, IsMoveOf}

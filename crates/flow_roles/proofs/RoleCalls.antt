@@ -1,8 +1,7 @@
 -- What leaving and waiting leave of a pass.
-use Rattle.std.proofs.Common.{◌≡◌, ℕ, Bool, true, false, eqb, [], ◌∷◌, refl, sym, ap, ◌∙◌, subst, Option, Some, None, inl, inr}
-use Rattle.std.specs.Prelude.{IsTrue}
-use Rattle.std.specs.List.{list_all, list_any}
-use Rattle.std.proofs.lemmas.Bool.{cases_Bool, eq-eqb, false≢true}
+use Rattle.std.proofs.Common.{◌≡◌, ℕ, Bool, true, false, [], ◌∷◌, refl, sym, ap, ◌∙◌, subst, Option, None, inl, inr}
+use Rattle.std.specs.List.{list_all}
+use Rattle.std.proofs.lemmas.Bool.{cases_Bool, false≢true}
 use Rattle.nd_base.specs.Parts.{Parts}
 use Rattle.nd_base.specs.declared.frame.FrameName.{FrameName}
 use Rattle.flow_journal.specs.declared.entry.Entry.{Entry}
@@ -21,7 +20,7 @@ use Rattle.flow_roles.specs.RoleMoves.{feeder_logs, worker_logs, IsFresh, HasNot
 use Rattle.flow_roles.specs.declared.role_end.Round.{Round}
 use Rattle.flow_roles.specs.declared.role_end.Round.TheVariants.{Again, End}
 use Rattle.flow_roles.specs.RoleEnds.{IsOfHand, HasEnded, HasGone}
-use Rattle.flow_roles.proofs.Calls.{Moved, here, unmoved, moved, hand-before, role-after}
+use Rattle.flow_roles.proofs.Calls.{here, unmoved, moved, hand-before, role-after}
 
 pub feeder-quiet : (e : Entry) → begins e ≡ None → feeder_logs e ≡ true
 feeder-quiet (Take q v m k) h = cc

@@ -1,9 +1,8 @@
 -- What a worker's calls leave of its pass.
-use Rattle.std.proofs.Common.{◌≡◌, ◌⊎◌, ℕ, ◌<◌, ◌≤◌, Bool, true, false, not, ◌&&◌, ◌||◌, eqb, cond, leb, if◌then◌else◌, List, [], ◌∷◌, ◌++◌, length, refl, sym, ap, ◌∙◌, subst, arith, Option, Some, None, Result, Ok, Err, inl, inr}
-use Rattle.std.specs.Prelude.{IsTrue, is_some, is_none}
+use Rattle.std.proofs.Common.{◌≡◌, ◌⊎◌, ℕ, ◌≤◌, Bool, true, false, not, ◌||◌, cond, leb, if◌then◌else◌, List, ◌++◌, length, refl, sym, ap, ◌∙◌, subst, Option, Some, None, Ok, Err, inl, inr}
+use Rattle.std.specs.Prelude.{is_some, is_none}
 use Rattle.std.specs.Option.{option_map_or}
-use Rattle.std.specs.List.{list_all, list_any}
-use Rattle.std.proofs.lemmas.Bool.{cases_Bool, eq-eqb, eqb-true, false≢true, true≢false, and_parts, and_from}
+use Rattle.std.proofs.lemmas.Bool.{cases_Bool, eq-eqb, false≢true, true≢false, and_parts, and_from}
 use Rattle.nd_base.specs.Array.{StackValue}
 use Rattle.nd_base.specs.Parts.{Parts}
 use Rattle.nd_base.specs.GraphRules.{IsGraph}
@@ -13,11 +12,11 @@ use Rattle.frame_store.specs.Sealed.{Sealed}
 use Rattle.pool_ledger.specs.Grants.{Answer, Granted}
 use Rattle.pool_ledger.specs.Grants as pool
 use Rattle.flow_journal.specs.declared.entry.Entry.{Entry}
-use Rattle.flow_journal.specs.declared.entry.Entry.TheVariants.{Load, Take, TakeBlock, PoolDrop, Put, Settle, Save, Leave}
+use Rattle.flow_journal.specs.declared.entry.Entry.TheVariants.{Load, Take, TakeBlock, PoolDrop, Put, Settle}
 use Rattle.flow_journal.specs.Setting.{Setting, node, is_node, is_maker}
-use Rattle.flow_journal.specs.Pasts.{Past, frame, same}
+use Rattle.flow_journal.specs.Pasts.{frame, same}
 use Rattle.flow_journal.specs.Hands.{hand, is_free, jobs, takes_up}
-use Rattle.flow_journal.specs.Ended.{settles, is_settled, has_left_any}
+use Rattle.flow_journal.specs.Ended.{is_settled, has_left_any}
 use Rattle.flow_journal.specs.Queued.{queued}
 use Rattle.flow_journal.specs.Accounts.{grant}
 use Rattle.flow_journal.specs.Finished.{none_left}
@@ -37,13 +36,13 @@ use Rattle.board_rules.specs.Feeding.{is_sent_away}
 use Rattle.board_rules.specs.Working.{take_refusal, asked, TakeAnswers, TakeGives, LendsJob, MayPut, PutGives, SettleGives}
 use Rattle.flow_roles.specs.declared.last.Last.{Last}
 use Rattle.flow_roles.specs.declared.last.Last.TheVariants as last
-use Rattle.flow_roles.specs.Lasts.{last_take, last_given}
+use Rattle.flow_roles.specs.Lasts.{last_take}
 use Rattle.flow_roles.specs.Passes.{Pass, Called}
 use Rattle.flow_roles.specs.RoleMoves.{worker_logs, HasNothing}
-use Rattle.flow_roles.specs.RoleEnds.{worker_ends, IsOfHand, HasEnded}
+use Rattle.flow_roles.specs.RoleEnds.{worker_ends, IsOfHand}
 use Rattle.flow_roles.specs.Feeder.{name_of, parts_of}
 use Rattle.flow_roles.specs.Worker.{HasJob, IsDone}
-use Rattle.flow_roles.proofs.Calls.{Moved, lent_then, here, unmoved, moved, hand-before, hand-after, role-after}
+use Rattle.flow_roles.proofs.Calls.{here, unmoved, moved, hand-before, hand-after, role-after}
 use Rattle.flow_roles.proofs.RoleCalls.{worker-quiet, kept}
 use Rattle.flow_roles.proofs.Named.{hand-named}
 
@@ -59,10 +58,10 @@ is_still take.OutOfMemory = true
 is_still (take.PoolDrop k h) = false
 is_still (take.Job w input blank) = false
 
-abbrev no_refusal : (F B O : Type 0) → Option (take_answer F B O)
+abbrev pub no_refusal : (F B O : Type 0) → Option (take_answer F B O)
 no_refusal F B O = None
 
-take-still : {F B O : Type 0} (name_of : F → FrameName) (parts : F → Option Parts) (bytes_of : B → ℕ) (s : Setting) (old new : BoardState) (r v : ℕ) (o : Option (take_answer F B O))
+pub take-still : {F B O : Type 0} (name_of : F → FrameName) (parts : F → Option Parts) (bytes_of : B → ℕ) (s : Setting) (old new : BoardState) (r v : ℕ) (o : Option (take_answer F B O))
     (g : Option Answer) (a : take_answer F B O) → is_still a ≡ true → TakeAnswers name_of parts bytes_of s old r v o g a new → new ≡ old
 take-still name_of parts bytes_of s old new r v (Some x) g a h c = c.1
 take-still name_of parts bytes_of s old new r v None (Some (Granted b n f g)) take.OutOfMemory h c = c.1
@@ -88,7 +87,7 @@ take-still name_of parts bytes_of s old new r v None (Some pool.Refused) (take.P
 take-still name_of parts bytes_of s old new r v None (Some pool.Refused) (take.Job w input blank) h c = absurd (false≢true h)
 
 -- what a refusal says, and that no other answer is one
-abbrev Says : {F B O : Type 0} → take_answer F B O → (away busy ended idle : Bool) → Type 0
+abbrev pub Says : {F B O : Type 0} → take_answer F B O → (away busy ended idle : Bool) → Type 0
 Says take.Left away busy ended idle = away ≡ true
 Says take.Busy away busy ended idle = busy ≡ true
 Says take.Ended away busy ended idle = ended ≡ true
@@ -98,7 +97,7 @@ Says _ away busy ended idle = ⊥
 some-same : {X : Type 0} {x y : X} → Some x ≡ Some y → x ≡ y
 some-same h = cc
 
-said-by : {F B O : Type 0} (a : take_answer F B O) (away busy ended idle : Bool)
+pub said-by : {F B O : Type 0} (a : take_answer F B O) (away busy ended idle : Bool)
     → cond away (Some take.Left) (cond busy (Some take.Busy) (cond ended (Some take.Ended) (cond idle (Some take.Idle) (no_refusal F B O)))) ≡ Some a → Says a away busy ended idle
 said-by {F} {B} {O} a true busy ended idle h = subst (λ (x : take_answer F B O). Says x true busy ended idle) (some-same h) refl
 said-by {F} {B} {O} a false true ended idle h = subst (λ (x : take_answer F B O). Says x false true ended idle) (some-same h) refl
@@ -125,7 +124,7 @@ take-told name_of parts bytes_of s old new r v None take.Busy h c = c
 take-told name_of parts bytes_of s old new r v None take.Ended h c = c
 take-told name_of parts bytes_of s old new r v g _ h c = false≢true h
 
-take-says : {F B O : Type 0} (name_of : F → FrameName) (parts : F → Option Parts) (bytes_of : B → ℕ) (s : Setting) (old new : BoardState) (r v : ℕ) (o : Option (take_answer F B O))
+pub take-says : {F B O : Type 0} (name_of : F → FrameName) (parts : F → Option Parts) (bytes_of : B → ℕ) (s : Setting) (old new : BoardState) (r v : ℕ) (o : Option (take_answer F B O))
     (g : Option Answer) (a : take_answer F B O) → is_told a ≡ true → take_refusal {F = F} {B = B} {O = O} s r v (past old) ≡ o → TakeAnswers name_of parts bytes_of s old r v o g a new
     → Says a (is_sent_away s r (past old)) (not (is_free r (past old))) (is_settled v (past old)) (none_left (queued v (past old)) || leb (node s v).threads (jobs v (past old)))
 take-says {F} {B} {O} name_of parts bytes_of s old new r v (Some x) g a h is c =
@@ -134,36 +133,35 @@ take-says {F} {B} {O} name_of parts bytes_of s old new r v (Some x) g a h is c =
 take-says name_of parts bytes_of s old new r v None g a h is c = absurd (take-told name_of parts bytes_of s old new r v g a h c)
 
 -- a refused array: nothing changed, or it is a move
-Dropped : Setting → BoardState → BoardState → (r v : ℕ) → Type 0
+abbrev pub Dropped : Setting → BoardState → BoardState → (r v : ℕ) → Type 0
 Dropped s old new r v = (m : ℕ) × (k : ℕ) × (z : ℕ) × (new ≡ moved_at s 0 (plain (PoolDrop r v m k (s.need v) z)) old)
 
-take-drop : {F B O : Type 0} (name_of : F → FrameName) (parts : F → Option Parts) (bytes_of : B → ℕ) (s : Setting) (old new : BoardState) (r v k z : ℕ) (o : Option (take_answer F B O))
+pub take-drop : {F B O : Type 0} (name_of : F → FrameName) (parts : F → Option Parts) (bytes_of : B → ℕ) (s : Setting) (old new : BoardState) (r v k z : ℕ) (o : Option (take_answer F B O))
     (g : Option Answer) → TakeAnswers name_of parts bytes_of s old r v o g (take.PoolDrop k z) new → (new ≡ old) ⊎ Dropped s old new r v
-unfolding Dropped
 take-drop name_of parts bytes_of s old new r v k z (Some x) g c = inl c.1
 take-drop name_of parts bytes_of s old new r v k z None (Some pool.Refused) c = inr (c.1.0.maker, c.1.0.index, z, c.1.3)
 take-drop name_of parts bytes_of s old new r v k z None (Some (Granted b n f g)) c = absurd c
 take-drop name_of parts bytes_of s old new r v k z None None c = absurd c
 
 -- what is known of a job with a block, and of one without
-record WithBlock {F B : Type 0} (name_of : F → FrameName) (parts : F → Option Parts) (bytes_of : B → ℕ) (s : Setting) (old new : BoardState) (r v : ℕ) (input : F)
+pub record WithBlock {F B : Type 0} (name_of : F → FrameName) (parts : F → Option Parts) (bytes_of : B → ℕ) (s : Setting) (old new : BoardState) (r v : ℕ) (input : F)
     (blank : Option B) : Type 0 where
-  b : ℕ
-  n : ℕ
-  f : Bool
-  g : ℕ
-  x : Bool
-  given : B
-  is : blank ≡ Some given
-  maker : is_maker s v ≡ true
-  sized : bytes_of given ≡ n
-  move : new ≡ moved_at s 0 (lends (take_block r v (name_of input) b n f g x) (parts input)) old
+  pub b : ℕ
+  pub n : ℕ
+  pub f : Bool
+  pub g : ℕ
+  pub x : Bool
+  pub given : B
+  pub is : blank ≡ Some given
+  pub maker : is_maker s v ≡ true
+  pub sized : bytes_of given ≡ n
+  pub move : new ≡ moved_at s 0 (lends (take_block r v (name_of input) b n f g x) (parts input)) old
 
-record Alone {F B : Type 0} (name_of : F → FrameName) (parts : F → Option Parts) (s : Setting) (old new : BoardState) (r v : ℕ) (input : F)
+pub record Alone {F B : Type 0} (name_of : F → FrameName) (parts : F → Option Parts) (s : Setting) (old new : BoardState) (r v : ℕ) (input : F)
     (blank : Option B) : Type 0 where
-  is : blank ≡ None
-  maker : is_maker s v ≡ false
-  move : new ≡ moved_at s 0 (lends (Take r v (name_of input).maker (name_of input).index) (parts input)) old
+  pub is : blank ≡ None
+  pub maker : is_maker s v ≡ false
+  pub move : new ≡ moved_at s 0 (lends (Take r v (name_of input).maker (name_of input).index) (parts input)) old
 
 asked-some : (maker : Bool) (x y : Answer) → (if maker then Some x else None) ≡ Some y → maker ≡ true
 asked-some true x y h = refl
@@ -173,7 +171,7 @@ asked-none : (maker : Bool) (x : Answer) → (if maker then Some x else None) �
 asked-none true x h = cc
 asked-none false x h = refl
 
-take-taken : {F B O : Type 0} (name_of : F → FrameName) (parts : F → Option Parts) (bytes_of : B → ℕ) (s : Setting) (old new : BoardState) (r v w : ℕ) (input : F) (blank : Option B)
+pub take-taken : {F B O : Type 0} (name_of : F → FrameName) (parts : F → Option Parts) (bytes_of : B → ℕ) (s : Setting) (old new : BoardState) (r v w : ℕ) (input : F) (blank : Option B)
     (o : Option (take_answer F B O)) (g : Option Answer) → take_refusal {F = F} {B = B} {O = O} s r v (past old) ≡ o → asked s v (past old) ≡ g
     → TakeAnswers name_of parts bytes_of s old r v o g (take.Job w input blank) new
     → WithBlock name_of parts bytes_of s old new r v input blank ⊎ Alone name_of parts s old new r v input blank
@@ -236,7 +234,6 @@ module _ {F B O : Type 0} (name_of : F → FrameName) (parts : F → Option Part
       false≢true (sym (ap not free) ∙ busy)
 
   pub take-drops : (k z : ℕ) → Called s (λ x y. TakeGives {F = F} {B = B} {O = O} name_of parts bytes_of s x r v (take.PoolDrop k z) y) last.Other old new → HasNothing (worker_logs v) r new
-  unfolding Dropped
   take-drops k z c =
       let g = λ (x y : BoardState). TakeGives {F = F} {B = B} {O = O} name_of parts bytes_of s x r v (take.PoolDrop k z) y in
       let b = here s g last.Other old new r n.role c in
@@ -250,10 +247,10 @@ module _ {F B O : Type 0} (name_of : F → FrameName) (parts : F → Option Part
 
 -- A JOB
 
-same-self : (a : FrameName) → same a (frame a.maker a.index) ≡ true
+pub same-self : (a : FrameName) → same a (frame a.maker a.index) ≡ true
 same-self a = and_from _ _ (eq-eqb a.maker a.maker refl) (eq-eqb a.index a.index refl)
 
-room-of : (need : ℕ) (size : ℕ) (blank : Option (List ℕ)) → OfSome (λ (b : List ℕ). (need ≤ length b) × (length b ≡ size)) blank → OfSome (λ (b : List ℕ). need ≤ length b) blank
+pub room-of : (need : ℕ) (size : ℕ) (blank : Option (List ℕ)) → OfSome (λ (b : List ℕ). (need ≤ length b) × (length b ≡ size)) blank → OfSome (λ (b : List ℕ). need ≤ length b) blank
 room-of need size None h = tt
 room-of need size (Some b) h = h.0
 
@@ -310,7 +307,7 @@ module _ {O : Type 0} (g : Graph) (stack : StackValue) (r v w : ℕ) (input : Se
       ]
 
 -- what stands on the storage of a job has the granted size
-granted-by : (lent : Option Parts) (o : Option Entry) (input : Sealed) (blank : Option (List ℕ)) (made : Option Sealed)
+pub granted-by : (lent : Option Parts) (o : Option Entry) (input : Sealed) (blank : Option (List ℕ)) (made : Option Sealed)
     → IsOfHand name_of parts_of length lent o (Some input) None blank → OfSome (λ (f : Sealed). IsWholeOf (option_map_or length blank 0) (parts_of f)) made
     → OfSome (λ (f : Sealed). IsWholeOf (granted_size o) (parts_of f)) made
 granted-by lent o input blank None h w = tt
@@ -322,7 +319,7 @@ granted-by lent (Some (TakeBlock y x q u m k b n g)) input None (Some f) h w = a
 granted-by lent (Some (Load q k b n y g x)) input blank (Some f) h w = absurd (true≢false h.0)
 granted-by lent (Some _) input blank (Some f) h w = absurd h
 
-lent-by : (lent : Option Parts) (o : Option Entry) (input : Sealed) (blank : Option (List ℕ)) → IsOfHand name_of parts_of length lent o (Some input) None blank → parts_of input ≡ lent
+pub lent-by : (lent : Option Parts) (o : Option Entry) (input : Sealed) (blank : Option (List ℕ)) → IsOfHand name_of parts_of length lent o (Some input) None blank → parts_of input ≡ lent
 lent-by lent None input blank h = absurd (true≢false h.0)
 lent-by lent (Some (Take q u m k)) input blank h = h.0.1
 lent-by lent (Some (TakeBlock y x q u m k b n g)) input blank h = h.0.1

@@ -55,7 +55,7 @@ fn filled<R: Run>(name: FrameName, samples: &[u8], blank: Blank) -> Frame<R>
 }
 
 /// Frame `index` of the stack, on this storage.
-fn frame_on<R: Run>(stack: &Stack, index: u32, blank: Blank) -> Frame<R>
+pub fn frame_on<R: Run>(stack: &Stack, index: u32, blank: Blank) -> Frame<R>
     requires stack { stack.now ≡ R.stack }
     requires frame { index < length stack.now.arrays }
     requires room { frame_size stack.now.shape ≤ length blank }

@@ -188,7 +188,7 @@ fn passed_on<F>(node: u32, input: F, fired: bool) -> Done<F>
 }
 
 /// The result of a job, or, where memory is wanting, what was handed out for it.
-pub(crate) fn result_of<R: Run>(
+pub fn result_of<R: Run>(
     alloc: Global,
     plan: &Plan,
     stack: &Stack,

@@ -1,6 +1,6 @@
 //! A board that roles share under the turn lock.
 
-ghost use Rattle.std.specs.Prelude.{◌≡◌, ℕ, ◌<◌, ◌≤◌, ◌+◌, true, [], reverse, All, Any, Some, slice_get, length, vec_len, IfOk};
+ghost use Rattle.std.specs.Prelude.{◌≡◌, ℕ, ◌<◌, ◌≤◌, ◌+◌, true, [], reverse, All, Any, Some, slice_get, map, length, vec_len, IfOk};
 ghost use Rattle.flow_journal.specs.Setting.{last_role};
 ghost use Rattle.flow_journal.specs.Histories.{is_history};
 ghost use Rattle.board_rules.specs.States.{past};
@@ -20,7 +20,7 @@ use crate::{
 use board_rules::{BoardCalls, Done, Load, NotYours, Save, Settled, Take};
 use flow_journal::Progress;
 use nd_base::{Held, OutOfMemory};
-use std::alloc::Global;
+use std::alloc::{AllocError, Global};
 use std::sync::Wait;
 use turn_lock::{Pass, TurnLock};
 
@@ -68,7 +68,13 @@ impl<F: Held, B: BoardCalls<F>> Desk<F> for TurnLock<Played<F, B>> {
         role: u32,
         tick: u64,
     ) -> Load<F::Blank> {
-        match make(self, rt, alloc, &mut pass.inner, DeskOp::Load { role, tick }) {
+        match make(
+            self,
+            rt,
+            alloc,
+            &mut pass.inner,
+            DeskOp::Load { role, tick },
+        ) {
             DeskReply::Load(answer) => {
                 pass.last = after_load(&answer);
                 answer
@@ -85,7 +91,13 @@ impl<F: Held, B: BoardCalls<F>> Desk<F> for TurnLock<Played<F, B>> {
         role: u32,
         frame: F,
     ) -> Result<(), NotYours<F>> {
-        match make(self, rt, alloc, &mut pass.inner, DeskOp::Issue { role, frame }) {
+        match make(
+            self,
+            rt,
+            alloc,
+            &mut pass.inner,
+            DeskOp::Issue { role, frame },
+        ) {
             DeskReply::Issue(answer) => {
                 pass.last = after_issue(&answer);
                 answer
@@ -102,7 +114,13 @@ impl<F: Held, B: BoardCalls<F>> Desk<F> for TurnLock<Played<F, B>> {
         role: u32,
         node: u32,
     ) -> Take<F> {
-        match make(self, rt, alloc, &mut pass.inner, DeskOp::Take { role, node }) {
+        match make(
+            self,
+            rt,
+            alloc,
+            &mut pass.inner,
+            DeskOp::Take { role, node },
+        ) {
             DeskReply::Take(answer) => {
                 pass.last = after_take(&answer);
                 answer
@@ -146,7 +164,13 @@ impl<F: Held, B: BoardCalls<F>> Desk<F> for TurnLock<Played<F, B>> {
         role: u32,
         node: u32,
     ) -> Settled {
-        match make(self, rt, alloc, &mut pass.inner, DeskOp::Settle { role, node }) {
+        match make(
+            self,
+            rt,
+            alloc,
+            &mut pass.inner,
+            DeskOp::Settle { role, node },
+        ) {
             DeskReply::Settle(answer) => {
                 pass.last = Last::Other;
                 answer
@@ -186,7 +210,13 @@ impl<F: Held, B: BoardCalls<F>> Desk<F> for TurnLock<Played<F, B>> {
         role: u32,
         node: u32,
     ) -> Save<F> {
-        match make(self, rt, alloc, &mut pass.inner, DeskOp::Save { role, node }) {
+        match make(
+            self,
+            rt,
+            alloc,
+            &mut pass.inner,
+            DeskOp::Save { role, node },
+        ) {
             DeskReply::Save(answer) => {
                 pass.last = Last::Other;
                 answer
@@ -203,7 +233,13 @@ impl<F: Held, B: BoardCalls<F>> Desk<F> for TurnLock<Played<F, B>> {
         role: u32,
         frame: F,
     ) -> Result<(), NotYours<F>> {
-        match make(self, rt, alloc, &mut pass.inner, DeskOp::Saved { role, frame }) {
+        match make(
+            self,
+            rt,
+            alloc,
+            &mut pass.inner,
+            DeskOp::Saved { role, frame },
+        ) {
             DeskReply::Saved(answer) => {
                 pass.last = after_issue(&answer);
                 answer
@@ -229,6 +265,22 @@ impl<F: Held, B: BoardCalls<F>> Desk<F> for TurnLock<Played<F, B>> {
     }
 }
 
+// Passes with which no call was made.
+fn fresh_passes<F: Held, B: BoardCalls<F>>(
+    alloc: Global,
+    inners: Vec<Pass<Played<F, B>>>,
+) -> Result<Vec<TurnPass<F, B>>, AllocError>
+    ensures { IfOk result (λ passes. passes.items ≡ map (λ p. record { inner = p; last = Last.Fresh }) inners.items) }
+{
+    inners
+        .into_iter()
+        .map(|inner| TurnPass {
+            inner,
+            last: Last::Fresh,
+        })
+        .collect(alloc)
+}
+
 /// A board that nobody has called under a turn lock, with a pass for each of so many roles: pass k, from 0, is that of role k.
 ///
 /// # Errors
@@ -245,13 +297,7 @@ pub fn share_board<F: Held, B: BoardCalls<F>>(
     ensures fresh { IfOk result (λ r. (k : ℕ) (p : _) → slice_get r.1.items k ≡ Some p → IsFreshOf r.0.id k p.inner p.last) }
 {
     let (desk, inners) = TurnLock::new(alloc, Played::new(board), roles)?;
-    let passes = inners
-        .into_iter()
-        .map(|inner| TurnPass {
-            inner,
-            last: Last::Fresh,
-        })
-        .collect(alloc)?;
+    let passes = fresh_passes(alloc, inners)?;
     Ok((desk, passes))
 }
 

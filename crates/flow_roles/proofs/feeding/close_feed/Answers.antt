@@ -1,4 +1,4 @@
-use Rattle.std.proofs.Common.{refl, length}
+use Rattle.std.proofs.Common.{length}
 use Rattle.board_rules.specs.declared.answers.Settled.TheVariants.{Done, NotYet}
 use Rattle.board_rules.specs.RunMeasures.{run_setting}
 use Rattle.flow_roles.specs.RoleMoves.{feeder_logs}

@@ -1,5 +1,5 @@
 use Rattle.std.proofs.Common.{refl, length}
-use Rattle.board_rules.specs.declared.answers.Load.TheVariants.{Left, Busy, Ended, NotYet, Refused, OutOfMemory, Loaded}
+use Rattle.board_rules.specs.declared.answers.Load.TheVariants.{Left, Busy, Ended, NotYet, OutOfMemory}
 use Rattle.board_rules.specs.RunMeasures.{run_setting}
 use Rattle.flow_roles.specs.RoleMoves.{feeder_logs}
 use Rattle.flow_roles.specs.RoleEnds.{feeder_ends}

@@ -1,4 +1,3 @@
-use Rattle.std.proofs.Common.{◌<◌, ◌≡◌, sym, ap, ◌∙◌, length}
 use Rattle.flow_roles.proofs.Results.{index-of-stack, fires-for}
 use Rattle.flow_roles.proofs.job.fires_at.Goals as goal
 

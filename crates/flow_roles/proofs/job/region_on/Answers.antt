@@ -1,4 +1,4 @@
-use Rattle.std.proofs.Common.{◌≡◌, ℕ, List, sym, ap, ◌∙◌, subst, arith, length, refl}
+use Rattle.std.proofs.Common.{sym, ap, ◌∙◌, subst, length}
 use Rattle.nd_base.specs.declared.frame.FrameName.{FrameName}
 use Rattle.frame_store.specs.Content.{IsContent}
 use Rattle.flow_journal.specs.Pasts.{frame}

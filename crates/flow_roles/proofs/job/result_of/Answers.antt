@@ -1,5 +1,5 @@
-use Rattle.std.proofs.Common.{◌≡◌, sym, ap, ◌∙◌, length, refl, Some, None, false}
-use Rattle.flow_roles.proofs.Results.{result-roi, result-stats, result-circular, result-file, result-scatter, rule-of, node-has-rule, blank-there, blank-room, stands-whole, passed-on}
+use Rattle.std.proofs.Common.{refl, Some, false}
+use Rattle.flow_roles.proofs.Results.{result-stats, result-circular, result-file, result-scatter, rule-of, node-has-rule, blank-there, passed-on}
 use Rattle.flow_roles.proofs.job.result_of.Goals as goal
 
 pub unreachable-requires : goal.unreachable-requires

@@ -1,4 +1,4 @@
-use Rattle.std.proofs.Common.{refl, length, sym, subst}
+use Rattle.std.proofs.Common.{refl, length}
 use Rattle.board_rules.specs.RunMeasures.{run_setting}
 use Rattle.flow_roles.specs.RoleMoves.{worker_logs}
 use Rattle.flow_roles.specs.RoleEnds.{worker_ends}

@@ -1,10 +1,10 @@
 use Rattle.std.proofs.Common.{refl, length}
-use Rattle.board_rules.specs.declared.answers.Take.TheVariants.{Left, Busy, Ended, Idle, PoolDrop, OutOfMemory, Job}
+use Rattle.board_rules.specs.declared.answers.Take.TheVariants.{Left, Ended, Idle, OutOfMemory}
 use Rattle.board_rules.specs.RunMeasures.{run_setting}
 use Rattle.flow_roles.specs.RoleMoves.{worker_logs}
 use Rattle.flow_roles.specs.RoleEnds.{worker_ends}
 use Rattle.flow_roles.specs.Feeder.{name_of, parts_of}
-use Rattle.flow_roles.proofs.RoleCalls.{gone-again, gone-free, leave-free, worker-quiet}
+use Rattle.flow_roles.proofs.RoleCalls.{gone-free, leave-free, worker-quiet}
 use Rattle.flow_roles.proofs.WorkerCalls.{take-goes, take-left-seen, take-ended-seen, take-isnt-busy, take-drops, take-works}
 use Rattle.flow_roles.proofs.working.work_round.Goals as goal
 
