@@ -1,5 +1,5 @@
 -- A closed feed has offered every frame, and the input of a settled node has ended.
-use Rattle.std.proofs.Common.{◌≡◌, ℕ, Bool, true, false, not, ◌&&◌, cond, eqb, List, [], ◌∷◌, length, refl, sym, ap, ◌∙◌, subst, arith, Option, Some, None, inl, inr}
+use Rattle.std.proofs.Common.{◌≡◌, ℕ, ◌≤◌, Bool, true, false, not, ◌&&◌, cond, eqb, List, [], ◌∷◌, length, refl, sym, ap, ◌∙◌, subst, arith, Option, Some, None, inl, inr}
 use Rattle.std.specs.Prelude.{find}
 use Rattle.std.specs.List.{list_any}
 use Rattle.std.proofs.lemmas.Bool.{and_parts, or_parts, false≢true, true≢false, eqb-true, eq-eqb, cases_Bool}
@@ -102,3 +102,25 @@ input-ended s (Settle r w ∷ P) v h c =
       | inr away ↦ ended-on (node s v).input (Settle r w) P (input-ended s P v (and_parts (is_legal s P) _ h).0 (rw away at c))
     ]
 input-ended s (e ∷ P) v h c = ended-on (node s v).input e P (input-ended s P v (and_parts (is_legal s P) _ h).0 c)
+
+-- a reclaim offers none
+next-back : (s : Setting) (r : ℕ) (e : Entry) (P : Past) → is_legal s (Reclaim r ∷ P) ≡ true → hand r P ≡ Some e → next_index (Reclaim r ∷ P) ≤ next_index P
+next-back s r (Load q k b n f g x) P h held = omega (arith, index_laws.reclaim s r q k b n f g x P h held)
+next-back s r (Take q v m k) P h held = omega (arith, index_laws.reclaim_other s r (Take q v m k) P (and_parts (is_legal s P) _ h).0 held refl)
+next-back s r (TakeBlock f x q v m k b n g) P h held = omega (arith, index_laws.reclaim_other s r (TakeBlock f x q v m k b n g) P (and_parts (is_legal s P) _ h).0 held refl)
+next-back s r e P h held = omega (arith, index_laws.reclaim_other s r e P (and_parts (is_legal s P) _ h).0 held refl)
+
+-- no frame beyond the stack is offered
+pub next-most : (s : Setting) (P : Past) → is_legal s P ≡ true → next_index P ≤ length s.ids
+next-most s [] h = omega arith
+next-most s (Load r k b n f g x ∷ P) h =
+    let l = ((row_laws.load s P r k b n f g x).0 (row_of s (Load r k b n f g x) P (λ d. refl) h)).0 in
+    omega (arith, index_laws.load s r k b n f g x P h, l.in_turn, l.some)
+next-most s (LoadRefused r k n z ∷ P) h =
+    let l = ((row_laws.load_refused s P r k n z).0 (row_of s (LoadRefused r k n z) P (λ d. refl) h)).0 in
+    omega (arith, index_laws.load_refused s r k n z P h, l.in_turn, l.some)
+next-most s (Reclaim r ∷ P) h =
+    let legal = (and_parts (is_legal s P) _ h).0 in
+    let f = (row_laws.reclaim s P r).0 (row_of s (Reclaim r) P (λ d. refl) h) in
+    omega (arith, next-back s r f.holds.0 P h f.holds.1, next-most s P legal)
+next-most s (e ∷ P) h = omega (arith, index_laws.others e P refl, next-most s P (and_parts (is_legal s P) _ h).0)

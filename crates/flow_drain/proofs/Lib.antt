@@ -2,3 +2,9 @@ pub mod Closed
 pub mod Roles
 pub mod Emptied
 pub mod EndLaws
+pub mod Growth
+pub mod Feeds
+pub mod Works
+pub mod Rounds
+pub mod TakingBack
+pub mod Quiet

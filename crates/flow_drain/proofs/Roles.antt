@@ -2,7 +2,7 @@
 use Rattle.std.proofs.Common.{◌≡◌, ℕ, ◌≤◌, Bool, true, false, leb, List, [], ◌∷◌, refl, sym, ap, ◌∙◌, subst, arith, Option, Some, None, inl, inr}
 use Rattle.std.specs.Prelude.{find}
 use Rattle.std.specs.List.{list_all}
-use Rattle.std.proofs.lemmas.Bool.{and_parts, and_from, false≢true, eqb-true, leb-true, le-leb, cases_Bool}
+use Rattle.std.proofs.lemmas.Bool.{and_parts, and_from, false≢true, eqb-true, eq-eqb, leb-true, le-leb, cases_Bool}
 use Rattle.flow_journal.specs.declared.entry.Entry.{Entry}
 use Rattle.flow_journal.specs.declared.entry.Entry.TheVariants.{Load, Issue, Take, TakeBlock, Put, Save, Saved, Reclaim}
 use Rattle.flow_journal.specs.Setting.{Setting, last_role}
@@ -12,13 +12,13 @@ use Rattle.flow_journal.specs.Histories.{is_legal}
 use Rattle.flow_journal.proofs.Hands.{row_of}
 use Rattle.flow_journal.proofs.Rows.{row_laws}
 
--- the hand is of a role of the run
+-- a hand, of a role of the run
 abbrev pub of_run : Setting → Entry → Bool
 of_run s (Load r k b n f g x) = leb r (last_role s)
 of_run s (Take r v m k) = leb r (last_role s)
 of_run s (TakeBlock f x r v m k b n g) = leb r (last_role s)
 of_run s (Save r v m k g) = leb r (last_role s)
-of_run s _ = true
+of_run s _ = false
 
 kept : (s : Setting) (r : ℕ) (H : Past) → list_all (of_run s) H ≡ true → list_all (of_run s) (let_go r H) ≡ true
 kept s r [] h = refl
@@ -67,3 +67,19 @@ found-of-run s r (x ∷ xs) e h f =
 
 pub role-of-hand : (s : Setting) (P : Past) (r : ℕ) (e : Entry) → is_legal s P ≡ true → hand r P ≡ Some e → r ≤ last_role s
 role-of-hand s P r e h is = found-of-run s r (hands P) e (hands-of-run s P h) is
+
+found-here : (r : ℕ) (e : Entry) (H : Past) → takes_up r e ≡ true → find (takes_up r) (e ∷ H) ≡ None → ⊥
+found-here r e H up none = let some : Some e ≡ None = rw up at none in absurd (cc)
+
+all-free : (s : Setting) (H : Past) → list_all (of_run s) H ≡ true → ((r : ℕ) → find (takes_up r) H ≡ None) → H ≡ []
+all-free s [] h none = refl
+all-free s (Load r k b n f g x ∷ H) h none = absurd (found-here r (Load r k b n f g x) H (eq-eqb r r refl) (none r))
+all-free s (Take r v m k ∷ H) h none = absurd (found-here r (Take r v m k) H (eq-eqb r r refl) (none r))
+all-free s (TakeBlock f x r v m k b n g ∷ H) h none = absurd (found-here r (TakeBlock f x r v m k b n g) H (eq-eqb r r refl) (none r))
+all-free s (Save r v m k g ∷ H) h none = absurd (found-here r (Save r v m k g) H (eq-eqb r r refl) (none r))
+all-free s (e ∷ H) h none = absurd (false≢true h)
+
+-- where no role has a hand there is none
+pub no-hands : (s : Setting) (P : Past) → is_legal s P ≡ true → ((r : ℕ) → hand r P ≡ None) → hands P ≡ []
+no-hands s P h none = all-free s (hands P) (hands-of-run s P h) none
+
