@@ -28,7 +28,9 @@ use Rattle.board_rules.specs.RunMeasures.{run_setting}
 use Rattle.run_laws.proofs.Runs.{node-is, number-is}
 use Rattle.run_laws.proofs.Makers.{input-source}
 use Rattle.flow_roles.proofs.Named.{node-rule}
-use Rattle.flow_drain.specs.Drains.{DrainMoves, IsDrained}
+use Rattle.board_rules.specs.declared.answers.Left.{Left}
+use Rattle.flow_drain.specs.Drains.{DrainMoves, IsDrained, taken_back}
+use Rattle.flow_drain.proofs.TakingBack.{taken-none}
 use Rattle.flow_drain.specs.DrainSteps.{IsIdle, IsFed, Waits, IsQuiet}
 use Rattle.flow_drain.proofs.Closed.{all-offered}
 use Rattle.flow_drain.proofs.Emptied.{queue-empty, list-empty}
@@ -206,3 +208,10 @@ round-drained g stack now fed new sound idle mid back feed quiet =
     subst (λ (b : BoardState). IsDrained (run_setting g stack) (past b)) (sym (back ∙ mid))
     (quiet-drained g stack now sound idle (feed mid)
     (λ v here. subst (λ (b : BoardState). IsQuiet (run_setting g stack) (past b) v) mid (quiet back v here)))
+
+-- where nothing was left at the start, nothing was taken back either
+pub still-from : {F B O : Type 0} (name_of : F → FrameName) (s : Setting) (ends : List (Left F B O)) (start : BoardState) → IsDrained s (past start) → (new : BoardState)
+    → (IsDrained s (past (taken_back name_of s 0 ends start)) → new ≡ taken_back name_of s 0 ends start) → new ≡ start
+still-from name_of s ends start drained new still =
+    let same_ = taken-none name_of s 0 ends start drained.free in
+    still (subst (λ (b : BoardState). IsDrained s (past b)) (sym same_) drained) ∙ same_
