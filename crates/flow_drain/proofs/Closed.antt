@@ -1,8 +1,8 @@
 -- A closed feed has offered every frame, and the input of a settled node has ended.
-use Rattle.std.proofs.Common.{◌≡◌, ℕ, ◌≤◌, Bool, true, false, not, ◌&&◌, cond, eqb, List, [], ◌∷◌, length, refl, sym, ap, ◌∙◌, subst, arith, Option, Some, None, inl, inr}
+use Rattle.std.proofs.Common.{◌≡◌, ℕ, ◌≤◌, Bool, true, false, eqb, [], ◌∷◌, length, refl, ◌∙◌, subst, arith, Some, inl, inr}
 use Rattle.std.specs.Prelude.{find}
 use Rattle.std.specs.List.{list_any}
-use Rattle.std.proofs.lemmas.Bool.{and_parts, or_parts, false≢true, true≢false, eqb-true, eq-eqb, cases_Bool}
+use Rattle.std.proofs.lemmas.Bool.{and_parts, or_parts, false≢true, eqb-true, cases_Bool}
 use Rattle.flow_journal.specs.declared.entry.Entry.{Entry}
 use Rattle.flow_journal.specs.declared.entry.Entry.TheVariants.{Load, LoadRefused, Issue, Take, TakeBlock, Put, Settle, Save, Saved, Close, Reclaim}
 use Rattle.flow_journal.specs.Setting.{Setting, node}
@@ -10,7 +10,6 @@ use Rattle.flow_journal.specs.Pasts.{Past}
 use Rattle.flow_journal.specs.Hands.{takes_up, let_go, hands, hand, is_loaded}
 use Rattle.flow_journal.specs.Ended.{closes, is_closed, settles, is_settled, has_ended}
 use Rattle.flow_journal.specs.Offered.{next_index}
-use Rattle.flow_journal.specs.FirstEntries.{has_loaded}
 use Rattle.flow_journal.specs.Histories.{is_legal}
 use Rattle.flow_journal.proofs.Hands.{row_of}
 use Rattle.flow_journal.proofs.Rows.{row_laws}
@@ -88,8 +87,8 @@ all-offered s (e ∷ P) h c =
 pub ended-on : (u : ℕ) (e : Entry) (P : Past) → has_ended u P ≡ true → has_ended u (e ∷ P) ≡ true
 ended-on u e P h =
     elim (cases_Bool (eqb u 0)) [
-      | inl driver ↦ let was : is_closed P ≡ true = rw driver at h in rw driver (elim (cases_Bool (closes e)) [ | inl now_ ↦ rw now_ refl | inr not_ ↦ rw not_ was ])
-      | inr other ↦ let was : is_settled u P ≡ true = rw other at h in rw other (elim (cases_Bool (settles u e)) [ | inl now_ ↦ rw now_ refl | inr not_ ↦ rw not_ was ])
+      | inl driver ↦ let was : is_closed P ≡ true = rw driver at h in rw driver (elim (cases_Bool (closes e)) [ inl now_ ↦ rw now_ refl | inr not_ ↦ rw not_ was ])
+      | inr other ↦ let was : is_settled u P ≡ true = rw other at h in rw other (elim (cases_Bool (settles u e)) [ inl now_ ↦ rw now_ refl | inr not_ ↦ rw not_ was ])
     ]
 
 pub input-ended : (s : Setting) (P : Past) (v : ℕ) → is_legal s P ≡ true → is_settled v P ≡ true → has_ended (node s v).input P ≡ true

@@ -1,12 +1,10 @@
 -- Nothing is queued or waits at a settled node: what its input emitted came before.
-use Rattle.std.proofs.Common.{◌≡◌, ◌≢◌, ℕ, ◌+◌, ◌≤◌, Bool, true, false, ◌&&◌, cond, eqb, List, [], ◌∷◌, ◌++◌, map, drop, length, refl, sym, ap, ◌∙◌, subst, arith, Option, Some, None, inl, inr}
-use Rattle.std.specs.Prelude.{flat_map}
+use Rattle.std.proofs.Common.{◌≡◌, ◌≢◌, ℕ, ◌≤◌, Bool, true, false, ◌&&◌, cond, eqb, List, [], ◌∷◌, map, drop, refl, sym, ap, ◌∙◌, subst, arith, Option, Some, None, inl, inr}
 use Rattle.std.specs.List.{list_all}
 use Rattle.std.proofs.lemmas.Bool.{and_parts, and_from, false≢true, true≢false, eqb-true, eq-eqb, ne_eqb, cases_Bool}
 use Rattle.nd_base.specs.declared.frame.FrameName.{FrameName}
 use Rattle.flow_journal.specs.declared.entry.Entry.{Entry}
 use Rattle.flow_journal.specs.declared.entry.Entry.TheVariants.{Load, LoadRefused, Tick, Issue, Emit, Accept, Full, Take, TakeBlock, PoolDrop, Put, SortDrop, Settle, Save, Saved, Close, Leave, Reclaim}
-use Rattle.flow_journal.specs.declared.entry.Why.{Why}
 use Rattle.flow_journal.specs.declared.entry.Why.TheVariants.{Plain}
 use Rattle.flow_journal.specs.Setting.{Setting, node, is_sorted, node_numbers}
 use Rattle.flow_journal.specs.Turns.{offered_to}
@@ -22,14 +20,14 @@ use Rattle.flow_journal.proofs.Changes.{put_laws}
 use Rattle.flow_journal.proofs.Steps.{same_refl}
 use Rattle.flow_journal.proofs.Hands.{row_of}
 use Rattle.flow_journal.proofs.Rows.{row_laws}
-use Rattle.flow_journal.proofs.EntryCounts.{count, bit, count-cons, count-append, count-drop, count-let_go, owed-first, owed-answered, answers-by_Accept, answers-by_Full, answers-by_Tick}
+use Rattle.flow_journal.proofs.EntryCounts.{count, bit, count-cons, count-append, count-drop, count-let_go, owed-first, owed-answered, answers-by_Accept, answers-by_Tick}
 use Rattle.flow_journal.proofs.Settled.{settled-idle, put-unsettled}
 use Rattle.flow_journal.proofs.Outs.{out_of, is_out_at, AllOutAt, waits, none_elsewhere, result-at, flush-at, goes_out-at, count-flush, count-least_first}
 use Rattle.flow_journal.proofs.Offers.{is_number, once_numbered, none_numbered_0, child_once}
 use Rattle.flow_journal.proofs.Dealing.{count-offered}
 use Rattle.flow_journal.proofs.Issues.{looks, looks-none, looks-le, puts_at_node, settles_node}
-use Rattle.flow_journal.proofs.Emissions.{removed, removed-le, owed-waits, owed-Emit_out, owed-SortDrop_out, no_outs_in_offers}
-use Rattle.flow_drain.proofs.Closed.{AllOffered, all-offered, found-not, input-ended}
+use Rattle.flow_journal.proofs.Emissions.{removed, owed-waits, owed-Emit_out, owed-SortDrop_out, no_outs_in_offers}
+use Rattle.flow_drain.proofs.Closed.{all-offered, found-not, input-ended}
 
 -- WHAT WAITS AT A SETTLED NODE IS OWED
 
@@ -141,7 +139,6 @@ waits-owed s (Leave r ∷ P) v t nz sorted h c =
     omega (arith, after-first s (Leave r) P v t _ (λ d. refl) h (waits-owed s P v t nz sorted (and_parts _ _ h).0 c))
 waits-owed s (Reclaim r ∷ P) v t nz sorted h c =
     omega (arith, after-first s (Reclaim r) P v t _ (λ d. refl) h (waits-owed s P v t nz sorted (and_parts _ _ h).0 c))
-
 
 none-waiting : (ws : List Waiting) → count (waits (λ a. true)) ws ≡ 0 → ws ≡ []
 none-waiting [] h = refl

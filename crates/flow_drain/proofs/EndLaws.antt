@@ -1,5 +1,4 @@
 -- What has ended.
-use Rattle.std.proofs.Common.{◌≡◌, true}
 use Rattle.flow_drain.specs.EndLaws.{EndLaws}
 use Rattle.flow_drain.proofs.Closed.{all-offered, input-ended}
 use Rattle.flow_drain.proofs.Roles.{role-of-hand}

@@ -1,8 +1,8 @@
 -- The drain's loads, and what they leave.
-use Rattle.std.proofs.Common.{◌≡◌, ◌⊎◌, ℕ, ◌^◌, ◌<◌, ◌≤◌, Bool, true, false, not, ◌&&◌, ◌||◌, eqb, cond, leb, if◌then◌else◌, List, [], ◌∷◌, length, refl, sym, ap, ◌∙◌, subst, arith, Option, Some, None, Result, Ok, Err, inl, inr}
+use Rattle.std.proofs.Common.{◌≡◌, ◌⊎◌, ℕ, ◌^◌, ◌≤◌, Bool, true, false, not, ◌&&◌, eqb, cond, leb, if◌then◌else◌, [], ◌∷◌, length, refl, sym, ap, ◌∙◌, subst, arith, Option, Some, None, Ok, Err, inl, inr}
 use Rattle.std.specs.Prelude.{is_none}
 use Rattle.std.specs.List.{list_all, list_any}
-use Rattle.std.proofs.lemmas.Bool.{cases_Bool, eq-eqb, eqb-true, false≢true, true≢false, and_parts, and_from, or_parts, leb-true, le-leb, not-true, not-false}
+use Rattle.std.proofs.lemmas.Bool.{cases_Bool, eq-eqb, false≢true, true≢false, and_parts, and_from, leb-true, le-leb, not-true}
 use Rattle.nd_base.specs.Parts.{Parts}
 use Rattle.nd_base.specs.declared.frame.FrameName.{FrameName}
 use Rattle.pool_ledger.specs.Grants.{Answer, Granted}
@@ -35,8 +35,8 @@ use Rattle.flow_roles.proofs.Results.{issue-whole}
 use Rattle.flow_roles.proofs.FeederCalls.{load-still, load-loaded}
 use Rattle.flow_roles.proofs.FeederCalls as feeder
 use Rattle.flow_drain.specs.Drains.{DrainMoves}
-use Rattle.flow_drain.specs.DrainSteps.{IsIdle, Holds, HasFrame, IsFed, Waits}
-use Rattle.flow_drain.proofs.Closed.{all-offered, next-most}
+use Rattle.flow_drain.specs.DrainSteps.{IsIdle, HasFrame, IsFed, Waits}
+use Rattle.flow_drain.proofs.Closed.{next-most}
 use Rattle.flow_drain.proofs.Growth.{longer, squeezed, moves-on, no-move, one-of, hands-moved, hand-one, none-held, let-one}
 
 -- the last role is never sent away

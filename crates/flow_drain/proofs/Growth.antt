@@ -1,18 +1,19 @@
 -- A board only grows, and what moves leave of the hands.
-use Rattle.std.proofs.Common.{◌≡◌, ℕ, suc, ◌+◌, ◌<◌, ◌≤◌, Bool, true, false, eqb, List, [], ◌∷◌, ◌++◌, length, refl, sym, ap, ◌∙◌, subst, arith, Option, Some, None, inl, inr}
+use Rattle.std.proofs.Common.{◌≡◌, ℕ, suc, ◌<◌, ◌≤◌, true, false, [], ◌∷◌, ◌++◌, length, refl, sym, ap, ◌∙◌, subst, arith, Some, None}
 use Rattle.std.specs.Prelude.{find}
 use Rattle.std.proofs.lemmas.List.{append_assoc, length-append}
 use Rattle.flow_journal.specs.declared.entry.Entry.{Entry}
 use Rattle.flow_journal.specs.declared.entry.Entry.TheVariants.{Load, LoadRefused, Issue, Take, TakeBlock, PoolDrop, Put, Settle, Save, Saved, Close, Leave, Reclaim}
 use Rattle.flow_journal.specs.Setting.{Setting}
 use Rattle.flow_journal.specs.Pasts.{Past}
-use Rattle.flow_journal.specs.Hands.{takes_up, let_go, hands, hand, is_free}
+use Rattle.flow_journal.specs.Hands.{takes_up, let_go, hands, hand}
 use Rattle.flow_journal.specs.EntryLaws.{moves_hands}
 use Rattle.flow_journal.proofs.Changes.{job_laws}
 use Rattle.board_rules.specs.declared.told.Told.{Told}
 use Rattle.board_rules.specs.States.{BoardState, past, begins}
 use Rattle.board_rules.specs.Moving.{moved_at}
 use Rattle.board_rules.proofs.Moves.{followers, one-move}
+use Rattle.flow_roles.specs.TurnPasses.{BeginsWith}
 use Rattle.flow_roles.proofs.Calls.{GoesAfter, from-move}
 use Rattle.flow_drain.specs.Drains.{is_drains, is_load, DrainMoves}
 
@@ -49,6 +50,17 @@ squeezed s tick a b c m n is = moves-same s tick a b m (omega (arith, moves-long
 pub moves-on : (s : Setting) (tick : ℕ) (a b c : BoardState) → DrainMoves s tick a b → DrainMoves s tick b c → DrainMoves s tick a c
 moves-on s tick a b _ m (DrainMoves.none c is) = subst (λ (x : BoardState). DrainMoves s tick a x) (sym is) m
 moves-on s tick a b _ m (DrainMoves.more d c t at n e l is) = DrainMoves.more d c t at (moves-on s tick a b d m n) e l is
+
+-- the old board stands at the beginning of the new one
+pub grown : (s : Setting) (tick : ℕ) (old new : BoardState) → DrainMoves s tick old new → BeginsWith new old
+grown s tick old _ (DrainMoves.none new is) = ([], is)
+grown s tick old _ (DrainMoves.more b new t at m d l is) =
+    let g = grown s tick old b m in
+    let f = followers s at t b in
+    (f.more ++ t ∷ g.0, is ∙ (f.whole ∙ (ap (λ (x : BoardState). f.more ++ t ∷ x) g.1 ∙ sym (append_assoc f.more (t ∷ g.0) old))))
+
+pub begins-on : (a b c : BoardState) → BeginsWith b a → BeginsWith c b → BeginsWith c a
+begins-on a b c p q = (q.0 ++ p.0, q.1 ∙ (ap (λ (x : BoardState). q.0 ++ x) p.1 ∙ sym (append_assoc q.0 p.0 a)))
 
 pub no-move : (s : Setting) (tick : ℕ) (old new : BoardState) → new ≡ old → DrainMoves s tick old new
 no-move s tick old new is = DrainMoves.none new is

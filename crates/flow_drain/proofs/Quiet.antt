@@ -1,9 +1,9 @@
 -- A round without a move: nothing is left but pieces to save.
-use Rattle.std.proofs.Common.{◌≡◌, ◌≢◌, ◌⊎◌, ℕ, zero, suc, ◌+◌, ◌-◌, ◌<◌, ◌≤◌, Bool, true, false, ◌&&◌, eqb, ltb, leb, List, [], ◌∷◌, length, refl, sym, ap, ◌∙◌, subst, arith, inl, inr}
+use Rattle.std.proofs.Common.{◌≡◌, ◌≢◌, ◌⊎◌, ℕ, zero, suc, ◌+◌, ◌<◌, ◌≤◌, Bool, true, false, ◌&&◌, eqb, ltb, leb, List, [], ◌∷◌, length, refl, sym, ap, ◌∙◌, subst, arith, inl, inr}
 use Rattle.std.specs.Prelude.{filter, slice_get, Option, Some, None}
 use Rattle.std.specs.Option.{option_map_or}
 use Rattle.std.specs.List.{list_all}
-use Rattle.std.proofs.lemmas.Bool.{and_parts, and_from, cases_Bool, eq-eqb, eqb-true, ne_eqb, lt-ltb, le-leb, true≢false, false≢true}
+use Rattle.std.proofs.lemmas.Bool.{and_parts, and_from, cases_Bool, eq-eqb, eqb-true, lt-ltb, le-leb, true≢false, false≢true}
 use Rattle.nd_base.specs.Array.{StackValue}
 use Rattle.nd_base.specs.GraphRules.{IsGraph, may_feed, is_source, rule_at}
 use Rattle.nd_base.specs.declared.graph.NodeRule.{NodeRule}
@@ -12,8 +12,7 @@ use Rattle.nd_base.specs.declared.graph.Graph.{Graph}
 use Rattle.chain_plain.specs.Plans.{makers_of}
 use Rattle.chain_plain.proofs.Rules.{stands}
 use Rattle.chain_plain.proofs.Depths.{depth}
-use Rattle.flow_journal.specs.Setting.{Setting, Node, node, is_node, numbers_from, node_numbers, children}
-use Rattle.flow_journal.specs.RunSetting.{node_of}
+use Rattle.flow_journal.specs.Setting.{Setting, Node, node, is_node, numbers_from, node_numbers}
 use Rattle.flow_journal.specs.Pasts.{Past}
 use Rattle.flow_journal.specs.Hands.{hands}
 use Rattle.flow_journal.specs.Ended.{is_closed, is_settled, has_ended}
@@ -32,10 +31,9 @@ use Rattle.board_rules.specs.declared.answers.Left.{Left}
 use Rattle.flow_drain.specs.Drains.{DrainMoves, IsDrained, taken_back}
 use Rattle.flow_drain.proofs.TakingBack.{taken-none}
 use Rattle.flow_drain.specs.DrainSteps.{IsIdle, IsFed, Waits, IsQuiet}
-use Rattle.flow_drain.proofs.Closed.{all-offered}
 use Rattle.flow_drain.proofs.Emptied.{queue-empty, list-empty}
 use Rattle.flow_drain.proofs.Growth.{squeezed, moves-on, moves-same, moves-longer, no-move}
-use Rattle.flow_drain.proofs.Works.{IsSound, node-sound}
+use Rattle.flow_drain.proofs.Works.{node-sound}
 use Rattle.flow_drain.proofs.Rounds.{node-above}
 
 -- NUMBERS OF NODES
@@ -105,9 +103,9 @@ none-waits : (g : Graph) (stack : StackValue) (P : Past) → IsGraph g → ((v :
 none-waits g stack P sound quiet waits =
     let s = run_setting g stack in
     let room : (v : ℕ) → 1 ≤ v → v < 1 + length s.nodes → has_room s P v ≡ true = λ v low high.
-        let here = numbered s v low high in
-        let none : length (queued v P) ≡ 0 = ap (λ (xs : List FrameName). length xs) (quiet v here).empty in
-        lt-ltb (length (queued v P)) (node s v).queue (omega (arith, none, (node-sound g stack v sound here).place)) in
+    let here = numbered s v low high in
+    let none : length (queued v P) ≡ 0 = ap (λ (xs : List FrameName). length xs) (quiet v here).empty in
+    lt-ltb (length (queued v P)) (node s v).queue (omega (arith, none, (node-sound g stack v sound here).place)) in
     true≢false (sym (all-chosen (has_room s P) (λ (c : ℕ). eqb (node s c).input 0) (node_numbers s) (numbers-all (has_room s P) 1 s.nodes room)) ∙ waits)
 
 -- NOTHING IS LEFT
@@ -150,7 +148,7 @@ finished-drained s P legal h =
     let c = and_parts (is_closed P) (eqb (next_index P) (length s.ids)) b.0 in
     drained-by s P legal (no-hand (hands P) b.1) c.0 (eqb-true (next_index P) (length s.ids) c.1)
     (λ v here. let n = node-above s v here in
-        (and_parts (is_settled v P) (none_left (arrays_at s P v)) (all-numbers (is_done s P) 1 s.nodes a.1 v (omega (arith, n.0)) (omega (arith, n.1)))).0)
+    (and_parts (is_settled v P) (none_left (arrays_at s P v)) (all-numbers (is_done s P) 1 s.nodes a.1 v (omega (arith, n.0)) (omega (arith, n.1)))).0)
 
 pub fed-of : (s : Setting) (P : Past) → IsDrained s P → IsFed s P
 fed-of s P d = record { closed = d.closed; offered = d.offered }

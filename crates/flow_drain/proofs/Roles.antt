@@ -1,5 +1,5 @@
 -- Who has a hand is a role of the run.
-use Rattle.std.proofs.Common.{◌≡◌, ℕ, ◌≤◌, Bool, true, false, leb, List, [], ◌∷◌, refl, sym, ap, ◌∙◌, subst, arith, Option, Some, None, inl, inr}
+use Rattle.std.proofs.Common.{◌≡◌, ℕ, ◌≤◌, Bool, true, false, leb, [], ◌∷◌, refl, subst, Some, None, inl, inr}
 use Rattle.std.specs.Prelude.{find}
 use Rattle.std.specs.List.{list_all}
 use Rattle.std.proofs.lemmas.Bool.{and_parts, and_from, false≢true, eqb-true, eq-eqb, leb-true, le-leb, cases_Bool}
@@ -82,4 +82,3 @@ all-free s (e ∷ H) h none = absurd (false≢true h)
 -- where no role has a hand there is none
 pub no-hands : (s : Setting) (P : Past) → is_legal s P ≡ true → ((r : ℕ) → hand r P ≡ None) → hands P ≡ []
 no-hands s P h none = all-free s (hands P) (hands-of-run s P h) none
-

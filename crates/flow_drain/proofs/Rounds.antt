@@ -1,5 +1,5 @@
 -- What stays true while the drain works, and when nothing is left.
-use Rattle.std.proofs.Common.{◌≡◌, ◌≢◌, ℕ, ◌+◌, ◌-◌, ◌<◌, ◌≤◌, Bool, true, false, eqb, ltb, leb, List, [], refl, sym, ap, ◌∙◌, subst, arith, length, inl, inr}
+use Rattle.std.proofs.Common.{◌≡◌, ◌≢◌, ℕ, ◌+◌, ◌-◌, ◌<◌, ◌≤◌, true, eqb, ltb, leb, List, [], refl, sym, ap, ◌∙◌, subst, arith, length, inl, inr}
 use Rattle.std.proofs.lemmas.Bool.{and_parts, cases_Bool, eq-eqb, eqb-true, ltb-true, leb-true, lt-ltb, le-leb, and_from, true≢false}
 use Rattle.std.proofs.lemmas.List.{length-map}
 use Rattle.nd_base.specs.Array.{StackValue}
@@ -9,9 +9,7 @@ use Rattle.nd_base.specs.declared.plan.Plan.{Plan}
 use Rattle.chain_plain.specs.Plans.{plan_of}
 use Rattle.flow_journal.specs.RunSetting.{node_of}
 use Rattle.board_rules.specs.RunMeasures.{run_setting}
-use Rattle.nd_base.specs.declared.frame.FrameName.{FrameName}
 use Rattle.flow_journal.specs.Setting.{Setting, node, is_node, last_role}
-use Rattle.flow_journal.specs.Pasts.{Past}
 use Rattle.flow_journal.specs.Ended.{is_settled, has_ended}
 use Rattle.flow_journal.specs.Queued.{queued}
 use Rattle.flow_journal.specs.Histories.{is_legal, is_history}

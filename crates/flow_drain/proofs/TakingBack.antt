@@ -1,5 +1,5 @@
 -- What roles left is taken back, one after the other.
-use Rattle.std.proofs.Common.{◌≡◌, ◌≢◌, ◌⊎◌, ℕ, zero, suc, ◌+◌, ◌<◌, ◌≤◌, Bool, true, false, ◌||◌, eqb, ltb, cond, List, [], ◌∷◌, map, length, refl, sym, ap, ◌∙◌, subst, arith, Option, Some, None, Result, Ok, Err, inl, inr}
+use Rattle.std.proofs.Common.{◌≡◌, ◌≢◌, ℕ, suc, ◌+◌, ◌<◌, ◌≤◌, Bool, true, false, ◌||◌, eqb, ltb, cond, List, [], ◌∷◌, map, length, refl, sym, ap, ◌∙◌, subst, arith, Option, Some, None, Result, Ok, Err, inl, inr}
 use Rattle.std.specs.Prelude.{fold, slice_get, is_none, IsTrue}
 use Rattle.std.proofs.lemmas.Bool.{and_parts, cases_Bool, eq-eqb, ne_eqb, eqb-true, ltb-true, ltb-false, true≢false, false≢true}
 use Rattle.nd_base.specs.Array.{StackValue}
@@ -22,14 +22,15 @@ use Rattle.board_rules.specs.declared.answers.NoWhy.{NoWhy}
 use Rattle.board_rules.specs.declared.answers.NoWhy.TheVariants.{NoHand, Spent}
 use Rattle.board_rules.specs.declared.answers.NoReclaim.{NoReclaim}
 use Rattle.board_rules.specs.States.{BoardState, past, loses, lent_to}
-use Rattle.board_rules.specs.Moving.{moved}
 use Rattle.board_rules.specs.InHand.{has_part_of, has_grant, granted_size, IsWholeOf, OfSome, TellParts}
 use Rattle.board_rules.specs.Storage.{lost_of}
-use Rattle.board_rules.specs.Leaving.{reclaim_refusal, MayReclaim, ReclaimGives}
+use Rattle.board_rules.specs.Leaving.{MayReclaim, ReclaimGives}
 use Rattle.board_rules.specs.RunMeasures.{run_setting}
 use Rattle.board_rules.proofs.Legal.{reclaim-by}
 use Rattle.flow_drain.specs.Drains.{taken, taken_back}
 use Rattle.flow_drain.specs.DrainSteps.{IsIdle}
+use Rattle.flow_roles.specs.TurnPasses.{BeginsWith}
+use Rattle.flow_drain.proofs.Growth.{begins-on}
 use Rattle.flow_drain.proofs.Feeds.{free-of}
 use Rattle.flow_drain.proofs.Roles.{role-of-hand, no-hands}
 
@@ -65,16 +66,16 @@ module _ {F B O : Type 0} (name_of : F → FrameName) (parts : F → Option Part
       let same_lent = t.lent role (omega arith) in
       let same_once : was_reclaimed role (past now) ≡ was_reclaimed role (past start) = t.once role (omega arith) ∙ sym once in
       let at : Option Entry → Bool → Option Parts → Type 0 = λ o b lent. refused-by s role o b ≡ None
-          → OfSome (λ f. IsTrue (has_part_of (name_of f) o) → parts f ≡ lent) left.input
-          × OfSome (λ f. IsTrue (has_grant o) → IsWholeOf (granted_size o) (parts f)) left.made
-          × OfSome (λ k. TellParts parts → IsTrue (has_grant o) → bytes_of k ≡ granted_size o) left.blank in
+      → OfSome (λ f. IsTrue (has_part_of (name_of f) o) → parts f ≡ lent) left.input
+      × OfSome (λ f. IsTrue (has_grant o) → IsWholeOf (granted_size o) (parts f)) left.made
+      × OfSome (λ k. TellParts parts → IsTrue (has_grant o) → bytes_of k ≡ granted_size o) left.blank in
       let given : at (hand role (past start)) (was_reclaimed role (past start)) (lent_to role start) = may in
       let one : at (hand role (past now)) (was_reclaimed role (past start)) (lent_to role start) =
-          subst (λ (o : Option Entry). at o (was_reclaimed role (past start)) (lent_to role start)) (sym same_hand) given in
+      subst (λ (o : Option Entry). at o (was_reclaimed role (past start)) (lent_to role start)) (sym same_hand) given in
       let two : at (hand role (past now)) (was_reclaimed role (past now)) (lent_to role start) =
-          subst (λ (b : Bool). at (hand role (past now)) b (lent_to role start)) (sym same_once) one in
+      subst (λ (b : Bool). at (hand role (past now)) b (lent_to role start)) (sym same_once) one in
       let three : at (hand role (past now)) (was_reclaimed role (past now)) (lent_to role now) =
-          subst (λ (l : Option Parts). at (hand role (past now)) (was_reclaimed role (past now)) l) (sym same_lent) two in
+      subst (λ (l : Option Parts). at (hand role (past now)) (was_reclaimed role (past now)) l) (sym same_lent) two in
       three
 
 none-by : (o : Option Entry) → is_none o ≡ true → o ≡ None
@@ -128,7 +129,7 @@ module _ {F B O E : Type 0} (name_of : F → FrameName) (s : Setting) (now next 
             let move : next ≡ loses role (lost_of name_of (past now) (hand role (past now)) left) ∷ now = takes ∙ rw held refl in
             let legal_now : is_legal s (Reclaim role ∷ past now) ≡ true = (and_parts (is_legal s (Reclaim role ∷ past now)) _ (subst (λ (b : BoardState). is_history s (past b) ≡ true) move legal_)).0 in
             let other : (r : ℕ) → r ≢ role → hand r (past next) ≡ hand r (past now) =
-                λ r ne. ap (λ (b : BoardState). hand r (past b)) move ∙ hand_laws.others r (Reclaim role) (past now) refl (ne_eqb role r (λ is. ne (sym is))) in
+            λ r ne. ap (λ (b : BoardState). hand r (past b)) move ∙ hand_laws.others r (Reclaim role) (past now) refl (ne_eqb role r (λ is. ne (sym is))) in
             record {
               legal = legal_;
               keeps = λ r high. other r (λ is. omega (arith, high, is)) ∙ t.keeps r (omega (arith, high));
@@ -239,3 +240,16 @@ taken-none name_of s r [] b none = refl
 taken-none {F} {B} {O} name_of s r (left ∷ ends) b none =
     let same_ : taken name_of s r left b ≡ b = rw (free-of r (past b) none) refl in
     ap (λ (x : BoardState). taken_back {F = F} {B = B} {O = O} name_of s (suc r) ends x) same_ ∙ taken-none name_of s (suc r) ends b none
+
+taken-begins : {F B O : Type 0} (name_of : F → FrameName) (s : Setting) (r : ℕ) (left : Left F B O) (b : BoardState) → BeginsWith (taken name_of s r left b) b
+taken-begins name_of s r left b =
+    elim (cases_Bool (is_free r (past b))) [
+      | inl free ↦ ([], rw free refl)
+      | inr held ↦ (loses r (lost_of name_of (past b) (hand r (past b)) left) ∷ [], rw held refl)
+    ]
+
+pub back-begins : {F B O : Type 0} (name_of : F → FrameName) (s : Setting) (r : ℕ) (ends : List (Left F B O)) (b : BoardState) → BeginsWith (taken_back name_of s r ends b) b
+back-begins name_of s r [] b = ([], refl)
+back-begins {F} {B} {O} name_of s r (left ∷ ends) b =
+    begins-on b (taken name_of s r left b) (taken_back {F = F} {B = B} {O = O} name_of s (suc r) ends (taken name_of s r left b)) (taken-begins name_of s r left b)
+    (back-begins name_of s (suc r) ends (taken name_of s r left b))

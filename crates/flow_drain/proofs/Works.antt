@@ -1,7 +1,7 @@
 -- The drain's jobs, and how it settles a node.
-use Rattle.std.proofs.Common.{◌≡◌, ◌⊎◌, ℕ, ◌<◌, ◌≤◌, Bool, true, false, not, ◌&&◌, ◌||◌, eqb, cond, ltb, leb, if◌then◌else◌, List, [], ◌∷◌, length, refl, sym, ap, ◌∙◌, subst, arith, Option, Some, None, Result, Ok, Err, inl, inr}
-use Rattle.std.specs.Prelude.{is_some, is_none, filter}
-use Rattle.std.proofs.lemmas.Bool.{cases_Bool, eq-eqb, eqb-true, false≢true, true≢false, and_parts, and_from, or_parts, leb-true, not-true, not-false}
+use Rattle.std.proofs.Common.{◌≡◌, ◌⊎◌, ℕ, ◌<◌, ◌≤◌, Bool, true, false, not, ◌||◌, eqb, ltb, leb, if◌then◌else◌, List, [], ◌∷◌, length, refl, sym, ap, ◌∙◌, subst, arith, Option, Some, None, Ok, Err, inl, inr}
+use Rattle.std.specs.Prelude.{is_some, filter}
+use Rattle.std.proofs.lemmas.Bool.{cases_Bool, eq-eqb, false≢true, true≢false, and_parts, and_from, leb-true}
 use Rattle.nd_base.specs.Array.{StackValue}
 use Rattle.nd_base.specs.Parts.{Parts}
 use Rattle.nd_base.specs.GraphRules.{IsGraph}
@@ -13,14 +13,12 @@ use Rattle.chain_plain.proofs.Rules.{stands}
 use Rattle.pool_ledger.specs.Grants.{Answer, Granted}
 use Rattle.pool_ledger.specs.Grants as pool
 use Rattle.flow_journal.specs.declared.entry.Entry.{Entry}
-use Rattle.flow_journal.specs.declared.entry.Entry.TheVariants.{Take, TakeBlock, PoolDrop, Put, Settle}
+use Rattle.flow_journal.specs.declared.entry.Entry.TheVariants.{Take, PoolDrop, Put, Settle}
 use Rattle.flow_journal.specs.Setting.{Setting, Node, node, is_node, is_maker, last_role}
-use Rattle.flow_journal.specs.RunSetting.{node_of}
-use Rattle.flow_journal.specs.Pasts.{Past, frame, same}
+use Rattle.flow_journal.specs.Pasts.{Past}
 use Rattle.flow_journal.specs.Hands.{takes_up, let_go, hands, hand, is_free, is_job, jobs}
 use Rattle.flow_journal.specs.Ended.{is_settled, has_ended}
 use Rattle.flow_journal.specs.Queued.{queued}
-use Rattle.flow_journal.specs.Accounts.{grant}
 use Rattle.flow_journal.specs.FirstEntries.{is_next}
 use Rattle.flow_journal.specs.Finished.{none_left}
 use Rattle.flow_journal.specs.Histories.{is_legal, is_history}
@@ -30,7 +28,6 @@ use Rattle.board_rules.specs.declared.answers.Done.{Done}
 use Rattle.board_rules.specs.declared.answers.NotYours.{NotYours}
 use Rattle.board_rules.specs.declared.answers.Settled.{Settled}
 use Rattle.board_rules.specs.declared.answers.Settled.TheVariants as settled
-use Rattle.board_rules.specs.declared.told.Told.{Told}
 use Rattle.board_rules.specs.States.{BoardState, past, plain, lends, lent_to, take_block, begins}
 use Rattle.board_rules.specs.Moving.{moved_at}
 use Rattle.board_rules.specs.InHand.{is_job_on, result_name, granted_size, IsWholeOf, OfSome}
@@ -46,9 +43,9 @@ use Rattle.flow_roles.proofs.Named.{node-rule, hand-named}
 use Rattle.flow_roles.proofs.WorkerCalls.{take-still, Says, said-by, take-says, take-taken, WithBlock, Alone, same-self, room-of, granted-by, lent-by}
 use Rattle.flow_roles.proofs.WorkerCalls as worker
 use Rattle.flow_drain.specs.Drains.{DrainMoves}
-use Rattle.flow_drain.specs.DrainSteps.{IsIdle, Holds, HasWork, IsQuiet}
+use Rattle.flow_drain.specs.DrainSteps.{IsIdle, Holds, HasWork}
 use Rattle.flow_drain.proofs.Emptied.{queue-empty}
-use Rattle.flow_drain.proofs.Growth.{longer, squeezed, moves-on, no-move, one-of, hands-moved, hand-one, none-held, let-one}
+use Rattle.flow_drain.proofs.Growth.{longer, no-move, one-of, hands-moved, hand-one, let-one}
 use Rattle.flow_drain.proofs.Feeds.{never-away, free-of, other-board}
 
 none-is : {X : Type 0} (xs : List X) → none_left xs ≡ true → xs ≡ []

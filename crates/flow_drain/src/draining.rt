@@ -11,6 +11,7 @@ ghost use Rattle.board_rules.specs.States.{past};
 ghost use Rattle.board_rules.specs.Leaving.{MayReclaim};
 ghost use Rattle.board_rules.specs.RunMeasures.{run_setting};
 ghost use Rattle.flow_roles.specs.Feeder.{name_of, parts_of};
+ghost use Rattle.flow_roles.specs.TurnPasses.{BeginsWith};
 ghost use Rattle.flow_drain.specs.Drains.{DrainMoves, IsDrained, taken_back};
 ghost use Rattle.flow_drain.specs.DrainSteps.{IsIdle};
 
@@ -68,6 +69,7 @@ pub fn drain<R: Run, B: BoardCalls<Frame<R>>>(
     ensures moves { DrainMoves (run_setting R.graph R.stack) tick
         (taken_back name_of (run_setting R.graph R.stack) 0 ends.items (B.shown board.old)) (B.shown board.new) }
     ensures legal { is_history (run_setting R.graph R.stack) (past (B.shown board.new)) ≡ true }
+    ensures begins { BeginsWith (B.shown board.new) (B.shown board.old) }
     ensures still { IsDrained (run_setting R.graph R.stack) (past (B.shown board.old)) → B.shown board.new ≡ B.shown board.old }
 {
     if board.finished() {

@@ -1,10 +1,10 @@
-use Rattle.std.proofs.Common.{◌≡◌, ap, sym, refl, subst, ◌∙◌, length, arith, true}
+use Rattle.std.proofs.Common.{◌≡◌, ap, sym, ◌∙◌, length}
 use Rattle.board_rules.specs.States.{past}
 use Rattle.board_rules.specs.RunMeasures.{run_setting}
 use Rattle.flow_roles.specs.Feeder.{name_of}
-use Rattle.flow_drain.specs.Drains.{IsDrained, taken_back}
-use Rattle.flow_drain.proofs.Growth.{no-move}
-use Rattle.flow_drain.proofs.TakingBack.{taken-none}
+use Rattle.flow_drain.specs.Drains.{taken_back}
+use Rattle.flow_drain.proofs.Growth.{no-move, grown, begins-on}
+use Rattle.flow_drain.proofs.TakingBack.{taken-none, back-begins}
 use Rattle.flow_drain.proofs.Rounds.{more-entries}
 use Rattle.flow_drain.proofs.Quiet.{finished-drained, drains-first, fed-moves, fed-still, round-moves, round-still, round-on, round-longer, round-same, round-drained, still-from}
 use Rattle.flow_drain.proofs.draining.drain.Goals as goal
@@ -58,3 +58,15 @@ rounds-smaller g c =
 pub rounds-preserved : goal.rounds-preserved
 rounds-preserved g c =
     round-on (run_setting g.R.Run.graph g.R.Run.stack) c.args.tick (taken_back name_of (run_setting g.R.Run.graph g.R.Run.stack) 0 c.args.ends.items (g.B.BoardCalls.shown c.args.board.now)) (g.B.BoardCalls.shown c.rounds.board) (g.B.BoardCalls.shown c.feed_one.new.board) c.rounds.invariant c.feed_one.ensures.moves c.feed_one.ensures.still (g.B.BoardCalls.shown c.work_round.new.board) c.work_round.ensures.moves c.work_round.ensures.still c.in_ok-work_round.ensures.idle
+
+pub returns-in_err-feed_one-clause-begins : goal.returns-in_err-feed_one-clause-begins
+returns-in_err-feed_one-clause-begins g c =
+    begins-on (g.B.BoardCalls.shown c.args.board.now) (taken_back name_of (run_setting g.R.Run.graph g.R.Run.stack) 0 c.args.ends.items (g.B.BoardCalls.shown c.args.board.now)) (g.B.BoardCalls.shown c.feed_one.new.board) (back-begins name_of (run_setting g.R.Run.graph g.R.Run.stack) 0 c.args.ends.items (g.B.BoardCalls.shown c.args.board.now)) (grown (run_setting g.R.Run.graph g.R.Run.stack) c.args.tick (taken_back name_of (run_setting g.R.Run.graph g.R.Run.stack) 0 c.args.ends.items (g.B.BoardCalls.shown c.args.board.now)) (g.B.BoardCalls.shown c.feed_one.new.board) (fed-moves (run_setting g.R.Run.graph g.R.Run.stack) c.args.tick (taken_back name_of (run_setting g.R.Run.graph g.R.Run.stack) 0 c.args.ends.items (g.B.BoardCalls.shown c.args.board.now)) (g.B.BoardCalls.shown c.rounds.board) (g.B.BoardCalls.shown c.feed_one.new.board) c.rounds.invariant c.feed_one.ensures.moves c.feed_one.ensures.still))
+
+pub returns-in_err-work_round-clause-begins : goal.returns-in_err-work_round-clause-begins
+returns-in_err-work_round-clause-begins g c =
+    begins-on (g.B.BoardCalls.shown c.args.board.now) (taken_back name_of (run_setting g.R.Run.graph g.R.Run.stack) 0 c.args.ends.items (g.B.BoardCalls.shown c.args.board.now)) (g.B.BoardCalls.shown c.work_round.new.board) (back-begins name_of (run_setting g.R.Run.graph g.R.Run.stack) 0 c.args.ends.items (g.B.BoardCalls.shown c.args.board.now)) (grown (run_setting g.R.Run.graph g.R.Run.stack) c.args.tick (taken_back name_of (run_setting g.R.Run.graph g.R.Run.stack) 0 c.args.ends.items (g.B.BoardCalls.shown c.args.board.now)) (g.B.BoardCalls.shown c.work_round.new.board) (round-moves (run_setting g.R.Run.graph g.R.Run.stack) c.args.tick (taken_back name_of (run_setting g.R.Run.graph g.R.Run.stack) 0 c.args.ends.items (g.B.BoardCalls.shown c.args.board.now)) (g.B.BoardCalls.shown c.rounds.board) (g.B.BoardCalls.shown c.feed_one.new.board) c.rounds.invariant c.feed_one.ensures.moves c.feed_one.ensures.still (g.B.BoardCalls.shown c.work_round.new.board) c.work_round.ensures.moves c.work_round.ensures.still))
+
+pub returns-then-progress-before-clause-begins : goal.returns-then-progress-before-clause-begins
+returns-then-progress-before-clause-begins g c =
+    begins-on (g.B.BoardCalls.shown c.args.board.now) (taken_back name_of (run_setting g.R.Run.graph g.R.Run.stack) 0 c.args.ends.items (g.B.BoardCalls.shown c.args.board.now)) (g.B.BoardCalls.shown c.work_round.new.board) (back-begins name_of (run_setting g.R.Run.graph g.R.Run.stack) 0 c.args.ends.items (g.B.BoardCalls.shown c.args.board.now)) (grown (run_setting g.R.Run.graph g.R.Run.stack) c.args.tick (taken_back name_of (run_setting g.R.Run.graph g.R.Run.stack) 0 c.args.ends.items (g.B.BoardCalls.shown c.args.board.now)) (g.B.BoardCalls.shown c.work_round.new.board) (round-moves (run_setting g.R.Run.graph g.R.Run.stack) c.args.tick (taken_back name_of (run_setting g.R.Run.graph g.R.Run.stack) 0 c.args.ends.items (g.B.BoardCalls.shown c.args.board.now)) (g.B.BoardCalls.shown c.rounds.board) (g.B.BoardCalls.shown c.feed_one.new.board) c.rounds.invariant c.feed_one.ensures.moves c.feed_one.ensures.still (g.B.BoardCalls.shown c.work_round.new.board) c.work_round.ensures.moves c.work_round.ensures.still))

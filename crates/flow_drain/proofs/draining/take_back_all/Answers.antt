@@ -1,5 +1,4 @@
-use Rattle.std.proofs.Common.{◌≡◌, ◌∙◌, ◌≤◌, [], length, vec_len, arith, sym, subst, rules}
-use Rattle.flow_journal.specs.Setting.{last_role}
+use Rattle.std.proofs.Common.{◌≡◌, ◌∙◌, length, vec_len, arith, sym, subst, rules}
 use Rattle.board_rules.specs.RunMeasures.{run_setting}
 use Rattle.flow_roles.specs.Feeder.{name_of, parts_of}
 use Rattle.flow_roles.proofs.TurnJoins.{nothing-left}

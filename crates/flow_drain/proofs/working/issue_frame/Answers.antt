@@ -1,8 +1,8 @@
 use Rattle.std.proofs.Common.{length}
 use Rattle.board_rules.specs.RunMeasures.{run_setting}
 use Rattle.flow_roles.specs.Feeder.{name_of}
-use Rattle.flow_roles.proofs.Results.{frame-index, frame-room, issue-whole}
-use Rattle.flow_drain.proofs.Feeds.{held-frame, issue-taken, issue-idle, issue-moves, whole-frame}
+use Rattle.flow_roles.proofs.Results.{frame-index, frame-room}
+use Rattle.flow_drain.proofs.Feeds.{issue-taken, issue-idle, issue-moves, whole-frame}
 use Rattle.flow_drain.proofs.working.issue_frame.Goals as goal
 
 pub frame_on-frame-requires-clause-frame : goal.frame_on-frame-requires-clause-frame

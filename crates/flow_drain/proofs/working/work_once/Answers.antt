@@ -1,12 +1,11 @@
-use Rattle.std.proofs.Common.{refl, length, arith, ap, sym, ◌∙◌, ◌≡◌, ◌<◌}
+use Rattle.std.proofs.Common.{refl, length, arith, ap, ◌∙◌}
 use Rattle.board_rules.specs.declared.answers.Take.TheVariants.{Idle, Ended, OutOfMemory}
 use Rattle.board_rules.specs.States.{past}
 use Rattle.board_rules.specs.RunMeasures.{run_setting}
 use Rattle.flow_journal.specs.Queued.{queued}
 use Rattle.flow_roles.specs.Feeder.{name_of, parts_of}
 use Rattle.flow_drain.proofs.Growth.{no-move, moves-on, moves-longer}
-use Rattle.flow_drain.proofs.Feeds.{same-idle}
-use Rattle.flow_drain.proofs.Works.{node-sound, take-left, take-same, take-ended, take-idle, take-next, none-next, has-work, job-moves, job-longer, drop-idle, drop-moves, drop-longer, drop-next, take-legal}
+use Rattle.flow_drain.proofs.Works.{node-sound, take-left, take-same, take-ended, take-idle, take-next, none-next, has-work, job-moves, job-longer, drop-idle, drop-moves, drop-longer, drop-next}
 use Rattle.flow_drain.proofs.working.work_once.Goals as goal
 
 pub work_on-requires-clause-job : goal.work_on-requires-clause-job
