@@ -3,6 +3,7 @@ use Rattle.flow_drain.specs.EndLaws.{EndLaws}
 use Rattle.flow_drain.proofs.Closed.{all-offered, input-ended}
 use Rattle.flow_drain.proofs.Roles.{role-of-hand}
 use Rattle.flow_drain.proofs.Emptied.{queue-empty, list-empty}
+use Rattle.flow_drain.proofs.AllEnded.{all-ended-drained}
 
 pub end_laws : EndLaws
 end_laws = record {
@@ -12,4 +13,5 @@ end_laws = record {
   queue = queue-empty;
   list = list-empty;
   roles = role-of-hand;
+  drained = all-ended-drained;
 }

@@ -113,7 +113,7 @@ none-waits g stack P sound quiet waits =
 ring-empty : (s : Setting) (v : ℕ) (P : Past) → is_settled v P ≡ true → ring s v P ≡ []
 ring-empty s v P done = rw done refl
 
-drained-by : (s : Setting) (P : Past) → is_history s P ≡ true → hands P ≡ [] → is_closed P ≡ true → next_index P ≡ length s.ids
+pub drained-by : (s : Setting) (P : Past) → is_history s P ≡ true → hands P ≡ [] → is_closed P ≡ true → next_index P ≡ length s.ids
     → ((v : ℕ) → is_node s v ≡ true → is_settled v P ≡ true) → IsDrained s P
 drained-by s P legal free closed offered settled =
     let front = (and_parts (is_legal s P) _ legal).0 in
