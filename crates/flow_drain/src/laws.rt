@@ -4,6 +4,7 @@
 ghost use Rattle.flow_drain.specs.EndLaws.{EndLaws};
 
 /// What has ended stays so: a closed feed has offered all, and a settled node is empty. Only roles of the run have a hand.
+/// So where the feed is closed and all nodes are settled, nothing is left but pieces to save.
 pub fn ended_nodes_are_empty()
     ensures { EndLaws }
 {}
