@@ -1,4 +1,5 @@
-//! Samples as bytes, the most significant byte first.
+//! Samples as bytes, the most significant byte first. The bytes of one are taken as a whole, so that the compiler loads them as one
+//! number, and many of them at once.
 
 ghost use Rattle.std.specs.Prelude.{◌≡◌, ◌+◌, ◌≤◌, length, take, drop};
 ghost use Rattle.std.specs.Int.{w16, w32, from_be_bytes};
@@ -12,7 +13,10 @@ pub fn pair_at(bytes: &[u8], at: usize) -> u16
     requires { at + 2 ≤ length bytes.now }
     ensures { result ≡ from_be_bytes w16 (take 2 (drop at bytes.now)) }
 {
-    u16::from_be_bytes([bytes[at], bytes[at + 1]])
+    let Some(pair) = bytes[at..].first_chunk() else {
+        unreachable!()
+    };
+    u16::from_be_bytes(*pair)
 }
 
 /// The four bytes from index `at` on as a number.
@@ -21,7 +25,10 @@ pub fn word_at(bytes: &[u8], at: usize) -> u32
     requires { at + 4 ≤ length bytes.now }
     ensures { result ≡ from_be_bytes w32 (take 4 (drop at bytes.now)) }
 {
-    u32::from_be_bytes([bytes[at], bytes[at + 1], bytes[at + 2], bytes[at + 3]])
+    let Some(word) = bytes[at..].first_chunk() else {
+        unreachable!()
+    };
+    u32::from_be_bytes(*word)
 }
 
 /// The sample whose bytes begin at index `at`.
