@@ -1,12 +1,12 @@
 -- The samples of a line that reach a threshold, at other places.
-use Rattle.std.proofs.Common.{◌≡◌, ℕ, zero, suc, ◌+◌, ◌<◌, ◌≤◌, List, [], ◌∷◌, length, filter, refl, ap, sym, ◌∙◌, arith, ℤ, pos, ◌+ℤ◌, ◌*ℤ◌, Bool, true, false, not}
-use Rattle.std.specs.Prelude.{int_lt, if◌then◌else◌}
+use Rattle.std.proofs.Common.{◌≡◌, ℕ, ◌+◌, ◌≤◌, List, [], ◌∷◌, length, refl, ap, sym, ◌∙◌, arith, ℤ, pos, ◌+ℤ◌, ◌*ℤ◌, Bool, true, false, not}
+use Rattle.std.specs.Prelude.{int_lt}
 use Rattle.std.proofs.Math.IntN.{*ℤ-zero, +ℤ_idr}
 use Rattle.std.proofs.lemmas.Int.{ints}
 use Rattle.nd_base.specs.declared.array.Dim.{Dim}
 use Rattle.nd_base.specs.declared.graph.StatsRule.{StatsRule}
 use Rattle.nd_base.specs.Places.{index_in, size_in}
-use Rattle.nd_stats.specs.Samples.{Sample, placed, sum_of}
+use Rattle.nd_stats.specs.Samples.{Sample, placed}
 use Rattle.nd_stats.specs.Measured.{count_where, value_where, is_over, moment}
 use Rattle.nd_stats.specs.Tallies.{counted, one_if}
 use Rattle.nd_stats.specs.Over.{reaches, weighted}

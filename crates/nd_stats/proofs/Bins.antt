@@ -1,11 +1,15 @@
 -- Bins of a histogram, and products.
 use Rattle.std.proofs.Common.{◌≡◌, ◌≢◌, ℕ, zero, suc, ◌+◌, ◌-◌, ◌*◌, ◌/◌, ◌<◌, ◌≤◌, ◌^◌, sym, subst, arith, ℤ, pos, negsuc, ◌-ℤ◌, ◌*ℤ◌, ◌≤ℤ◌, ◌<ℤ◌, w64, FitsSigned}
+use Rattle.std.proofs.Common.{List, [], ◌∷◌, ◌++◌, length, ap, ◌∙◌, inl, inr, length-append}
 use Rattle.std.specs.Prelude.{unsigned_abs}
+use Rattle.std.proofs.lemmas.Bool.{cases_lt}
+use Rattle.std.proofs.lemmas.List.{get_or_append_left, get_or_push}
 use Rattle.std.proofs.Math.Nat.{mul-le-mul, mul-le-mul_left, mul-le-mul_right, div-lt_iff_lt-mul}
 use Rattle.std.proofs.lemmas.Int.{ints, fits_signed_mul, unsigned_abs-mul}
 use Rattle.nd_base.specs.GraphRules.{IsStats}
 use Rattle.nd_base.specs.declared.graph.StatsRule.{StatsRule}
 use Rattle.nd_stats.specs.Measured.{bin_of}
+use Rattle.nd_stats.specs.Running.{AreBins}
 
 pub fits_product : (x : ℕ) (a b v : ℤ) → a ≡ pos x → b ≡ v → x ≤ 67108864 → unsigned_abs v < 2 ^ 32 → FitsSigned w64 (a *ℤ b)
 fits_product x a b v e f small weight =
@@ -60,3 +64,15 @@ pub bin_of_range : (rule : StatsRule) (v : ℤ) → IsStats rule → rule.hist_s
 bin_of_range rule v stats some from to =
     bin_below (unsigned_abs (v -ℤ rule.hist_lo)) (unsigned_abs (rule.hist_hi -ℤ rule.hist_lo)) rule.hist_size
     (within_range rule.hist_lo v rule.hist_hi from to) (range_positive rule.hist_lo rule.hist_hi (stats.ordered some)) (omega (arith, some))
+
+-- one bin more in the list
+pub bins_push : (rule : StatsRule) (bins : List ℕ) (b : ℕ) → AreBins rule bins → (let range = unsigned_abs (rule.hist_hi -ℤ rule.hist_lo) in b ≡ (2 * length bins * (rule.hist_size - 1) + range) / (2 * range)) → AreBins rule (bins ++ b ∷ [])
+bins_push rule bins b are e = λ k h.
+    let long = length-append bins (b ∷ []) in
+    elim (cases_lt k (length bins)) [
+      | inl below ↦ get_or_append_left bins (b ∷ []) 0 k below ∙ are k below
+      | inr end ↦
+          let here : length bins ≡ k = omega (arith, long, h) in
+          let range = unsigned_abs (rule.hist_hi -ℤ rule.hist_lo) in
+          get_or_push bins b 0 k here ∙ e ∙ ap (λ n. (2 * n * (rule.hist_size - 1) + range) / (2 * range)) here
+    ]

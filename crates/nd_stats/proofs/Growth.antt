@@ -3,10 +3,12 @@ use Rattle.std.proofs.Common.{◌≡◌, ℕ, ◌+◌, ◌<◌, ◌≤◌, ◌^�
 use Rattle.std.specs.Prelude.{int_lt, if◌then◌else◌, unsigned_abs}
 use Rattle.nd_base.specs.declared.array.Dim.{Dim}
 use Rattle.nd_base.specs.declared.graph.StatsRule.{StatsRule}
+use Rattle.nd_base.specs.GraphRules.{IsStats}
 use Rattle.nd_stats.specs.declared.tally.Tally.{Tally}
 use Rattle.nd_stats.specs.declared.tally.Extremes.{Extremes}
 use Rattle.nd_stats.specs.declared.tally.Sums.{Sums}
 use Rattle.nd_stats.specs.declared.tally.Moments.{Moments}
+use Rattle.nd_stats.specs.declared.histogram.Ends.{Ends}
 use Rattle.nd_stats.specs.declared.tally.Histogram.{Histogram}
 use Rattle.nd_stats.specs.declared.spot.Spot.{Spot}
 use Rattle.nd_base.specs.Places.{index_in, size_in}
@@ -14,7 +16,7 @@ use Rattle.nd_stats.specs.Samples.{Sample, least_from, greatest_from, is_at_bord
 use Rattle.nd_stats.specs.Measured.{count_where, value_where, square, has_histogram, has_index, is_in_bin, is_on_border, is_over, is_below, is_above, moment, profile}
 use Rattle.nd_stats.specs.Spots.{IsSpot}
 use Rattle.nd_stats.specs.Tallies.{AreSmall, HasRoom, HaveRoom, added_at, bins_after, counted, one_if}
-use Rattle.nd_stats.specs.Running.{IsFrame, AreExtremes, AreSums, AreMoments, IsHistogram, CanGrow}
+use Rattle.nd_stats.specs.Running.{IsFrame, AreExtremes, AreSums, AreMoments, IsHistogram, IsCounted, CanGrow}
 use Rattle.nd_stats.proofs.Sums.{least-both, greatest-both, sum_of-more, sum_where-more, count-more}
 use Rattle.nd_stats.proofs.Steps.{profile-more, bins-more}
 use Rattle.nd_stats.proofs.Tables.{length-table}
@@ -80,6 +82,17 @@ histogram_more rule dims xs s a b frame is e f g =
     record {
       below = e ∙ ap (λ n. n + one_if (is_below rule s)) is.below ∙ sym (count-more (is_below rule) xs s);
       bins = f ∙ ap (bins_after rule s.value) is.bins ∙ bins-more rule xs s frame.sound;
+      above = g ∙ ap (λ n. n + one_if (is_above rule s)) is.above ∙ sym (count-more (is_above rule) xs s);
+    }
+
+-- the counts of one sample more
+pub counted_more : (rule : StatsRule) (xs : List Sample) (s : Sample) (a b : Ends) (old new : List ℤ) → IsStats rule → IsCounted rule xs a old
+    → b.below ≡ a.below + one_if (has_histogram rule && int_lt s.value rule.hist_lo) → new ≡ bins_after rule s.value old → b.above ≡ a.above + one_if (has_histogram rule && int_lt rule.hist_hi s.value)
+    → IsCounted rule (xs ++ s ∷ []) b new
+counted_more rule xs s a b old new sound is e f g =
+    record {
+      below = e ∙ ap (λ n. n + one_if (is_below rule s)) is.below ∙ sym (count-more (is_below rule) xs s);
+      bins = f ∙ ap (bins_after rule s.value) is.bins ∙ bins-more rule xs s sound;
       above = g ∙ ap (λ n. n + one_if (is_above rule s)) is.above ∙ sym (count-more (is_above rule) xs s);
     }
 

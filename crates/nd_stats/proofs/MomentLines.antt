@@ -1,5 +1,5 @@
 -- Moments line by line.
-use Rattle.std.proofs.Common.{◌≡◌, ℕ, ◌+◌, ◌<◌, ◌≤◌, ◌^◌, List, ◌++◌, length, refl, ap, sym, subst, ◌∙◌, arith, ℤ, pos, ◌+ℤ◌, ◌*ℤ◌}
+use Rattle.std.proofs.Common.{◌≡◌, ℕ, ◌+◌, ◌<◌, ◌≤◌, ◌^◌, List, ◌++◌, length, ap, sym, subst, ◌∙◌, arith, ℤ, pos, ◌+ℤ◌, ◌*ℤ◌}
 use Rattle.std.specs.Prelude.{unsigned_abs}
 use Rattle.nd_base.specs.declared.array.Dim.{Dim}
 use Rattle.nd_base.specs.declared.graph.StatsRule.{StatsRule}
@@ -9,7 +9,7 @@ use Rattle.nd_base.specs.Places.{index_in, size_in}
 use Rattle.nd_stats.specs.Samples.{Sample, placed}
 use Rattle.nd_stats.specs.Measured.{count_where, value_where, is_over, moment}
 use Rattle.nd_stats.specs.Tallies.{AreSmall, HasRoom}
-use Rattle.nd_stats.specs.Over.{IsOver, reaches, weighted}
+use Rattle.nd_stats.specs.Over.{IsOver, weighted}
 use Rattle.nd_stats.specs.Running.{IsFrame, AreMoments}
 use Rattle.nd_stats.proofs.Sums.{count-append, sum_where-append}
 use Rattle.nd_stats.proofs.Alongs.{count_moved, value_moved, weighted_moved, moment_along, moment_across}

@@ -1,10 +1,10 @@
 -- The samples that reach a threshold.
-use Rattle.std.proofs.Common.{◌≡◌, ℕ, ◌+◌, ◌*◌, ◌<◌, ◌≤◌, ◌^◌, List, [], ◌∷◌, ◌++◌, length, filter, refl, ap, sym, ◌∙◌, arith, ℤ, pos, ◌+ℤ◌, ◌*ℤ◌, Bool, true, false, not, w64, FitsSigned}
+use Rattle.std.proofs.Common.{◌≡◌, ℕ, ◌+◌, ◌*◌, ◌<◌, ◌≤◌, ◌^◌, List, refl, ap, sym, ◌∙◌, arith, ℤ, pos, ◌+ℤ◌, ◌*ℤ◌, Bool, true, false, not, w64, FitsSigned}
 use Rattle.std.specs.Prelude.{int_lt, unsigned_abs}
 use mir.Val.{bool_byte}
 use Rattle.std.proofs.lemmas.Int.{fits_signed_from_abs}
 use Rattle.nd_base.specs.declared.array.SampleType.{SampleType}
-use Rattle.nd_base.specs.Samples.{number, numbers}
+use Rattle.nd_base.specs.Samples.{numbers}
 use Rattle.lane_kernels.specs.Plain.{stored}
 use Rattle.nd_stats.specs.Samples.{Sample, placed}
 use Rattle.nd_stats.specs.Measured.{count_where, value_where}

@@ -1,12 +1,12 @@
 -- The samples of a part.
-use Rattle.std.proofs.Common.{◌≡◌, ℕ, zero, suc, ◌+◌, ◌*◌, ◌/◌, ◌<◌, ◌≤◌, List, [], ◌∷◌, ◌++◌, length, take, drop, get_or, refl, ap, sym, ◌∙◌, arith, add_comm, Fits, w8}
+use Rattle.std.proofs.Common.{◌≡◌, ℕ, zero, suc, ◌+◌, ◌*◌, ◌/◌, ◌<◌, ◌≤◌, List, ◌∷◌, ◌++◌, length, take, drop, get_or, refl, ap, sym, ◌∙◌, arith, add_comm, Fits, w8}
 use Rattle.std.proofs.Math.Nat.{suc-mul, zero-mul, mul-div_cancel, mul-le-mul_right, div-mul-le_self, add-mul}
 use Rattle.std.proofs.lemmas.List.{drop-drop, drop-take, take-take}
 use Rattle.std.proofs.lemmas.List.Elements.{All-from_get_or}
 use Rattle.nd_base.specs.declared.array.SampleType.{SampleType}
 use Rattle.nd_base.specs.Samples.{width, number, numbers, samples_of}
 use Rattle.nd_base.specs.SampleLaws.{width-positive, length-numbers}
-use Rattle.nd_stats.specs.Samples.{Sample, placed, AreSmall}
+use Rattle.nd_stats.specs.Samples.{placed, AreSmall}
 use Rattle.nd_stats.specs.MergingLaws.{placed-append, small_placed}
 
 pub numbers-split : (kind : SampleType) (k m : ℕ) (bytes : List ℕ) → numbers kind (k + m) bytes ≡ numbers kind k bytes ++ numbers kind m (drop (k * width kind) bytes)

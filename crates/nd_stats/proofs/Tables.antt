@@ -29,8 +29,12 @@ set-table f g k (suc n) (suc at) v h here others =
     ap (λ w. w ∷ set (table f (k + 1) n) at v) (others k (λ e. omega arith))
     ∙ ap (λ rest. g k ∷ rest) (set-table f g (k + 1) n at v (omega arith) (ap g (omega arith) ∙ here) (λ j ne. others j (λ e. ne (omega arith))))
 
--- a list of sums whose slice was written
+-- a list of sums whose slice was written as a whole
+pub slice_whole : (items sums : List ℤ) (len : ℕ) → length items ≡ len → length sums ≡ length items → take len (sums ++ drop (length sums) items) ≡ sums
+slice_whole items sums len e same =
+    ap (λ n. take n (sums ++ drop (length sums) items)) (sym (same ∙ e)) ∙ take-append_seam sums (drop (length sums) items)
+
+-- the same where one sum was added to
 pub slice_written : (items sums : List ℤ) (len at : ℕ) (v : ℤ) → length items ≡ len → sums ≡ added_at items at v → take len (sums ++ drop (length sums) items) ≡ added_at items at v
 slice_written items sums len at v e h =
-    let same : length sums ≡ len = ap length h ∙ length-set items at (get_or items at (pos 0) +ℤ v) ∙ e in
-    ap (λ n. take n (sums ++ drop (length sums) items)) (sym same) ∙ take-append_seam sums (drop (length sums) items) ∙ h
+    slice_whole items sums len e (ap length h ∙ length-set items at (get_or items at (pos 0) +ℤ v)) ∙ h

@@ -1,5 +1,5 @@
 -- Sums over values and over samples, and tests that nothing passes.
-use Rattle.std.proofs.Common.{◌≡◌, ℕ, zero, suc, ◌+◌, ◌-◌, ◌*◌, ◌/◌, ◌%◌, ◌<◌, ◌≤◌, ◌||◌, List, [], ◌∷◌, ◌++◌, length, filter, cond, refl, ap, sym, subst, ◌∙◌, arith, ℤ, pos, ◌+ℤ◌, Bool, true, false, not, ◌&&◌, ◌==◌, nat_lt, nat_le, sum_by}
+use Rattle.std.proofs.Common.{◌≡◌, ℕ, ◌+◌, ◌/◌, ◌%◌, ◌<◌, ◌||◌, List, [], ◌∷◌, length, filter, cond, refl, ap, sym, ◌∙◌, arith, ℤ, pos, ◌+ℤ◌, Bool, false, not, ◌&&◌, ◌==◌, nat_lt, sum_by}
 use Rattle.std.specs.List.{list_all}
 use Rattle.std.proofs.lemmas.Bool.{and_parts, ltb-true}
 use Rattle.std.proofs.lemmas.Bool.Decides.{nat_tests}
@@ -8,13 +8,14 @@ use Rattle.std.proofs.lemmas.List.Sums.{sum_by-cons}
 use Rattle.nd_base.specs.declared.array.Dim.{Dim}
 use Rattle.nd_base.specs.declared.array.SampleType.{SampleType}
 use Rattle.nd_base.specs.declared.graph.StatsRule.{StatsRule}
-use Rattle.nd_base.specs.Samples.{width, numbers, samples_of}
+use Rattle.nd_base.specs.Samples.{numbers}
 use Rattle.lane_kernels.specs.Plain.{total, squares}
+use Rattle.nd_stats.specs.declared.border.Edge.{Edge}
 use Rattle.nd_stats.specs.declared.tally.Sums.{Sums}
 use Rattle.nd_stats.specs.declared.tally.Histogram.{Histogram}
 use Rattle.nd_stats.specs.Samples.{Sample, placed, sum_of, is_near_end, is_at_border, table}
-use Rattle.nd_stats.specs.Measured.{count_where, value_where, square, has_histogram, is_on_border, is_below, is_above, is_in_bin}
-use Rattle.nd_stats.specs.Running.{IsFrame, AreSums, IsHistogram}
+use Rattle.nd_stats.specs.Measured.{count_where, square, has_histogram, is_on_border, is_below, is_above, is_in_bin}
+use Rattle.nd_stats.specs.Running.{IsFrame, AreSums, IsEdge, IsHistogram}
 use Rattle.nd_stats.proofs.Places.{AreSizes}
 use Rattle.nd_stats.proofs.Pieces.{length-piece}
 
@@ -42,17 +43,20 @@ no_border (d ∷ dims) p sizes =
     let parts = and_parts (nat_lt 0 d.size) (list_all (λ d. nat_lt 0 d.size) dims) sizes in
     ap (λ b. b || is_at_border 0 dims (p / d.size)) (inside d.size (p % d.size) (mod_below p d.size (ltb-true 0 d.size parts.0))) ∙ no_border dims (p / d.size) parts.1
 
-pub plain_sums : (rule : StatsRule) (dims : List Dim) (kind : SampleType) (from n : ℕ) (bytes : List ℕ) (s : Sums) → IsFrame rule dims → rule.border ≡ 0
-    → s.n ≡ n → s.total ≡ total (numbers kind n bytes) → s.squares ≡ squares (numbers kind n bytes) → s.border ≡ pos 0 → s.border_n ≡ 0 → AreSums rule dims (placed from (numbers kind n bytes)) s
-plain_sums rule dims kind from n bytes s frame none e f g h i =
-    let xs = placed from (numbers kind n bytes) in
-    let nothing : filter (is_on_border rule dims) xs ≡ [] = filter_none (is_on_border rule dims) (λ t. ap (λ b. is_at_border b dims t.place) none ∙ no_border dims t.place frame.sizes) xs in
+-- without a border no sample is at it
+pub none_on_border : (rule : StatsRule) (dims : List Dim) (xs : List Sample) → IsFrame rule dims → rule.border ≡ 0 → filter (is_on_border rule dims) xs ≡ []
+none_on_border rule dims xs frame none = filter_none (is_on_border rule dims) (λ t. ap (λ b. is_at_border b dims t.place) none ∙ no_border dims t.place frame.sizes) xs
+
+-- the sums over all samples of a piece, and over those at the border
+pub whole_sums : (rule : StatsRule) (dims : List Dim) (kind : SampleType) (from n : ℕ) (bytes : List ℕ) (e : Edge) (s : Sums) → IsEdge rule dims (placed from (numbers kind n bytes)) e
+    → s.n ≡ n → s.total ≡ total (numbers kind n bytes) → s.squares ≡ squares (numbers kind n bytes) → s.border ≡ e.sum → s.border_n ≡ e.count → AreSums rule dims (placed from (numbers kind n bytes)) s
+whole_sums rule dims kind from n bytes e s is f g h i j =
     record {
-      n = e ∙ sym (length-piece kind from n bytes);
-      total = f ∙ total_placed from (numbers kind n bytes);
-      squares = g ∙ squares_placed from (numbers kind n bytes);
-      border = h ∙ sym (ap (sum_of (λ t. t.value)) nothing);
-      border_n = i ∙ sym (ap length nothing);
+      n = f ∙ sym (length-piece kind from n bytes);
+      total = g ∙ total_placed from (numbers kind n bytes);
+      squares = h ∙ squares_placed from (numbers kind n bytes);
+      border = i ∙ is.sum;
+      border_n = j ∙ is.count;
     }
 
 no_bins : (rule : StatsRule) (b : Bool) → rule.hist_size ≡ 0 → has_histogram rule && b ≡ false

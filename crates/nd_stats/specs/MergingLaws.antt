@@ -1,17 +1,14 @@
 -- The measures of two pieces that lie next to each other, by their bytes.
-use Rattle.std.specs.Prelude.{◌≡◌, ℕ, zero, suc, ◌+◌, ◌*◌, ◌/◌, ◌<◌, ◌≤◌, ◌^◌, ℤ, List, [], ◌∷◌, ◌++◌, length, take, drop, refl}
-use Rattle.std.specs.Int.{w8, w16, w32, cast_signed, from_be_bytes}
-use Rattle.std.proofs.Common.{ap, sym, subst, ◌∙◌, arith, get_or}
+use Rattle.std.specs.Prelude.{◌≡◌, ℕ, zero, suc, ◌+◌, ◌*◌, ◌/◌, ◌<◌, ◌≤◌, ℤ, List, [], ◌∷◌, ◌++◌, length, take, drop, refl}
+use Rattle.std.proofs.Common.{ap, sym, subst, ◌∙◌, arith}
 use Rattle.std.proofs.Math.Nat.{suc-mul, zero-mul, add-mul, mul-div_cancel}
-use Rattle.std.proofs.lemmas.Int.{ints}
 use Rattle.std.proofs.lemmas.List.{take-append-le, drop-append-le, nil_from_length, length-drop, length-append}
 use Rattle.std.proofs.lemmas.List.Elements.{All-take, All-drop}
 use Rattle.nd_base.specs.declared.array.Dim.{Dim}
 use Rattle.nd_base.specs.declared.array.SampleType.{SampleType}
-use Rattle.nd_base.specs.declared.array.SampleType.TheVariants.{Int8, UInt8, Int16, UInt16, Int32, UInt32}
 use Rattle.nd_base.specs.declared.graph.StatsRule.{StatsRule}
 use Rattle.nd_base.specs.declared.measure.Measure.{Measure}
-use Rattle.nd_base.specs.Samples.{width, number, numbers, samples_of, IsSmall}
+use Rattle.nd_base.specs.Samples.{width, number, numbers, samples_of}
 use Rattle.nd_base.specs.SampleLaws.{AreBytes, number-IsSample, sample-IsSmall, length-samples_of, width-positive}
 use Rattle.nd_base.specs.Shapes.{sample_count}
 use Rattle.nd_stats.specs.Samples.{Sample, placed, AreSmall}

@@ -1,15 +1,18 @@
 -- The numbers of the samples so far.
-use Rattle.std.specs.Prelude.{◌≡◌, ◌≤◌, pos, List, length, sum_by}
+use Rattle.std.specs.Prelude.{◌≡◌, ℕ, ◌+◌, ◌*◌, ◌-◌, ◌/◌, ◌<◌, ◌≤◌, ℤ, pos, ◌-ℤ◌, List, length, slice_index_or, sum_by, unsigned_abs}
 use Rattle.nd_base.specs.declared.array.Dim.{Dim}
 use Rattle.nd_base.specs.declared.graph.StatsRule.{StatsRule}
 use Rattle.nd_base.specs.Shapes.{most_samples}
+use Rattle.nd_base.specs.Places.{size_in}
 use Rattle.nd_stats.specs.declared.tally.Tally.{Tally}
 use Rattle.nd_stats.specs.declared.tally.Extremes.{Extremes}
 use Rattle.nd_stats.specs.declared.tally.Sums.{Sums}
 use Rattle.nd_stats.specs.declared.tally.Moments.{Moments}
 use Rattle.nd_stats.specs.declared.tally.Histogram.{Histogram}
+use Rattle.nd_stats.specs.declared.border.Edge.{Edge}
+use Rattle.nd_stats.specs.declared.histogram.Ends.{Ends}
 use Rattle.nd_stats.specs.Samples.{Sample, AreSmall, sum_of, least_from, greatest_from, table}
-use Rattle.nd_stats.specs.Measured.{count_where, value_where, square, is_on_border, is_over, is_below, is_above, is_in_bin, moment, profile}
+use Rattle.nd_stats.specs.Measured.{count_where, value_where, square, is_on_border, is_over, is_below, is_above, is_in_bin, has_index, moment, profile}
 pub use Rattle.nd_stats.specs.Frames.{IsFrame}
 
 pub record AreExtremes (first : Sample) (xs : List Sample) (e : Extremes) : Type 0 where
@@ -25,6 +28,11 @@ pub record AreSums (rule : StatsRule) (dims : List Dim) (xs : List Sample) (s : 
   pub border : s.border ≡ value_where (is_on_border rule dims) xs
   pub border_n : s.border_n ≡ count_where (is_on_border rule dims) xs
 
+-- the samples at the border
+pub record IsEdge (rule : StatsRule) (dims : List Dim) (xs : List Sample) (e : Edge) : Type 0 where
+  pub count : e.count ≡ count_where (is_on_border rule dims) xs
+  pub sum : e.sum ≡ value_where (is_on_border rule dims) xs
+
 pub record AreMoments (rule : StatsRule) (dims : List Dim) (xs : List Sample) (m : Moments) : Type 0 where
   pub over : m.over ≡ count_where (is_over rule) xs
   pub m0 : m.m0 ≡ value_where (is_over rule) xs
@@ -35,6 +43,21 @@ pub record IsHistogram (rule : StatsRule) (xs : List Sample) (h : Histogram) : T
   pub below : h.below ≡ count_where (is_below rule) xs
   pub bins : h.bins.items ≡ table (λ k. pos (count_where (is_in_bin rule k) xs)) 0 rule.hist_size
   pub above : h.above ≡ count_where (is_above rule) xs
+
+-- the bins of the values from the low end of the histogram's range on
+abbrev pub AreBins : StatsRule → List ℕ → Type 0
+AreBins rule bins =
+    (k : ℕ) → k < length bins → (let range = unsigned_abs (rule.hist_hi -ℤ rule.hist_lo) in slice_index_or bins k 0 ≡ (2 * k * (rule.hist_size - 1) + range) / (2 * range))
+
+-- the counts of the histogram's range, and of what lies beside it
+pub record IsCounted (rule : StatsRule) (xs : List Sample) (e : Ends) (counts : List ℤ) : Type 0 where
+  pub below : e.below ≡ count_where (is_below rule) xs
+  pub bins : counts ≡ table (λ k. pos (count_where (is_in_bin rule k) xs)) 0 rule.hist_size
+  pub above : e.above ≡ count_where (is_above rule) xs
+
+-- the sum of the values at each index in dimension d
+abbrev pub sums_along : List Dim → ℕ → List Sample → List ℤ
+sums_along dims d xs = table (λ k. value_where (has_index dims d k) xs) 0 (size_in dims d)
 
 -- the numbers of these samples; the extremes are those of `first` and these samples
 pub record IsTally (rule : StatsRule) (dims : List Dim) (first : Sample) (xs : List Sample) (t : Tally) : Type 0 where

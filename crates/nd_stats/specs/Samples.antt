@@ -1,5 +1,5 @@
 -- The samples of an array by their places, and where a place lies.
-use Rattle.std.specs.Prelude.{ℕ, zero, suc, ◌+◌, ◌-◌, ◌/◌, ◌%◌, ◌<◌, ◌^◌, unsigned_abs, ◌||◌, nat_lt, nat_le, Bool, false, ℤ, pos, ◌+ℤ◌, List, [], ◌∷◌, int_lt, if◌then◌else◌}
+use Rattle.std.specs.Prelude.{ℕ, zero, suc, ◌+◌, ◌-◌, ◌/◌, ◌%◌, ◌||◌, nat_lt, nat_le, Bool, false, ℤ, pos, ◌+ℤ◌, List, [], ◌∷◌, int_lt, if◌then◌else◌}
 use Rattle.nd_base.specs.declared.array.Dim.{Dim}
 use Rattle.nd_base.specs.Samples.{IsSmall}
 

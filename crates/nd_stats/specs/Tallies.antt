@@ -1,7 +1,6 @@
 -- One sample more.
 use Rattle.std.specs.Prelude.{ℕ, ◌<◌, ◌^◌, Bool, ℤ, pos, ◌+ℤ◌, List, length, slice_index_or, slice_set, unsigned_abs, int_lt, not, ◌&&◌, if◌then◌else◌}
 use Rattle.nd_base.specs.declared.graph.StatsRule.{StatsRule}
-use Rattle.nd_base.specs.Samples.{IsSmall}
 pub use Rattle.nd_stats.specs.Samples.{AreSmall}
 use Rattle.nd_stats.specs.Measured.{has_histogram, bin_of}
 

@@ -5,11 +5,14 @@
 //! says each of them over the whole list of samples. Measures of pieces are merged ([`Merge`]).
 #![tactic(auto)]
 
+mod border;
 mod extremes;
+mod histogram;
 mod lines;
 mod measures;
 mod merge;
 mod over;
+mod profiles;
 mod row;
 mod sample;
 mod spot;

@@ -16,7 +16,7 @@ use crate::tally::Moments;
 use nd_base::{Dim, SampleType, StatsRule};
 
 /// The index of a place in dimension 1, 0 where there is none.
-fn second_index(dims: &[Dim], place: u32) -> u32
+pub(crate) fn second_index(dims: &[Dim], place: u32) -> u32
     requires { list_all (λ d. nat_lt 0 d.size) dims.now ≡ true }
     ensures { result ≡ index_in dims.now 1 place }
 {
@@ -27,7 +27,7 @@ fn second_index(dims: &[Dim], place: u32) -> u32
 }
 
 /// How many of `left` samples lie on a line of this width from index `x` on, at most 8,192.
-fn on_line(width: u32, x: u32, left: usize) -> usize
+pub(crate) fn on_line(width: u32, x: u32, left: usize) -> usize
     requires x { x < width }
     requires left { 0 < left }
     ensures some { 0 < result }

@@ -7,10 +7,13 @@ ghost use Rattle.nd_base.specs.Shapes.{has_dimensions, sample_count, most_sample
 ghost use Rattle.nd_base.specs.Places.{size_in};
 ghost use Rattle.nd_stats.specs.Samples.{table, placed};
 ghost use Rattle.nd_stats.specs.Measured.{measure_of};
-ghost use Rattle.nd_stats.specs.Running.{IsTally, IsFrame};
+ghost use Rattle.nd_stats.specs.Running.{IsTally, IsFrame, AreBins};
 
+use crate::border::edge_of;
 use crate::extremes::extremes_of;
+use crate::histogram::{histogram_of, list_bins};
 use crate::lines::moments_of;
+use crate::profiles::{add_columns, add_rows};
 use crate::spot::{first_size, next_spot, spot_at};
 use crate::tally::{Extremes, Histogram, Moments, Sums, Tally};
 use lane_kernels::{squares_bytes, sum_bytes};
@@ -140,34 +143,40 @@ fn add_each(
     }
 }
 
-/// The numbers of a piece with neither a border nor lists, by passes over its lines and blocks.
-fn tally_plain(
-    mut tally: Tally,
+/// The numbers of a piece by passes over its lines and blocks. `bins` lists the bins of the histogram's range, or none.
+fn tally_lines(
+    blank: Tally,
     rule: &StatsRule,
+    bins: &[u16],
     kind: SampleType,
     dims: &[Dim],
     from: u32,
     samples: &[u8],
 ) -> Tally
     requires frame { IsFrame rule.now dims.now }
+    requires bins { AreBins rule.now bins.now }
     requires whole { length samples.now % width kind ≡ 0 }
     requires some { 0 < length samples.now / width kind }
     requires within { from + length samples.now / width kind ≤ sample_count dims.now }
-    requires border { rule.now.border ≡ 0 }
-    requires bins { rule.now.hist_size ≡ 0 }
-    requires profiles { rule.now.profiles ≡ false }
-    requires blank { IsTally rule.now dims.now record { place = from; value = number kind (take (width kind) samples.now) } [] tally }
+    requires blank { IsTally rule.now dims.now record { place = from; value = number kind (take (width kind) samples.now) } [] blank }
     ensures { IsTally rule.now dims.now record { place = from; value = number kind (take (width kind) samples.now) } (placed from (samples_of kind samples.now)) result }
 {
+    let mut tally = blank;
+    let edge = edge_of(rule, kind, dims, from, samples);
     tally.extremes = extremes_of(kind, from, samples);
     tally.sums = Sums {
         n: (samples.len() / kind.width()) as u32,
         total: sum_bytes(kind, samples),
         squares: squares_bytes(kind, samples),
-        border: 0,
-        border_n: 0,
+        border: edge.sum,
+        border_n: edge.count,
     };
     tally.moments = moments_of(rule, kind, dims, from, samples);
+    tally.histogram = histogram_of(tally.histogram, rule, bins, kind, from, samples);
+    if rule.profiles {
+        add_columns(rule, kind, dims, from, samples, &mut tally.x);
+        add_rows(rule, kind, dims, from, samples, &mut tally.y);
+    }
     tally
 }
 
@@ -176,24 +185,27 @@ const LONG: u32 = 16;
 
 /// The numbers of a piece that begins at place `from`.
 fn tally_of(
-    tally: Tally,
+    blank: Tally,
     rule: &StatsRule,
+    bins: &[u16],
     kind: SampleType,
     dims: &[Dim],
     from: u32,
     samples: &[u8],
 ) -> Tally
     requires frame { IsFrame rule.now dims.now }
+    requires bins { AreBins rule.now bins.now }
     requires whole { length samples.now % width kind ≡ 0 }
     requires some { 0 < length samples.now / width kind }
     requires within { from + length samples.now / width kind ≤ sample_count dims.now }
-    requires blank { IsTally rule.now dims.now record { place = from; value = number kind (take (width kind) samples.now) } [] tally }
+    requires blank { IsTally rule.now dims.now record { place = from; value = number kind (take (width kind) samples.now) } [] blank }
     ensures { IsTally rule.now dims.now record { place = from; value = number kind (take (width kind) samples.now) } (placed from (samples_of kind samples.now)) result }
 {
-    if rule.border == 0 && rule.hist_size == 0 && !rule.profiles && first_size(dims) >= LONG {
-        return tally_plain(tally, rule, kind, dims, from, samples);
+    if first_size(dims) < LONG {
+        add_each(blank, rule, kind, dims, from, samples)
+    } else {
+        tally_lines(blank, rule, bins, kind, dims, from, samples)
     }
-    add_each(tally, rule, kind, dims, from, samples)
 }
 
 /// The measure that a tally holds.
@@ -277,7 +289,8 @@ pub fn measure_piece(
 {
     let first = number_at(kind, samples, 0);
     let blank = blank_tally(alloc, rule, dims, from, first)?;
-    let tally = tally_of(blank, rule, kind, dims, from, samples);
+    let bins = list_bins(alloc, rule, samples.len() / kind.width())?;
+    let tally = tally_of(blank, rule, &bins, kind, dims, from, samples);
     Ok(measure_from(tally, id))
 }
 

@@ -154,14 +154,14 @@ pub(crate) fn add_at(sums: &mut [i64], index: usize, value: i64)
 }
 
 /// How far two numbers are apart.
-fn distance(from: i64, to: i64) -> u64
+pub(crate) fn distance(from: i64, to: i64) -> u64
     ensures { result ≡ unsigned_abs (to -ℤ from) }
 {
     to.abs_diff(from)
 }
 
 /// The bin of a value that is so far above the low end of the range, rounded to the nearest.
-fn bin_at(above: u64, range: u64, size: u32) -> usize
+pub(crate) fn bin_at(above: u64, range: u64, size: u32) -> usize
     requires within { above ≤ range }
     requires some { 0 < range }
     requires few { range ≤ 8589934592 }
@@ -174,7 +174,7 @@ fn bin_at(above: u64, range: u64, size: u32) -> usize
 }
 
 /// The bin of a value of the histogram's range.
-fn bin_of(rule: &StatsRule, value: i64) -> usize
+pub(crate) fn bin_of(rule: &StatsRule, value: i64) -> usize
     requires rule { IsStats rule.now }
     requires some { rule.now.hist_size ≢ 0 }
     requires from { rule.now.hist_lo ≤ℤ value }

@@ -1,6 +1,6 @@
-use Rattle.std.proofs.Common.{rules, ◌≡◌, ◌≤◌, ◌<◌, ◌+◌, ◌*◌, ◌/◌, ℕ, ℤ, length, take, drop, arith, ap, refl, sym, subst, ◌∙◌, w64, FitsSigned}
+use Rattle.std.proofs.Common.{rules, ◌≡◌, ◌<◌, ◌+◌, ◌*◌, ◌/◌, length, take, drop, arith, ap, sym, subst, w64, FitsSigned}
 use Rattle.std.proofs.lemmas.Int.{to_z-of_z}
-use Rattle.nd_base.specs.Samples.{width, number, numbers, samples_of}
+use Rattle.nd_base.specs.Samples.{width, number, numbers}
 use Rattle.nd_stats.specs.declared.tally.Extremes.{Extremes}
 use Rattle.nd_stats.specs.Samples.{Sample, placed}
 use Rattle.nd_stats.specs.Running.{AreExtremes}

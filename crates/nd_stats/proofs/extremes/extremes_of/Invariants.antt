@@ -1,4 +1,4 @@
-use Rattle.std.proofs.Common.{◌≡◌, ◌≤◌, ◌-◌, ◌/◌, length, take}
+use Rattle.std.proofs.Common.{◌≤◌, ◌-◌, ◌/◌, length, take}
 use Rattle.nd_base.specs.Samples.{number, numbers, width}
 use Rattle.nd_stats.specs.Samples.{placed}
 use Rattle.nd_stats.specs.Running.{AreExtremes}

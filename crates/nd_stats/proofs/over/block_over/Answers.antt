@@ -1,5 +1,4 @@
-use Rattle.std.proofs.Common.{rules, ◌≡◌, ◌≤◌, ◌*◌, ◌/◌, ℤ, ◌+ℤ◌, length, arith, ap, ◌∙◌, w64, to_z, FitsSigned}
-use Rattle.std.specs.Prelude.{unsigned_abs}
+use Rattle.std.proofs.Common.{rules, ◌≡◌, ◌*◌, ◌/◌, ℤ, ◌+ℤ◌, length, arith, ap, ◌∙◌, w64, to_z, FitsSigned}
 use Rattle.std.proofs.lemmas.Int.{to_z-of_z}
 use Rattle.nd_base.specs.Samples.{width, IsSmall}
 use Rattle.nd_stats.proofs.Overs.{add_fits, add_most, over_step, byte_is_one, one_most}

@@ -1,4 +1,4 @@
-use Rattle.std.proofs.Common.{◌≡◌, ◌≤◌, ◌*◌, ◌+◌, ◌/◌, ℤ, ℕ, length, drop, arith, ap, sym, subst, ◌∙◌, w64, to_z, of_z}
+use Rattle.std.proofs.Common.{◌≡◌, ◌≤◌, ◌*◌, ◌+◌, ◌/◌, ℤ, length, drop, arith, ap, sym, subst, w64, to_z, of_z}
 use Rattle.std.specs.Prelude.{unsigned_abs}
 use Rattle.nd_base.specs.Samples.{width, numbers}
 use Rattle.nd_stats.specs.Samples.{placed}

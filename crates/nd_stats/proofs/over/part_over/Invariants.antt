@@ -1,4 +1,4 @@
-use Rattle.std.proofs.Common.{◌≡◌, ◌*◌, ◌≤◌, ◌-◌, ◌/◌, length}
+use Rattle.std.proofs.Common.{◌*◌, ◌≤◌, ◌-◌, ◌/◌, length}
 use Rattle.std.specs.Prelude.{unsigned_abs}
 use Rattle.nd_base.specs.Samples.{numbers, width}
 use Rattle.nd_stats.specs.Samples.{placed}

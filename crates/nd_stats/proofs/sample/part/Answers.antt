@@ -1,7 +1,7 @@
-use Rattle.std.proofs.Common.{rules, ◌≡◌, ◌≤◌, ◌+◌, ◌*◌, ◌-◌, drop, take, length, arith, refl, ap, ◌∙◌}
+use Rattle.std.proofs.Common.{◌≡◌, ◌≤◌, ◌+◌, ◌*◌, ◌-◌, drop, take, length, arith, ap, ◌∙◌}
 use Rattle.std.proofs.Math.Nat.{add-mul}
 use Rattle.std.proofs.lemmas.List.{length-take-le, length-drop}
-use Rattle.nd_base.specs.Samples.{width, numbers, samples_of}
+use Rattle.nd_base.specs.Samples.{width}
 use Rattle.nd_stats.proofs.Parts.{samples_of-take, part_within}
 use Rattle.nd_stats.proofs.sample.part.Goals as goal
 

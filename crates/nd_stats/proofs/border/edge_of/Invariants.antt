@@ -1,0 +1,14 @@
+use Rattle.std.proofs.Common.{◌≤◌, ◌-◌, ◌/◌, length}
+use Rattle.nd_base.specs.Samples.{numbers, width}
+use Rattle.nd_stats.specs.Samples.{placed}
+use Rattle.nd_stats.specs.Running.{IsEdge}
+use Rattle.nd_stats.proofs.border.edge_of.Given as goal
+
+abbrev pub invariant-loop-done : goal.invariant-loop-done
+invariant-loop-done l = record {
+  done : l.done ≤ length l.samples / width l.kind;
+  edge : IsEdge l.rule l.dims (placed l.from (numbers l.kind l.done l.samples)) l.edge;
+}
+
+abbrev pub decreases-loop-done : goal.decreases-loop-done
+decreases-loop-done l = l.count - l.done

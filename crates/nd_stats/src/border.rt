@@ -1,0 +1,79 @@
+//! The samples at the border of an array.
+
+ghost use Rattle.std.specs.Prelude.{◌≡◌, ℕ, ◌+◌, ◌/◌, ◌<◌, ◌≤◌, ◌||◌, length};
+ghost use Rattle.nd_base.specs.Samples.{width, samples_of};
+ghost use Rattle.nd_base.specs.Shapes.{sample_count};
+ghost use Rattle.nd_stats.specs.Samples.{placed, is_near_end};
+ghost use Rattle.nd_stats.specs.Running.{IsFrame, IsEdge};
+
+use crate::sample::part;
+use crate::spot::{Spot, first_size, spot_at};
+use lane_kernels::sum_bytes;
+use nd_base::{Dim, SampleType, StatsRule};
+
+/// The samples at the border: how many, and their sum.
+#[derive(Clone, Copy)]
+pub(crate) struct Edge {
+    pub count: u32,
+    pub sum: i64,
+}
+
+/// Neighbours on a line that are all at the border, or all not.
+#[derive(Clone, Copy)]
+struct Run {
+    at_border: bool,
+    size: u32,
+}
+
+/// The run that begins at a spot. `width` is the size of dimension 0.
+fn run_at(border: u32, width: u32, spot: &Spot) -> Run
+    requires { spot.now.x < width }
+    ensures some { 0 < result.size }
+    ensures within { spot.now.x + result.size ≤ width }
+    ensures same { (j : ℕ) → j < result.size → (is_near_end border width (spot.now.x + j) || spot.now.line_at_border) ≡ result.at_border }
+{
+    let last = width.saturating_sub(border);
+    let (at_border, end) = if spot.line_at_border || spot.x >= last {
+        (true, width)
+    } else if spot.x < border {
+        (true, border.min(width))
+    } else {
+        (false, last)
+    };
+    Run {
+        at_border,
+        size: end - spot.x,
+    }
+}
+
+/// The samples at the border of a piece that begins at place `from`.
+pub(crate) fn edge_of(
+    rule: &StatsRule,
+    kind: SampleType,
+    dims: &[Dim],
+    from: u32,
+    samples: &[u8],
+) -> Edge
+    requires frame { IsFrame rule.now dims.now }
+    requires within { from + length samples.now / width kind ≤ sample_count dims.now }
+    ensures { IsEdge rule.now dims.now (placed from (samples_of kind samples.now)) result }
+{
+    let mut edge = Edge { count: 0, sum: 0 };
+    if rule.border == 0 {
+        return edge;
+    }
+    let count = samples.len() / kind.width();
+    let width = first_size(dims);
+    let mut done = 0;
+    while done < count {
+        let spot = spot_at(rule.border, dims, from + done as u32);
+        let run = run_at(rule.border, width, &spot);
+        let size = (run.size as usize).min(count - done);
+        if run.at_border {
+            edge.count += size as u32;
+            edge.sum += sum_bytes(kind, part(kind, samples, done, size));
+        }
+        done += size;
+    }
+    edge
+}

@@ -1,0 +1,168 @@
+//! The histogram of a piece.
+
+ghost use Rattle.std.specs.Prelude.{◌≡◌, ◌≢◌, ◌+◌, ◌/◌, ◌<◌, ◌≤◌, ◌^◌, ◌≤ℤ◌, ◌&&◌, [], int_lt, length, IfOk};
+ghost use Rattle.nd_base.specs.GraphRules.{IsStats};
+ghost use Rattle.nd_base.specs.Samples.{width, samples_of};
+ghost use Rattle.nd_base.specs.Shapes.{most_samples};
+ghost use Rattle.nd_stats.specs.Measured.{bin_of, has_histogram};
+ghost use Rattle.nd_stats.specs.Tallies.{HaveRoom, bins_after, one_if};
+ghost use Rattle.nd_stats.specs.Samples.{placed};
+ghost use Rattle.nd_stats.specs.Running.{IsHistogram, AreBins, IsCounted};
+
+use crate::tally::{Histogram, add_at, bin_at, bin_of, distance};
+use lane_kernels::sample_at;
+use nd_base::{OutOfMemory, SampleType, StatsRule};
+use std::alloc::Global;
+
+/// The bins of the values of the histogram's range, from its low end on; none where the range is too wide for so few samples.
+pub(crate) fn list_bins(
+    alloc: Global,
+    rule: &StatsRule,
+    count: usize,
+) -> Result<Vec<u16>, OutOfMemory>
+    requires { IsStats rule.now }
+    ensures { IfOk result (λ bins. AreBins rule.now bins.items) }
+{
+    let mut bins = Vec::new(alloc);
+    if rule.hist_size == 0 {
+        return Ok(bins);
+    }
+    let range = distance(rule.hist_lo, rule.hist_hi);
+    if range >= count as u64 / 2 {
+        return Ok(bins);
+    }
+    for above in 0..range + 1 {
+        bins.push(bin_at(above, range, rule.hist_size) as u16)?;
+    }
+    Ok(bins)
+}
+
+/// The bin of a value of the histogram's range, by the list where it has one.
+#[inline(always)]
+fn bin_by(rule: &StatsRule, bins: &[u16], value: i64) -> usize
+    requires rule { IsStats rule.now }
+    requires some { rule.now.hist_size ≢ 0 }
+    requires bins { AreBins rule.now bins.now }
+    requires from { rule.now.hist_lo ≤ℤ value }
+    requires to { value ≤ℤ rule.now.hist_hi }
+    ensures bin { result ≡ bin_of rule.now value }
+    ensures below { result < rule.now.hist_size }
+{
+    match bins.get(distance(rule.hist_lo, value) as usize) {
+        Some(bin) => usize::from(*bin),
+        None => bin_of(rule, value),
+    }
+}
+
+/// How many samples lie below and above the histogram's range.
+#[derive(Clone, Copy)]
+pub(crate) struct Ends {
+    pub below: u32,
+    pub above: u32,
+}
+
+/// Counts one sample.
+#[inline(always)]
+fn count_one(rule: &StatsRule, bins: &[u16], value: i64, ends: Ends, counts: &mut [i64]) -> Ends
+    requires rule { IsStats rule.now }
+    requires some { rule.now.hist_size ≢ 0 }
+    requires bins { AreBins rule.now bins.now }
+    requires size { length counts.old ≡ rule.now.hist_size }
+    requires room { HaveRoom counts.old }
+    requires below { ends.below < 2 ^ 31 }
+    requires above { ends.above < 2 ^ 31 }
+    ensures below { result.below ≡ ends.below + one_if (has_histogram rule.now && int_lt value rule.now.hist_lo) }
+    ensures bins { counts.new ≡ bins_after rule.now value counts.old }
+    ensures above { result.above ≡ ends.above + one_if (has_histogram rule.now && int_lt rule.now.hist_hi value) }
+{
+    let Ends { below, above } = ends;
+    if value < rule.hist_lo {
+        return Ends {
+            below: below + 1,
+            above,
+        };
+    }
+    if rule.hist_hi < value {
+        return Ends {
+            below,
+            above: above + 1,
+        };
+    }
+    add_at(counts, bin_by(rule, bins, value), 1);
+    ends
+}
+
+/// Counts the samples of a piece that begins at place `from`.
+#[inline(always)]
+fn count_each(
+    rule: &StatsRule,
+    bins: &[u16],
+    kind: SampleType,
+    from: u32,
+    samples: &[u8],
+    counts: &mut [i64],
+) -> Ends
+    requires rule { IsStats rule.now }
+    requires some { rule.now.hist_size ≢ 0 }
+    requires bins { AreBins rule.now bins.now }
+    requires few { length samples.now / width kind ≤ most_samples }
+    requires blank { IsCounted rule.now [] record { below = 0; above = 0 } counts.old }
+    ensures { IsCounted rule.now (placed from (samples_of kind samples.now)) result counts.new }
+{
+    let mut ends = Ends { below: 0, above: 0 };
+    for k in 0..samples.len() / kind.width() {
+        ends = count_one(rule, bins, sample_at(kind, samples, k), ends, counts);
+    }
+    ends
+}
+
+/// The same by code of each sample type.
+fn count_all(
+    rule: &StatsRule,
+    bins: &[u16],
+    kind: SampleType,
+    from: u32,
+    samples: &[u8],
+    counts: &mut [i64],
+) -> Ends
+    requires rule { IsStats rule.now }
+    requires some { rule.now.hist_size ≢ 0 }
+    requires bins { AreBins rule.now bins.now }
+    requires few { length samples.now / width kind ≤ most_samples }
+    requires blank { IsCounted rule.now [] record { below = 0; above = 0 } counts.old }
+    ensures { IsCounted rule.now (placed from (samples_of kind samples.now)) result counts.new }
+{
+    match kind {
+        SampleType::Int8 => count_each(rule, bins, SampleType::Int8, from, samples, counts),
+        SampleType::UInt8 => count_each(rule, bins, SampleType::UInt8, from, samples, counts),
+        SampleType::Int16 => count_each(rule, bins, SampleType::Int16, from, samples, counts),
+        SampleType::UInt16 => count_each(rule, bins, SampleType::UInt16, from, samples, counts),
+        SampleType::Int32 => count_each(rule, bins, SampleType::Int32, from, samples, counts),
+        SampleType::UInt32 => count_each(rule, bins, SampleType::UInt32, from, samples, counts),
+    }
+}
+
+/// The histogram of a piece that begins at place `from`; before it has counted nothing.
+pub(crate) fn histogram_of(
+    blank: Histogram,
+    rule: &StatsRule,
+    bins: &[u16],
+    kind: SampleType,
+    from: u32,
+    samples: &[u8],
+) -> Histogram
+    requires rule { IsStats rule.now }
+    requires bins { AreBins rule.now bins.now }
+    requires few { length samples.now / width kind ≤ most_samples }
+    requires blank { IsHistogram rule.now [] blank }
+    ensures { IsHistogram rule.now (placed from (samples_of kind samples.now)) result }
+{
+    if rule.hist_size == 0 {
+        return blank;
+    }
+    let mut histogram = blank;
+    let ends = count_all(rule, bins, kind, from, samples, &mut histogram.bins);
+    histogram.below = ends.below;
+    histogram.above = ends.above;
+    histogram
+}
