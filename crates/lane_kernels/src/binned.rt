@@ -94,7 +94,9 @@ pub(crate) fn add_runs(kind: SampleType, line: &[u8], bin: usize, sums: &mut [i6
     match bin {
         1 => add_each(kind, line, 1, 0, sums),
         2 => add_each(kind, line, 2, 0, sums),
+        3 => add_each(kind, line, 3, 0, sums),
         4 => add_each(kind, line, 4, 0, sums),
+        8 => add_each(kind, line, 8, 0, sums),
         _ => add_each(kind, line, bin, 0, sums),
     }
 }

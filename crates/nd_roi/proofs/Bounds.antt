@@ -36,7 +36,7 @@ fits_from_bound : (b : ℕ) (v : ℤ) → b ≤ 2 ^ 58 → Bounded b v → FitsS
 fits_from_bound b (pos n) h bound = let g = bound.high in fits_signed_from_abs w64 (pos n) (omega (arith, ints))
 fits_from_bound b (negsuc n) h bound = let g = bound.low in fits_signed_from_abs w64 (negsuc n) (omega (arith, ints))
 
-get_or_take_small : (w i : ℕ) (xs : List ℕ) → ((i : ℕ) → get_or xs i 0 < 256) → get_or (take w xs) i 0 < 256
+pub get_or_take_small : (w i : ℕ) (xs : List ℕ) → ((i : ℕ) → get_or xs i 0 < 256) → get_or (take w xs) i 0 < 256
 get_or_take_small w i xs fit = elim (cases_lt i w) [ inl h ↦ rw get_or-take (fit i) | inr h ↦ let short : length (take w xs) ≤ i = simp length-take (omega arith) in rw (get_or_past (take w xs) i 0 short) (omega arith) ]
 
 module _ (bytes : List ℕ) (fit : (i : ℕ) → get_or bytes i 0 < 256) where

@@ -1,5 +1,6 @@
 pub mod Bounds
 pub mod Bytes
+pub mod Copies
 pub mod Cuts
 pub mod Gather
 pub mod Lines

@@ -1,6 +1,6 @@
 //! The walk over the places of a region.
 
-ghost use Rattle.std.specs.Prelude.{◌≡◌, ℕ, ◌+◌, ◌*◌, ◌-◌, ◌/◌, ◌<◌, ◌≤◌, ◌++◌, length, take, map, pos, ◌+ℤ◌, slice_index_or, reverse, sum_by, FitsSigned};
+ghost use Rattle.std.specs.Prelude.{◌≡◌, ℕ, ◌+◌, ◌*◌, ◌-◌, ◌/◌, ◌<◌, ◌≤◌, ◌++◌, length, take, drop, map, pos, ◌+ℤ◌, slice_index_or, reverse, sum_by, true, false, FitsSigned};
 ghost use Rattle.std.specs.List.{range_with_len};
 ghost use Rattle.std.specs.Int.{w64, int_wrap};
 ghost use Rattle.nd_base.specs.GraphRules.{IsBetween};
@@ -107,6 +107,40 @@ fn fill_chunk(job: &Job, input: &[u8], base: usize, done: usize, sums: &mut [i64
     write_samples(job.out_kind, sums, out);
 }
 
+/// Whether a bin covers one line alone along these axes.
+fn all_single(axes: &[Axis]) -> bool
+    ensures { result ≡ true → bins_of (reverse axes.now) ≡ 1 }
+{
+    match axes.split_last() {
+        None => true,
+        Some((axis, faster)) => axis.cut.bin == 1 && all_single(faster),
+    }
+}
+
+/// Whether each sample of the output is the one that it covers.
+fn copies(job: &Job) -> bool
+    ensures bin { result ≡ true → job.now.line.bin ≡ 1 }
+    ensures forward { result ≡ true → job.now.line.reverse ≡ false }
+    ensures single { result ≡ true → bins_of (reverse job.now.slower.now) ≡ 1 }
+    ensures scale { result ≡ true → job.now.scale ≡ 1 }
+    ensures kind { result ≡ true → job.now.out_kind ≡ job.now.kind }
+{
+    job.line.bin == 1
+        && !job.line.reverse
+        && job.scale == 1
+        && job.out_kind == job.kind
+        && all_single(job.slower)
+}
+
+/// Copies the samples from a place on.
+fn copy_samples(kind: SampleType, input: &[u8], place: usize, out: &mut [u8])
+    requires { place * width kind + length out.old ≤ length input.now }
+    ensures { out.new ≡ take (length out.old) (drop (place * width kind) input.now) }
+{
+    let from = place * kind.width();
+    out.copy_from_slice(&input[from..from + out.len()]);
+}
+
 /// Writes a line of the output from index `at` of `out` on, and gives the index behind it. `base` is the place
 /// of the first line that the bin covers.
 fn fill_line(
@@ -127,6 +161,16 @@ fn fill_line(
 {
     let width = job.out_kind.width();
     let size = job.line.size as usize;
+    if copies(job) {
+        let end = at + size * width;
+        copy_samples(
+            job.kind,
+            input,
+            base + job.line.min as usize,
+            &mut out[at..end],
+        );
+        return end;
+    }
     let mut done = 0;
     let mut next = at;
     while done < size {
