@@ -50,7 +50,7 @@ fn blank_profile(alloc: Global, wanted: bool, size: u32) -> Result<Vec<i64>, Out
 }
 
 /// The numbers of no samples; `value` at `place` is the first sample.
-fn blank_tally(
+pub(crate) fn blank_tally(
     alloc: Global,
     rule: &StatsRule,
     dims: &[Dim],
@@ -120,7 +120,7 @@ fn add_all(
 }
 
 /// The same by code of each sample type.
-fn add_each(
+pub(crate) fn add_each(
     tally: Tally,
     rule: &StatsRule,
     kind: SampleType,
@@ -209,7 +209,7 @@ fn tally_of(
 }
 
 /// The measure that a tally holds.
-fn measure_from(tally: Tally, id: i32) -> Measure
+pub(crate) fn measure_from(tally: Tally, id: i32) -> Measure
     ensures { result ≡ record {
       id = id;
       n = tally.sums.n;

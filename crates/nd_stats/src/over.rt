@@ -1,10 +1,11 @@
 //! The samples of a line that reach the threshold.
 
-ghost use Rattle.std.specs.Prelude.{◌≡◌, ◌+◌, ◌*◌, ◌/◌, ◌<◌, ◌≤◌, ◌^◌, ◌*ℤ◌, ◌+ℤ◌, length, pos, int_lt, not, unsigned_abs};
+ghost use Rattle.std.specs.Prelude.{◌≡◌, ℤ, ◌+◌, ◌*◌, ◌/◌, ◌<◌, ◌≤◌, ◌^◌, ◌*ℤ◌, ◌+ℤ◌, length, pos, int_lt, not, unsigned_abs};
 ghost use Rattle.nd_base.specs.Samples.{width, samples_of, IsSmall};
 ghost use Rattle.nd_stats.specs.Samples.{placed};
 ghost use Rattle.nd_stats.specs.Tallies.{counted};
 ghost use Rattle.nd_stats.specs.Over.{IsOver};
+ghost use Rattle.lane_kernels.specs.Plain.{stored};
 
 use crate::sample::part;
 use crate::tally::{counted, reaches};
@@ -33,9 +34,9 @@ fn weighted(index: usize, value: i64) -> i64
     i64::from(index as u8) * value
 }
 
-/// The numbers of a block.
+/// The numbers of a block of samples of 32 bits.
 #[inline(always)]
-fn block_over(kind: SampleType, threshold: i64, block: &[u8]) -> Over
+fn wide_over(kind: SampleType, threshold: i64, block: &[u8]) -> Over
     requires { length block.now / width kind ≤ 128 }
     ensures over { IsOver threshold (placed 0 (samples_of kind block.now)) result }
     ensures few { result.count ≤ length block.now / width kind }
@@ -57,6 +58,103 @@ fn block_over(kind: SampleType, threshold: i64, block: &[u8]) -> Over
         count,
         sum,
         weighted: moment,
+    }
+}
+
+/// A threshold that the same samples of at most 16 bits reach.
+fn near(threshold: i64) -> i32
+    ensures { (v : ℤ) → unsigned_abs v ≤ 65535 → int_lt v result ≡ int_lt v threshold }
+{
+    if threshold > 65_536 {
+        65_536
+    } else if threshold < -65_536 {
+        -65_536
+    } else {
+        threshold as i32
+    }
+}
+
+/// A sample of at most 16 bits.
+#[inline(always)]
+fn narrow_at(kind: SampleType, bytes: &[u8], place: usize) -> i32
+    requires place { place < length bytes.now / width kind }
+    requires narrow { width kind ≤ 2 }
+    ensures value { result ≡ stored kind bytes.now place }
+    ensures bound { unsigned_abs result ≤ 65535 }
+{
+    sample_at(kind, bytes, place) as i32
+}
+
+/// Whether a sample reaches the near threshold.
+#[inline(always)]
+fn reaches_near(value: i32, near: i32) -> bool
+    ensures { result ≡ not (int_lt value near) }
+{
+    value >= near
+}
+
+/// The sample where the test holds, and 0 elsewhere.
+#[inline(always)]
+fn kept_if(test: bool, value: i32) -> i32
+    ensures value { result ≡ counted test value }
+    ensures bound { unsigned_abs value ≤ 65535 → unsigned_abs result ≤ 65535 }
+{
+    if test { value } else { 0 }
+}
+
+/// A sample of at most 16 bits times its index in a block.
+#[inline(always)]
+fn near_weighted(index: usize, value: i32) -> i32
+    requires index { index < 128 }
+    requires value { unsigned_abs value ≤ 65535 }
+    ensures value { result ≡ pos index *ℤ value }
+    ensures bound { unsigned_abs result ≤ 8388480 }
+{
+    i32::from(index as u8) * value
+}
+
+/// The numbers of a block of samples of at most 16 bits.
+#[inline(always)]
+fn narrow_over(kind: SampleType, threshold: i64, block: &[u8]) -> Over
+    requires few { length block.now / width kind ≤ 128 }
+    requires narrow { width kind ≤ 2 }
+    ensures over { IsOver threshold (placed 0 (samples_of kind block.now)) result }
+    ensures few { result.count ≤ length block.now / width kind }
+    ensures sum { unsigned_abs result.sum ≤ length block.now / width kind * 4294967296 }
+    ensures weighted { unsigned_abs result.weighted ≤ length block.now / width kind * 549755813888 }
+{
+    let near = near(threshold);
+    let mut count = 0u32;
+    let mut sum = 0i32;
+    let mut moment = 0i32;
+    for index in 0..block.len() / kind.width() {
+        let value = narrow_at(kind, block, index);
+        let is_over = reaches_near(value, near);
+        let kept = kept_if(is_over, value);
+        count += u32::from(is_over);
+        sum += kept;
+        moment += near_weighted(index, kept);
+    }
+    Over {
+        count,
+        sum: i64::from(sum),
+        weighted: i64::from(moment),
+    }
+}
+
+/// The numbers of a block.
+#[inline(always)]
+fn block_over(kind: SampleType, threshold: i64, block: &[u8]) -> Over
+    requires { length block.now / width kind ≤ 128 }
+    ensures over { IsOver threshold (placed 0 (samples_of kind block.now)) result }
+    ensures few { result.count ≤ length block.now / width kind }
+    ensures sum { unsigned_abs result.sum ≤ length block.now / width kind * 4294967296 }
+    ensures weighted { unsigned_abs result.weighted ≤ length block.now / width kind * 549755813888 }
+{
+    if kind.width() <= 2 {
+        narrow_over(kind, threshold, block)
+    } else {
+        wide_over(kind, threshold, block)
     }
 }
 

@@ -2,7 +2,7 @@ use Rattle.std.proofs.Common.{rules, ◌≡◌, ◌*◌, ◌/◌, ℤ, ◌+ℤ�
 use Rattle.std.proofs.lemmas.Int.{to_z-of_z}
 use Rattle.nd_base.specs.Samples.{width, IsSmall}
 use Rattle.nd_stats.proofs.Overs.{add_fits, add_most, over_step, byte_is_one, one_most}
-use Rattle.nd_stats.proofs.over.block_over.Goals as goal
+use Rattle.nd_stats.proofs.over.wide_over.Goals as goal
 
 pub overflow_add-sum : goal.overflow_add-sum
 overflow_add-sum c =
