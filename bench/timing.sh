@@ -8,6 +8,12 @@ nanoseconds() {
     echo $(($(date +%s%N) - start))
 }
 
+# The nanoseconds of processor time that a command takes, its system calls included.
+processor() {
+    local TIMEFORMAT='%U %S'
+    { time "$@" > /dev/null; } 2>&1 | awk '{ printf "%d\n", ($1 + $2) * 1e9 }'
+}
+
 # The median of the numbers on standard input, one a line.
 median() { sort -n | awk '{ t[NR] = $1 } END { print NR % 2 ? t[(NR + 1) / 2] : int((t[NR / 2] + t[NR / 2 + 1]) / 2) }'; }
 

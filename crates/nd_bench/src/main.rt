@@ -1,19 +1,20 @@
-//! `nd_bench WORKLOAD COUNT`: runs a workload of a crate that no command reaches yet, and prints a checksum of
-//! what it computed. Scripts time it from outside.
+//! `nd_bench WORKLOAD COUNT`: runs a workload of a crate, and prints a checksum of what it computed. Scripts time it from
+//! outside. Two workloads take more words: `stats` and `region` say in their files which.
 #![tactic(auto)]
 
 mod board;
 mod frames;
+mod given;
 mod header;
 mod journal;
 mod lock;
-mod measure;
 mod pool;
 mod region;
 mod report;
 mod rows;
 mod sort;
 mod stack;
+mod stats;
 mod window;
 
 use sort::Order;
@@ -66,9 +67,7 @@ fn run<T: Threads + Wait + Sync>(
         "header" => header::header(alloc, count),
         "journal" => journal::journal(alloc, count),
         "log" => journal::log(alloc, count),
-        "measure" => measure::measure(alloc, count),
         "pool" => pool::pool(alloc, count),
-        "region" => region::region(alloc, count),
         "report" => report::report(alloc, count),
         "rows" => rows::rows(alloc, count),
         "sort-rising" => sort::sort(alloc, Order::Rising, count),
@@ -81,21 +80,49 @@ fn run<T: Threads + Wait + Sync>(
     checksum.ok_or(Refusal::OutOfMemory)
 }
 
-/// Runs what the words ask for, and prints it.
-fn run_words(
-    rt: &(impl Env + Print + AllocGlobal + Threads + Wait + Sync),
-) -> io::Result<Result<(), Refusal>> {
-    let mut words = env::args(rt)?.skip(1);
-    let (Some(workload), Some(count), None) = (words.next(), words.next(), words.next()) else {
-        return Ok(Err(Refusal::Usage));
+/// Runs a workload over an array. The words are its type, a rule and its sizes.
+fn run_over(alloc: Global, workload: &str, words: &[String], count: u32) -> Result<u64, Refusal> {
+    let [kind, rule @ .., sizes] = words else {
+        return Err(Refusal::Usage);
+    };
+    let checksum = match workload {
+        "stats" => stats::stats(alloc, kind.as_str(), rule, sizes.as_str(), count),
+        "region" => region::region(alloc, kind.as_str(), rule, sizes.as_str(), count),
+        _ => None,
+    };
+    checksum.ok_or(Refusal::Usage)
+}
+
+/// Runs what the words ask for.
+fn run_words<T: Threads + Wait + Sync>(
+    rt: &T,
+    alloc: Global,
+    words: &[String],
+) -> Result<u64, Refusal> {
+    let [workload, more @ .., count] = words else {
+        return Err(Refusal::Usage);
     };
     let Ok(count) = count.as_str().parse::<u32>() else {
-        return Ok(Err(Refusal::Usage));
+        return Err(Refusal::Usage);
     };
-    match run(rt, rt.alloc(), workload.as_str(), count) {
+    if more.is_empty() {
+        run(rt, alloc, workload.as_str(), count)
+    } else {
+        run_over(alloc, workload.as_str(), more, count)
+    }
+}
+
+/// Runs what the command line asks for, and prints its words and the checksum.
+fn run_line(
+    rt: &(impl Env + Print + AllocGlobal + Threads + Wait + Sync),
+) -> io::Result<Result<(), Refusal>> {
+    let words: Vec<String> = env::args(rt)?.skip(1).collect(rt.alloc())?;
+    match run_words(rt, rt.alloc(), &words) {
         Ok(checksum) => {
-            let name = workload.as_str();
-            println!(rt; "{name} {count} {checksum}")?;
+            for word in words.iter() {
+                print!(rt; "{word} ")?;
+            }
+            println!(rt; "{checksum}")?;
             Ok(Ok(()))
         }
         Err(refusal) => Ok(Err(refusal)),
@@ -103,7 +130,7 @@ fn run_words(
 }
 
 fn main(rt: HostRuntime) -> ExitCode {
-    match run_words(&rt) {
+    match run_line(&rt) {
         Ok(Ok(())) => ExitCode::SUCCESS,
         Ok(Err(refusal)) => {
             let _ = eprintln!(rt; "nd_bench: {refusal:?}");

@@ -6,9 +6,12 @@ ghost use Rattle.nd_base.specs.Samples.{width};
 ghost use Rattle.nd_base.specs.Shapes.{has_dimensions, sample_count, most_samples};
 ghost use Rattle.nd_stats.specs.Measured.{measure_of};
 
+use crate::measures::{add_each, blank_tally, measure_from};
 use crate::{Merge, measure, measure_piece, row_text};
 use nd_base::SampleType::{Int8, Int16, Int32, UInt8, UInt16, UInt32};
-use nd_base::{Attrs, Dim, Head, Measure, NdArray, OutOfMemory, SampleType, Seq, StatsRule};
+use nd_base::{
+    Attrs, Dim, Head, Measure, NdArray, OutOfMemory, SampleType, Seq, StatsRule, number_at,
+};
 use std::alloc::Global;
 use std::test::Fail;
 
@@ -215,6 +218,81 @@ fn pieces_of_every_split_merge(rt: HostRuntime) -> Result<(), Fail> {
         let m = measure_by_pieces(alloc, &WHOLE, array.kind(), array.dims(), array.bytes(), at)?;
         let text = row_text(alloc, &m.ok_or("a piece has no samples")?)?;
         assert_eq!(rt; text.as_str(), row.as_str(), "at {at}");
+    }
+    Ok(())
+}
+
+/// The measure of an array by the plain program, sample by sample.
+fn plain_measure(
+    alloc: Global,
+    rule: &StatsRule,
+    kind: SampleType,
+    dims: &[Dim],
+    samples: &[u8],
+) -> Result<Measure, OutOfMemory>
+    requires rule { IsStats rule.now }
+    requires dimensions { IsTrue (has_dimensions dims.now) }
+    requires few { sample_count dims.now ≤ most_samples }
+    requires samples { length samples.now ≡ sample_count dims.now * width kind }
+    ensures { IfOk result (λ m. m ≡ measure_of rule.now (pos 1) kind dims.now 0 samples.now) }
+{
+    let first = number_at(kind, samples, 0);
+    let blank = blank_tally(alloc, rule, dims, 0, first)?;
+    let tally = add_each(blank, rule, kind, dims, 0, samples);
+    Ok(measure_from(tally, 1))
+}
+
+/// Whether the plain program gives the same row.
+fn rows_agree(alloc: Global, rule: &StatsRule, array: &NdArray) -> Result<bool, OutOfMemory>
+    requires { IsStats rule.now }
+{
+    let row = row_of(alloc, rule, array)?;
+    let m = plain_measure(alloc, rule, array.kind(), array.dims(), array.bytes())?;
+    let plain = row_text(alloc, &m)?;
+    Ok(row.as_str() == plain.as_str())
+}
+
+/// Sizes with lines of less and of more than sixteen samples, of a block of 128 and more, and of one.
+const SIZES: [&'static [u32]; 7] = [
+    &[1, 40],
+    &[15, 3],
+    &[16, 3],
+    &[37, 5, 3],
+    &[130, 2, 2],
+    &[300],
+    &[17, 1, 2, 2],
+];
+
+/// With bins that are listed for these arrays, and with none at a border.
+const NARROW: StatsRule = StatsRule {
+    threshold: -3,
+    border: 2,
+    hist_size: 5,
+    hist_lo: -7,
+    hist_hi: 9,
+    profiles: true,
+};
+
+#[test]
+fn passes_over_lines_give_what_the_plain_program_does(rt: HostRuntime) -> Result<(), Fail> {
+    let alloc = rt.alloc();
+    for sizes in SIZES {
+        for kind in [Int8, UInt8, Int16, UInt16, Int32, UInt32] {
+            let mut count = kind.width();
+            for size in sizes {
+                count = count.saturating_mul(*size as usize);
+            }
+            let mut samples = Vec::new(alloc);
+            let mut number = 1u32;
+            for _ in 0..count {
+                number = number.wrapping_mul(1_664_525).wrapping_add(1_013_904_223);
+                samples.push(number.to_be_bytes()[0])?;
+            }
+            let array = array_of(alloc, kind, sizes, &samples)?;
+            assert!(rt; rows_agree(alloc, &WHOLE, &array)?, "{kind:?}");
+            assert!(rt; rows_agree(alloc, &PLAIN, &array)?, "{kind:?}");
+            assert!(rt; rows_agree(alloc, &NARROW, &array)?, "{kind:?}");
+        }
     }
     Ok(())
 }

@@ -1,0 +1,76 @@
+//! Arrays and rules that words on the command line name, so that types, sizes and options are known only as the program runs.
+
+ghost use Rattle.std.specs.Prelude.{◌≤◌, IfSome, length};
+ghost use Rattle.nd_base.specs.GraphRules.{IsSampleBound};
+
+use crate::frames::samples;
+use nd_base::{Attrs, Dim, Head, NdArray, SampleType};
+use std::alloc::Global;
+
+/// The sample type of this name.
+pub(crate) fn kind_of(word: &str) -> Option<SampleType> {
+    match word {
+        "Int8" => Some(SampleType::Int8),
+        "UInt8" => Some(SampleType::UInt8),
+        "Int16" => Some(SampleType::Int16),
+        "UInt16" => Some(SampleType::UInt16),
+        "Int32" => Some(SampleType::Int32),
+        "UInt32" => Some(SampleType::UInt32),
+        _ => None,
+    }
+}
+
+/// A value that a sample of some type can have.
+pub(crate) fn bound_of(word: &str) -> Option<i64>
+    ensures { IfSome result (λ bound. IsSampleBound bound) }
+{
+    let bound = word.parse::<i64>().ok()?;
+    if bound < -0x8000_0000 || bound > 0xffff_ffff {
+        return None;
+    }
+    Some(bound)
+}
+
+/// The numbers of a list like 2x2, at most 10 of them.
+pub(crate) fn list_of(alloc: Global, word: &str) -> Option<Vec<i32>>
+    ensures { IfSome result (λ list. length list.items ≤ 10) }
+{
+    let mut list = Vec::new(alloc);
+    for number in word.split('x') {
+        list.push(number.parse::<i32>().ok()?).ok()?;
+    }
+    if list.len() > 10 {
+        return None;
+    }
+    Some(list)
+}
+
+/// An array of these sizes, as 1024x1024, with dimension 0 first. Its samples have no pattern.
+pub(crate) fn array_of(alloc: Global, kind: SampleType, sizes: &str) -> Option<NdArray> {
+    let mut dims = Vec::new(alloc);
+    let mut bytes = kind.width();
+    for size in list_of(alloc, sizes)?.iter() {
+        let size = u32::try_from(*size).ok()?;
+        bytes = bytes.checked_mul(size as usize)?;
+        let dim = Dim {
+            size,
+            offset: 0,
+            binning: 1,
+            reverse: false,
+        };
+        dims.push(dim).ok()?;
+    }
+    let head = Head {
+        id: 1,
+        stamp: 0,
+        sec: 0,
+        nsec: 0,
+        attrs: Attrs::none(alloc),
+    };
+    NdArray::new(alloc, head, kind, dims, samples(alloc, bytes)?).ok()
+}
+
+/// A checksum with one number more.
+pub(crate) fn mixed(sum: u64, more: u64) -> u64 {
+    sum.wrapping_mul(31).wrapping_add(more)
+}
