@@ -14,8 +14,8 @@ use Rattle.file_out.specs.Saving.{IsBegun}
 use Rattle.file_out.specs.Streams.{begun_file, count_place, with_count, MayCount}
 use Rattle.file_out.specs.StreamLaws.{overwritten-count, with_count-begun_file}
 use Rattle.file_out.specs.BegunLaws.{IsBegun-whole}
-use Rattle.replay_top.specs.BegunFiles.{IsFileBegun, Counted, Open, Miscounted, open_count}
-use Rattle.replay_top.specs.NodeFiles.{OutFile}
+use Rattle.graph_files.specs.BegunFiles.{IsFileBegun, Counted, Open, Miscounted, open_count}
+use Rattle.graph_files.specs.OutFiles.{OutFile}
 
 -- the number of records that a header begins with
 abbrev pub first_count : Bool → ℕ → Option ℕ

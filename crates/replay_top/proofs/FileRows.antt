@@ -12,7 +12,7 @@ use Rattle.file_out.specs.StreamLaws.{begun_file-more}
 use Rattle.chain_plain.specs.Content.{content}
 use Rattle.chain_plain.specs.ContentLaws.{frame}
 use Rattle.chain_plain.specs.OneThread.{arrays_out}
-use Rattle.replay_top.specs.OutgoingLaws.{arrays_out-append, arrays_out-more}
+use Rattle.graph_files.specs.OutgoingLaws.{arrays_out-append, arrays_out-more}
 
 begun_file-append : (shape : FileShape) (numrecs : Option ℕ) (xs ys : List Array) → begun_file shape numrecs (xs ++ ys) ≡ begun_file shape numrecs xs ++ flat_map (row shape) ys
 begun_file-append shape numrecs xs ys =

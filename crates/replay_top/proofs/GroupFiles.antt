@@ -9,8 +9,8 @@ use Rattle.nd_base.specs.declared.attribute.FileShape.{FileShape}
 use Rattle.nd_base.specs.declared.graph.Mode.{Mode}
 use Rattle.nd_base.specs.declared.graph.NodeRule.{NodeRule}
 use Rattle.chain_plain.specs.OneThread.{arrays_out, groups}
-use Rattle.replay_top.specs.NodeFiles.{OutFile, group_files, group_name, group_number, is_stream}
-use Rattle.replay_top.specs.OutgoingLaws.{arrays_out-append, length-arrays_out}
+use Rattle.graph_files.specs.OutFiles.{OutFile, group_files, group_name, group_number, is_stream}
+use Rattle.graph_files.specs.OutgoingLaws.{arrays_out-append, length-arrays_out}
 use Rattle.replay_top.proofs.Begun.{file_of}
 use Rattle.replay_top.proofs.Chunks.{groups-chunk, groups-none}
 

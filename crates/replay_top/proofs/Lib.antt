@@ -1,7 +1,6 @@
 pub mod Files
 pub mod Frames
 pub mod Ids
-pub mod Outgoing
 pub mod FileRows
 pub mod Chunks
 pub mod Begun

@@ -15,9 +15,9 @@ use Rattle.nd_stats.specs.Row.{row}
 use Rattle.chain_plain.specs.OneThread.{arrays_out, groups, measure_of_array, outputs, kind_measures, measures_of, files_of}
 use Rattle.chain_plain.specs.OneThread as one
 use Rattle.chain_plain.specs.PassingLaws.{rule_within}
-use Rattle.replay_top.specs.BegunFiles.{AreBegun}
-use Rattle.replay_top.specs.BegunLaws.{with_files-append, AreBegun-first, AreBegun-later}
-use Rattle.replay_top.specs.NodeFiles.{file_shape, group_files, kind_files, node_files, plain_files, stats_name, with_files}
+use Rattle.graph_files.specs.BegunFiles.{AreBegun}
+use Rattle.graph_files.specs.BegunLaws.{with_files-append, AreBegun-first, AreBegun-later}
+use Rattle.graph_files.specs.OutFiles.{file_shape, group_files, kind_files, node_files, plain_files, stats_name, with_files}
 use Rattle.chain_plain.specs.PlainRun.{passed, result_of}
 use Rattle.chain_plain.specs.PassedLaws.{passed-step}
 use Rattle.replay_top.proofs.EachNode.{each_more, each_split}

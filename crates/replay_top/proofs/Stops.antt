@@ -8,10 +8,10 @@ use Rattle.graph_conf.specs.declared.load.LimitFault.TheVariants.{GraphBytes, St
 use Rattle.replay_top.specs.declared.status.Status.{Status}
 use Rattle.replay_top.specs.declared.status.Status.TheVariants.{Done, Usage, GraphText, GraphRule, StackBytes, Limit, ReadFault, ShelfFault, OutFault, OutOfMemory}
 use Rattle.replay_top.specs.Answers.{Ends, HasGraph, stack_name}
-use Rattle.replay_top.specs.BegunFiles.{AreBegun, Counted}
+use Rattle.graph_files.specs.BegunFiles.{AreBegun, Counted}
 use Rattle.replay_top.specs.Command.{Command, Plain}
 use Rattle.replay_top.specs.Copy.{copy_name, copy_file, copy_files}
-use Rattle.replay_top.specs.NodeFiles.{OutFile, with_files}
+use Rattle.graph_files.specs.OutFiles.{OutFile, with_files}
 use Rattle.replay_top.specs.Stages.{GraphStops, StackStops, SaveStops, PrintStops}
 use Rattle.replay_top.specs.Works.{Source, work_of, IsRead, IsWithin}
 

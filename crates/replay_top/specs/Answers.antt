@@ -11,10 +11,10 @@ use Rattle.graph_conf.specs.declared.load.LimitFault.{LimitFault}
 use Rattle.graph_conf.specs.declared.load.LimitFault.TheVariants.{GraphBytes, StackFile}
 use Rattle.replay_top.specs.declared.status.Status.{Status}
 use Rattle.replay_top.specs.declared.status.Status.TheVariants.{Done, Usage, GraphText, GraphRule, StackBytes, Limit, ReadFault, ShelfFault, OutFault, OutOfMemory}
-use Rattle.replay_top.specs.BegunFiles.{AreBegun}
+use Rattle.graph_files.specs.BegunFiles.{AreBegun}
 use Rattle.replay_top.specs.Command.{Command, Copy, Plain, Info}
 use Rattle.replay_top.specs.Limits.{IsGraphRefused, IsStackRefused}
-use Rattle.replay_top.specs.NodeFiles.{with_files}
+use Rattle.graph_files.specs.OutFiles.{with_files}
 use Rattle.replay_top.specs.Printed.{IsCutShort}
 use Rattle.replay_top.specs.Sources.{most_graph_bytes, most_stack_bytes, IsGraphRead}
 use Rattle.replay_top.specs.Works.{Source, work_of, limit_of, IsRead, IsWithin, IsReadBack}

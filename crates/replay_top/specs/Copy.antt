@@ -3,7 +3,7 @@ use Rattle.std.specs.Prelude.{ℕ, ◌==◌, false, List, [], ◌∷◌, length,
 use Rattle.nd_base.specs.Array.{StackValue}
 use Rattle.cdf_write.specs.Layout.{layout}
 use Rattle.cdf_write.specs.Lengths.{length_of}
-use Rattle.replay_top.specs.NodeFiles.{OutFile}
+use Rattle.graph_files.specs.OutFiles.{OutFile}
 
 -- the file of the first group of the node `copy`
 abbrev pub copy_name : List ℕ → List ℕ

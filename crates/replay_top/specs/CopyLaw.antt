@@ -22,7 +22,7 @@ use Rattle.chain_plain.specs.Passing.{out_of}
 use Rattle.graph_conf.specs.Loads.{arrivals, kept, file_bytes_at, limit_fault}
 use Rattle.replay_top.specs.Copy.{copy_name, copy_file, copy_files, copy_length}
 use Rattle.replay_top.specs.Limits.{copy_limit}
-use Rattle.replay_top.specs.NodeFiles.{group_name, group_number, group_files, plain_files}
+use Rattle.graph_files.specs.OutFiles.{group_name, group_number, group_files, plain_files}
 
 -- one file node named `copy` on the driver, in mode capture, with as many arrays a file as a stack has at most
 abbrev pub copy_rule : FileRule

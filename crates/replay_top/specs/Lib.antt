@@ -4,11 +4,6 @@ pub mod Reads
 pub mod Command
 pub mod Words
 pub mod Sources
-pub mod NodeFiles
-pub mod NodeShapes
-pub mod OutgoingLaws
-pub mod BegunFiles
-pub mod BegunLaws
 pub mod PlainText
 pub mod Info
 pub mod WorkedInfo

@@ -36,9 +36,9 @@ use Rattle.chain_plain.specs.Passing.{out_of}
 use Rattle.chain_plain.specs.Plans.{region_shape, stack_shape, shape_at}
 use Rattle.chain_plain.proofs.Rules.{stands}
 use Rattle.graph_conf.specs.Loads.{limit_fault}
-use Rattle.replay_top.specs.NodeFiles.{file_shape}
-use Rattle.replay_top.specs.NodeShapes.{file_shape-IsWritable, length_of-le, longest_fits}
-use Rattle.replay_top.specs.OutgoingLaws.{length-arrays_out, arrays_out-all, out_has_shape}
+use Rattle.graph_files.specs.OutFiles.{file_shape}
+use Rattle.graph_files.specs.NodeShapes.{file_shape-IsWritable, length_of-le, longest_fits}
+use Rattle.graph_files.specs.OutgoingLaws.{length-arrays_out, arrays_out-all, out_has_shape}
 use Rattle.chain_plain.specs.PassedLaws.{passed-frames, passed-few, passed-step}
 use Rattle.chain_plain.specs.PlainRun.{passed, result_of}
 

@@ -13,9 +13,9 @@ use Rattle.replay_top.specs.declared.reading.ReadRefusal.{ReadRefusal}
 use Rattle.replay_top.specs.declared.reading.ReadRefusal.TheVariants as reading
 use Rattle.replay_top.specs.declared.status.Status.{Status}
 use Rattle.replay_top.specs.declared.status.Status.TheVariants.{GraphText, GraphRule, StackBytes, Limit, ReadFault, ShelfFault, OutFault, OutOfMemory}
-use Rattle.replay_top.specs.BegunFiles.{AreBegun}
+use Rattle.graph_files.specs.BegunFiles.{AreBegun}
 use Rattle.replay_top.specs.Limits.{IsGraphRefused, IsStackRefused}
-use Rattle.replay_top.specs.NodeFiles.{OutFile}
+use Rattle.graph_files.specs.OutFiles.{OutFile}
 use Rattle.replay_top.specs.Printed.{IsCutShort}
 use Rattle.replay_top.specs.Sources.{most_graph_bytes, most_stack_bytes, IsStackRead}
 

@@ -10,7 +10,7 @@ use Rattle.replay_top.specs.Command.{Command, Copy, Plain, Info}
 use Rattle.replay_top.specs.Copy.{copy_files}
 use Rattle.replay_top.specs.Info.{info_text}
 use Rattle.replay_top.specs.Limits.{copy_limit}
-use Rattle.replay_top.specs.NodeFiles.{OutFile, file_shape, plain_files}
+use Rattle.graph_files.specs.OutFiles.{OutFile, file_shape, plain_files}
 use Rattle.chain_plain.specs.PlainRun.{result_of}
 use Rattle.replay_top.specs.PlainText.{plain_text}
 use Rattle.replay_top.specs.Printed.{frames_line}

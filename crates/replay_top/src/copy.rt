@@ -8,7 +8,7 @@ ghost use Rattle.replay_top.specs.Causes.{IsCause};
 ghost use Rattle.replay_top.specs.Command.{Copy};
 ghost use Rattle.replay_top.specs.Copy.{copy_files};
 ghost use Rattle.replay_top.specs.Limits.{copy_limit};
-ghost use Rattle.replay_top.specs.NodeFiles.{with_files};
+ghost use Rattle.graph_files.specs.OutFiles.{with_files};
 ghost use Rattle.replay_top.specs.Printed.{frames_line};
 ghost use Rattle.replay_top.specs.Stages.{SaveStops, PrintStops};
 

@@ -9,8 +9,8 @@ ghost use Rattle.file_out.specs.Saving.{IsSaveCause};
 ghost use Rattle.nd_stack.specs.KeptStacks.{IsKeptStack};
 ghost use Rattle.chain_plain.specs.OneThread.{arrays_out, groups};
 ghost use Rattle.chain_plain.specs.Plans.{plan_of};
-ghost use Rattle.replay_top.specs.BegunFiles.{IsFileBegun, AreBegun};
-ghost use Rattle.replay_top.specs.NodeFiles.{file_shape, group_files, group_name, is_stream, with_files};
+ghost use Rattle.graph_files.specs.BegunFiles.{IsFileBegun, AreBegun};
+ghost use Rattle.graph_files.specs.OutFiles.{file_shape, group_files, group_name, is_stream, with_files};
 
 use chain_plain::{content, maker_for};
 use edge_traits::Shelf;

@@ -10,8 +10,8 @@ ghost use Rattle.chain_plain.specs.OneThread.{arrays_out, measure_of_array};
 ghost use Rattle.chain_plain.specs.Plans.{plan_of};
 ghost use Rattle.graph_conf.specs.Loads.{limit_fault};
 ghost use Rattle.file_out.specs.Saving.{IsBegun, IsSaveCause};
-ghost use Rattle.replay_top.specs.BegunFiles.{AreBegun};
-ghost use Rattle.replay_top.specs.NodeFiles.{node_files, plain_files, stats_name, with_files};
+ghost use Rattle.graph_files.specs.BegunFiles.{AreBegun};
+ghost use Rattle.graph_files.specs.OutFiles.{node_files, plain_files, stats_name, with_files};
 ghost use Rattle.chain_plain.specs.PlainRun.{passed};
 
 use crate::groups::save_groups;

@@ -9,7 +9,7 @@ ghost use Rattle.graph_conf.specs.Loads.{limit_fault};
 ghost use Rattle.replay_top.specs.Answers.{Ends};
 ghost use Rattle.replay_top.specs.Causes.{IsCause};
 ghost use Rattle.replay_top.specs.Command.{Plain};
-ghost use Rattle.replay_top.specs.NodeFiles.{plain_files, with_files};
+ghost use Rattle.graph_files.specs.OutFiles.{plain_files, with_files};
 ghost use Rattle.replay_top.specs.PlainText.{plain_text};
 ghost use Rattle.replay_top.specs.Stages.{SaveStops, PrintStops};
 

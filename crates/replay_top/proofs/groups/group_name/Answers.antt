@@ -2,7 +2,7 @@ use Rattle.std.proofs.Common.{◌≡◌, ℕ, ◌-◌, ◌^◌, List, [], ◌++�
 use Rattle.std.specs.Prelude.{codes}
 use Rattle.std.specs.Fmt.{decimal, format_spec, padded_integral}
 use Rattle.std.proofs.lemmas.Result.{IfOk-weaker}
-use Rattle.replay_top.specs.NodeFiles.{group_name, group_number}
+use Rattle.graph_files.specs.OutFiles.{group_name, group_number}
 use Rattle.replay_top.proofs.GroupFiles.{group_number-padded}
 use Rattle.replay_top.proofs.groups.group_name.Goals as goal
 

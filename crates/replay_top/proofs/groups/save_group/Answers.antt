@@ -14,9 +14,9 @@ use Rattle.file_out.specs.Streams.{Stream, with_count}
 use Rattle.file_out.specs.StreamLaws.{rows_few, HasRange-begun_file}
 use Rattle.file_out.specs.BegunLaws.{IsBegun-BeginStops, IsBegun-AddStops}
 use Rattle.replay_top.proofs.Begun.{first_count, unended, IsFileBegun-unended, IsFileBegun-MayCount, with_count-unended}
-use Rattle.replay_top.specs.NodeShapes.{file_shape-IsWritable}
-use Rattle.replay_top.specs.OutgoingLaws.{length-arrays_out}
-use Rattle.replay_top.proofs.Outgoing.{head_is, content-IsRow, content-array_of}
+use Rattle.graph_files.specs.NodeShapes.{file_shape-IsWritable}
+use Rattle.graph_files.specs.OutgoingLaws.{length-arrays_out}
+use Rattle.graph_files.specs.RowLaws.{head_is, content-IsRow, content-array_of}
 use Rattle.replay_top.proofs.FileRows.{begun_group, begun_group-more, begun_group-whole, begun_group-front}
 use Rattle.replay_top.proofs.groups.save_group.Goals as goal
 

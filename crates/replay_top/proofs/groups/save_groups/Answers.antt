@@ -7,9 +7,9 @@ use Rattle.std.proofs.lemmas.Result.{err_from_is_err_and}
 use Rattle.edge_traits.specs.Files.{Files, with_file}
 use Rattle.cdf_write.specs.Layout.{layout}
 use Rattle.chain_plain.specs.OneThread.{arrays_out}
-use Rattle.replay_top.specs.BegunFiles.{IsFileBegun, AreBegun}
-use Rattle.replay_top.specs.BegunLaws.{AreBegun-none}
-use Rattle.replay_top.specs.NodeFiles.{OutFile, file_shape, group_name, is_stream, with_files}
+use Rattle.graph_files.specs.BegunFiles.{IsFileBegun, AreBegun}
+use Rattle.graph_files.specs.BegunLaws.{AreBegun-none}
+use Rattle.graph_files.specs.OutFiles.{OutFile, file_shape, group_name, is_stream, with_files}
 use Rattle.replay_top.proofs.GroupFiles.{files_at, files_at-chunk, files_at-none, same_file, All-front, All-back}
 use Rattle.replay_top.proofs.groups.save_groups.Goals as goal
 

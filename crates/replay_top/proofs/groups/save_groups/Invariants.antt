@@ -3,8 +3,8 @@ use Rattle.std.specs.Prelude.{All, Option}
 use Rattle.std.specs.Iterator.Adapters.{enumerate_source, enumerate_count}
 use Rattle.std.specs.Slice.Iter.{chunks_rest, chunks_size}
 use Rattle.edge_traits.specs.Files.{Files}
-use Rattle.replay_top.specs.BegunFiles.{AreBegun}
-use Rattle.replay_top.specs.NodeFiles.{file_shape, with_files}
+use Rattle.graph_files.specs.BegunFiles.{AreBegun}
+use Rattle.graph_files.specs.OutFiles.{file_shape, with_files}
 use Rattle.replay_top.proofs.GroupFiles.{files_at}
 use Rattle.replay_top.proofs.groups.save_groups.Given as goal
 

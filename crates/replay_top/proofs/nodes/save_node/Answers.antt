@@ -3,10 +3,10 @@ use Rattle.std.proofs.lemmas.Result.{err_from_is_err_and, on_ok_weaker, on_err_w
 use Rattle.nd_base.specs.GraphRules.{rule_at}
 use Rattle.chain_plain.specs.PassingLaws.{rule_within}
 use Rattle.chain_plain.proofs.Rules.{stands}
-use Rattle.replay_top.specs.BegunFiles.{AreBegun, Counted}
-use Rattle.replay_top.specs.BegunLaws.{AreBegun-none}
-use Rattle.replay_top.specs.NodeFiles.{OutFile, node_files, with_files}
-use Rattle.replay_top.specs.NodeShapes.{longest_fits}
+use Rattle.graph_files.specs.BegunFiles.{AreBegun, Counted}
+use Rattle.graph_files.specs.BegunLaws.{AreBegun-none}
+use Rattle.graph_files.specs.OutFiles.{OutFile, node_files, with_files}
+use Rattle.graph_files.specs.NodeShapes.{longest_fits}
 use Rattle.replay_top.proofs.NodeWrites.{saved_rows, saved_groups, stats_sound, file_sound}
 use Rattle.replay_top.proofs.nodes.save_node.Goals as goal
 

@@ -1,6 +1,6 @@
 use Rattle.std.proofs.Common.{◌≡◌}
 use Rattle.std.specs.List.{flat_map, range_with_len}
-use Rattle.replay_top.specs.NodeFiles.{node_files, with_files}
+use Rattle.graph_files.specs.OutFiles.{node_files, with_files}
 use Rattle.replay_top.proofs.nodes.save_nodes.Given as goal
 
 -- the files of the nodes so far

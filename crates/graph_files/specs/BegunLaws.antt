@@ -3,8 +3,8 @@ use Rattle.std.specs.Prelude.{◌≡◌, List, [], ◌∷◌, ◌++◌, Option, 
 use Rattle.std.proofs.Common.{inl, inr}
 use Rattle.edge_traits.specs.Files.{Files, with_file}
 use Rattle.file_out.specs.Saving.{Untouched}
-use Rattle.replay_top.specs.BegunFiles.{AreBegun, Counted}
-use Rattle.replay_top.specs.NodeFiles.{OutFile, with_files}
+use Rattle.graph_files.specs.BegunFiles.{AreBegun, Counted}
+use Rattle.graph_files.specs.OutFiles.{OutFile, with_files}
 
 -- the files of both
 pub with_files-append : (held : Option Files) (xs ys : List OutFile) → with_files held (xs ++ ys) ≡ with_files (with_files held xs) ys

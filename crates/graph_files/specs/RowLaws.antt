@@ -1,4 +1,4 @@
--- The contents of a node's frames as rows of its file.
+-- LAWS: the contents of frames as rows of a node's file.
 use Rattle.std.proofs.Common.{◌≡◌, ℕ, ◌*◌, List, [], ◌∷◌, Some, length, ap, sym, subst, ◌∙◌, arith}
 use Rattle.std.specs.Prelude.{All}
 use Rattle.std.proofs.lemmas.List.Elements.{All-nil, All-cons}
@@ -16,8 +16,8 @@ use Rattle.nd_stack.specs.KeptStacks.{IsKeptStack}
 use Rattle.nd_base.specs.Rebuilt.{frame-rebuilt}
 use Rattle.chain_plain.specs.Content.{content}
 use Rattle.chain_plain.specs.ContentLaws.{frame}
-use Rattle.replay_top.specs.NodeFiles.{file_shape}
-use Rattle.replay_top.specs.OutgoingLaws.{content-HasShape}
+use Rattle.graph_files.specs.OutFiles.{file_shape}
+use Rattle.graph_files.specs.OutgoingLaws.{content-HasShape}
 
 pub head_is : (a : Array) (h : Head) → h.id ≡ a.id → h.stamp ≡ a.stamp → h.sec ≡ a.sec → h.nsec ≡ a.nsec → h.attrs ≡ a.attrs → head_of a ≡ h
 head_is a h id stamp sec nsec attrs =

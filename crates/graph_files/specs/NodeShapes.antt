@@ -11,7 +11,7 @@ use Rattle.cdf_write.specs.Writable.{IsWritable}
 use Rattle.chain_plain.specs.declared.shape.Shape.{Shape}
 use Rattle.chain_plain.specs.ContentLaws.{IsArrayShape, passed_on-both}
 use Rattle.chain_plain.specs.Plans.{region_shape, stack_shape, shape_at}
-use Rattle.replay_top.specs.NodeFiles.{file_shape}
+use Rattle.graph_files.specs.OutFiles.{file_shape}
 use Rattle.std.specs.Prelude.{nat_lt}
 use Rattle.std.specs.Option.{option_map_or}
 use Rattle.std.proofs.lemmas.Bool.{cases_lt}

@@ -3,7 +3,7 @@ use Rattle.std.specs.Prelude.{◌≡◌, ◌⊎◌, ℕ, true, List, [], ◌∷�
 use Rattle.edge_traits.specs.Files.{Files, overwritten, with_file}
 use Rattle.file_out.specs.Saving.{IsBegun}
 use Rattle.file_out.specs.Streams.{count_place}
-use Rattle.replay_top.specs.NodeFiles.{OutFile}
+use Rattle.graph_files.specs.OutFiles.{OutFile}
 
 -- a count of records that is left open
 abbrev pub open_count : List ℕ

@@ -18,7 +18,7 @@ use Rattle.chain_plain.specs.Content.{content}
 use Rattle.chain_plain.specs.ContentLaws.{frame, out_of-shape, out_of-head}
 use Rattle.chain_plain.specs.OneThread.{arrays_out, listed}
 use Rattle.chain_plain.specs.Passing.{out_of}
-use Rattle.replay_top.specs.NodeFiles.{file_shape}
+use Rattle.graph_files.specs.OutFiles.{file_shape}
 
 module _ (nodes : List NodeRule) (arrays : List Array) (v : ℕ) where
   pub arrays_out-append : (ks ls : List ℕ) → arrays_out nodes arrays v (ks ++ ls) ≡ arrays_out nodes arrays v ks ++ arrays_out nodes arrays v ls

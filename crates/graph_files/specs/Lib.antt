@@ -1,0 +1,11 @@
+pub mod OutFiles
+pub mod NodeShapes
+pub mod OutgoingLaws
+pub mod RowLaws
+pub mod BegunFiles
+pub mod BegunLaws
+pub mod Groups
+pub mod NodeFiles
+pub mod NameLaws
+pub mod GroupLaws
+pub mod NodeFileLaws
