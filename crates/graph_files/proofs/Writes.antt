@@ -16,7 +16,7 @@ use Rattle.file_out.specs.Saving.{BeginStops}
 use Rattle.file_out.specs.Streams.{Stream, HasRows, MayCount, begun_file, with_count}
 use Rattle.graph_files.specs.Groups.{group_of, whole_file, HasBytes, file_of}
 use Rattle.graph_files.specs.GroupLaws.{length-group}
-use Rattle.graph_files.specs.NodeFiles.{NodeFile, IsChangedAt, Same, Wrote, IsTorn, Untouched, Front, Miscounted, IsPlaceAfter, AreWritten, AreWrittenBut, AreEnded, HasNumrecs, IsSized, IsFilled, WriteStops, EndStops, EndTorn, RowGoes, RowStops, first_count, name_of, stream_of}
+use Rattle.graph_files.specs.NodeFiles.{NodeFile, IsChangedAt, Same, Wrote, IsTorn, Untouched, Front, Miscounted, IsPlaceAfter, AreWritten, AreWrittenBut, AreEnded, HasNumrecs, IsSized, IsFilled, IsHeldBack, WriteStops, EndStops, EndTorn, RowGoes, RowStops, first_count, name_of, stream_of}
 use Rattle.graph_files.specs.NodeFileLaws.{open-is, open-has, none-is, empty, written-begun, written-more, written-whole, written-but, open-but, none-open, cases_eq, changed-then}
 use Rattle.graph_files.proofs.Torn.{torn-begin, torn-count, changed-begin}
 
@@ -83,7 +83,7 @@ module _ (x y : NodeFile) (g p : ℕ) (small : g < 2 ^ 64) (make : FileShape →
     pub some-stops : (fault : SaveFault) (numrecs : Option ℕ) → f.numrecs ≡ numrecs → RowStops fault f (make f.shape) y.current t u → WriteStops fault x arrays g numrecs (make x.shape) y t u
     some-stops OutOfMemory numrecs given stops =
         let same : y ≡ x = node ∙ ap (λ o. record x { current = o }) (stops.0 ∙ sym is) in
-        subst (λ (z : NodeFile). AreWritten z arrays u) (sym same) (subst (λ (w : Option Files). AreWritten x arrays w) (sym stops.1) h)
+        (subst (λ (z : NodeFile). AreWritten z arrays u) (sym same) (subst (λ (w : Option Files). AreWritten x arrays w) (sym stops.1) h), subst (λ (o : Option Stream). IsHeldBack o y.current t u) (sym is) (stops.0, stops.1))
     some-stops Failed numrecs given stops =
         let zs : List Array = group_of x.count g arrays ++ make x.shape ∷ [] in (
           stops.0,
@@ -103,7 +103,7 @@ module _ (x y : NodeFile) (g p : ℕ) (small : g < 2 ^ 64) (make : FileShape →
     pub begin-stops : (fault : SaveFault) → y.current ≡ None → BeginStops fault t (name_of x g) (header x.shape numrecs) u → WriteStops fault x arrays g numrecs (make x.shape) y t u
     begin-stops OutOfMemory still stops =
         let same : y ≡ x = node ∙ ap (λ o. record x { current = o }) (still ∙ sym none_) in
-        subst (λ (z : NodeFile). AreWritten z arrays u) (sym same) (subst (λ (w : Option Files). AreWritten x arrays w) (sym stops) h)
+        (subst (λ (z : NodeFile). AreWritten z arrays u) (sym same) (subst (λ (w : Option Files). AreWritten x arrays w) (sym stops) h), subst (λ (o : Option Stream). IsHeldBack o y.current t u) (sym none_) (subst (λ (o : Option Stream). IsHeldBack None o t u) (sym still) stops))
     begin-stops Failed still stops =
         (still, but still (changed-begin Failed t u (name_of x g) (header x.shape numrecs) stops), torn-begin t u (name_of x g) x.shape numrecs (group_of x.count g arrays ++ make x.shape ∷ []) stops)
 
@@ -133,9 +133,12 @@ module _ (x y : NodeFile) (g p : ℕ) (small : g < 2 ^ 64) (make : FileShape →
       none-stops OutOfMemory stops =
           let f_ = stream_of x g 0 numrecs in
           let same : y ≡ record x { current = Some f_ } = node ∙ ap (λ o. record x { current = o }) (stops.0 ∙ ap Some is) in
-          subst (λ (z : NodeFile). AreWritten z arrays u) (sym same)
-          (written-begun x arrays g p t u place small h all-changed numrecs first
-          (subst (λ (w : Option Files). HasFile w (name_of x g) (begun_file x.shape numrecs [])) (sym stops.1) (subst (λ (k : Stream). HasRows v k []) is has).bytes))
+          (
+            subst (λ (z : NodeFile). AreWritten z arrays u) (sym same)
+                (written-begun x arrays g p t u place small h all-changed numrecs first
+                (subst (λ (w : Option Files). HasFile w (name_of x g) (begun_file x.shape numrecs [])) (sym stops.1) (subst (λ (k : Stream). HasRows v k []) is has).bytes)),
+            subst (λ (o : Option Stream). IsHeldBack o y.current t u) (sym none_) (subst (λ (o : Option Stream). IsHeldBack None o t u) (sym stops.0) tt),
+          )
       none-stops Failed stops =
           let torn = subst (λ (k : Stream). IsTorn (file_at v k.name) k.shape k.numrecs (make k.shape ∷ []) (file_at u k.name)) is (stops.1 [] has) in (
             stops.0,

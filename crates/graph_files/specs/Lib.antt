@@ -9,3 +9,5 @@ pub mod NodeFiles
 pub mod NameLaws
 pub mod GroupLaws
 pub mod NodeFileLaws
+pub mod OpenFiles
+pub mod OpenFileLaws

@@ -53,7 +53,7 @@ groups-differ x i j hi hj same =
 
 -- OPEN FILES
 
-open-here : (x : NodeFile) (n i : ℕ) → i ≡ n / x.count → open_at x n i ≡ x.current
+pub open-here : (x : NodeFile) (n i : ℕ) → i ≡ n / x.count → open_at x n i ≡ x.current
 open-here x n i h = ap (λ b. if b then x.current else None) (eq-eqb i (n / x.count) h)
 
 pub open-elsewhere : (x : NodeFile) (n i : ℕ) → i ≢ n / x.count → open_at x n i ≡ None
@@ -65,7 +65,7 @@ none-open x n i none = elim (eqb i (n / x.count)) as (λ b. (if b then x.current
 whole-none : (shape : FileShape) (arrays : List Array) → arrays ≡ [] → whole_file shape arrays ≡ None
 whole-none shape arrays e = ap (whole_file shape) e
 
-whole-some : (shape : FileShape) (arrays : List Array) (a : Array) → whole_file shape (arrays ++ a ∷ []) ≡ Some (layout shape (arrays ++ a ∷ []))
+pub whole-some : (shape : FileShape) (arrays : List Array) (a : Array) → whole_file shape (arrays ++ a ∷ []) ≡ Some (layout shape (arrays ++ a ∷ []))
 whole-some shape [] a = refl
 whole-some shape (b ∷ arrays) a = refl
 

@@ -108,9 +108,15 @@ pub data IsTorn (before : Option (List ℕ)) (shape : FileShape) (numrecs : Opti
 abbrev pub AreWrittenBut : NodeFile → List Array → (group : ℕ) → Option Files → Type 0
 AreWrittenBut x arrays group held = (i : ℕ) → i ≢ group → HasBytes held (name_of x i) (group_file x arrays i)
 
+-- after want of memory: nothing changed, or the file was begun and has no row
+abbrev pub IsHeldBack : (old new : Option Stream) → (held now : Option Files) → Type 0
+IsHeldBack (Some f) o held now = (o ≡ Some f) × (now ≡ held)
+IsHeldBack None None held now = now ≡ held
+IsHeldBack None (Some f) held now = Unit {0}
+
 -- what a write that stopped leaves: want of memory nothing new in the files, and a fault of the shelf the name of the group as it is torn
 abbrev pub WriteStops : SaveFault → (x : NodeFile) → List Array → (group : ℕ) → (numrecs : Option ℕ) → (a : Array) → (y : NodeFile) → (held now : Option Files) → Type 0
-WriteStops OutOfMemory x arrays group numrecs a y held now = AreWritten y arrays now
+WriteStops OutOfMemory x arrays group numrecs a y held now = AreWritten y arrays now × IsHeldBack x.current y.current held now
 WriteStops Failed x arrays group numrecs a y held now =
     (y.current ≡ None) × AreWrittenBut y arrays group now
     × IsTorn (file_at held (name_of x group)) x.shape numrecs (group_of x.count group arrays ++ a ∷ []) (file_at now (name_of x group))

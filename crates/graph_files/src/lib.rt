@@ -2,5 +2,7 @@
 #![tactic(auto)]
 
 mod node_files;
+mod open_files;
 
 pub use node_files::NodeFiles;
+pub use open_files::OpenFiles;

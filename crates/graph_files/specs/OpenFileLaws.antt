@@ -1,0 +1,218 @@
+-- LAWS of the files of all nodes: what a write at one of them does to all.
+use Rattle.std.proofs.Common.{◌≡◌, ◌≢◌, ◌⊎◌, ℕ, zero, suc, ◌+◌, ◌*◌, ◌/◌, ◌^◌, ◌<◌, ◌≤◌, Bool, true, false, eqb, List, [], ◌∷◌, ◌++◌, length, take, drop, set, Option, None, Some, inl, inr, refl, sym, ap, subst, ◌∙◌, arith}
+use Rattle.std.specs.Prelude.{slice_get, IsSome, if◌then◌else◌}
+use Rattle.std.proofs.Math.Nat.{div-le_self, mul-le-mul}
+use Rattle.std.proofs.lemmas.Bool.{cases_lt, eq-eqb, ne_eqb}
+use Rattle.std.proofs.lemmas.List.{drop_all}
+use Rattle.nd_base.specs.Array.{Array}
+use Rattle.nd_base.specs.declared.attribute.FileShape.{FileShape}
+use Rattle.edge_traits.specs.Files.{Files, file_at}
+use Rattle.file_out.specs.declared.fault.SaveFault.{SaveFault}
+use Rattle.file_out.specs.declared.fault.SaveFault.TheVariants.{Failed, OutOfMemory}
+use Rattle.file_out.specs.Streams.{Stream}
+use Rattle.graph_files.specs.Groups.{group_of, whole_file, file_of, HasBytes}
+use Rattle.graph_files.specs.GroupLaws.{group-is, group-more, group-other}
+use Rattle.graph_files.specs.NodeFiles.{NodeFile, IsChangedAt, Same, Wrote, IsTorn, IsPlaceAfter, AreWritten, AreWrittenBut, IsHeldBack, WriteStops, name_of, open_at, group_file}
+use Rattle.graph_files.specs.NodeFileLaws.{cases_eq, open-elsewhere, open-here, changed-HasBytes, changed-file_at, whole-some}
+use Rattle.graph_files.specs.OpenFiles.{AreApart, IsElsewhere, AllWritten, AllWrittenBut, AllStops, with_array}
+
+-- LISTS
+
+pub get-set_same : {X : Type 0} (xs : List X) (k : ℕ) (x y : X) → slice_get xs k ≡ Some x → slice_get (set xs k y) k ≡ Some y
+get-set_same [] k x y h = let none_ : None ≡ Some x = h in absurd (cc)
+get-set_same (z ∷ xs) zero x y h = refl
+get-set_same (z ∷ xs) (suc k) x y h = get-set_same xs k x y h
+
+pub get-set_other : {X : Type 0} (xs : List X) (k j : ℕ) (y : X) → j ≢ k → slice_get (set xs k y) j ≡ slice_get xs j
+get-set_other [] k j y h = refl
+get-set_other (z ∷ xs) zero zero y h = absurd (h refl)
+get-set_other (z ∷ xs) zero (suc j) y h = refl
+get-set_other (z ∷ xs) (suc k) zero y h = refl
+get-set_other (z ∷ xs) (suc k) (suc j) y h = get-set_other xs k j y (λ e. h (ap suc e))
+
+some-same : {X : Type 0} {x y : X} → Some x ≡ Some y → x ≡ y
+some-same h = cc
+
+-- GROUPS FAR OFF
+
+none_taken : {X : Type 0} (n : ℕ) → take {A = X} n [] ≡ []
+none_taken zero = refl
+none_taken (suc n) = refl
+
+far-group : (count i : ℕ) (arrays : List Array) → length arrays < i → group_of count i arrays ≡ []
+far-group zero i arrays far = refl
+far-group (suc c) i arrays far =
+    let long : i * 1 ≤ i * suc c = mul-le-mul (let same : i ≤ i = omega arith in same) (let one : 1 ≤ suc c = omega arith in one) in
+    ap (take (suc c)) (drop_all (i * suc c) arrays (omega (arith, far, long))) ∙ none_taken (suc c)
+
+pub far-none : (x : NodeFile) (arrays : List Array) (i : ℕ) → length arrays < i → group_file x arrays i ≡ None
+far-none x arrays i far =
+    let elsewhere : i ≢ length arrays / x.count = λ e. absurd (omega (arith, far, e, div-le_self (length arrays) x.count)) in
+    ap (λ o. file_of o x.shape (group_of x.count i arrays)) (open-elsewhere x (length arrays) i elsewhere) ∙ ap (whole_file x.shape) (far-group x.count i arrays far)
+
+-- NAMES THAT STAND
+
+file-some : (o : Option Stream) (shape : FileShape) (zs : List Array) → IsSome (whole_file shape zs) → IsSome (file_of o shape zs)
+file-some None shape zs h = h
+file-some (Some f) shape zs h = refl
+
+some-by : {X : Type 0} {a b : Option X} → a ≡ b → IsSome a → IsSome b
+some-by {X} e h = subst (λ (o : Option X). IsSome o) e h
+
+module _ (x : NodeFile) (o : Option Stream) (arrays : List Array) (g p : ℕ) (place : IsPlaceAfter x.count arrays g p) where
+  -- a group's name that stood stands, whatever is written of the group that the next array goes to
+  stands-on : (ys : List Array) (i : ℕ) → i ≢ g → group_of x.count i ys ≡ group_of x.count i arrays → IsSome (group_file x arrays i) → IsSome (group_file (record x { current = o }) ys i)
+  stands-on ys i apart same h =
+      let was : group_file x arrays i ≡ whole_file x.shape (group_of x.count i arrays) =
+      ap (λ w. file_of w x.shape (group_of x.count i arrays)) (open-elsewhere x (length arrays) i (λ e. apart (e ∙ group-is x.count arrays g p place))) in
+      file-some (open_at (record x { current = o }) (length ys) i) x.shape (group_of x.count i ys) (some-by (was ∙ ap (whole_file x.shape) (sym same)) h)
+
+  stands-more : (a : Array) → IsSome (group_file (record x { current = o }) (arrays ++ a ∷ []) g)
+  stands-more a =
+      file-some (open_at (record x { current = o }) (length (arrays ++ a ∷ [])) g) x.shape (group_of x.count g (arrays ++ a ∷ []))
+      (some-by (sym (ap (whole_file x.shape) (group-more x.count arrays a g p place) ∙ whole-some x.shape (group_of x.count g arrays) a)) refl)
+
+-- APART
+
+module _ (xs : List NodeFile) (k : ℕ) (x : NodeFile) (o : Option Stream) (at : slice_get xs k ≡ Some x) where
+  abbrev ys : List NodeFile
+  ys = set xs k (record x { current = o })
+
+  -- which node each is of
+  record Was (j : ℕ) (y : NodeFile) : Type 0 where
+    old : NodeFile
+    is : slice_get xs j ≡ Some old
+    node : y.node ≡ old.node
+    names : (i : ℕ) → name_of y i ≡ name_of old i
+
+  was : (j : ℕ) (y : NodeFile) → slice_get ys j ≡ Some y → Was j y
+  was j y h =
+      elim (cases_eq j k) [
+        | inl here ↦
+            let same : record x { current = o } ≡ y = some-same (sym (get-set_same xs k x (record x { current = o }) at) ∙ ap (slice_get ys) (sym here) ∙ h) in
+            record { old = x; is = ap (slice_get xs) here ∙ at; node = ap (λ (z : NodeFile). z.node) (sym same); names = λ i. ap (λ (z : NodeFile). name_of z i) (sym same) }
+        | inr apart ↦ record { old = y; is = sym (get-set_other xs k j (record x { current = o }) apart) ∙ h; node = refl; names = λ i. refl }
+      ]
+
+  pub apart-kept : AreApart xs → AreApart ys
+  apart-kept apart j l y z hy hz ne =
+      let a = was j y hy in
+      let b = was l z hz in
+      let r = apart j l a.old b.old a.is b.is ne in
+      ((λ e. r.0 (sym a.node ∙ e ∙ b.node)), (λ i h hi hh e. r.1 i h hi hh (sym (a.names i) ∙ e ∙ b.names h)))
+
+  module _ (apart : AreApart xs) (g : ℕ) (small : g < 2 ^ 64) (before t u : Option Files) (written : ℕ → List Array) (h : AllWritten before xs written t)
+      (changed : IsChangedAt t (name_of x g) u) where
+    -- the files of another node
+    other-bytes : (j : ℕ) (y : NodeFile) → slice_get xs j ≡ Some y → j ≢ k → (i : ℕ) → HasBytes u (name_of y i) (group_file y (written y.node) i)
+    other-bytes j y is ne i =
+        elim (cases_lt i (2 ^ 64)) [
+          | inl low ↦ changed-HasBytes t u (name_of x g) (name_of y i) (group_file y (written y.node) i) changed ((apart j k y x is at ne).1 i g low small) ((h.each j y is).each i)
+          | inr high ↦ subst (HasBytes u (name_of y i)) (sym (far-none y (written y.node) i (omega (arith, high, h.few j y is)))) tt
+        ]
+
+    other-written : (j : ℕ) (y : NodeFile) → slice_get xs j ≡ Some y → j ≢ k → AreWritten y (written y.node) u
+    other-written j y is ne = record { begun = (h.each j y is).begun; each = other-bytes j y is ne }
+
+    module _ (now : ℕ → List Array) (still : (v : ℕ) → v ≢ x.node → now v ≡ written v) (more : length (now x.node) < 2 ^ 64)
+        (mono : (i : ℕ) → IsSome (group_file x (written x.node) i) → IsSome (group_file (record x { current = o }) (now x.node) i)) where
+      elsewhere : (q : List ℕ) → IsElsewhere ys now q → IsElsewhere xs written q
+      elsewhere q away j y i is named =
+          elim (cases_eq j k) [
+            | inl here ↦
+                let same : y ≡ x = some-same (sym is ∙ ap (slice_get xs) here ∙ at) in
+                let has : IsSome (group_file x (written x.node) i) = subst (λ (z : NodeFile). IsSome (group_file z (written z.node) i)) same named in
+                (λ e. away k (record x { current = o }) i (get-set_same xs k x (record x { current = o }) at) (mono i has) (e ∙ ap (λ (z : NodeFile). name_of z i) same))
+            | inr ne ↦
+                away j y i (get-set_other xs k j (record x { current = o }) ne ∙ is)
+                (subst (λ (zs : List Array). IsSome (group_file y zs i)) (sym (still y.node (apart j k y x is at ne).0)) named)
+          ]
+
+      others-by : (changed_ : IsChangedAt t (name_of x g) u) → (IsSome (group_file (record x { current = o }) (now x.node) g) ⊎ (u ≡ t)) → (q : List ℕ) → IsElsewhere ys now q → file_at u q ≡ file_at before q
+      others-by changed_ (inr same) q away = ap (λ w. file_at w q) same ∙ h.others q (elsewhere q away)
+      others-by changed_ (inl named) q away =
+          changed-file_at t u (name_of x g) q changed_ (away k (record x { current = o }) g (get-set_same xs k x (record x { current = o }) at) named) ∙ h.others q (elsewhere q away)
+
+      pub all-then : AreWritten (record x { current = o }) (now x.node) u → (IsSome (group_file (record x { current = o }) (now x.node) g) ⊎ (u ≡ t)) → AllWritten before ys now u
+      all-then mine named = record {
+        each = λ j y is. elim (cases_eq j k) [
+          | inl here ↦
+              let same : record x { current = o } ≡ y = some-same (sym (get-set_same xs k x (record x { current = o }) at) ∙ ap (slice_get ys) (sym here) ∙ is) in
+              subst (λ (z : NodeFile). AreWritten z (now z.node) u) same mine
+          | inr ne ↦
+              let old = sym (get-set_other xs k j (record x { current = o }) ne) ∙ is in
+              subst (λ (zs : List Array). AreWritten y zs u) (sym (still y.node (apart j k y x old at ne).0)) (other-written j y old ne)
+        ];
+        few = λ j y is. elim (cases_eq j k) [
+          | inl here ↦
+              let same : record x { current = o } ≡ y = some-same (sym (get-set_same xs k x (record x { current = o }) at) ∙ ap (slice_get ys) (sym here) ∙ is) in
+              subst (λ (z : NodeFile). length (now z.node) < 2 ^ 64) same more
+          | inr ne ↦
+              let old = sym (get-set_other xs k j (record x { current = o }) ne) ∙ is in
+              subst (λ (zs : List Array). length zs < 2 ^ 64) (sym (still y.node (apart j k y x old at ne).0)) (h.few j y old)
+        ];
+        others = others-by changed named;
+      }
+
+    pub all-but : AreWrittenBut (record x { current = o }) (written x.node) g u
+        → ((i : ℕ) → i ≢ g → IsSome (group_file x (written x.node) i) → IsSome (group_file (record x { current = o }) (written x.node) i)) → AllWrittenBut before ys written x g u
+    all-but mine mono = record {
+      each = λ j y i is off. elim (cases_eq j k) [
+        | inl here ↦
+            let same : record x { current = o } ≡ y = some-same (sym (get-set_same xs k x (record x { current = o }) at) ∙ ap (slice_get ys) (sym here) ∙ is) in
+            let away : i ≢ g = elim off [ inl other ↦ absurd (other (ap (λ (z : NodeFile). z.node) (sym same))) | inr ne ↦ ne ] in
+            subst (λ (z : NodeFile). HasBytes u (name_of z i) (group_file z (written z.node) i)) same (mine i away)
+        | inr ne ↦ other-bytes j y (sym (get-set_other xs k j (record x { current = o }) ne) ∙ is) ne i
+      ];
+      others = λ q off away. changed-file_at t u (name_of x g) q changed off ∙ h.others q (λ j y i is named. elim (cases_eq j k) [
+        | inl here ↦
+            let same : y ≡ x = some-same (sym is ∙ ap (slice_get xs) here ∙ at) in
+            let has : IsSome (group_file x (written x.node) i) = subst (λ (z : NodeFile). IsSome (group_file z (written z.node) i)) same named in
+            (λ e. elim (cases_eq i g) [
+              | inl torn ↦ off (e ∙ ap (λ (z : NodeFile). name_of z i) same ∙ ap (name_of x) torn)
+              | inr ne ↦ away k (record x { current = o }) i (get-set_same xs k x (record x { current = o }) at) (mono i ne has) (e ∙ ap (λ (z : NodeFile). name_of z i) same)
+            ])
+        | inr ne ↦ away j y i (get-set_other xs k j (record x { current = o }) ne ∙ is) named
+      ]);
+    }
+
+    module _ (p : ℕ) (place : IsPlaceAfter x.count (written x.node) g p) (a : Array) where
+      here-is : with_array written x.node a x.node ≡ written x.node ++ a ∷ []
+      here-is = ap (λ b. if b then written x.node ++ a ∷ [] else written x.node) (eq-eqb x.node x.node refl)
+
+      elsewhere-is : (v : ℕ) → v ≢ x.node → with_array written x.node a v ≡ written v
+      elsewhere-is v ne = ap (λ b. if b then written v ++ a ∷ [] else written v) (ne_eqb v x.node ne)
+
+      -- an array more
+      pub all-more : length (written x.node ++ a ∷ []) < 2 ^ 64 → AreWritten (record x { current = o }) (written x.node ++ a ∷ []) u → AllWritten before ys (with_array written x.node a) u
+      all-more few mine =
+          let P = λ (zs : List Array). IsSome (group_file (record x { current = o }) zs g) in
+          all-then (with_array written x.node a) elsewhere-is (subst (λ (zs : List Array). length zs < 2 ^ 64) (sym here-is) few)
+          (λ i named. elim (cases_eq i g) [
+            | inl at_ ↦ subst (λ (n : ℕ). IsSome (group_file (record x { current = o }) (with_array written x.node a x.node) n)) (sym at_) (subst P (sym here-is) (stands-more x o (written x.node) g p place a))
+            | inr ne ↦ subst (λ (zs : List Array). IsSome (group_file (record x { current = o }) zs i)) (sym here-is)
+                (stands-on x o (written x.node) g p place (written x.node ++ a ∷ []) i ne (group-other x.count (written x.node) a g p place i ne) named)
+          ])
+          (subst (λ (zs : List Array). AreWritten (record x { current = o }) zs u) (sym here-is) mine) (inl (subst P (sym here-is) (stands-more x o (written x.node) g p place a)))
+
+      here-some : (f : Stream) → o ≡ Some f → IsSome (group_file (record x { current = o }) (written x.node) g)
+      here-some f is = some-by (sym (ap (λ w. file_of w x.shape (group_of x.count g (written x.node))) (open-here (record x { current = o }) (length (written x.node)) g (sym (group-is x.count (written x.node) g p place)) ∙ is))) refl
+
+      held-back : (old : Option Stream) → old ≡ x.current → (new : Option Stream) → new ≡ o → IsHeldBack old new t u → AreWritten (record x { current = o }) (written x.node) u → AllWritten before ys written u
+      held-back (Some f) was_ new is back mine =
+          let same : o ≡ x.current = sym is ∙ back.0 ∙ was_ in
+          all-then written (λ v ne. refl) (h.few k x at) (λ i named. subst (λ (w : Option Stream). IsSome (group_file (record x { current = w }) (written x.node) i)) (sym same) named) mine (inr back.1)
+      held-back None was_ None is back mine =
+          let same : o ≡ x.current = sym is ∙ was_ in
+          all-then written (λ v ne. refl) (h.few k x at) (λ i named. subst (λ (w : Option Stream). IsSome (group_file (record x { current = w }) (written x.node) i)) (sym same) named) mine (inr back)
+      held-back None was_ (Some f) is back mine =
+          all-then written (λ v ne. refl) (h.few k x at)
+          (λ i named. elim (cases_eq i g) [
+            | inl at_ ↦ subst (λ (n : ℕ). IsSome (group_file (record x { current = o }) (written x.node) n)) (sym at_) (here-some f (sym is))
+            | inr ne ↦ stands-on x o (written x.node) g p place (written x.node) i ne refl named
+          ]) mine (inl (here-some f (sym is)))
+
+      -- a write that stopped
+      pub all-stops : (fault : SaveFault) (numrecs : Option ℕ) → WriteStops fault x (written x.node) g numrecs a (record x { current = o }) t u → AllStops fault before x ys written g numrecs a t u
+      all-stops OutOfMemory numrecs stops = held-back x.current refl o refl stops.1 stops.0
+      all-stops Failed numrecs stops = (all-but stops.1 (λ i ne named. stands-on x o (written x.node) g p place (written x.node) i ne refl named), stops.2)

@@ -1,0 +1,78 @@
+//! The files of all file nodes of a graph.
+
+ghost use Rattle.std.specs.Prelude.{◌≡◌, ◌+◌, ◌^◌, ◌<◌, ℕ, List, Some, Option, length, slice_get, IfOk, IfErr, OnOk, OnErr};
+ghost use Rattle.nd_base.specs.Array.{Array};
+ghost use Rattle.nd_base.specs.Shapes.{array_of};
+ghost use Rattle.nd_base.specs.GraphRules.{IsGraph};
+ghost use Rattle.edge_traits.specs.Files.{Files};
+ghost use Rattle.nd_stack.specs.KeptStacks.{IsKeptStack};
+ghost use Rattle.chain_plain.specs.Plans.{plan_of};
+ghost use Rattle.graph_conf.specs.Loads.{limit_fault};
+ghost use Rattle.file_out.specs.Saving.{IsSaveCause};
+ghost use Rattle.graph_files.specs.NodeFiles.{NodeFile, first_count, IsPlaceAfter};
+ghost use Rattle.graph_files.specs.OpenFiles.{file_nodes, IsReady, IsReopened, AllWritten, AllStops, with_array};
+
+use crate::NodeFiles;
+use edge_traits::Shelf;
+use file_out::SaveFault;
+use nd_base::{Head, Kind, OutOfMemory, Plan, Stack};
+use std::alloc::Global;
+use std::marker::Model;
+
+/// The files of all file nodes of a graph, in its order, each with at most one that is open.
+#[derive(Debug, Drop)]
+pub struct OpenFiles {
+    nodes: Vec<NodeFiles>,
+}
+
+impl Model for OpenFiles {
+    ghost use Rattle.std.specs.Prelude.{List};
+    ghost use Rattle.graph_files.specs.NodeFiles.{NodeFile};
+    ghost use Rattle.graph_files.specs.OpenFiles.{AreApart};
+
+    ghost Value = { List NodeFile };
+
+    ghost view = { λ f. f.nodes.items };
+
+    ghost invariant = { λ f. AreApart f.nodes.items };
+}
+
+impl OpenFiles {
+    /// How many file nodes there are.
+    pub fn count(&self) -> usize
+        ensures { result ≡ length self.now }
+    {
+        self.nodes.len()
+    }
+
+    /// Writes the next array of file node `at` of these: see `NodeFiles::write`.
+    ///
+    /// # Errors
+    ///
+    /// After want of memory the array isn't written, and may be written again. `Failed` where the shelf failed: its count of faults
+    /// rose.
+    pub fn write<K: Shelf>(
+        &mut self,
+        alloc: Global,
+        shelf: &mut K,
+        at: usize,
+        group: u32,
+        place: u32,
+        of: Option<u32>,
+        head: &Head,
+        samples: &[u8],
+    ) -> Result<(), SaveFault>
+        requires at { at < length self.old }
+        requires ready { (x : NodeFile) → slice_get self.old at ≡ Some x → IsReady x group place of head.now samples.now (K.held shelf.old) }
+        ensures nodes { IsReopened self.old at of self.new }
+        ensures ok { OnOk result ((before : Option Files) (written : ℕ → List Array) (x : NodeFile) → slice_get self.old at ≡ Some x
+            → length (written x.node) + 1 < 2 ^ 64 → IsPlaceAfter x.count (written x.node) group place → AllWritten before self.old written (K.held shelf.old)
+            → AllWritten before self.new (with_array written x.node (array_of head.now x.shape.kind x.shape.dims samples.now)) (K.held shelf.new)) }
+        ensures err { IfErr result (λ fault. (before : Option Files) (written : ℕ → List Array) (x : NodeFile) → slice_get self.old at ≡ Some x
+            → IsPlaceAfter x.count (written x.node) group place → AllWritten before self.old written (K.held shelf.old)
+            → AllStops fault before x self.new written group (first_count x.late of) (array_of head.now x.shape.kind x.shape.dims samples.now) (K.held shelf.old) (K.held shelf.new)) }
+        ensures cause { IsSaveCause result (K.faults shelf.old) (K.faults shelf.new) }
+    {
+        self.nodes[at].write(alloc, shelf, group, place, of, head, samples)
+    }
+}
