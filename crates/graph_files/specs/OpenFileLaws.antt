@@ -1,6 +1,16 @@
 -- LAWS of the files of all nodes: what a write at one of them does to all.
-use Rattle.std.proofs.Common.{◌≡◌, ◌≢◌, ◌⊎◌, ℕ, zero, suc, ◌+◌, ◌*◌, ◌/◌, ◌^◌, ◌<◌, ◌≤◌, Bool, true, false, eqb, List, [], ◌∷◌, ◌++◌, length, take, drop, set, Option, None, Some, inl, inr, refl, sym, ap, subst, ◌∙◌, arith}
-use Rattle.std.specs.Prelude.{slice_get, IsSome, if◌then◌else◌}
+use Rattle.std.proofs.Common.{◌≡◌, ◌≢◌, ◌⊎◌, ℕ, zero, suc, ◌+◌, ◌*◌, ◌/◌, ◌^◌, ◌<◌, ◌≤◌, Bool, true, false, eqb, List, [], ◌∷◌, ◌++◌, length, take, drop, set, get_or, Option, None, Some, inl, inr, refl, sym, ap, subst, ◌∙◌, arith}
+use Rattle.std.specs.Prelude.{slice_get, IsSome, AllPairs, codes, if◌then◌else◌}
+use Rattle.std.proofs.lemmas.Option.{get_or_from_slice_get, slice_get_within}
+use Rattle.nd_base.specs.Array.{StackValue}
+use Rattle.nd_base.specs.declared.graph.Graph.{Graph}
+use Rattle.nd_base.specs.declared.graph.FileRule.{FileRule}
+use Rattle.nd_base.specs.declared.graph.Kind.{Kind}
+use Rattle.nd_base.specs.declared.graph.Kind.TheVariants.{Roi, Stats, Circular, File, Scatter}
+use Rattle.nd_base.specs.declared.graph.NodeRule.{NodeRule}
+use Rattle.nd_base.specs.GraphRules.{IsGraph}
+use Rattle.graph_files.specs.NameLaws.{names-differ}
+use Rattle.graph_files.specs.OutFiles.{group_number}
 use Rattle.std.proofs.Math.Nat.{div-le_self, mul-le-mul}
 use Rattle.std.proofs.lemmas.Bool.{cases_lt, eq-eqb, ne_eqb}
 use Rattle.std.proofs.lemmas.List.{drop_all}
@@ -12,9 +22,9 @@ use Rattle.file_out.specs.declared.fault.SaveFault.TheVariants.{Failed, OutOfMem
 use Rattle.file_out.specs.Streams.{Stream}
 use Rattle.graph_files.specs.Groups.{group_of, whole_file, file_of, HasBytes}
 use Rattle.graph_files.specs.GroupLaws.{group-is, group-more, group-other}
-use Rattle.graph_files.specs.NodeFiles.{NodeFile, IsChangedAt, Same, Wrote, IsTorn, IsPlaceAfter, AreWritten, AreWrittenBut, IsHeldBack, WriteStops, name_of, open_at, group_file}
+use Rattle.graph_files.specs.NodeFiles.{NodeFile, node_file, IsChangedAt, Same, Wrote, IsTorn, IsPlaceAfter, AreWritten, AreWrittenBut, IsHeldBack, WriteStops, name_of, open_at, group_file}
 use Rattle.graph_files.specs.NodeFileLaws.{cases_eq, open-elsewhere, open-here, changed-HasBytes, changed-file_at, whole-some}
-use Rattle.graph_files.specs.OpenFiles.{AreApart, IsElsewhere, AllWritten, AllWrittenBut, AllStops, with_array}
+use Rattle.graph_files.specs.OpenFiles.{kind_node, nodes_from, file_nodes, AreApart, IsElsewhere, AllWritten, AllWrittenBut, AllStops, with_array}
 
 -- LISTS
 
@@ -32,6 +42,85 @@ get-set_other (z ∷ xs) (suc k) (suc j) y h = get-set_other xs k j y (λ e. h (
 
 some-same : {X : Type 0} {x y : X} → Some x ≡ Some y → x ≡ y
 some-same h = cc
+
+-- THE FILES OF A GRAPH
+
+-- which node the files are of
+pub record IsOfNode (prefix : List ℕ) (v : ℕ) (ns : List NodeRule) (x : NodeFile) : Type 0 where
+  pub place : ℕ
+  pub rule : NodeRule
+  pub file : FileRule
+  pub at : slice_get ns place ≡ Some rule
+  pub kind : rule.kind ≡ File file
+  pub node : x.node ≡ v + place
+  pub stem : x.stem ≡ prefix ++ rule.name ++ codes "_"
+
+module _ (g : Graph) (s : StackValue) (prefix : List ℕ) where
+  later : (v : ℕ) (n : NodeRule) (ns : List NodeRule) (x : NodeFile) → IsOfNode prefix (v + 1) ns x → IsOfNode prefix v (n ∷ ns) x
+  later v n ns x h = record { place = suc h.place; rule = h.rule; file = h.file; at = h.at; kind = h.kind; node = h.node ∙ omega arith; stem = h.stem }
+
+  by_kind : (v : ℕ) (n : NodeRule) (ns : List NodeRule) → ((k : ℕ) (x : NodeFile) → slice_get (nodes_from g s prefix (v + 1) ns) k ≡ Some x → IsOfNode prefix (v + 1) ns x) → (c : Kind) → n.kind ≡ c
+      → (k : ℕ) (x : NodeFile) → slice_get (kind_node g s prefix v n.name c ++ nodes_from g s prefix (v + 1) ns) k ≡ Some x → IsOfNode prefix v (n ∷ ns) x
+  by_kind v n ns rest (File r) is zero x h =
+      let same : node_file g s prefix v r n.name ≡ x = some-same h in
+      record { place = 0; rule = n; file = r; at = refl; kind = is; node = ap (λ (y : NodeFile). y.node) (sym same) ∙ omega arith; stem = ap (λ (y : NodeFile). y.stem) (sym same) }
+  by_kind v n ns rest (File r) is (suc k) x h = later v n ns x (rest k x h)
+  by_kind v n ns rest (Roi r) is k x h = later v n ns x (rest k x h)
+  by_kind v n ns rest (Stats r) is k x h = later v n ns x (rest k x h)
+  by_kind v n ns rest (Circular r) is k x h = later v n ns x (rest k x h)
+  by_kind v n ns rest Scatter is k x h = later v n ns x (rest k x h)
+
+  pub of_node : (v : ℕ) (ns : List NodeRule) (k : ℕ) (x : NodeFile) → slice_get (nodes_from g s prefix v ns) k ≡ Some x → IsOfNode prefix v ns x
+  of_node v [] k x h = let none_ : None ≡ Some x = h in absurd (cc)
+  of_node v (n ∷ ns) k x h = by_kind v n ns (λ j y is. of_node (v + 1) ns j y is) n.kind refl k x h
+
+  abbrev Apart : List NodeFile → Type 0
+  Apart xs = (j k : ℕ) (x y : NodeFile) → slice_get xs j ≡ Some x → slice_get xs k ≡ Some y → j ≢ k → x.node ≢ y.node
+
+  apart-kind : (v : ℕ) (n : NodeRule) (ns : List NodeRule) → Apart (nodes_from g s prefix (v + 1) ns) → (c : Kind) → Apart (kind_node g s prefix v n.name c ++ nodes_from g s prefix (v + 1) ns)
+  apart-kind v n ns rest (File r) zero zero x y hx hy ne = absurd (ne refl)
+  apart-kind v n ns rest (File r) zero (suc k) x y hx hy ne =
+      let same : v ≡ x.node = ap (λ (z : NodeFile). z.node) (some-same {X = NodeFile} {x = node_file g s prefix v r n.name} {y = x} hx) in
+      let above = (of_node (v + 1) ns k y hy).node in
+      (λ e. absurd (omega (arith, same, above, e)))
+  apart-kind v n ns rest (File r) (suc j) zero x y hx hy ne =
+      let same : v ≡ y.node = ap (λ (z : NodeFile). z.node) (some-same {X = NodeFile} {x = node_file g s prefix v r n.name} {y = y} hy) in
+      let above = (of_node (v + 1) ns j x hx).node in
+      (λ e. absurd (omega (arith, same, above, e)))
+  apart-kind v n ns rest (File r) (suc j) (suc k) x y hx hy ne = rest j k x y hx hy (λ e. ne (ap suc e))
+  apart-kind v n ns rest (Roi r) j k x y hx hy ne = rest j k x y hx hy ne
+  apart-kind v n ns rest (Stats r) j k x y hx hy ne = rest j k x y hx hy ne
+  apart-kind v n ns rest (Circular r) j k x y hx hy ne = rest j k x y hx hy ne
+  apart-kind v n ns rest Scatter j k x y hx hy ne = rest j k x y hx hy ne
+
+  nodes-apart : (v : ℕ) (ns : List NodeRule) → Apart (nodes_from g s prefix v ns)
+  nodes-apart v [] j k x y hx hy ne = let none_ : None ≡ Some x = hx in absurd (cc)
+  nodes-apart v (n ∷ ns) j k x y hx hy ne = apart-kind v n ns (λ a b z w hz hw off. nodes-apart (v + 1) ns a b z w hz hw off) n.kind j k x y hx hy ne
+
+rules-apart : (ns : List NodeRule) → AllPairs (λ (m n : NodeRule). m.name ≢ n.name) ns → (j k : ℕ) (m n : NodeRule) → slice_get ns j ≡ Some m → slice_get ns k ≡ Some n → j ≢ k → m.name ≢ n.name
+rules-apart ns pairs j k m n hm hn ne =
+    let is_m = get_or_from_slice_get ns j m m hm in
+    let is_n = get_or_from_slice_get ns k n m hn in
+    let is_m' = get_or_from_slice_get ns j m n hm in
+    let is_n' = get_or_from_slice_get ns k n n hn in
+    elim (cases_lt j k) [
+      | inl below ↦ subst (λ (r : NodeRule). m.name ≢ r.name) is_n (subst (λ (q : NodeRule). q.name ≢ (get_or ns k m).name) is_m (pairs j k m below (slice_get_within ns k n hn)))
+      | inr above ↦
+          let under : k < j = omega (arith, above, ne) in
+          let other : n.name ≢ m.name = subst (λ (r : NodeRule). n.name ≢ r.name) is_m' (subst (λ (q : NodeRule). q.name ≢ (get_or ns j n).name) is_n' (pairs k j n under (slice_get_within ns j m hm))) in
+          (λ e. other (sym e))
+    ]
+
+-- no two files of a graph have one name
+pub file_nodes-apart : (g : Graph) (s : StackValue) (prefix : List ℕ) → IsGraph g → AreApart (file_nodes g s prefix)
+file_nodes-apart g s prefix sound j k x y hx hy ne =
+    let a = of_node g s prefix 1 g.nodes j x hx in
+    let b = of_node g s prefix 1 g.nodes k y hy in
+    let nodes : x.node ≢ y.node = nodes-apart g s prefix 1 g.nodes j k x y hx hy ne in
+    let places : a.place ≢ b.place = λ e. nodes (a.node ∙ ap (λ (n : ℕ). 1 + n) e ∙ sym b.node) in
+    let names : a.rule.name ≢ b.rule.name = rules-apart g.nodes sound.names a.place b.place a.rule b.rule a.at b.at places in
+    (nodes, λ i h hi hh e. names (names-differ prefix a.rule.name b.rule.name i h hi hh
+    (ap (λ (t : List ℕ). t ++ group_number i ++ codes ".nc") (sym a.stem) ∙ e ∙ ap (λ (t : List ℕ). t ++ group_number h ++ codes ".nc") b.stem)).0)
 
 -- GROUPS FAR OFF
 

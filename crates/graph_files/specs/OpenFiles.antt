@@ -1,13 +1,11 @@
 -- The files of all file nodes of a graph while they are written.
 use Rattle.std.specs.Prelude.{◌≡◌, ◌≢◌, ◌⊎◌, ℕ, ◌+◌, ◌<◌, ◌^◌, ◌==◌, Bool, List, [], ◌∷◌, ◌++◌, length, map, slice_get, slice_set, Option, None, Some, IsSome, if◌then◌else◌}
-use Rattle.std.specs.List.{flat_map, range_with_len}
 use Rattle.nd_base.specs.Array.{Array, StackValue}
 use Rattle.nd_base.specs.declared.array.Head.{Head}
 use Rattle.nd_base.specs.declared.graph.Graph.{Graph}
 use Rattle.nd_base.specs.declared.graph.Kind.{Kind}
 use Rattle.nd_base.specs.declared.graph.Kind.TheVariants.{Roi, Stats, Circular, File, Scatter}
 use Rattle.nd_base.specs.declared.graph.NodeRule.{NodeRule}
-use Rattle.nd_base.specs.GraphRules.{rule_at}
 use Rattle.edge_traits.specs.Files.{Files, file_at}
 use Rattle.file_out.specs.declared.fault.SaveFault.{SaveFault}
 use Rattle.file_out.specs.declared.fault.SaveFault.TheVariants.{Failed, OutOfMemory}
@@ -23,13 +21,14 @@ kind_node g s prefix v name (Stats r) = []
 kind_node g s prefix v name (Circular r) = []
 kind_node g s prefix v name Scatter = []
 
-abbrev pub rule_node : Graph → StackValue → (prefix : List ℕ) → (v : ℕ) → Option NodeRule → List NodeFile
-rule_node g s prefix v None = []
-rule_node g s prefix v (Some n) = kind_node g s prefix v n.name n.kind
+-- the files of these nodes, where v is the number of the first
+abbrev pub nodes_from : Graph → StackValue → (prefix : List ℕ) → (v : ℕ) → List NodeRule → List NodeFile
+nodes_from g s prefix v [] = []
+nodes_from g s prefix v (n ∷ ns) = kind_node g s prefix v n.name n.kind ++ nodes_from g s prefix (v + 1) ns
 
 -- the files of each file node, in the graph's order, before any was begun
 abbrev pub file_nodes : Graph → StackValue → (prefix : List ℕ) → List NodeFile
-file_nodes g s prefix = flat_map (λ v. rule_node g s prefix v (rule_at g.nodes v)) (range_with_len 1 (length g.nodes))
+file_nodes g s prefix = nodes_from g s prefix 1 g.nodes
 
 -- the same files, whatever is open
 abbrev pub closed : NodeFile → NodeFile

@@ -1,6 +1,6 @@
 //! The files of all file nodes of a graph.
 
-ghost use Rattle.std.specs.Prelude.{◌≡◌, ◌+◌, ◌^◌, ◌<◌, ℕ, List, Some, Option, length, slice_get, IfOk, IfErr, OnOk, OnErr};
+ghost use Rattle.std.specs.Prelude.{◌≡◌, ◌+◌, ◌^◌, ◌<◌, ℕ, List, None, Some, Option, length, slice_get, IfOk, IfErr, OnOk, OnErr};
 ghost use Rattle.nd_base.specs.Array.{Array};
 ghost use Rattle.nd_base.specs.Shapes.{array_of};
 ghost use Rattle.nd_base.specs.GraphRules.{IsGraph};
@@ -38,6 +38,36 @@ impl Model for OpenFiles {
 }
 
 impl OpenFiles {
+    /// The files of a graph's file nodes, of which none was begun.
+    ///
+    /// # Errors
+    ///
+    /// Only for want of memory.
+    pub fn new(
+        alloc: Global,
+        prefix: &str,
+        plan: &Plan,
+        stack: &Stack,
+    ) -> Result<OpenFiles, OutOfMemory>
+        requires graph { IsGraph plan.now.graph }
+        requires plan { plan.now ≡ plan_of plan.now.graph stack.now }
+        requires kept { IsKeptStack stack.now }
+        requires within { limit_fault plan.now.graph stack.now ≡ None }
+        ensures { IfOk result (λ f. f ≡ file_nodes plan.now.graph stack.now prefix.now) }
+    {
+        let mut nodes = Vec::new(alloc);
+        for (place, rule) in plan.graph.nodes.as_slice().iter().enumerate() {
+            if let Kind::File(file) = &rule.kind {
+                let node = place as u32 + 1;
+                let name = rule.name.text();
+                nodes.push(NodeFiles::new(
+                    alloc, prefix, plan, stack, node, name, file,
+                )?)?;
+            }
+        }
+        Ok(OpenFiles { nodes })
+    }
+
     /// How many file nodes there are.
     pub fn count(&self) -> usize
         ensures { result ≡ length self.now }
