@@ -46,7 +46,7 @@ some-same h = cc
 -- THE FILES OF A GRAPH
 
 -- which node the files are of
-pub record IsOfNode (prefix : List ℕ) (v : ℕ) (ns : List NodeRule) (x : NodeFile) : Type 0 where
+pub record IsOfNode (g : Graph) (s : StackValue) (prefix : List ℕ) (v : ℕ) (ns : List NodeRule) (x : NodeFile) : Type 0 where
   pub place : ℕ
   pub rule : NodeRule
   pub file : FileRule
@@ -54,23 +54,24 @@ pub record IsOfNode (prefix : List ℕ) (v : ℕ) (ns : List NodeRule) (x : Node
   pub kind : rule.kind ≡ File file
   pub node : x.node ≡ v + place
   pub stem : x.stem ≡ prefix ++ rule.name ++ codes "_"
+  pub whole : x ≡ node_file g s prefix (v + place) file rule.name
 
 module _ (g : Graph) (s : StackValue) (prefix : List ℕ) where
-  later : (v : ℕ) (n : NodeRule) (ns : List NodeRule) (x : NodeFile) → IsOfNode prefix (v + 1) ns x → IsOfNode prefix v (n ∷ ns) x
-  later v n ns x h = record { place = suc h.place; rule = h.rule; file = h.file; at = h.at; kind = h.kind; node = h.node ∙ omega arith; stem = h.stem }
+  later : (v : ℕ) (n : NodeRule) (ns : List NodeRule) (x : NodeFile) → IsOfNode g s prefix (v + 1) ns x → IsOfNode g s prefix v (n ∷ ns) x
+  later v n ns x h = record { place = suc h.place; rule = h.rule; file = h.file; at = h.at; kind = h.kind; node = h.node ∙ omega arith; stem = h.stem; whole = h.whole ∙ ap (λ (w : ℕ). node_file g s prefix w h.file h.rule.name) (let e : v + 1 + h.place ≡ v + suc h.place = omega arith in e) }
 
-  by_kind : (v : ℕ) (n : NodeRule) (ns : List NodeRule) → ((k : ℕ) (x : NodeFile) → slice_get (nodes_from g s prefix (v + 1) ns) k ≡ Some x → IsOfNode prefix (v + 1) ns x) → (c : Kind) → n.kind ≡ c
-      → (k : ℕ) (x : NodeFile) → slice_get (kind_node g s prefix v n.name c ++ nodes_from g s prefix (v + 1) ns) k ≡ Some x → IsOfNode prefix v (n ∷ ns) x
+  by_kind : (v : ℕ) (n : NodeRule) (ns : List NodeRule) → ((k : ℕ) (x : NodeFile) → slice_get (nodes_from g s prefix (v + 1) ns) k ≡ Some x → IsOfNode g s prefix (v + 1) ns x) → (c : Kind) → n.kind ≡ c
+      → (k : ℕ) (x : NodeFile) → slice_get (kind_node g s prefix v n.name c ++ nodes_from g s prefix (v + 1) ns) k ≡ Some x → IsOfNode g s prefix v (n ∷ ns) x
   by_kind v n ns rest (File r) is zero x h =
       let same : node_file g s prefix v r n.name ≡ x = some-same h in
-      record { place = 0; rule = n; file = r; at = refl; kind = is; node = ap (λ (y : NodeFile). y.node) (sym same) ∙ omega arith; stem = ap (λ (y : NodeFile). y.stem) (sym same) }
+      record { place = 0; rule = n; file = r; at = refl; kind = is; node = ap (λ (y : NodeFile). y.node) (sym same) ∙ omega arith; stem = ap (λ (y : NodeFile). y.stem) (sym same); whole = sym same ∙ ap (λ (w : ℕ). node_file g s prefix w r n.name) (let e : v ≡ v + 0 = omega arith in e) }
   by_kind v n ns rest (File r) is (suc k) x h = later v n ns x (rest k x h)
   by_kind v n ns rest (Roi r) is k x h = later v n ns x (rest k x h)
   by_kind v n ns rest (Stats r) is k x h = later v n ns x (rest k x h)
   by_kind v n ns rest (Circular r) is k x h = later v n ns x (rest k x h)
   by_kind v n ns rest Scatter is k x h = later v n ns x (rest k x h)
 
-  pub of_node : (v : ℕ) (ns : List NodeRule) (k : ℕ) (x : NodeFile) → slice_get (nodes_from g s prefix v ns) k ≡ Some x → IsOfNode prefix v ns x
+  pub of_node : (v : ℕ) (ns : List NodeRule) (k : ℕ) (x : NodeFile) → slice_get (nodes_from g s prefix v ns) k ≡ Some x → IsOfNode g s prefix v ns x
   of_node v [] k x h = let none_ : None ≡ Some x = h in absurd (cc)
   of_node v (n ∷ ns) k x h = by_kind v n ns (λ j y is. of_node (v + 1) ns j y is) n.kind refl k x h
 

@@ -75,6 +75,14 @@ impl OpenFiles {
         self.nodes.len()
     }
 
+    /// The number of file node `at` of these.
+    pub fn node(&self, at: usize) -> u32
+        requires { at < length self.now }
+        ensures { (x : NodeFile) → slice_get self.now at ≡ Some x → result ≡ x.node }
+    {
+        self.nodes[at].node()
+    }
+
     /// Writes the next array of file node `at` of these: see `NodeFiles::write`.
     ///
     /// # Errors

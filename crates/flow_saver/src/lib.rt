@@ -1,0 +1,2 @@
+//! The role that saves the files of a run while the others work.
+#![tactic(auto)]
