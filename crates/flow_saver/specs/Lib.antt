@@ -1,2 +1,4 @@
 pub mod GivenBack
 pub mod HistoryFiles
+pub mod Pieces
+pub mod Saver

@@ -1,2 +1,6 @@
 //! The role that saves the files of a run while the others work.
 #![tactic(auto)]
+
+mod piece;
+
+pub use piece::write_piece;

@@ -1,0 +1,106 @@
+-- The role that saves: its moves, how it ends, and what its files are between two calls.
+use Rattle.std.specs.Prelude.{◌≡◌, ◌⊎◌, ℕ, ◌+◌, ◌-◌, ◌*◌, ◌/◌, ◌%◌, ◌<◌, ◌≤◌, Bool, true, false, ◌&&◌, not, ◌||◌, List, [], ◌∷◌, ◌++◌, length, map, slice_get, Option, None, Some, IsTrue, IsNone, is_none}
+use Rattle.std.specs.List.{list_all}
+use Rattle.nd_base.specs.Array.{Array, StackValue}
+use Rattle.nd_base.specs.Parts.{Parts}
+use Rattle.nd_base.specs.declared.frame.FrameName.{FrameName}
+use Rattle.nd_base.specs.declared.graph.Graph.{Graph}
+use Rattle.edge_traits.specs.Faults.{Rose}
+use Rattle.edge_traits.specs.Files.{Files}
+use Rattle.frame_store.specs.Sealed.{Sealed}
+use Rattle.file_out.specs.declared.fault.SaveFault.TheVariants.{Failed}
+use Rattle.flow_journal.specs.declared.entry.Entry.{Entry}
+use Rattle.flow_journal.specs.declared.entry.Entry.TheVariants as entry
+use Rattle.flow_journal.specs.Setting.{Setting}
+use Rattle.flow_journal.specs.Pasts.{Past, frame}
+use Rattle.flow_journal.specs.Hands.{hand}
+use Rattle.flow_journal.specs.Puts.{puts}
+use Rattle.flow_journal.specs.Ended.{is_settled, has_left_any}
+use Rattle.flow_journal.specs.Finished.{is_finished}
+use Rattle.flow_journal.specs.Unsaved.{saves}
+use Rattle.board_rules.specs.States.{BoardState, past, begins, lent_to}
+use Rattle.board_rules.specs.RunMeasures.{run_setting}
+use Rattle.flow_roles.specs.declared.last.Last.{Last}
+use Rattle.flow_roles.specs.declared.last.Last.TheVariants as last
+use Rattle.flow_roles.specs.Passes.{Pass}
+use Rattle.flow_roles.specs.RoleEnds.{IsLent}
+use Rattle.flow_roles.specs.Feeder.{name_of, parts_of}
+use Rattle.graph_files.specs.NodeFiles.{NodeFile, first_count}
+use Rattle.graph_files.specs.OpenFiles.{closed, AllWritten, AllStops}
+use Rattle.flow_saver.specs.GivenBack.{given_back, written_by}
+
+-- an entry of the saver's moves
+abbrev pub saver_logs : Entry → Bool
+saver_logs (entry.Save r v m k g) = true
+saver_logs (entry.Saved r v m k) = true
+saver_logs e = is_none (begins e)
+
+-- The saver ends where the run is done or some role has left, unless memory was wanting.
+abbrev pub saver_ends : Setting → Last → Past → (want : Bool) → Bool
+saver_ends s last.Ended P want = want || is_finished s P
+saver_ends s last.Left P want = want || has_left_any P
+saver_ends s _ P want = want
+
+-- what is left is the piece of the hand, and nothing without one
+abbrev pub IsPieceOfHand : (lent : Option Parts) → Option Entry → Option Sealed → Type 0
+IsPieceOfHand lent (Some (entry.Save r v m k g)) piece = IsLent name_of parts_of (frame m k) lent piece
+IsPieceOfHand lent None piece = IsNone piece
+IsPieceOfHand lent _ piece = ⊥
+
+-- The group has this many arrays for good: it is whole, or its node is settled.
+abbrev pub IsGroupSize : (P : Past) → (v count group : ℕ) → (size : ℕ) → Type 0
+IsGroupSize P v count group size =
+    ((group * count + count ≤ length (puts v P)) × (size ≡ count))
+    ⊎ ((is_settled v P ≡ true) × (length (puts v P) < group * count + count) × (size + group * count ≡ length (puts v P)))
+
+-- the number of records with which the file of a group was begun
+abbrev pub IsFirstCount : (P : Past) → (v count group : ℕ) → (late : Bool) → (numrecs : Option ℕ) → Type 0
+IsFirstCount P v count group true numrecs = numrecs ≡ None
+IsFirstCount P v count group false numrecs = (size : ℕ) × (numrecs ≡ Some size) × IsGroupSize P v count group size
+
+-- each open file was begun with the number of its group's arrays, or in mode stream with none
+abbrev pub AreBegunSo : (P : Past) → (written : ℕ → List Array) → List NodeFile → Type 0
+AreBegunSo P written xs = (k : ℕ) (x : NodeFile) (f : _) → slice_get xs k ≡ Some x → x.current ≡ Some f → IsFirstCount P x.node x.count (length (written x.node) / x.count) x.late f.numrecs
+
+-- what stands once the shelf has failed on a piece: all that was given back before it, but for the name of that call
+pub record IsTornSince (g : Graph) (stack : StackValue) (before : Option Files) (P : Past) (ys : List NodeFile) (held : Option Files) : Type 0 where
+  pub later : Past
+  pub front : Past
+  pub whole : P ≡ later ++ front
+  pub files : List NodeFile
+  pub then_held : Option Files
+  pub written : AllWritten before files (written_by g stack front) then_held
+  pub node : NodeFile
+  pub group : ℕ
+  pub numrecs : Option ℕ
+  pub array : Array
+  pub stops : AllStops Failed before node ys (written_by g stack front) group numrecs array then_held held
+
+-- the files of what was given back, or of what was before the shelf failed
+abbrev pub AreSaved : Graph → StackValue → (before : Option Files) → Past → List NodeFile → (fault : Bool) → (held : Option Files) → Type 0
+AreSaved g stack before P xs false held = AllWritten before xs (written_by g stack P) held
+AreSaved g stack before P xs true held = IsTornSince g stack before P xs held
+
+-- the shelf's count
+abbrev pub CountsSo : (fault : Bool) → (before now : ℕ) → Type 0
+CountsSo false before now = now ≡ before
+CountsSo true before now = Rose before now
+
+-- between two pieces
+pub record IsSaving (g : Graph) (stack : StackValue) (first : List NodeFile) (before : Option Files) (r : ℕ) (p : Pass) (xs : List NodeFile) (fault : Bool) (held : Option Files) : Type 0 where
+  pub role : p.role ≡ r
+  pub moves : list_all saver_logs (past p.made) ≡ true
+  pub free : hand r (past p.made) ≡ None
+  pub alike : (v : ℕ) → saves v (past p.made) ≡ given_back v (past p.made)
+  pub nodes : map closed xs ≡ first
+  pub begun : AreBegunSo (past p.seen) (written_by g stack (past p.made)) xs
+  pub saved : AreSaved g stack before (past p.made) xs fault held
+
+-- with a piece in hand that isn't saved
+pub record HasUnsaved (g : Graph) (stack : StackValue) (first : List NodeFile) (before : Option Files) (r : ℕ) (p : Pass) (xs : List NodeFile) (fault : Bool) (held : Option Files) (piece : Sealed) : Type 0 where
+  pub role : p.role ≡ r
+  pub moves : list_all saver_logs (past p.made) ≡ true
+  pub hand : IsPieceOfHand (lent_to r p.made) (hand r (past p.made)) (Some piece)
+  pub nodes : map closed xs ≡ first
+  pub begun : AreBegunSo (past p.seen) (written_by g stack (past p.made)) xs
+  pub saved : AreSaved g stack before (past p.made) xs fault held
