@@ -1,3 +1,5 @@
 pub mod Saves
 pub mod Puts
 pub mod Rows
+pub mod Sizes
+pub mod Answers

@@ -26,7 +26,7 @@ use Rattle.flow_roles.specs.Passes.{Pass}
 use Rattle.flow_roles.specs.RoleEnds.{IsLent}
 use Rattle.flow_roles.specs.Feeder.{name_of, parts_of}
 use Rattle.graph_files.specs.NodeFiles.{NodeFile, first_count}
-use Rattle.graph_files.specs.OpenFiles.{closed, AllWritten, AllStops}
+use Rattle.graph_files.specs.OpenFiles.{closed, file_nodes, AllWritten, AllStops}
 use Rattle.flow_saver.specs.GivenBack.{given_back, written_by}
 
 -- an entry of the saver's moves
@@ -76,31 +76,35 @@ pub record IsTornSince (g : Graph) (stack : StackValue) (before : Option Files) 
   pub array : Array
   pub stops : AllStops Failed before node ys (written_by g stack front) group numrecs array then_held held
 
--- the files of what was given back, or of what was before the shelf failed
-abbrev pub AreSaved : Graph → StackValue → (before : Option Files) → Past → List NodeFile → (fault : Bool) → (held : Option Files) → Type 0
-AreSaved g stack before P xs false held = AllWritten before xs (written_by g stack P) held
-AreSaved g stack before P xs true held = IsTornSince g stack before P xs held
+-- the files of what was given back after P, or of what was before the shelf failed
+abbrev pub AreSaved : Graph → StackValue → (before : Option Files) → (P seen : Past) → List NodeFile → (fault : Bool) → (held : Option Files) → Type 0
+AreSaved g stack before P seen xs false held = AllWritten before xs (written_by g stack P) held × AreBegunSo seen (written_by g stack P) xs
+AreSaved g stack before P seen xs true held = IsTornSince g stack before P xs held
 
 -- the shelf's count
 abbrev pub CountsSo : (fault : Bool) → (before now : ℕ) → Type 0
 CountsSo false before now = now ≡ before
 CountsSo true before now = Rose before now
 
+-- what a role that saves began with: the names, and what the shelf had
+pub record Start : Type 0 where
+  pub prefix : List ℕ
+  pub held : Option Files
+
 -- between two pieces
-pub record IsSaving (g : Graph) (stack : StackValue) (first : List NodeFile) (before : Option Files) (r : ℕ) (p : Pass) (xs : List NodeFile) (fault : Bool) (held : Option Files) : Type 0 where
+pub record IsSaving (g : Graph) (stack : StackValue) (start : Start) (r : ℕ) (p : Pass) (xs : List NodeFile) (fault : Bool) (held : Option Files) : Type 0 where
   pub role : p.role ≡ r
   pub moves : list_all saver_logs (past p.made) ≡ true
   pub free : hand r (past p.made) ≡ None
   pub alike : (v : ℕ) → saves v (past p.made) ≡ given_back v (past p.made)
-  pub nodes : map closed xs ≡ first
-  pub begun : AreBegunSo (past p.seen) (written_by g stack (past p.made)) xs
-  pub saved : AreSaved g stack before (past p.made) xs fault held
+  pub whole : (v : ℕ) → length (written_by g stack (past p.made) v) ≡ length (given_back v (past p.made))
+  pub nodes : map closed xs ≡ file_nodes g stack start.prefix
+  pub saved : AreSaved g stack start.held (past p.made) (past p.seen) xs fault held
 
--- with a piece in hand that isn't saved
-pub record HasUnsaved (g : Graph) (stack : StackValue) (first : List NodeFile) (before : Option Files) (r : ℕ) (p : Pass) (xs : List NodeFile) (fault : Bool) (held : Option Files) (piece : Sealed) : Type 0 where
+-- with a piece in hand for which memory was wanting
+pub record HasUnsaved (g : Graph) (stack : StackValue) (start : Start) (r : ℕ) (p : Pass) (xs : List NodeFile) (fault : Bool) (held : Option Files) (piece : Sealed) : Type 0 where
   pub role : p.role ≡ r
   pub moves : list_all saver_logs (past p.made) ≡ true
   pub hand : IsPieceOfHand (lent_to r p.made) (hand r (past p.made)) (Some piece)
-  pub nodes : map closed xs ≡ first
-  pub begun : AreBegunSo (past p.seen) (written_by g stack (past p.made)) xs
-  pub saved : AreSaved g stack before (past p.made) xs fault held
+  pub nodes : map closed xs ≡ file_nodes g stack start.prefix
+  pub saved : AreSaved g stack start.held (past p.made) (past p.seen) xs fault held

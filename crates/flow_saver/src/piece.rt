@@ -1,6 +1,6 @@
 //! One piece, written into its file.
 
-ghost use Rattle.std.specs.Prelude.{◌≡◌, ◌+◌, ◌<◌, ◌^◌, ℕ, List, Some, Option, length, slice_get, IfErr, OnOk};
+ghost use Rattle.std.specs.Prelude.{◌≡◌, ◌+◌, ◌<◌, ◌^◌, ℕ, List, None, Some, Option, length, slice_get, IfErr, OnOk};
 ghost use Rattle.nd_base.specs.Array.{Array};
 ghost use Rattle.nd_base.specs.GraphRules.{IsGraph};
 ghost use Rattle.edge_traits.specs.Files.{Files};
@@ -53,6 +53,7 @@ pub fn write_piece<R: Run, K: Shelf>(
     ensures ok { OnOk result ((before : Option Files) (written : ℕ → List Array) (x : NodeFile) (a : Array) → slice_get files.old at ≡ Some x → content_of R.graph R.stack piece.now.name ≡ Some a
         → length (written x.node) + 1 < 2 ^ 64 → IsPlaceAfter x.count (written x.node) group place → AllWritten before files.old written (K.held shelf.old)
         → AllWritten before files.new (with_array written x.node a) (K.held shelf.new)) }
+    ensures ended { OnOk result ((x : NodeFile) → slice_get files.old at ≡ Some x → place + 1 ≡ x.count → (y : NodeFile) → slice_get files.new at ≡ Some y → y.current ≡ None) }
     ensures err { IfErr result (λ fault. (before : Option Files) (written : ℕ → List Array) (x : NodeFile) (a : Array) → slice_get files.old at ≡ Some x → content_of R.graph R.stack piece.now.name ≡ Some a
         → IsPlaceAfter x.count (written x.node) group place → AllWritten before files.old written (K.held shelf.old)
         → AllStops fault before x files.new written group (first_count x.late of) a (K.held shelf.old) (K.held shelf.new)) }

@@ -38,6 +38,10 @@ pub numrecs-after : {T : Type 0} (r : Result T SaveFault) (b : Bool) (f : Stream
 numrecs-after r b f rows a o t u numrecs is has ok err =
     either r ok err (λ goes. numrecs-goes b f (rows ++ a ∷ []) o u numrecs is (goes rows has)) (λ fault stops. numrecs-stops fault f a o t u numrecs is stops)
 
+pub ended-by : (b : Bool) (f : Stream) (rows : List Array) (o : Option Stream) (u : Option Files) (n count : ℕ) → ltb n count ≡ b → n ≡ count → RowGoes b f rows o u → o ≡ None
+ended-by true f rows o u n count is last goes = absurd (omega (arith, ltb-true n count is, last))
+ended-by false f rows o u n count is last goes = goes.0
+
 pub on-ok : {T E : Type 0} {P Q : Type 0} (r : Result T E) → OnOk r P → (P → Q) → OnOk r Q
 on-ok (Ok x) h f = f h
 on-ok (Err e) h f = tt

@@ -220,6 +220,7 @@ impl NodeFiles {
         ensures numrecs { HasNumrecs (first_count self.old.late of) self.new.current }
         ensures ok { OnOk result ((arrays : List Array) → IsPlaceAfter self.old.count arrays group place → AreWritten self.old arrays (K.held shelf.old)
             → AreWritten self.new (arrays ++ array_of head.now self.old.shape.kind self.old.shape.dims samples.now ∷ []) (K.held shelf.new)) }
+        ensures ended { OnOk result (place + 1 ≡ self.old.count → self.new.current ≡ None) }
         ensures err { IfErr result (λ fault. (arrays : List Array) → IsPlaceAfter self.old.count arrays group place → AreWritten self.old arrays (K.held shelf.old)
             → WriteStops fault self.old arrays group (first_count self.old.late of) (array_of head.now self.old.shape.kind self.old.shape.dims samples.now) self.new (K.held shelf.old) (K.held shelf.new)) }
         ensures changed { IsChangedAt (K.held shelf.old) (name_of self.old group) (K.held shelf.new) }

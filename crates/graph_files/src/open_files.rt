@@ -106,6 +106,7 @@ impl OpenFiles {
         ensures ok { OnOk result ((before : Option Files) (written : ℕ → List Array) (x : NodeFile) → slice_get self.old at ≡ Some x
             → length (written x.node) + 1 < 2 ^ 64 → IsPlaceAfter x.count (written x.node) group place → AllWritten before self.old written (K.held shelf.old)
             → AllWritten before self.new (with_array written x.node (array_of head.now x.shape.kind x.shape.dims samples.now)) (K.held shelf.new)) }
+        ensures ended { OnOk result ((x : NodeFile) → slice_get self.old at ≡ Some x → place + 1 ≡ x.count → (y : NodeFile) → slice_get self.new at ≡ Some y → y.current ≡ None) }
         ensures err { IfErr result (λ fault. (before : Option Files) (written : ℕ → List Array) (x : NodeFile) → slice_get self.old at ≡ Some x
             → IsPlaceAfter x.count (written x.node) group place → AllWritten before self.old written (K.held shelf.old)
             → AllStops fault before x self.new written group (first_count x.late of) (array_of head.now x.shape.kind x.shape.dims samples.now) (K.held shelf.old) (K.held shelf.new)) }

@@ -11,7 +11,7 @@ use Rattle.graph_files.specs.Groups.{group_of}
 use Rattle.graph_files.specs.NodeFiles.{NodeFile, HasNumrecs, IsChangedAt, Wrote, first_count, name_of, stream_of}
 use Rattle.graph_files.specs.NodeFileLaws.{open-is, open-has, none-is, changed-then}
 use Rattle.graph_files.proofs.Torn.{changed-begin}
-use Rattle.graph_files.proofs.Writes.{on-ok, if-err, numrecs-after, some-goes, some-stops, begin-stops, none-goes, none-stops}
+use Rattle.graph_files.proofs.Writes.{on-ok, if-err, ended-by, numrecs-after, some-goes, some-stops, begin-stops, none-goes, none-stops}
 use Rattle.graph_files.proofs.node_files.NodeFiles.write.Goals as goal
 
 pub add_row-requires-clause-room : goal.add_row-requires-clause-room
@@ -153,3 +153,19 @@ returns-in_ok-file-in-None-clause-changed g c =
     let value = subst (λ (k : NodeFile). f ≡ stream_of k c.args.group 0 (first_count k.late c.args.of)) c.self.view_is c.in_ok-file-in-None.ensures.value in
     let made = subst (λ (k : NodeFile). v ≡ with_file t (name_of k c.args.group) (header k.shape (first_count k.late c.args.of))) c.self.view_is c.in_ok-file-in-None.ensures.ok in
     changed-then t v u (name_of x c.args.group) (Wrote _ made) (subst (λ (k : Stream). IsChangedAt v k.name u) value c.add_row-in-None.ensures.changed)
+
+pub returns-in-Some-clause-ended : goal.returns-in-Some-clause-ended
+returns-in-Some-clause-ended g c =
+    let x = c.args.self.now in
+    let is : x.current ≡ Some c.in-Some.file = search rules in
+    let many : c.self.inside.count ≡ x.count = search rules in
+    let w = c.requires.written in
+    let f = open-is x w.0 c.args.group c.args.place _ w.1 w.2 c.in-Some.file is in
+    let rows = subst (λ (k : Stream). HasRows (g.K.Shelf.held c.args.shelf.now) k (group_of x.count c.args.group w.0)) (sym f) (open-has x w.0 c.args.group c.args.place _ w.1 w.2 c.in-Some.file is) in
+    on-ok c.add_row.result c.add_row.ensures.ok (λ ok last. ended-by (ltb (c.args.place + 1) c.self.inside.count) c.in-Some.file _ c.add_row.new.self.current (g.K.Shelf.held c.add_row.new.shelf) (c.args.place + 1) c.self.inside.count refl (last ∙ sym many) (ok _ rows))
+
+pub returns-in_ok-file-in-None-clause-ended : goal.returns-in_ok-file-in-None-clause-ended
+returns-in_ok-file-in-None-clause-ended g c =
+    let x = c.args.self.now in
+    let many : c.self.inside.count ≡ x.count = search rules in
+    on-ok c.add_row-in-None.result c.add_row-in-None.ensures.ok (λ ok last. ended-by (ltb (c.args.place + 1) c.self.inside.count) c.in_ok-file-in-None.file _ c.add_row-in-None.new.self.current (g.K.Shelf.held c.add_row-in-None.new.shelf) (c.args.place + 1) c.self.inside.count refl (last ∙ sym many) (ok [] c.in_ok-file-in-None.ensures.rows))

@@ -1,4 +1,4 @@
-use Rattle.std.proofs.Common.{◌≡◌, ℕ, ◌+◌, ◌<◌, ◌^◌, ◌++◌, ◌∷◌, [], List, Some, set, get_or, length, sym, ap, subst, refl, ◌∙◌, arith}
+use Rattle.std.proofs.Common.{◌≡◌, ℕ, ◌+◌, ◌<◌, ◌^◌, ◌++◌, ◌∷◌, [], List, Some, None, set, get_or, length, sym, ap, subst, refl, ◌∙◌, arith}
 use Rattle.std.specs.Prelude.{slice_get, Option}
 use Rattle.std.proofs.lemmas.Option.{slice_get_read, same_Some}
 use Rattle.std.proofs.lemmas.List.{length-append}
@@ -8,7 +8,7 @@ use Rattle.file_out.specs.declared.fault.SaveFault.{SaveFault}
 use Rattle.file_out.specs.Streams.{Stream}
 use Rattle.graph_files.specs.NodeFiles.{NodeFile, IsPlaceAfter, HasNumrecs, AreWritten, IsChangedAt, WriteStops, first_count, name_of}
 use Rattle.graph_files.specs.OpenFiles.{AreApart, AllWritten, AllStops, with_array}
-use Rattle.graph_files.specs.OpenFileLaws.{apart-kept, all-more, all-stops}
+use Rattle.graph_files.specs.OpenFileLaws.{get-set_same, apart-kept, all-more, all-stops}
 use Rattle.graph_files.proofs.Writes.{on-ok, if-err}
 use Rattle.graph_files.proofs.open_files.OpenFiles.write.Goals as goal
 
@@ -120,3 +120,14 @@ returns-clause-err g c =
     (all-stops xs c.args.at x o is (subst AreApart c.self.view_is c.self.invariant) c.args.group small before t u written h
     (subst (λ (w : NodeFile). IsChangedAt t (name_of w c.args.group) u) same c.write.ensures.changed) c.args.place place a fault (first_count x.late c.args.of)
     (subst (λ (w : NodeFile). WriteStops fault x (written x.node) c.args.group (first_count x.late c.args.of) a w t u) (this-node xs _ c.args.at y z x o at is c.write.ensures.node refl) mine)))
+
+pub returns-clause-ended : goal.returns-clause-ended
+returns-clause-ended g c =
+    let z = c.index_mut.result.now in
+    let xs = c.args.self.now in
+    let y = c.write.new.self in
+    let at : slice_get xs c.args.at ≡ Some z = slice_get_read xs (length xs) c.args.at z refl c.requires.at (subst (λ (zs : List NodeFile). z ≡ get_or zs c.args.at z) c.self.view_is c.index_mut.ensures.value) in
+    on-ok c.write.result c.write.ensures.ended (λ ended x is last w here.
+    let same = the-node xs _ c.args.at y z x y.current at is c.write.ensures.node refl in
+    let mine : y ≡ w = same_Some y w (sym (get-set_same c.self.inside.nodes.items c.args.at z y (subst (λ (zs : List NodeFile). slice_get zs c.args.at ≡ Some z) (sym c.self.view_is) at)) ∙ here) in
+    subst (λ (v : NodeFile). v.current ≡ None) mine (ended (last ∙ ap (λ (v : NodeFile). v.count) (sym same))))
