@@ -3,3 +3,4 @@ pub mod Puts
 pub mod Rows
 pub mod Sizes
 pub mod Answers
+pub mod Due
