@@ -4,3 +4,4 @@ pub mod Rows
 pub mod Sizes
 pub mod Answers
 pub mod Due
+pub mod Steps
