@@ -5,3 +5,4 @@ pub mod Sizes
 pub mod Answers
 pub mod Due
 pub mod Steps
+pub mod Giving

@@ -75,7 +75,7 @@ nothing_owed : (s : Setting) (P : Past) (r v m k g : ℕ) (ds : List Entry) → 
 nothing_owed s P r v m k g [] h = refl
 nothing_owed s P r v m k g (d ∷ ds) h = absurd (false≢true h)
 
-saver-quiet : (e : Entry) → begins e ≡ None → saver_logs e ≡ true
+pub saver-quiet : (e : Entry) → begins e ≡ None → saver_logs e ≡ true
 saver-quiet (entry.Load r k b n f g x) h = cc
 saver-quiet (entry.LoadRefused r k n z) h = cc
 saver-quiet (entry.Issue r k) h = cc
@@ -118,14 +118,11 @@ saving-still g stack start r gives answered p q xs fault held st c still =
 
 -- A PIECE
 
-module _ (g : Graph) (stack : StackValue) (sound : IsGraph g) (start : Start) (p q : Pass) (xs : List NodeFile) (fault : Bool) (held : Option Files) (answered : Last)
-    (st : IsSaving g stack start (last_role (run_setting g stack)) p xs fault held) (k : ℕ) (x : NodeFile) (at : slice_get xs k ≡ Some x) (input : Sealed) (group place : ℕ) (of : Option ℕ)
-    (c : Called (run_setting g stack) (λ old new. SaveGives name_of parts_of (run_setting g stack) old (last_role (run_setting g stack)) x.node (Piece input group place of) new) answered p q) where
+module _ (g : Graph) (stack : StackValue) (sound : IsGraph g) (start : Start) (r : ℕ) (drain : r ≡ last_role (run_setting g stack)) (p q : Pass) (xs : List NodeFile) (fault : Bool) (held : Option Files) (answered : Last)
+    (st : IsSaving g stack start r p xs fault held) (k : ℕ) (x : NodeFile) (at : slice_get xs k ≡ Some x) (input : Sealed) (group place : ℕ) (of : Option ℕ)
+    (c : Called (run_setting g stack) (λ old new. SaveGives name_of parts_of (run_setting g stack) old r x.node (Piece input group place of) new) answered p q) where
   abbrev s : Setting
   s = run_setting g stack
-
-  abbrev r : ℕ
-  r = last_role s
 
   abbrev here : BoardState
   here = c.between ++ p.seen
@@ -157,7 +154,7 @@ module _ (g : Graph) (stack : StackValue) (sound : IsGraph g) (start : Start) (p
   pub many : length (standing_saves x.node (past here)) ≡ length (written_by g stack (past p.made) x.node)
   many =
       let drained = drained-here s gives answered p q r st.role c t refl given.logged in
-      ap length (saves-stand s x.node (past here) legal drained ∙ saves-mine s x.node here drained
+      ap length (saves-stand s x.node (past here) legal drained ∙ saves-mine s x.node here drained ∙ ap (λ (j : ℕ). saves x.node (past (moves_by j here))) (sym drain)
       ∙ ap (λ (b : BoardState). saves x.node (past b)) (mine-before s gives answered p q r st.role c t refl given.logged) ∙ st.alike x.node)
       ∙ sym (st.whole x.node)
 

@@ -28,6 +28,8 @@ use Rattle.flow_roles.specs.Feeder.{name_of, parts_of}
 use Rattle.graph_files.specs.NodeFiles.{NodeFile, first_count}
 use Rattle.graph_files.specs.OpenFiles.{closed, file_nodes, AllWritten, AllStops}
 use Rattle.flow_saver.specs.GivenBack.{given_back, written_by}
+use Rattle.flow_saver.specs.declared.saving.Step.{Step}
+use Rattle.flow_saver.specs.declared.saving.Step.TheVariants.{Nothing, Wrote, Wants}
 
 -- an entry of the saver's moves
 abbrev pub saver_logs : Entry → Bool
@@ -108,3 +110,27 @@ pub record HasUnsaved (g : Graph) (stack : StackValue) (start : Start) (r : ℕ)
   pub hand : IsPieceOfHand (lent_to r p.made) (hand r (past p.made)) (Some piece)
   pub nodes : map closed xs ≡ file_nodes g stack start.prefix
   pub saved : AreSaved g stack start.held (past p.made) (past p.seen) xs fault held
+
+-- with a piece in hand that is to be given back
+pub record IsToGiveBack (g : Graph) (stack : StackValue) (start : Start) (r : ℕ) (p : Pass) (xs : List NodeFile) (fault : Bool) (held : Option Files) (piece : Sealed) : Type 0 where
+  pub role : p.role ≡ r
+  pub moves : list_all saver_logs (past p.made) ≡ true
+  pub node : ℕ
+  pub group : ℕ
+  pub hand : hand r (past p.made) ≡ Some (entry.Save r node piece.name.maker piece.name.index group)
+  pub lent : lent_to r p.made ≡ parts_of piece
+  pub alike : (v : ℕ) → saves v (past p.made) ≡ given_back v (entry.Saved r node piece.name.maker piece.name.index ∷ past p.made)
+  pub whole : (v : ℕ) → length (written_by g stack (entry.Saved r node piece.name.maker piece.name.index ∷ past p.made) v) ≡ length (given_back v (entry.Saved r node piece.name.maker piece.name.index ∷ past p.made))
+  pub nodes : map closed xs ≡ file_nodes g stack start.prefix
+  pub saved : AreSaved g stack start.held (entry.Saved r node piece.name.maker piece.name.index ∷ past p.made) (past p.seen) xs fault held
+
+-- what one save at a node leaves
+abbrev pub StepLeaves : (g : Graph) (stack : StackValue) (start : Start) (r : ℕ) → Step Sealed → (p : Pass) (xs : List NodeFile) (fault : Bool) (held : Option Files) → Type 0
+StepLeaves g stack start r Nothing p xs fault held = IsSaving g stack start r p xs fault held
+StepLeaves g stack start r Wrote p xs fault held = IsSaving g stack start r p xs fault held
+StepLeaves g stack start r (Wants piece) p xs fault held = HasUnsaved g stack start r p xs fault held piece
+
+-- a fault is answered where the shelf's count rose, and nowhere else
+abbrev pub CountsStep : (old new : Bool) → (before now : ℕ) → Type 0
+CountsStep true new before now = (new ≡ true) × (now ≡ before)
+CountsStep false new before now = CountsSo new before now

@@ -2,5 +2,6 @@
 #![tactic(auto)]
 
 mod piece;
+mod saving;
 
 pub use piece::write_piece;
