@@ -6,3 +6,4 @@ pub mod Answers
 pub mod Due
 pub mod Steps
 pub mod Giving
+pub mod Writing

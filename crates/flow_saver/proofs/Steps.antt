@@ -133,7 +133,7 @@ module _ (g : Graph) (stack : StackValue) (sound : IsGraph g) (start : Start) (r
   abbrev gives : BoardState → BoardState → Type 0
   gives = λ old new. SaveGives name_of parts_of s old r x.node (Piece input group place of) new
 
-  given : Given s here r x.node input group place of q.seen
+  pub given : Given s here r x.node input group place of q.seen
   given = piece-given s here q.seen r x.node input group place of c.answer
 
   pub taken-made : q.made ≡ t ∷ p.made
@@ -142,7 +142,7 @@ module _ (g : Graph) (stack : StackValue) (sound : IsGraph g) (start : Start) (r
   pub file : OfFile g stack x
   file = of_file g stack start.prefix xs k x sound st.nodes at
 
-  legal : is_legal s (past here) ≡ true
+  pub legal : is_legal s (past here) ≡ true
   legal = legal-here s gives answered p q r st.role c t refl given.logged
 
   history : is_history s (past here) ≡ true
