@@ -7,3 +7,4 @@ pub mod Due
 pub mod Steps
 pub mod Giving
 pub mod Writing
+pub mod SaveOne

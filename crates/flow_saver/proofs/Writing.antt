@@ -34,13 +34,14 @@ use Rattle.board_rules.specs.Saving.{SaveGives}
 use Rattle.flow_roles.specs.declared.last.Last.{Last}
 use Rattle.flow_roles.specs.Passes.{Pass, Called}
 use Rattle.flow_roles.specs.Feeder.{name_of, parts_of}
+use Rattle.flow_roles.specs.RoleEnds.{IsLent}
 use Rattle.graph_files.specs.NodeFiles.{NodeFile, AreWritten, HasNumrecs, first_count, group_file, name_of as file_name}
 use Rattle.graph_files.specs.OpenFiles.{AllWritten, AllStops, IsElsewhere, IsReopened, closed, file_nodes, with_array}
 use Rattle.graph_files.specs.OpenFileLaws.{file_nodes-apart, get-set_same, get-set_other}
 use Rattle.graph_files.specs.NodeFileLaws.{cases_eq}
 use Rattle.flow_saver.specs.GivenBack.{given_back, written_by}
 use Rattle.flow_saver.specs.Pieces.{content_of}
-use Rattle.flow_saver.specs.Saver.{Start, IsSaving, IsToGiveBack, HasUnsaved, IsTornSince, AreSaved, AreBegunSo, IsFirstCount, saver_logs}
+use Rattle.flow_saver.specs.Saver.{Start, IsSaving, IsToGiveBack, HasUnsaved, IsTornSince, AreSaved, AreBegunSo, IsFirstCount, IsPieceOfHand, saver_logs}
 use Rattle.flow_saver.proofs.Due.{IsNext, next-first}
 use Rattle.flow_saver.proofs.Sizes.{first-more}
 use Rattle.flow_saver.proofs.Steps.{taken-made, taken-hand, taken-lent, taken-moves, taken-role, upcoming, place-after, given, legal}
@@ -175,3 +176,54 @@ module _ (g : Graph) (stack : StackValue) (sound : IsGraph g) (start : Start) (r
               subst (λ (b : BoardState). IsFirstCount (past b) y.node y.count (length (then_ y.node) / y.count) y.late f.numrecs) (sym logged)
               (subst (λ (zs : List Array). IsFirstCount (past (t ∷ here)) y.node y.count (length zs / y.count) y.late f.numrecs) (sym (still y.node (apart-nodes j y old ne))) more)
         ]
+
+    still-now : (v : ℕ) → v ≢ x.node → now v ≡ were v
+    still-now v apart = now-is v ∙ ap (λ (b : Bool). if b then were v ++ a ∷ [] else were v) (ne_eqb v x.node apart)
+
+    -- written
+    pub wrote : fault ≡ false → (stands : Option Files) → AllWritten start.held ys (with_array were x.node a) stands
+        → (place + 1 ≡ x.count → (y : NodeFile) → slice_get ys k ≡ Some y → y.current ≡ None) → IsToGiveBack g stack start r q ys false stands input
+    wrote fine stands all ended =
+        let saved = subst (λ (b : Bool). AreSaved g stack start.held (past p.made) (past p.seen) xs b held) fine st.saved in
+        let place_ = place-after g stack sound start r drain p q xs fault held answered st k x at input group place of c in
+        let mine = λ (f : Stream) (open_ : o ≡ Some f).
+        let more : place + 1 < x.count = elim (cases_eq (place + 1) x.count) [
+          | inl last ↦
+              let none_ : o ≡ None = ended last (record x { current = o }) (ap (λ (zs : List NodeFile). slice_get zs k) set_ ∙ get-set_same xs k x (record x { current = o }) at) in
+              let clash : Some f ≡ None = sym open_ ∙ none_ in absurd (cc)
+          | inr other ↦ omega (arith, place_.within, other)
+        ] in
+        let long : length (now x.node) ≡ group * x.count + (place + 1) =
+        ap length (now-is x.node ∙ ap (λ (b : Bool). if b then were x.node ++ a ∷ [] else were x.node) (eq-eqb x.node x.node refl)) ∙ length-append (were x.node) (a ∷ []) ∙ omega (arith, place_.all) in
+        ap (λ n. n / x.count) long ∙ div-mul-add group x.count (place + 1) more in
+        to-give-back ys false stands nodes-kept (all-same start.held ys (with_array were x.node a) now stands (λ v. sym (now-is v)) all, begun-then saved now still-now mine)
+
+    -- the shelf failed
+    pub tore : fault ≡ false → (stands : Option Files) → AllStops Failed start.held x ys were group (first_count x.late of) a held stands → IsToGiveBack g stack start r q ys true stands input
+    tore fine stands stops =
+        let saved = subst (λ (b : Bool). AreSaved g stack start.held (past p.made) (past p.seen) xs b held) fine st.saved in
+        to-give-back ys true stands nodes-kept
+        (record { later = back ∷ t.entry ∷ []; front = past p.made; whole = refl; files = xs; then_held = held; written = saved.0; node = x; group = group; numrecs = first_count x.late of; array = a; stops = stops })
+
+    -- memory was wanting
+    pub wanted : fault ≡ false → (stands : Option Files) → AllStops OutOfMemory start.held x ys were group (first_count x.late of) a held stands → HasUnsaved g stack start r q ys false stands input
+    wanted fine stands all =
+        let saved = subst (λ (b : Bool). AreSaved g stack start.held (past p.made) (past p.seen) xs b held) fine st.saved in
+        let place_ = place-after g stack sound start r drain p q xs fault held answered st k x at input group place of c in
+        let mine = λ (f : Stream) (open_ : o ≡ Some f). ap (λ n. n / x.count) place_.all ∙ div-mul-add group x.count place place_.within in
+        let both : AreSaved g stack start.held (past (t ∷ p.made)) (past q.seen) ys false stands = (all, begun-then saved were (λ v apart. refl) mine) in
+        record {
+          role = taken-role g stack sound start r drain p q xs fault held answered st k x at input group place of c;
+          moves = taken-moves g stack sound start r drain p q xs fault held answered st k x at input group place of c;
+          hand = subst (λ (e : Option Entry). IsPieceOfHand (lent_to r q.made) e (Some input)) (sym (taken-hand g stack sound start r drain p q xs fault held answered st k x at input group place of c))
+              (let lent_ : IsLent name_of parts_of (frame input.name.maker input.name.index) (lent_to r q.made) (Some input) = (refl, sym (taken-lent g stack sound start r drain p q xs fault held answered st k x at input group place of c)) in lent_);
+          nodes = nodes-kept;
+          saved = subst (λ (b : BoardState). AreSaved g stack start.held (past b) (past q.seen) ys false stands) (sym made) both;
+        }
+
+  -- nothing is written any more
+  pub skipped : fault ≡ true → IsToGiveBack g stack start r q xs true held input
+  skipped torn =
+      let was = subst (λ (b : Bool). AreSaved g stack start.held (past p.made) (past p.seen) xs b held) torn st.saved in
+      to-give-back xs true held st.nodes
+      (record { later = back ∷ t.entry ∷ was.later; front = was.front; whole = ap (λ P. back ∷ t.entry ∷ P) was.whole; files = was.files; then_held = was.then_held; written = was.written; node = was.node; group = was.group; numrecs = was.numrecs; array = was.array; stops = was.stops })

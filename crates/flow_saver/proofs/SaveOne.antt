@@ -1,0 +1,133 @@
+-- One save, from what its calls say.
+use Rattle.std.proofs.Common.{◌≡◌, ℕ, zero, suc, ◌+◌, ◌^◌, ◌<◌, ◌≤◌, Bool, true, false, List, [], ◌∷◌, ◌++◌, length, set, refl, sym, ap, subst, ◌∙◌, arith, Option, Some, None}
+use Rattle.std.specs.Prelude.{slice_get, IsSomeAnd, is_none, IsTrue}
+use Rattle.std.proofs.lemmas.Bool.{false≢true}
+use Rattle.nd_base.specs.Array.{Array, StackValue}
+use Rattle.nd_base.specs.GraphRules.{IsGraph}
+use Rattle.nd_base.specs.declared.frame.FrameName.{FrameName}
+use Rattle.nd_base.specs.declared.graph.Graph.{Graph}
+use Rattle.edge_traits.specs.Files.{Files}
+use Rattle.frame_store.specs.Content.{AreSamples, IsContent}
+use Rattle.frame_store.specs.Sealed.{Sealed}
+use Rattle.file_out.specs.declared.fault.SaveFault.{SaveFault}
+use Rattle.file_out.specs.declared.fault.SaveFault.TheVariants.{Failed, OutOfMemory}
+use Rattle.file_out.specs.Streams.{Stream}
+use Rattle.flow_journal.specs.Setting.{Setting, last_role, is_node}
+use Rattle.flow_journal.specs.Hands.{hand, is_free}
+use Rattle.board_rules.specs.declared.answers.Save.{Save}
+use Rattle.board_rules.specs.declared.answers.Save.TheVariants.{Busy, NotYet, Piece}
+use Rattle.board_rules.specs.States.{BoardState, past}
+use Rattle.board_rules.specs.RunMeasures.{run_setting}
+use Rattle.board_rules.specs.Saving.{SaveGives}
+use Rattle.flow_roles.specs.declared.last.Last.{Last}
+use Rattle.flow_roles.specs.Passes.{Pass, Called}
+use Rattle.flow_roles.specs.Feeder.{name_of, parts_of}
+use Rattle.flow_roles.proofs.Calls.{hand-before}
+use Rattle.graph_files.specs.NodeFiles.{NodeFile, IsPlaceAfter, HasNumrecs, first_count}
+use Rattle.graph_files.specs.OpenFiles.{AllWritten, AllStops, IsReopened, with_array}
+use Rattle.flow_saver.specs.GivenBack.{written_by}
+use Rattle.flow_saver.specs.Pieces.{content_of, IsDuePiece}
+use Rattle.flow_saver.specs.Saver.{Start, IsSaving, IsToGiveBack, HasUnsaved, AreSaved}
+use Rattle.flow_saver.proofs.Answers.{busy-held, not_yet-still}
+use Rattle.flow_saver.proofs.Due.{of_file}
+use Rattle.flow_saver.proofs.Steps.{saving-still, due-piece, place-after, few}
+use Rattle.flow_saver.proofs.Writing.{wrote, tore, wanted, skipped}
+
+pub item : {X : Type 0} (xs : List X) (k : ℕ) → k < length xs → (x : X) × (slice_get xs k ≡ Some x)
+item [] k h = absurd (omega (arith, h))
+item (x ∷ xs) zero h = (x, refl)
+item (x ∷ xs) (suc k) h = item xs k (omega (arith, h))
+
+some-and : (P : Array → Type 0) (o : Option Array) → IsSomeAnd o P → (a : Array) × (o ≡ Some a)
+some-and P None h = absurd h
+some-and P (Some a) h = (a, refl)
+
+pub content-some : (g : Graph) (stack : StackValue) (name : FrameName) (bytes : List ℕ) → IsContent g stack name bytes → (a : Array) × (content_of g stack name ≡ Some a)
+content-some g stack name bytes h = some-and (λ a. AreSamples a bytes) (content_of g stack name) h
+
+pub length-put : {X : Type 0} (xs : List X) (k : ℕ) (y : X) → length (set xs k y) ≡ length xs
+length-put [] k y = refl
+length-put (x ∷ xs) zero y = refl
+length-put (x ∷ xs) (suc k) y = ap suc (length-put xs k y)
+
+module _ (g : Graph) (stack : StackValue) (sound : IsGraph g) (start : Start) (r : ℕ) (drain : r ≡ last_role (run_setting g stack)) (p q : Pass) (xs : List NodeFile) (fault : Bool) (held : Option Files) (answered : Last)
+    (st : IsSaving g stack start r p xs fault held) (k : ℕ) (v : ℕ) (node : (x : NodeFile) → slice_get xs k ≡ Some x → v ≡ x.node) (within : k < length xs) where
+  abbrev s : Setting
+  s = run_setting g stack
+
+  pub one-node : IsTrue (is_node s v)
+  one-node =
+      let i = item xs k within in
+      subst (λ (w : ℕ). is_node s w ≡ true) (sym (node i.0 i.1)) (of_file g stack start.prefix xs k i.0 sound st.nodes i.1).number
+
+  pub one-busy : Called s (λ old new. SaveGives name_of parts_of s old r v Busy new) answered p q → ⊥
+  one-busy c =
+      let gives : BoardState → BoardState → Type 0 = λ old new. SaveGives name_of parts_of s old r v Busy new in
+      let free : is_free r (past (c.between ++ p.seen)) ≡ true = ap is_none (hand-before s gives answered p q r st.role c ∙ st.free) in
+      false≢true (sym (busy-held s (c.between ++ p.seen) q.seen r v c.answer) ∙ free)
+
+  pub one-nothing : Called s (λ old new. SaveGives name_of parts_of s old r v NotYet new) answered p q → IsSaving g stack start r q xs fault held
+  one-nothing c =
+      let gives : BoardState → BoardState → Type 0 = λ old new. SaveGives name_of parts_of s old r v NotYet new in
+      saving-still g stack start r gives answered p q xs fault held st c (not_yet-still s (c.between ++ p.seen) q.seen r v c.answer)
+
+  module _ (input : Sealed) (group place : ℕ) (of : Option ℕ) (call : Called s (λ old new. SaveGives name_of parts_of s old r v (Piece input group place of) new) answered p q) (bytes : List ℕ)
+      (content_ : IsContent g stack input.name bytes) where
+    at-node : (x : NodeFile) → slice_get xs k ≡ Some x → Called s (λ old new. SaveGives name_of parts_of s old r x.node (Piece input group place of) new) answered p q
+    at-node x at = subst (λ (w : ℕ). Called s (λ old new. SaveGives name_of parts_of s old r w (Piece input group place of) new) answered p q) (node x at) call
+
+    pub one-due : fault ≡ false → (x : NodeFile) → slice_get xs k ≡ Some x → IsDuePiece g stack x input.name group place of held
+    one-due fine x at = due-piece g stack sound start r drain p q xs fault held answered st k x at input group place of (at-node x at) fine
+
+    pub one-skipped : fault ≡ true → IsToGiveBack g stack start r q xs true held input
+    one-skipped torn =
+        let i = item xs k within in
+        let a = content-some g stack input.name bytes content_ in
+        skipped g stack sound start r drain p q xs fault held answered st k i.0 i.1 input group place of (at-node i.0 i.1) a.0 a.1 torn
+
+    module _ (fine : fault ≡ false) (ys : List NodeFile) (nodes : IsReopened xs k of ys) (stands : Option Files) where
+      pub one-count : length ys ≡ length xs
+      one-count = let i = item xs k within in let n = nodes i.0 i.1 in ap length n.1 ∙ length-put xs k (record i.0 { current = n.0 })
+
+      saved : AreSaved g stack start.held (past p.made) (past p.seen) xs false held
+      saved = subst (λ (b : Bool). AreSaved g stack start.held (past p.made) (past p.seen) xs b held) fine st.saved
+
+      pub one-wrote : length stack.arrays ≤ 65536
+          → ((before : Option Files) (written : ℕ → List Array) (x : NodeFile) (a : Array) → slice_get xs k ≡ Some x → content_of g stack input.name ≡ Some a → length (written x.node) + 1 < 2 ^ 64
+          → IsPlaceAfter x.count (written x.node) group place → AllWritten before xs written held → AllWritten before ys (with_array written x.node a) stands)
+          → ((x : NodeFile) → slice_get xs k ≡ Some x → place + 1 ≡ x.count → (y : NodeFile) → slice_get ys k ≡ Some y → y.current ≡ None)
+          → IsToGiveBack g stack start r q ys false stands input
+      one-wrote small ok ended =
+          let i = item xs k within in
+          let x = i.0 in
+          let a = content-some g stack input.name bytes content_ in
+          let n = nodes x i.1 in
+          let c = at-node x i.1 in
+          let place_ = place-after g stack sound start r drain p q xs fault held answered st k x i.1 input group place of c in
+          let few_ = few g stack sound start r drain p q xs fault held answered st k x i.1 input group place of c small in
+          wrote g stack sound start r drain p q xs fault held answered st k x i.1 input group place of c a.0 a.1 ys n.0 n.1 n.2 fine stands
+          (ok start.held (written_by g stack (past p.made)) x a.0 i.1 a.1 few_ place_ saved.0) (ended x i.1)
+
+      module _ (fault_ : SaveFault) (stops : (before : Option Files) (written : ℕ → List Array) (x : NodeFile) (a : Array) → slice_get xs k ≡ Some x → content_of g stack input.name ≡ Some a
+          → IsPlaceAfter x.count (written x.node) group place → AllWritten before xs written held → AllStops fault_ before x ys written group (first_count x.late of) a held stands) where
+        stopped : (x : NodeFile) (at : slice_get xs k ≡ Some x) (a : Array) → content_of g stack input.name ≡ Some a → AllStops fault_ start.held x ys (written_by g stack (past p.made)) group (first_count x.late of) a held stands
+        stopped x at a holds =
+            stops start.held (written_by g stack (past p.made)) x a at holds (place-after g stack sound start r drain p q xs fault held answered st k x at input group place of (at-node x at)) saved.0
+
+        pub one-tore : fault_ ≡ Failed → IsToGiveBack g stack start r q ys true stands input
+        one-tore is =
+            let i = item xs k within in
+            let x = i.0 in
+            let a = content-some g stack input.name bytes content_ in
+            let n = nodes x i.1 in
+            tore g stack sound start r drain p q xs fault held answered st k x i.1 input group place of (at-node x i.1) a.0 a.1 ys n.0 n.1 n.2 fine stands
+            (subst (λ (f : SaveFault). AllStops f start.held x ys (written_by g stack (past p.made)) group (first_count x.late of) a.0 held stands) is (stopped x i.1 a.0 a.1))
+
+        pub one-wanted : fault_ ≡ OutOfMemory → HasUnsaved g stack start r q ys false stands input
+        one-wanted is =
+            let i = item xs k within in
+            let x = i.0 in
+            let a = content-some g stack input.name bytes content_ in
+            let n = nodes x i.1 in
+            wanted g stack sound start r drain p q xs fault held answered st k x i.1 input group place of (at-node x i.1) a.0 a.1 ys n.0 n.1 n.2 fine stands
+            (subst (λ (f : SaveFault). AllStops f start.held x ys (written_by g stack (past p.made)) group (first_count x.late of) a.0 held stands) is (stopped x i.1 a.0 a.1))
