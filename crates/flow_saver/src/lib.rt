@@ -5,3 +5,4 @@ mod piece;
 mod saving;
 
 pub use piece::write_piece;
+pub use saving::{SaveEnd, save_role};

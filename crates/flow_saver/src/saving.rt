@@ -1,21 +1,27 @@
 //! The role that saves.
 
-ghost use Rattle.std.specs.Prelude.{◌≡◌, ◌<◌, Option, length};
+ghost use Rattle.std.specs.Prelude.{◌≡◌, ◌<◌, ℕ, List, Option, true, length, map, IsTrue, IsNone};
+ghost use Rattle.std.specs.List.{list_all};
 ghost use Rattle.nd_base.specs.GraphRules.{IsGraph};
 ghost use Rattle.edge_traits.specs.Files.{Files};
 ghost use Rattle.nd_stack.specs.KeptStacks.{IsKeptStack};
 ghost use Rattle.flow_journal.specs.Setting.{last_role};
+ghost use Rattle.flow_journal.specs.Hands.{hand};
+ghost use Rattle.board_rules.specs.States.{past, lent_to};
 ghost use Rattle.board_rules.specs.RunMeasures.{run_setting};
-ghost use Rattle.flow_saver.specs.Saver.{Start, IsSaving, IsToGiveBack, StepLeaves, CountsStep};
+ghost use Rattle.flow_roles.specs.RoleMoves.{IsFresh};
+ghost use Rattle.graph_files.specs.OpenFiles.{closed, file_nodes};
+ghost use Rattle.flow_saver.specs.Saver.{saver_logs, saver_ends, IsPieceOfHand, AreSaved, CountsSo, Start, IsSaving, IsToGiveBack, StepLeaves, CountsStep};
 
 use crate::write_piece;
-use board_rules::Save;
-use edge_traits::Shelf;
+use board_rules::{Left, Save};
+use edge_traits::{Gate, Shelf};
 use file_out::SaveFault;
+use flow_journal::Watch;
 use flow_roles::Desk;
 use frame_store::Frame;
 use graph_files::OpenFiles;
-use nd_base::{Run, Stack};
+use nd_base::{Held, Run, Stack};
 use std::alloc::Global;
 use std::sync::Wait;
 
@@ -109,4 +115,165 @@ fn save_one<R: Run, D: Desk<Frame<R>>, K: Shelf, W: Wait>(
             }
         }
     }
+}
+
+/// Saves what is due at file node `at`, piece by piece.
+fn save_node<R: Run, D: Desk<Frame<R>>, K: Shelf, W: Wait>(
+    rt: &W,
+    alloc: Global,
+    desk: &D,
+    pass: &mut D::Pass,
+    role: u32,
+    shelf: &mut K,
+    stack: &Stack,
+    files: &mut OpenFiles,
+    fault: &mut bool,
+    at: usize,
+) -> Step<Frame<R>>
+    requires ours { D.ours desk.now pass.old }
+    requires role { role ≡ last_role (run_setting R.graph R.stack) }
+    requires graph { IsGraph R.graph }
+    requires stack { stack.now ≡ R.stack }
+    requires kept { IsKeptStack R.stack }
+    requires at { at < length files.old }
+    requires saving { (start : Start) × IsSaving R.graph R.stack start role (D.knows pass.old) files.old fault.old (K.held shelf.old) }
+    ensures ours { D.ours desk.now pass.new }
+    ensures leaves { (start : Start) → IsSaving R.graph R.stack start role (D.knows pass.old) files.old fault.old (K.held shelf.old)
+        → StepLeaves R.graph R.stack start role result (D.knows pass.new) files.new fault.new (K.held shelf.new) }
+    ensures count { length files.new ≡ length files.old }
+    ensures cause { CountsStep fault.old fault.new (K.faults shelf.old) (K.faults shelf.new) }
+{
+    let mut any = false;
+    for _ in rt.forever() {
+        match save_one(
+            rt, alloc, desk, pass, role, shelf, stack, files, fault, at,
+        ) {
+            Step::Nothing => return if any { Step::Wrote } else { Step::Nothing },
+            Step::Wrote => any = true,
+            Step::Wants(piece) => return Step::Wants(piece),
+        }
+    }
+    unreachable!()
+}
+
+/// Saves what is due at each file node.
+fn save_turn<R: Run, D: Desk<Frame<R>>, K: Shelf, W: Wait>(
+    rt: &W,
+    alloc: Global,
+    desk: &D,
+    pass: &mut D::Pass,
+    role: u32,
+    shelf: &mut K,
+    stack: &Stack,
+    files: &mut OpenFiles,
+    fault: &mut bool,
+) -> Step<Frame<R>>
+    requires ours { D.ours desk.now pass.old }
+    requires role { role ≡ last_role (run_setting R.graph R.stack) }
+    requires graph { IsGraph R.graph }
+    requires stack { stack.now ≡ R.stack }
+    requires kept { IsKeptStack R.stack }
+    requires saving { (start : Start) × IsSaving R.graph R.stack start role (D.knows pass.old) files.old fault.old (K.held shelf.old) }
+    ensures ours { D.ours desk.now pass.new }
+    ensures leaves { (start : Start) → IsSaving R.graph R.stack start role (D.knows pass.old) files.old fault.old (K.held shelf.old)
+        → StepLeaves R.graph R.stack start role result (D.knows pass.new) files.new fault.new (K.held shelf.new) }
+    ensures cause { CountsStep fault.old fault.new (K.faults shelf.old) (K.faults shelf.new) }
+{
+    let mut any = false;
+    for at in 0..files.count() {
+        match save_node(
+            rt, alloc, desk, pass, role, shelf, stack, files, fault, at,
+        ) {
+            Step::Nothing => {}
+            Step::Wrote => any = true,
+            Step::Wants(piece) => return Step::Wants(piece),
+        }
+    }
+    if any { Step::Wrote } else { Step::Nothing }
+}
+
+/// The end of the role that saves: its pass, the piece that it has in hand, the files with those that are open, whether the shelf
+/// failed, and whether memory was wanting.
+#[derive(Drop)]
+pub struct SaveEnd<F: Held, P> {
+    pub pass: P,
+    pub left: Left<F>,
+    pub files: OpenFiles,
+    pub fault: bool,
+    pub want: bool,
+}
+
+/// Saves the files of a run while the others work: on each turn it asks how far the run has come, notes that, and saves what is due at
+/// each file node, until the run is done, some role has left, or memory is wanting for a piece. A note for which memory is wanting is
+/// passed over. After a fault of the shelf pieces are given back unwritten.
+pub fn save_role<R: Run, D: Desk<Frame<R>>, K: Shelf, N: Watch, G: Gate, W: Wait>(
+    rt: &W,
+    alloc: Global,
+    desk: &D,
+    pass: D::Pass,
+    role: u32,
+    shelf: &mut K,
+    watch: &mut N,
+    stack: &Stack,
+    files: OpenFiles,
+    gate: &G,
+) -> SaveEnd<Frame<R>, D::Pass>
+    requires ours { D.ours desk.now pass }
+    requires fresh { IsFresh role (D.knows pass) }
+    requires role { role ≡ last_role (run_setting R.graph R.stack) }
+    requires graph { IsGraph R.graph }
+    requires stack { stack.now ≡ R.stack }
+    requires kept { IsKeptStack R.stack }
+    requires files { (prefix : List ℕ) × (files ≡ file_nodes R.graph R.stack prefix) }
+    ensures ours { D.ours desk.now result.pass }
+    ensures role { (D.knows result.pass).role ≡ role }
+    ensures moves { list_all saver_logs (past (D.knows result.pass).made) ≡ true }
+    ensures last { IsTrue (saver_ends (run_setting R.graph R.stack) (D.knows result.pass).last (past (D.knows result.pass).seen) result.want) }
+    ensures left { IsPieceOfHand (lent_to role (D.knows result.pass).made) (hand role (past (D.knows result.pass).made)) result.left.input × IsNone result.left.made × IsNone result.left.blank }
+    ensures nodes { map closed result.files ≡ files }
+    ensures saved { AreSaved R.graph R.stack (K.held shelf.old) (past (D.knows result.pass).made) (past (D.knows result.pass).seen) result.files result.fault (K.held shelf.new) }
+    ensures fault { CountsSo result.fault (K.faults shelf.old) (K.faults shelf.new) }
+{
+    let mut pass = pass;
+    let mut files = files;
+    let mut fault = false;
+    for _ in rt.forever() {
+        let progress = desk.progress(rt, alloc, &mut pass, role);
+        let _ = watch.note(alloc, &progress);
+        if progress.done || progress.left {
+            let left = Left {
+                input: None,
+                made: None,
+                blank: None,
+            };
+            return SaveEnd {
+                pass,
+                left,
+                files,
+                fault,
+                want: false,
+            };
+        }
+        match save_turn(
+            rt, alloc, desk, &mut pass, role, shelf, stack, &mut files, &mut fault,
+        ) {
+            Step::Nothing => gate.idle(),
+            Step::Wrote => {}
+            Step::Wants(piece) => {
+                let left = Left {
+                    input: Some(piece),
+                    made: None,
+                    blank: None,
+                };
+                return SaveEnd {
+                    pass,
+                    left,
+                    files,
+                    fault,
+                    want: true,
+                };
+            }
+        }
+    }
+    unreachable!()
 }

@@ -1,0 +1,13 @@
+use Rattle.std.proofs.Common.{◌≡◌}
+use Rattle.flow_saver.specs.Saver.{Start, IsSaving, CountsSo}
+use Rattle.flow_saver.proofs.saving.save_role.Given as goal
+
+abbrev pub invariant-loop : goal.invariant-loop
+invariant-loop g l =
+    record {
+      ours : g.D.Desk.ours l.desk l.pass;
+      start : Start;
+      began : start.held ≡ g.K.Shelf.held l.fn.shelf;
+      saving : IsSaving g.R.Run.graph g.R.Run.stack start l.role (g.D.Desk.knows l.pass) l.files l.fault (g.K.Shelf.held l.shelf);
+      cause : CountsSo l.fault (g.K.Shelf.faults l.fn.shelf) (g.K.Shelf.faults l.shelf)
+    }
