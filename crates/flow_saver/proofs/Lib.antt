@@ -8,3 +8,5 @@ pub mod Steps
 pub mod Giving
 pub mod Writing
 pub mod SaveOne
+pub mod Beginning
+pub mod Counting

@@ -1,0 +1,16 @@
+-- Counts of faults over several steps.
+use Rattle.std.proofs.Common.{◌≡◌, ℕ, Bool, true, false, sym, ap, subst, ◌∙◌}
+use Rattle.edge_traits.specs.Faults.{Rose}
+use Rattle.flow_saver.specs.Saver.{CountsSo, CountsStep}
+
+counts-true : (new : Bool) (first before now : ℕ) → CountsSo true first before → CountsStep true new before now → CountsSo new first now
+counts-true true first before now h step = subst (λ (n : ℕ). Rose first n) (sym step.1) h
+counts-true false first before now h step = let clash : false ≡ true = step.0 in absurd (cc)
+
+counts-false : (new : Bool) (first before now : ℕ) → CountsSo false first before → CountsStep false new before now → CountsSo new first now
+counts-false true first before now h step = subst (λ (n : ℕ). Rose n now) h step
+counts-false false first before now h step = step ∙ h
+
+pub counts-then : (old new : Bool) (first before now : ℕ) → CountsSo old first before → CountsStep old new before now → CountsSo new first now
+counts-then true new first before now h step = counts-true new first before now h step
+counts-then false new first before now h step = counts-false new first before now h step

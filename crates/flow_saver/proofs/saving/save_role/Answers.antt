@@ -1,0 +1,146 @@
+use Rattle.std.proofs.Common.{◌≡◌, ℕ, Bool, sym, ap, subst, refl, ◌∙◌, Option, None}
+use Rattle.edge_traits.specs.Files.{Files}
+use Rattle.flow_journal.specs.declared.entry.Entry.{Entry}
+use Rattle.board_rules.specs.States.{past, lent_to}
+use Rattle.graph_files.specs.OpenFiles.{file_nodes}
+use Rattle.flow_saver.specs.Saver.{AreSaved, IsPieceOfHand}
+use Rattle.flow_saver.proofs.Steps.{saving-still}
+use Rattle.flow_saver.proofs.Beginning.{fresh-saving}
+use Rattle.flow_saver.proofs.Counting.{counts-then}
+use Rattle.flow_saver.proofs.saving.save_role.Goals as goal
+
+pub loop-init : goal.loop-init
+loop-init g c =
+    let files = c.requires.files in
+    record {
+      ours = c.requires.ours;
+      start = record { prefix = files.0; held = g.K.Shelf.held c.args.shelf.now };
+      began = refl;
+      named = sym files.1;
+      saving = fresh-saving g.R.Run.graph g.R.Run.stack files.0 (g.K.Shelf.held c.args.shelf.now) c.args.role (g.D.Desk.knows c.args.pass) c.args.files files.1 c.requires.fresh;
+      cause = refl;
+    }
+
+pub returns-then-progress-clause-moves : goal.returns-then-progress-clause-moves
+returns-then-progress-clause-moves g c =
+    let gr = g.R.Run.graph in
+    let stack = g.R.Run.stack in
+    let inv = c.loop.invariant in
+    let still = saving-still gr stack inv.start c.args.role _ _ (g.D.Desk.knows c.loop.pass) (g.D.Desk.knows c.progress-progress.new.pass) c.loop.files c.loop.fault (g.K.Shelf.held c.loop.shelf) inv.saving c.progress-progress.ensures.called c.progress-progress.ensures.called.answer.1 in
+    still.moves
+
+pub returns-then-progress-clause-left : goal.returns-then-progress-clause-left
+returns-then-progress-clause-left g c =
+    let gr = g.R.Run.graph in
+    let stack = g.R.Run.stack in
+    let inv = c.loop.invariant in
+    let still = saving-still gr stack inv.start c.args.role _ _ (g.D.Desk.knows c.loop.pass) (g.D.Desk.knows c.progress-progress.new.pass) c.loop.files c.loop.fault (g.K.Shelf.held c.loop.shelf) inv.saving c.progress-progress.ensures.called c.progress-progress.ensures.called.answer.1 in
+    (subst (λ (e : Option Entry). IsPieceOfHand (lent_to c.args.role (g.D.Desk.knows c.progress-progress.new.pass).made) e None) (sym still.free) refl, refl, refl)
+
+pub returns-then-progress-clause-nodes : goal.returns-then-progress-clause-nodes
+returns-then-progress-clause-nodes g c =
+    let gr = g.R.Run.graph in
+    let stack = g.R.Run.stack in
+    let inv = c.loop.invariant in
+    let still = saving-still gr stack inv.start c.args.role _ _ (g.D.Desk.knows c.loop.pass) (g.D.Desk.knows c.progress-progress.new.pass) c.loop.files c.loop.fault (g.K.Shelf.held c.loop.shelf) inv.saving c.progress-progress.ensures.called c.progress-progress.ensures.called.answer.1 in
+    still.nodes ∙ inv.named
+
+pub returns-then-progress-clause-saved : goal.returns-then-progress-clause-saved
+returns-then-progress-clause-saved g c =
+    let gr = g.R.Run.graph in
+    let stack = g.R.Run.stack in
+    let inv = c.loop.invariant in
+    let still = saving-still gr stack inv.start c.args.role _ _ (g.D.Desk.knows c.loop.pass) (g.D.Desk.knows c.progress-progress.new.pass) c.loop.files c.loop.fault (g.K.Shelf.held c.loop.shelf) inv.saving c.progress-progress.ensures.called c.progress-progress.ensures.called.answer.1 in
+    subst (λ (h : Option Files). AreSaved gr stack h (past (g.D.Desk.knows c.progress-progress.new.pass).made) (past (g.D.Desk.knows c.progress-progress.new.pass).seen) c.loop.files c.loop.fault (g.K.Shelf.held c.loop.shelf)) inv.began still.saved
+
+pub save_turn-requires-clause-saving : goal.save_turn-requires-clause-saving
+save_turn-requires-clause-saving g c =
+    let gr = g.R.Run.graph in
+    let stack = g.R.Run.stack in
+    let inv = c.loop.invariant in
+    let still = saving-still gr stack inv.start c.args.role _ _ (g.D.Desk.knows c.loop.pass) (g.D.Desk.knows c.progress-progress.new.pass) c.loop.files c.loop.fault (g.K.Shelf.held c.loop.shelf) inv.saving c.progress-progress.ensures.called c.progress-progress.ensures.called.answer.1 in
+    (inv.start, still)
+
+pub loop-preserved-in-Nothing : goal.loop-preserved-in-Nothing
+loop-preserved-in-Nothing g c =
+    let gr = g.R.Run.graph in
+    let stack = g.R.Run.stack in
+    let inv = c.loop.invariant in
+    let still = saving-still gr stack inv.start c.args.role _ _ (g.D.Desk.knows c.loop.pass) (g.D.Desk.knows c.progress-progress.new.pass) c.loop.files c.loop.fault (g.K.Shelf.held c.loop.shelf) inv.saving c.progress-progress.ensures.called c.progress-progress.ensures.called.answer.1 in
+    record {
+      ours = c.save_turn.ensures.ours;
+      start = inv.start;
+      began = inv.began;
+      named = inv.named;
+      saving = c.in-Nothing.ensures.leaves inv.start still;
+      cause = counts-then c.loop.fault c.save_turn.new.fault _ (g.K.Shelf.faults c.loop.shelf) _ inv.cause c.save_turn.ensures.cause;
+    }
+
+pub loop-preserved : goal.loop-preserved
+loop-preserved g c =
+    let gr = g.R.Run.graph in
+    let stack = g.R.Run.stack in
+    let inv = c.loop.invariant in
+    let still = saving-still gr stack inv.start c.args.role _ _ (g.D.Desk.knows c.loop.pass) (g.D.Desk.knows c.progress-progress.new.pass) c.loop.files c.loop.fault (g.K.Shelf.held c.loop.shelf) inv.saving c.progress-progress.ensures.called c.progress-progress.ensures.called.answer.1 in
+    record {
+      ours = c.save_turn.ensures.ours;
+      start = inv.start;
+      began = inv.began;
+      named = inv.named;
+      saving = c.in-Wrote.ensures.leaves inv.start still;
+      cause = counts-then c.loop.fault c.save_turn.new.fault _ (g.K.Shelf.faults c.loop.shelf) _ inv.cause c.save_turn.ensures.cause;
+    }
+
+pub returns-in-Wants-clause-role : goal.returns-in-Wants-clause-role
+returns-in-Wants-clause-role g c =
+    let gr = g.R.Run.graph in
+    let stack = g.R.Run.stack in
+    let inv = c.loop.invariant in
+    let still = saving-still gr stack inv.start c.args.role _ _ (g.D.Desk.knows c.loop.pass) (g.D.Desk.knows c.progress-progress.new.pass) c.loop.files c.loop.fault (g.K.Shelf.held c.loop.shelf) inv.saving c.progress-progress.ensures.called c.progress-progress.ensures.called.answer.1 in
+    let end = c.in-Wants.ensures.leaves inv.start still in
+    end.role
+
+pub returns-in-Wants-clause-moves : goal.returns-in-Wants-clause-moves
+returns-in-Wants-clause-moves g c =
+    let gr = g.R.Run.graph in
+    let stack = g.R.Run.stack in
+    let inv = c.loop.invariant in
+    let still = saving-still gr stack inv.start c.args.role _ _ (g.D.Desk.knows c.loop.pass) (g.D.Desk.knows c.progress-progress.new.pass) c.loop.files c.loop.fault (g.K.Shelf.held c.loop.shelf) inv.saving c.progress-progress.ensures.called c.progress-progress.ensures.called.answer.1 in
+    let end = c.in-Wants.ensures.leaves inv.start still in
+    end.moves
+
+pub returns-in-Wants-clause-left : goal.returns-in-Wants-clause-left
+returns-in-Wants-clause-left g c =
+    let gr = g.R.Run.graph in
+    let stack = g.R.Run.stack in
+    let inv = c.loop.invariant in
+    let still = saving-still gr stack inv.start c.args.role _ _ (g.D.Desk.knows c.loop.pass) (g.D.Desk.knows c.progress-progress.new.pass) c.loop.files c.loop.fault (g.K.Shelf.held c.loop.shelf) inv.saving c.progress-progress.ensures.called c.progress-progress.ensures.called.answer.1 in
+    let end = c.in-Wants.ensures.leaves inv.start still in
+    (end.hand, refl, refl)
+
+pub returns-in-Wants-clause-nodes : goal.returns-in-Wants-clause-nodes
+returns-in-Wants-clause-nodes g c =
+    let gr = g.R.Run.graph in
+    let stack = g.R.Run.stack in
+    let inv = c.loop.invariant in
+    let still = saving-still gr stack inv.start c.args.role _ _ (g.D.Desk.knows c.loop.pass) (g.D.Desk.knows c.progress-progress.new.pass) c.loop.files c.loop.fault (g.K.Shelf.held c.loop.shelf) inv.saving c.progress-progress.ensures.called c.progress-progress.ensures.called.answer.1 in
+    let end = c.in-Wants.ensures.leaves inv.start still in
+    end.nodes ∙ inv.named
+
+pub returns-in-Wants-clause-saved : goal.returns-in-Wants-clause-saved
+returns-in-Wants-clause-saved g c =
+    let gr = g.R.Run.graph in
+    let stack = g.R.Run.stack in
+    let inv = c.loop.invariant in
+    let still = saving-still gr stack inv.start c.args.role _ _ (g.D.Desk.knows c.loop.pass) (g.D.Desk.knows c.progress-progress.new.pass) c.loop.files c.loop.fault (g.K.Shelf.held c.loop.shelf) inv.saving c.progress-progress.ensures.called c.progress-progress.ensures.called.answer.1 in
+    let end = c.in-Wants.ensures.leaves inv.start still in
+    subst (λ (h : Option Files). AreSaved gr stack h (past (g.D.Desk.knows c.save_turn.new.pass).made) (past (g.D.Desk.knows c.save_turn.new.pass).seen) c.save_turn.new.files c.save_turn.new.fault (g.K.Shelf.held c.save_turn.new.shelf)) inv.began end.saved
+
+pub returns-in-Wants-clause-fault : goal.returns-in-Wants-clause-fault
+returns-in-Wants-clause-fault g c =
+    let gr = g.R.Run.graph in
+    let stack = g.R.Run.stack in
+    let inv = c.loop.invariant in
+    let still = saving-still gr stack inv.start c.args.role _ _ (g.D.Desk.knows c.loop.pass) (g.D.Desk.knows c.progress-progress.new.pass) c.loop.files c.loop.fault (g.K.Shelf.held c.loop.shelf) inv.saving c.progress-progress.ensures.called c.progress-progress.ensures.called.answer.1 in
+    counts-then c.loop.fault c.save_turn.new.fault _ (g.K.Shelf.faults c.loop.shelf) _ inv.cause c.save_turn.ensures.cause
+
