@@ -1,15 +1,12 @@
 -- What a save and a saved answer, by the log.
-use Rattle.std.proofs.Common.{◌≡◌, ◌⊎◌, ℕ, ◌+◌, ◌*◌, ◌/◌, ◌%◌, ◌<◌, ◌≤◌, Bool, true, false, not, ◌&&◌, ◌||◌, List, [], ◌∷◌, ◌++◌, length, refl, sym, ap, subst, ◌∙◌, arith, inl, inr, Option, Some, None, Result, Ok, Err}
-use Rattle.std.specs.Prelude.{if◌then◌else◌, IsTrue, IsSome}
+use Rattle.std.proofs.Common.{◌≡◌, ◌⊎◌, ℕ, Bool, true, false, not, ◌&&◌, ◌||◌, ◌∷◌, length, refl, sym, ◌∙◌, inl, inr, Option, Some, None}
+use Rattle.std.specs.Prelude.{if◌then◌else◌}
 use Rattle.std.specs.List.{list_any}
-use Rattle.std.proofs.lemmas.Bool.{and_parts, cases_Bool, false≢true, true≢false, not-false}
-use Rattle.nd_base.specs.declared.frame.FrameName.{FrameName}
+use Rattle.std.proofs.lemmas.Bool.{cases_Bool, false≢true, true≢false}
 use Rattle.frame_store.specs.Sealed.{Sealed}
-use Rattle.flow_journal.specs.declared.entry.Entry.{Entry}
 use Rattle.flow_journal.specs.declared.entry.Entry.TheVariants as entry
 use Rattle.flow_journal.specs.Setting.{Setting, node}
-use Rattle.flow_journal.specs.Pasts.{Past}
-use Rattle.flow_journal.specs.Hands.{hand, hands, is_free, is_piece}
+use Rattle.flow_journal.specs.Hands.{hands, is_free, is_piece}
 use Rattle.flow_journal.specs.Ended.{is_settled}
 use Rattle.flow_journal.specs.Finished.{none_left}
 use Rattle.flow_journal.specs.FirstEntries.{is_next}

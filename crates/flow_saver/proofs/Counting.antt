@@ -1,5 +1,5 @@
 -- Counts of faults over several steps.
-use Rattle.std.proofs.Common.{◌≡◌, ℕ, Bool, true, false, sym, ap, subst, ◌∙◌}
+use Rattle.std.proofs.Common.{◌≡◌, ℕ, Bool, true, false, sym, subst, ◌∙◌}
 use Rattle.edge_traits.specs.Faults.{Rose}
 use Rattle.flow_saver.specs.Saver.{CountsSo, CountsStep}
 

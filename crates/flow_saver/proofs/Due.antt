@@ -1,12 +1,11 @@
 -- A piece that was handed out is the next array of its node's files.
-use Rattle.std.proofs.Common.{◌≡◌, ◌≢◌, ◌⊎◌, ℕ, zero, suc, ◌+◌, ◌-◌, ◌*◌, ◌/◌, ◌%◌, ◌^◌, ◌<◌, ◌≤◌, min, Bool, true, false, not, ◌&&◌, ◌||◌, leb, List, [], ◌∷◌, ◌++◌, length, map, get_or, refl, sym, ap, subst, ◌∙◌, arith, inl, inr, Option, Some, None}
+use Rattle.std.proofs.Common.{◌≡◌, ◌⊎◌, ℕ, suc, ◌+◌, ◌-◌, ◌*◌, ◌/◌, ◌%◌, ◌<◌, ◌≤◌, min, Bool, true, false, not, ◌||◌, leb, List, length, map, refl, sym, ap, subst, ◌∙◌, arith, inl, inr, Option, Some, None}
 use Rattle.std.specs.Prelude.{slice_get, if◌then◌else◌}
 use Rattle.std.specs.Option.{option_map}
-use Rattle.std.specs.List.{All}
 use Rattle.std.proofs.Math.Nat.{mod-lt, add-mul}
 use Rattle.std.proofs.lemmas.Nat.{div-add-mod'}
-use Rattle.std.proofs.lemmas.Bool.{and_parts, cases_Bool, leb-true, leb-false, le-leb, false≢true}
-use Rattle.std.proofs.lemmas.Option.{slice_get-map, slice_get_within, get_or_from_slice_get, same_Some}
+use Rattle.std.proofs.lemmas.Bool.{and_parts, leb-true, leb-false, le-leb, false≢true}
+use Rattle.std.proofs.lemmas.Option.{slice_get-map, slice_get_within, get_or_from_slice_get}
 use Rattle.std.proofs.lemmas.List.{length-map}
 use Rattle.nd_base.specs.Array.{Array, StackValue}
 use Rattle.nd_base.specs.GraphRules.{IsGraph, IsKind, IsFile, makes_arrays, rule_at}
@@ -17,13 +16,12 @@ use Rattle.nd_base.specs.declared.graph.Kind.TheVariants.{File}
 use Rattle.nd_base.specs.declared.graph.Mode.{Mode}
 use Rattle.nd_base.specs.declared.graph.Mode.TheVariants.{Single, Capture, Stream}
 use Rattle.nd_base.specs.declared.graph.NodeRule.{NodeRule}
-use Rattle.edge_traits.specs.Files.{Files}
 use Rattle.chain_plain.specs.Nodes.{maker_at}
 use Rattle.chain_plain.specs.Plans.{makers_of}
 use Rattle.chain_plain.proofs.Found.{maker_of_other}
 use Rattle.chain_plain.proofs.Rules.{stands}
-use Rattle.flow_journal.specs.Setting.{Setting, Work, Saves, node, is_node, is_maker, makes}
-use Rattle.flow_journal.specs.RunSetting.{is_capture, work_of}
+use Rattle.flow_journal.specs.Setting.{Work, Saves, node, is_node, makes}
+use Rattle.flow_journal.specs.RunSetting.{is_capture}
 use Rattle.flow_journal.specs.Pasts.{Past}
 use Rattle.flow_journal.specs.Ended.{is_settled}
 use Rattle.flow_journal.specs.Puts.{puts}
@@ -36,7 +34,7 @@ use Rattle.flow_journal.proofs.Steps.{next_is}
 use Rattle.run_laws.proofs.Runs.{known}
 use Rattle.board_rules.specs.RunMeasures.{run_setting}
 use Rattle.board_rules.specs.Saving.{place_of, group_size, size_of_group, is_whole_group}
-use Rattle.graph_files.specs.NodeFiles.{NodeFile, IsSized, HasNumrecs, first_count}
+use Rattle.graph_files.specs.NodeFiles.{NodeFile, IsSized, first_count}
 use Rattle.graph_files.specs.OpenFiles.{closed, file_nodes}
 use Rattle.graph_files.specs.OpenFileLaws.{of_node}
 use Rattle.graph_files.specs.OutFiles.{file_shape, is_stream}
@@ -148,16 +146,16 @@ next-piece g stack x f P n name group place of sound h saved due next group_is p
       place_is = place_is ∙ ap (λ (w : Work). place_of w n) f.work ∙ ap (λ (c : ℕ). n % c) (sym f.count);
       named = own ∙ sym (maker_of_other g v f.rule sound (sym f.at) (ap makes_arrays f.kind));
       sized = λ early.
-      let known_ : is_whole_group count n (length (puts v P)) ≡ false → is_settled v P ≡ true = λ short. elim (not-stream f.file.mode (sym f.late ∙ early)) [
-        | inl single ↦
-            let one : count ≡ 1 = f.sound.single single in
-            absurd (false≢true (sym short ∙ ap (λ (c : ℕ). is_whole_group c n (length (puts v P))) one ∙ one-whole n (length (puts v P)) below))
-        | inr capture ↦
-            let whole_due : (not true || is_settled v P || leb ((length (standing_saves v P) / count + 1) * count) (length (puts v P))) ≡ true = ap (λ (m : Mode). is_due (Saves (is_capture m) count) v P) (sym capture) ∙ due_ in
-            settled-due (is_settled v P) (leb ((length (standing_saves v P) / count + 1) * count) (length (puts v P))) whole_due (ap (λ (k : ℕ). leb ((k / count + 1) * count) (length (puts v P))) (sym saved) ∙ short)
-      ] in
-      let z = size-by P v count n some below (is_whole_group count n (length (puts v P))) (is_settled v P) refl refl known_ in
-      (z.0, of_ ∙ z.1, subst (λ (c : ℕ). IsGroupSize P v c group z.0) (sym f.count) (subst (λ (i : ℕ). IsGroupSize P v count i z.0) (sym group_) z.2));
+          let known_ : is_whole_group count n (length (puts v P)) ≡ false → is_settled v P ≡ true = λ short. elim (not-stream f.file.mode (sym f.late ∙ early)) [
+            | inl single ↦
+                let one : count ≡ 1 = f.sound.single single in
+                absurd (false≢true (sym short ∙ ap (λ (c : ℕ). is_whole_group c n (length (puts v P))) one ∙ one-whole n (length (puts v P)) below))
+            | inr capture ↦
+                let whole_due : (not true || is_settled v P || leb ((length (standing_saves v P) / count + 1) * count) (length (puts v P))) ≡ true = ap (λ (m : Mode). is_due (Saves (is_capture m) count) v P) (sym capture) ∙ due_ in
+                settled-due (is_settled v P) (leb ((length (standing_saves v P) / count + 1) * count) (length (puts v P))) whole_due (ap (λ (k : ℕ). leb ((k / count + 1) * count) (length (puts v P))) (sym saved) ∙ short)
+          ] in
+          let z = size-by P v count n some below (is_whole_group count n (length (puts v P))) (is_settled v P) refl refl known_ in
+          (z.0, of_ ∙ z.1, subst (λ (c : ℕ). IsGroupSize P v c group z.0) (sym f.count) (subst (λ (i : ℕ). IsGroupSize P v count i z.0) (sym group_) z.2));
     }
 
 -- WHAT THE FILES ASK FOR

@@ -1,16 +1,13 @@
 -- A piece that is given back.
-use Rattle.std.proofs.Common.{◌≡◌, ℕ, Bool, true, false, eqb, ◌&&◌, List, [], ◌∷◌, ◌++◌, length, refl, sym, ap, subst, ◌∙◌, Option, Some, None, Result, Ok, Err}
-use Rattle.std.specs.List.{list_all}
-use Rattle.std.proofs.lemmas.Bool.{and_parts, eq-eqb, and_from, false≢true}
+use Rattle.std.proofs.Common.{◌≡◌, ℕ, Bool, true, List, ◌∷◌, ◌++◌, length, refl, sym, ap, subst, ◌∙◌, Option, Some, Ok, Err}
+use Rattle.std.proofs.lemmas.Bool.{and_parts, eq-eqb, false≢true}
 use Rattle.nd_base.specs.Array.{StackValue}
-use Rattle.nd_base.specs.declared.frame.FrameName.{FrameName}
 use Rattle.nd_base.specs.declared.graph.Graph.{Graph}
 use Rattle.edge_traits.specs.Files.{Files}
 use Rattle.frame_store.specs.Sealed.{Sealed}
 use Rattle.flow_journal.specs.declared.entry.Entry.{Entry}
 use Rattle.flow_journal.specs.declared.entry.Entry.TheVariants as entry
-use Rattle.flow_journal.specs.Setting.{Setting, last_role}
-use Rattle.flow_journal.specs.Pasts.{Past, frame, same}
+use Rattle.flow_journal.specs.Setting.{Setting}
 use Rattle.flow_journal.specs.Hands.{hand}
 use Rattle.flow_journal.specs.Histories.{is_legal}
 use Rattle.flow_journal.specs.Unsaved.{saves}
@@ -24,7 +21,7 @@ use Rattle.board_rules.specs.RunMeasures.{run_setting}
 use Rattle.board_rules.specs.Saving.{SavedGives}
 use Rattle.flow_roles.specs.declared.last.Last.{Last}
 use Rattle.flow_roles.specs.Passes.{Pass, Called}
-use Rattle.flow_roles.specs.Feeder.{name_of, parts_of}
+use Rattle.flow_roles.specs.Feeder.{name_of}
 use Rattle.flow_roles.proofs.Calls.{Moved, moved, hand-before, role-after}
 use Rattle.graph_files.specs.NodeFiles.{NodeFile}
 use Rattle.flow_saver.specs.GivenBack.{given_back, written_by}

@@ -1,8 +1,7 @@
 -- The puts of a node: how many there can be, whose arrays they are, and that a settled node gets no more.
-use Rattle.std.proofs.Common.{◌≡◌, ◌≢◌, ℕ, ◌+◌, ◌≤◌, ◌<◌, Bool, true, false, ◌&&◌, eqb, ltb, List, [], ◌∷◌, ◌++◌, length, refl, sym, ap, ◌∙◌, subst, arith, inl, inr, Some, length-append}
-use Rattle.std.specs.Prelude.{if◌then◌else◌}
+use Rattle.std.proofs.Common.{◌≡◌, ℕ, ◌+◌, ◌≤◌, Bool, true, false, ◌&&◌, eqb, List, [], ◌∷◌, ◌++◌, length, refl, sym, ap, ◌∙◌, arith, inl, inr, Some, length-append}
 use Rattle.std.specs.List.{All, list_any}
-use Rattle.std.proofs.lemmas.Bool.{and_parts, cases_Bool, false≢true, true≢false, eqb-true}
+use Rattle.std.proofs.lemmas.Bool.{and_parts, cases_Bool, true≢false, eqb-true}
 use Rattle.nd_base.specs.Array.{Array}
 use Rattle.nd_base.specs.declared.frame.FrameName.{FrameName}
 use Rattle.nd_base.specs.declared.graph.Graph.{Graph}
@@ -56,8 +55,12 @@ puts-count v (_ ∷ P) = puts-count v P
 -- no more than there are frames
 pub puts-few : (s : Setting) (P : Past) (v : ℕ) → is_legal s P ≡ true → length (puts v P) ≤ length s.ids
 puts-few s P v h =
-    omega (arith, puts-count v P, one_in_buckets (put_here v) put_index (puts_at v) (buckets v) (length s.ids) P
-    (λ k. omega (arith, puts-taken s P v k h, takes-accepted s P v k h, arrives-le v k P, arrives-few s P v k h)))
+    omega (
+      arith,
+      puts-count v P,
+      one_in_buckets (put_here v) put_index (puts_at v) (buckets v) (length s.ids) P
+          (λ k. omega (arith, puts-taken s P v k h, takes-accepted s P v k h, arrives-le v k P, arrives-few s P v k h)),
+    )
 
 -- WHOSE
 

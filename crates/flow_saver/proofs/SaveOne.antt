@@ -11,10 +11,8 @@ use Rattle.frame_store.specs.Content.{AreSamples, IsContent}
 use Rattle.frame_store.specs.Sealed.{Sealed}
 use Rattle.file_out.specs.declared.fault.SaveFault.{SaveFault}
 use Rattle.file_out.specs.declared.fault.SaveFault.TheVariants.{Failed, OutOfMemory}
-use Rattle.file_out.specs.Streams.{Stream}
 use Rattle.flow_journal.specs.Setting.{Setting, last_role, is_node}
-use Rattle.flow_journal.specs.Hands.{hand, is_free}
-use Rattle.board_rules.specs.declared.answers.Save.{Save}
+use Rattle.flow_journal.specs.Hands.{is_free}
 use Rattle.board_rules.specs.declared.answers.Save.TheVariants.{Busy, NotYet, Piece}
 use Rattle.board_rules.specs.States.{BoardState, past}
 use Rattle.board_rules.specs.RunMeasures.{run_setting}
@@ -23,7 +21,7 @@ use Rattle.flow_roles.specs.declared.last.Last.{Last}
 use Rattle.flow_roles.specs.Passes.{Pass, Called}
 use Rattle.flow_roles.specs.Feeder.{name_of, parts_of}
 use Rattle.flow_roles.proofs.Calls.{hand-before}
-use Rattle.graph_files.specs.NodeFiles.{NodeFile, IsPlaceAfter, HasNumrecs, first_count}
+use Rattle.graph_files.specs.NodeFiles.{NodeFile, IsPlaceAfter, first_count}
 use Rattle.graph_files.specs.OpenFiles.{AllWritten, AllStops, IsReopened, with_array}
 use Rattle.flow_saver.specs.GivenBack.{written_by}
 use Rattle.flow_saver.specs.Pieces.{content_of, IsDuePiece}

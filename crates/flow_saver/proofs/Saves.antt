@@ -1,22 +1,20 @@
 -- Who saves, and what the drain's own moves tell of it.
-use Rattle.std.proofs.Common.{◌≡◌, ◌≢◌, ℕ, Bool, true, false, not, ◌&&◌, eqb, List, [], ◌∷◌, refl, sym, ap, ◌∙◌, subst, Option, Some, None, inl, inr}
-use Rattle.std.specs.Prelude.{find, if◌then◌else◌}
+use Rattle.std.proofs.Common.{◌≡◌, ℕ, Bool, true, false, not, ◌&&◌, eqb, List, [], ◌∷◌, refl, sym, ap, ◌∙◌, subst, Option, Some, None, inl, inr}
+use Rattle.std.specs.Prelude.{find}
 use Rattle.std.specs.List.{list_all}
 use Rattle.std.proofs.lemmas.Bool.{and_parts, and_from, cases_Bool, false≢true, eqb-true, eq-eqb}
 use Rattle.flow_journal.specs.declared.entry.Entry.{Entry}
-use Rattle.flow_journal.specs.declared.entry.Entry.TheVariants.{Load, LoadRefused, Tick, Issue, Emit, Accept, Full, Take, TakeBlock, PoolDrop, Put, SortDrop, Settle, Save, Saved, Close, Leave, Reclaim}
+use Rattle.flow_journal.specs.declared.entry.Entry.TheVariants.{Save, Reclaim}
 use Rattle.flow_journal.specs.Setting.{Setting, last_role}
 use Rattle.flow_journal.specs.Pasts.{Past, frame, comes_at}
-use Rattle.flow_journal.specs.Hands.{takes_up, let_go, hands, hand, is_free, standing, is_piece}
+use Rattle.flow_journal.specs.Hands.{takes_up, let_go, is_free, standing, is_piece}
 use Rattle.flow_journal.specs.Unsaved.{saves, standing_saves}
 use Rattle.flow_journal.specs.Histories.{is_legal}
-use Rattle.flow_journal.specs.FirstEntries.{first}
 use Rattle.flow_journal.proofs.Found.{found_up}
 use Rattle.flow_journal.proofs.Hands.{row_of}
 use Rattle.flow_journal.proofs.Counts.{hand-standing}
 use Rattle.flow_journal.proofs.Pieces.{saves-let_go}
 use Rattle.flow_journal.proofs.Jobs.{reclaim_hand}
-use Rattle.board_rules.specs.declared.told.Told.{Told}
 use Rattle.board_rules.specs.States.{BoardState, past, begins, is_role_of}
 use Rattle.board_rules.specs.Movers.{first_some, mover, moves_by}
 use Rattle.flow_roles.specs.Passes.{saved_by_drain, only_drain_saves}

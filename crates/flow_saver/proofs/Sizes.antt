@@ -1,6 +1,5 @@
 -- How many arrays the group of an open file has.
-use Rattle.std.proofs.Common.{◌≡◌, ◌⊎◌, ℕ, ◌+◌, ◌*◌, ◌/◌, ◌<◌, ◌≤◌, Bool, true, false, List, ◌++◌, length, refl, sym, ap, subst, ◌∙◌, arith, inl, inr, Option, Some, None}
-use Rattle.std.specs.Prelude.{slice_get}
+use Rattle.std.proofs.Common.{◌≡◌, ℕ, ◌/◌, Bool, true, false, List, ◌++◌, length, sym, ap, ◌∙◌, arith, inl, inr, Option}
 use Rattle.nd_base.specs.Array.{Array}
 use Rattle.flow_journal.specs.Setting.{Setting}
 use Rattle.flow_journal.specs.Pasts.{Past}

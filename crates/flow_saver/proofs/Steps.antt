@@ -1,46 +1,41 @@
 -- A save and what follows it, as its role sees them.
-use Rattle.std.proofs.Common.{◌≡◌, ◌≢◌, ◌⊎◌, ℕ, zero, suc, ◌+◌, ◌*◌, ◌/◌, ◌%◌, ◌^◌, ◌<◌, ◌≤◌, Bool, true, false, not, ◌&&◌, ◌||◌, eqb, List, [], ◌∷◌, ◌++◌, length, map, set, refl, sym, ap, subst, ◌∙◌, arith, inl, inr, Option, Some, None, Result, Ok, Err}
-use Rattle.std.specs.Prelude.{slice_get, if◌then◌else◌, is_none}
+use Rattle.std.proofs.Common.{◌≡◌, ℕ, ◌+◌, ◌*◌, ◌/◌, ◌%◌, ◌^◌, ◌<◌, ◌≤◌, Bool, true, false, List, [], ◌∷◌, ◌++◌, length, refl, sym, ap, subst, ◌∙◌, arith, Option, Some, None}
+use Rattle.std.specs.Prelude.{slice_get, if◌then◌else◌}
 use Rattle.std.specs.List.{list_all}
 use Rattle.std.proofs.Math.Nat.{mod-lt}
-use Rattle.std.proofs.Math.Seq.{map-set_same}
 use Rattle.std.proofs.lemmas.Nat.{div-add-mod'}
-use Rattle.std.proofs.lemmas.Bool.{and_parts, cases_Bool, eq-eqb, ne_eqb, false≢true}
-use Rattle.std.proofs.lemmas.List.{append_cancel_right, append-nil}
-use Rattle.nd_base.specs.Array.{Array, StackValue}
-use Rattle.nd_base.specs.Parts.{Parts}
+use Rattle.std.proofs.lemmas.Bool.{and_parts, eq-eqb, false≢true}
+use Rattle.std.proofs.lemmas.List.{append_cancel_right}
+use Rattle.nd_base.specs.Array.{StackValue}
 use Rattle.nd_base.specs.GraphRules.{IsGraph}
-use Rattle.nd_base.specs.declared.frame.FrameName.{FrameName}
 use Rattle.nd_base.specs.declared.graph.Graph.{Graph}
 use Rattle.edge_traits.specs.Files.{Files}
 use Rattle.frame_store.specs.Sealed.{Sealed}
 use Rattle.flow_journal.specs.declared.entry.Entry.{Entry}
 use Rattle.flow_journal.specs.declared.entry.Entry.TheVariants as entry
-use Rattle.flow_journal.specs.Setting.{Setting, node, last_role}
-use Rattle.flow_journal.specs.Pasts.{Past, frame, same, comes_at}
+use Rattle.flow_journal.specs.Setting.{Setting, last_role}
+use Rattle.flow_journal.specs.Pasts.{Past}
 use Rattle.flow_journal.specs.Hands.{hand}
 use Rattle.flow_journal.specs.Following.{owed}
 use Rattle.flow_journal.specs.Histories.{is_legal, is_history, is_nothing, next}
 use Rattle.flow_journal.specs.Unsaved.{saves, standing_saves}
 use Rattle.flow_journal.proofs.Changes.{hand_laws}
 use Rattle.board_rules.specs.declared.told.Told.{Told}
-use Rattle.board_rules.specs.declared.answers.Save.{Save}
-use Rattle.board_rules.specs.declared.answers.Save.TheVariants.{Busy, NotYet, OutOfMemory, Piece}
-use Rattle.board_rules.specs.States.{BoardState, past, lends, plain, lent_to, begins, is_role_of}
+use Rattle.board_rules.specs.declared.answers.Save.TheVariants.{Piece}
+use Rattle.board_rules.specs.States.{BoardState, past, lends, lent_to, begins, is_role_of}
 use Rattle.board_rules.specs.Movers.{first_some, mover, moves_by}
 use Rattle.board_rules.specs.RunMeasures.{run_setting}
-use Rattle.board_rules.specs.Saving.{has_due, SaveGives}
+use Rattle.board_rules.specs.Saving.{SaveGives}
 use Rattle.flow_roles.specs.declared.last.Last.{Last}
 use Rattle.flow_roles.specs.Passes.{Pass, Called, saved_by_drain, only_drain_saves}
 use Rattle.flow_roles.specs.Feeder.{name_of, parts_of}
-use Rattle.flow_roles.proofs.Calls.{Moved, unmoved, moved, hand-before, role-after}
+use Rattle.flow_roles.proofs.Calls.{Moved, unmoved, moved, role-after}
 use Rattle.graph_files.specs.NodeFiles.{NodeFile, IsPlaceAfter, HasNumrecs, first_count}
-use Rattle.graph_files.specs.OpenFiles.{AllWritten, closed}
 use Rattle.flow_saver.specs.GivenBack.{given_back, written_by}
 use Rattle.flow_saver.specs.Pieces.{IsDuePiece}
-use Rattle.flow_saver.specs.Saver.{Start, IsSaving, AreSaved, AreBegunSo, IsFirstCount, saver_logs}
-use Rattle.flow_saver.proofs.Answers.{Given, piece-given, not_yet-still, busy-held, memory-never}
-use Rattle.flow_saver.proofs.Due.{OfFile, of_file, IsNext, next-piece, next-room, next-sized, next-numrecs, next-first}
+use Rattle.flow_saver.specs.Saver.{Start, IsSaving, AreSaved, IsFirstCount, saver_logs}
+use Rattle.flow_saver.proofs.Answers.{Given, piece-given}
+use Rattle.flow_saver.proofs.Due.{OfFile, of_file, IsNext, next-piece, next-room, next-sized, next-numrecs}
 use Rattle.flow_saver.proofs.Saves.{saves-stand, saves-mine}
 use Rattle.flow_saver.proofs.Sizes.{first-more, begun-more}
 

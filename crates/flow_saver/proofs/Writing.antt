@@ -1,7 +1,6 @@
 -- What a piece's write leaves, before it is given back.
-use Rattle.std.proofs.Common.{◌≡◌, ◌≢◌, ◌⊎◌, ℕ, zero, suc, ◌+◌, ◌*◌, ◌/◌, ◌^◌, ◌<◌, ◌≤◌, Bool, true, false, eqb, List, [], ◌∷◌, ◌++◌, length, map, set, get_or, refl, sym, ap, subst, ◌∙◌, arith, inl, inr, Option, Some, None}
+use Rattle.std.proofs.Common.{◌≡◌, ◌≢◌, ℕ, ◌+◌, ◌*◌, ◌/◌, ◌^◌, ◌<◌, Bool, true, false, eqb, List, [], ◌∷◌, ◌++◌, length, map, set, refl, sym, ap, subst, ◌∙◌, arith, inl, inr, Option, Some, None}
 use Rattle.std.specs.Prelude.{slice_get, if◌then◌else◌, IsSome}
-use Rattle.std.specs.List.{list_all}
 use Rattle.std.proofs.Math.Seq.{map-set_same}
 use Rattle.std.proofs.lemmas.Nat.{div-mul-add}
 use Rattle.std.proofs.lemmas.Bool.{and_parts, cases_Bool, eq-eqb, ne_eqb, eqb-true, eqb-false}
@@ -12,7 +11,7 @@ use Rattle.nd_base.specs.Array.{Array, StackValue}
 use Rattle.nd_base.specs.GraphRules.{IsGraph}
 use Rattle.nd_base.specs.declared.frame.FrameName.{FrameName}
 use Rattle.nd_base.specs.declared.graph.Graph.{Graph}
-use Rattle.edge_traits.specs.Files.{Files, file_at}
+use Rattle.edge_traits.specs.Files.{Files}
 use Rattle.frame_store.specs.Sealed.{Sealed}
 use Rattle.chain_plain.specs.Content.{content}
 use Rattle.chain_plain.specs.OneThread.{listed}
@@ -21,8 +20,7 @@ use Rattle.file_out.specs.Streams.{Stream}
 use Rattle.flow_journal.specs.declared.entry.Entry.{Entry}
 use Rattle.flow_journal.specs.declared.entry.Entry.TheVariants as entry
 use Rattle.flow_journal.specs.Setting.{Setting, last_role}
-use Rattle.flow_journal.specs.Pasts.{Past, frame, comes_at}
-use Rattle.flow_journal.specs.Hands.{hand}
+use Rattle.flow_journal.specs.Pasts.{frame, comes_at}
 use Rattle.flow_journal.specs.Histories.{is_legal}
 use Rattle.flow_journal.specs.Unsaved.{saves}
 use Rattle.run_laws.specs.Results.{contents}
@@ -35,16 +33,16 @@ use Rattle.flow_roles.specs.declared.last.Last.{Last}
 use Rattle.flow_roles.specs.Passes.{Pass, Called}
 use Rattle.flow_roles.specs.Feeder.{name_of, parts_of}
 use Rattle.flow_roles.specs.RoleEnds.{IsLent}
-use Rattle.graph_files.specs.NodeFiles.{NodeFile, AreWritten, HasNumrecs, first_count, group_file, name_of as file_name}
-use Rattle.graph_files.specs.OpenFiles.{AllWritten, AllStops, IsElsewhere, IsReopened, closed, file_nodes, with_array}
+use Rattle.graph_files.specs.NodeFiles.{NodeFile, AreWritten, HasNumrecs, first_count, group_file}
+use Rattle.graph_files.specs.OpenFiles.{AllWritten, AllStops, closed, file_nodes, with_array}
 use Rattle.graph_files.specs.OpenFileLaws.{file_nodes-apart, get-set_same, get-set_other}
 use Rattle.graph_files.specs.NodeFileLaws.{cases_eq}
 use Rattle.flow_saver.specs.GivenBack.{given_back, written_by}
 use Rattle.flow_saver.specs.Pieces.{content_of}
-use Rattle.flow_saver.specs.Saver.{Start, IsSaving, IsToGiveBack, HasUnsaved, IsTornSince, AreSaved, AreBegunSo, IsFirstCount, IsPieceOfHand, saver_logs}
-use Rattle.flow_saver.proofs.Due.{IsNext, next-first}
+use Rattle.flow_saver.specs.Saver.{Start, IsSaving, IsToGiveBack, HasUnsaved, AreSaved, AreBegunSo, IsFirstCount, IsPieceOfHand}
+use Rattle.flow_saver.proofs.Due.{next-first}
 use Rattle.flow_saver.proofs.Sizes.{first-more}
-use Rattle.flow_saver.proofs.Steps.{taken-made, taken-hand, taken-lent, taken-moves, taken-role, upcoming, place-after, given, legal}
+use Rattle.flow_saver.proofs.Steps.{taken-made, taken-hand, taken-lent, taken-moves, taken-role, upcoming, place-after, given}
 
 -- LISTS OF ARRAYS
 

@@ -1,8 +1,8 @@
 -- THE FILES OF A HISTORY: of each file node and group the file layout of the arrays that its Saves took in that order, and of each
 -- statistics node a row for each array that it emitted.
-use Rattle.std.specs.Prelude.{◌≡◌, ◌≢◌, ℕ, List, [], map, Option, None, Some, IsSome}
+use Rattle.std.specs.Prelude.{◌≡◌, ◌≢◌, ℕ, List, map, Option, None, Some}
 use Rattle.std.specs.List.{flat_map}
-use Rattle.nd_base.specs.Array.{Array, StackValue}
+use Rattle.nd_base.specs.Array.{StackValue}
 use Rattle.nd_base.specs.declared.graph.Graph.{Graph}
 use Rattle.nd_base.specs.declared.graph.Kind.{Kind}
 use Rattle.nd_base.specs.declared.graph.Kind.TheVariants.{Roi, Stats, Circular, File, Scatter}

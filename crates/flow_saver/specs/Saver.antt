@@ -1,9 +1,8 @@
 -- The role that saves: its moves, how it ends, and what its files are between two calls.
-use Rattle.std.specs.Prelude.{◌≡◌, ◌⊎◌, ℕ, ◌+◌, ◌-◌, ◌*◌, ◌/◌, ◌%◌, ◌<◌, ◌≤◌, Bool, true, false, ◌&&◌, not, ◌||◌, List, [], ◌∷◌, ◌++◌, length, map, slice_get, Option, None, Some, IsTrue, IsNone, is_none}
+use Rattle.std.specs.Prelude.{◌≡◌, ◌⊎◌, ℕ, ◌+◌, ◌*◌, ◌/◌, ◌<◌, ◌≤◌, Bool, true, false, ◌||◌, List, ◌∷◌, ◌++◌, length, map, slice_get, Option, None, Some, IsNone, is_none}
 use Rattle.std.specs.List.{list_all}
 use Rattle.nd_base.specs.Array.{Array, StackValue}
 use Rattle.nd_base.specs.Parts.{Parts}
-use Rattle.nd_base.specs.declared.frame.FrameName.{FrameName}
 use Rattle.nd_base.specs.declared.graph.Graph.{Graph}
 use Rattle.edge_traits.specs.Faults.{Rose}
 use Rattle.edge_traits.specs.Files.{Files}
@@ -18,14 +17,13 @@ use Rattle.flow_journal.specs.Puts.{puts}
 use Rattle.flow_journal.specs.Ended.{is_settled, has_left_any}
 use Rattle.flow_journal.specs.Finished.{is_finished}
 use Rattle.flow_journal.specs.Unsaved.{saves}
-use Rattle.board_rules.specs.States.{BoardState, past, begins, lent_to}
-use Rattle.board_rules.specs.RunMeasures.{run_setting}
+use Rattle.board_rules.specs.States.{past, begins, lent_to}
 use Rattle.flow_roles.specs.declared.last.Last.{Last}
 use Rattle.flow_roles.specs.declared.last.Last.TheVariants as last
 use Rattle.flow_roles.specs.Passes.{Pass}
 use Rattle.flow_roles.specs.RoleEnds.{IsLent}
 use Rattle.flow_roles.specs.Feeder.{name_of, parts_of}
-use Rattle.graph_files.specs.NodeFiles.{NodeFile, first_count}
+use Rattle.graph_files.specs.NodeFiles.{NodeFile}
 use Rattle.graph_files.specs.OpenFiles.{closed, file_nodes, AllWritten, AllStops}
 use Rattle.flow_saver.specs.GivenBack.{given_back, written_by}
 use Rattle.flow_saver.specs.declared.saving.Step.{Step}

@@ -145,9 +145,7 @@ fn save_node<R: Run, D: Desk<Frame<R>>, K: Shelf, W: Wait>(
 {
     let mut any = false;
     for _ in rt.forever() {
-        match save_one(
-            rt, alloc, desk, pass, role, shelf, stack, files, fault, at,
-        ) {
+        match save_one(rt, alloc, desk, pass, role, shelf, stack, files, fault, at) {
             Step::Nothing => return if any { Step::Wrote } else { Step::Nothing },
             Step::Wrote => any = true,
             Step::Wants(piece) => return Step::Wants(piece),
@@ -181,9 +179,7 @@ fn save_turn<R: Run, D: Desk<Frame<R>>, K: Shelf, W: Wait>(
 {
     let mut any = false;
     for at in 0..files.count() {
-        match save_node(
-            rt, alloc, desk, pass, role, shelf, stack, files, fault, at,
-        ) {
+        match save_node(rt, alloc, desk, pass, role, shelf, stack, files, fault, at) {
             Step::Nothing => {}
             Step::Wrote => any = true,
             Step::Wants(piece) => return Step::Wants(piece),

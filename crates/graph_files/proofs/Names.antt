@@ -1,5 +1,5 @@
 -- The numbers in names of files, as they are formatted.
-use Rattle.std.proofs.Common.{◌≡◌, ℕ, ◌-◌, ◌^◌, List, [], ◌++◌, false, length, ap, ◌∙◌, arith, append-nil}
+use Rattle.std.proofs.Common.{◌≡◌, ℕ, ◌-◌, ◌^◌, [], ◌++◌, false, length, ap, ◌∙◌, arith, append-nil}
 use Rattle.std.specs.Prelude.{replicate}
 use Rattle.std.specs.Fmt.{decimal, format_spec, padded_integral, char_count}
 use Rattle.graph_files.specs.OutFiles.{group_number}

@@ -1,10 +1,10 @@
 -- What a name has once a call on its file has failed.
-use Rattle.std.proofs.Common.{◌≡◌, ◌≢◌, ℕ, List, [], ◌∷◌, ◌++◌, length, take, drop, Option, None, Some, refl, sym, ap, subst, ◌∙◌, append_assoc}
+use Rattle.std.proofs.Common.{◌≡◌, ◌≢◌, ℕ, List, [], ◌∷◌, ◌++◌, take, drop, Option, None, Some, refl, sym, ap, subst, ◌∙◌, append_assoc}
 use Rattle.std.specs.List.{flat_map}
 use Rattle.std.proofs.lemmas.List.{append-nil, take-append-drop}
 use Rattle.nd_base.specs.Array.{Array}
 use Rattle.nd_base.specs.declared.attribute.FileShape.{FileShape}
-use Rattle.edge_traits.specs.Files.{Files, file_at, with_file, with_more, with_patch, HasFile, MayAppend}
+use Rattle.edge_traits.specs.Files.{Files, file_at, with_more, HasFile, MayAppend}
 use Rattle.edge_traits.specs.FileLaws.{file_at-with_file_same, file_at-with_more_same, file_at-with_patch_same}
 use Rattle.cdf_write.specs.Layout.{header, row}
 use Rattle.file_out.specs.declared.fault.SaveFault.{SaveFault}
@@ -13,7 +13,7 @@ use Rattle.file_out.specs.Saving.{IsBegun, BeginStops, AddStops}
 use Rattle.file_out.specs.Saving as saving
 use Rattle.file_out.specs.Streams.{Stream, HasRows, MayCount, begun_file, with_count}
 use Rattle.file_out.specs.StreamLaws.{begun_file-more}
-use Rattle.graph_files.specs.NodeFiles.{IsChangedAt, Same, Wrote, IsTorn, Untouched, Front, Miscounted, RowStops}
+use Rattle.graph_files.specs.NodeFiles.{IsChangedAt, Same, Wrote, IsTorn, Untouched, Front, Miscounted}
 use Rattle.graph_files.specs.NodeFileLaws.{changed-more, changed-patch}
 
 -- a row of which a front was added

@@ -1,7 +1,6 @@
 -- What a write and an end make of the files of a node.
-use Rattle.std.proofs.Common.{◌≡◌, ◌≢◌, ℕ, zero, suc, ◌+◌, ◌/◌, ◌%◌, ◌^◌, ◌<◌, ◌≤◌, Bool, true, false, ltb, List, [], ◌∷◌, ◌++◌, length, Option, None, Some, Result, Ok, Err, inl, inr, OnOk, IfErr, refl, sym, ap, subst, ◌∙◌, arith}
+use Rattle.std.proofs.Common.{◌≡◌, ℕ, ◌+◌, ◌/◌, ◌%◌, ◌^◌, ◌<◌, ◌≤◌, Bool, true, false, ltb, List, [], ◌∷◌, ◌++◌, length, Option, None, Some, Result, Ok, Err, inl, inr, OnOk, IfErr, refl, sym, ap, subst, ◌∙◌, arith}
 use Rattle.std.specs.List.{flat_map}
-use Rattle.std.specs.Option.{ForSome}
 use Rattle.std.proofs.lemmas.Bool.{ltb-true, ltb-false}
 use Rattle.std.proofs.Math.Nat.{mod-lt, div-le_self}
 use Rattle.std.proofs.lemmas.Nat.{div-add-mod'}
@@ -13,10 +12,10 @@ use Rattle.cdf_write.specs.Layout.{header, row, layout}
 use Rattle.file_out.specs.declared.fault.SaveFault.{SaveFault}
 use Rattle.file_out.specs.declared.fault.SaveFault.TheVariants.{Failed, OutOfMemory}
 use Rattle.file_out.specs.Saving.{BeginStops}
-use Rattle.file_out.specs.Streams.{Stream, HasRows, MayCount, begun_file, with_count}
+use Rattle.file_out.specs.Streams.{Stream, HasRows, MayCount, begun_file}
 use Rattle.graph_files.specs.Groups.{group_of, whole_file, HasBytes, file_of}
 use Rattle.graph_files.specs.GroupLaws.{length-group}
-use Rattle.graph_files.specs.NodeFiles.{NodeFile, IsChangedAt, Same, Wrote, IsTorn, Untouched, Front, Miscounted, IsPlaceAfter, AreWritten, AreWrittenBut, AreEnded, HasNumrecs, IsSized, IsFilled, IsHeldBack, WriteStops, EndStops, EndTorn, RowGoes, RowStops, first_count, name_of, stream_of}
+use Rattle.graph_files.specs.NodeFiles.{NodeFile, IsChangedAt, Wrote, IsTorn, Untouched, Front, Miscounted, IsPlaceAfter, AreWritten, AreWrittenBut, AreEnded, HasNumrecs, IsHeldBack, WriteStops, EndStops, EndTorn, RowGoes, RowStops, name_of, stream_of}
 use Rattle.graph_files.specs.NodeFileLaws.{open-is, open-has, none-is, empty, written-begun, written-more, written-whole, written-but, open-but, none-open, cases_eq, changed-then}
 use Rattle.graph_files.proofs.Torn.{torn-begin, torn-count, changed-begin}
 
@@ -136,8 +135,7 @@ module _ (x y : NodeFile) (g p : ℕ) (small : g < 2 ^ 64) (make : FileShape →
       pub none-stops : (fault : SaveFault) → RowStops fault f (make f.shape) y.current v u → WriteStops fault x arrays g numrecs (make x.shape) y t u
       none-stops OutOfMemory stops =
           let f_ = stream_of x g 0 numrecs in
-          let same : y ≡ record x { current = Some f_ } = node ∙ ap (λ o. record x { current = o }) (stops.0 ∙ ap Some is) in
-          (
+          let same : y ≡ record x { current = Some f_ } = node ∙ ap (λ o. record x { current = o }) (stops.0 ∙ ap Some is) in (
             subst (λ (z : NodeFile). AreWritten z arrays u) (sym same)
                 (written-begun x arrays g p t u place small h all-changed numrecs first
                 (subst (λ (w : Option Files). HasFile w (name_of x g) (begun_file x.shape numrecs [])) (sym stops.1) (subst (λ (k : Stream). HasRows v k []) is has).bytes)),

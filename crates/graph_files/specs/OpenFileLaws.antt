@@ -1,5 +1,5 @@
 -- LAWS of the files of all nodes: what a write at one of them does to all.
-use Rattle.std.proofs.Common.{◌≡◌, ◌≢◌, ◌⊎◌, ℕ, zero, suc, ◌+◌, ◌*◌, ◌/◌, ◌^◌, ◌<◌, ◌≤◌, Bool, true, false, eqb, List, [], ◌∷◌, ◌++◌, length, take, drop, set, get_or, Option, None, Some, inl, inr, refl, sym, ap, subst, ◌∙◌, arith}
+use Rattle.std.proofs.Common.{◌≡◌, ◌≢◌, ◌⊎◌, ℕ, zero, suc, ◌+◌, ◌*◌, ◌/◌, ◌^◌, ◌<◌, ◌≤◌, List, [], ◌∷◌, ◌++◌, length, take, set, get_or, Option, None, Some, inl, inr, refl, sym, ap, subst, ◌∙◌, arith}
 use Rattle.std.specs.Prelude.{slice_get, IsSome, AllPairs, codes, if◌then◌else◌}
 use Rattle.std.proofs.lemmas.Option.{get_or_from_slice_get, slice_get_within}
 use Rattle.nd_base.specs.Array.{StackValue}
@@ -22,7 +22,7 @@ use Rattle.file_out.specs.declared.fault.SaveFault.TheVariants.{Failed, OutOfMem
 use Rattle.file_out.specs.Streams.{Stream}
 use Rattle.graph_files.specs.Groups.{group_of, whole_file, file_of, HasBytes}
 use Rattle.graph_files.specs.GroupLaws.{group-is, group-more, group-other}
-use Rattle.graph_files.specs.NodeFiles.{NodeFile, node_file, IsChangedAt, Same, Wrote, IsTorn, IsPlaceAfter, AreWritten, AreWrittenBut, IsHeldBack, WriteStops, name_of, open_at, group_file}
+use Rattle.graph_files.specs.NodeFiles.{NodeFile, node_file, IsChangedAt, IsPlaceAfter, AreWritten, AreWrittenBut, IsHeldBack, WriteStops, name_of, open_at, group_file}
 use Rattle.graph_files.specs.NodeFileLaws.{cases_eq, open-elsewhere, open-here, changed-HasBytes, changed-file_at, whole-some}
 use Rattle.graph_files.specs.OpenFiles.{kind_node, nodes_from, file_nodes, AreApart, IsElsewhere, AllWritten, AllWrittenBut, AllStops, with_array}
 
@@ -119,9 +119,11 @@ file_nodes-apart g s prefix sound j k x y hx hy ne =
     let b = of_node g s prefix 1 g.nodes k y hy in
     let nodes : x.node ≢ y.node = nodes-apart g s prefix 1 g.nodes j k x y hx hy ne in
     let places : a.place ≢ b.place = λ e. nodes (a.node ∙ ap (λ (n : ℕ). 1 + n) e ∙ sym b.node) in
-    let names : a.rule.name ≢ b.rule.name = rules-apart g.nodes sound.names a.place b.place a.rule b.rule a.at b.at places in
-    (nodes, λ i h hi hh e. names (names-differ prefix a.rule.name b.rule.name i h hi hh
-    (ap (λ (t : List ℕ). t ++ group_number i ++ codes ".nc") (sym a.stem) ∙ e ∙ ap (λ (t : List ℕ). t ++ group_number h ++ codes ".nc") b.stem)).0)
+    let names : a.rule.name ≢ b.rule.name = rules-apart g.nodes sound.names a.place b.place a.rule b.rule a.at b.at places in (
+      nodes,
+      λ i h hi hh e. names (names-differ prefix a.rule.name b.rule.name i h hi hh
+          (ap (λ (t : List ℕ). t ++ group_number i ++ codes ".nc") (sym a.stem) ∙ e ∙ ap (λ (t : List ℕ). t ++ group_number h ++ codes ".nc") b.stem)).0,
+    )
 
 -- GROUPS FAR OFF
 

@@ -60,9 +60,7 @@ impl OpenFiles {
             if let Kind::File(file) = &rule.kind {
                 let node = place as u32 + 1;
                 let name = rule.name.text();
-                nodes.push(NodeFiles::new(
-                    alloc, prefix, plan, stack, node, name, file,
-                )?)?;
+                nodes.push(NodeFiles::new(alloc, prefix, plan, stack, node, name, file)?)?;
             }
         }
         Ok(OpenFiles { nodes })

@@ -1,14 +1,13 @@
-use Rattle.std.proofs.Common.{◌≡◌, ℕ, List, Option, Some, sym, ap, ◌∙◌, subst, refl}
+use Rattle.std.proofs.Common.{◌≡◌, ℕ, sym, ◌∙◌, subst}
 use Rattle.std.specs.Prelude.{slice_get}
 use Rattle.std.specs.Option.{IfSome}
 use Rattle.std.proofs.lemmas.Option.{same_Some}
 use Rattle.nd_base.specs.Array.{Array, StackValue}
 use Rattle.nd_base.specs.Stacks.{head_of}
-use Rattle.edge_traits.specs.Files.{Files}
-use Rattle.graph_files.specs.NodeFiles.{NodeFile, first_count}
+use Rattle.graph_files.specs.NodeFiles.{first_count}
 use Rattle.graph_files.specs.OpenFiles.{AllWritten, AllStops, with_array}
 use Rattle.graph_files.proofs.Writes.{on-ok, if-err}
-use Rattle.flow_saver.proofs.Rows.{IsPieceRow, piece-row}
+use Rattle.flow_saver.proofs.Rows.{piece-row}
 use Rattle.flow_saver.proofs.piece.write_piece.Goals as goal
 
 pub write-requires-clause-ready : goal.write-requires-clause-ready

@@ -1,5 +1,4 @@
-use Rattle.std.proofs.Common.{◌≡◌, Option, sym, ap, subst, refl, ◌∙◌}
-use Rattle.nd_base.specs.Parts.{Parts}
+use Rattle.std.proofs.Common.{sym}
 use Rattle.flow_saver.proofs.Giving.{never-refused, given-back}
 use Rattle.flow_saver.proofs.saving.give_back.Goals as goal
 

@@ -1,4 +1,4 @@
-use Rattle.std.proofs.Common.{◌≡◌, Bool, true, false, sym, ap, subst, refl, ◌∙◌}
+use Rattle.std.proofs.Common.{Bool, sym, subst}
 use Rattle.flow_saver.specs.Saver.{IsSaving, HasUnsaved}
 use Rattle.flow_saver.proofs.SaveOne.{one-node, one-busy, one-nothing, one-due, one-skipped, one-count, one-wrote, one-tore, one-wanted}
 use Rattle.flow_saver.proofs.saving.save_one.Goals as goal
@@ -141,4 +141,3 @@ returns-in-Err-OutOfMemory-clause-count g c =
     let p = g.D.Desk.knows c.args.pass.now in
     let q = g.D.Desk.knows c.save.new.pass in
     one-count gr stack c.requires.graph c.requires.saving.0 c.args.role c.requires.role p q xs c.args.fault.now held _ c.requires.saving.1 c.args.at c.node-node.result c.node-node.ensures c.requires.at c.in-Piece.input c.in-Piece.group c.in-Piece.place c.in-Piece.of c.in-Piece.ensures.called c.samples-content.result.now c.samples-content.ensures.content c.if-fault.false c.write_piece.new.files c.write_piece.ensures.nodes (g.K.Shelf.held c.write_piece.new.shelf)
-

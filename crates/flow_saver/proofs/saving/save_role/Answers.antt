@@ -1,8 +1,7 @@
-use Rattle.std.proofs.Common.{◌≡◌, ℕ, Bool, sym, ap, subst, refl, ◌∙◌, Option, None}
+use Rattle.std.proofs.Common.{sym, subst, refl, ◌∙◌, Option, None}
 use Rattle.edge_traits.specs.Files.{Files}
 use Rattle.flow_journal.specs.declared.entry.Entry.{Entry}
 use Rattle.board_rules.specs.States.{past, lent_to}
-use Rattle.graph_files.specs.OpenFiles.{file_nodes}
 use Rattle.flow_saver.specs.Saver.{AreSaved, IsPieceOfHand}
 use Rattle.flow_saver.proofs.Steps.{saving-still}
 use Rattle.flow_saver.proofs.Beginning.{fresh-saving}
@@ -143,4 +142,3 @@ returns-in-Wants-clause-fault g c =
     let inv = c.loop.invariant in
     let still = saving-still gr stack inv.start c.args.role _ _ (g.D.Desk.knows c.loop.pass) (g.D.Desk.knows c.progress-progress.new.pass) c.loop.files c.loop.fault (g.K.Shelf.held c.loop.shelf) inv.saving c.progress-progress.ensures.called c.progress-progress.ensures.called.answer.1 in
     counts-then c.loop.fault c.save_turn.new.fault _ (g.K.Shelf.faults c.loop.shelf) _ inv.cause c.save_turn.ensures.cause
-

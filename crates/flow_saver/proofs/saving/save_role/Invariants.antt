@@ -11,5 +11,5 @@ invariant-loop g l =
       began : start.held ≡ g.K.Shelf.held l.fn.shelf;
       named : file_nodes g.R.Run.graph g.R.Run.stack start.prefix ≡ l.fn.files;
       saving : IsSaving g.R.Run.graph g.R.Run.stack start l.role (g.D.Desk.knows l.pass) l.files l.fault (g.K.Shelf.held l.shelf);
-      cause : CountsSo l.fault (g.K.Shelf.faults l.fn.shelf) (g.K.Shelf.faults l.shelf)
+      cause : CountsSo l.fault (g.K.Shelf.faults l.fn.shelf) (g.K.Shelf.faults l.shelf);
     }

@@ -1,9 +1,6 @@
-use Rattle.std.proofs.Common.{sym, subst, refl, ◌≡◌, ◌+◌, ◌++◌, ◌∷◌, []}
+use Rattle.std.proofs.Common.{sym, subst, ◌≡◌, ◌+◌, ◌++◌, ◌∷◌, []}
 use Rattle.nd_base.specs.Shapes.{array_of}
 use Rattle.file_out.specs.declared.fault.SaveFault.{SaveFault}
-use Rattle.file_out.specs.declared.fault.SaveFault.TheVariants.{Failed}
-use Rattle.file_out.specs.Saving.{AddStops}
-use Rattle.file_out.specs.Streams.{Stream}
 use Rattle.file_out.specs.StreamLaws.{HasRange-HasRows}
 use Rattle.graph_files.specs.NodeFiles.{RowStops}
 use Rattle.graph_files.specs.NodeFileLaws.{changed-then, changed-more}

@@ -1,9 +1,9 @@
-use Rattle.std.proofs.Common.{◌≡◌, ◌≤◌, Some, None, sym, ap, subst, refl, rules}
+use Rattle.std.proofs.Common.{◌≡◌, ◌≤◌, Some, subst, refl, rules}
 use Rattle.std.proofs.lemmas.Result.{err_from_is_err_and}
 use Rattle.file_out.specs.StreamLaws.{HasRange-HasRows}
 use Rattle.graph_files.specs.NodeFiles.{IsFilled, Same}
 use Rattle.graph_files.proofs.Torn.{changed-count, changed-may}
-use Rattle.graph_files.proofs.Writes.{end-none, end-some, end-stops, end-rows, end-changed}
+use Rattle.graph_files.proofs.Writes.{end-some, end-stops, end-rows, end-changed}
 use Rattle.graph_files.proofs.node_files.NodeFiles.end.Goals as goal
 
 pub end-requires-clause-stands : goal.end-requires-clause-stands

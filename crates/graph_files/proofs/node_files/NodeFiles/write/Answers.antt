@@ -1,4 +1,4 @@
-use Rattle.std.proofs.Common.{◌≡◌, ◌+◌, ◌<◌, ◌^◌, ◌++◌, ◌∷◌, [], Some, None, sym, ap, subst, refl, ◌∙◌, arith, rules, ltb, List}
+use Rattle.std.proofs.Common.{◌≡◌, ◌+◌, ◌<◌, ◌^◌, [], Some, None, sym, ap, subst, refl, ◌∙◌, arith, rules, ltb}
 use Rattle.std.proofs.lemmas.Result.{err_from_is_err_and}
 use Rattle.nd_base.specs.Array.{Array}
 use Rattle.nd_base.specs.Shapes.{array_of}

@@ -1,10 +1,9 @@
-use Rattle.std.proofs.Common.{◌≡◌, ℕ, suc, ◌+◌, ◌≤◌, ◌<◌, ◌++◌, Some, [], length, drop, get_or, sym, ap, subst, refl, ◌∙◌, arith, append-nil}
+use Rattle.std.proofs.Common.{◌≡◌, suc, ◌+◌, ◌≤◌, ◌<◌, ◌++◌, Some, [], length, drop, get_or, sym, ap, subst, refl, ◌∙◌, arith, append-nil}
 use Rattle.std.specs.Prelude.{slice_get, List}
 use Rattle.std.proofs.lemmas.Option.{slice_get_read}
 use Rattle.std.proofs.lemmas.List.{drop_all}
 use Rattle.nd_base.specs.declared.graph.NodeRule.{NodeRule}
 use Rattle.nd_base.specs.GraphRules.{rule_at}
-use Rattle.graph_files.specs.NodeFiles.{NodeFile}
 use Rattle.graph_files.specs.NodeShapes.{longest_fits}
 use Rattle.graph_files.specs.OpenFiles.{AreApart, nodes_from, file_nodes}
 use Rattle.graph_files.specs.OpenFileLaws.{file_nodes-apart}

@@ -1,10 +1,8 @@
-use Rattle.std.proofs.Common.{◌≡◌, ℕ, ◌+◌, ◌<◌, ◌^◌, ◌++◌, ◌∷◌, [], List, Some, None, set, get_or, length, sym, ap, subst, refl, ◌∙◌, arith}
+use Rattle.std.proofs.Common.{◌≡◌, ℕ, ◌<◌, ◌^◌, ◌++◌, ◌∷◌, [], List, Some, None, set, get_or, length, sym, ap, subst, refl, ◌∙◌, arith}
 use Rattle.std.specs.Prelude.{slice_get, Option}
 use Rattle.std.proofs.lemmas.Option.{slice_get_read, same_Some}
 use Rattle.std.proofs.lemmas.List.{length-append}
-use Rattle.nd_base.specs.Array.{Array}
 use Rattle.nd_base.specs.Shapes.{array_of}
-use Rattle.file_out.specs.declared.fault.SaveFault.{SaveFault}
 use Rattle.file_out.specs.Streams.{Stream}
 use Rattle.graph_files.specs.NodeFiles.{NodeFile, IsPlaceAfter, HasNumrecs, AreWritten, IsChangedAt, WriteStops, first_count, name_of}
 use Rattle.graph_files.specs.OpenFiles.{AreApart, AllWritten, AllStops, with_array}
