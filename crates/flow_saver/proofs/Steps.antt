@@ -111,6 +111,14 @@ saving-still g stack start r gives answered p q xs fault held st c still =
           (subst (λ (b : BoardState). AreSaved g stack start.held (past p.made) (past b) xs fault held) (sym still) saved);
     }
 
+-- what was given back is what the saves of the log took
+pub all-given : (s : Setting) (gives : BoardState → BoardState → Type 0) (answered : Last) (p q : Pass) (r : ℕ) → p.role ≡ r → r ≡ last_role s → Called s gives answered p q
+    → ((v : ℕ) → saves v (past q.made) ≡ given_back v (past q.made)) → (v : ℕ) → standing_saves v (past q.seen) ≡ given_back v (past q.made)
+all-given s gives answered p q r is drain c alike v =
+    let legal = (and_parts (is_legal s (past q.seen)) _ c.legal).0 in
+    let mine : moves_by (last_role s) q.seen ≡ q.made = subst (λ (k : ℕ). moves_by k q.seen ≡ q.made) (is ∙ drain) c.exact in
+    saves-stand s v (past q.seen) legal c.drained ∙ saves-mine s v q.seen c.drained ∙ ap (λ (b : BoardState). saves v (past b)) mine ∙ alike v
+
 -- A PIECE
 
 module _ (g : Graph) (stack : StackValue) (sound : IsGraph g) (start : Start) (r : ℕ) (drain : r ≡ last_role (run_setting g stack)) (p q : Pass) (xs : List NodeFile) (fault : Bool) (held : Option Files) (answered : Last)

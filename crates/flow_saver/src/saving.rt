@@ -1,16 +1,18 @@
 //! The role that saves.
 
-ghost use Rattle.std.specs.Prelude.{◌≡◌, ◌<◌, ℕ, List, Option, true, length, map, IsTrue, IsNone};
+ghost use Rattle.std.specs.Prelude.{◌≡◌, ◌<◌, ℕ, List, Option, true, false, length, map, IsTrue, IsNone};
 ghost use Rattle.std.specs.List.{list_all};
 ghost use Rattle.nd_base.specs.GraphRules.{IsGraph};
 ghost use Rattle.edge_traits.specs.Files.{Files};
 ghost use Rattle.nd_stack.specs.KeptStacks.{IsKeptStack};
 ghost use Rattle.flow_journal.specs.Setting.{last_role};
 ghost use Rattle.flow_journal.specs.Hands.{hand};
+ghost use Rattle.flow_journal.specs.Unsaved.{standing_saves};
 ghost use Rattle.board_rules.specs.States.{past, lent_to};
 ghost use Rattle.board_rules.specs.RunMeasures.{run_setting};
 ghost use Rattle.flow_roles.specs.RoleMoves.{IsFresh};
 ghost use Rattle.graph_files.specs.OpenFiles.{closed, file_nodes};
+ghost use Rattle.flow_saver.specs.GivenBack.{given_back};
 ghost use Rattle.flow_saver.specs.Saver.{saver_logs, saver_ends, IsPieceOfHand, AreSaved, CountsSo, Start, IsSaving, IsToGiveBack, StepLeaves, CountsStep};
 
 use crate::write_piece;
@@ -227,6 +229,7 @@ pub fn save_role<R: Run, D: Desk<Frame<R>>, K: Shelf, N: Watch, G: Gate, W: Wait
     ensures last { IsTrue (saver_ends (run_setting R.graph R.stack) (D.knows result.pass).last (past (D.knows result.pass).seen) result.want) }
     ensures left { IsPieceOfHand (lent_to role (D.knows result.pass).made) (hand role (past (D.knows result.pass).made)) result.left.input × IsNone result.left.made × IsNone result.left.blank }
     ensures nodes { map closed result.files ≡ files }
+    ensures history { result.want ≡ false → (v : ℕ) → standing_saves v (past (D.knows result.pass).seen) ≡ given_back v (past (D.knows result.pass).made) }
     ensures saved { AreSaved R.graph R.stack (K.held shelf.old) (past (D.knows result.pass).made) (past (D.knows result.pass).seen) result.files result.fault (K.held shelf.new) }
     ensures fault { CountsSo result.fault (K.faults shelf.old) (K.faults shelf.new) }
 {

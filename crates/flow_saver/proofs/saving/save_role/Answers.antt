@@ -1,9 +1,10 @@
 use Rattle.std.proofs.Common.{sym, subst, refl, ◌∙◌, Option, None}
 use Rattle.edge_traits.specs.Files.{Files}
 use Rattle.flow_journal.specs.declared.entry.Entry.{Entry}
+use Rattle.board_rules.specs.RunMeasures.{run_setting}
 use Rattle.board_rules.specs.States.{past, lent_to}
 use Rattle.flow_saver.specs.Saver.{AreSaved, IsPieceOfHand}
-use Rattle.flow_saver.proofs.Steps.{saving-still}
+use Rattle.flow_saver.proofs.Steps.{saving-still, all-given}
 use Rattle.flow_saver.proofs.Beginning.{fresh-saving}
 use Rattle.flow_saver.proofs.Counting.{counts-then}
 use Rattle.flow_saver.proofs.saving.save_role.Goals as goal
@@ -35,6 +36,14 @@ returns-then-progress-clause-left g c =
     let inv = c.loop.invariant in
     let still = saving-still gr stack inv.start c.args.role _ _ (g.D.Desk.knows c.loop.pass) (g.D.Desk.knows c.progress-progress.new.pass) c.loop.files c.loop.fault (g.K.Shelf.held c.loop.shelf) inv.saving c.progress-progress.ensures.called c.progress-progress.ensures.called.answer.1 in
     (subst (λ (e : Option Entry). IsPieceOfHand (lent_to c.args.role (g.D.Desk.knows c.progress-progress.new.pass).made) e None) (sym still.free) refl, refl, refl)
+
+pub returns-then-progress-clause-history : goal.returns-then-progress-clause-history
+returns-then-progress-clause-history g c =
+    let gr = g.R.Run.graph in
+    let stack = g.R.Run.stack in
+    let inv = c.loop.invariant in
+    let still = saving-still gr stack inv.start c.args.role _ _ (g.D.Desk.knows c.loop.pass) (g.D.Desk.knows c.progress-progress.new.pass) c.loop.files c.loop.fault (g.K.Shelf.held c.loop.shelf) inv.saving c.progress-progress.ensures.called c.progress-progress.ensures.called.answer.1 in
+    λ done. all-given (run_setting gr stack) _ _ (g.D.Desk.knows c.loop.pass) (g.D.Desk.knows c.progress-progress.new.pass) c.args.role inv.saving.role c.requires.role c.progress-progress.ensures.called still.alike
 
 pub returns-then-progress-clause-nodes : goal.returns-then-progress-clause-nodes
 returns-then-progress-clause-nodes g c =
