@@ -201,7 +201,7 @@ module _ (g : Graph) (stack : StackValue) (sound : IsGraph g) (start : Start) (r
     tore fine stands stops =
         let saved = subst (λ (b : Bool). AreSaved g stack start.held (past p.made) (past p.seen) xs b held) fine st.saved in
         to-give-back ys true stands nodes-kept
-        (record { later = back ∷ t.entry ∷ []; front = past p.made; whole = refl; files = xs; then_held = held; written = saved.0; node = x; group = group; numrecs = first_count x.late of; array = a; stops = stops })
+        (record { later = back ∷ t.entry ∷ []; front = past p.made; whole = refl; files = xs; then_held = held; written = saved.0; name = input.name; holds = holds; node = x; listed = (k, at); group = group; group_is = (upcoming g stack sound start r drain p q xs fault held answered st k x at input group place of c).group_is; numrecs = first_count x.late of; array = a; stops = stops })
 
     -- memory was wanting
     pub wanted : fault ≡ false → (stands : Option Files) → AllStops OutOfMemory start.held x ys were group (first_count x.late of) a held stands → HasUnsaved g stack start r q ys false stands input
@@ -224,4 +224,4 @@ module _ (g : Graph) (stack : StackValue) (sound : IsGraph g) (start : Start) (r
   skipped torn =
       let was = subst (λ (b : Bool). AreSaved g stack start.held (past p.made) (past p.seen) xs b held) torn st.saved in
       to-give-back xs true held st.nodes
-      (record { later = back ∷ t.entry ∷ was.later; front = was.front; whole = ap (λ P. back ∷ t.entry ∷ P) was.whole; files = was.files; then_held = was.then_held; written = was.written; node = was.node; group = was.group; numrecs = was.numrecs; array = was.array; stops = was.stops })
+      (record { later = back ∷ t.entry ∷ was.later; front = was.front; whole = ap (λ P. back ∷ t.entry ∷ P) was.whole; files = was.files; then_held = was.then_held; written = was.written; name = was.name; holds = was.holds; node = was.node; listed = was.listed; group = was.group; group_is = was.group_is; numrecs = was.numrecs; array = was.array; stops = was.stops })

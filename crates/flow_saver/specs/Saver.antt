@@ -3,6 +3,7 @@ use Rattle.std.specs.Prelude.{◌≡◌, ◌⊎◌, ℕ, ◌+◌, ◌*◌, ◌/�
 use Rattle.std.specs.List.{list_all}
 use Rattle.nd_base.specs.Array.{Array, StackValue}
 use Rattle.nd_base.specs.Parts.{Parts}
+use Rattle.nd_base.specs.declared.frame.FrameName.{FrameName}
 use Rattle.nd_base.specs.declared.graph.Graph.{Graph}
 use Rattle.edge_traits.specs.Faults.{Rose}
 use Rattle.edge_traits.specs.Files.{Files}
@@ -26,6 +27,7 @@ use Rattle.flow_roles.specs.Feeder.{name_of, parts_of}
 use Rattle.graph_files.specs.NodeFiles.{NodeFile}
 use Rattle.graph_files.specs.OpenFiles.{closed, file_nodes, AllWritten, AllStops}
 use Rattle.flow_saver.specs.GivenBack.{given_back, written_by}
+use Rattle.flow_saver.specs.Pieces.{content_of}
 use Rattle.flow_saver.specs.declared.saving.Step.{Step}
 use Rattle.flow_saver.specs.declared.saving.Step.TheVariants.{Nothing, Wrote, Wants}
 
@@ -70,10 +72,15 @@ pub record IsTornSince (g : Graph) (stack : StackValue) (before : Option Files) 
   pub files : List NodeFile
   pub then_held : Option Files
   pub written : AllWritten before files (written_by g stack front) then_held
-  pub node : NodeFile
-  pub group : ℕ
-  pub numrecs : Option ℕ
+  -- the piece, and the group that it was to go to
+  pub name : FrameName
   pub array : Array
+  pub holds : content_of g stack name ≡ Some array
+  pub node : NodeFile
+  pub listed : (k : ℕ) × (slice_get files k ≡ Some node)
+  pub group : ℕ
+  pub group_is : group ≡ length (written_by g stack front node.node) / node.count
+  pub numrecs : Option ℕ
   pub stops : AllStops Failed before node ys (written_by g stack front) group numrecs array then_held held
 
 -- the files of what was given back after P, or of what was before the shelf failed
