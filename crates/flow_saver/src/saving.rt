@@ -1,6 +1,6 @@
 //! The role that saves.
 
-ghost use Rattle.std.specs.Prelude.{◌≡◌, ◌<◌, ℕ, List, Option, true, false, length, map, IsTrue, IsNone};
+ghost use Rattle.std.specs.Prelude.{◌≡◌, ◌<◌, ℕ, List, Option, true, false, length, map, is_some, IsTrue, IsNone};
 ghost use Rattle.std.specs.List.{list_all};
 ghost use Rattle.nd_base.specs.GraphRules.{IsGraph};
 ghost use Rattle.edge_traits.specs.Files.{Files};
@@ -228,6 +228,7 @@ pub fn save_role<R: Run, D: Desk<Frame<R>>, K: Shelf, N: Watch, G: Gate, W: Wait
     ensures moves { list_all saver_logs (past (D.knows result.pass).made) ≡ true }
     ensures last { IsTrue (saver_ends (run_setting R.graph R.stack) (D.knows result.pass).last (past (D.knows result.pass).seen) result.want) }
     ensures left { IsPieceOfHand (lent_to role (D.knows result.pass).made) (hand role (past (D.knows result.pass).made)) result.left.input × IsNone result.left.made × IsNone result.left.blank }
+    ensures wants { result.want ≡ is_some result.left.input }
     ensures nodes { map closed result.files ≡ files }
     ensures history { result.want ≡ false → (v : ℕ) → standing_saves v (past (D.knows result.pass).seen) ≡ given_back v (past (D.knows result.pass).made) }
     ensures saved { AreSaved R.graph R.stack (K.held shelf.old) (past (D.knows result.pass).made) (past (D.knows result.pass).seen) result.files result.fault (K.held shelf.new) }
