@@ -1,6 +1,6 @@
 //! The histogram of a piece.
 
-ghost use Rattle.std.specs.Prelude.{◌≡◌, ◌≢◌, ◌+◌, ◌/◌, ◌<◌, ◌≤◌, ◌^◌, ◌≤ℤ◌, ◌&&◌, [], int_lt, length, IfOk};
+ghost use Rattle.std.specs.Prelude.{◌≡◌, ◌≢◌, ◌+◌, ◌/◌, ◌<◌, ◌≤◌, ◌^◌, ◌≤ℤ◌, ◌-ℤ◌, ◌&&◌, [], int_lt, length, unsigned_abs, IfOk};
 ghost use Rattle.nd_base.specs.GraphRules.{IsStats};
 ghost use Rattle.nd_base.specs.Samples.{width, samples_of};
 ghost use Rattle.nd_base.specs.Shapes.{most_samples};
@@ -21,7 +21,8 @@ pub(crate) fn list_bins(
     count: usize,
 ) -> Result<Vec<u16>, OutOfMemory>
     requires { IsStats rule.now }
-    ensures { IfOk result (λ bins. AreBins rule.now bins.items) }
+    ensures bins { IfOk result (λ bins. AreBins rule.now bins.items) }
+    ensures size { IfOk result (λ bins. rule.now.hist_size ≢ 0 → unsigned_abs (rule.now.hist_hi -ℤ rule.now.hist_lo) < count / 2 → length bins.items ≡ unsigned_abs (rule.now.hist_hi -ℤ rule.now.hist_lo) + 1) }
 {
     let mut bins = Vec::new(alloc);
     if rule.hist_size == 0 {
