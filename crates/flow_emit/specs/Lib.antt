@@ -1,0 +1,10 @@
+pub mod Having
+pub mod RunRules
+pub mod NodeStates
+pub mod RoleStates
+pub mod Facts
+pub mod FrameBlocks
+pub mod Courses
+pub mod Emissions
+pub mod Starts
+pub mod Puts

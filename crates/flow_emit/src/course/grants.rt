@@ -1,0 +1,142 @@
+//! What the pool grants.
+
+ghost use Rattle.std.specs.Prelude.{◌≡◌, ◌≢◌, ◌⊎◌, ◌≤◌, ◌<◌, ◌∷◌, ◌&&◌, [], true, false, drop, length, slice_get, OnOk, OnErr, Some, None};
+ghost use Rattle.pool_ledger.specs.Grants.{Granted};
+ghost use Rattle.pool_ledger.specs.Ledger.{answered, after, grant_for};
+ghost use Rattle.pool_account.specs.Account.{all_named};
+ghost use Rattle.flow_journal.specs.declared.entry.Entry.TheVariants.{Load, TakeBlock};
+ghost use Rattle.flow_journal.specs.Setting.{is_maker, is_node, last_role};
+ghost use Rattle.flow_journal.specs.Accounts.{held, grant as granted_by};
+ghost use Rattle.flow_journal.specs.Offered.{next_index};
+ghost use Rattle.flow_journal.specs.Queued.{queued};
+ghost use Rattle.flow_journal.specs.FirstEntries.{is_next};
+ghost use Rattle.flow_journal.specs.Histories.{is_history};
+ghost use Rattle.board_rules.specs.States.{past, plain, lends};
+ghost use Rattle.board_rules.specs.Moving.{moved, moved_at};
+ghost use Rattle.board_rules.specs.Feeding.{load_refusal};
+ghost use Rattle.board_rules.specs.Working.{take_refusal};
+ghost use Rattle.board_rules.specs.RunMeasures.{run_setting};
+
+use crate::{Block, Course, Hand};
+use flow_journal::Entry;
+use nd_base::{FrameName, Held, OutOfMemory};
+use pool_ledger::{Grant, Pool, Refused};
+use std::alloc::Global;
+
+/// Names all blocks that were given up.
+fn name_all(pool: &mut Pool)
+    ensures { pool.new ≡ all_named pool.old }
+{
+    while pool.given_next().is_some() {}
+}
+
+/// Takes what the pool grants for so many bytes. The blocks that it gives up are named from then on.
+fn take_grant(pool: &mut Pool, alloc: Global, need: u32, grant: Grant) -> Result<(), OutOfMemory>
+    requires some { need ≢ 0 }
+    requires few { length pool.old.known < 4294967295 }
+    requires granted { grant_for need pool.old ≡ Granted grant.block grant.size grant.fresh grant.given_up }
+    ensures taken { OnOk result (all_named pool.new ≡ record (all_named (after (all_named pool.old) (Granted grant.block grant.size grant.fresh grant.given_up))) { room = pool.new.room }) }
+    ensures refused { OnErr result ((pool.new ≡ pool.old) × (grant.fresh ≡ true)) }
+{
+    if grant.fresh {
+        pool.make_room(alloc)?;
+    }
+    name_all(pool);
+    let Ok(_) = pool.ask(need) else {
+        unreachable!()
+    };
+    Ok(())
+}
+
+impl<F: Held> Course<F> {
+    /// What the pool would answer to the driver, which is 0, or to a node that makes arrays.
+    pub fn peek(&self, node: u32) -> Result<Grant, Refused>
+        requires still { self.now.transit ≡ [] }
+        requires maker { (node ≡ 0) ⊎ (is_maker (run_setting F.Of.graph F.Of.stack) node ≡ true) }
+        ensures { result ≡ answered (held (run_setting F.Of.graph F.Of.stack) (past self.now.told))
+            (granted_by (run_setting F.Of.graph F.Of.stack) (past self.now.told) ((run_setting F.Of.graph F.Of.stack).need node)) }
+    {
+        self.pool.peek(self.need(node))
+    }
+
+    /// The bytes of an array of the driver, which is 0, or of a node that makes arrays.
+    fn need(&self, node: u32) -> u32
+        requires { (node ≡ 0) ⊎ (is_maker (run_setting F.Of.graph F.Of.stack) node ≡ true) }
+        ensures { result ≡ (run_setting F.Of.graph F.Of.stack).need node }
+    {
+        if node == 0 {
+            return self.rules.need;
+        }
+        self.rules.nodes.as_slice()[node as usize - 1].need
+    }
+
+    /// The next block that was given up for a grant, the largest first.
+    pub fn given_next(&mut self) -> Option<u32>
+        ensures { self.new ≡ self.old }
+    {
+        self.pool.given_next()
+    }
+
+    /// The next array of the queue of a node that makes arrays goes out as a job, of which this is the part, with the block that the pool
+    /// grants. With `regrown` the storage of a block that isn't fresh was made again.
+    ///
+    /// # Errors
+    ///
+    /// Only for want of memory for a fresh block. Then nothing changes.
+    pub fn take_block(
+        &mut self,
+        alloc: Global,
+        role: u32,
+        node: u32,
+        part: &F,
+        grant: Grant,
+        regrown: bool,
+    ) -> Result<(), OutOfMemory>
+        requires still { self.old.transit ≡ [] }
+        requires role { role ≤ last_role (run_setting F.Of.graph F.Of.stack) }
+        requires node { is_node (run_setting F.Of.graph F.Of.stack) node ≡ true }
+        requires history { is_history (run_setting F.Of.graph F.Of.stack) (past self.old.told) ≡ true }
+        requires allowed { take_refusal {F = F} {B = F.Blank} {O = F.Of} (run_setting F.Of.graph F.Of.stack) role node (past self.old.told) ≡ None }
+        requires makes { is_maker (run_setting F.Of.graph F.Of.stack) node ≡ true }
+        requires granted { granted_by (run_setting F.Of.graph F.Of.stack) (past self.old.told) ((run_setting F.Of.graph F.Of.stack).need node) ≡ Granted grant.block grant.size grant.fresh grant.given_up }
+        requires stale { (regrown && grant.fresh) ≡ false }
+        requires next { is_next (F.name_of part.now) (queued node (past self.old.told)) ≡ true }
+        ensures taken { OnOk result (self.new ≡ record self.old {
+          told = moved (run_setting F.Of.graph F.Of.stack)
+              (lends (TakeBlock grant.fresh regrown role node (F.name_of part.now).maker (F.name_of part.now).index grant.block grant.size grant.given_up) (F.parts part.now)) self.old.told;
+        }) }
+        ensures refused { OnErr result ((self.new ≡ self.old) × (grant.fresh ≡ true)) }
+    {
+        let place = node as usize - 1;
+        let need = self.rules.nodes.as_slice()[place].need;
+        take_grant(&mut self.pool, alloc, need, grant)?;
+        let name = part.name();
+        let FrameName { maker, index } = name;
+        let frames = self.rules.ids.as_slice().len();
+        self.blocks[node as usize * frames + index as usize] = grant.block;
+        let state = &mut self.nodes[place];
+        let _ = state.inbox.pop();
+        state.jobs += 1;
+        self.roles[role as usize].hand = Hand::Job {
+            node,
+            name,
+            block: Some(Block {
+                number: grant.block,
+                size: grant.size,
+            }),
+        };
+        let entry = Entry::TakeBlock {
+            fresh: grant.fresh,
+            regrown,
+            role,
+            node,
+            maker,
+            index,
+            block: grant.block,
+            size: grant.size,
+            given: grant.given_up,
+        };
+        self.log.push_lent(entry, part);
+        Ok(())
+    }
+}

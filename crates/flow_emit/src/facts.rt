@@ -1,0 +1,21 @@
+//! The other facts of a log that are kept.
+
+/// What stands after the entries so far, besides nodes, roles and blocks.
+#[derive(Clone, Copy, Debug, PartialEq, Eq)]
+pub struct Facts {
+    /// How many frames were offered.
+    pub offered: u32,
+    /// A frame is loaded and not issued yet.
+    pub loaded: bool,
+    pub closed: bool,
+    /// Some role has left.
+    pub left: bool,
+    /// The tick that is kept.
+    pub tick: u64,
+    /// How many arrays came to nodes.
+    pub came: u64,
+    /// How many of them a node dropped.
+    pub dropped: u64,
+    /// How many pieces came back.
+    pub saved: u64,
+}
