@@ -23,3 +23,4 @@ pub mod Handed
 pub mod Putting
 pub mod RuleFound
 pub mod PutMoves
+pub mod Looking

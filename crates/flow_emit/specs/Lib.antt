@@ -8,3 +8,4 @@ pub mod Courses
 pub mod Emissions
 pub mod Starts
 pub mod Puts
+pub mod Looks

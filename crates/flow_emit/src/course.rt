@@ -9,6 +9,7 @@ ghost use Rattle.flow_journal.specs.Accounts.{block_of};
 
 mod emission;
 mod grants;
+mod looks;
 mod moves;
 mod puts;
 mod reclaims;
