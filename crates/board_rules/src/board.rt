@@ -1,8 +1,9 @@
 //! The calls of a board, with their clauses: what each asks, answers and logs, over every graph. A board implements them,
 //! and roles are written against them.
 
-ghost use Rattle.std.specs.Prelude.{◌≡◌, ◌≤◌, IfOk, IsTrue, [], true, length};
+ghost use Rattle.std.specs.Prelude.{◌≡◌, ◌≤◌, IfOk, IsTrue, [], true};
 ghost use Rattle.nd_base.specs.GraphRules.{IsGraph};
+ghost use Rattle.nd_base.specs.Stacks.{IsStack};
 ghost use Rattle.chain_plain.specs.Plans.{plan_of};
 ghost use Rattle.flow_journal.specs.Setting.{last_role, is_node};
 ghost use Rattle.flow_journal.specs.Histories.{is_history};
@@ -33,7 +34,7 @@ pub trait BoardCalls<F: Held>: Sized + Drop {
     fn start(alloc: Global, plan: &Plan) -> Result<Self, OutOfMemory>
         requires plan { plan.now ≡ plan_of F.Of.graph F.Of.stack }
         requires graph { IsGraph F.Of.graph }
-        requires few { length F.Of.stack.arrays ≤ 65536 }
+        requires stack { IsStack F.Of.stack }
         ensures { IfOk result (λ b. shown b ≡ []) };
 
     /// The next frame, with storage for it, or why there is none. `tick` is the moment of the call: late results go out by it.

@@ -90,7 +90,7 @@ not_waiting-last a w (x ∷ ws) is none =
     ]
 
 -- so it waits no more once it goes out or is dropped
-gone-again : (s : Setting) (r v m k : ℕ) (f : Bool) (P : Past) → is_sorted s v ≡ true → is_legal s (Put r v m k f ∷ P) ≡ true → not_waiting (frame m k) (waiting s v (Put r v m k f ∷ P)) ≡ waiting s v P
+pub gone-again : (s : Setting) (r v m k : ℕ) (f : Bool) (P : Past) → is_sorted s v ≡ true → is_legal s (Put r v m k f ∷ P) ≡ true → not_waiting (frame m k) (waiting s v (Put r v m k f ∷ P)) ≡ waiting s v P
 gone-again s r v m k f P sorted h =
     ap (not_waiting (frame m k)) (waiting-put s v r m k f P sorted) ∙ not_waiting-last (frame m k) (record { array = frame m k; tick = now P }) (waiting s v P) refl (not_yet s r v m k f P sorted h)
 
