@@ -46,13 +46,13 @@ pub record GrantLaws {F : Type 0} (parts : F → Option Parts) : Type 0 where
   pub load : (s : Setting) (told : BoardState) (t : List Kept) (tick r k need b z : ℕ) (f : Bool) (g : ℕ) (x : Bool) → IsGranted parts s told t need b z f g
       → b < length t → is_legal s (past (moved_at s tick (plain (Load r k b z f g x)) told)) ≡ true
       → HoldsBlocks parts s (moved_at s tick (plain (Load r k b z f g x)) told) (with_kept t b Empty)
-  pub take_block : (s : Setting) (told : BoardState) (t : List Kept) (r v c need b z : ℕ) (f : Bool) (g : ℕ) (x : Bool) (a : FrameName) (q : Option Parts)
+  pub take : (s : Setting) (told : BoardState) (t : List Kept) (r v c need b z : ℕ) (f : Bool) (g : ℕ) (x : Bool) (a : FrameName) (q : Option Parts)
       → IsGranted parts s told t need b z f g → b < length t → block_of (past told) a ≡ c ∷ [] → IsPartOf (kept_at (with_kept t b Empty) c) a q
       → is_legal s (past (moved s (lends (take_block r v a b z f g x) q) told)) ≡ true
       → HoldsBlocks parts s (moved s (lends (take_block r v a b z f g x) q) told)
           (with_kept (with_kept t b Empty) c (less_one (kept_at (with_kept t b Empty) c)))
   -- the same where the part was lent first
-  pub take_block_lent : (s : Setting) (told : BoardState) (t : List Kept) (r v c need b z : ℕ) (f : Bool) (g : ℕ) (x : Bool) (a : FrameName) (q : Option Parts)
+  pub take_lent : (s : Setting) (told : BoardState) (t : List Kept) (r v c need b z : ℕ) (f : Bool) (g : ℕ) (x : Bool) (a : FrameName) (q : Option Parts)
       → IsGranted parts s told t need b z f g → b < length t → block_of (past told) a ≡ c ∷ [] → IsPartOf (kept_at t c) a q
       → is_legal s (past (moved s (lends (take_block r v a b z f g x) q) told)) ≡ true
       → HoldsBlocks parts s (moved s (lends (take_block r v a b z f g x) q) told)

@@ -53,7 +53,7 @@ pub record MayTakeBack {F B O : Type 0} (name_of : F → FrameName) (parts : F �
   pub brings : MayReclaim name_of parts bytes_of s told r left
   pub legal : is_legal s (past (taken_back name_of s r left told)) ≡ true
 
-pub record MoveLaws {F B O : Type 0} (name_of : F → FrameName) (parts : F → Option Parts) (bytes_of : B → ℕ) : Type 0 where
+pub record MoveLaws {F B : Type 0} (O : Type 0) (name_of : F → FrameName) (parts : F → Option Parts) (bytes_of : B → ℕ) : Type 0 where
   -- a move that touches no hand: a Close, Leave, Settle, LoadRefused and PoolDrop
   pub still : (s : Setting) (told : BoardState) (t : List Kept) (tick : ℕ) (e : Entry) → IsRunOf s told → HoldsBlocks parts s told t
       → touches_no_hand e ≡ true → is_legal s (past (moved_at s tick (plain e) told)) ≡ true → HoldsBlocks parts s (moved_at s tick (plain e) told) t

@@ -22,5 +22,5 @@ pub fn grants_find_storage<F: Held>()
 
 /// The moves of which frames come and go.
 pub fn moves_keep_blocks<F: Held>()
-    ensures { MoveLaws {F = F} {B = F.Blank} {O = F.Of} F.name_of F.parts F.bytes_of }
+    ensures { MoveLaws F.Of F.name_of F.parts F.bytes_of }
 {}
