@@ -59,7 +59,7 @@ once_taken_back-making q r (Made c z) a n h = cc
 once_taken_back-making q r (TakenBack z) a n h = cc
 
 -- where it was made by then, it was before, or it was in the making there
-once_done-made : (q : ℕ) (g : LastGrant) (a : FrameName) (n : ℕ) → once_done q g ≡ Made a n → (g ≡ Made a n) ⊎ (g ≡ InMaking q a n)
+pub once_done-made : (q : ℕ) (g : LastGrant) (a : FrameName) (n : ℕ) → once_done q g ≡ Made a n → (g ≡ Made a n) ⊎ (g ≡ InMaking q a n)
 once_done-made q (InMaking p c z) a n h =
     elim (cases_Bool (eqb p q)) [
       | inl done ↦
@@ -74,7 +74,7 @@ once_done-made q Never a n h = cc
 once_done-made q (Made c z) a n h = inl h
 once_done-made q (TakenBack z) a n h = cc
 
-once_taken_back-made : (q : ℕ) (g : LastGrant) (a : FrameName) (n : ℕ) → once_taken_back q g ≡ Made a n → g ≡ Made a n
+pub once_taken_back-made : (q : ℕ) (g : LastGrant) (a : FrameName) (n : ℕ) → once_taken_back q g ≡ Made a n → g ≡ Made a n
 once_taken_back-made q (InMaking p c z) a n h =
     elim (cases_Bool (eqb p q)) [
       | inl done ↦ let never : TakenBack z ≡ Made a n = rw done at h in cc
@@ -87,7 +87,7 @@ once_taken_back-made q (TakenBack z) a n h = cc
 -- HANDS BEFORE
 
 -- whoever has a hand takes up nothing
-not-up : (s : Setting) (r : ℕ) (d e : Entry) (P : Past) → is_legal s (e ∷ P) ≡ true → hand r P ≡ Some d → takes_up r e ≡ false
+pub not-up : (s : Setting) (r : ℕ) (d e : Entry) (P : Past) → is_legal s (e ∷ P) ≡ true → hand r P ≡ Some d → takes_up r e ≡ false
 not-up s r d e P h held =
     elim (cases_Bool (takes_up r e)) [
       | inl up ↦ absurd (true≢false (sym (was_free s r e P up h) ∙ ap is_none held))
@@ -95,7 +95,7 @@ not-up s r d e P h held =
     ]
 
 -- a hand that the entry didn't give was there before, and isn't let go
-hand-before : (s : Setting) (r : ℕ) (d e : Entry) (P : Past) → is_legal s (e ∷ P) ≡ true → takes_up r e ≡ false → hand r (e ∷ P) ≡ Some d → (hand r P ≡ Some d) × (lets_go r e ≡ false)
+pub hand-before : (s : Setting) (r : ℕ) (d e : Entry) (P : Past) → is_legal s (e ∷ P) ≡ true → takes_up r e ≡ false → hand r (e ∷ P) ≡ Some d → (hand r P ≡ Some d) × (lets_go r e ≡ false)
 hand-before s r d e P h up held =
     elim (cases_Bool (lets_go r e)) [
       | inl down ↦ let never : None ≡ Some d = sym (hand_laws.down s r e P h down) ∙ held in cc
@@ -199,10 +199,10 @@ not-granted s P r b n c a d e h first none held m =
     let legal = legal-before s e P h in
     ne_eqb c b (λ is. makes-placed s P r b n a d legal held m (unplaced-clear s P b a legal (owed-first s e P first h) (subst (λ (i : ℕ). refs s P i ≡ 0) is none) (makes-block s P r b n a d legal held m)))
 
-load-none : (s : Setting) (P : Past) (r k b n : ℕ) (f : Bool) (g : ℕ) (x : Bool) → s.pooled ≡ true → is_legal s (Load r k b n f g x ∷ P) ≡ true → refs s P b ≡ 0
+pub load-none : (s : Setting) (P : Past) (r k b n : ℕ) (f : Bool) (g : ℕ) (x : Bool) → s.pooled ≡ true → is_legal s (Load r k b n f g x ∷ P) ≡ true → refs s P b ≡ 0
 load-none s P r k b n f g x pooled h = load-unplaced s P r k b n f g x pooled (legal-before s (Load r k b n f g x) P h) (row_of s (Load r k b n f g x) P (λ d. refl) h)
 
-take-none : (s : Setting) (P : Past) (r v m k b n : ℕ) (f : Bool) (g : ℕ) (x : Bool) → s.pooled ≡ true → is_legal s (TakeBlock f x r v m k b n g ∷ P) ≡ true → refs s P b ≡ 0
+pub take-none : (s : Setting) (P : Past) (r v m k b n : ℕ) (f : Bool) (g : ℕ) (x : Bool) → s.pooled ≡ true → is_legal s (TakeBlock f x r v m k b n g ∷ P) ≡ true → refs s P b ≡ 0
 take-none s P r v m k b n f g x pooled h = take-unplaced s P r v m k b n f g x pooled (legal-before s (TakeBlock f x r v m k b n g) P h) (row_of s (TakeBlock f x r v m k b n g) P (λ d. refl) h)
 
 turned : (q r : ℕ) → eqb r q ≡ false → eqb q r ≡ false
@@ -309,7 +309,7 @@ fewer-hands a (e ∷ hs) h =
     let n = bit-none (holds (is_frame a) e) (omega (arith, count-cons (holds (is_frame a)) e hs, h)) in
     omega (arith, count-cons (holds_by no_frame (is_frame a)) e hs, ap bit (only-made a e n), fewer-hands a hs (omega (arith, count-cons (holds (is_frame a)) e hs, h)))
 
-alone-from : (s : Setting) (P : Past) (a : FrameName) → Clear (is_frame a) s P → ClearBy no_frame (is_frame a) s P
+pub alone-from : (s : Setting) (P : Past) (a : FrameName) → Clear (is_frame a) s P → ClearBy no_frame (is_frame a) s P
 alone-from s P a c = record { queues = c.queues; lists = c.lists; rings = c.rings; files = c.files; roles = fewer-hands a (hands P) c.roles; calls = c.calls }
 
 one-off : (a x : FrameName) → is_frame a x ≡ false → count (is_frame a) (x ∷ []) ≡ 0

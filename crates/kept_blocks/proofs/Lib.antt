@@ -1,2 +1,4 @@
 pub mod Unplaced
 pub mod Granted
+pub mod Tied
+pub mod Placing

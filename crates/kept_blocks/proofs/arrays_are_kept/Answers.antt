@@ -1,4 +1,4 @@
-use Rattle.kept_blocks.proofs.Granted.{alone-making}
+use Rattle.kept_blocks.proofs.Placing.{hand-used}
 use Rattle.kept_blocks.proofs.arrays_are_kept.Goals as goal
 
 pub returns : goal.returns
