@@ -2,3 +2,5 @@ pub mod Unplaced
 pub mod Granted
 pub mod Tied
 pub mod Placing
+pub mod Rest
+pub mod Shares

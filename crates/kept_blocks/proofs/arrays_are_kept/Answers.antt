@@ -1,4 +1,5 @@
-use Rattle.kept_blocks.proofs.Placing.{hand-used}
+use Rattle.kept_blocks.proofs.Rest.{later}
+use Rattle.kept_blocks.proofs.Shares.{few-parts}
 use Rattle.kept_blocks.proofs.arrays_are_kept.Goals as goal
 
 pub returns : goal.returns
