@@ -190,7 +190,7 @@ makes-holds b n a (Load q k c z f g x) m = ap (λ (y : FrameName). same y a) m.1
 makes-holds b n a (TakeBlock f x q v i k c z g) m = ap (λ (d : Bool). d || is_frame a (frame i k)) (ap (λ (y : FrameName). same y a) m.1 ∙ same_refl a)
 makes-holds b n a _ m = absurd m
 
-makes-placed : (s : Setting) (P : Past) (r b n : ℕ) (a : FrameName) (e : Entry) → is_legal s P ≡ true → hand r P ≡ Some e → Makes b a n e → Clear (is_frame a) s P → ⊥
+pub makes-placed : (s : Setting) (P : Past) (r b n : ℕ) (a : FrameName) (e : Entry) → is_legal s P ≡ true → hand r P ≡ Some e → Makes b a n e → Clear (is_frame a) s P → ⊥
 makes-placed s P r b n a e h held m c = true≢false (sym (makes-holds b n a e m) ∙ hand-clear (holds (is_frame a)) r e P held c.roles)
 
 -- a block in whose making a hand is isn't granted

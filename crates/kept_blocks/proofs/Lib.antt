@@ -4,3 +4,5 @@ pub mod Tied
 pub mod Placing
 pub mod Rest
 pub mod Shares
+pub mod Holding
+pub mod Looks

@@ -165,7 +165,7 @@ array-made s P b a (InMaking r c n) pooled h is mine used =
     absurd (used (alone-making s P r b n a pooled h (is ∙ ap (λ (y : FrameName). InMaking r y n) (same-true c a mine))))
 
 -- the block of what has a place is known
-known-at : (s : Setting) (P : Past) (b : ℕ) (a : FrameName) → s.pooled ≡ true → is_legal s P ≡ true → block_of P a ≡ b ∷ [] → (Clear (is_frame a) s P → ⊥) → has_number b (known s P) ≡ true
+pub known-at : (s : Setting) (P : Past) (b : ℕ) (a : FrameName) → s.pooled ≡ true → is_legal s P ≡ true → block_of P a ≡ b ∷ [] → (Clear (is_frame a) s P → ⊥) → has_number b (known s P) ≡ true
 known-at s P b a pooled h on used =
     elim (cases_Bool (has_number b (known s P))) [
       | inl known_ ↦ known_

@@ -61,7 +61,7 @@ clear-fewer t w s P only c = record {
 
 -- NO PLACE
 
-at_some : (t : FrameName → Bool) (s : Setting) (P : Past) (v : ℕ) → list_any t (arrays_at s P v) ≡ false → AtNode t s P v
+pub at_some : (t : FrameName → Bool) (s : Setting) (P : Past) (v : ℕ) → list_any t (arrays_at s P v) ≡ false → AtNode t s P v
 at_some t s P v h =
     let none = none_counted t (arrays_at s P v) h in
     let split = arrays-count t s P v in

@@ -15,6 +15,7 @@ use Rattle.board_rules.specs.InHand.{TellParts}
 use Rattle.board_rules.specs.Storage.{wants_storage, IsRegrown}
 use Rattle.frame_table.specs.Kept.{Kept, Empty, Storage, kept_at, with_kept, with_room, at_home, IsMadeAnew, IsAway, IsSized, IsRefused, IsPartOf, less_one}
 use Rattle.kept_blocks.specs.Keeping.{HoldsBlocks, IsRunOf}
+use Rattle.kept_blocks.specs.LookLaws.{IsLendable}
 
 -- with the pool's grant for so many bytes: the log is a history of a run, the table holds its blocks, and this is what is granted
 pub record IsGranted {F : Type 0} (parts : F → Option Parts) (s : Setting) (told : BoardState) (t : List Kept) (need block size : ℕ) (fresh : Bool) (given : ℕ) : Type 0 where
@@ -39,9 +40,11 @@ pub record GrantLaws {F : Type 0} (parts : F → Option Parts) : Type 0 where
       → IsRefused z b t new → HoldsBlocks parts s told new
   pub put_back : (s : Setting) (told : BoardState) (t : List Kept) (need b z : ℕ) (f : Bool) (g : ℕ) → IsGranted parts s told t need b z f g
       → b < length t → HoldsBlocks parts s told (with_kept (with_kept t b Empty) b (Storage z))
-  -- the block isn't that of a queued array
+  -- with the storage taken, a part of the next array of a queue may be lent: its block is another
   pub apart : (s : Setting) (told : BoardState) (t : List Kept) (need b z : ℕ) (f : Bool) (g v c : ℕ) (a : FrameName)
       → IsGranted parts s told t need b z f g → is_next a (queued v (past told)) ≡ true → block_of (past told) a ≡ c ∷ [] → c ≢ b
+  pub lendable : (s : Setting) (told : BoardState) (t : List Kept) (need b z : ℕ) (f : Bool) (g v : ℕ) (a : FrameName)
+      → IsGranted parts s told t need b z f g → is_next a (queued v (past told)) ≡ true → IsLendable parts (past told) (with_kept t b Empty) a
   -- the moves, with the storage of the block taken
   pub load : (s : Setting) (told : BoardState) (t : List Kept) (tick r k need b z : ℕ) (f : Bool) (g : ℕ) (x : Bool) → IsGranted parts s told t need b z f g
       → b < length t → is_legal s (past (moved_at s tick (plain (Load r k b z f g x)) told)) ≡ true

@@ -1,6 +1,5 @@
-use Rattle.kept_blocks.proofs.Rest.{later}
-use Rattle.kept_blocks.proofs.Shares.{few-parts}
+use Rattle.kept_blocks.proofs.Looks.{look_laws}
 use Rattle.kept_blocks.proofs.arrays_are_kept.Goals as goal
 
 pub returns : goal.returns
-returns g c = ?
+returns g c = look_laws g.F.Held.parts
