@@ -170,7 +170,7 @@ pub record Stands {F : Type 0} (parts : F → Option Parts) (s : Setting) (B : B
   pub place : placed.block < length t
   pub frame : IsFrameOn parts B placed.block a placed.size (kept_at t placed.block)
 
-made-frame : {F : Type 0} (parts : F → Option Parts) (s : Setting) (B : BoardState) (b n : ℕ) (a : FrameName) (k : Kept) → (ClearBy no_frame (is_frame a) s (past B) → ⊥) → IsKeptIn parts s B b (Made a n) k → IsFrameOn parts B b a n k
+pub made-frame : {F : Type 0} (parts : F → Option Parts) (s : Setting) (B : BoardState) (b n : ℕ) (a : FrameName) (k : Kept) → (ClearBy no_frame (is_frame a) s (past B) → ⊥) → IsKeptIn parts s B b (Made a n) k → IsFrameOn parts B b a n k
 made-frame parts s B b n a k used (inl on) = on
 made-frame parts s B b n a k used (inr gone) = absurd (used (alone-from s (past B) a gone.1))
 

@@ -6,3 +6,4 @@ pub mod Rest
 pub mod Shares
 pub mod Holding
 pub mod Looks
+pub mod Lending

@@ -38,7 +38,7 @@ pub record Rest (s : Setting) (B new : BoardState) : Type 0 where
   pub before : is_legal s (past new) ≡ true → is_legal s (past B) ≡ true
   pub clear : is_legal s (past new) ≡ true → (a : FrameName) → Clear (is_frame a) s (past B) → Clear (is_frame a) s (past new)
 
-none-more : (n : ℕ) → 0 + n ≡ n
+pub none-more : (n : ℕ) → 0 + n ≡ n
 none-more n = omega arith
 
 -- one entry that touches no hand
