@@ -78,7 +78,7 @@ pub record LendsOf (s : Setting) (P : Past) (w : FrameName → Bool) (r : ℕ) (
   pub others : (x : FrameName) → w x ≡ false → block_of (e ∷ P) x ≡ block_of P x
   pub own : w a ≡ false
 
-among-one : (b c : ℕ) → is_among b (c ∷ []) ≡ eqb c b
+pub among-one : (b c : ℕ) → is_among b (c ∷ []) ≡ eqb c b
 among-one b c = or-none (eqb c b)
   where
     or-none : (x : Bool) → (x || false) ≡ x

@@ -7,3 +7,4 @@ pub mod Shares
 pub mod Holding
 pub mod Looks
 pub mod Lending
+pub mod Ending
