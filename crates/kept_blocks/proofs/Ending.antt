@@ -126,7 +126,7 @@ other-block parts s B w r b d e L k l no_part no_grant unlost x =
 
 -- THE ARRAY OF THE HAND
 
-united-part : (k : Kept) (x y : FrameName) (q p : Option Parts) → IsPartOf k x q → IsPartOf k y p → IsPartOf (united k p) x q
+pub united-part : (k : Kept) (x y : FrameName) (q p : Option Parts) → IsPartOf k x q → IsPartOf k y p → IsPartOf (united k p) x q
 united-part (Frame c None) x y q p part other = subst (λ (o : Option Parts). IsPartOf (Frame c (together None o)) x q) (sym other.1) part
 united-part (Frame c (Some z)) x y q p part other = subst (λ (o : Option Parts). IsPartOf (Frame c (together (Some z) o)) x q) (sym other.1) part
 united-part Empty x y q p part other = part

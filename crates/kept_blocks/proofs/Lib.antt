@@ -8,3 +8,4 @@ pub mod Holding
 pub mod Looks
 pub mod Lending
 pub mod Ending
+pub mod Returns
