@@ -9,3 +9,5 @@ pub mod Looks
 pub mod Lending
 pub mod Ending
 pub mod Returns
+pub mod Backs
+pub mod Puts

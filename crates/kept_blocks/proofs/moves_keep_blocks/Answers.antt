@@ -1,4 +1,4 @@
-use Rattle.kept_blocks.proofs.Returns.{saved-law}
+use Rattle.kept_blocks.proofs.Puts.{put-made}
 use Rattle.kept_blocks.proofs.moves_keep_blocks.Goals as goal
 
 pub returns : goal.returns
