@@ -215,7 +215,7 @@ stayed-away parts s B w r c n a d e L k run l has one_lost made f =
 
 -- WHAT ROLES WERE LENT
 
-part-off : (w : FrameName → Bool) (x : FrameName) (e : Entry) → has_part_of x (Some e) ≡ true → holds w e ≡ false → w x ≡ false
+pub part-off : (w : FrameName → Bool) (x : FrameName) (e : Entry) → has_part_of x (Some e) ≡ true → holds w e ≡ false → w x ≡ false
 part-off w x (Take r v m k) has off = ap w (same-true x (frame m k) has) ∙ off
 part-off w x (TakeBlock f y r v m k b n g) has off = ap w (same-true x (frame m k) has) ∙ (or_parts (w (frame v k)) (w (frame m k)) off).1
 part-off w x (Save r v m k g) has off = ap w (same-true x (frame m k) has) ∙ off

@@ -204,7 +204,7 @@ placed s P a pooled h used =
 
 -- PLACES
 
-first-used : (a : FrameName) (xs : List FrameName) → is_next a xs ≡ true → count (is_frame a) xs ≡ 0 → ⊥
+pub first-used : (a : FrameName) (xs : List FrameName) → is_next a xs ≡ true → count (is_frame a) xs ≡ 0 → ⊥
 first-used a xs h none =
     let split : count (is_frame a) xs ≡ bit (is_frame a a) + count (is_frame a) (without a xs) = ap (count (is_frame a)) (next_is a xs h) ∙ count-cons (is_frame a) a (without a xs) in
     true≢false (sym (same_refl a) ∙ bit-none (is_frame a a) (omega (arith, split, none)))
