@@ -1,31 +1,27 @@
 -- What a grant finds.
-use Rattle.std.proofs.Common.{◌≡◌, ◌≢◌, ◌⊎◌, ℕ, zero, suc, ◌+◌, ◌-◌, ◌^◌, ◌≤◌, ◌<◌, Bool, true, false, not, ◌&&◌, ◌||◌, eqb, ltb, List, [], ◌∷◌, ◌++◌, length, refl, sym, ap, ◌∙◌, subst, arith, Option, Some, None, inl, inr, if◌then◌else◌, length-append}
+use Rattle.std.proofs.Common.{◌≡◌, ◌≢◌, ℕ, zero, suc, ◌+◌, ◌-◌, ◌^◌, ◌≤◌, ◌<◌, Bool, true, false, not, ◌&&◌, ◌||◌, eqb, ltb, List, [], ◌∷◌, ◌++◌, length, refl, sym, ap, ◌∙◌, subst, arith, Option, Some, None, inl, inr, if◌then◌else◌, length-append}
 use Rattle.std.specs.Prelude.{filter, map, IsSome}
 use Rattle.std.specs.List.{list_any}
-use Rattle.std.proofs.lemmas.Bool.{and_parts, and_from, false≢true, true≢false, eq-eqb, ne_eqb, eqb-true, eqb-false, cases_Bool, cases_eq, not-false, ltb-true, ltb-false, or_cases}
+use Rattle.std.proofs.lemmas.Bool.{and_from, false≢true, true≢false, eq-eqb, ne_eqb, eqb-true, cases_Bool, cases_eq, not-false, or_cases}
 use Rattle.std.proofs.lemmas.List.{set-set, set-get_or, set_comm}
 use Rattle.nd_base.specs.declared.frame.FrameName.{FrameName}
 use Rattle.nd_base.specs.Parts.{Parts}
-use Rattle.pool_ledger.specs.Grants.{Block, Granted, Answer, has_number, granted, smallest_fit, left_after, largest_free, missing_from, above, new_number, known_after}
+use Rattle.pool_ledger.specs.Grants.{Block, Granted, has_number, granted, left_after, largest_free, missing_from, above, new_number}
 use Rattle.flow_journal.specs.Setting.{Setting}
-use Rattle.flow_journal.specs.Pasts.{Past, frame, same}
-use Rattle.flow_journal.specs.Hands.{hands, hand}
 use Rattle.flow_journal.specs.Queued.{queued}
-use Rattle.flow_journal.specs.Accounts.{block_of, refs, known, held, is_unplaced, grant}
+use Rattle.flow_journal.specs.Accounts.{block_of, refs, known, held, is_unplaced}
 use Rattle.flow_journal.specs.FirstEntries.{is_next}
-use Rattle.flow_journal.specs.Following.{owed}
-use Rattle.flow_journal.specs.Histories.{is_legal}
 use Rattle.flow_journal.proofs.Once.{is_among}
 use Rattle.flow_journal.proofs.Grants.{granted-free, granted-known, number-among}
 use Rattle.flow_journal.proofs.Places.{places-known}
-use Rattle.flow_journal.proofs.Travels.{ClearBy, Clear}
-use Rattle.flow_journal.proofs.Making.{is_frame, no_frame}
+use Rattle.flow_journal.proofs.Travels.{Clear}
+use Rattle.flow_journal.proofs.Making.{is_frame}
 use Rattle.board_rules.specs.States.{lent_to, BoardState, past}
 use Rattle.board_rules.specs.InHand.{TellParts, OfSome}
 use Rattle.board_rules.specs.Storage.{wants_storage, IsRegrown, is_away, parts_in_hand, parts_away, parts_here}
-use Rattle.frame_table.specs.Kept.{IsUntold, MayLend, IsPartOf, Kept, Empty, Frame, Storage, kept_at, with_kept, with_room, less_one, at_home, IsMadeAnew, IsAway, IsSized, IsLeft, BecomesOther, IsRefused}
+use Rattle.frame_table.specs.Kept.{IsUntold, MayLend, IsPartOf, Kept, Empty, Frame, Storage, kept_at, with_kept, with_room, less_one, at_home, IsMadeAnew, IsAway, IsLeft, BecomesOther, IsRefused}
 use Rattle.kept_blocks.specs.LastGrants.{LastGrant, Never, InMaking, Made, TakenBack, last_grant}
-use Rattle.kept_blocks.specs.Keeping.{IsKeptBy, HoldsBlocks, IsRunOf, IsFrameOn, IsHome, LoseFew}
+use Rattle.kept_blocks.specs.Keeping.{IsKeptBy, HoldsBlocks, IsRunOf, IsHome}
 use Rattle.kept_blocks.specs.LookLaws.{IsWithin, IsLendable}
 use Rattle.kept_blocks.specs.GrantLaws.{IsGranted, IsRefusedLent}
 use Rattle.kept_blocks.proofs.Unplaced.{unplaced-clear}
@@ -33,7 +29,7 @@ use Rattle.kept_blocks.proofs.Granted.{held-making, makes-block, makes-placed, a
 use Rattle.kept_blocks.proofs.Tied.{made-block, size_in, is_sized, all-sized, missing-left, fit-there, fit-has}
 use Rattle.kept_blocks.proofs.Placing.{placed-on, hand-used, queued-used}
 use Rattle.kept_blocks.proofs.Shares.{few-parts, away-none, none-away}
-use Rattle.kept_blocks.proofs.Holding.{IsKeptIn, Holds, holds-in, holds-out, still-of, legal-of, at-same, at-other, same-length}
+use Rattle.kept_blocks.proofs.Holding.{IsKeptIn, holds-in, holds-out, still-of, legal-of, at-other, same-length}
 use Rattle.kept_blocks.proofs.Looks.{lendable}
 use Rattle.kept_blocks.proofs.Ending.{no-parts}
 
@@ -252,10 +248,13 @@ module _ {F : Type 0} (parts : F → Option Parts) (s : Setting) (B : BoardState
   left-holds k (inr other) = other-kept (λ tell. other-untold (kept_at t b) k home-of other tell) k
 
 pub anew-law : {F : Type 0} (parts : F → Option Parts) (s : Setting) (B : BoardState) (t : List Kept) (need b z : ℕ) (g : ℕ) (x : Bool) → IsGranted parts s B t need b z false g → IsMadeAnew (at_home z (kept_at t b)) x → IsRegrown parts B b false x
-anew-law parts s B t need b z g x i anew = (and-false x, λ tell.
-    let h = home-of parts s B t need b z g i tell in
-    let told_ : IsMadeAnew (Some (not (is_away b B))) x = subst (λ (o : Option Bool). IsMadeAnew o x) h.home anew in
-    told_ ∙ twice (is_away b B))
+anew-law parts s B t need b z g x i anew = (
+  and-false x,
+  λ tell.
+      let h = home-of parts s B t need b z g i tell in
+      let told_ : IsMadeAnew (Some (not (is_away b B))) x = subst (λ (o : Option Bool). IsMadeAnew o x) h.home anew in
+      told_ ∙ twice (is_away b B),
+)
   where
     and-false : (y : Bool) → (y && false) ≡ false
     and-false true = refl
@@ -312,11 +311,11 @@ forget-law parts s B t b run h empty =
     elim (cases_Bool (has_number b (known s (past B)))) [
       | inl is ↦ subst (λ (u : List Kept). HoldsBlocks parts s B u) (sym (ap (λ (x : Kept). with_kept t b x) (sym (empty is)) ∙ set-get_or t b Empty)) h
       | inr unknown ↦ record {
-          places = λ j is. subst (λ (n : ℕ). j < n) (sym (same-length t b Empty)) (h.places j is);
-          kept = λ j is. subst (λ (x : Kept). IsKeptBy parts s B j (last_grant j (past B)) x) (sym (at-other t b j Empty (apart j is unknown))) (h.kept j is);
-          lent = λ r j a has on. subst (λ (x : Kept). IsPartOf x a (lent_to r B)) (sym (at-other t b j Empty (apart j (placed-on s (past B) j a run.pooled (legal-of s B run) on (hand-used s (past B) r a has)).0 unknown))) (h.lent r j a has on);
-          lost = h.lost;
-        }
+        places = λ j is. subst (λ (n : ℕ). j < n) (sym (same-length t b Empty)) (h.places j is);
+        kept = λ j is. subst (λ (x : Kept). IsKeptBy parts s B j (last_grant j (past B)) x) (sym (at-other t b j Empty (apart j is unknown))) (h.kept j is);
+        lent = λ r j a has on. subst (λ (x : Kept). IsPartOf x a (lent_to r B)) (sym (at-other t b j Empty (apart j (placed-on s (past B) j a run.pooled (legal-of s B run) on (hand-used s (past B) r a has)).0 unknown))) (h.lent r j a has on);
+        lost = h.lost;
+      }
     ]
   where
     apart : (j : ℕ) → has_number j (known s (past B)) ≡ true → has_number b (known s (past B)) ≡ false → j ≢ b

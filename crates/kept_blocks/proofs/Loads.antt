@@ -1,9 +1,9 @@
 -- The moves of a grant: a load, and a take at a node that makes arrays.
-use Rattle.std.proofs.Common.{◌≡◌, ◌≢◌, ℕ, ◌+◌, ◌-◌, ◌^◌, ◌≤◌, ◌<◌, Bool, true, false, not, ◌||◌, eqb, List, [], ◌∷◌, ◌++◌, length, refl, sym, ap, ◌∙◌, subst, arith, Option, Some, None, inl, inr, if◌then◌else◌}
-use Rattle.std.proofs.lemmas.Bool.{and_parts, false≢true, true≢false, eq-eqb, ne_eqb, eqb-true, eqb-false, cases_Bool, cases_eq, or_cases}
+use Rattle.std.proofs.Common.{◌≡◌, ◌≢◌, ℕ, ◌+◌, ◌-◌, ◌^◌, ◌<◌, Bool, true, false, not, eqb, List, [], ◌∷◌, ◌++◌, length, refl, sym, ap, ◌∙◌, subst, arith, Option, Some, None, inl, inr, if◌then◌else◌}
+use Rattle.std.proofs.lemmas.Bool.{false≢true, eq-eqb, ne_eqb, eqb-true, cases_Bool, cases_eq, or_cases}
 use Rattle.nd_base.specs.declared.frame.FrameName.{FrameName}
 use Rattle.nd_base.specs.Parts.{Parts}
-use Rattle.pool_ledger.specs.Grants.{Block, Granted, has_number, left_after, largest_free, known_after}
+use Rattle.pool_ledger.specs.Grants.{Granted, has_number, left_after, largest_free, known_after}
 use Rattle.flow_journal.specs.declared.entry.Entry.{Entry}
 use Rattle.flow_journal.specs.declared.entry.Entry.TheVariants.{Load, TakeBlock}
 use Rattle.flow_journal.specs.Setting.{Setting}
@@ -130,13 +130,13 @@ load-law parts s B t tick r k need b z f g x i place legal =
     let l = load-grants s P r k b z f g x first_legal in
     let nowhere = unloaded-nowhere s r k b z f g x P first_legal in
     let in_hands : (j : ℕ) → parts_in_hand (e ∷ P) j ≡ parts_in_hand P j = λ j.
-        let whole : parts_in_hand (e ∷ P) j ≡ count (has_part (e ∷ P) j) (e ∷ hands P) = ap (count (has_part (e ∷ P) j)) (hands-more s r e P (eq-eqb r r refl) first_legal) in
-        omega (arith, whole, count-cons (has_part (e ∷ P) j) e (hands P), same-parts (e ∷ P) P (is_frame (frame 0 k)) (λ y off. block_laws.load_other r k b z f g x P y off) j (hands P) nowhere.roles) in
+    let whole : parts_in_hand (e ∷ P) j ≡ count (has_part (e ∷ P) j) (e ∷ hands P) = ap (count (has_part (e ∷ P) j)) (hands-more s r e P (eq-eqb r r refl) first_legal) in
+    omega (arith, whole, count-cons (has_part (e ∷ P) j) e (hands P), same-parts (e ∷ P) P (is_frame (frame 0 k)) (λ y off. block_laws.load_other r k b z f g x P y off) j (hands P) nowhere.roles) in
     let others : (j : ℕ) → j ≢ b → has_number j (known s P) ≡ true → IsKeptIn parts s (lends e None ∷ B) j (last_grant j P) (kept_at new j) = λ j ne is.
-        let gone = gone-other j b e None B ne refl in
-        let here : parts_here (lends e None ∷ B) j ≡ parts_here B j = ap (λ (n : ℕ). 2 ^ 32 - (n + parts_away j (lends e None ∷ B))) (in_hands j) ∙ ap (λ (n : ℕ). 2 ^ 32 - (parts_in_hand P j + n)) gone in
-        subst (λ (y : Kept). IsKeptIn parts s (lends e None ∷ B) j (last_grant j P) y) (sym (at-other t b j Empty ne))
-        (keeps parts s B (lends e None ∷ B) j (last_grant j P) (kept_at t j) here (away-other j b e None B ne refl) gone (λ a n made c. l.clear a (made-other s P b z f g r j n (frame 0 k) a e i.run.pooled before l made) c) (h.kept j is)) in
+    let gone = gone-other j b e None B ne refl in
+    let here : parts_here (lends e None ∷ B) j ≡ parts_here B j = ap (λ (n : ℕ). 2 ^ 32 - (n + parts_away j (lends e None ∷ B))) (in_hands j) ∙ ap (λ (n : ℕ). 2 ^ 32 - (parts_in_hand P j + n)) gone in
+    subst (λ (y : Kept). IsKeptIn parts s (lends e None ∷ B) j (last_grant j P) y) (sym (at-other t b j Empty ne))
+    (keeps parts s B (lends e None ∷ B) j (last_grant j P) (kept_at t j) here (away-other j b e None B ne refl) gone (λ a n made c. l.clear a (made-other s P b z f g r j n (frame 0 k) a e i.run.pooled before l made) c) (h.kept j is)) in
     holds-out parts s (moved_at s tick (plain e) B) new
     (rest-holds parts s (plain e ∷ B) (moved_at s tick (plain e) B) new rest legal
     (record {

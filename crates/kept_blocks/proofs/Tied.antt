@@ -1,33 +1,32 @@
 -- A frame on a block is that of the block's last grant, or it is nowhere.
-use Rattle.std.proofs.Common.{◌≡◌, ◌≢◌, ◌⊎◌, ℕ, suc, ◌+◌, ◌≤◌, ◌<◌, Bool, true, false, not, ◌&&◌, ◌||◌, cond, eqb, leb, List, [], ◌∷◌, ◌++◌, length, refl, sym, ap, ◌∙◌, subst, arith, Option, Some, None, inl, inr, length-append}
+use Rattle.std.proofs.Common.{◌≡◌, ◌≢◌, ◌⊎◌, ℕ, suc, ◌+◌, ◌≤◌, Bool, true, false, not, ◌&&◌, cond, eqb, leb, List, [], ◌∷◌, ◌++◌, length, refl, sym, ap, ◌∙◌, subst, arith, Option, Some, None, inl, inr, length-append}
 use Rattle.std.specs.Prelude.{filter, map}
-use Rattle.std.specs.List.{list_any, list_all}
-use Rattle.std.proofs.lemmas.Bool.{and_parts, and_from, false≢true, true≢false, eq-eqb, ne_eqb, eqb-true, eqb-false, cases_Bool, not-true, not_from_false, or_parts}
+use Rattle.std.specs.List.{list_all}
+use Rattle.std.proofs.lemmas.Bool.{and_parts, and_from, false≢true, true≢false, eq-eqb, ne_eqb, eqb-true, eqb-false, cases_Bool, or_parts}
 use Rattle.nd_base.specs.declared.frame.FrameName.{FrameName}
 use Rattle.pool_ledger.specs.Grants.{Block, has_number, Granted, Refused, granted, fit_or_fresh, smallest_fit, free_in_order, left_after, largest_free, passes, given_up, new_number, known_after}
 use Rattle.flow_journal.specs.declared.entry.Entry.{Entry}
-use Rattle.flow_journal.specs.declared.entry.Entry.TheVariants.{Load, Issue, Take, TakeBlock, Put, Save, Reclaim}
+use Rattle.flow_journal.specs.declared.entry.Entry.TheVariants.{Load, Issue, TakeBlock, Put, Reclaim}
 use Rattle.flow_journal.specs.Setting.{Setting, is_maker}
 use Rattle.flow_journal.specs.Pasts.{Past, frame, same}
-use Rattle.flow_journal.specs.Hands.{takes_up, hands, hand, standing}
+use Rattle.flow_journal.specs.Hands.{hand, standing}
 use Rattle.flow_journal.specs.Accounts.{block_of, refs, known, held, is_unplaced}
 use Rattle.flow_journal.specs.FirstEntries.{may_load, may_take, pool_grants}
 use Rattle.flow_journal.specs.Histories.{is_legal}
 use Rattle.flow_journal.proofs.Steps.{same_refl, same-true}
 use Rattle.flow_journal.proofs.EntryCounts.{count, bit, count-cons, owed-first}
-use Rattle.flow_journal.proofs.Rows.{row_laws}
 use Rattle.flow_journal.proofs.Hands.{row_of}
 use Rattle.flow_journal.proofs.Jobs.{reclaim_hand}
 use Rattle.flow_journal.proofs.FrameBlocks.{grants_of, grant-once, block-granted}
 use Rattle.flow_journal.proofs.AccountChanges.{block_laws}
-use Rattle.flow_journal.proofs.Travels.{holds, made_by, Clear, clear-more, hand-clear}
+use Rattle.flow_journal.proofs.Travels.{Clear, clear-more}
 use Rattle.flow_journal.proofs.Making.{is_frame, reclaimed-nowhere, untaken-again}
 use Rattle.flow_journal.proofs.Once.{is_among, least_missing-not_among}
 use Rattle.flow_journal.proofs.Grants.{all_in_order, all_found, all_filtered, granted-is, number-among}
 use Rattle.board_rules.proofs.Legal.{names_role}
 use Rattle.kept_blocks.specs.LastGrants.{LastGrant, Never, InMaking, Made, TakenBack, once_done, once_taken_back, last_grant}
 use Rattle.kept_blocks.proofs.Unplaced.{unplaced-clear}
-use Rattle.kept_blocks.proofs.Granted.{legal-before, once_done-made, once_taken_back-made, Makes, MakesIn, held-making, making-granted, makes-block, load-none, take-none}
+use Rattle.kept_blocks.proofs.Granted.{legal-before, once_done-made, once_taken_back-made, Makes, held-making, making-granted, makes-block, load-none, take-none}
 
 same-turned : (a c : FrameName) → same a c ≡ false → same c a ≡ false
 same-turned a c h =
@@ -319,7 +318,7 @@ sized-grant : (s : Setting) (m b z : ℕ) (f : Bool) (g : ℕ) (x : Bool) (e : E
 sized-grant s m b z false g x e P r a pooled grants turn all =
     let c = fit-there s.limit (s.need m) (held s P) b z g (is_unplaced s P) (known s P) (granted-is s m b z false g x P pooled grants) in
     let size : size_in (last_grant b P) ≡ suc z =
-        subst (λ (k : ℕ). size_in (last_grant k P) ≡ suc z) c.2 (eqb-true (size_in (last_grant c.0.number P)) (suc c.0.size) (fit-has (is_sized P) (s.need m) (is_unplaced s P) (known s P) c.0 all c.1) ∙ ap suc c.3) in
+    subst (λ (k : ℕ). size_in (last_grant k P) ≡ suc z) c.2 (eqb-true (size_in (last_grant c.0.number P)) (suc c.0.size) (fit-has (is_sized P) (s.need m) (is_unplaced s P) (known s P) c.0 all c.1) ∙ ap suc c.3) in
     all-same (is_sized P) (is_sized (e ∷ P)) (λ d. ap (λ (k : ℕ). eqb k (suc d.size)) (same-size d.number size)) (known s P) all
   where
     same-size : (k : ℕ) → size_in (last_grant b P) ≡ suc z → size_in (last_grant k P) ≡ size_in (last_grant k (e ∷ P))

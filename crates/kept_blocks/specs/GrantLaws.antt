@@ -1,5 +1,5 @@
 -- LAWS of a grant: where the pool grants this block, a place is made for it, its storage is taken, and then the move comes.
-use Rattle.std.specs.Prelude.{◌≡◌, ◌≢◌, ◌≤◌, ◌<◌, ℕ, Bool, true, false, ◌&&◌, not, List, [], ◌∷◌, length, Option}
+use Rattle.std.specs.Prelude.{◌≡◌, ◌≢◌, ◌≤◌, ◌<◌, ℕ, Bool, true, false, List, [], ◌∷◌, length, Option}
 use Rattle.nd_base.specs.declared.frame.FrameName.{FrameName}
 use Rattle.nd_base.specs.Parts.{Parts}
 use Rattle.pool_ledger.specs.Grants.{Granted, has_number}
@@ -70,12 +70,12 @@ pub record GrantLaws {F : Type 0} (parts : F → Option Parts) : Type 0 where
       → IsGranted parts s told t need b z f g → b < length t → block_of (past told) a ≡ c ∷ [] → IsPartOf (kept_at (with_kept t b Empty) c) a q
       → is_legal s (past (moved s (lends (take_block r v a b z f g x) q) told)) ≡ true
       → HoldsBlocks parts s (moved s (lends (take_block r v a b z f g x) q) told)
-          (with_kept (with_kept t b Empty) c (less_one (kept_at (with_kept t b Empty) c)))
+      (with_kept (with_kept t b Empty) c (less_one (kept_at (with_kept t b Empty) c)))
   pub take_lent : (s : Setting) (told : BoardState) (t : List Kept) (r v c need b z : ℕ) (f : Bool) (g : ℕ) (x : Bool) (a : FrameName) (q : Option Parts)
       → IsGranted parts s told t need b z f g → b < length t → block_of (past told) a ≡ c ∷ [] → IsPartOf (kept_at t c) a q
       → is_legal s (past (moved s (lends (take_block r v a b z f g x) q) told)) ≡ true
       → HoldsBlocks parts s (moved s (lends (take_block r v a b z f g x) q) told)
-          (with_kept (with_kept t c (less_one (kept_at t c))) b Empty)
+      (with_kept (with_kept t c (less_one (kept_at t c))) b Empty)
   -- what is kept of a block that isn't known, or of which nothing is kept, can be forgotten
   pub forget : (s : Setting) (told : BoardState) (t : List Kept) (b : ℕ) → IsRunOf s told → HoldsBlocks parts s told t
       → (has_number b (known s (past told)) ≡ true → kept_at t b ≡ Empty) → HoldsBlocks parts s told (with_kept t b Empty)
