@@ -24,3 +24,7 @@ pub mod Putting
 pub mod RuleFound
 pub mod PutMoves
 pub mod Looking
+pub mod Placing
+pub mod PlacedCourse
+pub mod PutSorted
+pub mod Listing
