@@ -10,3 +10,4 @@ pub mod Starts
 pub mod Puts
 pub mod Looks
 pub mod Placing
+pub mod Watched

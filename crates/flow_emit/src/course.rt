@@ -14,6 +14,7 @@ mod moves;
 mod placing;
 mod puts;
 mod reclaims;
+mod watching;
 
 use crate::{Facts, NodeState, RoleState, Rules};
 use nd_base::{FrameName, Held};
