@@ -24,7 +24,7 @@ use std::collections::VecDeque;
 
 /// What became of a result at a node with a sort list.
 #[derive(Clone, Copy, Debug, PartialEq, Eq)]
-pub enum Placement {
+enum Placement {
     /// It keeps step, and goes out.
     Out,
     /// It waits in the list.
@@ -34,14 +34,20 @@ pub enum Placement {
 }
 
 /// A job of a node with a sort list is done, and its result is placed.
-fn place(node: &mut NodeState, id: i64, tick: u64, kept: Kept) -> Placement
+fn place(
+    node: &mut NodeState,
+    id: i64,
+    tick: u64,
+    name: FrameName,
+    measured: Option<Measure>,
+) -> Placement
     requires some { 0 < node.old.jobs }
     requires few { node.old.puts < 4294967295 }
-    requires room { (m : Measure) → keeps_step node.old.list.last id ≡ true → kept.measured ≡ Some m → vec_len node.old.measures < vec_capacity node.old.measures }
-    ensures { IsListed id tick kept node.old node.new result }
+    requires room { (m : Measure) → keeps_step node.old.list.last id ≡ true → measured ≡ Some m → vec_len node.old.measures < vec_capacity node.old.measures }
+    ensures { IsListed id tick (record { name = name; measured = measured }) node.old node.new result }
 {
     count_put(node);
-    match node.list.put(id, tick, kept) {
+    match node.list.put(id, tick, Kept { name, measured }) {
         Ok(Placed::Out(kept)) => {
             keep_measure(&mut node.measures, kept.measured);
             Placement::Out
@@ -96,12 +102,8 @@ impl<F: Held> Course<F> {
         let id = self.id_at(name.index);
         let made = self.result_name(node, name);
         let makes = self.makes(node);
-        let kept = Kept {
-            name: made,
-            measured,
-        };
         let tick = self.facts.tick;
-        let placement = place(&mut self.nodes[node as usize - 1], id, tick, kept);
+        let placement = place(&mut self.nodes[node as usize - 1], id, tick, made, measured);
         let_go(&mut self.roles[role as usize]);
         let maker = made.maker;
         let index = name.index;

@@ -23,7 +23,7 @@ use trig_window::{Passed, Window};
 
 /// What became of an array that was put at a circular node.
 #[derive(Clone, Copy, Debug, PartialEq, Eq)]
-pub enum Watched {
+enum Watched {
     /// It is kept in the ring.
     Kept,
     /// An array that no window can have is let go: it, or the oldest of the ring, in which it is kept then.
