@@ -5,7 +5,7 @@ use Rattle.std.specs.List.{flat_map}
 use Rattle.std.proofs.lemmas.Int.{ints}
 use Rattle.std.proofs.lemmas.Bool.{and_parts, false≢true}
 use Rattle.std.proofs.lemmas.List.{map-append, length-set, get_or-set_same, set-set}
-use Rattle.std.proofs.lemmas.List.Elements.{All-cons, All-head, All-tail}
+use Rattle.std.proofs.lemmas.List.Elements.{All-head, All-tail}
 use Rattle.std.proofs.lemmas.Option.{slice_get_within, slice_get_read}
 use Rattle.nd_base.specs.declared.frame.FrameName.{FrameName}
 use Rattle.queue_sort.specs.Sorting.{SortState}
@@ -28,7 +28,7 @@ use Rattle.board_rules.specs.InHand.{result_name}
 use Rattle.board_rules.specs.Ends.{listed as listed_one}
 use Rattle.board_rules.specs.States.{plain}
 use Rattle.pool_account.specs.Account.{IsAccount, all_named}
-use Rattle.pool_account.proofs.Laws.{put_laws, array_laws}
+use Rattle.pool_account.proofs.Laws.{put_laws}
 use Rattle.flow_emit.specs.Courses.{Parts, log_of, IsCourse}
 use Rattle.flow_emit.specs.Having.{HasBlock}
 use Rattle.flow_emit.specs.NodeStates.{IsNode, IsRing, HasRoomToMeasure, list_of, listed}
@@ -37,16 +37,10 @@ use Rattle.flow_emit.specs.declared.hand.Hand.TheVariants.{Free}
 use Rattle.flow_emit.specs.declared.hand.RoleState.{RoleState}
 use Rattle.flow_emit.specs.declared.node.Kept.{Kept}
 use Rattle.flow_emit.specs.declared.node.NodeState.{NodeState}
-use Rattle.flow_emit.proofs.Coursing.{Measuring, apart-more, dropped_by_list}
-use Rattle.flow_emit.proofs.Elsewhere.{same-emit}
-use Rattle.flow_emit.proofs.FactsAfter.{facts-emit}
-use Rattle.flow_emit.proofs.FrameBlocks.{blocks-kept}
+use Rattle.flow_emit.proofs.Coursing.{Measuring, emitted_more, dropped_by_list}
 use Rattle.flow_emit.proofs.Handed.{JobOn, taken-as, granted-as, has-arrays}
-use Rattle.flow_emit.proofs.Here.{here-emit}
-use Rattle.flow_emit.proofs.Nodes.{nodes-set}
 use Rattle.flow_emit.proofs.Putting.{Keeps, put_with, none-unsaved}
 use Rattle.flow_emit.proofs.PutMoves.{whole-name}
-use Rattle.flow_emit.proofs.Roles.{roles-kept}
 
 -- THE LIST
 map-filter : {X Y : Type 0} (f : X → Y) (p : X → Bool) (q : Y → Bool) → ((x : X) → p x ≡ q (f x)) → (xs : List X) → map f (filter p xs) ≡ filter q (map f xs)
@@ -147,25 +141,6 @@ set-there : {X : Type 0} (xs : List X) (i : ℕ) (x y : X) → slice_get xs i �
 set-there xs i x y at =
     let lt : i < length xs = slice_get_within xs i x at in
     slice_get_read (set xs i y) (length xs) i y (sym (length-set xs i y)) lt (sym (get_or-set_same xs i y y lt))
-
--- an array goes out of the list while others are on their way
-emitted_more : (measure : Measuring) (s : Setting) (k : Parts) (c m j : ℕ) (why : Why) (n y : NodeState) → IsCourse measure s k → is_legal s (Emit (suc c) m j why ∷ log_of k) ≡ true → slice_get k.nodes c ≡ Some n → is_sorted s (suc c) ≡ true → length k.transit ≤ 4096 → HasBlock (log_of k) (frame m j) → y.list.size ≡ n.list.size → y.list.last ≡ id_at s j → y.list.waiting ≡ list_of measure s (suc c) (Emit (suc c) m j why ∷ log_of k) → y.measures.items ≡ n.measures.items ++ listed_one (measure (suc c) (frame m j)) → HasRoomToMeasure measure s (suc c) y → IsCourse measure s (record k { log = record k.log { told = plain (Emit (suc c) m j why) ∷ k.log.told }; nodes = set k.nodes c (record n { list = y.list; measures = y.measures }); transit = frame m j ∷ k.transit })
-emitted_more measure s k c m j why n y i legal at sorted few has size last waits items room =
-    let P = log_of k in
-    record {
-      ruled = i.ruled;
-      legal = legal;
-      nodes = nodes-set measure s P (Emit (suc c) m j why ∷ P) k.nodes c _ i.nodes (here-emit measure s (suc c) m j why P n y (i.nodes.each c n at) legal (size ∙ (i.nodes.each c n at).list_size) (λ h. last) waits items room) (λ v ne. same-emit s (suc v) (suc c) m j why P legal (apart-more ne));
-      roles = roles-kept s P _ k.roles i.roles (λ r. refl);
-      account = array_laws.emit_sorted s P (suc c) m j why (all_named k.pool) (block_of P (frame m j)) (flat_map (block_of P) k.transit) sorted refl legal i.account;
-      standing = All-cons (HasBlock P) (frame m j) k.transit has i.standing;
-      blocks = blocks-kept s P _ k.blocks i.blocks (λ a. refl);
-      facts = i.facts ∙ sym (facts-emit s (suc c) m j why P legal);
-      log_room = i.log_room;
-      reclaims = i.reclaims;
-      moving = omega (arith, few);
-      transit_room = i.transit_room;
-    }
 
 -- the arrays of the job are on their way: the result, which keeps step, and at a maker the input
 pub put_out : (measure : Measuring) (s : Setting) (k : Parts) (r c : ℕ) (a : FrameName) (f : Bool) (x : RoleState) (n y : NodeState) → IsCourse measure s k → is_legal s (put_of s r (suc c) a f ∷ log_of k) ≡ true → is_legal s (Emit (suc c) (result_name s (suc c) a).maker a.index Step ∷ put_of s r (suc c) a f ∷ log_of k) ≡ true → slice_get k.roles r ≡ Some x → slice_get k.nodes c ≡ Some n → k.transit ≡ [] → JobOn s (suc c) r a (log_of k) → is_sorted s (suc c) ≡ true → y.list.size ≡ n.list.size → y.list.last ≡ id_at s a.index → y.list.waiting ≡ n.list.waiting → y.measures.items ≡ n.measures.items ++ listed_one (measure (suc c) (result_name s (suc c) a)) → HasRoomToMeasure measure s (suc c) y → IsCourse measure s (record k { log = record k.log { told = plain (Emit (suc c) (result_name s (suc c) a).maker a.index Step) ∷ plain (put_of s r (suc c) a f) ∷ k.log.told }; nodes = set k.nodes c (record n { jobs = n.jobs - 1; puts = n.puts + 1; list = y.list; measures = y.measures }); roles = set k.roles r (record x { hand = Free }); transit = job_arrays s (suc c) a })
