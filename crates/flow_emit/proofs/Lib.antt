@@ -24,3 +24,4 @@ pub mod Putting
 pub mod RuleFound
 pub mod PutMoves
 pub mod Looking
+pub mod Ticking

@@ -9,3 +9,4 @@ pub mod Emissions
 pub mod Starts
 pub mod Puts
 pub mod Looks
+pub mod Ticks

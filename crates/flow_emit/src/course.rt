@@ -13,6 +13,7 @@ mod looks;
 mod moves;
 mod puts;
 mod reclaims;
+mod ticks;
 
 use crate::{Facts, NodeState, RoleState, Rules};
 use nd_base::{FrameName, Held};
