@@ -25,3 +25,5 @@ pub mod RuleFound
 pub mod PutMoves
 pub mod Looking
 pub mod Ticking
+pub mod Flushing
+pub mod Rings

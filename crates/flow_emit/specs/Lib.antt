@@ -10,3 +10,4 @@ pub mod Starts
 pub mod Puts
 pub mod Looks
 pub mod Ticks
+pub mod Settling

@@ -13,6 +13,7 @@ mod looks;
 mod moves;
 mod puts;
 mod reclaims;
+mod settling;
 mod ticks;
 
 use crate::{Facts, NodeState, RoleState, Rules};
