@@ -1,5 +1,5 @@
 -- A flush of a sort list, one after the other, when its node is settled.
-use Rattle.std.proofs.Common.{◌≡◌, ◌∙◌, ◌≤◌, ℕ, true, false, Bool, List, [], ◌∷◌, length, map, refl, sym, ap, subst, arith, ltb, ◌&&◌}
+use Rattle.std.proofs.Common.{◌≡◌, ◌∙◌, ◌≤◌, ℕ, true, false, Bool, List, [], ◌∷◌, map, refl, sym, ap, subst, ltb, ◌&&◌}
 use Rattle.std.specs.List.{list_all}
 use Rattle.std.proofs.lemmas.Bool.{false≢true}
 use Rattle.nd_base.specs.declared.frame.FrameName.{FrameName}
@@ -21,7 +21,6 @@ use Rattle.board_rules.specs.States.{BoardState, past, plain}
 use Rattle.board_rules.specs.Moving.{moved, with_all}
 use Rattle.board_rules.specs.Working.{waits_to_settle}
 use Rattle.board_rules.proofs.Legal.{settle-by}
-use Rattle.flow_emit.specs.Courses.{Coursed}
 use Rattle.flow_emit.specs.declared.node.Kept.{Kept}
 use Rattle.flow_emit.specs.declared.node.NodeState.{NodeState}
 use Rattle.flow_emit.specs.NodeStates.{IsNode, listed}

@@ -1,11 +1,11 @@
-use Rattle.std.proofs.Common.{◌≡◌, ◌≤◌, ◌<◌, ◌+◌, ◌∙◌, [], sym, ap, subst, length, arith}
+use Rattle.std.proofs.Common.{◌≡◌, ◌<◌, ◌+◌, ◌∙◌, sym, ap, subst, length, arith}
 use Rattle.std.proofs.lemmas.List.{length-map}
 use Rattle.board_rules.specs.RunMeasures.{run_setting}
 use Rattle.flow_journal.specs.Setting.{Node}
 use Rattle.flow_emit.specs.declared.rules.NodeRules.{NodeRules}
 use Rattle.flow_emit.specs.RunRules.{as_node}
 use Rattle.flow_emit.specs.Ticks.{LooksMade}
-use Rattle.flow_emit.proofs.Ticking.{place-node, look-legal, looked, passed-over, looked-at-all}
+use Rattle.flow_emit.proofs.Ticking.{look-legal, looked, passed-over, looked-at-all}
 use Rattle.flow_emit.proofs.course.Course.look_at_all.Goals.{then-is_sorted, else-is_sorted}
 use Rattle.flow_emit.proofs.course.Course.look_at_all.Goals as goal
 

@@ -1,4 +1,4 @@
-use Rattle.std.proofs.Common.{◌≡◌, ◌≤◌, ◌∷◌, ◌∙◌, ◌-◌, ◌+◌, [], refl, sym, ap, subst, set, Some, true, false, arith, length, List}
+use Rattle.std.proofs.Common.{◌≡◌, ◌≤◌, ◌∷◌, ◌∙◌, ◌-◌, [], refl, sym, ap, subst, set, Some, true, false, arith, length}
 use Rattle.std.specs.Prelude.{slice_get}
 use Rattle.nd_base.specs.declared.frame.FrameName.{FrameName}
 use Rattle.told_log.specs.ToldLogs.{ToldState}

@@ -1,4 +1,4 @@
-use Rattle.std.proofs.Common.{◌≡◌, ◌∷◌, ◌∙◌, ◌-◌, ◌+◌, [], refl, sym, ap, subst, set, Some, true, arith}
+use Rattle.std.proofs.Common.{◌≡◌, ◌∷◌, ◌∙◌, ◌-◌, [], refl, sym, ap, subst, set, Some, true, arith}
 use Rattle.std.specs.Prelude.{slice_get}
 use Rattle.told_log.specs.ToldLogs.{ToldState}
 use Rattle.board_rules.specs.RunMeasures.{run_setting, run_measure}

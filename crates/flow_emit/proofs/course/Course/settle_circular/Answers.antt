@@ -1,7 +1,5 @@
-use Rattle.std.proofs.Common.{◌≡◌, ◌∷◌, ◌∙◌, [], sym, ap}
+use Rattle.std.proofs.Common.{◌∙◌, [], sym, ap}
 use Rattle.board_rules.specs.RunMeasures.{run_setting}
-use Rattle.board_rules.specs.States.{BoardState, past, plain}
-use Rattle.flow_journal.specs.declared.entry.Entry.TheVariants.{Settle}
 use Rattle.flow_emit.specs.Courses.{Coursed}
 use Rattle.flow_emit.proofs.Finding.{coursed-as}
 use Rattle.flow_emit.proofs.Flushing.{may-settle, moved-none, circular-unsorted}

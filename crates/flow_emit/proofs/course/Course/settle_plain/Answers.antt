@@ -1,9 +1,8 @@
-use Rattle.std.proofs.Common.{◌≡◌, ◌∷◌, ◌∙◌, [], sym, ap, subst, true}
+use Rattle.std.proofs.Common.{◌≡◌, ◌∙◌, sym, ap, subst, true}
 use Rattle.std.proofs.lemmas.Bool.{and_parts}
 use Rattle.board_rules.specs.RunMeasures.{run_setting}
-use Rattle.board_rules.specs.States.{BoardState, past, plain}
-use Rattle.board_rules.specs.Moving.{moved, with_all}
-use Rattle.flow_journal.specs.declared.entry.Entry.TheVariants.{Settle}
+use Rattle.board_rules.specs.States.{BoardState, past}
+use Rattle.board_rules.specs.Moving.{with_all}
 use Rattle.flow_journal.specs.Histories.{is_legal}
 use Rattle.flow_emit.specs.Courses.{Coursed}
 use Rattle.flow_emit.specs.Settling.{flush}

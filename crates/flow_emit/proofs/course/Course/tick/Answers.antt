@@ -1,6 +1,6 @@
-use Rattle.std.proofs.Common.{◌≡◌, ◌∷◌, ◌∙◌, [], sym, ap, subst, true}
+use Rattle.std.proofs.Common.{◌≡◌, ◌∙◌, sym, ap, subst, true}
 use Rattle.board_rules.specs.RunMeasures.{run_setting}
-use Rattle.board_rules.specs.States.{BoardState, past, plain}
+use Rattle.board_rules.specs.States.{BoardState, past}
 use Rattle.flow_journal.specs.Histories.{is_legal}
 use Rattle.flow_emit.specs.Courses.{Coursed}
 use Rattle.flow_emit.specs.Ticks.{all_looked}
