@@ -30,3 +30,6 @@ pub mod PutSorted
 pub mod Listing
 pub mod Ringing
 pub mod PutWatched
+pub mod Ticking
+pub mod Flushing
+pub mod Rings

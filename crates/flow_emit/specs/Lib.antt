@@ -11,3 +11,5 @@ pub mod Puts
 pub mod Looks
 pub mod Placing
 pub mod Watched
+pub mod Ticks
+pub mod Settling

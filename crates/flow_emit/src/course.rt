@@ -14,6 +14,8 @@ mod moves;
 mod placing;
 mod puts;
 mod reclaims;
+mod settling;
+mod ticks;
 mod watching;
 
 use crate::{Facts, NodeState, RoleState, Rules};
