@@ -24,7 +24,8 @@ use Rattle.board_rules.proofs.Legal.{settle-by}
 use Rattle.flow_emit.specs.declared.node.Kept.{Kept}
 use Rattle.flow_emit.specs.declared.node.NodeState.{NodeState}
 use Rattle.flow_emit.specs.NodeStates.{IsNode, listed}
-use Rattle.flow_emit.specs.Settling.{flush, is_watching, watches}
+use Rattle.flow_emit.specs.Puts.{is_watching, watches}
+use Rattle.flow_emit.specs.Settling.{flush}
 use Rattle.flow_emit.proofs.Coursing.{Measuring}
 use Rattle.flow_emit.proofs.Begins.{begun}
 use Rattle.flow_emit.proofs.Depth.{is_out, outs-flat}

@@ -29,6 +29,7 @@ pub mod PlacedCourse
 pub mod PutSorted
 pub mod Listing
 pub mod Ringing
+pub mod RingWindows
 pub mod PutWatched
 pub mod Ticking
 pub mod Flushing

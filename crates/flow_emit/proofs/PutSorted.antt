@@ -1,50 +1,31 @@
 -- The move of a put at a node with a sort list.
-use Rattle.std.proofs.Common.{◌≡◌, ◌<◌, ◌∙◌, ◌+◌, ℕ, ℤ, true, false, Bool, ltb, List, [], ◌∷◌, ◌++◌, length, map, drop, refl, sym, ap, subst, arith}
-use Rattle.std.specs.Prelude.{if◌then◌else◌}
-use Rattle.std.specs.List.{list_all}
-use Rattle.std.proofs.lemmas.Bool.{ne_eqb, false≢true}
+use Rattle.std.proofs.Common.{◌≡◌, ◌<◌, ◌∙◌, ℕ, true, false, Bool, List, [], ◌∷◌, length, map, drop, sym, ap, subst, arith}
+use Rattle.std.proofs.lemmas.Bool.{ne_eqb}
 use Rattle.nd_base.specs.declared.frame.FrameName.{FrameName}
 use Rattle.queue_sort.specs.Sorting.{keeps_step}
 use Rattle.flow_journal.specs.declared.entry.Entry.{Entry}
 use Rattle.flow_journal.specs.declared.entry.Entry.TheVariants.{Emit, SortDrop, Full}
-use Rattle.flow_journal.specs.declared.entry.Why.TheVariants.{Step, Late}
+use Rattle.flow_journal.specs.declared.entry.Why.TheVariants.{Step}
 use Rattle.flow_journal.specs.Setting.{Setting, node, id_at, is_sorted}
 use Rattle.flow_journal.specs.Pasts.{Past, frame}
-use Rattle.flow_journal.specs.Ended.{now}
 use Rattle.flow_journal.specs.Breaks.{prev}
 use Rattle.flow_journal.specs.Turns.{offered_to}
-use Rattle.flow_journal.specs.Waiting.{Waiting, waiting, least_first}
-use Rattle.flow_journal.specs.Following.{emit, offer, look, goes_out}
+use Rattle.flow_journal.specs.Waiting.{waiting}
+use Rattle.flow_journal.specs.Following.{offer, look}
 use Rattle.flow_journal.specs.Histories.{is_legal}
-use Rattle.flow_journal.proofs.Histories.{legal-front}
 use Rattle.flow_journal.proofs.Looks.{look_laws}
 use Rattle.board_rules.specs.InHand.{result_name}
 use Rattle.board_rules.specs.Moving.{moved, with_all}
 use Rattle.board_rules.specs.States.{BoardState, past, plain}
-use Rattle.board_rules.proofs.Moved.{all_fit}
-use Rattle.board_rules.proofs.Moves.{followed}
 use Rattle.flow_emit.specs.Courses.{Coursed}
 use Rattle.flow_emit.specs.Emissions.{before_emission}
 use Rattle.flow_emit.specs.Placing.{IsPlaced}
 use Rattle.flow_emit.specs.Puts.{put_of, inputs}
 use Rattle.flow_emit.specs.declared.course.placing.Placement.TheVariants.{Out, Waits, Full}
-use Rattle.flow_emit.proofs.Depth.{is_out, outs-flat}
+use Rattle.flow_emit.proofs.Depth.{outs-flat}
 use Rattle.flow_emit.proofs.Looking.{look-offers}
 use Rattle.flow_emit.proofs.PutMoves.{whole-name}
-
-if-out : (b : Bool) (xs ys : List Entry) → list_all is_out xs ≡ true → list_all is_out ys ≡ true → list_all is_out (if b then xs else ys) ≡ true
-if-out true xs ys h g = h
-if-out false xs ys h g = g
-
-goes-all-out : (s : Setting) (v : ℕ) (before : ℤ) (t : ℕ) (ws : List Waiting) → list_all is_out (goes_out s v before t ws) ≡ true
-goes-all-out s v before t [] = refl
-goes-all-out s v before t (w ∷ ws) =
-    let more = goes-all-out s v (id_at s w.array.index) t ws in
-    if-out (keeps_step before (id_at s w.array.index)) (emit v Step w.array ∷ goes_out s v (id_at s w.array.index) t ws) _ more
-    (if-out (ltb (w.tick + (node s v).sort_time) t) (emit v Late w.array ∷ goes_out s v (id_at s w.array.index) t ws) [] more refl)
-
-look-all-out : (s : Setting) (v : ℕ) (P : Past) → list_all is_out (look s v P) ≡ true
-look-all-out s v P = goes-all-out s v (prev s v P) (now P) (least_first s (waiting s v P))
+use Rattle.flow_emit.proofs.Ticking.{look-outs}
 
 -- the result goes out, with its offers, and then comes a look
 pub moved-out : (s : Setting) (v r : ℕ) (a made : FrameName) (f : Bool) (b : BoardState) → is_sorted s v ≡ true → is_legal s (put_of s r v a f ∷ past b) ≡ true → keeps_step (prev s v (past b)) (id_at s a.index) ≡ true → made ≡ result_name s v a
@@ -62,7 +43,7 @@ moved-out s v r a made f b sorted legal step is =
     let after : FrameName → BoardState = λ n. with_all s 0 1 (map (offer n) (offered_to s Q v)) b2 in
     let name : frame m a.index ≡ made = whole-name s v a ∙ sym is in
     ap (λ (xs : List Entry). with_all s 0 3 xs b1) (look_laws.put_steps s r v m a.index f P sorted legal step)
-    ∙ (outs-flat s 0 1 (e ∷ ds) b1 (look-all-out s v (e ∷ Q))
+    ∙ (outs-flat s 0 1 (e ∷ ds) b1 (look-outs s v (e ∷ Q))
     ∙ (ap (λ (n : FrameName). with_all s 0 2 ds (after n)) name
     ∙ ap (λ (xs : List Entry). with_all s 0 2 xs (after made)) (sym (look-offers s v made (offered_to s Q v) b2))))
 
@@ -77,7 +58,7 @@ moved-full s v r a f b sorted legal step full =
     let e : Entry = SortDrop v m a.index in
     let b1 : BoardState = plain (put_of s r v a f) ∷ b in
     ap (λ (xs : List Entry). with_all s 0 3 xs b1) (look_laws.put_full s r v m a.index f P sorted legal step full)
-    ∙ outs-flat s 0 1 (e ∷ look s v (e ∷ Q)) b1 (look-all-out s v (e ∷ Q))
+    ∙ outs-flat s 0 1 (e ∷ look s v (e ∷ Q)) b1 (look-outs s v (e ∷ Q))
 
 -- it waits, and then comes a look
 pub moved-waits : (s : Setting) (v r : ℕ) (a : FrameName) (f : Bool) (b : BoardState) → is_sorted s v ≡ true → is_legal s (put_of s r v a f ∷ past b) ≡ true → keeps_step (prev s v (past b)) (id_at s a.index) ≡ false → length (waiting s v (past b)) < (node s v).sort
@@ -88,24 +69,7 @@ moved-waits s v r a f b sorted legal step short =
     let P = past b in
     let b1 : BoardState = plain (put_of s r v a f) ∷ b in
     ap (λ (xs : List Entry). with_all s 0 3 xs b1) (look_laws.put_waits s r v m a.index f P sorted legal step (ne_eqb (length (waiting s v P)) (node s v).sort (λ e. absurd (omega (arith, e, short)))))
-    ∙ outs-flat s 0 1 (look s v (past b1)) b1 (look-all-out s v (past b1))
-
--- FRONTS
-out-fit : (ds : List Entry) → list_all is_out ds ≡ true → all_fit 2 ds ≡ true
-out-fit [] h = refl
-out-fit (Emit v m k why ∷ ds) h = out-fit ds h
-out-fit (SortDrop v m k ∷ ds) h = out-fit ds h
-out-fit (_ ∷ ds) h = absurd (false≢true h)
-
-past-join : (b d : BoardState) → past (b ++ d) ≡ past b ++ past d
-past-join [] d = refl
-past-join (t ∷ b) d = ap (λ (P : Past). t.entry ∷ P) (past-join b d)
-
--- what comes before a look is legal where all is
-pub before-look : (s : Setting) (v : ℕ) (P : Past) (d : BoardState) → is_legal s (past (with_all s 0 2 (look s v P) d)) ≡ true → is_legal s (past d) ≡ true
-before-look s v P d h =
-    let f = followed s 0 2 (look s v P) d (out-fit (look s v P) (look-all-out s v P)) in
-    legal-front s (past f.more) (past d) (subst (λ (Q : Past). is_legal s Q ≡ true) (ap past f.whole ∙ past-join f.more d) h)
+    ∙ outs-flat s 0 1 (look s v (past b1)) b1 (look-outs s v (past b1))
 
 -- A LOOK IS LEFT
 -- so much of the move was made that its look is left, and a maker's input to be let go

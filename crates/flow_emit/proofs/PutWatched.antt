@@ -1,27 +1,26 @@
 -- What is kept of a run, after a Put at a circular node, and what the put calls for.
-use Rattle.std.proofs.Common.{◌≡◌, ◌≤◌, ◌∙◌, ◌-◌, ◌+◌, ℕ, zero, suc, true, false, Bool, cond, ltb, ◌||◌, max, List, [], ◌∷◌, ◌++◌, Some, length, map, drop, set, refl, sym, ap, subst, arith, length-append, length-drop}
-use Rattle.std.specs.Prelude.{slice_get, slice_index_or}
+use Rattle.std.proofs.Common.{◌≡◌, ◌∙◌, ◌-◌, ◌+◌, ℕ, suc, true, false, Bool, cond, List, [], ◌∷◌, ◌++◌, Some, length, map, set, refl, sym, ap, subst, arith, length-append}
+use Rattle.std.specs.Prelude.{slice_get}
 use Rattle.std.specs.List.{All, flat_map}
-use Rattle.std.proofs.lemmas.Bool.{false≢true, true≢false}
-use Rattle.std.proofs.lemmas.List.{append-nil, take_at}
+use Rattle.std.proofs.lemmas.Bool.{true≢false}
+use Rattle.std.proofs.lemmas.List.{map-id, append-nil, take_at}
 use Rattle.std.proofs.lemmas.List.Concat.{flat_map-append}
-use Rattle.std.proofs.lemmas.List.Elements.{All-head, All-tail, All-push, All-take}
+use Rattle.std.proofs.lemmas.List.Elements.{All-head, All-push, All-take}
 use Rattle.nd_base.specs.declared.frame.FrameName.{FrameName}
-use Rattle.trig_window.specs.Windows.{is_trigger, is_passed, is_complete, kept, triggers, end_of_last}
+use Rattle.trig_window.specs.Windows.{is_trigger, is_passed, kept}
 use Rattle.trig_window.specs.Watch.{Watch}
-use Rattle.trig_window.specs.Watching.{IsAfter, StandsAt}
+use Rattle.trig_window.specs.Watching.{IsAfter}
 use Rattle.flow_journal.specs.declared.entry.Entry.{Entry}
 use Rattle.flow_journal.specs.declared.entry.Entry.TheVariants.{Take, Put}
 use Rattle.flow_journal.specs.declared.entry.Why.TheVariants.{Ring, Now}
 use Rattle.flow_journal.specs.AccountLaws.{times_among}
-use Rattle.flow_journal.specs.Setting.{Setting, Work, Makes, Passes, Watches, Saves, no_node, node, makes, is_maker, is_sorted, may_sort}
+use Rattle.flow_journal.specs.Setting.{Setting, Work, Watches, node}
 use Rattle.flow_journal.specs.Pasts.{Past, frame}
 use Rattle.flow_journal.specs.Accounts.{block_of}
 use Rattle.flow_journal.specs.Ended.{is_settled}
 use Rattle.flow_journal.specs.Puts.{puts, firings}
 use Rattle.flow_journal.specs.Rings.{ring}
 use Rattle.flow_journal.specs.Following.{emit, result, calls_for}
-use Rattle.flow_journal.specs.Unsaved.{is_file}
 use Rattle.flow_journal.specs.Histories.{is_legal}
 use Rattle.flow_journal.proofs.Changes.{ring_laws}
 use Rattle.flow_journal.proofs.Steps.{comes_here}
@@ -32,101 +31,20 @@ use Rattle.pool_account.proofs.Carrying.{times-append}
 use Rattle.pool_account.proofs.Laws.{put_laws}
 use Rattle.flow_emit.specs.Courses.{Parts, log_of, IsCourse}
 use Rattle.flow_emit.specs.Having.{HasBlock}
-use Rattle.flow_emit.specs.NodeStates.{IsNode, IsRing}
-use Rattle.flow_emit.specs.Puts.{put_of, job_arrays}
-use Rattle.flow_emit.specs.RunRules.{IsWorkWithin, as_node, as_work}
-use Rattle.flow_emit.specs.Watched.{IsWatched, ComesOut, IsOnItsWay, watches, is_watching, ring_outs}
+use Rattle.flow_emit.specs.NodeStates.{IsRing}
+use Rattle.flow_emit.specs.Puts.{put_of, job_arrays, watches}
+use Rattle.flow_emit.specs.Watched.{IsWatched, ComesOut, IsOnItsWay, ring_outs}
 use Rattle.flow_emit.specs.declared.course.watching.Watched.{Watched}
 use Rattle.flow_emit.specs.declared.course.watching.Watched.TheVariants as watched
 use Rattle.flow_emit.specs.declared.hand.Hand.TheVariants.{Free}
 use Rattle.flow_emit.specs.declared.hand.RoleState.{RoleState}
 use Rattle.flow_emit.specs.declared.node.NodeState.{NodeState}
-use Rattle.flow_emit.specs.declared.rules.NodeRules.{NodeRules}
-use Rattle.flow_emit.specs.declared.rules.NodeWork.{NodeWork}
-use Rattle.flow_emit.specs.declared.rules.NodeWork.TheVariants as work
 use Rattle.flow_emit.proofs.Coursing.{Measuring, none-listed}
 use Rattle.flow_emit.proofs.Handed.{JobOn, taken-as, has-arrays}
 use Rattle.flow_emit.proofs.Having.{ring-blocks}
 use Rattle.flow_emit.proofs.Putting.{put_with, none-unsaved}
 use Rattle.flow_emit.proofs.Ringing.{ring-outs-last}
-
--- A CIRCULAR NODE
-watch-facts : (w : Work) → is_watching w ≡ true → (makes w ≡ false) × (may_sort w ≡ false) × (is_file w ≡ false)
-watch-facts Makes h = absurd (false≢true h)
-watch-facts (Passes d) h = absurd (false≢true h)
-watch-facts (Watches pre post preset) h = (refl, refl, refl)
-watch-facts (Saves whole n) h = absurd (false≢true h)
-
-pub watch-passes : (s : Setting) (v : ℕ) → watches s v ≡ true → is_maker s v ≡ false
-watch-passes s v h = (watch-facts (node s v).work h).0
-
-pub watch-unsorted : (s : Setting) (v : ℕ) → watches s v ≡ true → is_sorted s v ≡ false
-watch-unsorted s v h = rw (watch-facts (node s v).work h).1 refl
-
--- with its rule
-pub record WatchRule (s : Setting) (v : ℕ) : Type 0 where
-  pub pre : ℕ
-  pub post : ℕ
-  pub preset : ℕ
-  pub rule : (node s v).work ≡ Watches pre post preset
-
-pub watch-rule : (s : Setting) (v : ℕ) → watches s v ≡ true → WatchRule s v
-watch-rule s v h = by (node s v).work refl h where
-  by : (w : Work) → (node s v).work ≡ w → is_watching w ≡ true → WatchRule s v
-  by Makes is h = absurd (false≢true h)
-  by (Passes d) is h = absurd (false≢true h)
-  by (Watches pre post preset) is h = record { pre = pre; post = post; preset = preset; rule = is }
-  by (Saves whole n) is h = absurd (false≢true h)
-
--- a ring has at most 4096 arrays
-rule-within : (w : NodeWork) (pre post preset : ℕ) → IsWorkWithin w → as_work w ≡ Watches pre post preset → pre ≤ 4096
-rule-within work.Makes pre post preset h is = absurd (cc)
-rule-within work.Passes pre post preset h is = absurd (cc)
-rule-within work.Deals pre post preset h is = absurd (cc)
-rule-within (work.Watches a b c) pre post preset h is = let e : a ≡ pre = cc in subst (λ n. n ≤ 4096) e h.0
-rule-within (work.Saves whole n) pre post preset h is = absurd (cc)
-
-rules-within : (ns : List NodeRules) (i pre post preset : ℕ) → All (λ (n : NodeRules). IsWorkWithin n.work) ns → (slice_index_or (map as_node ns) i no_node).work ≡ Watches pre post preset → pre ≤ 4096
-rules-within [] i pre post preset h is = absurd (cc)
-rules-within (n ∷ ns) zero pre post preset h is = rule-within n.work pre post preset (All-head (λ (m : NodeRules). IsWorkWithin m.work) n ns h) is
-rules-within (n ∷ ns) (suc i) pre post preset h is = rules-within ns i pre post preset (All-tail (λ (m : NodeRules). IsWorkWithin m.work) n ns h) is
-
-pub few-before : (s : Setting) (k : Parts) (measure : Measuring) (v pre post preset : ℕ) → IsCourse measure s k → (node s v).work ≡ Watches pre post preset → pre ≤ 4096
-few-before s k measure zero pre post preset i is = absurd (cc)
-few-before s k measure (suc c) pre post preset i is = rules-within k.rules.nodes c pre post preset i.ruled.works (ap (λ ns. (slice_index_or ns c no_node).work) i.ruled.nodes ∙ is)
-
--- what is kept is no more than its rule says
-pub kept-few : (pre post preset : ℕ) (flags : List Bool) (xs : List FrameName) → length (kept pre post preset flags xs) ≤ pre
-kept-few pre post preset flags xs =
-    let end : ℕ = end_of_last post (triggers post preset flags) in
-    elim (ltb (length xs) end || is_complete post preset flags) as (λ b. length (cond b [] (drop (max end (length xs - pre)) xs)) ≤ pre) [
-      | true ↦ omega arith
-      | false ↦ omega (arith, length-drop (max end (length xs - pre)) xs)
-    ]
-
--- the window of a node that isn't settled
-pub record WindowAt (s : Setting) (v : ℕ) (P : Past) (w : Watch FrameName) : Type 0 where
-  pub rule : (node s v).work ≡ Watches w.pre w.post w.preset
-  pub stands : StandsAt w (firings v P) (puts v P)
-  pub ring : w.ring ≡ ring s v P
-  pub few : length w.ring ≤ 4096
-
-pub window-at : (measure : Measuring) (s : Setting) (k : Parts) (v : ℕ) (n : NodeState) → IsCourse measure s k → IsNode measure s v (log_of k) n → watches s v ≡ true → is_settled v (log_of k) ≡ false → WindowAt s v (log_of k) n.window
-window-at measure s k v n i node_is kind running =
-    let P = log_of k in
-    let r = watch-rule s v kind in
-    let is : IsRing s v P (Watches r.pre r.post r.preset) n.window = subst (λ (w : Work). IsRing s v P w n.window) r.rule node_is.ring in
-    let w = is.0 running in
-    record {
-      rule = w.rule;
-      stands = record { after = w.after; items = sym (ring_laws.flags v P); ring = w.ring; pending = is.2 };
-      ring = w.ring ∙ sym (ring_laws.kept_is s v P n.window.pre n.window.post n.window.preset w.rule running);
-      few = omega (arith, ap length w.ring, kept-few n.window.pre n.window.post n.window.preset (firings v P) (puts v P), few-before s k measure v n.window.pre n.window.post n.window.preset i w.rule);
-    }
-
-map-same : (xs : List FrameName) → map (λ (a : FrameName). a) xs ≡ xs
-map-same [] = refl
-map-same (x ∷ xs) = ap (λ ys. x ∷ ys) (map-same xs)
+use Rattle.flow_emit.proofs.RingWindows.{WindowAt, watch-facts, watch-passes, watch-unsorted, watch-rule, window-at}
 
 -- and after a put
 ring-then : (s : Setting) (r v : ℕ) (a : FrameName) (f : Bool) (P : Past) (old new : Watch FrameName) (out : List FrameName) (q : Watched) → WindowAt s v P old → is_settled v P ≡ false → IsWatched (firings v P) (puts v P) f a old new out q → IsRing s v (Put r v a.maker a.index f ∷ P) (node s v).work new
@@ -138,7 +56,7 @@ ring-then s r v a f P old new out q at running w =
     subst (λ (x : Work). IsRing s v Q x new) (sym rule) (
       λ h. record {
         rule = rule;
-        names = map-same (puts v Q);
+        names = map-id (puts v Q);
         after = subst (IsAfter new) (sym flags) w.stands.after;
         ring = w.stands.ring ∙ (ap (λ fs. kept new.pre new.post new.preset fs (puts v P ++ a ∷ [])) (sym flags) ∙ ap (kept new.pre new.post new.preset (firings v Q)) (sym names));
       },

@@ -1,73 +1,39 @@
 -- What a node keeps for a window to come, when it is settled.
-use Rattle.std.proofs.Common.{◌≡◌, ◌∙◌, ◌≤◌, ◌-◌, ℕ, zero, suc, true, false, Bool, ◌||◌, ltb, max, List, [], ◌∷◌, ◌++◌, Some, length, map, drop, set, refl, sym, ap, subst, arith, length-drop, if◌then◌else◌}
-use Rattle.std.specs.Prelude.{slice_get, slice_index_or}
-use Rattle.std.specs.List.{All, flat_map}
-use Rattle.std.proofs.lemmas.Bool.{false≢true, true≢false}
-use Rattle.std.proofs.lemmas.List.{map-id}
-use Rattle.std.proofs.lemmas.List.Elements.{All-head, All-tail, All-nil}
+use Rattle.std.proofs.Common.{◌≡◌, ◌∙◌, ◌≤◌, ◌-◌, ℕ, suc, true, false, Bool, List, [], ◌∷◌, ◌++◌, Some, length, set, refl, sym, subst, arith, if◌then◌else◌}
+use Rattle.std.specs.Prelude.{slice_get}
+use Rattle.std.specs.List.{flat_map}
+use Rattle.std.proofs.lemmas.Bool.{true≢false}
+use Rattle.std.proofs.lemmas.List.Elements.{All-nil}
 use Rattle.nd_base.specs.declared.frame.FrameName.{FrameName}
 use Rattle.trig_window.specs.Watch.{Watch}
-use Rattle.trig_window.specs.Windows.{kept, end_of_last, triggers, is_complete}
 use Rattle.flow_journal.specs.declared.entry.Entry.TheVariants.{Settle}
-use Rattle.flow_journal.specs.Setting.{Setting, Work, Makes, Passes, Watches, Saves, Node, node, no_node, is_node}
+use Rattle.flow_journal.specs.Setting.{Setting, Work, Makes, Passes, Watches, Saves, node, is_node}
 use Rattle.flow_journal.specs.Pasts.{Past}
 use Rattle.flow_journal.specs.Accounts.{block_of}
 use Rattle.flow_journal.specs.Ended.{is_settled}
 use Rattle.flow_journal.specs.Puts.{puts, firings}
 use Rattle.flow_journal.specs.Rings.{ring, ring_of}
 use Rattle.flow_journal.specs.Histories.{is_legal}
-use Rattle.flow_journal.specs.RingPushes.{IsWindowOf}
 use Rattle.flow_journal.proofs.Changes.{clock_laws}
-use Rattle.flow_journal.proofs.RingPushes.{ring_window_laws}
 use Rattle.board_rules.specs.States.{plain}
 use Rattle.pool_account.specs.Account.{IsAccount, all_named}
 use Rattle.pool_account.proofs.Laws.{array_laws}
 use Rattle.flow_emit.specs.declared.rules.NodeWork.{NodeWork}
 use Rattle.flow_emit.specs.declared.rules.NodeWork.TheVariants as work
-use Rattle.flow_emit.specs.declared.rules.NodeRules.{NodeRules}
 use Rattle.flow_emit.specs.declared.node.NodeState.{NodeState}
-use Rattle.flow_emit.specs.RunRules.{as_node, as_work, IsWorkWithin}
+use Rattle.flow_emit.specs.RunRules.{as_work}
 use Rattle.flow_emit.specs.NodeStates.{IsNode, IsRing}
 use Rattle.flow_emit.specs.Having.{HasBlock}
 use Rattle.flow_emit.specs.Courses.{Parts, log_of, IsCourse}
-use Rattle.flow_emit.specs.Settling.{is_watching, watches}
+use Rattle.flow_emit.specs.Puts.{is_watching, watches}
 use Rattle.flow_emit.proofs.Coursing.{Measuring, apart-more}
-use Rattle.flow_emit.proofs.Reading.{place-of}
+use Rattle.flow_emit.proofs.RingWindows.{window-at}
 use Rattle.flow_emit.proofs.Finding.{node-is, still-account}
 use Rattle.flow_emit.proofs.Nodes.{nodes-set}
 use Rattle.flow_emit.proofs.Elsewhere.{same-settle, turn-same}
 use Rattle.flow_emit.proofs.Roles.{roles-kept}
 use Rattle.flow_emit.proofs.FrameBlocks.{blocks-kept}
 use Rattle.flow_emit.proofs.FactsAfter.{facts-settle}
-
--- HOW MANY
-cut-short : {X : Type 0} (b : Bool) (least end : ℕ) (xs : List X) → length xs - least ≤ end → length (if b then [] else drop end xs) ≤ least
-cut-short true least end xs le = omega arith
-cut-short false least end xs le = omega (arith, length-drop end xs, le)
-
--- no more than the greatest part of a window before its trigger
-kept-short : (pre post preset : ℕ) (flags : List Bool) (xs : List FrameName) → length (kept pre post preset flags xs) ≤ pre
-kept-short pre post preset flags xs =
-    let end = end_of_last post (triggers post preset flags) in
-    cut-short (ltb (length xs) end || is_complete post preset flags) pre (max end (length xs - pre)) xs (omega arith)
-
-within-work : (w : NodeWork) (pre post preset : ℕ) → IsWorkWithin w → as_work w ≡ Watches pre post preset → pre ≤ 4096
-within-work work.Makes pre post preset h e = absurd (cc)
-within-work work.Passes pre post preset h e = absurd (cc)
-within-work work.Deals pre post preset h e = absurd (cc)
-within-work (work.Watches a b d) pre post preset h e = let same : a ≡ pre = cc in omega (arith, h.0, same)
-within-work (work.Saves whole n) pre post preset h e = absurd (cc)
-
-within-works : (ns : List NodeRules) (j pre post preset : ℕ) → All (λ (n : NodeRules). IsWorkWithin n.work) ns → (slice_index_or (map as_node ns) j no_node).work ≡ Watches pre post preset → pre ≤ 4096
-within-works [] j pre post preset all e = absurd (cc)
-within-works (n ∷ ns) zero pre post preset all e = within-work n.work pre post preset (All-head (λ (x : NodeRules). IsWorkWithin x.work) n ns all) e
-within-works (n ∷ ns) (suc j) pre post preset all e = within-works ns j pre post preset (All-tail (λ (x : NodeRules). IsWorkWithin x.work) n ns all) e
-
-small-window : (measure : Measuring) (s : Setting) (k : Parts) (v pre post preset : ℕ) → IsCourse measure s k → is_node s v ≡ true → (node s v).work ≡ Watches pre post preset → pre ≤ 4096
-small-window measure s k v pre post preset i here is =
-    let p = place-of s v here in
-    within-works k.rules.nodes (v - 1) pre post preset i.ruled.works
-    (ap (λ (ns : List Node). (slice_index_or ns (v - 1) no_node).work) i.ruled.nodes ∙ (ap (λ u. (node s u).work) p.0 ∙ is))
 
 -- THE RING OF A CIRCULAR NODE
 -- its window has the ring, and nothing is pending
@@ -76,23 +42,10 @@ pub record HasRing (s : Setting) (v : ℕ) (P : Past) (w : Watch FrameName) : Ty
   pub pending : w.pending ≡ []
   pub few : length w.ring ≤ 4096
 
-watched : (w : Work) → is_watching w ≡ true → (pre post preset : ℕ) × (w ≡ Watches pre post preset)
-watched Makes h = absurd (false≢true h)
-watched (Passes d) h = absurd (false≢true h)
-watched (Watches pre post preset) h = (pre, post, preset, refl)
-watched (Saves whole n) h = absurd (false≢true h)
-
 pub has-ring : (measure : Measuring) (s : Setting) (k : Parts) (v : ℕ) (n : NodeState) → IsCourse measure s k → is_node s v ≡ true → slice_get k.nodes (v - 1) ≡ Some n → watches s v ≡ true → is_settled v (log_of k) ≡ false → HasRing s v (log_of k) n.window
 has-ring measure s k v n i here at kind unsettled =
-    let P = log_of k in
-    let d = watched (node s v).work kind in
-    let r : IsRing s v P (Watches d.0 d.1 d.2) n.window = subst (λ (w : Work). IsRing s v P w n.window) d.3 (node-is measure s k v n i here at).ring in
-    let x : IsWindowOf (λ (a : FrameName). a) s v P n.window (puts v P) = r.0 unsettled in
-    record {
-      same = sym (map-id n.window.ring) ∙ (ring_window_laws FrameName).has_ring (λ (a : FrameName). a) s v P n.window (puts v P) x unsettled;
-      pending = r.2;
-      few = omega (arith, ap length x.ring, kept-short n.window.pre n.window.post n.window.preset (firings v P) (puts v P), small-window measure s k v n.window.pre n.window.post n.window.preset i here x.rule);
-    }
+    let w = window-at measure s k v n i (node-is measure s k v n i here at) kind unsettled in
+    record { same = w.ring; pending = w.stands.pending; few = w.few }
 
 -- NODES THAT KEEP NOTHING
 plain-ring : (s : Setting) (v : ℕ) (Q : Past) (w : Work) (x : Watch FrameName) → is_watching w ≡ false → IsRing s v Q w x

@@ -52,11 +52,14 @@ of-outs v [] h = refl
 of-outs v (Emit w m k why ∷ ds) h = of-outs v ds (and_parts (eqb w v) (list_all (is_out_of v) ds) h).1
 of-outs v (_ ∷ ds) h = absurd (false≢true h)
 
+pub look-outs : (s : Setting) (v : ℕ) (P : Past) → list_all is_out (look s v P) ≡ true
+look-outs s v P = of-outs v (look s v P) (look-of s v P)
+
 looks-outs : (s : Setting) (P : Past) (vs : List ℕ) → list_all is_out (looks s P vs) ≡ true
 looks-outs s P [] = refl
 looks-outs s P (v ∷ vs) = all-append is_out (if is_sorted s v then look s v P else []) (looks s P vs) (one (is_sorted s v)) (looks-outs s P vs) where
   one : (b : Bool) → list_all is_out (if b then look s v P else []) ≡ true
-  one true = of-outs v (look s v P) (look-of s v P)
+  one true = look-outs s v P
   one false = refl
 
 -- A LOOK AT ANOTHER NODE

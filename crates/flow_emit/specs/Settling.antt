@@ -1,10 +1,10 @@
 -- What is let out of a sort list when its node is settled.
-use Rattle.std.specs.Prelude.{◌≡◌, ◌<◌, ℕ, Bool, true, false, List, [], ◌∷◌, ◌++◌, length, map, vec_capacity}
+use Rattle.std.specs.Prelude.{◌≡◌, ◌<◌, ℕ, List, [], ◌∷◌, ◌++◌, length, map, vec_capacity}
 use Rattle.nd_base.specs.declared.frame.FrameName.{FrameName}
 use Rattle.queue_sort.specs.declared.sort_lists.Waiting.{Waiting as Listed}
 use Rattle.flow_journal.specs.declared.entry.Entry.{Entry}
 use Rattle.flow_journal.specs.declared.entry.Why.TheVariants.{Flush}
-use Rattle.flow_journal.specs.Setting.{Setting, Work, Makes, Passes, Watches, Saves, node}
+use Rattle.flow_journal.specs.Setting.{Setting}
 use Rattle.flow_journal.specs.Pasts.{Past}
 use Rattle.flow_journal.specs.Waiting.{waiting, least_first}
 use Rattle.flow_journal.specs.Following.{emit}
@@ -14,16 +14,6 @@ use Rattle.board_rules.specs.Moving.{with_all}
 use Rattle.flow_emit.specs.Courses.{Coursed}
 use Rattle.flow_emit.specs.declared.node.Kept.{Kept}
 use Rattle.flow_emit.specs.declared.node.NodeState.{NodeState}
-
--- a node that keeps arrays for its trigger windows
-abbrev pub is_watching : Work → Bool
-is_watching Makes = false
-is_watching (Passes deals) = false
-is_watching (Watches pre post preset) = true
-is_watching (Saves whole_groups count) = false
-
-abbrev pub watches : Setting → ℕ → Bool
-watches s v = is_watching (node s v).work
 
 -- all that waits goes out, the least first
 abbrev pub flush : Setting → ℕ → Past → List Entry

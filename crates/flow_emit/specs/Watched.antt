@@ -7,21 +7,13 @@ use Rattle.trig_window.specs.Windows.{is_trigger, is_passed}
 use Rattle.flow_journal.specs.declared.entry.Entry.{Entry}
 use Rattle.flow_journal.specs.declared.entry.Why.{Why}
 use Rattle.flow_journal.specs.declared.entry.Why.TheVariants.{Ring, Now}
-use Rattle.flow_journal.specs.Setting.{Setting, Work, Watches, node}
+use Rattle.flow_journal.specs.Setting.{Setting}
 use Rattle.flow_journal.specs.Following.{calls_for, emit}
 use Rattle.board_rules.specs.States.{past, plain}
 use Rattle.flow_emit.specs.Courses.{Coursed}
 use Rattle.flow_emit.specs.Puts.{put_of}
 use Rattle.flow_emit.specs.declared.course.watching.Watched.{Watched}
 use Rattle.flow_emit.specs.declared.course.watching.Watched.TheVariants.{Kept, LetGo, Out}
-
-abbrev pub is_watching : Work → Bool
-is_watching (Watches pre post preset) = true
-is_watching _ = false
-
--- the node passes on the arrays in its trigger windows
-abbrev pub watches : Setting → ℕ → Bool
-watches s v = is_watching (node s v).work
 
 -- What comes out of a window: nothing, where the array is kept; an array that no window has; or the array itself, behind what of the
 -- ring goes out.

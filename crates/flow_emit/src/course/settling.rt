@@ -15,7 +15,8 @@ ghost use Rattle.board_rules.specs.Moving.{moved, with_all};
 ghost use Rattle.board_rules.specs.Working.{waits_to_settle};
 ghost use Rattle.board_rules.specs.RunMeasures.{run_setting};
 ghost use Rattle.flow_emit.specs.declared.node.Kept.{Kept};
-ghost use Rattle.flow_emit.specs.Settling.{IsFlushed, FlushesOne, flush, watches};
+ghost use Rattle.flow_emit.specs.Puts.{watches};
+ghost use Rattle.flow_emit.specs.Settling.{IsFlushed, FlushesOne, flush};
 
 use crate::course::emission::keep_measure;
 use crate::{Course, Kept, NodeState, NodeWork};

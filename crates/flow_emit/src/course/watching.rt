@@ -11,8 +11,8 @@ ghost use Rattle.board_rules.specs.InHand.{is_job_on};
 ghost use Rattle.board_rules.specs.Moving.{moved, with_all};
 ghost use Rattle.board_rules.specs.States.{past, plain};
 ghost use Rattle.board_rules.specs.RunMeasures.{run_setting};
-ghost use Rattle.flow_emit.specs.Puts.{put_of, fires_for};
-ghost use Rattle.flow_emit.specs.Watched.{IsWatched, IsPutInRing, ring_outs, watches};
+ghost use Rattle.flow_emit.specs.Puts.{put_of, fires_for, watches};
+ghost use Rattle.flow_emit.specs.Watched.{IsWatched, IsPutInRing, ring_outs};
 
 use crate::Course;
 use crate::course::puts::{count_put, let_go};

@@ -21,7 +21,8 @@ use Rattle.flow_emit.proofs.Handed.{job-on}
 use Rattle.flow_emit.proofs.Opening.{parts}
 use Rattle.flow_emit.proofs.Putting.{some-job, few-puts}
 use Rattle.flow_emit.proofs.PutMoves.{put-first, put-legal}
-use Rattle.flow_emit.proofs.PutWatched.{window-at, watch-passes, put_in_ring_at, calls-on-way}
+use Rattle.flow_emit.proofs.PutWatched.{put_in_ring_at, calls-on-way}
+use Rattle.flow_emit.proofs.RingWindows.{window-at, watch-passes}
 use Rattle.flow_emit.proofs.Reading.{place-of}
 use Rattle.flow_emit.proofs.course.Course.put_in_ring.Goals as goal
 

@@ -17,8 +17,9 @@ use Rattle.flow_emit.specs.Puts.{put_of}
 use Rattle.flow_emit.specs.declared.course.placing.Placement.{Placement}
 use Rattle.flow_emit.specs.declared.course.placing.Placement.TheVariants.{Out, Waits, Full}
 use Rattle.flow_emit.proofs.Handed.{job-on}
+use Rattle.flow_emit.proofs.Offering.{legal-before}
 use Rattle.flow_emit.proofs.PutMoves.{put-legal, put-whole, whole-name}
-use Rattle.flow_emit.proofs.PutSorted.{LookLeft, left-out, left-waits, left-full, left-legal, left-looked, moved-out, before-look}
+use Rattle.flow_emit.proofs.PutSorted.{LookLeft, left-out, left-waits, left-full, left-legal, left-looked, moved-out}
 use Rattle.flow_emit.proofs.course.Course.put_sorted.Goals as goal
 use Rattle.flow_emit.proofs.course.Course.put_sorted.Goals.{in-Out, in-Waits, in-Full}
 
@@ -55,7 +56,7 @@ pass_on-requires-clause-legal g c =
     let after : BoardState → BoardState = λ d. with_all s 0 1 (map (offer made) (offered_to s (before_emission d) v)) d in
     let whole = moved-out s v r a made f b c.requires.sorted first q.0 c.result_name-made.ensures in
     let last : is_legal s (past (with_all s 0 2 (look s v (past (after e))) (after e))) ≡ true = subst (λ (d : BoardState). is_legal s (past d) ≡ true) whole all in
-    subst (λ (d : BoardState). is_legal s (past (after d)) ≡ true) (sym told) (before-look s v (past (after e)) (after e) last)
+    subst (λ (d : BoardState). is_legal s (past (after d)) ≡ true) (sym told) (legal-before s 0 2 (look s v (past (after e))) (after e) last)
 
 pub release_input-requires-clause-input : goal.release_input-requires-clause-input
 release_input-requires-clause-input g c =

@@ -1,5 +1,5 @@
 use Rattle.std.proofs.Common.{◌∙◌, sym, ap}
-use Rattle.flow_emit.specs.Settling.{is_watching}
+use Rattle.flow_emit.specs.Puts.{is_watching}
 use Rattle.flow_emit.proofs.Rings.{not-watching}
 use Rattle.flow_emit.proofs.course.Course.settle.Goals as goal
 
