@@ -18,9 +18,8 @@ mod puts;
 mod reclaims;
 mod starting;
 
-pub use ending::MeasureRoom;
-
 use crate::{Facts, NodeState, RoleState, Rules};
+pub use ending::MeasureRoom;
 use nd_base::{FrameName, Held};
 use pool_ledger::Pool;
 use std::collections::VecDeque;
