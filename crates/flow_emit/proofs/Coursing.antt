@@ -144,7 +144,7 @@ holds-below measure s k b i =
 pub node-is : (measure : Measuring) (s : Setting) (k : Parts) (v c : ℕ) (n : NodeState) → suc c ≡ v → IsCourse measure s k → slice_get k.nodes c ≡ Some n → IsNode measure s v (log_of k) n
 node-is measure s k v c n is i at = subst (λ u. IsNode measure s u (log_of k) n) is (i.nodes.each c n at)
 
-listed-some : (v : ℕ) (measure : Measuring) (x : Measure) (xs : List FrameName) → length (flat_map (λ a. listed_one (measure v a)) xs) ≤ length xs
+pub listed-some : (v : ℕ) (measure : Measuring) (x : Measure) (xs : List FrameName) → length (flat_map (λ a. listed_one (measure v a)) xs) ≤ length xs
 listed-some v measure x [] = omega arith
 listed-some v measure x (a ∷ xs) = omega (arith, length-append (listed_one (measure v a)) (flat_map (λ b. listed_one (measure v b)) xs), one-listed (measure v a), listed-some v measure x xs) where
   one-listed : (o : Option Measure) → length (listed_one o) ≤ 1
@@ -356,24 +356,31 @@ emitted_at_once measure s k c m j why n y i legal at plain_one same items room =
       transit_room = i.transit_room;
     }
 
-pub emitted_from_list : (measure : Measuring) (s : Setting) (k : Parts) (c m j : ℕ) (why : Why) (n y : NodeState) → IsCourse measure s k → is_legal s (Emit (suc c) m j why ∷ log_of k) ≡ true → slice_get k.nodes c ≡ Some n → is_sorted s (suc c) ≡ true → k.transit ≡ [] → HasBlock (log_of k) (frame m j) → y.list.size ≡ n.list.size → y.list.last ≡ id_at s j → y.list.waiting ≡ list_of measure s (suc c) (Emit (suc c) m j why ∷ log_of k) → y.measures.items ≡ n.measures.items ++ listed_one (measure (suc c) (frame m j)) → HasRoomToMeasure measure s (suc c) y
-    → IsCourse measure s (record k { log = record k.log { told = plain (Emit (suc c) m j why) ∷ k.log.told }; nodes = set k.nodes c (record n { list = y.list; measures = y.measures }); transit = frame m j ∷ [] })
-emitted_from_list measure s k c m j why n y i legal at sorted empty has size last waits items room =
+-- an array goes out of the list while others are on their way
+pub emitted_more : (measure : Measuring) (s : Setting) (k : Parts) (c m j : ℕ) (why : Why) (n y : NodeState) → IsCourse measure s k → is_legal s (Emit (suc c) m j why ∷ log_of k) ≡ true → slice_get k.nodes c ≡ Some n → is_sorted s (suc c) ≡ true → length k.transit ≤ 4096 → HasBlock (log_of k) (frame m j) → y.list.size ≡ n.list.size → y.list.last ≡ id_at s j → y.list.waiting ≡ list_of measure s (suc c) (Emit (suc c) m j why ∷ log_of k) → y.measures.items ≡ n.measures.items ++ listed_one (measure (suc c) (frame m j)) → HasRoomToMeasure measure s (suc c) y → IsCourse measure s (record k { log = record k.log { told = plain (Emit (suc c) m j why) ∷ k.log.told }; nodes = set k.nodes c (record n { list = y.list; measures = y.measures }); transit = frame m j ∷ k.transit })
+emitted_more measure s k c m j why n y i legal at sorted few has size last waits items room =
     let P = log_of k in
     record {
       ruled = i.ruled;
       legal = legal;
       nodes = nodes-set measure s P (Emit (suc c) m j why ∷ P) k.nodes c _ i.nodes (here-emit measure s (suc c) m j why P n y (i.nodes.each c n at) legal (size ∙ (i.nodes.each c n at).list_size) (λ h. last) waits items room) (λ v ne. same-emit s (suc v) (suc c) m j why P legal (apart-more ne));
       roles = roles-kept s P _ k.roles i.roles (λ r. refl);
-      account = array_laws.emit_sorted s P (suc c) m j why (all_named k.pool) (block_of P (frame m j)) [] sorted refl legal (subst (λ (ts : List FrameName). IsAccount s P (flat_map (block_of P) ts) (all_named k.pool)) empty i.account);
-      standing = All-cons (HasBlock P) (frame m j) [] has (All-nil (HasBlock P));
+      account = array_laws.emit_sorted s P (suc c) m j why (all_named k.pool) (block_of P (frame m j)) (flat_map (block_of P) k.transit) sorted refl legal i.account;
+      standing = All-cons (HasBlock P) (frame m j) k.transit has i.standing;
       blocks = blocks-kept s P _ k.blocks i.blocks (λ a. refl);
       facts = i.facts ∙ sym (facts-emit s (suc c) m j why P legal);
       log_room = i.log_room;
       reclaims = i.reclaims;
-      moving = omega arith;
+      moving = omega (arith, few);
       transit_room = i.transit_room;
     }
+
+-- and where none are
+pub emitted_from_list : (measure : Measuring) (s : Setting) (k : Parts) (c m j : ℕ) (why : Why) (n y : NodeState) → IsCourse measure s k → is_legal s (Emit (suc c) m j why ∷ log_of k) ≡ true → slice_get k.nodes c ≡ Some n → is_sorted s (suc c) ≡ true → k.transit ≡ [] → HasBlock (log_of k) (frame m j) → y.list.size ≡ n.list.size → y.list.last ≡ id_at s j → y.list.waiting ≡ list_of measure s (suc c) (Emit (suc c) m j why ∷ log_of k) → y.measures.items ≡ n.measures.items ++ listed_one (measure (suc c) (frame m j)) → HasRoomToMeasure measure s (suc c) y
+    → IsCourse measure s (record k { log = record k.log { told = plain (Emit (suc c) m j why) ∷ k.log.told }; nodes = set k.nodes c (record n { list = y.list; measures = y.measures }); transit = frame m j ∷ [] })
+emitted_from_list measure s k c m j why n y i legal at sorted empty has size last waits items room =
+    subst (λ (ts : List FrameName). IsCourse measure s (record k { log = record k.log { told = plain (Emit (suc c) m j why) ∷ k.log.told }; nodes = set k.nodes c (record n { list = y.list; measures = y.measures }); transit = frame m j ∷ ts })) empty
+    (emitted_more measure s k c m j why n y i legal at sorted (omega (arith, ap length empty)) has size last waits items room)
 
 pub took : (measure : Measuring) (s : Setting) (k : Parts) (r c m j : ℕ) (x : RoleState) (n : NodeState) (part : Option Parts_of) → IsCourse measure s k → is_legal s (Take r (suc c) m j ∷ log_of k) ≡ true → slice_get k.roles r ≡ Some x → slice_get k.nodes c ≡ Some n
     → IsCourse measure s (record k { log = record k.log { told = lends (Take r (suc c) m j) part ∷ k.log.told }; nodes = set k.nodes c (record n { inbox = without_front n.inbox; jobs = n.jobs + 1 }); roles = set k.roles r (record x { hand = Job (suc c) (frame m j) None }) })

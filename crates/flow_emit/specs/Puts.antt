@@ -1,10 +1,10 @@
 -- What a job lets go when its result is put.
-use Rattle.std.specs.Prelude.{ℕ, Bool, List, [], ◌∷◌, if◌then◌else◌}
+use Rattle.std.specs.Prelude.{ℕ, Bool, true, false, List, [], ◌∷◌, if◌then◌else◌}
 use Rattle.nd_base.specs.declared.frame.FrameName.{FrameName}
 use Rattle.flow_journal.specs.declared.entry.Entry.{Entry}
 use Rattle.flow_journal.specs.declared.entry.Entry.TheVariants.{Put}
 use Rattle.flow_journal.specs.FirstEntries.{fires_at}
-use Rattle.flow_journal.specs.Setting.{Setting, Work, node, is_maker, may_sort}
+use Rattle.flow_journal.specs.Setting.{Setting, Work, Makes, Passes, Watches, Saves, node, is_maker, may_sort}
 use Rattle.flow_journal.specs.Unsaved.{is_file}
 use Rattle.board_rules.specs.InHand.{result_name}
 
@@ -31,6 +31,16 @@ saves_all s v = is_file (node s v).work
 -- the array of a job whose result was made of it, which the job lets go
 abbrev pub inputs : Setting → ℕ → FrameName → List FrameName
 inputs s v a = if is_maker s v then a ∷ [] else []
+
+-- the node keeps arrays for its trigger windows
+abbrev pub is_watching : Work → Bool
+is_watching Makes = false
+is_watching (Passes deals) = false
+is_watching (Watches pre post preset) = true
+is_watching (Saves whole_groups count) = false
+
+abbrev pub watches : Setting → ℕ → Bool
+watches s v = is_watching (node s v).work
 
 -- what the node does
 abbrev pub work_at : Setting → ℕ → Work
