@@ -1,11 +1,13 @@
 -- The calls of the feeder, and what the clock answered.
-use Rattle.std.specs.Prelude.{◌≡◌, ℕ, List, [], ◌∷◌, ◌++◌, length, Option, Result}
+use Rattle.std.specs.Prelude.{◌≡◌, ℕ, List, [], ◌∷◌, ◌++◌, length, Option, None, Result}
 use Rattle.edge_traits.specs.Ticks.{Coming, Ticks}
 use Rattle.frame_store.specs.Sealed.{Sealed}
 use Rattle.flow_journal.specs.Setting.{Setting}
+use Rattle.flow_journal.specs.Hands.{hand}
 use Rattle.board_rules.specs.declared.answers.Load.{Load}
 use Rattle.board_rules.specs.declared.answers.NotYours.{NotYours}
 use Rattle.board_rules.specs.declared.answers.Settled.{Settled}
+use Rattle.board_rules.specs.States.{past}
 use Rattle.board_rules.specs.Feeding.{LoadGives, IssueGives, CloseGives}
 use Rattle.board_rules.specs.Leaving.{LeaveGives}
 use Rattle.flow_roles.specs.declared.last.Last.TheVariants.{Gone}
@@ -13,10 +15,11 @@ use Rattle.flow_roles.specs.Lasts.{last_load, last_given, last_close}
 use Rattle.flow_roles.specs.Passes.{Pass, Called}
 use Rattle.flow_roles.specs.Feeder.{name_of, parts_of}
 
--- The feeder's calls led from the first pass to the last, and its loads were handed these ticks, one each, THE NEWEST FIRST.
+-- The feeder's calls led from the first pass to the last. It loaded only with nothing in hand, and its loads were handed these ticks, one
+-- each, THE NEWEST FIRST.
 pub data Feeds (s : Setting) (first : Pass) : (ticks : List ℕ) → (last : Pass) → Type 0 where
   none : Feeds s first [] first
-  loads : (ticks : List ℕ) (p q : Pass) (tick : ℕ) (a : Load (List ℕ)) → Feeds s first ticks p
+  loads : (ticks : List ℕ) (p q : Pass) (tick : ℕ) (a : Load (List ℕ)) → Feeds s first ticks p → hand 0 (past p.made) ≡ None
       → Called s (λ old new. LoadGives parts_of length s old 0 tick a new) (last_load a) p q → Feeds s first (tick ∷ ticks) q
   issues : (ticks : List ℕ) (p q : Pass) (f : Sealed) (a : Result (Unit {0}) (NotYours Sealed)) → Feeds s first ticks p
       → Called s (λ old new. IssueGives name_of s old 0 f a new) (last_given a) p q → Feeds s first ticks q
@@ -34,6 +37,6 @@ abbrev pub Answered : Option Coming → List ℕ → Option Coming → Type 0
 Answered old [] new = new ≡ old
 Answered old (t ∷ ts) new = (mid : Option Coming) × Answered old ts mid × Ticks mid t new
 
--- each load was handed the clock's next answer
+-- each load, with nothing in hand, was handed the clock's next answer
 abbrev pub FeedsByTheClock : Setting → (first last : Pass) → (old new : Option Coming) → Type 0
 FeedsByTheClock s first last old new = (ticks : List ℕ) × Answered old ticks new × Feeds s first ticks last
