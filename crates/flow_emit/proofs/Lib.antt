@@ -24,3 +24,6 @@ pub mod Putting
 pub mod RuleFound
 pub mod PutMoves
 pub mod Looking
+pub mod Ticking
+pub mod Flushing
+pub mod Rings

@@ -9,3 +9,5 @@ pub mod Emissions
 pub mod Starts
 pub mod Puts
 pub mod Looks
+pub mod Ticks
+pub mod Settling

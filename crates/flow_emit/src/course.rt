@@ -13,6 +13,8 @@ mod looks;
 mod moves;
 mod puts;
 mod reclaims;
+mod settling;
+mod ticks;
 
 use crate::{Facts, NodeState, RoleState, Rules};
 use nd_base::{FrameName, Held};
