@@ -27,3 +27,7 @@ pub mod Looking
 pub mod Ticking
 pub mod Flushing
 pub mod Rings
+pub mod Placing
+pub mod PlacedCourse
+pub mod PutSorted
+pub mod Listing

@@ -11,3 +11,4 @@ pub mod Puts
 pub mod Looks
 pub mod Ticks
 pub mod Settling
+pub mod Placing

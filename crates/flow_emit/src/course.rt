@@ -11,6 +11,7 @@ mod emission;
 mod grants;
 mod looks;
 mod moves;
+mod placing;
 mod puts;
 mod reclaims;
 mod settling;
