@@ -2,6 +2,8 @@ pub mod Having
 pub mod RunRules
 pub mod NodeStates
 pub mod RoleStates
+pub mod HandWords
+pub mod Endings
 pub mod Facts
 pub mod FrameBlocks
 pub mod Courses
