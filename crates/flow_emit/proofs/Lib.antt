@@ -37,3 +37,5 @@ pub mod Placing
 pub mod PlacedCourse
 pub mod PutSorted
 pub mod Listing
+pub mod Ringing
+pub mod PutWatched

@@ -14,3 +14,4 @@ pub mod Looks
 pub mod Ticks
 pub mod Settling
 pub mod Placing
+pub mod Watched

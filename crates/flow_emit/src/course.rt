@@ -20,6 +20,7 @@ mod reclaims;
 mod settling;
 mod starting;
 mod ticks;
+mod watching;
 
 pub use ending::MeasureRoom;
 
