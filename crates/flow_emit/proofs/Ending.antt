@@ -1,10 +1,11 @@
 -- What is left at the end, as code reads it of nodes and roles.
-use Rattle.std.proofs.Common.{◌≡◌, ◌≤◌, ◌<◌, ◌∙◌, ℕ, ◌+◌, zero, suc, true, false, Bool, ◌&&◌, List, [], ◌∷◌, ◌++◌, Option, Some, None, length, map, refl, sym, ap, subst, arith, inl, inr, ◌⊎◌, eqb}
+use Rattle.std.proofs.Common.{◌≡◌, ◌≤◌, ◌<◌, ◌∙◌, ℕ, ◌+◌, ◌*◌, ◌^◌, zero, suc, true, false, Bool, ◌&&◌, List, [], ◌∷◌, ◌++◌, Option, Some, None, length, map, refl, sym, ap, subst, arith, inl, inr, ◌⊎◌, eqb}
+use Rattle.std.proofs.Math.Nat.{mul-le-mul}
 use Rattle.std.specs.Prelude.{slice_get, is_none}
 use Rattle.std.specs.List.{list_all}
 use Rattle.std.proofs.lemmas.Bool.{and_parts, and_from, true≢false, cases_Bool, ne_eqb}
 use Rattle.std.proofs.lemmas.Option.{slice_get-get_or}
-use Rattle.std.proofs.lemmas.List.{append-nil}
+use Rattle.std.proofs.lemmas.List.{append-nil, length-map}
 use Rattle.queue_sort.specs.Inboxes.{InboxState}
 use Rattle.nd_base.specs.declared.frame.FrameName.{FrameName}
 use Rattle.nd_base.specs.declared.measure.Measure.{Measure}
@@ -20,6 +21,12 @@ use Rattle.flow_journal.specs.Unsaved.{unsaved}
 use Rattle.flow_journal.specs.Finished.{none_left, is_done}
 use Rattle.flow_journal.specs.Histories.{is_legal, is_history}
 use Rattle.board_rules.specs.Ends.{measured, measured_at}
+use Rattle.board_rules.specs.States.{BoardState, past}
+use Rattle.flow_journal.specs.declared.progress.Progress.{Progress}
+use Rattle.flow_journal.proofs.Lengths.{length_laws}
+use Rattle.flow_emit.specs.declared.facts.Facts.{Facts}
+use Rattle.flow_emit.specs.declared.rules.Rules.{Rules}
+use Rattle.flow_emit.specs.RunRules.{AreRules, as_node}
 use Rattle.flow_emit.specs.declared.node.NodeState.{NodeState}
 use Rattle.flow_emit.specs.declared.hand.RoleState.{RoleState}
 use Rattle.flow_emit.specs.Endings.{is_over, has_free_hand}
@@ -128,3 +135,18 @@ pub nodes-measured : (measure : ℕ → FrameName → Option Measure) (s : Setti
 nodes-measured measure s P ns are =
     let step : (i : ℕ) → suc i ≡ 1 + i = λ i. omega arith in
     maps-agree (λ (n : NodeState). n.measures.items) (measured_at measure P) ns s.nodes 1 are.all (λ i n at. (are.each i n at).measures ∙ ap (measured_at measure P) (step i))
+
+-- PROGRESS
+abbrev pub progress_with : ℕ → Facts → Bool → Progress
+progress_with n f b = record { entries = n; offered = f.came; dropped = f.dropped; saved = f.saved; left = f.left; done = b }
+
+pub past-length : (b : BoardState) → length (past b) ≡ length b
+past-length [] = refl
+past-length (t ∷ b) = ap suc (past-length b)
+
+-- no log is too long
+pub log-fits : (s : Setting) (ru : Rules) (P : Past) → AreRules ru s → is_legal s P ≡ true → length P < 2 ^ 32
+log-fits s ru P are legal =
+    let frames : length s.ids ≤ 65536 = omega (arith, are.few_frames, ap length are.ids) in
+    let nodes : length s.nodes ≤ 32 = omega (arith, are.few_nodes, ap length are.nodes, length-map ru.nodes as_node) in
+    omega (arith, length_laws.within_limits s P nodes are.few_threads legal, mul-le-mul frames nodes)

@@ -22,9 +22,8 @@ mod starting;
 mod ticks;
 mod watching;
 
-pub use ending::MeasureRoom;
-
 use crate::{Facts, NodeState, RoleState, Rules};
+pub use ending::MeasureRoom;
 use nd_base::{FrameName, Held};
 use pool_ledger::Pool;
 use std::collections::VecDeque;

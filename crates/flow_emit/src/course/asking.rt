@@ -1,7 +1,7 @@
 //! What stands against a call.
 
-ghost use Rattle.std.specs.Prelude.{◌≡◌, ◌≤◌, ◌<◌, ◌+◌, ◌||◌, [], true, false, nat_le, slice_get, length, Some};
-ghost use Rattle.std.specs.List.{list_all, All};
+ghost use Rattle.std.specs.Prelude.{◌≡◌, ◌≤◌, ◌<◌, ◌+◌, ◌||◌, [], true, false, not, nat_le, nat_lt, slice_get, length, Some};
+ghost use Rattle.std.specs.List.{list_all, list_any, All};
 ghost use Rattle.flow_journal.specs.Setting.{last_role, is_node, is_maker, children, node as node_of};
 ghost use Rattle.flow_journal.specs.Queued.{queued, has_room};
 ghost use Rattle.flow_journal.specs.Offered.{next_index};
@@ -10,7 +10,7 @@ ghost use Rattle.flow_journal.specs.Ended.{is_closed, is_settled, has_ended};
 ghost use Rattle.flow_journal.specs.FirstEntries.{is_next};
 ghost use Rattle.flow_journal.specs.Finished.{none_left};
 ghost use Rattle.flow_journal.specs.Puts.{puts};
-ghost use Rattle.flow_journal.specs.Hands.{jobs};
+ghost use Rattle.flow_journal.specs.Hands.{hands, jobs, is_piece};
 ghost use Rattle.board_rules.specs.States.{past};
 ghost use Rattle.board_rules.specs.Feeding.{is_sent_away, load_refusal, waits_to_close};
 ghost use Rattle.board_rules.specs.Working.{take_refusal, waits_to_settle};
@@ -70,7 +70,8 @@ impl<F: Held> Course<F> {
     /// What is kept of a node.
     fn state(&self, node: u32) -> &NodeState
         requires { is_node (run_setting F.Of.graph F.Of.stack) node ≡ true }
-        ensures { IsNode (run_measure F.Of.graph F.Of.stack) (run_setting F.Of.graph F.Of.stack) node (past self.now.told) result.now }
+        ensures kept { IsNode (run_measure F.Of.graph F.Of.stack) (run_setting F.Of.graph F.Of.stack) node (past self.now.told) result.now }
+        ensures few { result.now.saves ≤ 65536 }
     {
         &self.nodes[node as usize - 1]
     }
@@ -208,6 +209,14 @@ impl<F: Held> Course<F> {
         }
     }
 
+    /// Whether a piece of the node is in a hand.
+    fn is_saving(&self, node: u32) -> bool
+        requires { is_node (run_setting F.Of.graph F.Of.stack) node ≡ true }
+        ensures { result ≡ list_any (is_piece node) (hands (past self.now.told)) }
+    {
+        self.state(node).saving
+    }
+
     /// What stands against a save of a piece of the node by this role.
     pub fn save_refusal(&self, role: u32, node: u32) -> Option<Save<F>>
         requires role { role ≤ last_role (run_setting F.Of.graph F.Of.stack) }
@@ -217,7 +226,7 @@ impl<F: Held> Course<F> {
         if !self.is_free(role) {
             return Some(Save::Busy);
         }
-        if !self.has_due(node) || self.state(node).saving {
+        if !self.has_due(node) || self.is_saving(node) {
             return Some(Save::NotYet);
         }
         None
@@ -266,11 +275,10 @@ impl<F: Held> Course<F> {
         requires { role ≤ last_role (run_setting F.Of.graph F.Of.stack) }
         ensures { result ≡ reclaim_refusal (run_setting F.Of.graph F.Of.stack) role (past self.now.told) }
     {
-        let state = self.role(role);
-        if state.hand.is_free() {
+        if self.is_free(role) {
             return Some(NoWhy::NoHand);
         }
-        if state.was_reclaimed || role == self.rules.last_role() {
+        if self.role(role).was_reclaimed || role == self.rules.last_role() {
             return Some(NoWhy::Spent);
         }
         None
@@ -301,13 +309,42 @@ impl<F: Held> Course<F> {
         self.is_settled(node)
     }
 
+    /// Whether something is queued at the node.
+    fn has_queued(&self, node: u32) -> bool
+        requires { is_node (run_setting F.Of.graph F.Of.stack) node ≡ true }
+        ensures { result ≡ not (none_left (queued node (past self.now.told))) }
+    {
+        self.state(node).inbox.len() != 0
+    }
+
+    /// The node whose arrays a node is fed; the driver is 0.
+    fn input(&self, node: u32) -> u32
+        requires { is_node (run_setting F.Of.graph F.Of.stack) node ≡ true }
+        ensures input { result ≡ (node_of (run_setting F.Of.graph F.Of.stack) node).input }
+        ensures there { result ≤ length (run_setting F.Of.graph F.Of.stack).nodes }
+    {
+        self.rules_of(node).input
+    }
+
+    /// Whether a job of the node is in hand.
+    fn has_jobs(&self, node: u32) -> bool
+        requires { is_node (run_setting F.Of.graph F.Of.stack) node ≡ true }
+        ensures { result ≡ nat_lt 0 (jobs node (past self.now.told)) }
+    {
+        self.state(node).jobs > 0
+    }
+
     /// Whether the node isn't settled, and can't be yet.
     pub fn waits_to_settle(&self, node: u32) -> bool
         requires { is_node (run_setting F.Of.graph F.Of.stack) node ≡ true }
         ensures { result ≡ waits_to_settle (run_setting F.Of.graph F.Of.stack) node (past self.now.told) }
     {
-        let state = self.state(node);
-        let input = self.rules_of(node).input;
-        !state.settled && (!self.has_ended(input) || state.inbox.len() != 0 || state.jobs > 0)
+        if self.is_settled(node) {
+            return false;
+        }
+        if !self.has_ended(self.input(node)) {
+            return true;
+        }
+        self.has_queued(node) || self.has_jobs(node)
     }
 }

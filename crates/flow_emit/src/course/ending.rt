@@ -50,6 +50,20 @@ fn has_free_hand(role: &RoleState) -> bool
     role.hand.is_free()
 }
 
+/// Each node is settled, with nothing queued and nothing to save.
+fn all_are_over(nodes: &[NodeState]) -> bool
+    ensures { result ≡ list_all is_over nodes.now }
+{
+    nodes.iter().all(is_over)
+}
+
+/// No role has anything in hand.
+fn all_have_free_hands(roles: &[RoleState]) -> bool
+    ensures { result ≡ list_all has_free_hand roles.now }
+{
+    roles.iter().all(has_free_hand)
+}
+
 /// The measures of a node.
 fn measures_of(node: NodeState) -> Seq<Measure>
     ensures { result ≡ node.measures.items }
@@ -87,7 +101,7 @@ impl<F: Held> Course<F> {
     fn all_are_free(&self) -> bool
         ensures { result ≡ none_left (hands (past self.now.told)) }
     {
-        self.roles.iter().all(has_free_hand)
+        all_have_free_hands(&self.roles)
     }
 
     /// Whether each node is settled, and nothing is left there.
@@ -95,7 +109,7 @@ impl<F: Held> Course<F> {
         requires { is_history (run_setting F.Of.graph F.Of.stack) (past self.now.told) ≡ true }
         ensures { result ≡ list_all (is_done (run_setting F.Of.graph F.Of.stack) (past self.now.told)) (node_numbers (run_setting F.Of.graph F.Of.stack)) }
     {
-        self.nodes.iter().all(is_over)
+        all_are_over(&self.nodes)
     }
 
     /// Whether the feed and all nodes have ended, and nothing is left anywhere.

@@ -5,7 +5,6 @@ use Rattle.flow_journal.specs.Hands.{hand}
 use Rattle.flow_emit.specs.Courses.{IsCourse, Coursed}
 use Rattle.flow_emit.specs.RoleStates.{role_of, hand_of}
 use Rattle.flow_emit.specs.declared.hand.RoleState.{RoleState}
-
 use Rattle.flow_emit.specs.HandWords.{node_of}
 use Rattle.flow_emit.proofs.HandWords.{node-is}
 use Rattle.flow_emit.proofs.course.Course.hand_node.Goals as goal

@@ -1,0 +1,30 @@
+use Rattle.std.proofs.Common.{◌≡◌, ◌≤◌, ◌<◌, ◌∙◌, ◌-◌, ℕ, true, false, Bool, ◌&&◌, ◌||◌, not, List, Some, length, map, drop, eqb, ltb, leb, refl, sym, ap, subst, arith}
+use Rattle.std.specs.Prelude.{slice_get}
+use Rattle.std.proofs.lemmas.List.{length-map}
+use Rattle.nd_base.specs.declared.frame.FrameName.{FrameName}
+use Rattle.board_rules.specs.RunMeasures.{run_setting, run_measure}
+use Rattle.board_rules.specs.States.{past}
+use Rattle.flow_journal.specs.Setting.{Node, node}
+use Rattle.flow_emit.specs.declared.node.NodeState.{NodeState}
+use Rattle.flow_emit.specs.declared.rules.NodeRules.{NodeRules}
+use Rattle.flow_emit.specs.Courses.{IsCourse, Coursed}
+use Rattle.flow_emit.specs.NodeStates.{IsNode}
+use Rattle.flow_emit.specs.RunRules.{as_node, as_work}
+use Rattle.flow_emit.proofs.Opening.{parts}
+use Rattle.std.specs.List.{list_all}
+use Rattle.flow_journal.specs.Finished.{is_done}
+use Rattle.flow_journal.specs.Histories.{is_history}
+use Rattle.flow_journal.specs.Setting.{node_numbers}
+use Rattle.flow_emit.specs.Courses.{log_of}
+use Rattle.flow_emit.specs.Endings.{is_over}
+use Rattle.flow_emit.proofs.Ending.{nodes-over}
+use Rattle.flow_emit.proofs.course.Course.all_are_done.Goals as goal
+
+pub returns : goal.returns
+returns g c =
+    let m = run_measure g.F.Of.Run.graph g.F.Of.Run.stack in
+    let s = run_setting g.F.Of.Run.graph g.F.Of.Run.stack in
+    let k = parts c.self.inside in
+    let i : IsCourse m s k = c.self.invariant in
+    let legal : is_history s (log_of k) ≡ true = ap (λ (w : Coursed). is_history s (past w.told)) c.self.view_is ∙ c.requires in
+    c.all_are_over.ensures ∙ (ap (list_all is_over) c.deref.ensures.value ∙ (nodes-over m s (log_of k) k.nodes legal i.nodes ∙ ap (λ (w : Coursed). list_all (is_done s (past w.told)) (node_numbers s)) c.self.view_is))

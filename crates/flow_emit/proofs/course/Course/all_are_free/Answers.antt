@@ -1,0 +1,28 @@
+use Rattle.std.proofs.Common.{◌≡◌, ◌≤◌, ◌<◌, ◌∙◌, ◌-◌, ℕ, true, false, Bool, ◌&&◌, ◌||◌, not, List, Some, length, map, drop, eqb, ltb, leb, refl, sym, ap, subst, arith}
+use Rattle.std.specs.Prelude.{slice_get}
+use Rattle.std.proofs.lemmas.List.{length-map}
+use Rattle.nd_base.specs.declared.frame.FrameName.{FrameName}
+use Rattle.board_rules.specs.RunMeasures.{run_setting, run_measure}
+use Rattle.board_rules.specs.States.{past}
+use Rattle.flow_journal.specs.Setting.{Node, node}
+use Rattle.flow_emit.specs.declared.node.NodeState.{NodeState}
+use Rattle.flow_emit.specs.declared.rules.NodeRules.{NodeRules}
+use Rattle.flow_emit.specs.Courses.{IsCourse, Coursed}
+use Rattle.flow_emit.specs.NodeStates.{IsNode}
+use Rattle.flow_emit.specs.RunRules.{as_node, as_work}
+use Rattle.flow_emit.proofs.Opening.{parts}
+use Rattle.flow_journal.specs.Finished.{none_left}
+use Rattle.flow_journal.specs.Hands.{hands}
+use Rattle.std.specs.List.{list_all}
+use Rattle.flow_emit.specs.Courses.{log_of}
+use Rattle.flow_emit.specs.Endings.{has_free_hand}
+use Rattle.flow_emit.proofs.Ending.{hands-free}
+use Rattle.flow_emit.proofs.course.Course.all_are_free.Goals as goal
+
+pub returns : goal.returns
+returns g c =
+    let m = run_measure g.F.Of.Run.graph g.F.Of.Run.stack in
+    let s = run_setting g.F.Of.Run.graph g.F.Of.Run.stack in
+    let k = parts c.self.inside in
+    let i : IsCourse m s k = c.self.invariant in
+    c.all_have_free_hands.ensures ∙ (ap (list_all has_free_hand) c.deref.ensures.value ∙ (hands-free s (log_of k) k.roles i.roles i.legal ∙ ap (λ (w : Coursed). none_left (hands (past w.told))) c.self.view_is))

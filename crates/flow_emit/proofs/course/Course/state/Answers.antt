@@ -1,0 +1,33 @@
+use Rattle.std.proofs.Common.{◌≡◌, ◌≤◌, ◌<◌, ◌∙◌, ◌-◌, ℕ, true, false, Bool, ◌&&◌, ◌||◌, not, List, Some, length, map, drop, eqb, ltb, leb, refl, sym, ap, subst, arith}
+use Rattle.std.specs.Prelude.{slice_get}
+use Rattle.std.proofs.lemmas.List.{length-map}
+use Rattle.nd_base.specs.declared.frame.FrameName.{FrameName}
+use Rattle.board_rules.specs.RunMeasures.{run_setting, run_measure}
+use Rattle.board_rules.specs.States.{past}
+use Rattle.flow_journal.specs.Setting.{Node, node}
+use Rattle.flow_emit.specs.declared.node.NodeState.{NodeState}
+use Rattle.flow_emit.specs.declared.rules.NodeRules.{NodeRules}
+use Rattle.flow_emit.specs.Courses.{IsCourse, Coursed}
+use Rattle.flow_emit.specs.NodeStates.{IsNode}
+use Rattle.flow_emit.specs.RunRules.{as_node, as_work}
+use Rattle.flow_emit.proofs.Opening.{parts}
+use Rattle.flow_emit.proofs.Finding.{node-found, node-is, few-saves}
+use Rattle.flow_emit.proofs.course.Course.state.Goals as goal
+
+pub returns-clause-kept : goal.returns-clause-kept
+returns-clause-kept g c =
+    let m = run_measure g.F.Of.Run.graph g.F.Of.Run.stack in
+    let s = run_setting g.F.Of.Run.graph g.F.Of.Run.stack in
+    let k = parts c.self.inside in
+    let i : IsCourse m s k = c.self.invariant in
+    let v = c.args.node in
+    let n = c.index.result.now in
+    subst (λ (w : Coursed). IsNode m s v (past w.told) n) c.self.view_is (node-is m s k v n i c.requires (node-found m s k v n i c.requires c.index.ensures))
+
+pub returns-clause-few : goal.returns-clause-few
+returns-clause-few g c =
+    let m = run_measure g.F.Of.Run.graph g.F.Of.Run.stack in
+    let s = run_setting g.F.Of.Run.graph g.F.Of.Run.stack in
+    let k = parts c.self.inside in
+    let i : IsCourse m s k = c.self.invariant in
+    few-saves m s k c.args.node c.index.result.now i c.requires (node-found m s k c.args.node c.index.result.now i c.requires c.index.ensures)

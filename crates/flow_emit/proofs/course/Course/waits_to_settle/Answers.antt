@@ -1,0 +1,36 @@
+use Rattle.std.proofs.Common.{◌≡◌, ◌≤◌, ◌<◌, ◌∙◌, ◌-◌, ℕ, true, false, Bool, ◌&&◌, ◌||◌, not, List, Some, length, map, drop, eqb, ltb, leb, refl, sym, ap, subst, arith}
+use Rattle.std.specs.Prelude.{slice_get}
+use Rattle.std.proofs.lemmas.List.{length-map}
+use Rattle.nd_base.specs.declared.frame.FrameName.{FrameName}
+use Rattle.board_rules.specs.RunMeasures.{run_setting, run_measure}
+use Rattle.board_rules.specs.States.{past}
+use Rattle.flow_journal.specs.Setting.{Node, node}
+use Rattle.flow_emit.specs.declared.node.NodeState.{NodeState}
+use Rattle.flow_emit.specs.declared.rules.NodeRules.{NodeRules}
+use Rattle.flow_emit.specs.Courses.{IsCourse, Coursed}
+use Rattle.flow_emit.specs.NodeStates.{IsNode}
+use Rattle.flow_emit.specs.RunRules.{as_node, as_work}
+use Rattle.flow_emit.proofs.Opening.{parts}
+use Rattle.flow_journal.specs.Ended.{is_settled, has_ended}
+use Rattle.flow_journal.specs.Queued.{queued}
+use Rattle.flow_journal.specs.Finished.{none_left}
+use Rattle.flow_emit.proofs.course.Course.waits_to_settle.Goals as goal
+
+pub returns-then-not-has_ended : goal.returns-then-not-has_ended
+returns-then-not-has_ended g c =
+    let s = run_setting g.F.Of.Run.graph g.F.Of.Run.stack in
+    let v = c.args.node in
+    let P = past c.args.self.now.told in
+    let open_ : is_settled v P ≡ false = sym c.is_settled.ensures ∙ c.if-is_settled.false in
+    let on : has_ended (node s v).input P ≡ c.has_ended.result = sym (c.has_ended.ensures ∙ ap (λ u. has_ended u P) c.input.ensures.input) in
+    rw (open_, on, c.if-not-has_ended.true) refl
+
+pub returns-else-has_queued : goal.returns-else-has_queued
+returns-else-has_queued g c =
+    let s = run_setting g.F.Of.Run.graph g.F.Of.Run.stack in
+    let v = c.args.node in
+    let P = past c.args.self.now.told in
+    let open_ : is_settled v P ≡ false = sym c.is_settled.ensures ∙ c.if-is_settled.false in
+    let on : has_ended (node s v).input P ≡ c.has_ended.result = sym (c.has_ended.ensures ∙ ap (λ u. has_ended u P) c.input.ensures.input) in
+    let queue : not (none_left (queued v P)) ≡ false = sym c.has_queued.ensures ∙ c.if-has_queued.false in
+    rw (open_, on, c.if-not-has_ended.false, queue) c.has_jobs.ensures
