@@ -11,3 +11,4 @@ pub mod Ending
 pub mod Returns
 pub mod Backs
 pub mod Puts
+pub mod Reclaims
