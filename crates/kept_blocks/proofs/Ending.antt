@@ -1,14 +1,13 @@
 -- A hand ends: what it had of its array comes back or stays away, and what was made on its block is kept or taken back.
-use Rattle.std.proofs.Common.{◌≡◌, ◌≢◌, ◌⊎◌, ℕ, ◌+◌, ◌-◌, ◌^◌, ◌≤◌, ◌<◌, Bool, true, false, not, ◌||◌, cond, eqb, List, [], ◌∷◌, ◌++◌, length, refl, sym, ap, ◌∙◌, subst, arith, Option, Some, None, inl, inr, if◌then◌else◌}
+use Rattle.std.proofs.Common.{◌≡◌, ℕ, ◌+◌, ◌-◌, ◌^◌, ◌≤◌, Bool, true, false, ◌||◌, eqb, List, [], ◌∷◌, length, refl, sym, ap, ◌∙◌, subst, arith, Option, Some, None, inl, inr, if◌then◌else◌}
 use Rattle.std.specs.Prelude.{IsSome}
-use Rattle.std.proofs.lemmas.Bool.{and_parts, false≢true, true≢false, eq-eqb, ne_eqb, eqb-true, eqb-false, cases_Bool, cases_eq, or_parts, or_from}
+use Rattle.std.proofs.lemmas.Bool.{false≢true, true≢false, eqb-true, cases_Bool, or_parts}
 use Rattle.nd_base.specs.declared.frame.FrameName.{FrameName}
 use Rattle.nd_base.specs.Parts.{Parts}
-use Rattle.pool_ledger.specs.Grants.{has_number}
 use Rattle.flow_journal.specs.declared.entry.Entry.{Entry}
 use Rattle.flow_journal.specs.declared.entry.Entry.TheVariants.{Load, Take, TakeBlock, Save}
 use Rattle.flow_journal.specs.Setting.{Setting}
-use Rattle.flow_journal.specs.Pasts.{Past, frame, same}
+use Rattle.flow_journal.specs.Pasts.{Past, frame}
 use Rattle.flow_journal.specs.Hands.{hands, hand, takes_up, let_go}
 use Rattle.flow_journal.specs.Accounts.{block_of, known}
 use Rattle.flow_journal.specs.EntryLaws.{lets_go}
@@ -22,17 +21,17 @@ use Rattle.flow_journal.proofs.Travels.{ClearBy, Clear, holds, holds_by, bit-non
 use Rattle.flow_journal.proofs.Making.{is_frame, no_frame}
 use Rattle.board_rules.specs.declared.told.Told.{Told}
 use Rattle.board_rules.specs.States.{BoardState, past, lent_to}
-use Rattle.board_rules.specs.InHand.{has_part_of, granted_block, TellParts, OfSome}
+use Rattle.board_rules.specs.InHand.{has_part_of, granted_block, OfSome}
 use Rattle.board_rules.specs.Storage.{is_among, grants, is_away, has_part, parts_in_hand, parts_away, parts_here}
-use Rattle.frame_table.specs.Kept.{Kept, Empty, Frame, Storage, kept_at, with_kept, IsPartOf, one_part, together, united, IsSized, at_home}
-use Rattle.kept_blocks.specs.LastGrants.{LastGrant, Never, InMaking, Made, TakenBack, once_done, once_taken_back, last_grant}
-use Rattle.kept_blocks.specs.Keeping.{IsRunOf, IsFrameOn, IsHome, LoseFew, most_lost}
-use Rattle.kept_blocks.proofs.Granted.{Makes, held-making, making-granted, alone-making, alone-from, makes-block}
+use Rattle.frame_table.specs.Kept.{Kept, Empty, Frame, Storage, kept_at, IsPartOf, one_part, together, united}
+use Rattle.kept_blocks.specs.LastGrants.{LastGrant, InMaking, Made, last_grant}
+use Rattle.kept_blocks.specs.Keeping.{IsRunOf, IsFrameOn, LoseFew}
+use Rattle.kept_blocks.proofs.Granted.{Makes, making-granted, alone-making, alone-from}
 use Rattle.kept_blocks.proofs.Tied.{is_array_of, tied}
-use Rattle.kept_blocks.proofs.Placing.{placed-on, hand-used, known-at}
+use Rattle.kept_blocks.proofs.Placing.{placed-on, hand-used}
 use Rattle.kept_blocks.proofs.Rest.{none-more}
-use Rattle.kept_blocks.proofs.Shares.{few-parts, same-parts, away-none, none-away}
-use Rattle.kept_blocks.proofs.Holding.{IsKeptIn, Holds, legal-of, keeps, made-frame}
+use Rattle.kept_blocks.proofs.Shares.{few-parts, same-parts}
+use Rattle.kept_blocks.proofs.Holding.{IsKeptIn, Holds, legal-of, keeps}
 use Rattle.kept_blocks.proofs.Lending.{among-one}
 
 some-same : {X : Type 0} {x y : X} → Some x ≡ Some y → x ≡ y
@@ -215,7 +214,7 @@ stayed-away parts s B w r c n a d e L k run l has one_lost made f =
 
 -- WHAT ROLES WERE LENT
 
-part-off : (w : FrameName → Bool) (x : FrameName) (e : Entry) → has_part_of x (Some e) ≡ true → holds w e ≡ false → w x ≡ false
+pub part-off : (w : FrameName → Bool) (x : FrameName) (e : Entry) → has_part_of x (Some e) ≡ true → holds w e ≡ false → w x ≡ false
 part-off w x (Take r v m k) has off = ap w (same-true x (frame m k) has) ∙ off
 part-off w x (TakeBlock f y r v m k b n g) has off = ap w (same-true x (frame m k) has) ∙ (or_parts (w (frame v k)) (w (frame m k)) off).1
 part-off w x (Save r v m k g) has off = ap w (same-true x (frame m k) has) ∙ off

@@ -1,15 +1,14 @@
 -- What a legal log says of the last grants of blocks.
-use Rattle.std.proofs.Common.{◌≡◌, ◌≢◌, ◌⊎◌, ℕ, ◌+◌, ◌≤◌, Bool, true, false, ◌&&◌, ◌||◌, cond, eqb, List, [], ◌∷◌, ◌++◌, length, refl, sym, ap, ◌∙◌, subst, arith, Option, Some, None, inl, inr, length-append}
+use Rattle.std.proofs.Common.{◌≡◌, ◌⊎◌, ℕ, Bool, true, false, ◌||◌, cond, eqb, List, [], ◌∷◌, refl, sym, ap, ◌∙◌, subst, arith, Some, None, inl, inr}
 use Rattle.std.specs.Prelude.{is_none}
-use Rattle.std.proofs.lemmas.Bool.{and_parts, and_from, false≢true, true≢false, eq-eqb, ne_eqb, eqb-true, eqb-false, cases_Bool, or_parts}
+use Rattle.std.proofs.lemmas.Bool.{and_parts, true≢false, eq-eqb, ne_eqb, eqb-true, eqb-false, cases_Bool, or_parts}
 use Rattle.nd_base.specs.declared.frame.FrameName.{FrameName}
 use Rattle.flow_journal.specs.declared.entry.Entry.{Entry}
-use Rattle.flow_journal.specs.declared.entry.Entry.TheVariants.{Load, LoadRefused, Tick, Issue, Emit, Accept, Full, Take, TakeBlock, PoolDrop, Put, SortDrop, Settle, Save, Saved, Close, Leave, Reclaim}
+use Rattle.flow_journal.specs.declared.entry.Entry.TheVariants.{Load, Issue, Take, TakeBlock, Put, Save, Saved, Reclaim}
 use Rattle.flow_journal.specs.Setting.{Setting}
 use Rattle.flow_journal.specs.Pasts.{Past, frame, same}
-use Rattle.flow_journal.specs.Hands.{takes_up, hands, hand, standing, is_free}
+use Rattle.flow_journal.specs.Hands.{takes_up, hands, hand}
 use Rattle.flow_journal.specs.Accounts.{block_of, refs}
-use Rattle.flow_journal.specs.AccountLaws.{moves_blocks}
 use Rattle.flow_journal.specs.EntryLaws.{lets_go}
 use Rattle.flow_journal.specs.Histories.{answers, is_legal}
 use Rattle.flow_journal.proofs.Steps.{same_refl, same-true}
@@ -17,13 +16,10 @@ use Rattle.flow_journal.proofs.EntryCounts.{count, bit, count-cons, owed-first}
 use Rattle.flow_journal.proofs.Rows.{row_laws}
 use Rattle.flow_journal.proofs.Hands.{row_of, was_free}
 use Rattle.flow_journal.proofs.Changes.{hand_laws}
-use Rattle.flow_journal.proofs.Jobs.{reclaim_hand}
-use Rattle.flow_journal.proofs.Found.{found_up}
-use Rattle.flow_journal.proofs.FrameBlocks.{grants_of, grant-once, block-granted}
 use Rattle.flow_journal.proofs.AccountChanges.{block_laws}
 use Rattle.flow_journal.proofs.Places.{load-unplaced, take-unplaced}
-use Rattle.flow_journal.proofs.Travels.{holds, holds_by, made_by, issued_by, ClearBy, Clear, clear-more, clear_by-more, hand-clear, bit-none}
-use Rattle.flow_journal.proofs.Making.{is_frame, no_frame, unloaded-nowhere, reclaimed-nowhere, untaken-nowhere, untaken-again}
+use Rattle.flow_journal.proofs.Travels.{holds, holds_by, ClearBy, Clear, clear_by-more, hand-clear, bit-none}
+use Rattle.flow_journal.proofs.Making.{is_frame, no_frame, unloaded-nowhere, untaken-nowhere}
 use Rattle.kept_blocks.specs.LastGrants.{LastGrant, Never, InMaking, Made, TakenBack, once_done, once_taken_back, last_grant}
 use Rattle.kept_blocks.proofs.Unplaced.{unplaced-clear}
 

@@ -1,25 +1,23 @@
 -- What is kept of each block, while a move goes on: as `HoldsBlocks`, with nothing owed of an array that has no place.
-use Rattle.std.proofs.Common.{◌≡◌, ◌≢◌, ◌⊎◌, ℕ, ◌+◌, ◌-◌, ◌^◌, ◌≤◌, ◌<◌, Bool, true, false, not, ◌&&◌, ◌||◌, eqb, List, [], ◌∷◌, length, refl, sym, ap, ◌∙◌, subst, arith, Option, Some, None, inl, inr}
+use Rattle.std.proofs.Common.{◌≡◌, ◌≢◌, ◌⊎◌, ℕ, ◌+◌, ◌-◌, ◌^◌, ◌≤◌, ◌<◌, Bool, true, false, not, List, [], ◌∷◌, length, refl, sym, ap, ◌∙◌, subst, arith, Option, Some, None, inl, inr}
 use Rattle.std.specs.Prelude.{IsSome}
 use Rattle.std.specs.List.{list_any}
-use Rattle.std.proofs.lemmas.Bool.{and_parts, false≢true, true≢false, cases_Bool}
+use Rattle.std.proofs.lemmas.Bool.{true≢false}
 use Rattle.std.proofs.lemmas.List.{length-set, get_or-set_same, get_or-set_other}
 use Rattle.nd_base.specs.declared.frame.FrameName.{FrameName}
-use Rattle.nd_base.specs.Parts.{Parts, MayPart, MayUnite}
+use Rattle.nd_base.specs.Parts.{Parts, MayPart}
 use Rattle.pool_ledger.specs.Grants.{has_number}
 use Rattle.flow_journal.specs.declared.entry.Entry.{Entry}
 use Rattle.flow_journal.specs.declared.entry.Entry.TheVariants.{Load, Take, TakeBlock, Save}
 use Rattle.flow_journal.specs.Setting.{Setting}
-use Rattle.flow_journal.specs.Pasts.{Past, frame, same}
+use Rattle.flow_journal.specs.Pasts.{Past}
 use Rattle.flow_journal.specs.Hands.{hands, hand}
-use Rattle.flow_journal.specs.Queued.{queued}
-use Rattle.flow_journal.specs.Unsaved.{unsaved}
 use Rattle.flow_journal.specs.Accounts.{block_of, arrays_at, known}
 use Rattle.flow_journal.specs.Following.{owed}
 use Rattle.flow_journal.specs.LengthLaws.{threads}
-use Rattle.flow_journal.specs.Histories.{is_legal, is_history}
+use Rattle.flow_journal.specs.Histories.{is_legal}
 use Rattle.flow_journal.specs.Pushes.{history-owes}
-use Rattle.flow_journal.proofs.EntryCounts.{count, bit, count-cons, count-let_go}
+use Rattle.flow_journal.proofs.EntryCounts.{count}
 use Rattle.flow_journal.proofs.Found.{none_counted, none_any}
 use Rattle.flow_journal.proofs.Places.{arrays-count}
 use Rattle.flow_journal.proofs.Travels.{ClearBy, Clear, holds, carries}
@@ -27,7 +25,7 @@ use Rattle.flow_journal.proofs.Making.{is_frame, no_frame}
 use Rattle.board_rules.specs.States.{BoardState, past, lent_to}
 use Rattle.board_rules.specs.InHand.{has_part_of, TellParts, OfSome}
 use Rattle.board_rules.specs.Storage.{is_away, has_part, parts_in_hand, parts_away, parts_here}
-use Rattle.frame_table.specs.Kept.{Kept, Empty, Frame, Storage, kept_at, with_kept, MayLend, MayGiveBack, IsPartOf, IsUntold, one_part, one_less, less_one, together, united}
+use Rattle.frame_table.specs.Kept.{Kept, Empty, kept_at, with_kept, MayLend, IsPartOf, IsUntold}
 use Rattle.kept_blocks.specs.LastGrants.{LastGrant, Never, InMaking, Made, TakenBack, last_grant}
 use Rattle.kept_blocks.specs.Keeping.{has_array, IsNowhere, IsFrameOn, IsHome, IsKeptBy, LoseFew, HoldsBlocks, IsRunOf}
 use Rattle.kept_blocks.proofs.Unplaced.{at_some}
@@ -133,7 +131,7 @@ keeps parts s B new b (TakenBack n) k here away gone clear x = λ tell. record {
 pub here-same : (B new : BoardState) (b : ℕ) → hands (past new) ≡ hands (past B) → ((a : FrameName) → block_of (past new) a ≡ block_of (past B) a) → parts_away b new ≡ parts_away b B → parts_here new b ≡ parts_here B b
 here-same B new b hands_ blocks gone =
     let in_hand : parts_in_hand (past new) b ≡ parts_in_hand (past B) b =
-        ap (count (has_part (past new) b)) hands_ ∙ same-parts (past new) (past B) (λ x. false) (λ x off. blocks x) b (hands (past B)) (none-hold (hands (past B))) in
+    ap (count (has_part (past new) b)) hands_ ∙ same-parts (past new) (past B) (λ x. false) (λ x off. blocks x) b (hands (past B)) (none-hold (hands (past B))) in
     ap (λ (i : ℕ). 2 ^ 32 - (i + parts_away b new)) in_hand ∙ ap (λ (i : ℕ). 2 ^ 32 - (parts_in_hand (past B) b + i)) gone
 
 hand-same : (P Q : Past) (r : ℕ) → hands Q ≡ hands P → hand r Q ≡ hand r P

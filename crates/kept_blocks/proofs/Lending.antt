@@ -1,7 +1,7 @@
 -- A part of an array is lent.
-use Rattle.std.proofs.Common.{◌≡◌, ◌≢◌, ◌⊎◌, ℕ, ◌+◌, ◌-◌, ◌^◌, ◌≤◌, ◌<◌, Bool, true, false, ◌||◌, eqb, List, [], ◌∷◌, length, refl, sym, ap, ◌∙◌, subst, arith, Option, Some, None, inl, inr, if◌then◌else◌}
+use Rattle.std.proofs.Common.{◌≡◌, ◌≢◌, ℕ, ◌+◌, ◌-◌, ◌^◌, ◌≤◌, ◌<◌, Bool, true, false, ◌||◌, eqb, List, [], ◌∷◌, length, refl, sym, ap, ◌∙◌, subst, arith, Option, Some, None, inl, inr, if◌then◌else◌}
 use Rattle.std.specs.Prelude.{IsSome}
-use Rattle.std.proofs.lemmas.Bool.{and_parts, false≢true, true≢false, eq-eqb, ne_eqb, eqb-true, eqb-false, cases_Bool, cases_eq}
+use Rattle.std.proofs.lemmas.Bool.{true≢false, eq-eqb, ne_eqb, cases_Bool, cases_eq}
 use Rattle.nd_base.specs.declared.frame.FrameName.{FrameName}
 use Rattle.nd_base.specs.Parts.{Parts}
 use Rattle.pool_ledger.specs.Grants.{has_number}
@@ -14,27 +14,25 @@ use Rattle.flow_journal.specs.Queued.{queued}
 use Rattle.flow_journal.specs.Unsaved.{unsaved}
 use Rattle.flow_journal.specs.Accounts.{block_of, known}
 use Rattle.flow_journal.specs.EntryLaws.{lets_go}
-use Rattle.flow_journal.specs.LengthLaws.{threads}
 use Rattle.flow_journal.specs.Histories.{is_legal}
 use Rattle.flow_journal.proofs.EntryCounts.{count, bit, count-cons}
-use Rattle.flow_journal.proofs.Steps.{same-true, same_refl}
+use Rattle.flow_journal.proofs.Steps.{same-true}
 use Rattle.flow_journal.proofs.Rows.{row_laws, take-facts, first_of-next}
-use Rattle.flow_journal.proofs.Hands.{row_of, takes-this, takes_up-one, hands-more}
+use Rattle.flow_journal.proofs.Hands.{row_of, takes-this, hands-more}
 use Rattle.flow_journal.proofs.Changes.{hand_laws}
 use Rattle.flow_journal.proofs.Travels.{ClearBy, Clear, clear-more, holds, may-Take}
 use Rattle.flow_journal.proofs.Making.{is_frame, no_frame}
 use Rattle.board_rules.specs.States.{BoardState, past, lends, lent_to}
-use Rattle.board_rules.specs.InHand.{has_part_of, TellParts, OfSome}
+use Rattle.board_rules.specs.InHand.{has_part_of, OfSome}
 use Rattle.board_rules.specs.Storage.{is_among, grants, is_away, has_part, parts_in_hand, parts_away, parts_here}
 use Rattle.board_rules.specs.Moving.{moved}
-use Rattle.frame_table.specs.Kept.{Kept, Empty, Frame, Storage, kept_at, with_kept, IsPartOf, one_part, one_less, less_one}
-use Rattle.kept_blocks.specs.LastGrants.{LastGrant, Made, last_grant}
-use Rattle.kept_blocks.specs.Keeping.{HoldsBlocks, IsRunOf, IsFrameOn, LoseFew}
-use Rattle.kept_blocks.proofs.Granted.{legal-before}
-use Rattle.kept_blocks.proofs.Placing.{Placed, placed-on, queued-used, unsaved-used}
-use Rattle.kept_blocks.proofs.Rest.{Rest, later, none-more}
+use Rattle.frame_table.specs.Kept.{Kept, Empty, Frame, Storage, kept_at, with_kept, IsPartOf, one_less, less_one}
+use Rattle.kept_blocks.specs.LastGrants.{LastGrant, last_grant}
+use Rattle.kept_blocks.specs.Keeping.{HoldsBlocks, IsRunOf, IsFrameOn}
+use Rattle.kept_blocks.proofs.Placing.{placed-on, queued-used, unsaved-used}
+use Rattle.kept_blocks.proofs.Rest.{later, none-more}
 use Rattle.kept_blocks.proofs.Shares.{few-parts, same-parts, none-hold}
-use Rattle.kept_blocks.proofs.Holding.{IsKeptIn, Holds, holds-in, holds-out, legal-of, keeps, frame-stays, rest-holds, at-same, at-other, same-length, made-frame}
+use Rattle.kept_blocks.proofs.Holding.{IsKeptIn, Holds, holds-in, holds-out, legal-of, keeps, rest-holds, at-same, at-other, same-length, made-frame}
 
 -- ONE PART LESS
 

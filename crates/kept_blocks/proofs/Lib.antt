@@ -12,3 +12,5 @@ pub mod Returns
 pub mod Backs
 pub mod Puts
 pub mod Reclaims
+pub mod Granting
+pub mod Loads

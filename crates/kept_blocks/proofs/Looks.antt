@@ -1,7 +1,7 @@
 -- What stands in the table.
-use Rattle.std.proofs.Common.{◌≡◌, ◌≢◌, ℕ, ◌+◌, ◌-◌, ◌^◌, ◌≤◌, ◌<◌, Bool, true, false, ◌||◌, List, [], ◌∷◌, length, refl, sym, ap, ◌∙◌, subst, arith, Option, Some, None, if◌then◌else◌}
+use Rattle.std.proofs.Common.{◌≡◌, ℕ, ◌+◌, ◌-◌, ◌^◌, ◌≤◌, ◌<◌, Bool, true, false, ◌||◌, List, [], ◌∷◌, length, refl, sym, ap, ◌∙◌, subst, arith, Option, Some, None, if◌then◌else◌}
 use Rattle.std.specs.List.{find}
-use Rattle.std.proofs.lemmas.Bool.{false≢true, true≢false}
+use Rattle.std.proofs.lemmas.Bool.{false≢true}
 use Rattle.std.proofs.lemmas.List.{set-set, set-get_or}
 use Rattle.nd_base.specs.declared.frame.FrameName.{FrameName}
 use Rattle.nd_base.specs.Parts.{Parts, MayUnite}
@@ -11,9 +11,7 @@ use Rattle.flow_journal.specs.Setting.{Setting}
 use Rattle.flow_journal.specs.Pasts.{Past, frame, same}
 use Rattle.flow_journal.specs.Hands.{hands, hand, takes_up}
 use Rattle.flow_journal.specs.Accounts.{block_of}
-use Rattle.flow_journal.specs.LengthLaws.{threads}
-use Rattle.flow_journal.specs.Histories.{is_legal}
-use Rattle.flow_journal.proofs.EntryCounts.{count, bit, count-let_go}
+use Rattle.flow_journal.proofs.EntryCounts.{bit, count-let_go}
 use Rattle.flow_journal.proofs.Hands.{takes-this}
 use Rattle.flow_journal.proofs.Travels.{ClearBy}
 use Rattle.flow_journal.proofs.Making.{is_frame, no_frame}
@@ -22,11 +20,11 @@ use Rattle.board_rules.specs.declared.told.Told.{Told}
 use Rattle.board_rules.specs.States.{BoardState, past, lent_to}
 use Rattle.board_rules.specs.Moving.{moved_at}
 use Rattle.board_rules.specs.InHand.{has_part_of, granted_block, IsOnePart, OfSome}
-use Rattle.board_rules.specs.Storage.{is_among, has_part, parts_in_hand, parts_away, parts_here}
-use Rattle.frame_table.specs.Kept.{Kept, Empty, Frame, Storage, kept_at, with_kept, MayLend, MayGiveBack, IsPartOf, one_part, less_one, together, united}
+use Rattle.board_rules.specs.Storage.{is_among, has_part, parts_in_hand, parts_away}
+use Rattle.frame_table.specs.Kept.{Kept, Empty, Frame, Storage, kept_at, with_kept, MayLend, MayGiveBack, IsPartOf, one_part, less_one, united}
 use Rattle.std.proofs.lemmas.Bool.{eq-eqb}
-use Rattle.kept_blocks.specs.LastGrants.{LastGrant, InMaking, last_grant}
-use Rattle.kept_blocks.specs.Keeping.{HoldsBlocks, IsRunOf, IsFrameOn, LoseFew}
+use Rattle.kept_blocks.specs.LastGrants.{LastGrant}
+use Rattle.kept_blocks.specs.Keeping.{HoldsBlocks, IsRunOf}
 use Rattle.kept_blocks.specs.LookLaws.{IsWithin, IsLendable, IsLent, IsAwaited, LookLaws}
 use Rattle.kept_blocks.proofs.Granted.{Makes, making-granted, makes-block, makes-placed}
 use Rattle.kept_blocks.proofs.Placing.{known-at, queued-used, unsaved-used, hand-used}
@@ -75,12 +73,11 @@ lent-and-back : (t : List Kept) (b : ℕ) (a : FrameName) (q : Option Parts) →
 lent-and-back t b a q lt may within part =
     let k = kept_at t b in
     let back = back-kept k a q may within part in
-    let here : kept_at (with_kept t b (less_one k)) b ≡ less_one k = at-same t b (less_one k) lt in
-    (
+    let here : kept_at (with_kept t b (less_one k)) b ≡ less_one k = at-same t b (less_one k) lt in (
       subst (λ (x : Kept). MayGiveBack x q) (sym here) back.0,
       ap (λ (x : Kept). with_kept (with_kept t b (less_one k)) b (united x q)) here
-      ∙ (ap (λ (x : Kept). with_kept (with_kept t b (less_one k)) b x) back.1
-      ∙ (set-set t b (less_one k) k ∙ set-get_or t b Empty)),
+          ∙ (ap (λ (x : Kept). with_kept (with_kept t b (less_one k)) b x) back.1
+          ∙ (set-set t b (less_one k) k ∙ set-get_or t b Empty)),
     )
 
 -- IN HANDS

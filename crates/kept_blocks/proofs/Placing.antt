@@ -1,5 +1,5 @@
 -- Each array at a place stands on a block: its last grant made it, and the block is known.
-use Rattle.std.proofs.Common.{◌≡◌, ◌⊎◌, ◌∙◌, ℕ, ◌+◌, true, false, Bool, not, ◌||◌, List, [], ◌∷◌, Some, length, refl, sym, ap, subst, arith, Option, None, inl, inr}
+use Rattle.std.proofs.Common.{◌≡◌, ◌⊎◌, ◌∙◌, ℕ, ◌+◌, true, false, Bool, not, ◌||◌, List, [], ◌∷◌, Some, length, refl, sym, ap, arith, Option, None, inl, inr}
 use Rattle.std.specs.List.{list_any}
 use Rattle.std.proofs.lemmas.Bool.{cases_Bool, true≢false, false≢true, and_parts}
 use Rattle.nd_base.specs.declared.frame.FrameName.{FrameName}
@@ -142,7 +142,6 @@ one-block P a some = by (block_of P a) refl where
   by (b ∷ []) is = (b, is)
   by (b ∷ c ∷ bs) is = absurd (omega (arith, block_laws.one P a, ap length is))
 
-
 -- WHAT HAS A PLACE
 
 -- no place but a hand that makes it has the array
@@ -180,20 +179,22 @@ known-at s P b a pooled h on used =
 
 pub placed-on : (s : Setting) (P : Past) (b : ℕ) (a : FrameName) → s.pooled ≡ true → is_legal s P ≡ true → block_of P a ≡ b ∷ [] → (IsUnused s P a → ⊥) → (has_number b (known s P) ≡ true) × ((n : ℕ) × (last_grant b P ≡ Made a n))
 placed-on s P b a pooled h on used =
-    let not_clear : Clear (is_frame a) s P → ⊥ = λ c. used (alone-from s P a c) in
-    (known-at s P b a pooled h on not_clear, elim (tied s P b a pooled h on) [
-      | inl mine ↦ array-made s P b a (last_grant b P) pooled h refl mine used
-      | inr gone ↦ absurd (not_clear gone)
-    ])
+    let not_clear : Clear (is_frame a) s P → ⊥ = λ c. used (alone-from s P a c) in (
+      known-at s P b a pooled h on not_clear,
+      elim (tied s P b a pooled h on) [
+        | inl mine ↦ array-made s P b a (last_grant b P) pooled h refl mine used
+        | inr gone ↦ absurd (not_clear gone)
+      ],
+    )
 
 some-block : (s : Setting) (P : Past) (a : FrameName) → is_legal s P ≡ true → (Clear (is_frame a) s P → ⊥) → HasBlock P a
 some-block s P a h used =
     elim (cases_Bool (is_blockless P a)) [
       | inr some ↦ one-block P a some
       | inl none ↦ absurd (used (clear-fewer (is_blockless P) (is_frame a) s P (λ x off. elim (cases_Bool (same x a)) [
-          | inl is ↦ absurd (true≢false (sym (ap (is_blockless P) (same-true x a is) ∙ none) ∙ off))
-          | inr other ↦ other
-        ]) (none_blockless s P h)))
+        | inl is ↦ absurd (true≢false (sym (ap (is_blockless P) (same-true x a is) ∙ none) ∙ off))
+        | inr other ↦ other
+      ]) (none_blockless s P h)))
     ]
 
 pub placed : (s : Setting) (P : Past) (a : FrameName) → s.pooled ≡ true → is_legal s P ≡ true → (IsUnused s P a → ⊥) → Placed s P a
@@ -204,7 +205,7 @@ placed s P a pooled h used =
 
 -- PLACES
 
-first-used : (a : FrameName) (xs : List FrameName) → is_next a xs ≡ true → count (is_frame a) xs ≡ 0 → ⊥
+pub first-used : (a : FrameName) (xs : List FrameName) → is_next a xs ≡ true → count (is_frame a) xs ≡ 0 → ⊥
 first-used a xs h none =
     let split : count (is_frame a) xs ≡ bit (is_frame a a) + count (is_frame a) (without a xs) = ap (count (is_frame a)) (next_is a xs h) ∙ count-cons (is_frame a) a (without a xs) in
     true≢false (sym (same_refl a) ∙ bit-none (is_frame a a) (omega (arith, split, none)))

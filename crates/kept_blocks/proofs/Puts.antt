@@ -1,6 +1,6 @@
 -- A put.
-use Rattle.std.proofs.Common.{◌≡◌, ℕ, ◌≤◌, Bool, true, false, not, ◌&&◌, eqb, List, [], ◌∷◌, length, refl, sym, ap, ◌∙◌, subst, arith, Option, Some, None, inl, inr, if◌then◌else◌}
-use Rattle.std.proofs.lemmas.Bool.{and_parts, false≢true, true≢false, eq-eqb, eqb-true, cases_Bool, not-true}
+use Rattle.std.proofs.Common.{◌≡◌, ℕ, Bool, true, false, eqb, List, [], ◌∷◌, refl, sym, ap, ◌∙◌, subst, arith, Option, Some, None, if◌then◌else◌}
+use Rattle.std.proofs.lemmas.Bool.{and_parts, false≢true, true≢false, eqb-true}
 use Rattle.nd_base.specs.declared.frame.FrameName.{FrameName}
 use Rattle.nd_base.specs.Parts.{Parts}
 use Rattle.flow_journal.specs.declared.entry.Entry.{Entry}
@@ -24,8 +24,8 @@ use Rattle.kept_blocks.specs.Keeping.{HoldsBlocks, IsRunOf}
 use Rattle.kept_blocks.proofs.Granted.{making-granted}
 use Rattle.kept_blocks.proofs.Rest.{later}
 use Rattle.kept_blocks.proofs.Shares.{none-hold}
-use Rattle.kept_blocks.proofs.Holding.{IsKeptIn, Holds, holds-in, holds-out, legal-of, rest-holds}
-use Rattle.kept_blocks.proofs.Ending.{EndsHand, ends}
+use Rattle.kept_blocks.proofs.Holding.{IsKeptIn, holds-in, holds-out, legal-of, rest-holds}
+use Rattle.kept_blocks.proofs.Ending.{EndsHand}
 use Rattle.kept_blocks.proofs.Returns.{ends-holds, done-other, made-kept}
 use Rattle.kept_blocks.proofs.Backs.{HasArray, returned, with-part, with-grant}
 
@@ -99,7 +99,7 @@ module _ {F : Type 0} (name_of : F → FrameName) (parts : F → Option Parts) (
       let before = legal-of s B run in
       let suits_ : is_maker s v ≡ true = subst (λ (y : ℕ). is_maker s y ≡ true) at (hand-suits s P r d before held) in
       let named : name_of made ≡ frame v (name_of f).index =
-          subst (λ (y : Bool). IsMadeAs name_of y (if y then frame v (name_of f).index else name_of f) (Some made)) suits_ kind in
+      subst (λ (y : Bool). IsMadeAs name_of y (if y then frame v (name_of f).index else name_of f) (Some made)) suits_ kind in
       let made_name : frame w k ≡ name_of made = ap (λ (y : ℕ). frame y k) at ∙ (ap (λ (y : FrameName). frame v y.index) (sym it) ∙ sym named) in
       let one : j ≡ b = cc in
       let making : last_grant b P ≡ InMaking r (name_of made) n = making-granted s P r b n (name_of made) d run.pooled before held (one, made_name, refl) in
@@ -115,8 +115,8 @@ module _ {F : Type 0} (name_of : F → FrameName) (parts : F → Option Parts) (
       (ends-holds parts s B t new no_frame r d e [] run h l
       (with-grant parts s B t mid d e [] b k_ h (returned parts s B t no_frame r c (name_of f) (parts f) d e [] run h l has own refl) grant
       (λ known_b.
-          let was : IsKeptIn parts s B b (InMaking r (name_of made) n) (kept_at t b) = subst (λ (y : LastGrant). IsKeptIn parts s B b y (kept_at t b)) making (h.kept b known_b) in
-          made-kept parts s B no_frame r b n (name_of made) made d e k_ run l making refl was.1 whole refl)
+      let was : IsKeptIn parts s B b (InMaking r (name_of made) n) (kept_at t b) = subst (λ (y : LastGrant). IsKeptIn parts s B b y (kept_at t b)) making (h.kept b known_b) in
+      made-kept parts s B no_frame r b n (name_of made) made d e k_ run l making refl was.1 whole refl)
       (λ y no_ none. refl) (omega arith))))
   made-by b made (Some _) held job grant kind whole = absurd (false≢true job)
 

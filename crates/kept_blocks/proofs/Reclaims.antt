@@ -1,16 +1,15 @@
 -- A hand is taken back.
-use Rattle.std.proofs.Common.{◌≡◌, ◌≢◌, ℕ, ◌+◌, ◌≤◌, ◌^◌, Bool, true, false, not, ◌&&◌, ◌||◌, eqb, List, [], ◌∷◌, ◌++◌, length, refl, sym, ap, ◌∙◌, subst, arith, Option, Some, None, inl, inr, if◌then◌else◌, length-append}
+use Rattle.std.proofs.Common.{◌≡◌, ℕ, ◌≤◌, ◌^◌, Bool, true, false, not, ◌||◌, eqb, List, [], ◌∷◌, ◌++◌, length, refl, sym, ap, ◌∙◌, subst, arith, Option, Some, None, if◌then◌else◌, length-append}
 use Rattle.std.specs.Prelude.{IsSome, is_some}
-use Rattle.std.proofs.lemmas.Bool.{and_parts, and_from, false≢true, true≢false, eq-eqb, eqb-true, ne_eqb, cases_Bool, or_from}
+use Rattle.std.proofs.lemmas.Bool.{and_from, false≢true, true≢false, eq-eqb, ne_eqb, or_from}
 use Rattle.nd_base.specs.declared.frame.FrameName.{FrameName}
 use Rattle.nd_base.specs.Parts.{Parts}
-use Rattle.pool_ledger.specs.Grants.{has_number}
 use Rattle.flow_journal.specs.declared.entry.Entry.{Entry}
 use Rattle.flow_journal.specs.declared.entry.Entry.TheVariants.{Load, Take, TakeBlock, Save, Reclaim}
 use Rattle.flow_journal.specs.Setting.{Setting}
 use Rattle.flow_journal.specs.Pasts.{Past, frame, same}
 use Rattle.flow_journal.specs.Hands.{hands, hand, let_go}
-use Rattle.flow_journal.specs.Accounts.{block_of, known}
+use Rattle.flow_journal.specs.Accounts.{block_of}
 use Rattle.flow_journal.specs.Histories.{is_legal}
 use Rattle.flow_journal.proofs.EntryCounts.{count, bit, count-append, count-cons}
 use Rattle.flow_journal.proofs.Found.{none_counted}
@@ -23,18 +22,18 @@ use Rattle.board_rules.specs.declared.answers.Left.{Left}
 use Rattle.board_rules.specs.States.{BoardState, past, loses, lent_to}
 use Rattle.board_rules.specs.Moving.{moved}
 use Rattle.board_rules.specs.InHand.{has_part_of, has_grant, granted_block, granted_size, IsWholeOf, TellParts, OfSome}
-use Rattle.board_rules.specs.Storage.{is_among, has_part, parts_away, brings, part_lost, grant_lost, lost_of}
-use Rattle.frame_table.specs.Kept.{Kept, Empty, Frame, Storage, kept_at, with_kept, IsSized, at_home}
+use Rattle.board_rules.specs.Storage.{is_among, has_part, brings, part_lost, lost_of}
+use Rattle.frame_table.specs.Kept.{Kept, Frame, Storage, kept_at, IsSized, at_home}
 use Rattle.kept_blocks.specs.LastGrants.{LastGrant, InMaking, once_taken_back, last_grant}
 use Rattle.kept_blocks.specs.Keeping.{HoldsBlocks, IsRunOf, most_lost}
 use Rattle.kept_blocks.specs.MoveLaws.{with_input, with_grant, taken_back, MayTakeBack}
-use Rattle.kept_blocks.proofs.Granted.{Makes, making-granted}
+use Rattle.kept_blocks.proofs.Granted.{making-granted}
 use Rattle.kept_blocks.proofs.Placing.{placed-on, hand-used}
 use Rattle.kept_blocks.proofs.Rest.{later}
 use Rattle.kept_blocks.proofs.Shares.{none-hold}
 use Rattle.kept_blocks.proofs.Holding.{IsKeptIn, Holds, holds-in, holds-out, legal-of, rest-holds}
 use Rattle.kept_blocks.proofs.Lending.{among-one}
-use Rattle.kept_blocks.proofs.Ending.{EndsHand, ends, part-apart}
+use Rattle.kept_blocks.proofs.Ending.{EndsHand, part-apart}
 use Rattle.kept_blocks.proofs.Returns.{EndsAt, ends-holds, back-other}
 use Rattle.kept_blocks.proofs.Backs.{PartBack, HasArray, input-back, with-part, with-grant, with-empty, taken-kept}
 
@@ -137,23 +136,23 @@ grant-back : {F K : Type 0} (name_of : F → FrameName) (parts : F → Option Pa
 grant-back name_of parts bytes_of s B t mid w r b n a d e L (Some f) blank run h l p grant no_part making turn whole sized among unlost few =
     with-grant parts s B t mid d e L b (Frame (name_of f) (parts f)) h p grant
     (λ known_b.
-        let was : IsKeptIn parts s B b (InMaking r a n) (kept_at t b) = subst (λ (y : LastGrant). IsKeptIn parts s B b y (kept_at t b)) making (h.kept b known_b) in
-        taken-kept parts s B w r b n a d e L (Frame (name_of f) (parts f)) l making turn was.1
-        (λ tell. let home = whole-home (parts f) (name_of f) n (tell f) whole in (home.0, home.1 ∙ ap (λ (y : Bool). Some (not y)) (sym among))))
+    let was : IsKeptIn parts s B b (InMaking r a n) (kept_at t b) = subst (λ (y : LastGrant). IsKeptIn parts s B b y (kept_at t b)) making (h.kept b known_b) in
+    taken-kept parts s B w r b n a d e L (Frame (name_of f) (parts f)) l making turn was.1
+    (λ tell. let home = whole-home (parts f) (name_of f) n (tell f) whole in (home.0, home.1 ∙ ap (λ (y : Bool). Some (not y)) (sym among))))
     unlost few
 grant-back name_of parts bytes_of s B t mid w r b n a d e L None (Some k) run h l p grant no_part making turn whole sized among unlost few =
     with-grant parts s B t mid d e L b (Storage (bytes_of k)) h p grant
     (λ known_b.
-        let was : IsKeptIn parts s B b (InMaking r a n) (kept_at t b) = subst (λ (y : LastGrant). IsKeptIn parts s B b y (kept_at t b)) making (h.kept b known_b) in
-        taken-kept parts s B w r b n a d e L (Storage (bytes_of k)) l making turn was.1
-        (λ tell. (tt, ap (λ (y : Bool). Some y) (eq-eqb (bytes_of k) n (sized tell)) ∙ ap (λ (y : Bool). Some (not y)) (sym among))))
+    let was : IsKeptIn parts s B b (InMaking r a n) (kept_at t b) = subst (λ (y : LastGrant). IsKeptIn parts s B b y (kept_at t b)) making (h.kept b known_b) in
+    taken-kept parts s B w r b n a d e L (Storage (bytes_of k)) l making turn was.1
+    (λ tell. (tt, ap (λ (y : Bool). Some y) (eq-eqb (bytes_of k) n (sized tell)) ∙ ap (λ (y : Bool). Some (not y)) (sym among))))
     unlost few
 grant-back name_of parts bytes_of s B t mid w r b n a d e L None None run h l p grant no_part making turn whole sized among unlost few =
     with-empty parts s B t mid d e L b h p grant no_part
     (λ known_b.
-        let was : IsKeptIn parts s B b (InMaking r a n) (kept_at t b) = subst (λ (y : LastGrant). IsKeptIn parts s B b y (kept_at t b)) making (h.kept b known_b) in
-        taken-kept parts s B w r b n a d e L (kept_at t b) l making turn was.1
-        (λ tell. subst (λ (y : Kept). IsSized n y × (at_home n y ≡ Some (not (is_among b L)))) (sym was.0) (tt, ap (λ (y : Bool). Some (not y)) (sym among))))
+    let was : IsKeptIn parts s B b (InMaking r a n) (kept_at t b) = subst (λ (y : LastGrant). IsKeptIn parts s B b y (kept_at t b)) making (h.kept b known_b) in
+    taken-kept parts s B w r b n a d e L (kept_at t b) l making turn was.1
+    (λ tell. subst (λ (y : Kept). IsSized n y × (at_home n y ≡ Some (not (is_among b L)))) (sym was.0) (tt, ap (λ (y : Bool). Some (not y)) (sym among))))
     unlost few
 
 -- THE LAWS

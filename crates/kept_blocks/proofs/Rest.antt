@@ -1,8 +1,6 @@
 -- What a move's later entries leave as it is, and so does a move that touches no hand.
-use Rattle.std.proofs.Common.{◌≡◌, ℕ, zero, suc, ◌+◌, Bool, true, false, ◌&&◌, List, [], ◌∷◌, refl, sym, ap, ◌∙◌, arith, inl, inr}
+use Rattle.std.proofs.Common.{◌≡◌, ℕ, zero, suc, ◌+◌, true, List, [], ◌∷◌, refl, ◌∙◌, arith, inl, inr}
 use Rattle.std.proofs.lemmas.Bool.{and_parts, false≢true, cases_Bool}
-use Rattle.nd_base.specs.Parts.{Parts}
-use Rattle.std.specs.Prelude.{Option}
 use Rattle.nd_base.specs.declared.frame.FrameName.{FrameName}
 use Rattle.flow_journal.specs.declared.entry.Entry.{Entry}
 use Rattle.flow_journal.specs.declared.entry.Entry.TheVariants.{LoadRefused, Tick, Emit, Accept, Full, PoolDrop, SortDrop, Settle, Close, Leave}

@@ -1,38 +1,35 @@
 -- The moves that end a hand.
-use Rattle.std.proofs.Common.{◌≡◌, ◌≢◌, ◌⊎◌, ℕ, ◌+◌, ◌-◌, ◌^◌, ◌≤◌, ◌<◌, Bool, true, false, not, ◌||◌, cond, eqb, List, [], ◌∷◌, ◌++◌, length, refl, sym, ap, ◌∙◌, subst, arith, Option, Some, None, inl, inr, if◌then◌else◌}
-use Rattle.std.specs.Prelude.{IsSome}
-use Rattle.std.proofs.lemmas.Bool.{and_parts, false≢true, true≢false, eq-eqb, ne_eqb, eqb-true, eqb-false, cases_Bool, cases_eq, not-true}
+use Rattle.std.proofs.Common.{◌≡◌, ◌≢◌, ℕ, ◌+◌, ◌-◌, ◌^◌, ◌≤◌, ◌<◌, Bool, true, false, eqb, List, [], ◌∷◌, length, refl, sym, ap, ◌∙◌, subst, arith, Option, Some, None, inl, inr, if◌then◌else◌}
+use Rattle.std.proofs.lemmas.Bool.{false≢true, true≢false, eq-eqb, eqb-true, cases_Bool, cases_eq}
 use Rattle.nd_base.specs.declared.frame.FrameName.{FrameName}
 use Rattle.nd_base.specs.Parts.{Parts}
 use Rattle.pool_ledger.specs.Grants.{has_number}
 use Rattle.flow_journal.specs.declared.entry.Entry.{Entry}
-use Rattle.flow_journal.specs.declared.entry.Entry.TheVariants.{Load, Issue, Take, TakeBlock, Put, Save, Saved, Reclaim}
-use Rattle.flow_journal.specs.Setting.{Setting, is_maker}
-use Rattle.flow_journal.specs.Pasts.{Past, frame, same}
+use Rattle.flow_journal.specs.declared.entry.Entry.TheVariants.{Load, Issue, TakeBlock, Save, Saved}
+use Rattle.flow_journal.specs.Setting.{Setting}
+use Rattle.flow_journal.specs.Pasts.{Past, frame}
 use Rattle.flow_journal.specs.Hands.{hands, hand, let_go}
 use Rattle.flow_journal.specs.Accounts.{block_of, known}
 use Rattle.flow_journal.specs.Histories.{is_legal}
-use Rattle.flow_journal.proofs.EntryCounts.{count, bit, count-cons}
-use Rattle.flow_journal.proofs.Steps.{same-true, same_refl}
+use Rattle.flow_journal.proofs.Steps.{same_refl}
 use Rattle.flow_journal.proofs.Travels.{clear-more}
 use Rattle.flow_journal.proofs.Making.{is_frame, no_frame}
 use Rattle.board_rules.specs.States.{BoardState, past, plain, lent_to}
 use Rattle.board_rules.specs.Moving.{moved, moved_at}
-use Rattle.board_rules.specs.InHand.{hand_node, has_part_of, is_load_of, is_job_on, is_piece_on, result_name, granted_block, granted_size, IsWholeOf, IsMadeAs, TellParts, OfSome}
-use Rattle.board_rules.specs.Storage.{is_among, is_away, has_part, parts_in_hand, parts_away, parts_here}
+use Rattle.board_rules.specs.InHand.{hand_node, has_part_of, is_load_of, is_piece_on, granted_block, granted_size, IsWholeOf, OfSome}
+use Rattle.board_rules.specs.Storage.{is_among, has_part, parts_in_hand, parts_away}
 use Rattle.board_rules.proofs.Legal.{names_role, load_in, piece_in}
-use Rattle.board_rules.proofs.Makers.{hand-suits}
-use Rattle.frame_table.specs.Kept.{Kept, Empty, Frame, Storage, kept_at, with_kept, IsPartOf, united, IsSized, at_home}
+use Rattle.frame_table.specs.Kept.{Kept, Frame, kept_at, with_kept, IsPartOf, united}
 use Rattle.kept_blocks.specs.LastGrants.{LastGrant, Never, InMaking, Made, TakenBack, once_done, once_taken_back, last_grant}
-use Rattle.kept_blocks.specs.Keeping.{HoldsBlocks, IsRunOf, IsFrameOn, IsHome, LoseFew, most_lost}
+use Rattle.kept_blocks.specs.Keeping.{HoldsBlocks, IsRunOf, IsFrameOn, most_lost}
 use Rattle.kept_blocks.specs.MoveLaws.{touches_no_hand}
 use Rattle.kept_blocks.proofs.Granted.{Makes, held-making, making-granted}
 use Rattle.kept_blocks.proofs.Placing.{placed-on, hand-used}
-use Rattle.kept_blocks.proofs.Rest.{later, one-entry, and-then, none-more}
-use Rattle.kept_blocks.proofs.Shares.{few-parts, none-hold, away-none}
+use Rattle.kept_blocks.proofs.Rest.{later, one-entry, and-then}
+use Rattle.kept_blocks.proofs.Shares.{none-hold}
 use Rattle.kept_blocks.proofs.Holding.{IsKeptIn, Holds, holds-in, holds-out, legal-of, rest-holds, at-same, at-other, same-length, made-frame}
 use Rattle.kept_blocks.proofs.Lending.{among-one}
-use Rattle.kept_blocks.proofs.Ending.{EndsHand, ends, fewer-parts, gone-then, away-then, other-block, given-back, united-part, no-parts-making, granted-making, part-apart, lent-then}
+use Rattle.kept_blocks.proofs.Ending.{EndsHand, ends, fewer-parts, gone-then, other-block, given-back, united-part, no-parts-making, lent-then}
 
 -- A MOVE THAT TOUCHES NO HAND
 

@@ -1,14 +1,12 @@
 -- How many parts of a block are in hands and away: few, against all of them.
-use Rattle.std.proofs.Common.{◌≡◌, ◌≢◌, ◌⊎◌, ℕ, suc, ◌+◌, ◌-◌, ◌*◌, ◌^◌, ◌≤◌, ◌<◌, Bool, true, false, not, ◌&&◌, ◌||◌, cond, eqb, ltb, List, [], ◌∷◌, length, refl, sym, ap, ◌∙◌, subst, arith, Some, inl, inr}
-use Rattle.std.specs.Prelude.{filter}
-use Rattle.std.specs.List.{list_any}
-use Rattle.std.proofs.lemmas.Bool.{and_parts, false≢true, true≢false, eq-eqb, ne_eqb, eqb-true, cases_Bool, or_parts, or_from, ltb-true, ltb-false, lt-ltb}
+use Rattle.std.proofs.Common.{◌≡◌, ◌≢◌, ◌⊎◌, ℕ, suc, ◌+◌, ◌*◌, ◌≤◌, ◌<◌, Bool, true, false, ◌||◌, eqb, ltb, List, [], ◌∷◌, length, refl, ap, arith, inl, inr}
+use Rattle.std.proofs.lemmas.Bool.{and_parts, ne_eqb, cases_Bool, or_parts, or_from, ltb-false}
 use Rattle.nd_base.specs.declared.frame.FrameName.{FrameName}
 use Rattle.flow_journal.specs.declared.entry.Entry.{Entry}
 use Rattle.flow_journal.specs.declared.entry.Entry.TheVariants.{Load, Issue, Take, TakeBlock, Put, Save, Saved, Reclaim}
 use Rattle.flow_journal.specs.Setting.{Setting, last_role}
 use Rattle.flow_journal.specs.Pasts.{Past, frame}
-use Rattle.flow_journal.specs.Hands.{takes_up, let_go, hands, hand}
+use Rattle.flow_journal.specs.Hands.{takes_up, let_go, hands}
 use Rattle.flow_journal.specs.Accounts.{block_of}
 use Rattle.flow_journal.specs.LengthLaws.{threads}
 use Rattle.flow_journal.specs.FirstEntries.{may_load, pool_grants}
@@ -21,7 +19,7 @@ use Rattle.flow_journal.proofs.Buckets.{AreBuckets, one_in_buckets}
 use Rattle.flow_journal.proofs.Travels.{may-Take, may-TakeBlock, holds, bit-none}
 use Rattle.flow_journal.proofs.Lengths.{is_reclaim, reclaims-few}
 use Rattle.board_rules.specs.States.{BoardState, past}
-use Rattle.board_rules.specs.Storage.{is_among, grants, is_away, has_part, parts_in_hand, parts_away, parts_here}
+use Rattle.board_rules.specs.Storage.{is_among, grants, is_away, has_part, parts_in_hand, parts_away}
 use Rattle.kept_blocks.specs.Keeping.{LoseFew, most_lost}
 
 -- ROLES
@@ -50,7 +48,6 @@ role-idle s (Put q v m k f ∷ P) r high h = omega (arith, role-idle s P r high 
 role-idle s (Saved q v m k ∷ P) r high h = omega (arith, role-idle s P r high (and_parts _ _ h).0, count-let_go-le (takes_up r) q (hands P))
 role-idle s (Reclaim q ∷ P) r high h = omega (arith, role-idle s P r high (and_parts _ _ h).0, count-let_go-le (takes_up r) q (hands P))
 role-idle s (_ ∷ P) r high h = role-idle s P r high (and_parts _ _ h).0
-
 
 -- the entry gives a hand
 abbrev gives : Entry → Bool

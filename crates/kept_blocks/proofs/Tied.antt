@@ -1,33 +1,32 @@
 -- A frame on a block is that of the block's last grant, or it is nowhere.
-use Rattle.std.proofs.Common.{◌≡◌, ◌≢◌, ◌⊎◌, ℕ, ◌+◌, ◌≤◌, ◌<◌, Bool, true, false, not, ◌&&◌, ◌||◌, cond, eqb, leb, List, [], ◌∷◌, ◌++◌, length, refl, sym, ap, ◌∙◌, subst, arith, Option, Some, None, inl, inr, length-append}
+use Rattle.std.proofs.Common.{◌≡◌, ◌≢◌, ◌⊎◌, ℕ, suc, ◌+◌, ◌≤◌, Bool, true, false, not, ◌&&◌, cond, eqb, leb, List, [], ◌∷◌, ◌++◌, length, refl, sym, ap, ◌∙◌, subst, arith, Option, Some, None, inl, inr, length-append}
 use Rattle.std.specs.Prelude.{filter, map}
-use Rattle.std.specs.List.{list_any, list_all}
-use Rattle.std.proofs.lemmas.Bool.{and_parts, and_from, false≢true, true≢false, eq-eqb, ne_eqb, eqb-true, eqb-false, cases_Bool, not-true, not_from_false, or_parts}
+use Rattle.std.specs.List.{list_all}
+use Rattle.std.proofs.lemmas.Bool.{and_parts, and_from, false≢true, true≢false, eq-eqb, ne_eqb, eqb-true, eqb-false, cases_Bool, or_parts}
 use Rattle.nd_base.specs.declared.frame.FrameName.{FrameName}
 use Rattle.pool_ledger.specs.Grants.{Block, has_number, Granted, Refused, granted, fit_or_fresh, smallest_fit, free_in_order, left_after, largest_free, passes, given_up, new_number, known_after}
 use Rattle.flow_journal.specs.declared.entry.Entry.{Entry}
-use Rattle.flow_journal.specs.declared.entry.Entry.TheVariants.{Load, Issue, Take, TakeBlock, Put, Save, Reclaim}
+use Rattle.flow_journal.specs.declared.entry.Entry.TheVariants.{Load, Issue, TakeBlock, Put, Reclaim}
 use Rattle.flow_journal.specs.Setting.{Setting, is_maker}
 use Rattle.flow_journal.specs.Pasts.{Past, frame, same}
-use Rattle.flow_journal.specs.Hands.{takes_up, hands, hand, standing}
+use Rattle.flow_journal.specs.Hands.{hand, standing}
 use Rattle.flow_journal.specs.Accounts.{block_of, refs, known, held, is_unplaced}
 use Rattle.flow_journal.specs.FirstEntries.{may_load, may_take, pool_grants}
 use Rattle.flow_journal.specs.Histories.{is_legal}
 use Rattle.flow_journal.proofs.Steps.{same_refl, same-true}
 use Rattle.flow_journal.proofs.EntryCounts.{count, bit, count-cons, owed-first}
-use Rattle.flow_journal.proofs.Rows.{row_laws}
 use Rattle.flow_journal.proofs.Hands.{row_of}
 use Rattle.flow_journal.proofs.Jobs.{reclaim_hand}
 use Rattle.flow_journal.proofs.FrameBlocks.{grants_of, grant-once, block-granted}
 use Rattle.flow_journal.proofs.AccountChanges.{block_laws}
-use Rattle.flow_journal.proofs.Travels.{holds, made_by, Clear, clear-more, hand-clear}
+use Rattle.flow_journal.proofs.Travels.{Clear, clear-more}
 use Rattle.flow_journal.proofs.Making.{is_frame, reclaimed-nowhere, untaken-again}
 use Rattle.flow_journal.proofs.Once.{is_among, least_missing-not_among}
 use Rattle.flow_journal.proofs.Grants.{all_in_order, all_found, all_filtered, granted-is, number-among}
 use Rattle.board_rules.proofs.Legal.{names_role}
 use Rattle.kept_blocks.specs.LastGrants.{LastGrant, Never, InMaking, Made, TakenBack, once_done, once_taken_back, last_grant}
 use Rattle.kept_blocks.proofs.Unplaced.{unplaced-clear}
-use Rattle.kept_blocks.proofs.Granted.{legal-before, once_done-made, once_taken_back-made, Makes, MakesIn, held-making, making-granted, makes-block, load-none, take-none}
+use Rattle.kept_blocks.proofs.Granted.{legal-before, once_done-made, once_taken_back-made, Makes, held-making, making-granted, makes-block, load-none, take-none}
 
 same-turned : (a c : FrameName) → same a c ≡ false → same c a ≡ false
 same-turned a c h =
@@ -43,7 +42,7 @@ none-more bs [] c h = refl
 none-more bs (d ∷ cs) c h = absurd (omega (arith, h, length-append (c ∷ bs) (d ∷ cs)))
 
 -- what has a block isn't granted one again
-not-again : (s : Setting) (P : Past) (e : Entry) (a : FrameName) (b c : ℕ) → is_legal s (e ∷ P) ≡ true → grants_of a (standing (e ∷ P)) ≡ (c ∷ []) ++ grants_of a (standing P) → block_of P a ≡ b ∷ [] → ⊥
+pub not-again : (s : Setting) (P : Past) (e : Entry) (a : FrameName) (b c : ℕ) → is_legal s (e ∷ P) ≡ true → grants_of a (standing (e ∷ P)) ≡ (c ∷ []) ++ grants_of a (standing P) → block_of P a ≡ b ∷ [] → ⊥
 not-again s P e a b c h is on =
     let few : length ((c ∷ []) ++ grants_of a (standing P)) ≤ 1 = subst (λ (bs : List ℕ). length bs ≤ 1) is (grant-once s (e ∷ P) a h) in
     let none : grants_of a (standing P) ≡ [] = none-more [] (grants_of a (standing P)) c few in
@@ -249,27 +248,28 @@ tied s (e ∷ P) b a pooled h on =
 
 -- SIZES
 
+-- one more than the size, or 0 where nobody was granted the block
 abbrev pub size_in : LastGrant → ℕ
-size_in (InMaking r a n) = n
-size_in (Made a n) = n
-size_in (TakenBack n) = n
+size_in (InMaking r a n) = suc n
+size_in (Made a n) = suc n
+size_in (TakenBack n) = suc n
 size_in Never = 0
 
 done-size : (q : ℕ) (g : LastGrant) → size_in (once_done q g) ≡ size_in g
-done-size q (InMaking r c n) = elim (eqb r q) as (λ y. size_in (cond y (Made c n) (InMaking r c n)) ≡ n) [ true ↦ refl | false ↦ refl ]
+done-size q (InMaking r c n) = elim (eqb r q) as (λ y. size_in (cond y (Made c n) (InMaking r c n)) ≡ suc n) [ true ↦ refl | false ↦ refl ]
 done-size q Never = refl
 done-size q (Made c n) = refl
 done-size q (TakenBack n) = refl
 
 back-size : (q : ℕ) (g : LastGrant) → size_in (once_taken_back q g) ≡ size_in g
-back-size q (InMaking r c n) = elim (eqb r q) as (λ y. size_in (cond y (TakenBack n) (InMaking r c n)) ≡ n) [ true ↦ refl | false ↦ refl ]
+back-size q (InMaking r c n) = elim (eqb r q) as (λ y. size_in (cond y (TakenBack n) (InMaking r c n)) ≡ suc n) [ true ↦ refl | false ↦ refl ]
 back-size q Never = refl
 back-size q (Made c n) = refl
 back-size q (TakenBack n) = refl
 
 -- the block has the size of its last grant
 abbrev pub is_sized : Past → Block → Bool
-is_sized P c = eqb (size_in (last_grant c.number P)) c.size
+is_sized P c = eqb (size_in (last_grant c.number P)) (suc c.size)
 
 all-same : (t u : Block → Bool) → ((c : Block) → t c ≡ u c) → (bs : List Block) → list_all t bs ≡ true → list_all u bs ≡ true
 all-same t u same_ bs h = ap (λ (w : Block → Bool). list_all w bs) (λ i c. sym (same_ c) i) ∙ h
@@ -281,7 +281,7 @@ all-but t u b more (c ∷ bs) none h =
     let q = or_parts (eqb c.number b) (has_number b bs) none in
     and_from _ _ (more c (eqb-false c.number b q.0) p.0) (all-but t u b more bs q.1 p.1)
 
-missing-left : (limit n held_ b z given : ℕ) (is_free : ℕ → Bool) (bs : List Block) → granted limit n held_ is_free bs ≡ Granted b z true given → (has_number b (left_after given is_free bs) ≡ false) × (z ≡ n) × (b ≡ new_number (left_after given is_free bs))
+pub missing-left : (limit n held_ b z given : ℕ) (is_free : ℕ → Bool) (bs : List Block) → granted limit n held_ is_free bs ≡ Granted b z true given → (has_number b (left_after given is_free bs) ≡ false) × (z ≡ n) × (b ≡ new_number (left_after given is_free bs))
 missing-left limit n held_ b z given is_free bs h =
     elim (cases_Bool (passes limit (held_ + n))) [
       | inl over ↦ let never : Refused ≡ Granted b z true given = rw over at h in cc
@@ -297,7 +297,7 @@ missing-left limit n held_ b z given is_free bs h =
         let left : new_number (left_after given is_free bs) ≡ b = subst (λ (k : ℕ). new_number (left_after k is_free bs) ≡ b) gone number in
         (sym (number-among b (left_after given is_free bs)) ∙ subst (λ (k : ℕ). is_among k (map (λ (c : Block). c.number) (left_after given is_free bs)) ≡ false) left (least_missing-not_among (map (λ (c : Block). c.number) (left_after given is_free bs))), sym size, sym left)
 
-fit-there : (limit n held_ b z given : ℕ) (is_free : ℕ → Bool) (bs : List Block) → granted limit n held_ is_free bs ≡ Granted b z false given → (c : Block) × (smallest_fit n is_free bs ≡ Some c) × (c.number ≡ b) × (c.size ≡ z)
+pub fit-there : (limit n held_ b z given : ℕ) (is_free : ℕ → Bool) (bs : List Block) → granted limit n held_ is_free bs ≡ Granted b z false given → (c : Block) × (smallest_fit n is_free bs ≡ Some c) × (c.number ≡ b) × (c.size ≡ z)
 fit-there limit n held_ b z given is_free bs h =
     elim (cases_Bool (passes limit (held_ + n))) [
       | inl over ↦ let never : Refused ≡ Granted b z false given = rw over at h in cc
@@ -309,7 +309,7 @@ fit-there limit n held_ b z given is_free bs h =
     of_fit None is e = cc
 
 -- the block that fits has what all known ones have
-fit-has : (t : Block → Bool) (n : ℕ) (is_free : ℕ → Bool) (bs : List Block) (c : Block) → list_all t bs ≡ true → smallest_fit n is_free bs ≡ Some c → t c ≡ true
+pub fit-has : (t : Block → Bool) (n : ℕ) (is_free : ℕ → Bool) (bs : List Block) (c : Block) → list_all t bs ≡ true → smallest_fit n is_free bs ≡ Some c → t c ≡ true
 fit-has t n is_free bs c all is = all_found t (λ d. leb n d.size) (free_in_order is_free bs) c (all_in_order t (filter (λ b. is_free b.number) bs) (all_filtered t (λ b. is_free b.number) bs all)) is
 
 sized-grant : (s : Setting) (m b z : ℕ) (f : Bool) (g : ℕ) (x : Bool) (e : Entry) (P : Past) (r : ℕ) (a : FrameName) → s.pooled ≡ true → pool_grants s m b z f g x P ≡ true
@@ -317,22 +317,22 @@ sized-grant : (s : Setting) (m b z : ℕ) (f : Bool) (g : ℕ) (x : Bool) (e : E
     → list_all (is_sized (e ∷ P)) (known_after (is_unplaced s P) (Granted b z f g) (known s P)) ≡ true
 sized-grant s m b z false g x e P r a pooled grants turn all =
     let c = fit-there s.limit (s.need m) (held s P) b z g (is_unplaced s P) (known s P) (granted-is s m b z false g x P pooled grants) in
-    let size : size_in (last_grant b P) ≡ z =
-        subst (λ (k : ℕ). size_in (last_grant k P) ≡ z) c.2 (eqb-true (size_in (last_grant c.0.number P)) c.0.size (fit-has (is_sized P) (s.need m) (is_unplaced s P) (known s P) c.0 all c.1) ∙ c.3) in
-    all-same (is_sized P) (is_sized (e ∷ P)) (λ d. ap (λ (k : ℕ). eqb k d.size) (same-size d.number size)) (known s P) all
+    let size : size_in (last_grant b P) ≡ suc z =
+    subst (λ (k : ℕ). size_in (last_grant k P) ≡ suc z) c.2 (eqb-true (size_in (last_grant c.0.number P)) (suc c.0.size) (fit-has (is_sized P) (s.need m) (is_unplaced s P) (known s P) c.0 all c.1) ∙ ap suc c.3) in
+    all-same (is_sized P) (is_sized (e ∷ P)) (λ d. ap (λ (k : ℕ). eqb k (suc d.size)) (same-size d.number size)) (known s P) all
   where
-    same-size : (k : ℕ) → size_in (last_grant b P) ≡ z → size_in (last_grant k P) ≡ size_in (last_grant k (e ∷ P))
+    same-size : (k : ℕ) → size_in (last_grant b P) ≡ suc z → size_in (last_grant k P) ≡ size_in (last_grant k (e ∷ P))
     same-size k size =
         elim (cases_Bool (eqb b k)) [
-          | inl here ↦ subst (λ (i : ℕ). size_in (last_grant i P) ≡ z) (eqb-true b k here) size ∙ sym (ap size_in (turn k) ∙ ap (λ (y : Bool). size_in (cond y (InMaking r a z) (last_grant k P))) here)
+          | inl here ↦ subst (λ (i : ℕ). size_in (last_grant i P) ≡ suc z) (eqb-true b k here) size ∙ sym (ap size_in (turn k) ∙ ap (λ (y : Bool). size_in (cond y (InMaking r a z) (last_grant k P))) here)
           | inr other ↦ sym (ap size_in (turn k) ∙ ap (λ (y : Bool). size_in (cond y (InMaking r a z) (last_grant k P))) other)
         ]
 sized-grant s m b z true g x e P r a pooled grants turn all =
     let missing = missing-left s.limit (s.need m) (held s P) b z g (is_unplaced s P) (known s P) (granted-is s m b z true g x P pooled grants) in
     let left : List Block = left_after g (is_unplaced s P) (known s P) in
     let left_all : list_all (is_sized P) left ≡ true = all_filtered (is_sized P) (λ c. not (has_number c.number (largest_free g (is_unplaced s P) (known s P)))) (known s P) all in
-    and_from _ _ (eq-eqb (size_in (last_grant b (e ∷ P))) z (ap size_in (turn b) ∙ ap (λ (y : Bool). size_in (cond y (InMaking r a z) (last_grant b P))) (eq-eqb b b refl)))
-    (all-but (is_sized P) (is_sized (e ∷ P)) b (λ c ne is. ap (λ (k : ℕ). eqb k c.size) (ap size_in (turn c.number) ∙ ap (λ (y : Bool). size_in (cond y (InMaking r a z) (last_grant c.number P))) (ne_eqb b c.number (λ e. ne (sym e)))) ∙ is) left missing.0 left_all)
+    and_from _ _ (eq-eqb (size_in (last_grant b (e ∷ P))) (suc z) (ap size_in (turn b) ∙ ap (λ (y : Bool). size_in (cond y (InMaking r a z) (last_grant b P))) (eq-eqb b b refl)))
+    (all-but (is_sized P) (is_sized (e ∷ P)) b (λ c ne is. ap (λ (k : ℕ). eqb k (suc c.size)) (ap size_in (turn c.number) ∙ ap (λ (y : Bool). size_in (cond y (InMaking r a z) (last_grant c.number P))) (ne_eqb b c.number (λ e. ne (sym e)))) ∙ is) left missing.0 left_all)
 
 -- each known block has the size of its last grant
 pub all-sized : (s : Setting) (P : Past) → s.pooled ≡ true → is_legal s P ≡ true → list_all (is_sized P) (known s P) ≡ true
@@ -346,9 +346,9 @@ all-sized s (TakeBlock f x r v m k b z g ∷ P) pooled h =
     let grants : pool_grants s v b z f g x P ≡ true = (and_parts (may_take s r v (frame m k) P && is_maker s v) (pool_grants s v b z f g x P) (row_of s e P (λ d. refl) h)).1 in
     sized-grant s v b z f g x e P r (frame v k) pooled grants (λ i. refl) (all-sized s P pooled (legal-before s e P h))
 all-sized s (Issue q k ∷ P) pooled h =
-    all-same (is_sized P) (is_sized (Issue q k ∷ P)) (λ c. ap (λ (i : ℕ). eqb i c.size) (sym (done-size q (last_grant c.number P)))) (known s P) (all-sized s P pooled (legal-before s (Issue q k) P h))
+    all-same (is_sized P) (is_sized (Issue q k ∷ P)) (λ c. ap (λ (i : ℕ). eqb i (suc c.size)) (sym (done-size q (last_grant c.number P)))) (known s P) (all-sized s P pooled (legal-before s (Issue q k) P h))
 all-sized s (Put q v m k f ∷ P) pooled h =
-    all-same (is_sized P) (is_sized (Put q v m k f ∷ P)) (λ c. ap (λ (i : ℕ). eqb i c.size) (sym (done-size q (last_grant c.number P)))) (known s P) (all-sized s P pooled (legal-before s (Put q v m k f) P h))
+    all-same (is_sized P) (is_sized (Put q v m k f ∷ P)) (λ c. ap (λ (i : ℕ). eqb i (suc c.size)) (sym (done-size q (last_grant c.number P)))) (known s P) (all-sized s P pooled (legal-before s (Put q v m k f) P h))
 all-sized s (Reclaim q ∷ P) pooled h =
-    all-same (is_sized P) (is_sized (Reclaim q ∷ P)) (λ c. ap (λ (i : ℕ). eqb i c.size) (sym (back-size q (last_grant c.number P)))) (known s P) (all-sized s P pooled (legal-before s (Reclaim q) P h))
+    all-same (is_sized P) (is_sized (Reclaim q ∷ P)) (λ c. ap (λ (i : ℕ). eqb i (suc c.size)) (sym (back-size q (last_grant c.number P)))) (known s P) (all-sized s P pooled (legal-before s (Reclaim q) P h))
 all-sized s (e ∷ P) pooled h = all-sized s P pooled (legal-before s e P h)

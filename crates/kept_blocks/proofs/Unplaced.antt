@@ -1,10 +1,9 @@
 -- A frame on a block without a place is nowhere, and what a place has is on a known block.
-use Rattle.std.proofs.Common.{◌≡◌, ℕ, ◌+◌, Bool, true, false, ◌||◌, eqb, List, [], ◌∷◌, ◌++◌, map, refl, sym, ap, ◌∙◌, subst, arith, inl, inr}
+use Rattle.std.proofs.Common.{◌≡◌, ℕ, Bool, true, false, ◌||◌, eqb, List, [], ◌∷◌, refl, sym, ap, ◌∙◌, arith, inl, inr}
 use Rattle.std.specs.Prelude.{flat_map}
 use Rattle.std.specs.List.{list_any}
-use Rattle.std.proofs.lemmas.Bool.{false≢true, true≢false, eq-eqb, eqb-true, cases_Bool, or_parts, or_cases, or_from, not-false}
+use Rattle.std.proofs.lemmas.Bool.{false≢true, true≢false, eq-eqb, eqb-true, cases_Bool, or_parts, or_cases, or_from}
 use Rattle.nd_base.specs.declared.frame.FrameName.{FrameName}
-use Rattle.pool_ledger.specs.Grants.{has_number}
 use Rattle.flow_journal.specs.declared.entry.Entry.{Entry}
 use Rattle.flow_journal.specs.declared.entry.Entry.TheVariants.{Load, Emit, Accept, Take, TakeBlock, SortDrop, Save}
 use Rattle.flow_journal.specs.Setting.{Setting, node_numbers}
@@ -14,14 +13,14 @@ use Rattle.flow_journal.specs.Queued.{queued}
 use Rattle.flow_journal.specs.Waiting.{waiting}
 use Rattle.flow_journal.specs.Rings.{ring}
 use Rattle.flow_journal.specs.Unsaved.{unsaved}
-use Rattle.flow_journal.specs.Accounts.{block_of, blocks_in_hand, arrays_at, places, refs, known}
+use Rattle.flow_journal.specs.Accounts.{block_of, blocks_in_hand, arrays_at, places, refs}
 use Rattle.flow_journal.specs.Following.{owed}
 use Rattle.flow_journal.specs.Histories.{is_legal}
-use Rattle.flow_journal.proofs.Steps.{same_refl, same-true}
+use Rattle.flow_journal.proofs.Steps.{same-true}
 use Rattle.flow_journal.proofs.EntryCounts.{count, bit, count-cons}
 use Rattle.flow_journal.proofs.Offers.{is_number}
 use Rattle.flow_journal.proofs.Outs.{waits}
-use Rattle.flow_journal.proofs.Travels.{bit-none, holds, carries, ClearBy, Clear}
+use Rattle.flow_journal.proofs.Travels.{bit-none, holds, carries, Clear}
 use Rattle.flow_journal.proofs.Making.{is_frame}
 use Rattle.flow_journal.proofs.FrameBlocks.{has, any-append, any-flat, hands-blocks}
 use Rattle.flow_journal.proofs.Found.{none_counted, none_any}

@@ -1,5 +1,5 @@
 -- LAWS of a grant: where the pool grants this block, a place is made for it, its storage is taken, and then the move comes.
-use Rattle.std.specs.Prelude.{◌≡◌, ◌≢◌, ◌≤◌, ◌<◌, ℕ, Bool, true, false, ◌&&◌, not, List, [], ◌∷◌, length, Option}
+use Rattle.std.specs.Prelude.{◌≡◌, ◌≢◌, ◌≤◌, ◌<◌, ℕ, Bool, true, false, List, [], ◌∷◌, length, Option}
 use Rattle.nd_base.specs.declared.frame.FrameName.{FrameName}
 use Rattle.nd_base.specs.Parts.{Parts}
 use Rattle.pool_ledger.specs.Grants.{Granted, has_number}
@@ -23,29 +23,46 @@ pub record IsGranted {F : Type 0} (parts : F → Option Parts) (s : Setting) (to
   pub holds : HoldsBlocks parts s told t
   pub granted : grant s (past told) need ≡ Granted block size fresh given
 
+-- a part of what is kept of the block c was lent of a table that holds the blocks, in which that block is as it was
+pub record IsRefusedLent {F : Type 0} (parts : F → Option Parts) (s : Setting) (told : BoardState) (t new : List Kept) (c : ℕ) : Type 0 where
+  pub left : List Kept
+  pub holds : HoldsBlocks parts s told left
+  pub lent : new ≡ with_kept left c (less_one (kept_at left c))
+  pub same : kept_at left c ≡ kept_at t c
+  pub long : length left ≡ length t
+
 pub record GrantLaws {F : Type 0} (parts : F → Option Parts) : Type 0 where
   -- the block has a place or is the next, and one that isn't fresh has one; the table goes on holding the blocks with a place more
   pub next : (s : Setting) (told : BoardState) (t : List Kept) (need b z : ℕ) (f : Bool) (g : ℕ) → IsGranted parts s told t need b z f g → b ≤ length t
   pub old : (s : Setting) (told : BoardState) (t : List Kept) (need b z : ℕ) (g : ℕ) → IsGranted parts s told t need b z false g → b < length t
   pub room : (s : Setting) (told : BoardState) (t : List Kept) (b : ℕ) → HoldsBlocks parts s told t → HoldsBlocks parts s told (with_room t b)
-  -- what was made anew is what the log says of it, and where frames tell their parts memory is wanted only where storage is
-  pub anew : (s : Setting) (told : BoardState) (t : List Kept) (need b z : ℕ) (f : Bool) (g : ℕ) (x : Bool) → IsGranted parts s told t need b z f g
-      → IsMadeAnew (at_home z (kept_at t b)) x → IsRegrown parts told b f (x && not f)
-  pub wants : (s : Setting) (told : BoardState) (t : List Kept) (need b z : ℕ) (f : Bool) (g : ℕ) → IsGranted parts s told t need b z f g
-      → TellParts parts → IsAway (at_home z (kept_at t b)) → wants_storage told (Granted b z f g) ≡ true
+  pub room_keeps : (t : List Kept) (b c : ℕ) → kept_at (with_room t b) c ≡ kept_at t c
+  pub room_of_lent : (t : List Kept) (b c : ℕ) → c < length t
+      → with_room (with_kept t c (less_one (kept_at t c))) b ≡ with_kept (with_room t b) c (less_one (kept_at (with_room t b) c))
+  -- Of a block that isn't fresh: what was made anew is what the log says of it; where frames tell their parts memory is wanted only where
+  -- storage is, and the block has the size that is granted. Of a fresh one nothing was.
+  pub anew : (s : Setting) (told : BoardState) (t : List Kept) (need b z : ℕ) (g : ℕ) (x : Bool) → IsGranted parts s told t need b z false g
+      → IsMadeAnew (at_home z (kept_at t b)) x → IsRegrown parts told b false x
+  pub fresh_anew : (told : BoardState) (b : ℕ) → IsRegrown parts told b true false
+  pub wants : (s : Setting) (told : BoardState) (t : List Kept) (need b z : ℕ) (g : ℕ) → IsGranted parts s told t need b z false g
+      → TellParts parts → IsAway (at_home z (kept_at t b)) → wants_storage told (Granted b z false g) ≡ true
   pub sized : (s : Setting) (told : BoardState) (t : List Kept) (need b z : ℕ) (g : ℕ) → IsGranted parts s told t need b z false g
       → TellParts parts → IsSized z (kept_at t b)
-  -- for want of memory, with the log as it is: what a refused table keeps, and storage that was taken and is put back
-  pub refused : (s : Setting) (told : BoardState) (t new : List Kept) (need b z : ℕ) (f : Bool) (g : ℕ) → IsGranted parts s told t need b z f g
+  -- for want of memory, with the log as it is: what a refused table keeps; and where frames don't tell their parts, storage that was taken and
+  -- is put back
+  pub refused : (s : Setting) (told : BoardState) (t new : List Kept) (need b z : ℕ) (g : ℕ) → IsGranted parts s told t need b z false g
       → IsRefused z b t new → HoldsBlocks parts s told new
-  pub put_back : (s : Setting) (told : BoardState) (t : List Kept) (need b z : ℕ) (f : Bool) (g : ℕ) → IsGranted parts s told t need b z f g
-      → b < length t → HoldsBlocks parts s told (with_kept (with_kept t b Empty) b (Storage z))
-  -- with the storage taken, a part of the next array of a queue may be lent: its block is another
+  pub put_back : (s : Setting) (told : BoardState) (t : List Kept) (need b z : ℕ) (g : ℕ) → IsGranted parts s told t need b z false g
+      → (TellParts parts → ⊥) → HoldsBlocks parts s told (with_kept (with_kept t b Empty) b (Storage z))
+  -- the block isn't that of the next array of a queue; with the storage taken, a part of that may be lent
   pub apart : (s : Setting) (told : BoardState) (t : List Kept) (need b z : ℕ) (f : Bool) (g v c : ℕ) (a : FrameName)
       → IsGranted parts s told t need b z f g → is_next a (queued v (past told)) ≡ true → block_of (past told) a ≡ c ∷ [] → c ≢ b
   pub lendable : (s : Setting) (told : BoardState) (t : List Kept) (need b z : ℕ) (f : Bool) (g v : ℕ) (a : FrameName)
       → IsGranted parts s told t need b z f g → is_next a (queued v (past told)) ≡ true → IsLendable parts (past told) (with_kept t b Empty) a
-  -- the moves, with the storage of the block taken
+  -- the same want of memory once the part was lent: given back, it leaves a table that holds the blocks
+  pub refused_lent : (s : Setting) (told : BoardState) (t new : List Kept) (need b z c : ℕ) (g : ℕ) → IsGranted parts s told t need b z false g
+      → c ≢ b → IsRefused z b (with_kept t c (less_one (kept_at t c))) new → IsRefusedLent parts s told t new c
+  -- the moves, with the storage of the block taken, before or after the part was lent
   pub load : (s : Setting) (told : BoardState) (t : List Kept) (tick r k need b z : ℕ) (f : Bool) (g : ℕ) (x : Bool) → IsGranted parts s told t need b z f g
       → b < length t → is_legal s (past (moved_at s tick (plain (Load r k b z f g x)) told)) ≡ true
       → HoldsBlocks parts s (moved_at s tick (plain (Load r k b z f g x)) told) (with_kept t b Empty)
@@ -53,13 +70,12 @@ pub record GrantLaws {F : Type 0} (parts : F → Option Parts) : Type 0 where
       → IsGranted parts s told t need b z f g → b < length t → block_of (past told) a ≡ c ∷ [] → IsPartOf (kept_at (with_kept t b Empty) c) a q
       → is_legal s (past (moved s (lends (take_block r v a b z f g x) q) told)) ≡ true
       → HoldsBlocks parts s (moved s (lends (take_block r v a b z f g x) q) told)
-          (with_kept (with_kept t b Empty) c (less_one (kept_at (with_kept t b Empty) c)))
-  -- the same where the part was lent first
+      (with_kept (with_kept t b Empty) c (less_one (kept_at (with_kept t b Empty) c)))
   pub take_lent : (s : Setting) (told : BoardState) (t : List Kept) (r v c need b z : ℕ) (f : Bool) (g : ℕ) (x : Bool) (a : FrameName) (q : Option Parts)
       → IsGranted parts s told t need b z f g → b < length t → block_of (past told) a ≡ c ∷ [] → IsPartOf (kept_at t c) a q
       → is_legal s (past (moved s (lends (take_block r v a b z f g x) q) told)) ≡ true
       → HoldsBlocks parts s (moved s (lends (take_block r v a b z f g x) q) told)
-          (with_kept (with_kept t c (less_one (kept_at t c))) b Empty)
+      (with_kept (with_kept t c (less_one (kept_at t c))) b Empty)
   -- what is kept of a block that isn't known, or of which nothing is kept, can be forgotten
-  pub forget : (s : Setting) (told : BoardState) (t : List Kept) (b : ℕ) → HoldsBlocks parts s told t
+  pub forget : (s : Setting) (told : BoardState) (t : List Kept) (b : ℕ) → IsRunOf s told → HoldsBlocks parts s told t
       → (has_number b (known s (past told)) ≡ true → kept_at t b ≡ Empty) → HoldsBlocks parts s told (with_kept t b Empty)

@@ -85,7 +85,7 @@ pub record MoveLaws {F B : Type 0} (O : Type 0) (name_of : F → FrameName) (par
       → IsWholeOf (granted_size (hand r (past told))) (parts made)
       → is_legal s (past (moved s (plain (Put r v m (name_of f).index fired)) told)) ≡ true
       → HoldsBlocks parts s (moved s (plain (Put r v m (name_of f).index fired)) told)
-          (with_kept (with_kept t c (united (kept_at t c) (parts f))) b (Frame (name_of made) (parts made)))
+      (with_kept (with_kept t c (united (kept_at t c) (parts f))) b (Frame (name_of made) (parts made)))
   -- what came back of a hand that is taken back is given back and kept
   pub reclaim_load : (s : Setting) (told : BoardState) (t : List Kept) (r : ℕ) (left : Left F B O) (q k b n : ℕ) (f : Bool) (g : ℕ) (x : Bool)
       → MayTakeBack name_of parts bytes_of s told t r left → hand r (past told) ≡ Some (Load q k b n f g x)
@@ -97,7 +97,7 @@ pub record MoveLaws {F B : Type 0} (O : Type 0) (name_of : F → FrameName) (par
       → MayTakeBack name_of parts bytes_of s told t r left → hand r (past told) ≡ Some (TakeBlock f x q v m k b n g)
       → block_of (past told) (frame m k) ≡ c ∷ []
       → HoldsBlocks parts s (taken_back name_of s r left told)
-          (with_grant name_of parts bytes_of b left.made left.blank (with_input name_of parts (frame m k) c left.input t))
+      (with_grant name_of parts bytes_of b left.made left.blank (with_input name_of parts (frame m k) c left.input t))
   pub reclaim_piece : (s : Setting) (told : BoardState) (t : List Kept) (r : ℕ) (left : Left F B O) (q v m k g c : ℕ)
       → MayTakeBack name_of parts bytes_of s told t r left → hand r (past told) ≡ Some (Save q v m k g) → block_of (past told) (frame m k) ≡ c ∷ []
       → HoldsBlocks parts s (taken_back name_of s r left told) (with_input name_of parts (frame m k) c left.input t)
