@@ -86,7 +86,7 @@ made-maker name_of false a f h = absurd h
 pub issued-gives : {F E : Type 0} (name_of : F → FrameName) (s : Setting) (old new : BoardState) (r : ℕ) (f : F) (e : E) → is_load_of (name_of f) (hand r (past old)) ≡ true → new ≡ moved s (plain (Issue r (name_of f).index)) old → IssueGives {F = F} {E = E} name_of s old r f (Ok e) new
 issued-gives name_of s old new r f e loaded is = (loaded, is)
 
-pub issued-board : {F B O : Type 0} (name_of : F → FrameName) (parts : F → Option Parts) (bytes_of : B → ℕ) (moves : MoveLaws {F = F} {B = B} {O = O} name_of parts bytes_of) (s : Setting) (w w' : Coursed) (t t' : List Kept) (r b : ℕ) (f : F) → IsBoard parts s w t → is_load_of (name_of f) (hand r (past w.told)) ≡ true → granted_block (hand r (past w.told)) ≡ b ∷ []
+pub issued-board : {F B O : Type 0} (name_of : F → FrameName) (parts : F → Option Parts) (bytes_of : B → ℕ) (moves : MoveLaws O name_of parts bytes_of) (s : Setting) (w w' : Coursed) (t t' : List Kept) (r b : ℕ) (f : F) → IsBoard parts s w t → is_load_of (name_of f) (hand r (past w.told)) ≡ true → granted_block (hand r (past w.told)) ≡ b ∷ []
     → IsWholeOf (granted_size (hand r (past w.told))) (parts f) → w' ≡ record w { told = moved s (plain (Issue r (name_of f).index)) w.told } → t' ≡ with_kept t b (Frame (name_of f) (parts f)) → IsBoard parts s w' t'
 issued-board {F} name_of parts bytes_of moves s w w' t t' r b f i loaded grant whole is kept =
     let new = moved s (plain (Issue r (name_of f).index)) w.told in
@@ -113,7 +113,7 @@ put-history {F} name_of parts measure s w t r v input made measured fired i =
     let right : IsResult name_of measure s done = record { made = i.kind; measured = i.own_measure; fired = i.own_fired } in
     put-by {F = F} {E = Unit {0}} name_of measure s w.told (put_after name_of s r v input fired w.told) r done (Ok tt) i.board.run.history (λ h. right) (i.job, refl)
 
-pub put-board : {F B O : Type 0} (name_of : F → FrameName) (parts : F → Option Parts) (bytes_of : B → ℕ) (measure : ℕ → FrameName → Option Measure) (moves : MoveLaws {F = F} {B = B} {O = O} name_of parts bytes_of) (s : Setting) (w w' : Coursed) (t t' : List Kept) (r v c : ℕ) (input : F) (measured : Option Measure) (fired : Bool) → Brings name_of parts measure s w t r v input None measured fired → block_of (past w.told) (name_of input) ≡ c ∷ []
+pub put-board : {F B O : Type 0} (name_of : F → FrameName) (parts : F → Option Parts) (bytes_of : B → ℕ) (measure : ℕ → FrameName → Option Measure) (moves : MoveLaws O name_of parts bytes_of) (s : Setting) (w w' : Coursed) (t t' : List Kept) (r v c : ℕ) (input : F) (measured : Option Measure) (fired : Bool) → Brings name_of parts measure s w t r v input None measured fired → block_of (past w.told) (name_of input) ≡ c ∷ []
     → w' ≡ record w { told = put_after name_of s r v input fired w.told } → t' ≡ with_kept t c (united (kept_at t c) (parts input)) → IsBoard parts s w' t'
 put-board name_of parts bytes_of measure moves s w w' t t' r v c input measured fired i has is kept =
     let new = put_after name_of s r v input fired w.told in
@@ -122,7 +122,7 @@ put-board name_of parts bytes_of measure moves s w w' t t' r v c input measured 
     (subst (λ (u : List Kept). HoldsBlocks parts s new u) (sym kept)
     (moves.put s w.told t r v (result_name s v (name_of input)).maker c input fired i.board.run i.board.holds i.job has i.own i.kind (legal-of s new history)))
 
-pub put_made-board : {F B O : Type 0} (name_of : F → FrameName) (parts : F → Option Parts) (bytes_of : B → ℕ) (measure : ℕ → FrameName → Option Measure) (moves : MoveLaws {F = F} {B = B} {O = O} name_of parts bytes_of) (s : Setting) (w w' : Coursed) (t t' : List Kept) (r v b c : ℕ) (input made : F) (measured : Option Measure) (fired : Bool) → Brings name_of parts measure s w t r v input (Some made) measured fired
+pub put_made-board : {F B O : Type 0} (name_of : F → FrameName) (parts : F → Option Parts) (bytes_of : B → ℕ) (measure : ℕ → FrameName → Option Measure) (moves : MoveLaws O name_of parts bytes_of) (s : Setting) (w w' : Coursed) (t t' : List Kept) (r v b c : ℕ) (input made : F) (measured : Option Measure) (fired : Bool) → Brings name_of parts measure s w t r v input (Some made) measured fired
     → block_of (past w.told) (name_of input) ≡ c ∷ [] → granted_block (hand r (past w.told)) ≡ b ∷ [] → IsWholeOf (granted_size (hand r (past w.told))) (parts made)
     → w' ≡ record w { told = put_after name_of s r v input fired w.told } → t' ≡ with_kept (with_kept t c (united (kept_at t c) (parts input))) b (Frame (name_of made) (parts made)) → IsBoard parts s w' t'
 put_made-board name_of parts bytes_of measure moves s w w' t t' r v b c input made measured fired i has grant whole is kept =
@@ -158,7 +158,7 @@ pub piece-gives : {F : Type 0} (name_of : F → FrameName) (parts : F → Option
 piece-gives name_of parts look s w t r v c input group place of new i is =
     save-gives name_of parts s w.told new r v None (save.Piece input group place of) i.allowed (i.next, look.one (kept_at t c) (name_of input) (parts input) i.part, i.grouped, i.placed, i.sized, is)
 
-pub piece-board : {F B O : Type 0} (name_of : F → FrameName) (parts : F → Option Parts) (bytes_of : B → ℕ) (look : LookLaws parts) (moves : MoveLaws {F = F} {B = B} {O = O} name_of parts bytes_of) (s : Setting) (w w' : Coursed) (t t' : List Kept) (r v c : ℕ) (input : F) (group place : ℕ) (of : Option ℕ) → SavesPiece name_of parts s w t r v c input group place of
+pub piece-board : {F B O : Type 0} (name_of : F → FrameName) (parts : F → Option Parts) (bytes_of : B → ℕ) (look : LookLaws parts) (moves : MoveLaws O name_of parts bytes_of) (s : Setting) (w w' : Coursed) (t t' : List Kept) (r v c : ℕ) (input : F) (group place : ℕ) (of : Option ℕ) → SavesPiece name_of parts s w t r v c input group place of
     → w' ≡ record w { told = save_after name_of parts s r v input group w.told } → t' ≡ with_kept t c (less_one (kept_at t c)) → IsBoard parts s w' t'
 piece-board {F} name_of parts bytes_of look moves s w w' t t' r v c input group place of i is kept =
     let new = save_after name_of parts s r v input group w.told in
@@ -172,7 +172,7 @@ piece-lends name_of parts look s told new r v input group place of is =
     ap (lent_to r) is ∙ (look.handed s told 0 r (lends (Save r v (name_of input).maker (name_of input).index group) (parts input)) (eq-eqb r r refl)).1
 
 -- SAVED
-pub saved-board : {F B O : Type 0} (name_of : F → FrameName) (parts : F → Option Parts) (bytes_of : B → ℕ) (moves : MoveLaws {F = F} {B = B} {O = O} name_of parts bytes_of) (s : Setting) (w w' : Coursed) (t t' : List Kept) (r c : ℕ) (f : F) → IsBoard parts s w t → is_piece_on (name_of f) (hand r (past w.told)) ≡ true → block_of (past w.told) (name_of f) ≡ c ∷ [] → parts f ≡ lent_to r w.told
+pub saved-board : {F B O : Type 0} (name_of : F → FrameName) (parts : F → Option Parts) (bytes_of : B → ℕ) (moves : MoveLaws O name_of parts bytes_of) (s : Setting) (w w' : Coursed) (t t' : List Kept) (r c : ℕ) (f : F) → IsBoard parts s w t → is_piece_on (name_of f) (hand r (past w.told)) ≡ true → block_of (past w.told) (name_of f) ≡ c ∷ [] → parts f ≡ lent_to r w.told
     → w' ≡ record w { told = moved s (plain (Saved r (hand_node (hand r (past w.told))) (name_of f).maker (name_of f).index)) w.told } → t' ≡ with_kept t c (united (kept_at t c) (parts f)) → IsBoard parts s w' t'
 saved-board {F} name_of parts bytes_of moves s w w' t t' r c f i piece has own is kept =
     let new = moved s (plain (Saved r (hand_node (hand r (past w.told))) (name_of f).maker (name_of f).index)) w.told in

@@ -27,11 +27,11 @@ use Rattle.kept_blocks.specs.Keeping.{HoldsBlocks, IsRunOf}
 use Rattle.kept_blocks.specs.GrantLaws.{GrantLaws, IsGranted}
 use Rattle.kept_blocks.specs.LookLaws.{LookLaws}
 use Rattle.kept_blocks.specs.MoveLaws.{MoveLaws}
-use Rattle.flow_core.specs.Boards.{IsBoard, IsRemade}
+use Rattle.flow_core.specs.Boards.{IsBoard, IsRemade, with_storage}
 use Rattle.flow_core.proofs.Answered.{enough}
 use Rattle.flow_core.proofs.Boarding.{board-moved, legal-of}
 use Rattle.flow_core.proofs.Places.{room-there}
-use Rattle.flow_core.proofs.Stored.{remade-regrown, roomy}
+use Rattle.flow_core.proofs.Stored.{remade-regrown, roomy, emptied}
 
 -- where this stands against a load, and the pool answers so
 pub load-gives : {F B : Type 0} (parts : F → Option Parts) (bytes_of : B → ℕ) (s : Setting) (old new : BoardState) (r tick : ℕ) (o : Option (load_answer B)) (g : Answer) (a : load_answer B) → load_refusal {B = B} s r (past old) ≡ o → grant s (past old) (s.need 0) ≡ g
@@ -65,13 +65,13 @@ loaded-history {F} {B} parts bytes_of laws s w t r tick b z f g x blank l =
     (refl, l.size, (x, remade-regrown parts laws s w.told t (s.need 0) b z f g x (granting parts bytes_of s w t r b z f g x blank l) l.remade, refl))
 
 pub loaded-board : {F B : Type 0} (parts : F → Option Parts) (bytes_of : B → ℕ) (laws : GrantLaws parts) (s : Setting) (w w' : Coursed) (t t' : List Kept) (r tick b z : ℕ) (f : Bool) (g : ℕ) (x : Bool) (blank : B) → LoadsOn parts bytes_of s w t r b z f g x blank
-    → w' ≡ record w { told = moved_at s tick (plain (Load r (next_index (past w.told)) b z f g x)) w.told } → t' ≡ with_kept (with_room t b) b Empty → IsBoard parts s w' t'
+    → w' ≡ record w { told = moved_at s tick (plain (Load r (next_index (past w.told)) b z f g x)) w.told } → t' ≡ with_kept (with_storage b f t) b Empty → IsBoard parts s w' t'
 loaded-board parts bytes_of laws s w w' t t' r tick b z f g x blank l is kept =
     let i = granting parts bytes_of s w t r b z f g x blank l in
     let new = moved_at s tick (plain (Load r (next_index (past w.told)) b z f g x)) w.told in
     let history = loaded-history parts bytes_of laws s w t r tick b z f g x blank l in
     board-moved parts s w w' new t t' l.board is history
-    (subst (λ (u : List Kept). HoldsBlocks parts s new u) (sym kept)
+    (subst (λ (u : List Kept). HoldsBlocks parts s new u) (sym (kept ∙ emptied b f t))
     (laws.load s w.told (with_room t b) tick r (next_index (past w.told)) (s.need 0) b z f g x (roomy parts laws s w.told t (s.need 0) b z f g i) (room-there t b (laws.next s w.told t (s.need 0) b z f g i)) (legal-of s new history)))
 
 pub loaded-room : {F B : Type 0} (parts : F → Option Parts) (bytes_of : B → ℕ) (look : LookLaws parts) (s : Setting) (w : Coursed) (t : List Kept) (r tick b z : ℕ) (f : Bool) (g : ℕ) (x : Bool) (blank : B) (k : ℕ) (new : BoardState) → LoadsOn parts bytes_of s w t r b z f g x blank
@@ -89,9 +89,9 @@ refused-gives parts bytes_of s old new r tick k h none given turn holds is =
     load-gives parts bytes_of s old new r tick None pool.Refused (load.Refused k h) none given
     (turn, holds, is ∙ (ap (λ (i : ℕ). moved_at s tick (plain (LoadRefused r i (s.need 0) (held s (past old)))) old) (sym turn) ∙ ap (λ (i : ℕ). moved_at s tick (plain (LoadRefused r k (s.need 0) i)) old) (sym holds)))
 
-pub refused-board : {F B O : Type 0} (name_of : F → FrameName) (parts : F → Option Parts) (bytes_of : B → ℕ) (moves : MoveLaws {F = F} {B = B} {O = O} name_of parts bytes_of) (s : Setting) (w w' : Coursed) (t : List Kept) (r tick : ℕ) → IsBoard parts s w t → r ≤ last_role s → load_refusal {B = B} s r (past w.told) ≡ None → grant s (past w.told) (s.need 0) ≡ pool.Refused
+pub refused-board : {F B : Type 0} (O : Type 0) (name_of : F → FrameName) (parts : F → Option Parts) (bytes_of : B → ℕ) (moves : MoveLaws O name_of parts bytes_of) (s : Setting) (w w' : Coursed) (t : List Kept) (r tick : ℕ) → IsBoard parts s w t → r ≤ last_role s → load_refusal {B = B} s r (past w.told) ≡ None → grant s (past w.told) (s.need 0) ≡ pool.Refused
     → w' ≡ record w { told = moved_at s tick (plain (LoadRefused r (next_index (past w.told)) (s.need 0) (held s (past w.told)))) w.told } → IsBoard parts s w' t
-refused-board {F} {B} name_of parts bytes_of moves s w w' t r tick i role none given is =
+refused-board {F} {B} O name_of parts bytes_of moves s w w' t r tick i role none given is =
     let e = LoadRefused r (next_index (past w.told)) (s.need 0) (held s (past w.told)) in
     let new = moved_at s tick (plain e) w.told in
     let history : is_history s (past new) ≡ true =

@@ -1,5 +1,5 @@
 -- The places of a table, once one was written or made.
-use Rattle.std.proofs.Common.{◌≡◌, ◌≢◌, ◌≤◌, ◌<◌, ◌∙◌, ◌+◌, ℕ, true, false, Bool, List, [], ◌∷◌, ◌++◌, length, set, cond, refl, sym, ap, arith, ltb, length-append, inl, inr, ◌⊎◌}
+use Rattle.std.proofs.Common.{◌≡◌, ◌≢◌, ◌≤◌, ◌<◌, ◌∙◌, ◌+◌, ℕ, zero, suc, true, false, Bool, List, [], ◌∷◌, ◌++◌, length, set, cond, refl, sym, ap, arith, ltb, length-append, inl, inr, ◌⊎◌}
 use Rattle.std.proofs.lemmas.Bool.{cases_Bool, ltb-true, ltb-false, lt-ltb}
 use Rattle.std.proofs.lemmas.List.{length-set, get_or-set_same, get_or-set_other}
 use Rattle.frame_table.specs.Kept.{Kept, Empty, kept_at, with_kept, with_room}
@@ -19,3 +19,9 @@ room-there t b le = by (cases_Bool (ltb b (length t))) where
   by : (ltb b (length t) ≡ true) ⊎ (ltb b (length t) ≡ false) → b < length (with_room t b)
   by (inl there) = rw there (ltb-true b (length t) there)
   by (inr new_) = rw new_ (omega (arith, le, length-append t (Empty ∷ [])))
+
+-- a place that is written again
+pub kept-again : (t : List Kept) (b : ℕ) (k l : Kept) → with_kept (with_kept t b k) b l ≡ with_kept t b l
+kept-again [] b k l = refl
+kept-again (x ∷ t) zero k l = refl
+kept-again (x ∷ t) (suc b) k l = ap (λ u. x ∷ u) (kept-again t b k l)

@@ -120,7 +120,7 @@ load-lost name_of told r b left grant alone =
     let l = hand-load b (hand r (past told)) grant alone in
     append-nil (option_to_list (lost_block (is_some left.made || is_some left.blank) b)) ∙ (grant-listed (is_some left.made || is_some left.blank) b ∙ sym (ap (λ (o : Option Entry). lost_of name_of (past told) o left) l.6))
 
-pub load-back : {F B O : Type 0} (name_of : F → FrameName) (parts : F → Option Parts) (bytes_of : B → ℕ) (moves : MoveLaws {F = F} {B = B} {O = O} name_of parts bytes_of) (s : Setting) (w w' : Coursed) (t t' : List Kept) (r b : ℕ) (left : Left F B O) (lost : List ℕ) → TakesBack {F = F} {B = B} {O = O} name_of parts bytes_of s w t r left
+pub load-back : {F B O : Type 0} (name_of : F → FrameName) (parts : F → Option Parts) (bytes_of : B → ℕ) (moves : MoveLaws O name_of parts bytes_of) (s : Setting) (w w' : Coursed) (t t' : List Kept) (r b : ℕ) (left : Left F B O) (lost : List ℕ) → TakesBack {F = F} {B = B} {O = O} name_of parts bytes_of s w t r left
     → granted_block (hand r (past w.told)) ≡ b ∷ [] → ((a : FrameName) → has_part_of a (hand r (past w.told)) ≡ false) → w' ≡ record w { told = moved s (loses r lost) w.told } → lost ≡ option_to_list (lost_block (is_some left.made || is_some left.blank) b) ++ []
     → t' ≡ with_grant name_of parts bytes_of b left.made left.blank t → IsBoard parts s w' t'
 load-back {F} {B} {O} name_of parts bytes_of moves s w w' t t' r b left lost i grant alone is gone kept =
@@ -139,7 +139,7 @@ part-lost name_of told r c a left ungranted part has =
       | inr l ↦ here ∙ sym (ap (λ (o : Option Entry). lost_of name_of (past told) o left) l.3)
     ]
 
-pub part-back : {F B O : Type 0} (name_of : F → FrameName) (parts : F → Option Parts) (bytes_of : B → ℕ) (moves : MoveLaws {F = F} {B = B} {O = O} name_of parts bytes_of) (s : Setting) (w w' : Coursed) (t t' : List Kept) (r c : ℕ) (a : FrameName) (left : Left F B O) (lost : List ℕ) → TakesBack {F = F} {B = B} {O = O} name_of parts bytes_of s w t r left
+pub part-back : {F B O : Type 0} (name_of : F → FrameName) (parts : F → Option Parts) (bytes_of : B → ℕ) (moves : MoveLaws O name_of parts bytes_of) (s : Setting) (w w' : Coursed) (t t' : List Kept) (r c : ℕ) (a : FrameName) (left : Left F B O) (lost : List ℕ) → TakesBack {F = F} {B = B} {O = O} name_of parts bytes_of s w t r left
     → has_grant (hand r (past w.told)) ≡ false → has_part_of a (hand r (past w.told)) ≡ true → block_of (past w.told) a ≡ c ∷ [] → w' ≡ record w { told = moved s (loses r lost) w.told } → lost ≡ option_to_list (lost_block (brings name_of a left.input) c)
     → t' ≡ with_input name_of parts a c left.input t → IsBoard parts s w' t'
 part-back {F} {B} {O} name_of parts bytes_of moves s w w' t t' r c a left lost i ungranted part has is gone kept =
@@ -161,7 +161,7 @@ making-lost name_of told r b c a left grant part has =
     ∙ (ap (λ (xs : List ℕ). cond (is_some left.made || is_some left.blank) [] (b ∷ []) ++ xs) (grant-listed (brings name_of a left.input) c ∙ ap (λ (xs : List ℕ). cond (brings name_of a left.input) [] xs) (sym has))
     ∙ sym (ap (λ (o : Option Entry). lost_of name_of (past told) o left) l.6))
 
-pub making-back : {F B O : Type 0} (name_of : F → FrameName) (parts : F → Option Parts) (bytes_of : B → ℕ) (moves : MoveLaws {F = F} {B = B} {O = O} name_of parts bytes_of) (s : Setting) (w w' : Coursed) (t t' : List Kept) (r b c : ℕ) (a : FrameName) (left : Left F B O) (lost : List ℕ) → TakesBack {F = F} {B = B} {O = O} name_of parts bytes_of s w t r left
+pub making-back : {F B O : Type 0} (name_of : F → FrameName) (parts : F → Option Parts) (bytes_of : B → ℕ) (moves : MoveLaws O name_of parts bytes_of) (s : Setting) (w w' : Coursed) (t t' : List Kept) (r b c : ℕ) (a : FrameName) (left : Left F B O) (lost : List ℕ) → TakesBack {F = F} {B = B} {O = O} name_of parts bytes_of s w t r left
     → granted_block (hand r (past w.told)) ≡ b ∷ [] → has_part_of a (hand r (past w.told)) ≡ true → block_of (past w.told) a ≡ c ∷ [] → w' ≡ record w { told = moved s (loses r lost) w.told }
     → lost ≡ option_to_list (lost_block (is_some left.made || is_some left.blank) b) ++ option_to_list (lost_block (brings name_of a left.input) c)
     → t' ≡ with_grant name_of parts bytes_of b left.made left.blank (with_input name_of parts a c left.input t) → IsBoard parts s w' t'

@@ -81,7 +81,7 @@ shared-history {F} {B} {O} name_of parts bytes_of look s w t r v c input i =
     take-by {F = F} {B = B} {O = O} name_of parts bytes_of s w.told (shared name_of parts s r v input w.told) r v None None (take.Job v input None) i.board.run.pooled i.board.run.history i.role i.allowed (asked-none s v w.told i.passes)
     (refl, (i.next, look.one (kept_at t c) (name_of input) (parts input) i.part), refl)
 
-pub shared-board : {F B O : Type 0} (name_of : F → FrameName) (parts : F → Option Parts) (bytes_of : B → ℕ) (look : LookLaws parts) (moves : MoveLaws {F = F} {B = B} {O = O} name_of parts bytes_of) (s : Setting) (w w' : Coursed) (t t' : List Kept) (r v c : ℕ) (input : F) → Shares {F = F} {B = B} {O = O} name_of parts s w t r v c input
+pub shared-board : {F B O : Type 0} (name_of : F → FrameName) (parts : F → Option Parts) (bytes_of : B → ℕ) (look : LookLaws parts) (moves : MoveLaws O name_of parts bytes_of) (s : Setting) (w w' : Coursed) (t t' : List Kept) (r v c : ℕ) (input : F) → Shares {F = F} {B = B} {O = O} name_of parts s w t r v c input
     → w' ≡ record w { told = shared name_of parts s r v input w.told } → t' ≡ with_kept t c (less_one (kept_at t c)) → IsBoard parts s w' t'
 shared-board {F} {B} {O} name_of parts bytes_of look moves s w w' t t' r v c input i is kept =
     let new = shared name_of parts s r v input w.told in
@@ -190,7 +190,7 @@ dropped-gives {F} {B} {O} name_of parts bytes_of s old new r v k h a none makes 
     take-gives {F = F} {B = B} {O = O} name_of parts bytes_of s old new r v None (Some pool.Refused) (take.PoolDrop k h) none (asked-maker s v old pool.Refused makes given)
     (holds, (a, next, index, is ∙ ap (λ (i : ℕ). moved s (plain (PoolDrop r v a.maker a.index (s.need v) i)) old) (sym holds)))
 
-pub dropped-board : {F B O : Type 0} (name_of : F → FrameName) (parts : F → Option Parts) (bytes_of : B → ℕ) (moves : MoveLaws {F = F} {B = B} {O = O} name_of parts bytes_of) (s : Setting) (w w' : Coursed) (t : List Kept) (r v : ℕ) (a : FrameName) → IsBoard parts s w t → r ≤ last_role s → take_refusal {F = F} {B = B} {O = O} s r v (past w.told) ≡ None → is_maker s v ≡ true → grant s (past w.told) (s.need v) ≡ pool.Refused
+pub dropped-board : {F B O : Type 0} (name_of : F → FrameName) (parts : F → Option Parts) (bytes_of : B → ℕ) (moves : MoveLaws O name_of parts bytes_of) (s : Setting) (w w' : Coursed) (t : List Kept) (r v : ℕ) (a : FrameName) → IsBoard parts s w t → r ≤ last_role s → take_refusal {F = F} {B = B} {O = O} s r v (past w.told) ≡ None → is_maker s v ≡ true → grant s (past w.told) (s.need v) ≡ pool.Refused
     → is_next a (queued v (past w.told)) ≡ true → w' ≡ record w { told = moved s (plain (PoolDrop r v a.maker a.index (s.need v) (held s (past w.told)))) w.told } → IsBoard parts s w' t
 dropped-board {F} {B} {O} name_of parts bytes_of moves s w w' t r v a i role none makes given next is =
     let e = PoolDrop r v a.maker a.index (s.need v) (held s (past w.told)) in

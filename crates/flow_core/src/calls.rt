@@ -1,5 +1,11 @@
 //! The calls of a board.
 
+ghost use Rattle.std.specs.Prelude.{◌≤◌};
+ghost use Rattle.flow_journal.specs.Setting.{last_role};
+ghost use Rattle.board_rules.specs.RunMeasures.{run_setting, run_measure};
+ghost use Rattle.board_rules.specs.Working.{IsAtNode, MayPut, PutGives};
+ghost use Rattle.board_rules.specs.Leaving.{MayReclaim, ReclaimGives};
+
 use crate::Board;
 use board_rules::{
     BoardCalls, Done, HandName, Left, Load, Measures, NoReclaim, NotYours, Save, Settled, Take,
@@ -62,7 +68,12 @@ impl<F: Held> BoardCalls<F> for Board<F> {
         }
     }
 
-    fn put(&mut self, role: u32, done: Done<F>) -> Result<(), NotYours<F>> {
+    fn put(&mut self, role: u32, done: Done<F>) -> Result<(), NotYours<F>>
+        requires role { role ≤ last_role (run_setting F.Of.graph F.Of.stack) }
+        requires node { IsAtNode (run_setting F.Of.graph F.Of.stack) done }
+        requires of_job { MayPut F.name_of F.parts (run_measure F.Of.graph F.Of.stack) (run_setting F.Of.graph F.Of.stack) self.old role done }
+        ensures gives { PutGives F.name_of (run_setting F.Of.graph F.Of.stack) self.old role done result self.new }
+    {
         let name = done.input.name();
         let node = done.node;
         if !self.course.is_job_on(role, node, name) {
@@ -145,7 +156,11 @@ impl<F: Held> BoardCalls<F> for Board<F> {
         }
     }
 
-    fn reclaim(&mut self, role: u32, left: Left<F>) -> Result<(), NoReclaim<F>> {
+    fn reclaim(&mut self, role: u32, left: Left<F>) -> Result<(), NoReclaim<F>>
+        requires role { role ≤ last_role (run_setting F.Of.graph F.Of.stack) }
+        requires brings { MayReclaim F.name_of F.parts F.bytes_of (run_setting F.Of.graph F.Of.stack) self.old role left }
+        ensures gives { ReclaimGives F.name_of (run_setting F.Of.graph F.Of.stack) self.old role left result self.new }
+    {
         if let Some(why) = self.course.reclaim_refusal(role) {
             return Err(NoReclaim { why, back: left });
         }

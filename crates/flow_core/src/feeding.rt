@@ -35,10 +35,10 @@ impl<F: Held> Board<F> {
             return Load::OutOfMemory;
         };
         let index = self.course.next_index();
-        if self.course.load(alloc, role, tick, grant, regrown).is_err() {
-            self.table.store(grant.block, blank);
+        let Ok(()) = self.course.load(alloc, role, tick, grant, regrown) else {
             return Load::OutOfMemory;
-        }
+        };
+        self.table.forget(grant.block);
         Load::Loaded { index, blank }
     }
 

@@ -4,16 +4,17 @@ ghost use Rattle.std.specs.Prelude.{◌≡◌, ◌≤◌, ◌<◌, ◌||◌, tru
 ghost use Rattle.board_rules.specs.InHand.{OfSome};
 ghost use Rattle.board_rules.specs.Storage.{brings};
 ghost use Rattle.flow_journal.specs.Pasts.{same};
-ghost use Rattle.frame_table.specs.Kept.{Empty, kept_at, with_kept, with_room, MayGiveBack};
+ghost use Rattle.frame_table.specs.Kept.{kept_at, MayGiveBack};
 ghost use Rattle.kept_blocks.specs.MoveLaws.{with_grant, with_input};
-ghost use Rattle.flow_core.specs.Boards.{IsRemade, IsNotStored, lost_block};
+ghost use Rattle.flow_core.specs.Boards.{IsRemade, IsNotStored, with_storage, lost_block};
 
 use frame_table::{FrameTable, Taken};
 use nd_base::{FrameName, Held, OutOfMemory};
 use pool_ledger::Grant;
 use std::alloc::Global;
 
-/// The storage of a block that the pool grants, and whether that of a known block was made anew.
+/// Storage for a block that the pool grants, and whether that of a known block was made anew. A new block may have the number of one that is
+/// given up for it: what is kept there stays until the log has the grant.
 ///
 /// # Errors
 ///
@@ -26,15 +27,17 @@ pub(crate) fn storage_for<F: Held>(
     requires { grant.block ≤ length table.old }
     ensures size { IfOk result (λ taken. F.bytes_of taken.blank ≡ grant.size) }
     ensures regrown { IfOk result (λ taken. IsRemade grant.size grant.block grant.fresh table.old taken.regrown) }
-    ensures place { OnOk result (table.new ≡ with_kept (with_room table.old grant.block) grant.block Empty) }
-    ensures refused { OnErr result (IsNotStored grant.size grant.block table.old table.new) }
+    ensures place { OnOk result (table.new ≡ with_storage grant.block grant.fresh table.old) }
+    ensures refused { OnErr result (IsNotStored grant.size grant.block grant.fresh table.old table.new) }
 {
     table.make_room(grant.block)?;
-    let Taken { blank, regrown } = table.take_storage(alloc, grant.block, grant.size)?;
-    Ok(Taken {
-        blank,
-        regrown: regrown && !grant.fresh,
-    })
+    if grant.fresh {
+        return Ok(Taken {
+            blank: F::fresh(alloc, grant.size)?,
+            regrown: false,
+        });
+    }
+    table.take_storage(alloc, grant.block, grant.size)
 }
 
 /// Keeps what came back of the array of this name. Gives its block where its part didn't come back.

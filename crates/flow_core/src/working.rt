@@ -61,22 +61,22 @@ impl<F: Held> Board<F> {
         ensures lent { LendsJob F.parts F.bytes_of (run_setting F.Of.graph F.Of.stack) role node result self.new }
     {
         let name = self.course.next_queued(node);
-        let Ok(Taken { blank, regrown }) = storage_for(&mut self.table, alloc, grant) else {
-            return Take::OutOfMemory;
-        };
         let block = self.course.block(name);
         let Ok(input) = self.table.lend(block) else {
-            self.table.store(grant.block, blank);
             return Take::OutOfMemory;
         };
-        let taken = self
-            .course
-            .take_block(alloc, role, node, &input, grant, regrown);
-        if taken.is_err() {
+        let Ok(Taken { blank, regrown }) = storage_for(&mut self.table, alloc, grant) else {
             self.table.give_back(block, input);
-            self.table.store(grant.block, blank);
             return Take::OutOfMemory;
-        }
+        };
+        let Ok(()) = self
+            .course
+            .take_block(alloc, role, node, &input, grant, regrown)
+        else {
+            self.table.give_back(block, input);
+            return Take::OutOfMemory;
+        };
+        self.table.forget(grant.block);
         Take::Job {
             node,
             input,
