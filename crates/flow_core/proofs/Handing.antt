@@ -86,6 +86,9 @@ made-maker name_of false a f h = absurd h
 pub issued-gives : {F E : Type 0} (name_of : F → FrameName) (s : Setting) (old new : BoardState) (r : ℕ) (f : F) (e : E) → is_load_of (name_of f) (hand r (past old)) ≡ true → new ≡ moved s (plain (Issue r (name_of f).index)) old → IssueGives {F = F} {E = E} name_of s old r f (Ok e) new
 issued-gives name_of s old new r f e loaded is = (loaded, is)
 
+abbrev pub issued_after : Setting → Coursed → ℕ → FrameName → Coursed
+issued_after s w r a = record w { told = moved s (plain (Issue r a.index)) w.told }
+
 pub issued-board : {F B O : Type 0} (name_of : F → FrameName) (parts : F → Option Parts) (bytes_of : B → ℕ) (moves : MoveLaws O name_of parts bytes_of) (s : Setting) (w w' : Coursed) (t t' : List Kept) (r b : ℕ) (f : F) → IsBoard parts s w t → is_load_of (name_of f) (hand r (past w.told)) ≡ true → granted_block (hand r (past w.told)) ≡ b ∷ []
     → IsWholeOf (granted_size (hand r (past w.told))) (parts f) → w' ≡ record w { told = moved s (plain (Issue r (name_of f).index)) w.told } → t' ≡ with_kept t b (Frame (name_of f) (parts f)) → IsBoard parts s w' t'
 issued-board {F} name_of parts bytes_of moves s w w' t t' r b f i loaded grant whole is kept =
