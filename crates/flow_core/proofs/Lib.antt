@@ -8,3 +8,4 @@ pub mod Handing
 pub mod Reclaims
 pub mod Takes
 pub mod Worked
+pub mod Lent

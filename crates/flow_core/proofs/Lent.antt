@@ -1,0 +1,37 @@
+-- The array of a hand, at the block that the course tells of it.
+use Rattle.std.proofs.Common.{◌≡◌, ◌<◌, ℕ, [], ◌∷◌, true, List, Option, length, sym, subst}
+use Rattle.nd_base.specs.declared.frame.FrameName.{FrameName}
+use Rattle.nd_base.specs.Parts.{Parts}
+use Rattle.flow_journal.specs.Setting.{Setting}
+use Rattle.flow_journal.specs.Hands.{hand}
+use Rattle.flow_journal.specs.Accounts.{block_of}
+use Rattle.board_rules.specs.States.{BoardState, past, lent_to}
+use Rattle.board_rules.specs.InHand.{has_part_of}
+use Rattle.frame_table.specs.Kept.{Kept, kept_at, IsPartOf, MayGiveBack, MayLend, IsUntold}
+use Rattle.flow_emit.specs.Courses.{Coursed}
+use Rattle.board_rules.specs.InHand.{TellParts}
+use Rattle.kept_blocks.specs.LookLaws.{LookLaws, IsLent, IsLendable, IsWithin}
+use Rattle.flow_core.specs.Boards.{IsBoard}
+
+-- the course tells this of the array's block
+abbrev pub Tells : BoardState → FrameName → ℕ → Type 0
+Tells told a c = (b : ℕ) → block_of (past told) a ≡ b ∷ [] → c ≡ b
+
+pub record LentAt (r : ℕ) (told : BoardState) (t : List Kept) (a : FrameName) (c : ℕ) : Type 0 where
+  pub has : block_of (past told) a ≡ c ∷ []
+  pub place : c < length t
+  pub part : IsPartOf (kept_at t c) a (lent_to r told)
+  pub may : MayGiveBack (kept_at t c) (lent_to r told)
+
+pub lent-at : {F : Type 0} (parts : F → Option Parts) (look : LookLaws parts) (s : Setting) (w : Coursed) (t : List Kept) (r : ℕ) (a : FrameName) (c : ℕ) → IsBoard parts s w t → Tells w.told a c → has_part_of a (hand r (past w.told)) ≡ true → LentAt r w.told t a c
+lent-at parts look s w t r a c i tells has =
+    let l = look.in_hand s w.told t r a i.run i.holds has in
+    subst (λ (b : ℕ). LentAt r w.told t a b) (sym (tells l.block l.has)) (record { has = l.has; place = l.place; part = l.part; may = l.may })
+
+-- an array of which a part may be lent, there
+pub record LendsAt {F : Type 0} (parts : F → Option Parts) (told : BoardState) (t : List Kept) (a : FrameName) (c : ℕ) : Type 0 where
+  pub lendable : IsLendable parts (past told) t a
+  pub here : lendable.block ≡ c
+
+pub lends-at : {F : Type 0} (parts : F → Option Parts) (told : BoardState) (t : List Kept) (a : FrameName) (c : ℕ) → IsLendable parts (past told) t a → Tells told a c → LendsAt parts told t a c
+lends-at parts told t a c l tells = record { lendable = l; here = sym (tells l.block l.has) }
