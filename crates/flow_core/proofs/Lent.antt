@@ -35,3 +35,12 @@ pub record LendsAt {F : Type 0} (parts : F → Option Parts) (told : BoardState)
 
 pub lends-at : {F : Type 0} (parts : F → Option Parts) (told : BoardState) (t : List Kept) (a : FrameName) (c : ℕ) → IsLendable parts (past told) t a → Tells told a c → LendsAt parts told t a c
 lends-at parts told t a c l tells = record { lendable = l; here = sym (tells l.block l.has) }
+
+-- the course was asked by the same name
+pub lent-named : {F : Type 0} (parts : F → Option Parts) (look : LookLaws parts) (s : Setting) (w : Coursed) (t : List Kept) (r : ℕ) (a n : FrameName) (c : ℕ) → IsBoard parts s w t → n ≡ a → Tells w.told n c → has_part_of a (hand r (past w.told)) ≡ true → LentAt r w.told t a c
+lent-named parts look s w t r a n c i named tells has =
+    lent-at parts look s w t r a c i (subst (λ (x : FrameName). Tells w.told x c) named tells) has
+
+-- a part that is what the role was lent may be given back
+pub may-back : {F : Type 0} (parts : F → Option Parts) (r : ℕ) (told : BoardState) (t : List Kept) (a : FrameName) (c : ℕ) (f : F) → LentAt r told t a c → parts f ≡ lent_to r told → MayGiveBack (kept_at t c) (parts f)
+may-back parts r told t a c f l own = subst (λ (q : Option Parts). MayGiveBack (kept_at t c) q) (sym own) l.may
