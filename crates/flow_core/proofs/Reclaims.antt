@@ -10,7 +10,9 @@ use Rattle.flow_journal.specs.declared.entry.Entry.{Entry}
 use Rattle.flow_journal.specs.declared.entry.Entry.TheVariants.{Load, Take, TakeBlock, Save}
 use Rattle.flow_journal.specs.Setting.{Setting}
 use Rattle.flow_journal.specs.Pasts.{Past, frame, same}
-use Rattle.flow_journal.specs.Hands.{hand}
+use Rattle.flow_journal.specs.Hands.{hand, is_free}
+use Rattle.board_rules.specs.declared.answers.NoWhy.{NoWhy}
+use Rattle.board_rules.specs.declared.answers.NoWhy.TheVariants.{NoHand}
 use Rattle.flow_journal.specs.Accounts.{block_of}
 use Rattle.flow_journal.specs.Histories.{is_history}
 use Rattle.flow_journal.proofs.Steps.{same-true, same_refl}
@@ -170,3 +172,7 @@ making-back {F} {B} {O} name_of parts bytes_of moves s w w' t t' r b c a left lo
     back-board {F = F} {B = B} {O = O} name_of parts bytes_of s w w' t t' r left lost i is (gone ∙ making-lost name_of w.told r b c a left grant part has)
     (subst (λ (u : List Kept). HoldsBlocks parts s (taken_back name_of s r left w.told) u) (sym kept)
     (moves.reclaim_block s w.told t r left l.0 l.1 a.maker a.index b l.2 c l.3 l.4 l.5 (may-back {F = F} {B = B} {O = O} name_of parts bytes_of s w t r left i) l.6 has))
+
+-- where nothing stands against it there is a hand
+pub not-free : (s : Setting) (r : ℕ) (P : Past) → is_free r P ≡ true → ((x : NoWhy) → reclaim_refusal s r P ≡ Some x → ⊥) → ⊥
+not-free s r P free none = none NoHand (rw free refl)

@@ -62,6 +62,6 @@ worked_is wait count ids p some few h =
     record {
       plan = plan;
       graph = subst IsGraph (sym h.graph) (worked_is_graph wait count some);
-      stack = worked_is_stack p.ids (omega (arith, ap length h.all, few));
+      sound = worked_is_stack p.ids (omega (arith, ap length h.all, few));
       frames = subst (λ (g : Graph). HasFrames g (worked_stack p.ids)) (sym h.graph) frames;
     }

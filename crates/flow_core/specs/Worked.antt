@@ -32,7 +32,7 @@ abbrev pub worked_shape : FileShape
 worked_shape = record { form = Classic; kind = UInt8; dims = side ∷ side ∷ []; attrs = []; width = 0; extras = [] }
 
 abbrev pub worked_array : ℤ → Array
-worked_array id = record { id = id; stamp = 0; sec = pos 0; nsec = pos 0; kind = UInt8; dims = side ∷ side ∷ []; samples = 0 ∷ 0 ∷ 0 ∷ 0 ∷ []; attrs = [] }
+worked_array id = record { id = id; stamp = 0; sec = pos 0; nsec = pos 0; kind = UInt8; dims = side ∷ side ∷ []; samples = pos 0 ∷ pos 0 ∷ pos 0 ∷ pos 0 ∷ []; attrs = [] }
 
 abbrev pub worked_stack : List ℤ → StackValue
 worked_stack ids = record { shape = worked_shape; arrays = map worked_array ids }
@@ -56,5 +56,5 @@ pub record HasFrames (g : Graph) (stack : StackValue) : Type 0 where
 pub record IsWorked (g : Graph) (stack : StackValue) (p : Plan) : Type 0 where
   pub plan : p ≡ plan_of g stack
   pub graph : IsGraph g
-  pub stack : IsStack stack
+  pub sound : IsStack stack
   pub frames : HasFrames g stack
