@@ -1,5 +1,5 @@
 -- What a pool answers.
-use Rattle.std.proofs.Common.{◌≡◌, ◌≤◌, ◌+◌, ℕ, true, false, Bool, List, [], ◌∷◌, Option, Some, None, Ok, Err, refl, sym, ap, ◌∙◌, subst, arith, inl, inr, cond}
+use Rattle.std.proofs.Common.{◌≡◌, ◌≤◌, ◌+◌, ℕ, true, false, Bool, List, [], ◌∷◌, Option, Some, None, Ok, Err, refl, subst, arith, inl, inr, cond}
 use Rattle.std.specs.Prelude.{find}
 use Rattle.std.proofs.lemmas.Bool.{cases_Bool, leb-true}
 use Rattle.pool_ledger.specs.Grants.{Answer, Block, Granted, Refused, passes, granted, fit_or_fresh, smallest_fit, free_in_order}

@@ -1,5 +1,5 @@
 -- A board after a move.
-use Rattle.std.proofs.Common.{◌≡◌, ◌≤◌, ◌∙◌, ℕ, true, false, Bool, List, Option, cond, refl, ap, sym, subst}
+use Rattle.std.proofs.Common.{◌≡◌, ◌≤◌, ℕ, true, false, Bool, List, Option, cond, refl, ap, sym, subst}
 use Rattle.nd_base.specs.declared.frame.FrameName.{FrameName}
 use Rattle.flow_journal.specs.declared.entry.Entry.{Entry}
 use Rattle.flow_journal.specs.declared.entry.Entry.TheVariants.{Close, Leave, Settle}
@@ -17,7 +17,7 @@ use Rattle.flow_journal.specs.Histories.{is_history, is_legal}
 use Rattle.board_rules.specs.States.{BoardState, past, plain}
 use Rattle.frame_table.specs.Kept.{Kept}
 use Rattle.flow_emit.specs.Courses.{Coursed}
-use Rattle.kept_blocks.specs.Keeping.{HoldsBlocks, IsRunOf}
+use Rattle.kept_blocks.specs.Keeping.{HoldsBlocks}
 use Rattle.flow_core.specs.Boards.{IsBoard}
 
 pub legal-of : (s : Setting) (b : BoardState) → is_history s (past b) ≡ true → is_legal s (past b) ≡ true

@@ -1,15 +1,14 @@
 -- What comes back of a hand, and the pieces that go out.
-use Rattle.std.proofs.Common.{◌≡◌, ◌≤◌, ◌<◌, ◌∙◌, ℕ, [], ◌∷◌, true, false, Bool, not, List, Option, Some, None, Ok, Result, length, refl, sym, ap, subst, eqb}
-use Rattle.std.specs.Prelude.{IsTrue}
-use Rattle.std.proofs.lemmas.Bool.{and_parts, eq-eqb, eqb-true, false≢true, true≢false, cases_Bool}
+use Rattle.std.proofs.Common.{◌≡◌, ◌≤◌, ◌∙◌, ℕ, [], ◌∷◌, true, false, Bool, not, List, Option, Some, None, Ok, length, refl, sym, ap, subst, eqb}
+use Rattle.std.proofs.lemmas.Bool.{and_parts, eq-eqb, eqb-true, false≢true, true≢false}
 use Rattle.nd_base.specs.declared.frame.FrameName.{FrameName}
 use Rattle.nd_base.specs.declared.measure.Measure.{Measure}
 use Rattle.nd_base.specs.Parts.{Parts}
 use Rattle.flow_journal.specs.declared.entry.Entry.{Entry}
-use Rattle.flow_journal.specs.declared.entry.Entry.TheVariants.{Load, Take, TakeBlock, Save, Issue, Put, Saved}
+use Rattle.flow_journal.specs.declared.entry.Entry.TheVariants.{Load, Take, TakeBlock, Save, Issue, Saved}
 use Rattle.flow_journal.specs.Setting.{Setting, node, is_maker, last_role}
 use Rattle.flow_journal.specs.Pasts.{Past, frame, same}
-use Rattle.flow_journal.specs.Hands.{hand, takes_up}
+use Rattle.flow_journal.specs.Hands.{hand}
 use Rattle.flow_journal.specs.Ended.{is_settled}
 use Rattle.flow_journal.specs.Puts.{puts}
 use Rattle.flow_journal.specs.Unsaved.{unsaved, standing_saves, group_of}
@@ -22,20 +21,19 @@ use Rattle.flow_journal.proofs.Steps.{same-true}
 use Rattle.board_rules.specs.declared.answers.Save.{Save as save_answer}
 use Rattle.board_rules.specs.declared.answers.Save.TheVariants as save
 use Rattle.board_rules.specs.declared.answers.Done.{Done}
-use Rattle.board_rules.specs.declared.answers.NotYours.{NotYours}
 use Rattle.board_rules.specs.States.{BoardState, past, plain, lends, lent_to}
 use Rattle.board_rules.specs.Moving.{moved}
-use Rattle.board_rules.specs.InHand.{is_load_of, is_job_on, is_piece_on, has_part_of, has_grant, hand_node, granted_block, granted_size, result_name, IsMadeAs, IsOnePart, IsWholeOf, TellParts}
+use Rattle.board_rules.specs.InHand.{is_load_of, is_job_on, is_piece_on, has_part_of, has_grant, hand_node, granted_block, granted_size, result_name, IsMadeAs, IsWholeOf}
 use Rattle.board_rules.specs.Feeding.{IssueGives}
-use Rattle.board_rules.specs.Working.{IsResult, PutGives}
-use Rattle.board_rules.specs.Saving.{save_refusal, place_of, group_size, SaveAnswers, SaveGives, SavedGives, LendsPiece}
-use Rattle.board_rules.proofs.Legal.{issue-by, put-by, save-by, saved-by, may_save, names_role}
+use Rattle.board_rules.specs.Working.{IsResult}
+use Rattle.board_rules.specs.Saving.{save_refusal, place_of, group_size, SaveAnswers, SaveGives, LendsPiece}
+use Rattle.board_rules.proofs.Legal.{issue-by, put-by, save-by, saved-by, may_save}
 use Rattle.board_rules.proofs.Makers.{suits, hand-suits}
-use Rattle.frame_table.specs.Kept.{Kept, Frame, kept_at, with_kept, IsPartOf, MayGiveBack, less_one, united}
+use Rattle.frame_table.specs.Kept.{Kept, Frame, kept_at, with_kept, IsPartOf, less_one, united}
 use Rattle.flow_emit.specs.Courses.{Coursed}
 use Rattle.flow_emit.specs.Puts.{put_of, fires_for}
-use Rattle.kept_blocks.specs.Keeping.{HoldsBlocks, IsRunOf}
-use Rattle.kept_blocks.specs.LookLaws.{LookLaws, IsLent}
+use Rattle.kept_blocks.specs.Keeping.{HoldsBlocks}
+use Rattle.kept_blocks.specs.LookLaws.{LookLaws}
 use Rattle.kept_blocks.specs.MoveLaws.{MoveLaws}
 use Rattle.flow_core.specs.Boards.{IsBoard}
 use Rattle.flow_core.proofs.Boarding.{board-moved, legal-of}

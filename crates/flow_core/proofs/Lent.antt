@@ -10,7 +10,7 @@ use Rattle.board_rules.specs.InHand.{has_part_of}
 use Rattle.frame_table.specs.Kept.{Kept, Frame, kept_at, IsPartOf, MayGiveBack, MayLend, IsUntold}
 use Rattle.flow_emit.specs.Courses.{Coursed}
 use Rattle.board_rules.specs.InHand.{TellParts}
-use Rattle.kept_blocks.specs.LookLaws.{LookLaws, IsLent, IsLendable, IsWithin}
+use Rattle.kept_blocks.specs.LookLaws.{LookLaws, IsLendable, IsWithin}
 use Rattle.flow_core.specs.Boards.{IsBoard}
 
 -- the course tells this of the array's block

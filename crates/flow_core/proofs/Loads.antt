@@ -1,12 +1,11 @@
 -- What a load gives, and what it leaves.
-use Rattle.std.proofs.Common.{◌≡◌, ◌≤◌, ◌<◌, ◌∙◌, ℕ, true, false, Bool, List, Option, Some, None, length, refl, sym, ap, subst}
+use Rattle.std.proofs.Common.{◌≡◌, ◌≤◌, ◌∙◌, ℕ, true, Bool, List, Option, Some, None, refl, sym, ap, subst}
 use Rattle.std.specs.Prelude.{IsTrue}
 use Rattle.std.proofs.lemmas.Bool.{eq-eqb}
 use Rattle.nd_base.specs.declared.frame.FrameName.{FrameName}
 use Rattle.nd_base.specs.Parts.{Parts}
 use Rattle.pool_ledger.specs.Grants.{Answer, Granted}
 use Rattle.pool_ledger.specs.Grants as pool
-use Rattle.flow_journal.specs.declared.entry.Entry.{Entry}
 use Rattle.flow_journal.specs.declared.entry.Entry.TheVariants.{Load, LoadRefused}
 use Rattle.flow_journal.specs.Setting.{Setting, last_role}
 use Rattle.flow_journal.specs.Hands.{hand}
@@ -18,12 +17,12 @@ use Rattle.board_rules.specs.declared.answers.Load.TheVariants as load
 use Rattle.board_rules.specs.States.{BoardState, past, plain}
 use Rattle.board_rules.specs.Moving.{moved_at}
 use Rattle.board_rules.specs.InHand.{granted_size, TellParts}
-use Rattle.board_rules.specs.Storage.{wants_storage, IsRegrown}
+use Rattle.board_rules.specs.Storage.{wants_storage}
 use Rattle.board_rules.specs.Feeding.{load_refusal, LoadAnswers, LoadGives, HasRoom}
 use Rattle.board_rules.proofs.Legal.{load-by}
 use Rattle.frame_table.specs.Kept.{Kept, Empty, with_kept, with_room}
 use Rattle.flow_emit.specs.Courses.{Coursed}
-use Rattle.kept_blocks.specs.Keeping.{HoldsBlocks, IsRunOf}
+use Rattle.kept_blocks.specs.Keeping.{HoldsBlocks}
 use Rattle.kept_blocks.specs.GrantLaws.{GrantLaws, IsGranted}
 use Rattle.kept_blocks.specs.LookLaws.{LookLaws}
 use Rattle.kept_blocks.specs.MoveLaws.{MoveLaws}

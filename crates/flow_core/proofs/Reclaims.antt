@@ -1,8 +1,8 @@
 -- What is taken back of a hand.
-use Rattle.std.proofs.Common.{◌≡◌, ◌≤◌, ◌<◌, ◌∙◌, ℕ, [], ◌∷◌, ◌++◌, true, false, Bool, ◌||◌, List, Option, Some, None, Ok, Result, length, refl, sym, ap, subst, eqb, cond, inl, inr, ◌⊎◌}
+use Rattle.std.proofs.Common.{◌≡◌, ◌∙◌, ℕ, [], ◌∷◌, ◌++◌, true, false, Bool, ◌||◌, List, Option, Some, None, Ok, length, refl, sym, ap, subst, cond, inl, inr, ◌⊎◌}
 use Rattle.std.specs.Option.{option_to_list}
 use Rattle.std.specs.Prelude.{IsTrue, is_some}
-use Rattle.std.proofs.lemmas.Bool.{true≢false, false≢true, cases_Bool}
+use Rattle.std.proofs.lemmas.Bool.{true≢false, false≢true}
 use Rattle.std.proofs.lemmas.List.{append-nil}
 use Rattle.nd_base.specs.declared.frame.FrameName.{FrameName}
 use Rattle.nd_base.specs.Parts.{Parts}
@@ -19,14 +19,13 @@ use Rattle.flow_journal.proofs.Steps.{same-true, same_refl}
 use Rattle.board_rules.specs.declared.answers.Left.{Left}
 use Rattle.board_rules.specs.States.{BoardState, past, loses, lent_to}
 use Rattle.board_rules.specs.Moving.{moved}
-use Rattle.board_rules.specs.InHand.{has_part_of, has_grant, granted_block, granted_size, OfSome, IsWholeOf, TellParts}
-use Rattle.board_rules.specs.Storage.{lost_of, brings, part_lost, grant_lost}
+use Rattle.board_rules.specs.InHand.{has_part_of, has_grant, granted_block, OfSome}
+use Rattle.board_rules.specs.Storage.{lost_of, brings, part_lost}
 use Rattle.board_rules.specs.Leaving.{reclaim_refusal, MayReclaim}
 use Rattle.board_rules.proofs.Legal.{reclaim-by}
 use Rattle.frame_table.specs.Kept.{Kept, kept_at, with_kept, united, MayGiveBack}
 use Rattle.flow_emit.specs.Courses.{Coursed}
-use Rattle.kept_blocks.specs.Keeping.{HoldsBlocks, IsRunOf}
-use Rattle.kept_blocks.specs.LookLaws.{LookLaws, IsLent}
+use Rattle.kept_blocks.specs.Keeping.{HoldsBlocks}
 use Rattle.kept_blocks.specs.MoveLaws.{MoveLaws, MayTakeBack, taken_back, with_grant, with_input}
 use Rattle.flow_core.specs.Boards.{IsBoard, lost_block}
 use Rattle.flow_core.proofs.Boarding.{board-moved, legal-of}

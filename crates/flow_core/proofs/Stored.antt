@@ -1,16 +1,14 @@
 -- The storage of a block that is granted, taken or not.
-use Rattle.std.proofs.Common.{◌≡◌, ◌≢◌, ◌≤◌, ◌<◌, ◌∙◌, ℕ, true, false, Bool, ◌&&◌, ◌||◌, not, List, length, refl, sym, ap, subst, arith, Option, inl, inr, ◌⊎◌}
+use Rattle.std.proofs.Common.{◌≡◌, ◌≤◌, ◌<◌, ◌∙◌, ℕ, true, false, Bool, ◌&&◌, List, length, refl, sym, ap, subst, arith, Option, inl, inr}
 use Rattle.std.specs.Prelude.{IsTrue}
-use Rattle.std.proofs.lemmas.Bool.{cases_Bool}
 use Rattle.nd_base.specs.Parts.{Parts}
 use Rattle.pool_ledger.specs.Grants.{Granted}
 use Rattle.flow_journal.specs.Setting.{Setting}
-use Rattle.flow_journal.specs.Accounts.{grant}
-use Rattle.board_rules.specs.States.{BoardState, past}
+use Rattle.board_rules.specs.States.{BoardState}
 use Rattle.board_rules.specs.InHand.{TellParts}
-use Rattle.board_rules.specs.Storage.{wants_storage, is_away, IsRegrown}
-use Rattle.frame_table.specs.Kept.{Kept, Empty, kept_at, with_kept, with_room}
-use Rattle.kept_blocks.specs.Keeping.{HoldsBlocks, IsRunOf}
+use Rattle.board_rules.specs.Storage.{wants_storage, IsRegrown}
+use Rattle.frame_table.specs.Kept.{Kept, Empty, with_kept, with_room}
+use Rattle.kept_blocks.specs.Keeping.{HoldsBlocks}
 use Rattle.kept_blocks.specs.GrantLaws.{GrantLaws, IsGranted}
 use Rattle.flow_core.specs.Boards.{IsRemade, IsNotStored, with_storage}
 use Rattle.flow_core.proofs.Places.{room-there, kept-length, kept-again}

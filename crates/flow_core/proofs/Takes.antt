@@ -6,8 +6,7 @@ use Rattle.nd_base.specs.declared.frame.FrameName.{FrameName}
 use Rattle.nd_base.specs.Parts.{Parts}
 use Rattle.pool_ledger.specs.Grants.{Answer, Granted}
 use Rattle.pool_ledger.specs.Grants as pool
-use Rattle.flow_journal.specs.declared.entry.Entry.{Entry}
-use Rattle.flow_journal.specs.declared.entry.Entry.TheVariants.{Take, TakeBlock, PoolDrop}
+use Rattle.flow_journal.specs.declared.entry.Entry.TheVariants.{Take, PoolDrop}
 use Rattle.flow_journal.specs.Setting.{Setting, is_maker, last_role}
 use Rattle.flow_journal.specs.Hands.{hand}
 use Rattle.flow_journal.specs.Accounts.{block_of, grant, held}
@@ -19,19 +18,19 @@ use Rattle.board_rules.specs.declared.answers.Take.{Take as take_answer}
 use Rattle.board_rules.specs.declared.answers.Take.TheVariants as take
 use Rattle.board_rules.specs.States.{BoardState, past, plain, lends, lent_to, take_block}
 use Rattle.board_rules.specs.Moving.{moved}
-use Rattle.board_rules.specs.InHand.{granted_size, IsOnePart, TellParts}
+use Rattle.board_rules.specs.InHand.{granted_size, TellParts}
 use Rattle.board_rules.specs.Storage.{wants_storage, IsRegrown}
-use Rattle.board_rules.specs.Working.{take_refusal, asked, IsNextPart, TakeAnswers, TakeGives, LendsJob}
+use Rattle.board_rules.specs.Working.{take_refusal, asked, TakeAnswers, TakeGives, LendsJob}
 use Rattle.board_rules.proofs.Legal.{take-by, may_take}
-use Rattle.frame_table.specs.Kept.{IsRefused, IsMadeAnew, IsAway, at_home, Kept, Empty, Frame, Storage, kept_at, with_kept, with_room, IsPartOf, IsUntold, MayLend, MayGiveBack, less_one, united}
+use Rattle.frame_table.specs.Kept.{IsRefused, IsMadeAnew, IsAway, at_home, Kept, Empty, kept_at, with_kept, with_room, IsPartOf, MayLend, MayGiveBack, less_one, united}
 use Rattle.flow_emit.specs.Courses.{Coursed}
-use Rattle.kept_blocks.specs.Keeping.{HoldsBlocks, IsRunOf}
-use Rattle.kept_blocks.specs.GrantLaws.{GrantLaws, IsGranted, IsRefusedLent}
-use Rattle.kept_blocks.specs.LookLaws.{LookLaws, IsLendable, IsWithin}
+use Rattle.kept_blocks.specs.Keeping.{HoldsBlocks}
+use Rattle.kept_blocks.specs.GrantLaws.{GrantLaws, IsGranted}
+use Rattle.kept_blocks.specs.LookLaws.{LookLaws, IsWithin}
 use Rattle.kept_blocks.specs.MoveLaws.{MoveLaws}
 use Rattle.flow_core.specs.Boards.{IsBoard, IsRemade, IsNotStored, with_storage}
 use Rattle.flow_core.proofs.Answered.{enough}
-use Rattle.flow_core.proofs.Boarding.{board-moved, board-same, legal-of}
+use Rattle.flow_core.proofs.Boarding.{board-moved, legal-of}
 use Rattle.flow_core.proofs.Places.{room-there, kept-other, kept-length}
 use Rattle.flow_core.proofs.Stored.{roomy, emptied}
 use Rattle.flow_core.proofs.Lent.{LendsAt}

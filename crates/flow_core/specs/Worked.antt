@@ -1,5 +1,5 @@
 -- The runs of the tests: one file node of mode capture, whose queue takes one array, over frames of two by two bytes.
-use Rattle.std.specs.Prelude.{◌≡◌, ℕ, ◌≤◌, ℤ, Bool, List, [], ◌∷◌, length, map, codes, IsTrue, None, pos, false}
+use Rattle.std.specs.Prelude.{◌≡◌, ℕ, ℤ, Bool, List, [], ◌∷◌, map, codes, IsTrue, None, pos, false}
 use Rattle.nd_base.specs.Array.{Array, StackValue}
 use Rattle.nd_base.specs.GraphRules.{IsGraph}
 use Rattle.nd_base.specs.declared.form.Form.TheVariants.{Classic}

@@ -1,7 +1,6 @@
-use Rattle.std.proofs.Common.{◌≡◌, ◌≤◌, ◌<◌, ◌∙◌, ℕ, true, false, Bool, List, Option, Some, None, length, refl, sym, ap, subst}
+use Rattle.std.proofs.Common.{◌≡◌, ◌<◌, ◌∙◌, List, None, length, refl, sym, ap, subst}
 use Rattle.pool_ledger.specs.Grants.{Granted}
 use Rattle.flow_journal.specs.Accounts.{grant}
-use Rattle.flow_journal.specs.Offered.{next_index}
 use Rattle.board_rules.specs.RunMeasures.{run_setting}
 use Rattle.board_rules.specs.States.{BoardState, past}
 use Rattle.board_rules.specs.declared.answers.Load.TheVariants as load
@@ -10,7 +9,7 @@ use Rattle.frame_table.specs.Kept.{Kept, Empty, with_kept}
 use Rattle.flow_emit.specs.Courses.{Coursed}
 use Rattle.kept_blocks.specs.GrantLaws.{IsGranted}
 use Rattle.kept_blocks.proofs.Looks.{look_laws}
-use Rattle.flow_core.specs.Boards.{IsBoard, with_storage}
+use Rattle.flow_core.specs.Boards.{IsBoard}
 use Rattle.flow_core.proofs.Boarding.{board-same}
 use Rattle.flow_core.proofs.Laws.{grant_laws}
 use Rattle.flow_core.proofs.Loads.{LoadsOn, loaded-gives, loaded-board, loaded-room, no_memory-gives}

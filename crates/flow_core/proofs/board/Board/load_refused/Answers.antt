@@ -1,7 +1,6 @@
-use Rattle.std.proofs.Common.{◌≡◌, ◌≤◌, ◌<◌, ◌∙◌, ℕ, true, false, Bool, List, Option, Some, None, refl, sym, ap, subst}
+use Rattle.std.proofs.Common.{◌≡◌, ◌∙◌, None, sym, ap, subst}
 use Rattle.board_rules.specs.RunMeasures.{run_setting}
 use Rattle.board_rules.specs.States.{BoardState, past}
-use Rattle.flow_core.specs.Boards.{IsBoard}
 use Rattle.pool_ledger.specs.Grants.{Refused}
 use Rattle.flow_journal.specs.Accounts.{grant, held}
 use Rattle.board_rules.specs.Feeding.{load_refusal, LoadGives}

@@ -1,23 +1,15 @@
-use Rattle.std.proofs.Common.{◌≡◌, ◌<◌, ◌∙◌, ℕ, List, [], ◌∷◌, length, Bool, Option, Some, None, true, false, sym, ap, subst, refl}
-use Rattle.std.proofs.lemmas.Bool.{true≢false}
+use Rattle.std.proofs.Common.{◌≡◌, ◌∙◌, None, true, sym, ap, subst}
 use Rattle.nd_base.specs.declared.frame.FrameName.{FrameName}
-use Rattle.nd_base.specs.Parts.{Parts}
 use Rattle.board_rules.specs.RunMeasures.{run_setting, run_measure}
-use Rattle.board_rules.specs.States.{BoardState, past, plain, lends, lent_to}
+use Rattle.board_rules.specs.States.{BoardState, past, plain, lent_to}
 use Rattle.board_rules.specs.Moving.{moved}
 use Rattle.flow_journal.specs.Hands.{hand}
-use Rattle.flow_journal.specs.Setting.{is_maker}
-use Rattle.board_rules.specs.InHand.{is_job_on, has_grant, granted_size, result_name, IsWholeOf}
-use Rattle.frame_table.specs.Kept.{Kept, kept_at, with_kept, united, MayGiveBack}
+use Rattle.board_rules.specs.InHand.{is_job_on}
 use Rattle.flow_emit.specs.Puts.{put_of}
-use Rattle.flow_emit.specs.Courses.{Coursed}
 use Rattle.kept_blocks.proofs.Looks.{look_laws}
-use Rattle.flow_core.specs.Boards.{IsBoard}
 use Rattle.flow_core.proofs.Laws.{move_laws}
-use Rattle.flow_core.proofs.Lent.{LentAt, lent-named, may-back}
-use Rattle.flow_core.proofs.Places.{kept-length}
-use Rattle.flow_core.proofs.Handing.{Brings, job-shares, job-granted, made-maker, put-board, put_made-board}
-use Rattle.flow_core.proofs.Boarding.{legal-of}
+use Rattle.flow_core.proofs.Lent.{lent-named, may-back}
+use Rattle.flow_core.proofs.Handing.{Brings, job-shares, put-board}
 use Rattle.flow_core.proofs.board.Board.put_shared.Goals as goal
 
 pub give_back-requires-clause-place : goal.give_back-requires-clause-place

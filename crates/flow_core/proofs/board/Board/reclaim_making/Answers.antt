@@ -1,16 +1,15 @@
-use Rattle.std.proofs.Common.{◌≡◌, ◌<◌, ◌∙◌, ◌∷◌, ◌++◌, ℕ, [], true, false, List, Option, None, length, sym, ap, subst}
+use Rattle.std.proofs.Common.{◌≡◌, ◌<◌, ◌∙◌, ◌∷◌, ◌++◌, ℕ, [], true, List, Option, None, length, sym, ap, subst}
 use Rattle.std.specs.Prelude.{is_some, ◌||◌}
 use Rattle.std.specs.Option.{option_to_list}
-use Rattle.nd_base.specs.declared.frame.FrameName.{FrameName}
 use Rattle.flow_journal.specs.Hands.{hand}
 use Rattle.board_rules.specs.RunMeasures.{run_setting}
 use Rattle.board_rules.specs.States.{BoardState, past, loses}
 use Rattle.board_rules.specs.Moving.{moved}
-use Rattle.board_rules.specs.InHand.{granted_block, has_part_of, has_grant}
+use Rattle.board_rules.specs.InHand.{granted_block, has_part_of}
 use Rattle.board_rules.specs.Leaving.{reclaim_refusal, MayReclaim}
 use Rattle.frame_table.specs.Kept.{Kept}
 use Rattle.flow_emit.specs.Courses.{Coursed}
-use Rattle.kept_blocks.specs.MoveLaws.{taken_back, with_grant, with_input}
+use Rattle.kept_blocks.specs.MoveLaws.{taken_back, with_grant}
 use Rattle.kept_blocks.proofs.Looks.{look_laws}
 use Rattle.flow_core.specs.Boards.{IsBoard, lost_block}
 use Rattle.flow_core.proofs.Laws.{move_laws}

@@ -1,11 +1,9 @@
-use Rattle.std.proofs.Common.{◌≡◌, ◌∙◌, ℕ, List, Option, None, true, sym, ap, subst}
+use Rattle.std.proofs.Common.{◌≡◌, None, sym, subst}
 use Rattle.pool_ledger.specs.Grants.{Refused}
 use Rattle.board_rules.specs.RunMeasures.{run_setting}
 use Rattle.board_rules.specs.States.{BoardState, past}
 use Rattle.board_rules.specs.Working.{take_refusal}
 use Rattle.flow_journal.specs.Accounts.{grant}
-use Rattle.flow_journal.specs.Queued.{queued}
-use Rattle.flow_journal.specs.FirstEntries.{is_next}
 use Rattle.flow_core.proofs.Laws.{move_laws}
 use Rattle.flow_core.proofs.Takes.{dropped-board}
 use Rattle.flow_core.proofs.board.Board.take_refused.Goals as goal

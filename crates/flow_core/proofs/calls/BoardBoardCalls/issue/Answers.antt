@@ -1,11 +1,10 @@
-use Rattle.std.proofs.Common.{◌≡◌, ◌∙◌, true, false, sym, ap, subst}
+use Rattle.std.proofs.Common.{◌≡◌, ◌∙◌, true, sym, ap, subst}
 use Rattle.nd_base.specs.declared.frame.FrameName.{FrameName}
 use Rattle.board_rules.specs.RunMeasures.{run_setting}
 use Rattle.board_rules.specs.States.{BoardState, past}
 use Rattle.flow_journal.specs.Hands.{hand}
 use Rattle.flow_core.proofs.Laws.{move_laws}
-use Rattle.board_rules.specs.InHand.{is_load_of, granted_block, granted_size, IsWholeOf}
-use Rattle.frame_table.specs.Kept.{Frame, with_kept}
+use Rattle.board_rules.specs.InHand.{is_load_of, granted_size, IsWholeOf}
 use Rattle.kept_blocks.proofs.Looks.{look_laws}
 use Rattle.flow_core.proofs.Handing.{issued-board, issued_after}
 use Rattle.flow_core.proofs.calls.BoardBoardCalls.issue.Goals as goal

@@ -1,8 +1,6 @@
-use Rattle.std.proofs.Common.{◌≡◌, ◌∙◌, true, false, Bool, None, sym, ap, subst, cond, Some, Option}
-use Rattle.std.proofs.lemmas.Bool.{true≢false}
+use Rattle.std.proofs.Common.{◌∙◌, sym, ap}
 use Rattle.board_rules.specs.RunMeasures.{run_setting}
 use Rattle.board_rules.specs.States.{past}
-use Rattle.board_rules.specs.Leaving.{reclaim_refusal}
 use Rattle.flow_emit.specs.HandWords.{has_nothing}
 use Rattle.flow_emit.proofs.HandWords.{free-is}
 use Rattle.flow_core.proofs.Reclaims.{not-free}

@@ -1,6 +1,5 @@
-use Rattle.std.proofs.Common.{◌≡◌, ◌<◌, ◌∙◌, ℕ, List, [], ◌∷◌, length, Bool, Option, Some, None, true, false, sym, ap, subst, refl}
+use Rattle.std.proofs.Common.{◌≡◌, ◌∙◌, [], ◌∷◌, None, true, sym, ap, subst, refl}
 use Rattle.nd_base.specs.declared.frame.FrameName.{FrameName}
-use Rattle.nd_base.specs.Parts.{Parts}
 use Rattle.board_rules.specs.RunMeasures.{run_setting}
 use Rattle.board_rules.specs.declared.answers.Save.TheVariants as save
 use Rattle.board_rules.specs.States.{BoardState, past}

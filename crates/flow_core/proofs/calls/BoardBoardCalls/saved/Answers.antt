@@ -1,4 +1,4 @@
-use Rattle.std.proofs.Common.{◌≡◌, ◌∙◌, ℕ, List, Option, true, sym, ap, subst}
+use Rattle.std.proofs.Common.{◌≡◌, ◌∙◌, Option, true, sym, ap, subst}
 use Rattle.nd_base.specs.declared.frame.FrameName.{FrameName}
 use Rattle.nd_base.specs.Parts.{Parts}
 use Rattle.board_rules.specs.RunMeasures.{run_setting}
@@ -8,7 +8,6 @@ use Rattle.flow_journal.specs.Hands.{hand}
 use Rattle.flow_journal.specs.declared.entry.Entry.TheVariants.{Saved}
 use Rattle.board_rules.specs.InHand.{is_piece_on, hand_node}
 use Rattle.frame_table.specs.Kept.{kept_at, MayGiveBack}
-use Rattle.flow_emit.specs.Courses.{Coursed}
 use Rattle.kept_blocks.proofs.Looks.{look_laws}
 use Rattle.flow_core.proofs.Laws.{move_laws}
 use Rattle.flow_core.proofs.Lent.{LentAt, lent-at}

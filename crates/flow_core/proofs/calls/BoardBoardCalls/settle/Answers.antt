@@ -1,8 +1,5 @@
-use Rattle.std.proofs.Common.{◌≡◌, ◌∙◌, true, false, sym, ap, subst}
-use Rattle.nd_base.specs.declared.frame.FrameName.{FrameName}
+use Rattle.std.proofs.Common.{◌∙◌, sym}
 use Rattle.board_rules.specs.RunMeasures.{run_setting}
-use Rattle.board_rules.specs.States.{BoardState, past}
-use Rattle.flow_journal.specs.Hands.{hand}
 use Rattle.flow_core.proofs.Laws.{move_laws}
 use Rattle.flow_core.proofs.Boarding.{settles-board}
 use Rattle.flow_core.proofs.calls.BoardBoardCalls.settle.Goals as goal
