@@ -177,6 +177,10 @@ pub made-no_memory : {F B : Type 0} (O : Type 0) (name_of : F → FrameName) (pa
 made-no_memory {F} {B} O name_of parts bytes_of s old new r v b z f g none makes given wants same_ =
     take-gives {F = F} {B = B} {O = O} name_of parts bytes_of s old new r v None (Some (Granted b z f g)) take.OutOfMemory none (asked-maker s v old (Granted b z f g) makes given) (wants, same_)
 
+-- a new block wants storage
+pub fresh-wants : (told : BoardState) (b z : ℕ) (f : Bool) (g : ℕ) → f ≡ true → IsTrue (wants_storage told (Granted b z f g))
+fresh-wants told b z f g fresh = subst (λ (y : Bool). IsTrue (wants_storage told (Granted b z y g))) (sym fresh) refl
+
 -- WANT OF MEMORY ONCE THE PART IS LENT
 
 -- the part was lent of a table that holds the blocks, in which its array is as it was
