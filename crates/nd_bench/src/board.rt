@@ -3,7 +3,8 @@
 ghost use Rattle.std.specs.Prelude.{◌≡◌, ◌≤◌, [], false, IfSome, length};
 ghost use Rattle.flow_core.specs.Worked.{side, worked_graph, IsWorked, IsWorkedPlan, HasFrames};
 
-use flow_core::{Board, Done, Load, Save, Settled, Take};
+use board_rules::{BoardCalls, Done, Load, Save, Settled, Take};
+use flow_core::Board;
 use frame_table::TestFrame;
 use nd_base::SampleType::UInt8;
 use nd_base::{
