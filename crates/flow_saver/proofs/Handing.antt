@@ -250,6 +250,7 @@ module _ (g : Graph) (stack : StackValue) (before : Option Files) (more o : Boar
     begun = h.begun;
     at = h.at;
     listed = h.listed;
+    rows = h.rows;
     nodes = h.nodes;
     others = h.others;
     array = h.array;

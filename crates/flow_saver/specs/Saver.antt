@@ -71,6 +71,10 @@ IsFirstCount P v count group false numrecs = (size : ℕ) × (numrecs ≡ Some s
 abbrev pub AreBegunSo : (P : Past) → (written : ℕ → List Array) → List NodeFile → Type 0
 AreBegunSo P written xs = (k : ℕ) (x : NodeFile) (f : _) → slice_get xs k ≡ Some x → x.current ≡ Some f → IsFirstCount P x.node x.count (length (written x.node) / x.count) x.late f.numrecs
 
+-- each open file has a row, but for that of node k, if there is one
+abbrev pub HaveRowsBut : Option ℕ → List NodeFile → Type 0
+HaveRowsBut k xs = (j : ℕ) (x : NodeFile) (f : Stream) → k ≢ Some j → slice_get xs j ≡ Some x → x.current ≡ Some f → 1 ≤ f.count
+
 -- the entry that gives this piece back, at this node
 abbrev pub back_of : (r v : ℕ) → FrameName → Entry
 back_of r v name = entry.Saved r v name.maker name.index
@@ -91,6 +95,7 @@ pub record IsTornSince (g : Graph) (stack : StackValue) (before : Option Files) 
   pub begun : AreBegunSo seen (written_by g stack front) files
   pub at : ℕ
   pub listed : slice_get files at ≡ Some node
+  pub rows : HaveRowsBut (Some at) files
   -- no other node's files are touched
   pub nodes : map closed ys ≡ map closed files
   pub others : (j : ℕ) → j ≢ at → slice_get ys j ≡ slice_get files j
@@ -122,10 +127,6 @@ pub record Start : Type 0 where
 -- since then the role has saved alone
 abbrev pub HasSavedSince : (then_made made : BoardState) → Type 0
 HasSavedSince then_made made = (added : BoardState) × (made ≡ added ++ then_made) × (list_all saver_logs (past added) ≡ true)
-
--- each open file has a row, but for that of node k, if there is one
-abbrev pub HaveRowsBut : Option ℕ → List NodeFile → Type 0
-HaveRowsBut k xs = (j : ℕ) (x : NodeFile) (f : Stream) → k ≢ Some j → slice_get xs j ≡ Some x → x.current ≡ Some f → 1 ≤ f.count
 
 -- between two pieces
 pub record IsSaving (g : Graph) (stack : StackValue) (start : Start) (r : ℕ) (p : Pass) (xs : List NodeFile) (fault : Bool) (held : Option Files) : Type 0 where

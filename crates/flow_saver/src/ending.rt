@@ -32,6 +32,7 @@ pub fn end_files<R: Run, B: BoardCalls<Frame<R>>, K: Shelf>(
     fault: bool,
 ) -> Result<(), SaveFault>
     requires graph { IsGraph R.graph }
+    requires kept { IsKeptStack R.stack }
     requires finished { is_finished (run_setting R.graph R.stack) (past (B.shown board.now)) ≡ true }
     requires saving { (prefix : List ℕ) × ((before : Option Files)
         × IsSavingAlone R.graph R.stack prefix before (B.shown board.now) files fault (K.held shelf.old)) }

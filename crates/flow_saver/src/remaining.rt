@@ -1,6 +1,6 @@
 //! What is left to save once all roles have ended.
 
-ghost use Rattle.std.specs.Prelude.{◌≡◌, ℕ, ◌<◌, List, [], ◌∷◌, Option, Some, true, length, map, slice_get, OnOk};
+ghost use Rattle.std.specs.Prelude.{◌≡◌, ◌≢◌, ℕ, ◌<◌, List, [], ◌∷◌, Option, Some, true, length, map, slice_get, OnOk};
 ghost use Rattle.nd_base.specs.GraphRules.{IsGraph};
 ghost use Rattle.edge_traits.specs.Files.{Files};
 ghost use Rattle.nd_stack.specs.KeptStacks.{IsKeptStack};
@@ -127,7 +127,8 @@ fn save_all<R: Run, B: BoardCalls<Frame<R>>, K: Shelf>(
         → IsSavingAlone R.graph R.stack prefix before (B.shown board.new) files.new fault.new (K.held shelf.new)) }
     ensures drained { OnOk result (IsDrained (run_setting R.graph R.stack) (past (B.shown board.new))) }
     ensures empty { OnOk result ((x : NodeFile) → slice_get files.old at ≡ Some x → unsaved (run_setting R.graph R.stack) x.node (past (B.shown board.new)) ≡ []) }
-    ensures others { OnOk result ((w : ℕ) → unsaved (run_setting R.graph R.stack) w (past (B.shown board.old)) ≡ [] → unsaved (run_setting R.graph R.stack) w (past (B.shown board.new)) ≡ []) }
+    ensures others { OnOk result ((x : NodeFile) → slice_get files.old at ≡ Some x → (w : ℕ) → w ≢ x.node
+        → unsaved (run_setting R.graph R.stack) w (past (B.shown board.new)) ≡ unsaved (run_setting R.graph R.stack) w (past (B.shown board.old))) }
     ensures moves { RestMoves (run_setting R.graph R.stack) (B.shown board.old) (B.shown board.new) }
     ensures legal { is_history (run_setting R.graph R.stack) (past (B.shown board.new)) ≡ true }
     ensures nodes { map closed files.new ≡ map closed files.old }

@@ -1,0 +1,1 @@
+use Rattle.flow_saver.proofs.ending.end_files.Goals as goal
