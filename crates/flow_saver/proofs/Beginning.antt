@@ -14,7 +14,8 @@ use Rattle.frame_store.specs.Sealed.{Sealed}
 use Rattle.flow_journal.specs.declared.entry.Entry.{Entry}
 use Rattle.flow_journal.specs.declared.entry.Entry.TheVariants as entry
 use Rattle.flow_journal.specs.Pasts.{frame}
-use Rattle.flow_roles.specs.Feeder.{name_of, parts_of}
+use Rattle.flow_roles.specs.Feeder.{parts_of}
+use Rattle.flow_roles.specs.Feeder as feeder
 use Rattle.flow_roles.specs.RoleEnds.{IsLent}
 use Rattle.flow_journal.specs.Hands.{hand}
 use Rattle.flow_journal.specs.Unsaved.{saves}
@@ -145,4 +146,4 @@ module _ (g : Graph) (stack : StackValue) (start : Start) (prefix : List ℕ) (b
 -- the piece of a hand
 pub hand-piece : (r v group : ℕ) (lent : Option Parts) (piece : Sealed) (e : Option Entry) → e ≡ Some (entry.Save r v piece.name.maker piece.name.index group) → lent ≡ parts_of piece → IsPieceOfHand lent e (Some piece)
 hand-piece r v group lent piece e is same =
-    subst (λ (o : Option Entry). IsPieceOfHand lent o (Some piece)) (sym is) (let both : IsLent name_of parts_of (frame piece.name.maker piece.name.index) lent (Some piece) = (refl, sym same) in both)
+    subst (λ (o : Option Entry). IsPieceOfHand lent o (Some piece)) (sym is) (let both : IsLent feeder.name_of parts_of (frame piece.name.maker piece.name.index) lent (Some piece) = (refl, sym same) in both)

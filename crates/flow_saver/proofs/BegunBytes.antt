@@ -77,7 +77,7 @@ module _ (shape : FileShape) (arrays rest full : List Array) (is : full ≡ arra
   rows = flat_map (row shape) rest
 
   longer : (numrecs : Option ℕ) → begun_file shape numrecs full ≡ begun_file shape numrecs arrays ++ rows
-  longer numrecs = ap (λ as. header shape numrecs ++ flat_map (row shape) as) is ∙ ap (λ r. header shape numrecs ++ r) (flat_map-append (row shape) arrays rest) ∙ sym (append_assoc (header shape numrecs) (flat_map (row shape) arrays) rows)
+  longer numrecs = ap (λ zs. header shape numrecs ++ flat_map (row shape) zs) is ∙ ap (λ r. header shape numrecs ++ r) (flat_map-append (row shape) arrays rest) ∙ sym (append_assoc (header shape numrecs) (flat_map (row shape) arrays) rows)
 
   -- a front of the header and the rows
   pub begun-front : (late : Bool) (numrecs : Option ℕ) (front tail : List ℕ) (now : Option (List ℕ)) → IsCountOf late (length full) numrecs → begun_file shape numrecs arrays ≡ front ++ tail → now ≡ Some front

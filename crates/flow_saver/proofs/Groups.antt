@@ -178,7 +178,7 @@ module _ (g : Graph) (stack : StackValue) (sound : IsGraph g) (prefix : List ℕ
       let f = of_file g stack prefix xs k x sound h.saving.nodes at in
       let same : n ≡ f.rule = same_Some n f.rule (sym rule ∙ f.at) in
       ap (λ (m : NodeRule). kind_group g stack (past b) x.node m.kind i) same ∙ ap (λ (c : Kind). kind_group g stack (past b) x.node c i) f.kind
-      ∙ ap (λ (as : List Array). whole_file (file_shape g stack x.node) (group_of f.file.count i as)) (sym (written-is x.node))
+      ∙ ap (λ (zs : List Array). whole_file (file_shape g stack x.node) (group_of f.file.count i zs)) (sym (written-is x.node))
       ∙ ap (λ (c : ℕ). whole_file (file_shape g stack x.node) (group_of c i (written x.node))) (sym f.count)
       ∙ ap (λ (sh : FileShape). whole_file sh (group_of x.count i (written x.node))) (sym f.shape)
 
@@ -232,65 +232,63 @@ module _ (g : Graph) (stack : StackValue) (sound : IsGraph g) (prefix : List ℕ
 
 filled-by : (x : NodeFile) (P : Past) (n : ℕ) (o : Option Stream) (late : Bool) → 1 ≤ x.count → length (puts x.node P) ≡ n → IsOpenAfter x n o → ((f : Stream) → o ≡ Some f → 1 ≤ f.count)
     → ((f : Stream) → o ≡ Some f → IsFirstCount P x.node x.count (n / x.count) late f.numrecs) → IsFilled o
-filled-by x P n None late some all begun row first = tt
-filled-by x P n (Some f) late some all begun row first =
+filled-by x P n None late some all begun row opened = tt
+filled-by x P n (Some f) late some all begun row opened =
     let rows : f.count ≡ n % x.count = ap (λ (d : Stream). d.count) begun in
-    (row f refl, numrecs-by late f.numrecs (first f refl) rows)
+    (row f refl, numrecs-by late f.numrecs (opened f refl) rows)
   where
     numrecs-by : (late : Bool) (numrecs : Option ℕ) → IsFirstCount P x.node x.count (n / x.count) late numrecs → f.count ≡ n % x.count → ForSome numrecs (λ (k : ℕ). k ≡ f.count)
-    numrecs-by true numrecs is rows = subst (λ (o : Option ℕ). ForSome o (λ (k : ℕ). k ≡ f.count)) (sym is) tt
-    numrecs-by false numrecs z rows =
+    numrecs-by true numrecs is rows k some_ = let none_ : None ≡ Some k = sym is ∙ some_ in absurd (cc)
+    numrecs-by false numrecs z rows k some_ =
         let low = mod-lt n (let e : 0 < x.count = omega (arith, some) in e) in
         let parts = div-add-mod' n x.count in
-        subst (λ (o : Option ℕ). ForSome o (λ (k : ℕ). k ≡ f.count)) (sym z.1) (elim z.2 [
+        let size : z.0 ≡ f.count = elim z.2 [
           | inl whole ↦ absurd (omega (arith, whole.0, all, low, parts))
           | inr short ↦ omega (arith, short.2, all, parts, rows)
-        ])
+        ] in
+        same_Some k z.0 (sym some_ ∙ z.1) ∙ size
 
 module _ (g : Graph) (stack : StackValue) (sound : IsGraph g) (prefix : List ℕ) (before : Option Files) (b : BoardState) (xs : List NodeFile) (held : Option Files)
     (h : IsSavingAlone g stack prefix before b xs false held) (finished : is_finished (run_setting g stack) (past b) ≡ true) where
-  abbrev s : Setting
-  s = run_setting g stack
-
-  abbrev own : Past
-  own = past (moves_by (last_role s) b)
+  abbrev given : Past
+  given = past (moves_by (last_role (run_setting g stack)) b)
 
   -- each open file has a row, and as many as its header says
   pub all-filled : (k : ℕ) (x : NodeFile) → slice_get xs k ≡ Some x → IsFilled x.current
   all-filled k x at =
       let f = file g stack sound prefix before b xs false held h finished k x at in
       let written = h.saving.saved.0.each k x at in
-      filled-by x (past b) (length (written_by g stack own x.node)) x.current x.late (omega (arith, f.count, f.sound.count.0)) (all-written g stack sound prefix before b xs false held h finished k x at) written.begun
+      filled-by x (past b) (length (written_by g stack given x.node)) x.current x.late (omega (arith, f.count, f.sound.count.0)) (all-written g stack sound prefix before b xs false held h finished k x at) written.begun
       (λ d is. h.saving.rows refl k x d (λ e. let none_ : None ≡ Some k = e in absurd (cc)) at is) (λ d is. h.saving.saved.1 k x d at is)
 
   -- a name that stands is one of a group that has an array
-  pub named-long : (k : ℕ) (x : NodeFile) (at : slice_get xs k ≡ Some x) (i : ℕ) → IsSome (group_file x (written_by g stack own x.node) i) → 1 ≤ length (group_of x.count i (written_by g stack own x.node))
+  pub named-long : (k : ℕ) (x : NodeFile) (at : slice_get xs k ≡ Some x) (i : ℕ) → IsSome (group_file x (written_by g stack given x.node) i) → 1 ≤ length (group_of x.count i (written_by g stack given x.node))
   named-long k x at i named =
       let f = file g stack sound prefix before b xs false held h finished k x at in
       let some : 1 ≤ x.count = omega (arith, f.count, f.sound.count.0) in
-      let arrays = written_by g stack own x.node in
+      let arrays = written_by g stack given x.node in
       has-long (group-has x arrays some (h.saving.saved.0.each k x at).begun i) some
     where
-      has-long : GroupHas x (written_by g stack own x.node) i → 1 ≤ x.count → 1 ≤ length (group_of x.count i (written_by g stack own x.node))
+      has-long : GroupHas x (written_by g stack given x.node) i → 1 ≤ x.count → 1 ≤ length (group_of x.count i (written_by g stack given x.node))
       has-long (Nothing none_) some = absurd (false≢true (sym (ap (λ (o : Option (List ℕ)). is_some o) none_) ∙ named))
       has-long (Whole full is) some = omega (arith, full, some)
       has-long (Opened d open_ here is) some =
           let row = h.saving.rows refl k x d (λ e. let none_ : None ≡ Some k = e in absurd (cc)) at open_ in
-          let rows = end-rows x held held some (written_by g stack own x.node) (h.saving.saved.0.each k x at) d open_ (Same refl) in
-          subst (λ (w : ℕ). 1 ≤ length (group_of x.count w (written_by g stack own x.node))) (sym here) (omega (arith, rows.all, row))
+          let rows = end-rows x held held some (written_by g stack given x.node) (h.saving.saved.0.each k x at) d open_ (Same refl) in
+          subst (λ (w : ℕ). 1 ≤ length (group_of x.count w (written_by g stack given x.node))) (sym here) (omega (arith, rows.all, row))
 
   -- THE LAW: once all files have ended, the shelf holds the groups' files of the history
-  pub groups-held : (now : Option Files) → AllEnded before xs (written_by g stack own) now → HoldsGroupsOf g stack prefix (past b) before now
+  pub groups-held : (now : Option Files) → AllEnded before xs (written_by g stack given) now → HoldsGroupsOf g stack prefix (past b) before now
   groups-held now ended = record {
     each = λ v i n bytes rule is.
         let r = file-kind g stack sound prefix before b xs false held h n v i bytes is in
         let f = files-of-rule g stack sound prefix before b xs false held h v n r.0 rule r.1 in
         let x = f.files in
-        let same : whole_file x.shape (group_of x.count i (written_by g stack own x.node)) ≡ Some bytes =
+        let same : whole_file x.shape (group_of x.count i (written_by g stack given x.node)) ≡ Some bytes =
         sym (group-is g stack sound prefix before b xs false held h f.at x f.listed n i f.rule) ∙ ap (λ (w : ℕ). kind_group g stack (past b) w n.kind i) f.node ∙ is in
         subst (λ (name : List ℕ). HasFile now name bytes) (f.named i) (subst (HasBytes now (name_of x i)) same (ended.each f.at x f.listed i));
     others = λ q away. ended.others q (λ k x i at named.
         let f = file g stack sound prefix before b xs false held h finished k x at in
-        let o = some-is (whole_file x.shape (group_of x.count i (written_by g stack own x.node))) named in
+        let o = some-is (whole_file x.shape (group_of x.count i (written_by g stack given x.node))) named in
         (λ e. away x.node i f.rule o.0 f.at (group-is g stack sound prefix before b xs false held h k x at f.rule i f.at ∙ o.1) (e ∙ group-named g stack prefix xs h.saving.nodes k x f.rule at f.at i)));
   }

@@ -40,39 +40,39 @@ use Rattle.flow_saver.proofs.SaveOne.{one-node, one-busy, one-taken}
 -- GIVING BACK
 
 module _ (g : Graph) (stack : StackValue) (b new : BoardState) where
-  abbrev s : Setting
-  s = run_setting g stack
+  abbrev rules : Setting
+  rules = run_setting g stack
 
-  abbrev r : ℕ
-  r = last_role s
+  abbrev drain : ℕ
+  drain = last_role rules
 
   module _ (prefix : List ℕ) (before : Option Files) (xs : List NodeFile) (fault : Bool) (held : Option Files) (piece : Sealed) (h : IsToGiveBackAlone g stack prefix before b xs fault held piece) where
-    pub return-may : MaySaved name_of parts_of b r piece
-    return-may is = sym (sym (moves-tell b r).1 ∙ h.held.lent)
+    pub return-may : MaySaved name_of parts_of b drain piece
+    return-may is = sym (sym (moves-tell b drain).1 ∙ h.to_give.lent)
 
-    abbrev begun : Start
-    begun = record { prefix = prefix; made = h.made; held = before }
+    abbrev origin : Start
+    origin = record { prefix = prefix; made = h.made; held = before }
 
-    pub return-never : (e : NotYours Sealed) → SavedGives {F = Sealed} {E = Unit {0}} name_of s b r piece (Err e) new → ⊥
+    pub return-never : (e : NotYours Sealed) → SavedGives {F = Sealed} {E = Unit {0}} name_of rules b drain piece (Err e) new → ⊥
     return-never e c =
-        let gives : BoardState → BoardState → Type 0 = λ old n. SavedGives {F = Sealed} {E = Unit {0}} name_of s old r piece (Err e) n in
-        never-refused g stack begun r (alone s b) (alone s new) xs fault held piece Other h.held (Unit {0}) e
-        (called-alone s b new refl h.legal h.drained gives c (saveds-add s b new refl h.legal h.drained piece (Err e) return-may c))
+        let gives : BoardState → BoardState → Type 0 = λ old n. SavedGives {F = Sealed} {E = Unit {0}} name_of rules old drain piece (Err e) n in
+        never-refused g stack origin drain (alone rules b) (alone rules new) xs fault held piece Other h.to_give (Unit {0}) e
+        (called-alone rules b new refl h.legal h.drained gives c (saveds-add rules b new refl h.legal h.drained piece (Err e) return-may c))
 
-    pub return-given : (u : Unit {0}) → SavedGives {F = Sealed} {E = Unit {0}} name_of s b r piece (Ok u) new → IsSavingAlone g stack prefix before new xs fault held
+    pub return-given : (u : Unit {0}) → SavedGives {F = Sealed} {E = Unit {0}} name_of rules b drain piece (Ok u) new → IsSavingAlone g stack prefix before new xs fault held
     return-given u c =
-        let gives : BoardState → BoardState → Type 0 = λ old n. SavedGives {F = Sealed} {E = Unit {0}} name_of s old r piece (Ok u) n in
-        let a = saveds-add s b new refl h.legal h.drained piece (Ok u) return-may c in
+        let gives : BoardState → BoardState → Type 0 = λ old n. SavedGives {F = Sealed} {E = Unit {0}} name_of rules old drain piece (Ok u) n in
+        let a = saveds-add rules b new refl h.legal h.drained piece (Ok u) return-may c in
         record {
           legal = a.legal;
           drained = a.drained;
           made = h.made;
-          saving = given-back g stack begun r (alone s b) (alone s new) xs fault held piece Other h.held (Unit {0}) u (called-alone s b new refl h.legal h.drained gives c a);
+          saving = given-back g stack origin drain (alone rules b) (alone rules new) xs fault held piece Other h.to_give (Unit {0}) u (called-alone rules b new refl h.legal h.drained gives c a);
         }
 
-  pub return-logged : (piece : Sealed) (u : Unit {0}) → SavedGives {F = Sealed} {E = Unit {0}} name_of s b r piece (Ok u) new → (v m k i : ℕ) → hand r (past b) ≡ Some (entry.Save r v m k i)
-      → new ≡ plain (back_of r v piece.name) ∷ b
-  return-logged piece u c v m k i in_hand = c.1 ∙ ap (λ (o : Option Entry). plain (entry.Saved r (hand_node o) piece.name.maker piece.name.index) ∷ b) in_hand
+  pub return-logged : (piece : Sealed) (u : Unit {0}) → SavedGives {F = Sealed} {E = Unit {0}} name_of rules b drain piece (Ok u) new → (v m k i : ℕ) → hand drain (past b) ≡ Some (entry.Save drain v m k i)
+      → new ≡ plain (back_of drain v piece.name) ∷ b
+  return-logged piece u c v m k i in_hand = c.1 ∙ ap (λ (o : Option Entry). plain (entry.Saved drain (hand_node o) piece.name.maker piece.name.index) ∷ b) in_hand
 
 -- ONE SAVE
 
@@ -106,7 +106,7 @@ module _ (g : Graph) (stack : StackValue) (sound : IsGraph g) (prefix : List ℕ
   next-empty drained c = ap (λ (x : BoardState). unsaved s v (past x)) (next-still c) ∙ nothing-left s b mid v drained next-node c
 
   module _ (input : Sealed) (group place : ℕ) (of : Option ℕ) (c : SaveGives {F = Sealed} name_of parts_of s b r v (Piece input group place of) mid) where
-    adds : Adds s b mid refl h.legal h.drained
+    adds : Adds s b mid
     adds = saves-add s b mid refl h.legal h.drained v (Piece input group place of) next-node c
 
     pub next-logged : mid ≡ lends (entry.Save r v input.name.maker input.name.index group) (parts_of input) ∷ b
@@ -157,7 +157,7 @@ to-give-alone g stack prefix before b xs ys fault torn held stands due h ok = re
   legal = h.legal;
   drained = h.drained;
   made = h.made;
-  held = ok (record { prefix = prefix; made = h.made; held = before }) (last_role (run_setting g stack)) (alone (run_setting g stack) b) h.unsaved;
+  to_give = ok (record { prefix = prefix; made = h.made; held = before }) (last_role (run_setting g stack)) (alone (run_setting g stack) b) h.unsaved;
 }
 
 -- and what wasn't is still in hand

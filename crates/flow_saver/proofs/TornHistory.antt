@@ -185,8 +185,8 @@ module _ (g : Graph) (stack : StackValue) (sound : IsGraph g) (prefix : List ℕ
   fronts v =
       let r = back-then v in
       elim (cases_eq v t.node.node) [
-        | inl here ↦ (t.array ∷ [] ++ r.0, r.1 ∙ ap (λ as. as ++ r.0) (ap back here ∙ back-here ∙ ap (λ (w : ℕ). W w ++ t.array ∷ []) (sym here)) ∙ append_assoc (W v) (t.array ∷ []) r.0)
-        | inr apart ↦ (r.0, r.1 ∙ ap (λ as. as ++ r.0) (back-other v apart))
+        | inl here ↦ (t.array ∷ [] ++ r.0, r.1 ∙ ap (λ zs. zs ++ r.0) (ap back here ∙ back-here ∙ ap (λ (w : ℕ). W w ++ t.array ∷ []) (sym here)) ∙ append_assoc (W v) (t.array ∷ []) r.0)
+        | inr apart ↦ (r.0, r.1 ∙ ap (λ zs. zs ++ r.0) (back-other v apart))
       ]
 
   nodes : map closed xs ≡ file_nodes g stack prefix
@@ -286,7 +286,7 @@ module _ (g : Graph) (stack : StackValue) (sound : IsGraph g) (prefix : List ℕ
         let r = fronts x.node in
         let same : group_of x.count i (F x.node) ≡ group_of x.count i (W x.node) = ap (group_of x.count i) r.1 ∙ group-full x.count i (W x.node) r.0 (some-at j x at) full in
         begun-whole x.late (layout x.shape (group_of x.count i (F x.node))) (file_at before (name_of x i)) (file_at held (name_of x i))
-        (told-file held (name_of x i) (layout x.shape (group_of x.count i (W x.node))) told has ∙ ap (λ as. Some (layout x.shape as)) (sym same))
+        (told-file held (name_of x i) (layout x.shape (group_of x.count i (W x.node))) told has ∙ ap (λ zs. Some (layout x.shape zs)) (sym same))
     off-goal j x at i small off (Opened f open_ here is) =
         let has = subst (HasBytes held (name_of x i)) is (t.stops.0.each j x i at (off-node j x at i off)) in
         let ne : j ≢ t.at = elim off [
@@ -318,11 +318,11 @@ module _ (g : Graph) (stack : StackValue) (sound : IsGraph g) (prefix : List ℕ
     torn-goal : Goal t.node t.group
     torn-goal =
         let r = back-then t.node.node in
-        let all : F t.node.node ≡ (W t.node.node ++ t.array ∷ []) ++ r.0 = r.1 ∙ ap (λ as. as ++ r.0) back-here in
+        let all : F t.node.node ≡ (W t.node.node ++ t.array ∷ []) ++ r.0 = r.1 ∙ ap (λ zs. zs ++ r.0) back-here in
         let front = group-front t.node.count t.group (W t.node.node ++ t.array ∷ []) r.0 in
         let more = group-more t.node.count (W t.node.node) t.array t.group t.place t.place_is in
         begun-torn t.node.shape (group_of t.node.count t.group (W t.node.node) ++ t.array ∷ []) front.0 (group_of t.node.count t.group (F t.node.node))
-        (ap (group_of t.node.count t.group) all ∙ front.1 ∙ ap (λ as. as ++ front.0) more) (file_at before (name_of t.node t.group)) t.node.late t.numrecs
+        (ap (group_of t.node.count t.group) all ∙ front.1 ∙ ap (λ zs. zs ++ front.0) more) (file_at before (name_of t.node t.group)) t.node.late t.numrecs
         (file_at t.then_held (name_of t.node t.group)) (file_at held (name_of t.node t.group)) (count-by (past b) t.node t.group (F t.node.node) t.node.late t.numrecs torn-node t.first)
         (then-goal (group-has t.node (W t.node.node) torn-some (t.written.each t.at t.node t.listed).begun t.group) (file_at held (name_of t.node t.group))) t.stops.1
 
@@ -343,10 +343,10 @@ module _ (g : Graph) (stack : StackValue) (sound : IsGraph g) (prefix : List ℕ
   torn-long : 1 ≤ length (group_of t.node.count t.group (F t.node.node))
   torn-long =
       let r = back-then t.node.node in
-      let all : F t.node.node ≡ (W t.node.node ++ t.array ∷ []) ++ r.0 = r.1 ∙ ap (λ as. as ++ r.0) back-here in
+      let all : F t.node.node ≡ (W t.node.node ++ t.array ∷ []) ++ r.0 = r.1 ∙ ap (λ zs. zs ++ r.0) back-here in
       let front = group-front t.node.count t.group (W t.node.node ++ t.array ∷ []) r.0 in
       let more = group-more t.node.count (W t.node.node) t.array t.group t.place t.place_is in
-      let whole = ap length (ap (group_of t.node.count t.group) all ∙ front.1 ∙ ap (λ as. as ++ front.0) more) in
+      let whole = ap length (ap (group_of t.node.count t.group) all ∙ front.1 ∙ ap (λ zs. zs ++ front.0) more) in
       omega (arith, whole, length-append (group_of t.node.count t.group (W t.node.node) ++ t.array ∷ []) front.0, length-append (group_of t.node.count t.group (W t.node.node)) (t.array ∷ []))
 
   front-long : (x : NodeFile) (i : ℕ) → 1 ≤ length (group_of x.count i (W x.node)) → 1 ≤ length (group_of x.count i (F x.node))

@@ -8,7 +8,7 @@ ghost use Rattle.nd_stack.specs.KeptStacks.{IsKeptStack};
 ghost use Rattle.flow_journal.specs.Finished.{is_finished};
 ghost use Rattle.board_rules.specs.States.{past};
 ghost use Rattle.board_rules.specs.RunMeasures.{run_setting};
-ghost use Rattle.flow_saver.specs.Ending.{IsTornHistory, GroupsReadBack, CountsEnd};
+ghost use Rattle.flow_saver.specs.Ending.{IsTornHistory, CountsEnd};
 ghost use Rattle.flow_saver.specs.HistoryFiles.{HoldsGroupsOf, RowsComplete};
 ghost use Rattle.flow_saver.specs.Remaining.{IsSavingAlone};
 
@@ -53,9 +53,4 @@ pub fn end_files<R: Run, B: BoardCalls<Frame<R>>, K: Shelf>(
 /// The groups' files and then the rows are the files of the history.
 pub fn rows_complete_the_files()
     ensures { RowsComplete }
-{}
-
-/// Each group of a history reads back from its file.
-pub fn groups_read_back()
-    ensures { GroupsReadBack }
 {}

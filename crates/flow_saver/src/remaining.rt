@@ -43,7 +43,7 @@ fn return_piece<R: Run, B: BoardCalls<Frame<R>>>(
         → IsToGiveBackAlone R.graph R.stack prefix before (B.shown board.old) files.now fault held piece
         → IsSavingAlone R.graph R.stack prefix before (B.shown board.new) files.now fault held }
     ensures logged { (v m k g : ℕ) → hand role (past (B.shown board.old)) ≡ Some (entry.Save role v m k g)
-        → B.shown board.new ≡ plain (back_of role v piece.now.name) ∷ B.shown board.old }
+        → B.shown board.new ≡ plain (back_of role v piece.name) ∷ B.shown board.old }
 {
     let Ok(()) = board.saved(role, piece) else {
         unreachable!()

@@ -1,6 +1,8 @@
-use Rattle.std.proofs.Common.{◌≡◌, ℕ, Ok, Err, sym, subst}
-use Rattle.nd_base.specs.declared.frame.FrameName.{FrameName}
+use Rattle.std.proofs.Common.{◌≡◌, ◌∷◌, ℕ, Some, Ok, Err, sym, subst}
 use Rattle.frame_store.specs.Sealed.{Sealed}
+use Rattle.flow_journal.specs.declared.entry.Entry.TheVariants as entry
+use Rattle.flow_journal.specs.Hands.{hand}
+use Rattle.board_rules.specs.States.{past, plain}
 use Rattle.board_rules.specs.Saving.{SavedGives, MaySaved}
 use Rattle.board_rules.specs.RunMeasures.{run_setting}
 use Rattle.flow_roles.specs.Feeder.{name_of, parts_of}
@@ -36,4 +38,11 @@ returns-clause-given g c =
     (subst (λ (r : ℕ). SavedGives {F = Sealed} {E = Unit {0}} name_of (run_setting gr stack) b r c.args.piece (Ok c.in-Ok.field-0) new) c.requires.role c.in-Ok.ensures.gives)
 
 pub returns-clause-logged : goal.returns-clause-logged
-returns-clause-logged g c = ?
+returns-clause-logged g c =
+    let gr = g.R.Run.graph in
+    let stack = g.R.Run.stack in
+    let b = g.B.BoardCalls.shown c.args.board.now in
+    let new = g.B.BoardCalls.shown c.saved.new.board in
+    subst (λ (r : ℕ). (v m k i : ℕ) → hand r (past b) ≡ Some (entry.Save r v m k i) → new ≡ plain (back_of r v c.args.piece.name) ∷ b) (sym c.requires.role)
+    (return-logged gr stack b new c.args.piece c.in-Ok.field-0
+    (subst (λ (r : ℕ). SavedGives {F = Sealed} {E = Unit {0}} name_of (run_setting gr stack) b r c.args.piece (Ok c.in-Ok.field-0) new) c.requires.role c.in-Ok.ensures.gives))
