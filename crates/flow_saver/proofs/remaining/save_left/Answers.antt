@@ -18,7 +18,6 @@ write_due-requires-clause-unsaved g c =
     let xs = c.args.files.now in
     let held = g.K.Shelf.held c.args.shelf.now in
     let b = g.B.BoardCalls.shown c.args.board.now in
-    let stands = g.K.Shelf.held c.write_due.new.shelf in
     let h = c.requires.unsaved in
     (_, (_, (_, h.1.1.unsaved)))
 
@@ -76,7 +75,6 @@ returns-in_err-write_due-clause-moves g c =
     let xs = c.args.files.now in
     let held = g.K.Shelf.held c.args.shelf.now in
     let b = g.B.BoardCalls.shown c.args.board.now in
-    let stands = g.K.Shelf.held c.write_due.new.shelf in
     rest-none (run_setting gr stack) b b refl
 
 pub returns-in_err-write_due-clause-legal : goal.returns-in_err-write_due-clause-legal
@@ -86,6 +84,5 @@ returns-in_err-write_due-clause-legal g c =
     let xs = c.args.files.now in
     let held = g.K.Shelf.held c.args.shelf.now in
     let b = g.B.BoardCalls.shown c.args.board.now in
-    let stands = g.K.Shelf.held c.write_due.new.shelf in
     let h = c.requires.unsaved in
     h.1.1.legal

@@ -34,7 +34,7 @@ unreachable-requires g c =
     let xs = c.args.files.now in
     let held = g.K.Shelf.held c.args.shelf.now in
     let b = g.B.BoardCalls.shown c.args.board.now in
-    let mid = g.B.BoardCalls.shown c.save.new.board in
+    let mid = g.B.BoardCalls.shown c.save.new.self in
     let h = c.requires.saving in
     next-busy gr stack c.requires.graph h.0 h.1.0 b mid xs c.args.fault.now held h.1.1 c.args.at c.node-node.result c.node-node.ensures c.requires.at (subst (λ (r : ℕ). SaveGives {F = Sealed} name_of parts_of (run_setting gr stack) b r c.node-node.result Busy mid) c.requires.role c.in-Busy.ensures.gives)
 
@@ -45,7 +45,7 @@ returns-in-NotYet-clause-leaves g c =
     let xs = c.args.files.now in
     let held = g.K.Shelf.held c.args.shelf.now in
     let b = g.B.BoardCalls.shown c.args.board.now in
-    let mid = g.B.BoardCalls.shown c.save.new.board in
+    let mid = g.B.BoardCalls.shown c.save.new.self in
     λ prefix before st. next-nothing gr stack c.requires.graph prefix before b mid xs c.args.fault.now held st c.args.at c.node-node.result c.node-node.ensures c.requires.at (subst (λ (r : ℕ). SaveGives {F = Sealed} name_of parts_of (run_setting gr stack) b r c.node-node.result NotYet mid) c.requires.role c.in-NotYet.ensures.gives)
 
 pub returns-in-NotYet-clause-rests : goal.returns-in-NotYet-clause-rests
@@ -55,7 +55,7 @@ returns-in-NotYet-clause-rests g c =
     let xs = c.args.files.now in
     let held = g.K.Shelf.held c.args.shelf.now in
     let b = g.B.BoardCalls.shown c.args.board.now in
-    let mid = g.B.BoardCalls.shown c.save.new.board in
+    let mid = g.B.BoardCalls.shown c.save.new.self in
     let h = c.requires.saving in
     λ x at. (next-still gr stack c.requires.graph h.0 h.1.0 b mid xs c.args.fault.now held h.1.1 c.args.at c.node-node.result c.node-node.ensures c.requires.at (subst (λ (r : ℕ). SaveGives {F = Sealed} name_of parts_of (run_setting gr stack) b r c.node-node.result NotYet mid) c.requires.role c.in-NotYet.ensures.gives), subst (λ (v : ℕ). unsaved (run_setting gr stack) v (past mid) ≡ []) (c.node-node.ensures x at) (next-empty gr stack c.requires.graph h.0 h.1.0 b mid xs c.args.fault.now held h.1.1 c.args.at c.node-node.result c.node-node.ensures c.requires.at c.requires.drained (subst (λ (r : ℕ). SaveGives {F = Sealed} name_of parts_of (run_setting gr stack) b r c.node-node.result NotYet mid) c.requires.role c.in-NotYet.ensures.gives)))
 
@@ -66,7 +66,7 @@ returns-in-NotYet-clause-moves g c =
     let xs = c.args.files.now in
     let held = g.K.Shelf.held c.args.shelf.now in
     let b = g.B.BoardCalls.shown c.args.board.now in
-    let mid = g.B.BoardCalls.shown c.save.new.board in
+    let mid = g.B.BoardCalls.shown c.save.new.self in
     let h = c.requires.saving in
     rest-none (run_setting gr stack) b mid (next-still gr stack c.requires.graph h.0 h.1.0 b mid xs c.args.fault.now held h.1.1 c.args.at c.node-node.result c.node-node.ensures c.requires.at (subst (λ (r : ℕ). SaveGives {F = Sealed} name_of parts_of (run_setting gr stack) b r c.node-node.result NotYet mid) c.requires.role c.in-NotYet.ensures.gives))
 
@@ -77,7 +77,7 @@ returns-in-NotYet-clause-legal g c =
     let xs = c.args.files.now in
     let held = g.K.Shelf.held c.args.shelf.now in
     let b = g.B.BoardCalls.shown c.args.board.now in
-    let mid = g.B.BoardCalls.shown c.save.new.board in
+    let mid = g.B.BoardCalls.shown c.save.new.self in
     let h = c.requires.saving in
     (next-nothing gr stack c.requires.graph h.0 h.1.0 b mid xs c.args.fault.now held h.1.1 c.args.at c.node-node.result c.node-node.ensures c.requires.at (subst (λ (r : ℕ). SaveGives {F = Sealed} name_of parts_of (run_setting gr stack) b r c.node-node.result NotYet mid) c.requires.role c.in-NotYet.ensures.gives)).legal
 
@@ -88,7 +88,7 @@ write_due-requires-clause-unsaved g c =
     let xs = c.args.files.now in
     let held = g.K.Shelf.held c.args.shelf.now in
     let b = g.B.BoardCalls.shown c.args.board.now in
-    let mid = g.B.BoardCalls.shown c.save.new.board in
+    let mid = g.B.BoardCalls.shown c.save.new.self in
     let h = c.requires.saving in
     let u = next-taken gr stack c.requires.graph h.0 h.1.0 b mid xs c.args.fault.now held h.1.1 c.args.at c.node-node.result c.node-node.ensures c.requires.at c.in-Piece.input c.in-Piece.group c.in-Piece.place c.in-Piece.of (subst (λ (r : ℕ). SaveGives {F = Sealed} name_of parts_of (run_setting gr stack) b r c.node-node.result (Piece c.in-Piece.input c.in-Piece.group c.in-Piece.place c.in-Piece.of) mid) c.requires.role c.in-Piece.ensures.gives) c.requires.kept.few in
     (_, (_, (_, u.unsaved)))
@@ -100,7 +100,7 @@ return_piece-requires-clause-held g c =
     let xs = c.args.files.now in
     let held = g.K.Shelf.held c.args.shelf.now in
     let b = g.B.BoardCalls.shown c.args.board.now in
-    let mid = g.B.BoardCalls.shown c.save.new.board in
+    let mid = g.B.BoardCalls.shown c.save.new.self in
     let h = c.requires.saving in
     (h.0, (h.1.0, ((g.K.Shelf.held c.write_due.new.shelf), to-give-alone gr stack h.0 h.1.0 mid xs c.write_due.new.files c.args.fault.now c.write_due.new.fault held (g.K.Shelf.held c.write_due.new.shelf) (record { piece = c.in-Piece.input; at = c.args.at; group = c.in-Piece.group; place = c.in-Piece.place; of = c.in-Piece.of }) (next-taken gr stack c.requires.graph h.0 h.1.0 b mid xs c.args.fault.now held h.1.1 c.args.at c.node-node.result c.node-node.ensures c.requires.at c.in-Piece.input c.in-Piece.group c.in-Piece.place c.in-Piece.of (subst (λ (r : ℕ). SaveGives {F = Sealed} name_of parts_of (run_setting gr stack) b r c.node-node.result (Piece c.in-Piece.input c.in-Piece.group c.in-Piece.place c.in-Piece.of) mid) c.requires.role c.in-Piece.ensures.gives) c.requires.kept.few) c.in-Ok.ensures.ok)))
 
@@ -111,7 +111,7 @@ returns-in-Ok-clause-leaves g c =
     let xs = c.args.files.now in
     let held = g.K.Shelf.held c.args.shelf.now in
     let b = g.B.BoardCalls.shown c.args.board.now in
-    let mid = g.B.BoardCalls.shown c.save.new.board in
+    let mid = g.B.BoardCalls.shown c.save.new.self in
     λ prefix before st. c.return_piece.ensures.given prefix before (g.K.Shelf.held c.write_due.new.shelf) (to-give-alone gr stack prefix before mid xs c.write_due.new.files c.args.fault.now c.write_due.new.fault held (g.K.Shelf.held c.write_due.new.shelf) (record { piece = c.in-Piece.input; at = c.args.at; group = c.in-Piece.group; place = c.in-Piece.place; of = c.in-Piece.of }) (next-taken gr stack c.requires.graph prefix before b mid xs c.args.fault.now held st c.args.at c.node-node.result c.node-node.ensures c.requires.at c.in-Piece.input c.in-Piece.group c.in-Piece.place c.in-Piece.of (subst (λ (r : ℕ). SaveGives {F = Sealed} name_of parts_of (run_setting gr stack) b r c.node-node.result (Piece c.in-Piece.input c.in-Piece.group c.in-Piece.place c.in-Piece.of) mid) c.requires.role c.in-Piece.ensures.gives) c.requires.kept.few) c.in-Ok.ensures.ok)
 
 pub returns-in-Ok-clause-rests : goal.returns-in-Ok-clause-rests
@@ -121,7 +121,7 @@ returns-in-Ok-clause-rests g c =
     let xs = c.args.files.now in
     let held = g.K.Shelf.held c.args.shelf.now in
     let b = g.B.BoardCalls.shown c.args.board.now in
-    let mid = g.B.BoardCalls.shown c.save.new.board in
+    let mid = g.B.BoardCalls.shown c.save.new.self in
     let new = g.B.BoardCalls.shown c.return_piece.new.board in
     let h = c.requires.saving in
     let is = (next-back gr stack c.requires.graph h.0 h.1.0 b mid xs c.args.fault.now held h.1.1 c.args.at c.node-node.result c.node-node.ensures c.requires.at c.in-Piece.input c.in-Piece.group c.in-Piece.place c.in-Piece.of (subst (λ (r : ℕ). SaveGives {F = Sealed} name_of parts_of (run_setting gr stack) b r c.node-node.result (Piece c.in-Piece.input c.in-Piece.group c.in-Piece.place c.in-Piece.of) mid) c.requires.role c.in-Piece.ensures.gives) new (subst (λ (r : ℕ). (w m j i : ℕ) → hand r (past mid) ≡ Some (entry.Save r w m j i) → new ≡ plain (back_of r w c.in-Piece.input.name) ∷ mid) c.requires.role c.return_piece.ensures.logged)) in
@@ -138,7 +138,7 @@ returns-in-Ok-clause-moves g c =
     let xs = c.args.files.now in
     let held = g.K.Shelf.held c.args.shelf.now in
     let b = g.B.BoardCalls.shown c.args.board.now in
-    let mid = g.B.BoardCalls.shown c.save.new.board in
+    let mid = g.B.BoardCalls.shown c.save.new.self in
     let new = g.B.BoardCalls.shown c.return_piece.new.board in
     let h = c.requires.saving in
     let t = to-give-alone gr stack h.0 h.1.0 mid xs c.write_due.new.files c.args.fault.now c.write_due.new.fault held (g.K.Shelf.held c.write_due.new.shelf) (record { piece = c.in-Piece.input; at = c.args.at; group = c.in-Piece.group; place = c.in-Piece.place; of = c.in-Piece.of }) (next-taken gr stack c.requires.graph h.0 h.1.0 b mid xs c.args.fault.now held h.1.1 c.args.at c.node-node.result c.node-node.ensures c.requires.at c.in-Piece.input c.in-Piece.group c.in-Piece.place c.in-Piece.of (subst (λ (r : ℕ). SaveGives {F = Sealed} name_of parts_of (run_setting gr stack) b r c.node-node.result (Piece c.in-Piece.input c.in-Piece.group c.in-Piece.place c.in-Piece.of) mid) c.requires.role c.in-Piece.ensures.gives) c.requires.kept.few) c.in-Ok.ensures.ok in
@@ -153,7 +153,7 @@ returns-in-Ok-clause-legal g c =
     let xs = c.args.files.now in
     let held = g.K.Shelf.held c.args.shelf.now in
     let b = g.B.BoardCalls.shown c.args.board.now in
-    let mid = g.B.BoardCalls.shown c.save.new.board in
+    let mid = g.B.BoardCalls.shown c.save.new.self in
     let h = c.requires.saving in
     (c.return_piece.ensures.given h.0 h.1.0 (g.K.Shelf.held c.write_due.new.shelf) (to-give-alone gr stack h.0 h.1.0 mid xs c.write_due.new.files c.args.fault.now c.write_due.new.fault held (g.K.Shelf.held c.write_due.new.shelf) (record { piece = c.in-Piece.input; at = c.args.at; group = c.in-Piece.group; place = c.in-Piece.place; of = c.in-Piece.of }) (next-taken gr stack c.requires.graph h.0 h.1.0 b mid xs c.args.fault.now held h.1.1 c.args.at c.node-node.result c.node-node.ensures c.requires.at c.in-Piece.input c.in-Piece.group c.in-Piece.place c.in-Piece.of (subst (λ (r : ℕ). SaveGives {F = Sealed} name_of parts_of (run_setting gr stack) b r c.node-node.result (Piece c.in-Piece.input c.in-Piece.group c.in-Piece.place c.in-Piece.of) mid) c.requires.role c.in-Piece.ensures.gives) c.requires.kept.few) c.in-Ok.ensures.ok)).legal
 
@@ -164,7 +164,7 @@ returns-in-Ok-clause-nodes g c =
     let xs = c.args.files.now in
     let held = g.K.Shelf.held c.args.shelf.now in
     let b = g.B.BoardCalls.shown c.args.board.now in
-    let mid = g.B.BoardCalls.shown c.save.new.board in
+    let mid = g.B.BoardCalls.shown c.save.new.self in
     let h = c.requires.saving in
     (to-give-alone gr stack h.0 h.1.0 mid xs c.write_due.new.files c.args.fault.now c.write_due.new.fault held (g.K.Shelf.held c.write_due.new.shelf) (record { piece = c.in-Piece.input; at = c.args.at; group = c.in-Piece.group; place = c.in-Piece.place; of = c.in-Piece.of }) (next-taken gr stack c.requires.graph h.0 h.1.0 b mid xs c.args.fault.now held h.1.1 c.args.at c.node-node.result c.node-node.ensures c.requires.at c.in-Piece.input c.in-Piece.group c.in-Piece.place c.in-Piece.of (subst (λ (r : ℕ). SaveGives {F = Sealed} name_of parts_of (run_setting gr stack) b r c.node-node.result (Piece c.in-Piece.input c.in-Piece.group c.in-Piece.place c.in-Piece.of) mid) c.requires.role c.in-Piece.ensures.gives) c.requires.kept.few) c.in-Ok.ensures.ok).to_give.nodes ∙ sym h.1.1.saving.nodes
 
@@ -175,7 +175,7 @@ returns-in_default-clause-leaves g c =
     let xs = c.args.files.now in
     let held = g.K.Shelf.held c.args.shelf.now in
     let b = g.B.BoardCalls.shown c.args.board.now in
-    let mid = g.B.BoardCalls.shown c.save.new.board in
+    let mid = g.B.BoardCalls.shown c.save.new.self in
     λ prefix before st. unsaved-still gr stack prefix before mid xs c.write_due.new.files c.args.fault.now c.write_due.new.fault held (g.K.Shelf.held c.write_due.new.shelf) (record { piece = c.in-Piece.input; at = c.args.at; group = c.in-Piece.group; place = c.in-Piece.place; of = c.in-Piece.of }) (next-taken gr stack c.requires.graph prefix before b mid xs c.args.fault.now held st c.args.at c.node-node.result c.node-node.ensures c.requires.at c.in-Piece.input c.in-Piece.group c.in-Piece.place c.in-Piece.of (subst (λ (r : ℕ). SaveGives {F = Sealed} name_of parts_of (run_setting gr stack) b r c.node-node.result (Piece c.in-Piece.input c.in-Piece.group c.in-Piece.place c.in-Piece.of) mid) c.requires.role c.in-Piece.ensures.gives) c.requires.kept.few) c.in_default.ensures.err
 
 pub returns-in_default-clause-moves : goal.returns-in_default-clause-moves
@@ -185,7 +185,7 @@ returns-in_default-clause-moves g c =
     let xs = c.args.files.now in
     let held = g.K.Shelf.held c.args.shelf.now in
     let b = g.B.BoardCalls.shown c.args.board.now in
-    let mid = g.B.BoardCalls.shown c.save.new.board in
+    let mid = g.B.BoardCalls.shown c.save.new.self in
     let h = c.requires.saving in
     next-moves gr stack c.requires.graph h.0 h.1.0 b mid xs c.args.fault.now held h.1.1 c.args.at c.node-node.result c.node-node.ensures c.requires.at c.in-Piece.input c.in-Piece.group c.in-Piece.place c.in-Piece.of (subst (λ (r : ℕ). SaveGives {F = Sealed} name_of parts_of (run_setting gr stack) b r c.node-node.result (Piece c.in-Piece.input c.in-Piece.group c.in-Piece.place c.in-Piece.of) mid) c.requires.role c.in-Piece.ensures.gives) mid (rest-none (run_setting gr stack) mid mid refl)
 
@@ -196,7 +196,7 @@ returns-in_default-clause-legal g c =
     let xs = c.args.files.now in
     let held = g.K.Shelf.held c.args.shelf.now in
     let b = g.B.BoardCalls.shown c.args.board.now in
-    let mid = g.B.BoardCalls.shown c.save.new.board in
+    let mid = g.B.BoardCalls.shown c.save.new.self in
     let h = c.requires.saving in
     next-legal gr stack c.requires.graph h.0 h.1.0 b mid xs c.args.fault.now held h.1.1 c.args.at c.node-node.result c.node-node.ensures c.requires.at c.in-Piece.input c.in-Piece.group c.in-Piece.place c.in-Piece.of (subst (λ (r : ℕ). SaveGives {F = Sealed} name_of parts_of (run_setting gr stack) b r c.node-node.result (Piece c.in-Piece.input c.in-Piece.group c.in-Piece.place c.in-Piece.of) mid) c.requires.role c.in-Piece.ensures.gives)
 
@@ -207,6 +207,6 @@ returns-in_default-clause-nodes g c =
     let xs = c.args.files.now in
     let held = g.K.Shelf.held c.args.shelf.now in
     let b = g.B.BoardCalls.shown c.args.board.now in
-    let mid = g.B.BoardCalls.shown c.save.new.board in
+    let mid = g.B.BoardCalls.shown c.save.new.self in
     let h = c.requires.saving in
     (unsaved-still gr stack h.0 h.1.0 mid xs c.write_due.new.files c.args.fault.now c.write_due.new.fault held (g.K.Shelf.held c.write_due.new.shelf) (record { piece = c.in-Piece.input; at = c.args.at; group = c.in-Piece.group; place = c.in-Piece.place; of = c.in-Piece.of }) (next-taken gr stack c.requires.graph h.0 h.1.0 b mid xs c.args.fault.now held h.1.1 c.args.at c.node-node.result c.node-node.ensures c.requires.at c.in-Piece.input c.in-Piece.group c.in-Piece.place c.in-Piece.of (subst (λ (r : ℕ). SaveGives {F = Sealed} name_of parts_of (run_setting gr stack) b r c.node-node.result (Piece c.in-Piece.input c.in-Piece.group c.in-Piece.place c.in-Piece.of) mid) c.requires.role c.in-Piece.ensures.gives) c.requires.kept.few) c.in_default.ensures.err).unsaved.nodes ∙ sym h.1.1.saving.nodes
