@@ -34,7 +34,8 @@ use Rattle.graph_files.specs.NodeFiles.{NodeFile, IsPlaceAfter, first_count}
 use Rattle.graph_files.specs.OpenFiles.{AllWritten}
 use Rattle.flow_saver.specs.declared.piece.DuePiece.{DuePiece}
 use Rattle.flow_saver.specs.GivenBack.{given_back, written_by}
-use Rattle.flow_saver.specs.Saver.{Start, IsSaving, HasUnsaved, AreSaved, AreBegunSo, HasSavedSince, IsFirstCount, back_of}
+use Rattle.flow_saver.specs.Saver.{Start, IsSaving, HasUnsaved, RoleLeaves, AreSaved, HasSavedSince, IsFirstCount, back_of}
+use Rattle.flow_saver.specs.HandingLaws.{LeftAlone, HandingLaws}
 use Rattle.flow_saver.specs.Remaining.{alone, is_rest, RestMoves, IsSavingAlone, HasUnsavedAlone}
 use Rattle.flow_saver.proofs.Sizes.{first-more}
 use Rattle.flow_saver.proofs.Steps.{saved-more}
@@ -336,3 +337,19 @@ reclaims-more s r (t ∷ added) b h =
 -- and what was taken back
 pub rest-reclaims : (s : Setting) (r : ℕ) (old new : BoardState) → RestMoves s old new → was_reclaimed r (past new) ≡ was_reclaimed r (past old)
 rest-reclaims s r old new m = ap (λ (b : BoardState). was_reclaimed r (past b)) m.1 ∙ reclaims-more s r m.0 old m.2
+
+-- THE LAWS
+
+role-left : (g : Graph) (stack : StackValue) (start : Start) (r : ℕ) (p : Pass) (left : Option (DuePiece Sealed)) (xs : List NodeFile) (fault : Bool) (held : Option Files) (b : BoardState) → r ≡ last_role (run_setting g stack)
+    → HasMade b p → is_history (run_setting g stack) (past b) ≡ true → only_drain_saves (run_setting g stack) (past b) ≡ true → RoleLeaves g stack start r left p xs fault held → LeftAlone g stack start.prefix start.held left b xs fault held
+role-left g stack start r p None xs fault held b drain there legal drained st = saving-alone g stack start.prefix start.made start.held r drain p xs fault held b there legal drained st
+role-left g stack start r p (Some due) xs fault held b drain there legal drained st = unsaved-alone g stack start.prefix start.made start.held r drain p xs fault held b there legal drained due st
+
+pub handing_laws : {F B O : Type 0} → HandingLaws F B O
+handing_laws {F} {B} {O} = record {
+  role = role-left;
+  free = free-alone;
+  drained = drained-alone {F = F} {B = B} {O = O};
+  others = rest-others;
+  reclaims = rest-reclaims;
+}

@@ -4,3 +4,4 @@ pub mod Pieces
 pub mod Saver
 pub mod Remaining
 pub mod Ending
+pub mod HandingLaws

@@ -16,6 +16,7 @@ ghost use Rattle.flow_drain.specs.Drains.{IsDrained};
 ghost use Rattle.graph_files.specs.NodeFiles.{NodeFile};
 ghost use Rattle.graph_files.specs.OpenFiles.{closed};
 ghost use Rattle.flow_saver.specs.Saver.{CountsStep, back_of};
+ghost use Rattle.flow_saver.specs.HandingLaws.{HandingLaws};
 ghost use Rattle.flow_saver.specs.Remaining.{RestMoves, IsSavingAlone, HasUnsavedAlone, IsToGiveBackAlone, StepLeavesAlone, StepRests};
 
 use crate::DuePiece;
@@ -25,7 +26,7 @@ use board_rules::{BoardCalls, Save};
 use edge_traits::Shelf;
 use frame_store::Frame;
 use graph_files::OpenFiles;
-use nd_base::{OutOfMemory, Run, Stack};
+use nd_base::{Held, OutOfMemory, Run, Stack};
 use std::alloc::Global;
 
 /// Gives a piece back.
@@ -211,3 +212,8 @@ pub fn save_left<R: Run, B: BoardCalls<Frame<R>>, K: Shelf>(
     return_piece::<R, B>(board, role, files, *fault, due.piece);
     Ok(())
 }
+
+/// The files go on from the role that saves to the last role on a board that it has alone, and through the drain.
+pub fn files_go_on<F: Held>()
+    ensures { HandingLaws F F.Blank F.Of }
+{}

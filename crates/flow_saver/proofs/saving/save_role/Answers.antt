@@ -127,7 +127,7 @@ returns-in-Wants-clause-left g c =
     let inv = c.loop.invariant in
     let still = saving-still gr stack inv.start c.args.role _ _ (g.D.Desk.knows c.loop.pass) (g.D.Desk.knows c.progress-progress.new.pass) c.loop.files c.loop.fault (g.K.Shelf.held c.loop.shelf) inv.saving c.progress-progress.ensures.called c.progress-progress.ensures.called.answer.1 in
     let end = c.in-Wants.ensures.leaves inv.start still in
-    hand-piece c.args.role end.node.node c.in-Wants.field-0.group _ c.in-Wants.field-0.piece _ end.hand end.lent
+    hand-piece c.args.role end.node.node c.in-Wants.due.group _ c.in-Wants.due.piece _ end.hand end.lent
 
 pub returns-in-Wants-clause-nodes : goal.returns-in-Wants-clause-nodes
 returns-in-Wants-clause-nodes g c =
@@ -170,4 +170,4 @@ returns-in-Wants-clause-leaves g c =
     let inv = c.loop.invariant in
     let still = saving-still gr stack inv.start c.args.role _ _ (g.D.Desk.knows c.loop.pass) (g.D.Desk.knows c.progress-progress.new.pass) c.loop.files c.loop.fault (g.K.Shelf.held c.loop.shelf) inv.saving c.progress-progress.ensures.called c.progress-progress.ensures.called.answer.1 in
     let end = c.in-Wants.ensures.leaves inv.start still in
-    λ prefix is. unsaved-from gr stack inv.start prefix (g.K.Shelf.held c.args.shelf.now) c.args.role (g.D.Desk.knows c.save_turn.new.pass) c.save_turn.new.files c.save_turn.new.fault (g.K.Shelf.held c.save_turn.new.shelf) inv.began inv.first (inv.named ∙ is) c.in-Wants.field-0 end
+    λ prefix is. unsaved-from gr stack inv.start prefix (g.K.Shelf.held c.args.shelf.now) c.args.role (g.D.Desk.knows c.save_turn.new.pass) c.save_turn.new.files c.save_turn.new.fault (g.K.Shelf.held c.save_turn.new.shelf) inv.began inv.first (inv.named ∙ is) c.in-Wants.due end
