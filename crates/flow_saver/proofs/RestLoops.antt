@@ -11,6 +11,7 @@ use Rattle.nd_base.specs.declared.graph.Kind.{Kind}
 use Rattle.nd_base.specs.declared.graph.Kind.TheVariants.{Roi, Stats, Circular, File, Scatter}
 use Rattle.nd_base.specs.declared.graph.NodeRule.{NodeRule}
 use Rattle.chain_plain.specs.Plans.{makers_of}
+use Rattle.edge_traits.specs.Files.{Files}
 use Rattle.flow_journal.specs.Setting.{Setting, node, is_node}
 use Rattle.flow_journal.specs.Pasts.{Past, minus}
 use Rattle.flow_journal.specs.Puts.{puts}
@@ -72,14 +73,14 @@ module _ (g : Graph) (stack : StackValue) (sound : IsGraph g) (prefix : List ℕ
 
 -- COUNTS
 
-pub step-first : (fault : Bool) (count : ℕ) → CountsStep fault fault count count
-step-first true count = (refl, refl)
-step-first false count = refl
+pub step-first : (fault : Bool) (count : ℕ) (held : Option Files) → CountsStep fault fault count count held held
+step-first true count held = (refl, refl, refl)
+step-first false count held = refl
 
-pub step-then : (old mid new : Bool) (first before now : ℕ) → CountsStep old mid first before → CountsStep mid new before now → CountsStep old new first now
-step-then true mid new first before now h step = after mid h.0 step
+pub step-then : (old mid new : Bool) (first before now : ℕ) (then_held held held_now : Option Files) → CountsStep old mid first before then_held held → CountsStep mid new before now held held_now → CountsStep old new first now then_held held_now
+step-then true mid new first before now then_held held held_now h step = after mid h.0 step
   where
-    after : (m : Bool) → m ≡ true → CountsStep m new before now → CountsStep true new first now
-    after true is st = (st.0, st.1 ∙ h.1)
+    after : (m : Bool) → m ≡ true → CountsStep m new before now held held_now → CountsStep true new first now then_held held_now
+    after true is st = (st.0, st.1 ∙ h.1, st.2 ∙ h.2)
     after false is st = let clash : false ≡ true = is in absurd (cc)
-step-then false mid new first before now h step = counts-then mid new first before now h step
+step-then false mid new first before now then_held held held_now h step = counts-then mid new first before now held held_now h step

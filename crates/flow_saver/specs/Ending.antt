@@ -48,8 +48,8 @@ pub record IsTornHistory (g : Graph) (stack : StackValue) (prefix : List ℕ) (P
   pub whole : (v i : ℕ) (n : NodeRule) (r : FileRule) → rule_at g.nodes v ≡ Some n → n.kind ≡ File r → (v ≢ node) ⊎ (i ≢ group) → length (group_of r.count i (written v)) ≡ r.count
       → HasFile held (group_name prefix n.name i) (layout (file_shape g stack v) (group_of r.count i (written v)))
 
--- an end that comes after a fault leaves the shelf's count, and any other answers a fault where the count rose, and nowhere else
-abbrev pub CountsEnd : {T : Type 0} → (fault : Bool) → Result T SaveFault → (before now : ℕ) → Type 0
-CountsEnd true (Ok x) before now = ⊥
-CountsEnd true (Err e) before now = now ≡ before
-CountsEnd false result before now = IsSaveCause result before now
+-- An end that comes after a fault changes nothing on the shelf, and any other answers a fault where the count rose, and nowhere else.
+abbrev pub CountsEnd : {T : Type 0} → (fault : Bool) → Result T SaveFault → (before now : ℕ) → (held held_now : Option Files) → Type 0
+CountsEnd true (Ok x) before now held held_now = ⊥
+CountsEnd true (Err e) before now held held_now = (now ≡ before) × (held_now ≡ held)
+CountsEnd false result before now held held_now = IsSaveCause result before now

@@ -185,7 +185,7 @@ abbrev pub RoleLeaves : (g : Graph) (stack : StackValue) (start : Start) (r : �
 RoleLeaves g stack start r None p xs fault held = IsSaving g stack start r p xs fault held
 RoleLeaves g stack start r (Some due) p xs fault held = HasUnsaved g stack start r p xs fault held due
 
--- a fault is answered where the shelf's count rose, and nowhere else
-abbrev pub CountsStep : (old new : Bool) → (before now : ℕ) → Type 0
-CountsStep true new before now = (new ≡ true) × (now ≡ before)
-CountsStep false new before now = CountsSo new before now
+-- A fault is answered where the shelf's count rose, and nowhere else. After one nothing changes on the shelf any more.
+abbrev pub CountsStep : (old new : Bool) → (before now : ℕ) → (held held_now : Option Files) → Type 0
+CountsStep true new before now held held_now = (new ≡ true) × (now ≡ before) × (held_now ≡ held)
+CountsStep false new before now held held_now = CountsSo new before now

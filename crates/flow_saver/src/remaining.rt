@@ -76,7 +76,7 @@ fn save_next<R: Run, B: BoardCalls<Frame<R>>, K: Shelf>(
     ensures moves { RestMoves (run_setting R.graph R.stack) (B.shown board.old) (B.shown board.new) }
     ensures legal { is_history (run_setting R.graph R.stack) (past (B.shown board.new)) ≡ true }
     ensures nodes { map closed files.new ≡ map closed files.old }
-    ensures cause { CountsStep fault.old fault.new (K.faults shelf.old) (K.faults shelf.new) }
+    ensures cause { CountsStep fault.old fault.new (K.faults shelf.old) (K.faults shelf.new) (K.held shelf.old) (K.held shelf.new) }
 {
     let node = files.node(at);
     match board.save(role, node) {
@@ -133,7 +133,7 @@ fn save_all<R: Run, B: BoardCalls<Frame<R>>, K: Shelf>(
     ensures moves { RestMoves (run_setting R.graph R.stack) (B.shown board.old) (B.shown board.new) }
     ensures legal { is_history (run_setting R.graph R.stack) (past (B.shown board.new)) ≡ true }
     ensures nodes { map closed files.new ≡ map closed files.old }
-    ensures cause { CountsStep fault.old fault.new (K.faults shelf.old) (K.faults shelf.new) }
+    ensures cause { CountsStep fault.old fault.new (K.faults shelf.old) (K.faults shelf.new) (K.held shelf.old) (K.held shelf.new) }
 {
     'pieces: loop {
         match save_next(alloc, board, role, shelf, stack, files, fault, at) {
@@ -172,7 +172,7 @@ pub fn save_rest<R: Run, B: BoardCalls<Frame<R>>, K: Shelf>(
         → IsSavingAlone R.graph R.stack prefix before (B.shown board.new) files.new fault.new (K.held shelf.new)) }
     ensures moves { RestMoves (run_setting R.graph R.stack) (B.shown board.old) (B.shown board.new) }
     ensures legal { is_history (run_setting R.graph R.stack) (past (B.shown board.new)) ≡ true }
-    ensures cause { CountsStep fault.old fault.new (K.faults shelf.old) (K.faults shelf.new) }
+    ensures cause { CountsStep fault.old fault.new (K.faults shelf.old) (K.faults shelf.new) (K.held shelf.old) (K.held shelf.new) }
 {
     for at in 0..files.count() {
         save_all(alloc, board, role, shelf, stack, files, fault, at)?;
@@ -206,7 +206,7 @@ pub fn save_left<R: Run, B: BoardCalls<Frame<R>>, K: Shelf>(
         → IsSavingAlone R.graph R.stack prefix before (B.shown board.new) files.new fault.new (K.held shelf.new)) }
     ensures moves { RestMoves (run_setting R.graph R.stack) (B.shown board.old) (B.shown board.new) }
     ensures legal { is_history (run_setting R.graph R.stack) (past (B.shown board.new)) ≡ true }
-    ensures cause { CountsStep fault.old fault.new (K.faults shelf.old) (K.faults shelf.new) }
+    ensures cause { CountsStep fault.old fault.new (K.faults shelf.old) (K.faults shelf.new) (K.held shelf.old) (K.held shelf.new) }
 {
     write_due(alloc, shelf, stack, files, fault, &due)?;
     return_piece::<R, B>(board, role, files, *fault, due.piece);

@@ -23,7 +23,7 @@ loop-at-init g c =
       moves = rest-none s b b refl;
       legal = h.1.1.legal;
       nodes = refl;
-      cause = step-first c.args.fault.now (g.K.Shelf.faults c.args.shelf.now);
+      cause = step-first c.args.fault.now (g.K.Shelf.faults c.args.shelf.now) (g.K.Shelf.held c.args.shelf.now);
     }
 
 pub save_all-requires-clause-at : goal.save_all-requires-clause-at
@@ -82,7 +82,7 @@ loop-at-preserved g c =
       moves = rest-on s b here new inv.moves ok.moves;
       legal = ok.legal;
       nodes = ok.nodes ∙ inv.nodes;
-      cause = step-then c.args.fault.now c.loop-at.fault c.save_all.new.fault (g.K.Shelf.faults c.args.shelf.now) (g.K.Shelf.faults c.loop-at.shelf) (g.K.Shelf.faults c.save_all.new.shelf) inv.cause ok.cause;
+      cause = step-then c.args.fault.now c.loop-at.fault c.save_all.new.fault (g.K.Shelf.faults c.args.shelf.now) (g.K.Shelf.faults c.loop-at.shelf) (g.K.Shelf.faults c.save_all.new.shelf) (g.K.Shelf.held c.args.shelf.now) (g.K.Shelf.held c.loop-at.shelf) (g.K.Shelf.held c.save_all.new.shelf) inv.cause ok.cause;
     }
 
 pub returns-in_err-save_all-clause-moves : goal.returns-in_err-save_all-clause-moves
@@ -106,7 +106,7 @@ returns-in_err-save_all-clause-cause g c =
     let b = g.B.BoardCalls.shown c.args.board.now in
     let inv = c.loop-at.invariant in
     let here = g.B.BoardCalls.shown c.loop-at.board in
-    step-then c.args.fault.now c.loop-at.fault c.save_all.new.fault (g.K.Shelf.faults c.args.shelf.now) (g.K.Shelf.faults c.loop-at.shelf) (g.K.Shelf.faults c.save_all.new.shelf) inv.cause c.in_err-save_all.ensures.cause
+    step-then c.args.fault.now c.loop-at.fault c.save_all.new.fault (g.K.Shelf.faults c.args.shelf.now) (g.K.Shelf.faults c.loop-at.shelf) (g.K.Shelf.faults c.save_all.new.shelf) (g.K.Shelf.held c.args.shelf.now) (g.K.Shelf.held c.loop-at.shelf) (g.K.Shelf.held c.save_all.new.shelf) inv.cause c.in_err-save_all.ensures.cause
 
 pub returns-clause-finished : goal.returns-clause-finished
 returns-clause-finished g c =

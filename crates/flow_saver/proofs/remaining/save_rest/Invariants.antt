@@ -22,5 +22,5 @@ invariant-loop-at g l =
       moves : RestMoves (run_setting g.R.Run.graph g.R.Run.stack) (g.B.BoardCalls.shown l.fn.board) (g.B.BoardCalls.shown l.board);
       legal : is_history (run_setting g.R.Run.graph g.R.Run.stack) (past (g.B.BoardCalls.shown l.board)) ≡ true;
       nodes : map closed l.files ≡ map closed l.fn.files;
-      cause : CountsStep l.fn.fault l.fault (g.K.Shelf.faults l.fn.shelf) (g.K.Shelf.faults l.shelf);
+      cause : CountsStep l.fn.fault l.fault (g.K.Shelf.faults l.fn.shelf) (g.K.Shelf.faults l.shelf) (g.K.Shelf.held l.fn.shelf) (g.K.Shelf.held l.shelf);
     }

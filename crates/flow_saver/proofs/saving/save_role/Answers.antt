@@ -83,7 +83,7 @@ loop-preserved-in-Nothing g c =
       first = inv.first;
       named = inv.named;
       saving = c.in-Nothing.ensures.leaves inv.start still;
-      cause = counts-then c.loop.fault c.save_turn.new.fault _ (g.K.Shelf.faults c.loop.shelf) _ inv.cause c.save_turn.ensures.cause;
+      cause = counts-then c.loop.fault c.save_turn.new.fault _ (g.K.Shelf.faults c.loop.shelf) _ (g.K.Shelf.held c.loop.shelf) (g.K.Shelf.held c.save_turn.new.shelf) inv.cause c.save_turn.ensures.cause;
     }
 
 pub loop-preserved : goal.loop-preserved
@@ -99,7 +99,7 @@ loop-preserved g c =
       first = inv.first;
       named = inv.named;
       saving = c.in-Wrote.ensures.leaves inv.start still;
-      cause = counts-then c.loop.fault c.save_turn.new.fault _ (g.K.Shelf.faults c.loop.shelf) _ inv.cause c.save_turn.ensures.cause;
+      cause = counts-then c.loop.fault c.save_turn.new.fault _ (g.K.Shelf.faults c.loop.shelf) _ (g.K.Shelf.held c.loop.shelf) (g.K.Shelf.held c.save_turn.new.shelf) inv.cause c.save_turn.ensures.cause;
     }
 
 pub returns-in-Wants-clause-role : goal.returns-in-Wants-clause-role
@@ -153,7 +153,7 @@ returns-in-Wants-clause-fault g c =
     let stack = g.R.Run.stack in
     let inv = c.loop.invariant in
     let still = saving-still gr stack inv.start c.args.role _ _ (g.D.Desk.knows c.loop.pass) (g.D.Desk.knows c.progress-progress.new.pass) c.loop.files c.loop.fault (g.K.Shelf.held c.loop.shelf) inv.saving c.progress-progress.ensures.called c.progress-progress.ensures.called.answer.1 in
-    counts-then c.loop.fault c.save_turn.new.fault _ (g.K.Shelf.faults c.loop.shelf) _ inv.cause c.save_turn.ensures.cause
+    counts-then c.loop.fault c.save_turn.new.fault _ (g.K.Shelf.faults c.loop.shelf) _ (g.K.Shelf.held c.loop.shelf) (g.K.Shelf.held c.save_turn.new.shelf) inv.cause c.save_turn.ensures.cause
 
 pub returns-then-progress-clause-leaves : goal.returns-then-progress-clause-leaves
 returns-then-progress-clause-leaves g c =
