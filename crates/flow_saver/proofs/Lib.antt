@@ -20,3 +20,4 @@ pub mod BegunBytes
 pub mod TornHistory
 pub mod RestLoops
 pub mod TornEnd
+pub mod ReadBack

@@ -36,7 +36,8 @@ use Rattle.chain_plain.specs.Passing.{out_of}
 use Rattle.chain_plain.specs.Plans.{makers_of, region_shape, stack_shape, shape_at}
 use Rattle.chain_plain.proofs.Found.{maker_of_other}
 use Rattle.chain_plain.proofs.Rules.{stands}
-use Rattle.flow_journal.specs.Setting.{node, is_maker, makes}
+use Rattle.graph_conf.specs.Loads.{limit_fault}
+use Rattle.flow_journal.specs.Setting.{makes}
 use Rattle.flow_journal.specs.Pasts.{Past}
 use Rattle.flow_journal.specs.Puts.{puts}
 use Rattle.flow_journal.specs.Histories.{is_legal, is_history}

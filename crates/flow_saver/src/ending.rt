@@ -10,6 +10,7 @@ ghost use Rattle.board_rules.specs.States.{past};
 ghost use Rattle.board_rules.specs.RunMeasures.{run_setting};
 ghost use Rattle.flow_saver.specs.Ending.{IsTornHistory, CountsEnd};
 ghost use Rattle.flow_saver.specs.HistoryFiles.{HoldsGroupsOf, RowsComplete};
+ghost use Rattle.flow_saver.specs.ReadBack.{GroupsReadBack};
 ghost use Rattle.flow_saver.specs.Remaining.{IsSavingAlone};
 
 use board_rules::BoardCalls;
@@ -53,4 +54,9 @@ pub fn end_files<R: Run, B: BoardCalls<Frame<R>>, K: Shelf>(
 /// The groups' files and then the rows are the files of the history.
 pub fn rows_complete_the_files()
     ensures { RowsComplete }
+{}
+
+/// Each group of a history reads back from its file as its arrays, where no limit refuses the run.
+pub fn groups_read_back()
+    ensures { GroupsReadBack }
 {}

@@ -6,7 +6,7 @@ mod piece;
 mod remaining;
 mod saving;
 
-pub use ending::{end_files, rows_complete_the_files};
+pub use ending::{end_files, groups_read_back, rows_complete_the_files};
 pub use piece::{DuePiece, write_piece};
 pub use remaining::{files_go_on, save_left, save_rest};
 pub use saving::{SaveEnd, save_role};
