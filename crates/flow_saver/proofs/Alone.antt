@@ -1,10 +1,6 @@
 -- A call of the board as a call of the last role, which has the board alone.
-use Rattle.std.proofs.Common.{◌≡◌, ℕ, true, List, [], ◌∷◌, ◌++◌, length, refl, sym, ap, subst, ◌∙◌, Option, Some, None, Result, Ok, Err}
-use Rattle.std.specs.Prelude.{IsTrue, IsSome}
-use Rattle.nd_base.specs.Array.{StackValue}
-use Rattle.nd_base.specs.declared.frame.FrameName.{FrameName}
-use Rattle.nd_base.specs.declared.graph.Graph.{Graph}
-use Rattle.nd_base.specs.declared.measure.Measure.{Measure}
+use Rattle.std.proofs.Common.{◌≡◌, ℕ, true, List, [], ◌++◌, length, refl, ap, ◌∙◌, None, Result}
+use Rattle.std.specs.Prelude.{IsTrue}
 use Rattle.frame_store.specs.Sealed.{Sealed}
 use Rattle.flow_journal.specs.Setting.{Setting, last_role, is_node}
 use Rattle.flow_journal.specs.Histories.{is_history}
@@ -13,17 +9,13 @@ use Rattle.board_rules.specs.declared.answers.NotYours.{NotYours}
 use Rattle.board_rules.specs.States.{BoardState, past}
 use Rattle.board_rules.specs.Movers.{moves_by, IsMoveOf}
 use Rattle.board_rules.specs.Runs.{Frames}
-use Rattle.board_rules.specs.RunMeasures.{run_setting}
 use Rattle.board_rules.specs.Saving.{SaveGives, SavedGives, MaySaved}
 use Rattle.board_rules.proofs.Moves.{moves-added}
 use Rattle.flow_roles.specs.declared.last.Last.TheVariants.{Other}
-use Rattle.flow_roles.specs.declared.operation.DeskOp.{DeskOp}
 use Rattle.flow_roles.specs.declared.operation.DeskOp.TheVariants as op
-use Rattle.flow_roles.specs.declared.operation.DeskReply.{DeskReply}
 use Rattle.flow_roles.specs.declared.operation.DeskReply.TheVariants as reply
-use Rattle.flow_roles.specs.Passes.{Pass, Called, only_drain_saves}
+use Rattle.flow_roles.specs.Passes.{Called, only_drain_saves}
 use Rattle.flow_roles.specs.Feeder.{name_of, parts_of}
-use Rattle.flow_roles.specs.Operations.{role_of, MayPlay, Replies}
 use Rattle.flow_roles.proofs.Playing.{replies_are_moves}
 use Rattle.flow_saver.specs.Remaining.{alone}
 

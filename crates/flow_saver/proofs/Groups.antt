@@ -1,6 +1,6 @@
 -- The file nodes of a graph and their names, and that the files of a finished log are whole groups.
-use Rattle.std.proofs.Common.{◌≡◌, ◌≢◌, ℕ, zero, suc, ◌+◌, ◌*◌, ◌/◌, ◌%◌, ◌<◌, ◌≤◌, Bool, true, false, ◌&&◌, eqb, List, [], ◌∷◌, ◌++◌, length, map, refl, sym, ap, subst, ◌∙◌, arith, inl, inr, Option, Some, None}
-use Rattle.std.specs.Prelude.{slice_get, codes, IsSome, is_some}
+use Rattle.std.proofs.Common.{◌≡◌, ℕ, zero, suc, ◌+◌, ◌/◌, ◌%◌, ◌<◌, ◌≤◌, Bool, true, false, ◌&&◌, eqb, List, [], ◌∷◌, ◌++◌, length, map, refl, sym, ap, subst, ◌∙◌, arith, inl, inr, Option, Some, None}
+use Rattle.std.specs.Prelude.{slice_get, IsSome, is_some}
 use Rattle.std.specs.List.{list_all}
 use Rattle.std.specs.Option.{option_map, ForSome}
 use Rattle.std.proofs.Math.Nat.{mod-lt}
@@ -22,14 +22,14 @@ use Rattle.flow_journal.specs.Accounts.{arrays_at}
 use Rattle.flow_journal.specs.Queued.{queued}
 use Rattle.flow_journal.specs.Waiting.{Waiting, waiting}
 use Rattle.flow_journal.specs.Rings.{ring}
-use Rattle.flow_journal.specs.Setting.{Setting, Node, node, is_node, last_role, numbers_from, node_numbers}
+use Rattle.flow_journal.specs.Setting.{Setting, Node, is_node, last_role, numbers_from, node_numbers}
 use Rattle.flow_journal.specs.Pasts.{Past}
 use Rattle.flow_journal.specs.Ended.{is_closed, is_settled}
 use Rattle.flow_journal.specs.Offered.{next_index}
 use Rattle.flow_journal.specs.Hands.{hands}
 use Rattle.flow_journal.specs.Puts.{puts}
 use Rattle.flow_journal.specs.Finished.{none_left, is_done, is_finished}
-use Rattle.flow_journal.specs.Histories.{is_legal, is_history}
+use Rattle.flow_journal.specs.Histories.{is_legal}
 use Rattle.flow_journal.specs.Unsaved.{unsaved, standing_saves, is_file}
 use Rattle.flow_journal.proofs.Dues.{due_laws}
 use Rattle.board_rules.specs.States.{BoardState, past}

@@ -1,5 +1,5 @@
 -- The groups of a history keep to what a stack keeps to, and so read back.
-use Rattle.std.proofs.Common.{◌≡◌, ◌≢◌, ℕ, suc, ◌*◌, ◌≤◌, true, List, [], ◌∷◌, ◌++◌, length, min, take, drop, get_or, refl, sym, ap, subst, ◌∙◌, arith, Option, None, Some}
+use Rattle.std.proofs.Common.{◌≡◌, ◌≢◌, ℕ, suc, ◌*◌, ◌≤◌, true, List, [], ◌∷◌, length, min, take, drop, refl, sym, ap, subst, ◌∙◌, arith, Option, None, Some}
 use Rattle.std.specs.Prelude.{slice_get, ℤ, pos, negsuc, ◌+ℤ◌, ◌*ℤ◌, All, FitsSigned}
 use Rattle.std.specs.Int.{w32, int_min}
 use Rattle.std.specs.Option.{option_map}
@@ -9,7 +9,7 @@ use Rattle.std.proofs.lemmas.List.{length-append, length-map, length-take, lengt
 use Rattle.std.proofs.lemmas.List.Elements.{All-nil, All-cons, All-head, All-tail, All-take, All-drop, All-map, All-append}
 use Rattle.std.proofs.lemmas.Option.{get_or_from_slice_get, slice_get_within}
 use Rattle.nd_base.specs.Array.{Array, StackValue}
-use Rattle.nd_base.specs.GraphRules.{IsGraph, IsKind, IsFile, makes_arrays, rule_at}
+use Rattle.nd_base.specs.GraphRules.{IsGraph, makes_arrays, rule_at}
 use Rattle.nd_base.specs.Places.{indices, sizes_of}
 use Rattle.nd_base.specs.SampleLaws.{IsSample}
 use Rattle.nd_base.specs.declared.array.Dim.{Dim}
@@ -23,7 +23,6 @@ use Rattle.nd_base.specs.declared.graph.RoiRule.{RoiRule}
 use Rattle.nd_roi.specs.Cut.{clamped_i32, cut, cut_dim, dims_from, region_dims}
 use Rattle.nd_roi.specs.Region.{out_type, region}
 use Rattle.nd_roi.specs.RegionLaws.{reduced-IsSample}
-use Rattle.cdf_write.specs.Lengths.{length_of, longest}
 use Rattle.cdf_write.specs.Writable.{HasShape}
 use Rattle.nd_stack.specs.KeptStacks.{IsKeptStack, IsKeptStack-ReadsBack}
 use Rattle.nd_stack.specs.RoundTrip.{IsKept, ReadsBack}
@@ -35,7 +34,6 @@ use Rattle.chain_plain.specs.OneThread.{listed}
 use Rattle.chain_plain.specs.Passing.{out_of}
 use Rattle.chain_plain.specs.Plans.{makers_of, region_shape, stack_shape, shape_at}
 use Rattle.chain_plain.proofs.Found.{maker_of_other}
-use Rattle.chain_plain.proofs.Rules.{stands}
 use Rattle.graph_conf.specs.Loads.{limit_fault}
 use Rattle.flow_journal.specs.Setting.{makes}
 use Rattle.flow_journal.specs.Pasts.{Past}

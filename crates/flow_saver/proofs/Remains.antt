@@ -1,5 +1,5 @@
 -- One save of the last role on a board that it has alone.
-use Rattle.std.proofs.Common.{◌≡◌, ◌≢◌, ℕ, suc, ◌+◌, ◌<◌, ◌≤◌, Bool, true, false, List, [], ◌∷◌, ◌++◌, length, map, refl, sym, ap, subst, ◌∙◌, arith, Option, Some, None, Result, Ok, Err}
+use Rattle.std.proofs.Common.{◌≡◌, ◌≢◌, ℕ, suc, ◌<◌, ◌≤◌, Bool, true, List, [], ◌∷◌, length, refl, sym, ap, subst, ◌∙◌, arith, Option, Some, Ok, Err}
 use Rattle.std.specs.Prelude.{slice_get, IsTrue}
 use Rattle.std.proofs.lemmas.Bool.{eq-eqb}
 use Rattle.nd_base.specs.Array.{StackValue}
@@ -10,31 +10,29 @@ use Rattle.frame_store.specs.Sealed.{Sealed}
 use Rattle.flow_journal.specs.declared.entry.Entry.{Entry}
 use Rattle.flow_journal.specs.declared.entry.Entry.TheVariants as entry
 use Rattle.flow_journal.specs.Setting.{Setting, last_role, is_node}
-use Rattle.flow_journal.specs.Pasts.{Past}
 use Rattle.flow_journal.specs.Hands.{hand}
-use Rattle.flow_journal.specs.Histories.{is_legal, is_history}
+use Rattle.flow_journal.specs.Histories.{is_history}
 use Rattle.flow_journal.specs.Unsaved.{unsaved}
 use Rattle.flow_journal.proofs.Changes.{hand_laws}
 use Rattle.board_rules.specs.declared.answers.NotYours.{NotYours}
 use Rattle.board_rules.specs.declared.answers.Save.TheVariants.{Busy, NotYet, Piece}
-use Rattle.board_rules.specs.declared.told.Told.{Told}
-use Rattle.board_rules.specs.States.{BoardState, past, plain, lends, lent_to}
+use Rattle.board_rules.specs.States.{BoardState, past, plain, lends}
 use Rattle.board_rules.specs.InHand.{hand_node}
 use Rattle.board_rules.specs.RunMeasures.{run_setting}
 use Rattle.board_rules.specs.Saving.{SaveGives, SavedGives, MaySaved}
 use Rattle.board_rules.proofs.Moves.{moves-tell}
 use Rattle.flow_roles.specs.declared.last.Last.TheVariants.{Other}
-use Rattle.flow_roles.specs.Passes.{Pass, Called}
+use Rattle.flow_roles.specs.Passes.{Pass}
 use Rattle.flow_roles.specs.Feeder.{name_of, parts_of}
 use Rattle.flow_drain.specs.Drains.{IsDrained}
 use Rattle.graph_files.specs.NodeFiles.{NodeFile}
 use Rattle.flow_saver.specs.declared.piece.DuePiece.{DuePiece}
-use Rattle.flow_saver.specs.Saver.{Start, IsSaving, HasUnsaved, IsToGiveBack, back_of}
+use Rattle.flow_saver.specs.Saver.{Start, HasUnsaved, IsToGiveBack, back_of}
 use Rattle.flow_saver.specs.Remaining.{alone, RestMoves, IsSavingAlone, HasUnsavedAlone, IsToGiveBackAlone}
 use Rattle.flow_saver.proofs.Alone.{Adds, saves-add, saveds-add, called-alone}
-use Rattle.flow_saver.proofs.Answers.{Given, piece-given, not_yet-still}
+use Rattle.flow_saver.proofs.Answers.{piece-given, not_yet-still}
 use Rattle.flow_saver.proofs.Giving.{never-refused, given-back}
-use Rattle.flow_saver.proofs.Resting.{drained-after, others-after, nothing-left, rest-one, rest-none, rest-on}
+use Rattle.flow_saver.proofs.Resting.{drained-after, others-after, nothing-left, rest-one, rest-on}
 use Rattle.flow_saver.proofs.SaveOne.{one-node, one-busy, one-taken}
 
 -- GIVING BACK

@@ -1,5 +1,5 @@
 -- The loops over what is left to save.
-use Rattle.std.proofs.Common.{◌≡◌, ◌≢◌, ℕ, Bool, true, false, List, [], ◌∷◌, length, map, refl, sym, ap, subst, ◌∙◌, Option, Some, None}
+use Rattle.std.proofs.Common.{◌≡◌, ◌≢◌, ℕ, Bool, true, false, List, [], length, map, refl, sym, ap, subst, ◌∙◌, Option, Some, None}
 use Rattle.std.specs.Prelude.{slice_get, if◌then◌else◌}
 use Rattle.std.specs.Option.{option_map}
 use Rattle.std.proofs.lemmas.List.{length-map}
@@ -12,13 +12,12 @@ use Rattle.nd_base.specs.declared.graph.Kind.TheVariants.{Roi, Stats, Circular, 
 use Rattle.nd_base.specs.declared.graph.NodeRule.{NodeRule}
 use Rattle.chain_plain.specs.Plans.{makers_of}
 use Rattle.edge_traits.specs.Files.{Files}
-use Rattle.flow_journal.specs.Setting.{Setting, node, is_node}
+use Rattle.flow_journal.specs.Setting.{Setting, node}
 use Rattle.flow_journal.specs.Pasts.{Past, minus}
 use Rattle.flow_journal.specs.Puts.{puts}
 use Rattle.flow_journal.specs.Finished.{is_finished}
 use Rattle.flow_journal.specs.Unsaved.{unsaved, standing_saves, is_file}
 use Rattle.board_rules.specs.RunMeasures.{run_setting}
-use Rattle.board_rules.specs.States.{BoardState, past}
 use Rattle.run_laws.proofs.Runs.{known}
 use Rattle.flow_roles.proofs.Named.{node-rule}
 use Rattle.flow_drain.specs.Drains.{IsDrained}
@@ -27,7 +26,7 @@ use Rattle.graph_files.specs.OpenFiles.{closed, file_nodes}
 use Rattle.graph_files.specs.OpenFileLaws.{file_nodes-apart}
 use Rattle.flow_saver.specs.Saver.{CountsStep}
 use Rattle.flow_saver.proofs.Counting.{counts-then}
-use Rattle.flow_saver.proofs.Groups.{FilesAt, open-files-of}
+use Rattle.flow_saver.proofs.Groups.{open-files-of}
 use Rattle.flow_saver.proofs.Resting.{finished-by}
 
 -- WHICH NODES

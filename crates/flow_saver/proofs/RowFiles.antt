@@ -1,5 +1,5 @@
 -- The files of rows, written one after the other.
-use Rattle.std.proofs.Common.{◌≡◌, ◌≢◌, ℕ, zero, suc, ◌+◌, ◌<◌, List, [], ◌∷◌, ◌++◌, length, get_or, refl, sym, ap, subst, ◌∙◌, arith, Option, Some, None}
+use Rattle.std.proofs.Common.{◌≡◌, ◌≢◌, ℕ, zero, suc, ◌+◌, ◌<◌, List, [], ◌∷◌, get_or, refl, sym, ap, subst, ◌∙◌, arith, Option, Some, None}
 use Rattle.std.specs.Prelude.{slice_get, AllPairs}
 use Rattle.std.proofs.lemmas.Option.{get_or_from_slice_get, slice_get_within, same_Some}
 use Rattle.nd_base.specs.Array.{StackValue}
@@ -13,8 +13,8 @@ use Rattle.graph_files.specs.BegunLaws.{with_files-append}
 use Rattle.graph_files.specs.NameLaws.{stats-differ, stats_names-differ}
 use Rattle.graph_files.specs.NodeFiles.{Wrote}
 use Rattle.graph_files.specs.NodeFileLaws.{changed-HasBytes}
-use Rattle.graph_files.specs.OutFiles.{OutFile, group_name, stats_name, with_files}
-use Rattle.flow_saver.specs.HistoryFiles.{kind_group, kind_rows, IsFileOf, Group, Rows, HoldsGroupsOf, HoldsFilesOf, RowsComplete, rows_file, rows_from, rows_files}
+use Rattle.graph_files.specs.OutFiles.{group_name, stats_name, with_files}
+use Rattle.flow_saver.specs.HistoryFiles.{kind_rows, IsFileOf, Group, Rows, HoldsGroupsOf, HoldsFilesOf, RowsComplete, rows_file, rows_from, rows_files}
 
 rules-apart : (ns : List NodeRule) → AllPairs (λ (m n : NodeRule). m.name ≢ n.name) ns → (j k : ℕ) (m n : NodeRule) → slice_get ns j ≡ Some m → slice_get ns k ≡ Some n → j < k → m.name ≢ n.name
 rules-apart ns pairs j k m n hm hn below =

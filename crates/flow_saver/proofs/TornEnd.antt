@@ -1,5 +1,5 @@
 -- What stands after a fault in the end of the files, by the finished log.
-use Rattle.std.proofs.Common.{◌≡◌, ◌≢◌, ◌⊎◌, ℕ, zero, suc, ◌+◌, ◌*◌, ◌/◌, ◌^◌, ◌<◌, ◌≤◌, Bool, true, false, List, [], ◌∷◌, ◌++◌, length, drop, map, refl, sym, ap, subst, ◌∙◌, arith, inl, inr, Option, Some, None}
+use Rattle.std.proofs.Common.{◌≡◌, ◌≢◌, ◌⊎◌, ℕ, zero, suc, ◌+◌, ◌≤◌, Bool, true, false, List, [], ◌∷◌, length, map, refl, sym, ap, subst, ◌∙◌, arith, inl, inr, Option, Some, None}
 use Rattle.std.specs.Prelude.{slice_get, IsSome, is_some}
 use Rattle.std.proofs.lemmas.Option.{same_Some}
 use Rattle.std.proofs.lemmas.List.{append-nil}
@@ -178,10 +178,10 @@ module _ (g : Graph) (stack : StackValue) (sound : IsGraph g) (prefix : List ℕ
           sym (groups.group-is g stack sound prefix before b xs false held h f.at x f.listed n i f.rule) ∙ ap (λ (w : ℕ). kind_group g stack (past b) w n.kind i) f.node ∙ is in
           let final = whole-bytes x.shape (group_of x.count i (F x.node)) bytes file_ in
           at-by (is_stream r.mode) bytes (group_name prefix n.name i) (λ told.
-              subst (λ (name : List ℕ). IsBegunAs (is_stream r.mode) bytes (file_at before name) (file_at now name)) (f.named i)
-              (subst (λ (late : Bool). IsBegunAs late bytes (file_at before (name_of x i)) (file_at now (name_of x i))) f.late
-              (subst (λ (w : List ℕ). IsBegunAs x.late w (file_at before (name_of x i)) (file_at now (name_of x i))) (sym final.0)
-              (each-goal told f.at x f.listed i final.1)))) now refl;
+          subst (λ (name : List ℕ). IsBegunAs (is_stream r.mode) bytes (file_at before name) (file_at now name)) (f.named i)
+          (subst (λ (late : Bool). IsBegunAs late bytes (file_at before (name_of x i)) (file_at now (name_of x i))) f.late
+          (subst (λ (w : List ℕ). IsBegunAs x.late w (file_at before (name_of x i)) (file_at now (name_of x i))) (sym final.0)
+          (each-goal told f.at x f.listed i final.1)))) now refl;
       others = λ q away. e.stops.0.others q
           (not-named q away e.at node e.listed torn (open-long e.at node e.listed torn (torn-some node.current refl e.stops.1)))
           (λ k y l at_y named.

@@ -1,5 +1,5 @@
 -- What stands after a fault of the shelf, by the finished log.
-use Rattle.std.proofs.Common.{◌≡◌, ◌≢◌, ◌⊎◌, ℕ, zero, suc, ◌+◌, ◌-◌, ◌*◌, ◌/◌, ◌%◌, ◌^◌, ◌<◌, ◌≤◌, Bool, true, false, eqb, List, [], ◌∷◌, ◌++◌, length, drop, map, refl, sym, ap, subst, ◌∙◌, arith, inl, inr, Option, Some, None}
+use Rattle.std.proofs.Common.{◌≡◌, ◌≢◌, ◌⊎◌, ℕ, ◌*◌, ◌/◌, ◌%◌, ◌^◌, ◌<◌, ◌≤◌, Bool, true, false, eqb, List, [], ◌∷◌, ◌++◌, length, drop, map, refl, sym, ap, subst, ◌∙◌, arith, inl, inr, Option, Some, None}
 use Rattle.std.specs.Prelude.{slice_get, IsSome, is_some, if◌then◌else◌}
 use Rattle.std.specs.Option.{option_map}
 use Rattle.std.proofs.Math.Nat.{mod-lt, mul-le-mul}
@@ -11,9 +11,7 @@ use Rattle.nd_base.specs.Array.{Array, StackValue}
 use Rattle.nd_base.specs.GraphRules.{IsGraph, rule_at}
 use Rattle.nd_base.specs.declared.attribute.FileShape.{FileShape}
 use Rattle.nd_base.specs.declared.frame.FrameName.{FrameName}
-use Rattle.nd_base.specs.declared.graph.FileRule.{FileRule}
 use Rattle.nd_base.specs.declared.graph.Graph.{Graph}
-use Rattle.nd_base.specs.declared.graph.Kind.TheVariants.{File}
 use Rattle.nd_base.specs.declared.graph.NodeRule.{NodeRule}
 use Rattle.edge_traits.specs.Files.{Files, HasFile, file_at}
 use Rattle.cdf_write.specs.Layout.{layout}
@@ -27,7 +25,6 @@ use Rattle.flow_journal.specs.Pasts.{Past, frame, comes_at}
 use Rattle.flow_journal.specs.Puts.{puts}
 use Rattle.flow_journal.specs.Histories.{is_legal}
 use Rattle.flow_journal.specs.Finished.{is_finished}
-use Rattle.flow_journal.specs.Unsaved.{standing_saves}
 use Rattle.board_rules.specs.States.{BoardState, past}
 use Rattle.board_rules.specs.Movers.{moves_by}
 use Rattle.board_rules.specs.RunMeasures.{run_setting}
@@ -45,7 +42,7 @@ use Rattle.flow_saver.specs.HistoryFiles.{kind_group}
 use Rattle.flow_saver.specs.Ending.{IsBegunAs, AsBefore, IsBegunAt, IsTornHistory}
 use Rattle.flow_saver.specs.Saver.{IsTornSince, IsFirstCount, back_of}
 use Rattle.flow_saver.specs.Remaining.{IsSavingAlone}
-use Rattle.flow_saver.proofs.BegunBytes.{IsCountOf, begun-front, begun-torn, begun-whole, group-front, group-full, group-long, GroupHas, Nothing, Whole, Opened, group-has, group-apart}
+use Rattle.flow_saver.proofs.BegunBytes.{IsCountOf, begun-front, begun-torn, begun-whole, group-front, group-full, GroupHas, Nothing, Whole, Opened, group-has, group-apart}
 use Rattle.flow_saver.proofs.Groups as groups
 use Rattle.flow_saver.proofs.Groups.{FilesOfRule, some-is}
 use Rattle.flow_saver.proofs.Puts.{puts-few}
@@ -166,10 +163,11 @@ module _ (g : Graph) (stack : StackValue) (sound : IsGraph g) (prefix : List ℕ
 
   back-then : (v : ℕ) → (rest : List Array) × (F v ≡ back v ++ rest)
   back-then v =
-      let m = given-more v t.later (back_of t.role t.node.node t.name ∷ t.front) in
-      (contents g.nodes stack.arrays m.0,
-      ap (λ (P : Past). written_by g stack P v) t.whole ∙ ap (λ (ns : List FrameName). contents g.nodes stack.arrays ns) m.1
-      ∙ contents-append g stack (given_back v (back_of t.role t.node.node t.name ∷ t.front)) m.0)
+      let m = given-more v t.later (back_of t.role t.node.node t.name ∷ t.front) in (
+        contents g.nodes stack.arrays m.0,
+        ap (λ (P : Past). written_by g stack P v) t.whole ∙ ap (λ (ns : List FrameName). contents g.nodes stack.arrays ns) m.1
+            ∙ contents-append g stack (given_back v (back_of t.role t.node.node t.name ∷ t.front)) m.0,
+      )
 
   -- the piece that the shelf failed on comes next at its node
   back-here : back t.node.node ≡ W t.node.node ++ t.array ∷ []
@@ -414,14 +412,14 @@ module _ (g : Graph) (stack : StackValue) (sound : IsGraph g) (prefix : List ℕ
         sym (groups.group-is g stack sound prefix before b xs true held h f.at x f.listed n i f.rule) ∙ ap (λ (w : ℕ). kind_group g stack (past b) w n.kind i) f.node ∙ is in
         let final = whole-bytes x.shape (group_of x.count i (F x.node)) bytes file_ in
         at-by (is_stream r.mode) bytes (group_name prefix n.name i) (λ told.
-            subst (λ (name : List ℕ). IsBegunAs (is_stream r.mode) bytes (file_at before name) (file_at held name)) (f.named i)
-            (subst (λ (late : Bool). IsBegunAs late bytes (file_at before (name_of x i)) (file_at held (name_of x i))) f.late
-            (subst (λ (w : List ℕ). IsBegunAs x.late w (file_at before (name_of x i)) (file_at held (name_of x i))) (sym final.0)
-            (each-goal told f.at x f.listed i (group-low kept f.at x f.listed i final.1))))) held refl;
+        subst (λ (name : List ℕ). IsBegunAs (is_stream r.mode) bytes (file_at before name) (file_at held name)) (f.named i)
+        (subst (λ (late : Bool). IsBegunAs late bytes (file_at before (name_of x i)) (file_at held (name_of x i))) f.late
+        (subst (λ (w : List ℕ). IsBegunAs x.late w (file_at before (name_of x i)) (file_at held (name_of x i))) (sym final.0)
+        (each-goal told f.at x f.listed i (group-low kept f.at x f.listed i final.1))))) held refl;
     others = λ q away. t.stops.0.others q
         (λ e. not-named q away t.at now-at.files now-at.listed t.group
-            (let Q : NodeFile → Type 0 = λ z. 1 ≤ length (group_of z.count t.group (F z.node)) in subst Q (sym now-at.same) torn-long)
-            (e ∙ ap (λ (z : NodeFile). name_of z t.group) (sym now-at.same)))
+        (let Q : NodeFile → Type 0 = λ z. 1 ≤ length (group_of z.count t.group (F z.node)) in subst Q (sym now-at.same) torn-long)
+        (e ∙ ap (λ (z : NodeFile). name_of z t.group) (sym now-at.same)))
         (λ k y l at_y named. not-named q away k y at_y l (now-long k y at_y l named));
     written = W;
     first = λ v. let r = fronts v in (r.0, sym (groups.written-is g stack sound prefix before b xs true held h v) ∙ r.1);

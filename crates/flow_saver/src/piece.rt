@@ -108,7 +108,9 @@ pub(crate) fn write_due<R: Run, K: Shelf>(
     if *fault {
         return Ok(());
     }
-    match write_piece(alloc, files, shelf, stack, due.at, &due.piece, due.group, due.place, due.of) {
+    match write_piece(
+        alloc, files, shelf, stack, due.at, &due.piece, due.group, due.place, due.of,
+    ) {
         Ok(()) => Ok(()),
         Err(SaveFault::Failed) => {
             *fault = true;

@@ -1,7 +1,4 @@
-use Rattle.std.proofs.Common.{◌≡◌, true, false, Bool, sym, subst, ◌∙◌}
-use Rattle.std.specs.Prelude.{Option}
-use Rattle.edge_traits.specs.Files.{Files}
-use Rattle.board_rules.specs.States.{past}
+use Rattle.std.proofs.Common.{Bool, subst}
 use Rattle.graph_files.proofs.Writes.{on-ok}
 use Rattle.graph_files.proofs.Ends.{on-err}
 use Rattle.flow_saver.specs.Remaining.{IsSavingAlone}

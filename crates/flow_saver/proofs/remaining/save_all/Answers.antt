@@ -1,4 +1,4 @@
-use Rattle.std.proofs.Common.{◌≡◌, ◌<◌, [], ℕ, Some, refl, sym, ap, subst, ◌∙◌, arith}
+use Rattle.std.proofs.Common.{◌≡◌, ◌<◌, [], ℕ, refl, sym, ap, subst, ◌∙◌}
 use Rattle.flow_journal.specs.Unsaved.{unsaved}
 use Rattle.board_rules.specs.States.{BoardState, past}
 use Rattle.board_rules.specs.RunMeasures.{run_setting}

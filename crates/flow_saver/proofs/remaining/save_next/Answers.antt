@@ -126,10 +126,11 @@ returns-in-Ok-clause-rests g c =
     let h = c.requires.saving in
     let is = (next-back gr stack c.requires.graph h.0 h.1.0 b mid xs c.args.fault.now held h.1.1 c.args.at c.node-node.result c.node-node.ensures c.requires.at c.in-Piece.input c.in-Piece.group c.in-Piece.place c.in-Piece.of (subst (λ (r : ℕ). SaveGives {F = Sealed} name_of parts_of (run_setting gr stack) b r c.node-node.result (Piece c.in-Piece.input c.in-Piece.group c.in-Piece.place c.in-Piece.of) mid) c.requires.role c.in-Piece.ensures.gives) new (subst (λ (r : ℕ). (w m j i : ℕ) → hand r (past mid) ≡ Some (entry.Save r w m j i) → new ≡ plain (back_of r w c.in-Piece.input.name) ∷ mid) c.requires.role c.return_piece.ensures.logged)) in
     let after = c.return_piece.ensures.given h.0 h.1.0 (g.K.Shelf.held c.write_due.new.shelf) (to-give-alone gr stack h.0 h.1.0 mid xs c.write_due.new.files c.args.fault.now c.write_due.new.fault held (g.K.Shelf.held c.write_due.new.shelf) (record { piece = c.in-Piece.input; at = c.args.at; group = c.in-Piece.group; place = c.in-Piece.place; of = c.in-Piece.of }) (next-taken gr stack c.requires.graph h.0 h.1.0 b mid xs c.args.fault.now held h.1.1 c.args.at c.node-node.result c.node-node.ensures c.requires.at c.in-Piece.input c.in-Piece.group c.in-Piece.place c.in-Piece.of (subst (λ (r : ℕ). SaveGives {F = Sealed} name_of parts_of (run_setting gr stack) b r c.node-node.result (Piece c.in-Piece.input c.in-Piece.group c.in-Piece.place c.in-Piece.of) mid) c.requires.role c.in-Piece.ensures.gives) c.requires.kept.few) c.in-Ok.ensures.ok) in
-    λ x at. subst (λ (v : ℕ). StepRests (run_setting gr stack) v Wrote b new) (c.node-node.ensures x at)
-    (next-drained gr stack c.requires.graph h.0 h.1.0 b mid xs c.args.fault.now held h.1.1 c.args.at c.node-node.result c.node-node.ensures c.requires.at c.in-Piece.input c.in-Piece.group c.in-Piece.place c.in-Piece.of (subst (λ (r : ℕ). SaveGives {F = Sealed} name_of parts_of (run_setting gr stack) b r c.node-node.result (Piece c.in-Piece.input c.in-Piece.group c.in-Piece.place c.in-Piece.of) mid) c.requires.role c.in-Piece.ensures.gives) new is after.legal c.requires.drained,
-    next-longer gr stack c.requires.graph h.0 h.1.0 b mid xs c.args.fault.now held h.1.1 c.args.at c.node-node.result c.node-node.ensures c.requires.at c.in-Piece.input c.in-Piece.group c.in-Piece.place c.in-Piece.of (subst (λ (r : ℕ). SaveGives {F = Sealed} name_of parts_of (run_setting gr stack) b r c.node-node.result (Piece c.in-Piece.input c.in-Piece.group c.in-Piece.place c.in-Piece.of) mid) c.requires.role c.in-Piece.ensures.gives) new is,
-    next-others gr stack c.requires.graph h.0 h.1.0 b mid xs c.args.fault.now held h.1.1 c.args.at c.node-node.result c.node-node.ensures c.requires.at c.in-Piece.input c.in-Piece.group c.in-Piece.place c.in-Piece.of (subst (λ (r : ℕ). SaveGives {F = Sealed} name_of parts_of (run_setting gr stack) b r c.node-node.result (Piece c.in-Piece.input c.in-Piece.group c.in-Piece.place c.in-Piece.of) mid) c.requires.role c.in-Piece.ensures.gives) new is)
+    λ x at. subst (λ (v : ℕ). StepRests (run_setting gr stack) v Wrote b new) (c.node-node.ensures x at) (
+      next-drained gr stack c.requires.graph h.0 h.1.0 b mid xs c.args.fault.now held h.1.1 c.args.at c.node-node.result c.node-node.ensures c.requires.at c.in-Piece.input c.in-Piece.group c.in-Piece.place c.in-Piece.of (subst (λ (r : ℕ). SaveGives {F = Sealed} name_of parts_of (run_setting gr stack) b r c.node-node.result (Piece c.in-Piece.input c.in-Piece.group c.in-Piece.place c.in-Piece.of) mid) c.requires.role c.in-Piece.ensures.gives) new is after.legal c.requires.drained,
+      next-longer gr stack c.requires.graph h.0 h.1.0 b mid xs c.args.fault.now held h.1.1 c.args.at c.node-node.result c.node-node.ensures c.requires.at c.in-Piece.input c.in-Piece.group c.in-Piece.place c.in-Piece.of (subst (λ (r : ℕ). SaveGives {F = Sealed} name_of parts_of (run_setting gr stack) b r c.node-node.result (Piece c.in-Piece.input c.in-Piece.group c.in-Piece.place c.in-Piece.of) mid) c.requires.role c.in-Piece.ensures.gives) new is,
+      next-others gr stack c.requires.graph h.0 h.1.0 b mid xs c.args.fault.now held h.1.1 c.args.at c.node-node.result c.node-node.ensures c.requires.at c.in-Piece.input c.in-Piece.group c.in-Piece.place c.in-Piece.of (subst (λ (r : ℕ). SaveGives {F = Sealed} name_of parts_of (run_setting gr stack) b r c.node-node.result (Piece c.in-Piece.input c.in-Piece.group c.in-Piece.place c.in-Piece.of) mid) c.requires.role c.in-Piece.ensures.gives) new is,
+    )
 
 pub returns-in-Ok-clause-moves : goal.returns-in-Ok-clause-moves
 returns-in-Ok-clause-moves g c =
