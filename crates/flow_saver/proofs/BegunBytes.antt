@@ -22,7 +22,7 @@ use Rattle.graph_files.specs.GroupLaws.{group-later, length-group}
 use Rattle.graph_files.specs.NodeFiles.{NodeFile, IsTorn, Untouched, Front, Miscounted, IsOpenAfter, IsPlaceAfter, group_file}
 use Rattle.graph_files.specs.NodeFileLaws.{cases_eq, none-open, open-here, open-elsewhere, empty}
 use Rattle.graph_files.proofs.Writes.{next-place}
-use Rattle.flow_saver.specs.Ending.{IsBegunAs, AsBefore, Counted, Open}
+use Rattle.flow_saver.specs.Ending.{IsCountOf, IsBegunAs, AsBefore, Counted, Open}
 use Rattle.flow_saver.specs.Ending as ending
 
 -- THE COUNT OF RECORDS, as replay_top has it for a plain run, above this crate
@@ -66,10 +66,10 @@ overwritten-front file more bytes off within =
     ∙ ap (λ rest. take off file ++ rest) (sym (append_assoc bytes (drop (off + length bytes) file) more))
     ∙ sym (append_assoc (take off file) (bytes ++ drop (off + length bytes) file) more)
 
--- the count in the header of a group's file: open, or how many arrays the group has
-abbrev pub IsCountOf : (late : Bool) → ℕ → Option ℕ → Type 0
-IsCountOf true n numrecs = numrecs ≡ None
-IsCountOf false n numrecs = numrecs ≡ Some n
+-- there is one such number
+pub count-one : (late : Bool) (n : ℕ) (a c : Option ℕ) → IsCountOf late n a → IsCountOf late n c → a ≡ c
+count-one true n a c h k = h ∙ sym k
+count-one false n a c h k = h ∙ sym k
 
 module _ (shape : FileShape) (arrays rest full : List Array) (is : full ≡ arrays ++ rest) (before : Option (List ℕ)) where
   abbrev rows : List ℕ

@@ -1,5 +1,5 @@
 -- What stands after a fault in the end of the files, by the finished log.
-use Rattle.std.proofs.Common.{◌≡◌, ◌≢◌, ◌⊎◌, ℕ, zero, suc, ◌+◌, ◌≤◌, Bool, true, false, List, [], ◌∷◌, length, map, refl, sym, ap, subst, ◌∙◌, arith, inl, inr, Option, Some, None}
+use Rattle.std.proofs.Common.{◌≡◌, ◌≢◌, ◌⊎◌, ℕ, zero, suc, ◌+◌, ◌≤◌, Bool, true, false, List, [], ◌∷◌, ◌++◌, length, map, refl, sym, ap, subst, ◌∙◌, arith, inl, inr, Option, Some, None}
 use Rattle.std.specs.Prelude.{slice_get, IsSome, is_some}
 use Rattle.std.proofs.lemmas.Option.{same_Some}
 use Rattle.std.proofs.lemmas.List.{append-nil}
@@ -19,20 +19,22 @@ use Rattle.board_rules.specs.States.{BoardState, past}
 use Rattle.board_rules.specs.Movers.{moves_by}
 use Rattle.board_rules.specs.RunMeasures.{run_setting}
 use Rattle.graph_files.specs.Groups.{group_of, whole_file, file_of, HasBytes}
-use Rattle.graph_files.specs.NodeFiles.{NodeFile, EndTorn, name_of, group_file, open_at}
+use Rattle.graph_files.specs.NodeFiles.{NodeFile, EndTorn, IsTorn, name_of, group_file, open_at}
 use Rattle.graph_files.specs.NodeFileLaws.{cases_eq, none-open, open-here}
 use Rattle.graph_files.specs.OpenFiles.{closed}
 use Rattle.graph_files.specs.EndedFiles.{AllEndStops, ended_to, open_group}
 use Rattle.graph_files.specs.OutFiles.{file_shape, group_name, is_stream}
+use Rattle.run_laws.specs.Results.{contents}
+use Rattle.flow_journal.specs.Unsaved.{standing_saves}
 use Rattle.flow_saver.specs.GivenBack.{written_by}
 use Rattle.flow_saver.specs.HistoryFiles.{kind_group}
-use Rattle.flow_saver.specs.Ending.{IsBegunAs, IsBegunAt, IsTornHistory}
+use Rattle.flow_saver.specs.Ending.{StandsAsCount, IsBegunAs, IsBegunAt, IsTornName, IsTornAt, IsTornHistory}
 use Rattle.flow_saver.specs.Saver.{IsFirstCount}
 use Rattle.flow_saver.specs.Remaining.{IsSavingAlone}
 use Rattle.flow_saver.proofs.BegunBytes.{begun-front, begun-torn, begun-whole, GroupHas, Nothing, Whole, Opened, group-has}
 use Rattle.flow_saver.proofs.Groups as groups
 use Rattle.flow_saver.proofs.Groups.{some-is}
-use Rattle.flow_saver.proofs.TornHistory.{full-file, begun-file, one-index, told-file, whole-bytes, whole-some, file-some, count-by}
+use Rattle.flow_saver.proofs.TornHistory.{full-file, one-index, told-file, whole-bytes, whole-some, file-some, count-by}
 
 -- a node's files among those that have ended so far
 ended-at : (n : ℕ) (xs : List NodeFile) (j : ℕ) (x : NodeFile) → slice_get xs j ≡ Some x → (slice_get (ended_to n xs) j ≡ Some (closed x)) ⊎ ((n ≤ j) × (slice_get (ended_to n xs) j ≡ Some x))
@@ -208,12 +210,36 @@ module _ (g : Graph) (stack : StackValue) (sound : IsGraph g) (prefix : List ℕ
           let x = f.files in
           let off_ : (x.node ≢ node.node) ⊎ (i ≢ torn) = elim off [ inl ne ↦ inl (λ eq. ne (sym f.node ∙ eq)) | inr ne ↦ inr ne ] in
           let same : group_of x.count i (F x.node) ≡ group_of r.count i (F v) = ap (λ (c : ℕ). group_of c i (F x.node)) f.count ∙ ap (λ (w : ℕ). group_of r.count i (F w)) f.node in
+          let all : group_of x.count i (F x.node) ≡ group_of r.count i (contents g.nodes stack.arrays (standing_saves v (past b))) = same ∙ ap (group_of r.count i) (groups.written-is g stack sound prefix before b xs false held h v) in
           let is = begun-has f.at x f.listed i off_ (subst (λ (zs : List Array). 1 ≤ length zs) (sym same) some) in (
             is.0,
+            subst (λ (late : Bool). StandsAsCount late (length (group_of r.count i (contents g.nodes stack.arrays (standing_saves v (past b))))) is.0) f.late (subst (λ (zs : List Array). StandsAsCount x.late (length zs) is.0) all is.1),
             subst (λ (name : List ℕ). HasFile now name (begun_file (file_shape g stack v) is.0 (group_of r.count i (F v)))) (f.named i)
                 (subst (λ (sh : FileShape). HasFile now (name_of x i) (begun_file sh is.0 (group_of r.count i (F v)))) f.shape
-                (subst (λ (zs : List Array). HasFile now (name_of x i) (begun_file x.shape is.0 zs)) same is.1)),
+                (subst (λ (zs : List Array). HasFile now (name_of x i) (begun_file x.shape is.0 zs)) same is.2)),
           );
+      untouched = λ v i n r bytes rule kind is off none_.
+          let f = groups.files-of-rule g stack sound prefix before b xs false held h v n r rule kind in
+          let x = f.files in
+          let same : group_of x.count i (F x.node) ≡ group_of r.count i (F v) = ap (λ (c : ℕ). group_of c i (F x.node)) f.count ∙ ap (λ (w : ℕ). group_of r.count i (F w)) f.node in
+          let file_ : whole_file x.shape (group_of x.count i (F x.node)) ≡ Some bytes =
+          sym (groups.group-is g stack sound prefix before b xs false held h f.at x f.listed n i f.rule) ∙ ap (λ (w : ℕ). kind_group g stack (past b) w n.kind i) f.node ∙ is in
+          absurd (omega (arith, (whole-bytes x.shape (group_of x.count i (F x.node)) bytes file_).1, ap (λ (zs : List Array). length zs) (same ∙ none_)));
+      torn = λ n r rule kind.
+          let f = groups.files-of-rule g stack sound prefix before b xs false held h node.node n r rule kind in
+          let x = f.files in
+          let here : x ≡ node = torn-here f.at x f.listed (one-index g stack sound prefix xs h.saving.nodes f.at e.at x node f.listed e.listed f.node) in
+          let final = ap (group_of r.count torn) (groups.written-is g stack sound prefix before b xs false held h node.node) in
+          torn-at (is_stream r.mode) (file_shape g stack node.node) (group_of r.count torn (contents g.nodes stack.arrays (standing_saves node.node (past b)))) (group_of r.count torn (F node.node))
+          (group_name prefix n.name torn) (λ told.
+          let Q : NodeFile → Type 0 = λ z. IsTornName z.late z.shape (group_of z.count torn (F z.node)) (group_of z.count torn (F z.node)) (file_at before (name_of z torn)) (file_at now (name_of z torn)) in
+          let q = subst Q (sym here) (torn-name told node.current refl e.stops.1) in
+          subst (λ (name : List ℕ). IsTornName (is_stream r.mode) (file_shape g stack node.node) (group_of r.count torn (contents g.nodes stack.arrays (standing_saves node.node (past b)))) (group_of r.count torn (F node.node)) (file_at before name) (file_at now name)) (f.named torn)
+          (subst (λ (zs : List Array). IsTornName (is_stream r.mode) (file_shape g stack node.node) zs (group_of r.count torn (F node.node)) (file_at before (name_of x torn)) (file_at now (name_of x torn))) final
+          (subst (λ (w : ℕ). IsTornName (is_stream r.mode) (file_shape g stack node.node) (group_of r.count torn (F w)) (group_of r.count torn (F w)) (file_at before (name_of x torn)) (file_at now (name_of x torn))) f.node
+          (subst (λ (c : ℕ). IsTornName (is_stream r.mode) (file_shape g stack node.node) (group_of c torn (F x.node)) (group_of c torn (F x.node)) (file_at before (name_of x torn)) (file_at now (name_of x torn))) f.count
+          (subst (λ (sh : FileShape). IsTornName (is_stream r.mode) sh (group_of x.count torn (F x.node)) (group_of x.count torn (F x.node)) (file_at before (name_of x torn)) (file_at now (name_of x torn))) f.shape
+          (subst (λ (late : Bool). IsTornName late x.shape (group_of x.count torn (F x.node)) (group_of x.count torn (F x.node)) (file_at before (name_of x torn)) (file_at now (name_of x torn))) f.late q)))))) now refl;
     }
       where
         ended-back : (n : ℕ) (zs : List NodeFile) (k : ℕ) (y : NodeFile) → slice_get (ended_to n zs) k ≡ Some y → slice_get (map closed zs) k ≡ Some (closed y)
@@ -252,15 +278,47 @@ module _ (g : Graph) (stack : StackValue) (sound : IsGraph g) (prefix : List ℕ
                   subst (HasBytes now (name_of x i)) (full-file x (F x.node) i (some-at j x at) full (group-has x (F x.node) (some-at j x at) (h.saving.saved.0.each j x at).begun i)) (e.stops.0.each j x i open_.1 off)
             ]
 
+        open-count : (j : ℕ) (x : NodeFile) (at : slice_get xs j ≡ Some x) (i : ℕ) → 1 ≤ length (group_of x.count i (F x.node)) → GroupHas x (F x.node) i
+            → (numrecs : Option ℕ) × StandsAsCount x.late (length (group_of x.count i (F x.node))) numrecs × (group_file x (F x.node) i ≡ Some (begun_file x.shape numrecs (group_of x.count i (F x.node))))
+        open-count j x at i some (Nothing none_) = absurd (file-some (open_at x (length (F x.node)) i) x.shape (group_of x.count i (F x.node)) some none_)
+        open-count j x at i some (Whole full is) = (Some (length (group_of x.count i (F x.node))), inr refl, is)
+        open-count j x at i some (Opened f open_ here is) =
+            let first = subst (λ (w : ℕ). IsFirstCount (past b) x.node x.count w x.late f.numrecs) (sym here) (h.saving.saved.1 j x f at open_) in
+            (f.numrecs, inl (count-by (past b) x i (F x.node) x.late f.numrecs (all-written j x at) first), is)
+
         begun-has : (j : ℕ) (x : NodeFile) → slice_get xs j ≡ Some x → (i : ℕ) → (x.node ≢ node.node) ⊎ (i ≢ torn) → 1 ≤ length (group_of x.count i (F x.node))
-            → (numrecs : Option ℕ) × HasFile now (name_of x i) (begun_file x.shape numrecs (group_of x.count i (F x.node)))
+            → (numrecs : Option ℕ) × StandsAsCount x.late (length (group_of x.count i (F x.node))) numrecs × HasFile now (name_of x i) (begun_file x.shape numrecs (group_of x.count i (F x.node)))
         begun-has j x at i off some =
             elim (ended-at (e.at + 1) xs j x at) [
               | inl ended ↦ (
                 Some (length (group_of x.count i (F x.node))),
+                inr refl,
                 subst (HasBytes now (name_of x i)) (closed-file x (F x.node) i ∙ whole-is x.shape (group_of x.count i (F x.node)) some) (e.stops.0.each j (closed x) i ended off),
               )
               | inr open_ ↦
-                  let is = begun-file x (F x.node) i some (group-has x (F x.node) (some-at j x at) (h.saving.saved.0.each j x at).begun i) in
-                  (is.0, subst (HasBytes now (name_of x i)) is.1 (e.stops.0.each j x i open_.1 off))
+                  let is = open-count j x at i some (group-has x (F x.node) (some-at j x at) (h.saving.saved.0.each j x at).begun i) in
+                  (is.0, is.1, subst (HasBytes now (name_of x i)) is.2 (e.stops.0.each j x i open_.1 off))
             ]
+
+        torn-name : is_some now ≡ true → (o : Option Stream) → node.current ≡ o → EndTorn o node torn (group_of node.count torn (F node.node)) held now
+            → IsTornName node.late node.shape (group_of node.count torn (F node.node)) (group_of node.count torn (F node.node)) (file_at before (name_of node torn)) (file_at now (name_of node torn))
+        torn-name told None is t = absurd t
+        torn-name told (Some f) is t =
+            let zs = group_of node.count torn (F node.node) in
+            let made : group_file node (F node.node) torn ≡ Some (begun_file node.shape f.numrecs zs) = ap (λ w. file_of w node.shape zs) (open-here node (length (F node.node)) torn refl ∙ is) in
+            let has = subst (HasBytes held (name_of node torn)) made ((h.saving.saved.0.each e.at node e.listed).each torn) in
+            record {
+              piece = [];
+              rest = [];
+              next = sym (append-nil (zs ++ []) ∙ append-nil zs);
+              numrecs = f.numrecs;
+              count = count-by (past b) node torn (F node.node) node.late f.numrecs (all-written e.at node e.listed) (h.saving.saved.1 e.at node f e.listed is);
+              was = file_at held (name_of node torn);
+              stood = inr (told-file held (name_of node torn) (begun_file node.shape f.numrecs zs) (told-then told) has);
+              torn = subst (λ (ws : List Array). IsTorn (file_at held (name_of node torn)) node.shape f.numrecs ws (file_at now (name_of node torn))) (sym (append-nil zs)) t;
+            }
+
+        torn-at : (late : Bool) (shape : FileShape) (final written : List Array) (name : List ℕ) → (is_some now ≡ true → IsTornName late shape final written (file_at before name) (file_at now name)) → (o : Option Files) → now ≡ o → IsTornAt late shape final written before o name
+        torn-at late shape final written name goal None is = tt
+        torn-at late shape final written name goal (Some m) is =
+            subst (λ (o : Option Files). IsTornName late shape final written (file_at before name) (file_at o name)) is (goal (ap (λ (o : Option Files). is_some o) is))

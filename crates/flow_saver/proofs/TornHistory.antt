@@ -28,6 +28,7 @@ use Rattle.flow_journal.specs.Finished.{is_finished}
 use Rattle.board_rules.specs.States.{BoardState, past}
 use Rattle.board_rules.specs.Movers.{moves_by}
 use Rattle.board_rules.specs.RunMeasures.{run_setting}
+use Rattle.flow_journal.specs.Unsaved.{standing_saves}
 use Rattle.run_laws.specs.Results.{contents}
 use Rattle.graph_files.specs.Groups.{group_of, whole_file, file_of, HasBytes}
 use Rattle.graph_files.specs.GroupLaws.{group-is, group-more, length-group}
@@ -39,10 +40,10 @@ use Rattle.graph_files.specs.OutFiles.{file_shape, group_name, is_stream}
 use Rattle.graph_files.proofs.Writes.{small-group, next-place}
 use Rattle.flow_saver.specs.GivenBack.{given_back, written_by}
 use Rattle.flow_saver.specs.HistoryFiles.{kind_group}
-use Rattle.flow_saver.specs.Ending.{IsBegunAs, AsBefore, IsBegunAt, IsTornHistory}
+use Rattle.flow_saver.specs.Ending.{IsCountOf, StandsAsCount, IsBegunAs, AsBefore, IsBegunAt, IsTornName, IsTornAt, IsTornHistory}
 use Rattle.flow_saver.specs.Saver.{IsTornSince, IsFirstCount, back_of}
 use Rattle.flow_saver.specs.Remaining.{IsSavingAlone}
-use Rattle.flow_saver.proofs.BegunBytes.{IsCountOf, begun-front, begun-torn, begun-whole, group-front, group-full, GroupHas, Nothing, Whole, Opened, group-has, group-apart}
+use Rattle.flow_saver.proofs.BegunBytes.{count-one, begun-front, begun-torn, begun-whole, group-front, group-full, GroupHas, Nothing, Whole, Opened, group-has, group-apart}
 use Rattle.flow_saver.proofs.Groups as groups
 use Rattle.flow_saver.proofs.Groups.{FilesOfRule, some-is}
 use Rattle.flow_saver.proofs.Puts.{puts-few}
@@ -110,12 +111,6 @@ full-file x arrays i some full (Opened f open_ here is) =
     let long = length-group x.count arrays (length arrays / x.count) (length arrays % x.count) (next-place x.count arrays some) in
     let low = mod-lt (length arrays) (let e : 0 < x.count = omega (arith, some) in e) in
     absurd (omega (arith, long, low, full, ap (λ (w : ℕ). length (group_of x.count w arrays)) here))
-
--- and any other that has an array a header and its rows
-pub begun-file : (x : NodeFile) (arrays : List Array) (i : ℕ) → 1 ≤ length (group_of x.count i arrays) → GroupHas x arrays i → (numrecs : Option ℕ) × (group_file x arrays i ≡ Some (begun_file x.shape numrecs (group_of x.count i arrays)))
-begun-file x arrays i some (Nothing none_) = absurd (file-some (open_at x (length arrays) i) x.shape (group_of x.count i arrays) some none_)
-begun-file x arrays i some (Whole full is) = (Some (length (group_of x.count i arrays)), is)
-begun-file x arrays i some (Opened f open_ here is) = (f.numrecs, is)
 
 -- NAMES OF GROUPS
 
@@ -409,6 +404,74 @@ module _ (g : Graph) (stack : StackValue) (sound : IsGraph g) (prefix : List ℕ
       let least : i * 1 ≤ i * x.count = mul-le-mul (let same : i ≤ i = omega arith in same) (some-at j x at) in
       omega (arith, some, taken, dropped, all-written j x at, put, ids, kept.few, least)
 
+  -- the number in the header of a group that has an array
+  begun-count : (j : ℕ) (x : NodeFile) (at : slice_get xs j ≡ Some x) (i : ℕ) → (j ≢ t.at) ⊎ (i ≢ t.group) → 1 ≤ length (group_of x.count i (W x.node)) → GroupHas x (W x.node) i
+      → (numrecs : Option ℕ) × StandsAsCount x.late (length (group_of x.count i (F x.node))) numrecs × (group_file x (W x.node) i ≡ Some (begun_file x.shape numrecs (group_of x.count i (W x.node))))
+  begun-count j x at i off some (Nothing none_) = absurd (file-some (open_at x (length (W x.node)) i) x.shape (group_of x.count i (W x.node)) some none_)
+  begun-count j x at i off some (Whole full is) =
+      let r = fronts x.node in
+      let same : group_of x.count i (F x.node) ≡ group_of x.count i (W x.node) = ap (group_of x.count i) r.1 ∙ group-full x.count i (W x.node) r.0 (some-at j x at) full in
+      (Some (length (group_of x.count i (W x.node))), inr (ap (λ (zs : List Array). Some (length zs)) (sym same)), is)
+  begun-count j x at i off some (Opened f open_ here is) =
+      let ne : j ≢ t.at = elim off [
+        | inl other ↦ other
+        | inr apart ↦ (λ e. apart (here ∙ ap (λ (z : NodeFile). length (W z.node) / z.count) (torn-here j x at e) ∙ torn-group))
+      ] in
+      let first = subst (λ (w : ℕ). IsFirstCount (past b) x.node x.count w x.late f.numrecs) (sym here) (t.begun j x f (others-before j x at ne) open_) in
+      (f.numrecs, inl (count-by (past b) x i (F x.node) x.late f.numrecs (all-written j x at) first), is)
+
+  -- a group that has none is untouched
+  none-touched : (j : ℕ) (x : NodeFile) (at : slice_get xs j ≡ Some x) (i : ℕ) → i < 2 ^ 64 → (off : (j ≢ t.at) ⊎ (i ≢ t.group)) → group_of x.count i (W x.node) ≡ [] → GroupHas x (W x.node) i → file_at held (name_of x i) ≡ file_at before (name_of x i)
+  none-touched j x at i small off empty_ (Nothing none_) = t.stops.0.others (name_of x i) (off-name j x at i small off) (none-elsewhere g stack sound prefix xs nodes W few j x at i small none_)
+  none-touched j x at i small off empty_ (Whole full is) = absurd (omega (arith, full, some-at j x at, ap (λ (zs : List Array). length zs) empty_))
+  none-touched j x at i small off empty_ (Opened f open_ here is) =
+      let ne : j ≢ t.at = elim off [
+        | inl other ↦ other
+        | inr apart ↦ (λ e. apart (here ∙ ap (λ (z : NodeFile). length (W z.node) / z.count) (torn-here j x at e) ∙ torn-group))
+      ] in
+      let was = others-before j x at ne in
+      let row = t.rows j x f (λ e. ne (sym (same_Some t.at j e))) was open_ in
+      let begun = open-count x (length (W x.node)) x.current f open_ (t.written.each j x was).begun in
+      let long = length-group x.count (W x.node) (length (W x.node) / x.count) (length (W x.node) % x.count) (next-place x.count (W x.node) (some-at j x at)) in
+      let none_ : length (group_of x.count (length (W x.node) / x.count) (W x.node)) ≡ 0 = ap (λ (w : ℕ). length (group_of x.count w (W x.node))) (sym here) ∙ ap (λ (zs : List Array). length zs) empty_ in
+      absurd (omega (arith, long, begun, row, none_))
+
+  -- the torn name
+  stood-by : is_some held ≡ true → GroupHas t.node (W t.node.node) t.group
+      → (file_at t.then_held (name_of t.node t.group) ≡ file_at before (name_of t.node t.group)) ⊎ (file_at t.then_held (name_of t.node t.group) ≡ Some (begun_file t.node.shape t.numrecs (group_of t.node.count t.group (W t.node.node))))
+  stood-by told (Nothing none_) =
+      inl (t.written.others (name_of t.node t.group) (none-elsewhere g stack sound prefix t.files (sym t.nodes ∙ nodes) W t.written.few t.at t.node t.listed t.group torn-small none_))
+  stood-by told (Whole full e) = absurd (omega (arith, full, length-group t.node.count (W t.node.node) t.group t.place t.place_is, t.place_is.within))
+  stood-by told (Opened f open_ here e) =
+      let has = subst (HasBytes t.then_held (name_of t.node t.group)) e ((t.written.each t.at t.node t.listed).each t.group) in
+      let first = subst (λ (w : ℕ). IsFirstCount (past b) t.node.node t.node.count w t.node.late f.numrecs) (sym here) (t.begun t.at t.node f t.listed open_) in
+      let n = length (group_of t.node.count t.group (F t.node.node)) in
+      let same : f.numrecs ≡ t.numrecs = count-one t.node.late n f.numrecs t.numrecs (count-by (past b) t.node t.group (F t.node.node) t.node.late f.numrecs (torn-node told) first)
+      (count-by (past b) t.node t.group (F t.node.node) t.node.late t.numrecs (torn-node told) t.first) in
+      inr (told-file t.then_held (name_of t.node t.group) (begun_file t.node.shape f.numrecs (group_of t.node.count t.group (W t.node.node))) (told-then told) has ∙ ap (λ (m : Option ℕ). Some (begun_file t.node.shape m (group_of t.node.count t.group (W t.node.node)))) same)
+
+  torn-name : is_some held ≡ true → IsTornName t.node.late t.node.shape (group_of t.node.count t.group (F t.node.node)) (group_of t.node.count t.group (W t.node.node)) (file_at before (name_of t.node t.group)) (file_at held (name_of t.node t.group))
+  torn-name told =
+      let r = back-then t.node.node in
+      let all : F t.node.node ≡ (W t.node.node ++ t.array ∷ []) ++ r.0 = r.1 ∙ ap (λ zs. zs ++ r.0) back-here in
+      let front = group-front t.node.count t.group (W t.node.node ++ t.array ∷ []) r.0 in
+      let more = group-more t.node.count (W t.node.node) t.array t.group t.place t.place_is in
+      record {
+        piece = t.array ∷ [];
+        rest = front.0;
+        next = ap (group_of t.node.count t.group) all ∙ front.1 ∙ ap (λ zs. zs ++ front.0) more;
+        numrecs = t.numrecs;
+        count = count-by (past b) t.node t.group (F t.node.node) t.node.late t.numrecs (torn-node told) t.first;
+        was = file_at t.then_held (name_of t.node t.group);
+        stood = stood-by told (group-has t.node (W t.node.node) (omega (arith, t.place_is.within)) (t.written.each t.at t.node t.listed).begun t.group);
+        torn = t.stops.1;
+      }
+
+  torn-at : (late : Bool) (shape : FileShape) (final written : List Array) (name : List ℕ) → (is_some held ≡ true → IsTornName late shape final written (file_at before name) (file_at held name)) → (o : Option Files) → held ≡ o → IsTornAt late shape final written before o name
+  torn-at late shape final written name goal None is = tt
+  torn-at late shape final written name goal (Some m) is =
+      subst (λ (o : Option Files). IsTornName late shape final written (file_at before name) (file_at o name)) is (goal (ap (λ (o : Option Files). is_some o) is))
+
   pub torn-history : IsKeptStack stack → IsTornHistory g stack prefix (past b) before held
   torn-history kept = record {
     each = λ v i n r bytes rule kind is.
@@ -456,11 +519,44 @@ module _ (g : Graph) (stack : StackValue) (sound : IsGraph g) (prefix : List ℕ
           | inl ne ↦ inl (λ e. ne (ap (λ (z : NodeFile). z.node) (torn-here f.at x f.listed e)))
           | inr ne ↦ inr ne
         ] in
-        let is = begun-file x (W x.node) i (subst (λ (zs : List Array). 1 ≤ length zs) (sym same) some) (has-at f.at x f.listed i off_at) in
-        let has = subst (HasBytes held (name_of x i)) is.1 (t.stops.0.each f.at x i f.listed off_) in (
+        let some_ = subst (λ (zs : List Array). 1 ≤ length zs) (sym same) some in
+        let is = begun-count f.at x f.listed i off_at some_ (has-at f.at x f.listed i off_at) in
+        let all : group_of x.count i (F x.node) ≡ group_of r.count i (contents g.nodes stack.arrays (standing_saves v (past b))) =
+        ap (λ (c : ℕ). group_of c i (F x.node)) f.count ∙ ap (λ (w : ℕ). group_of r.count i (F w)) f.node ∙ ap (group_of r.count i) (groups.written-is g stack sound prefix before b xs true held h v) in
+        let has = subst (HasBytes held (name_of x i)) is.2 (t.stops.0.each f.at x i f.listed off_) in (
           is.0,
+          subst (λ (late : Bool). StandsAsCount late (length (group_of r.count i (contents g.nodes stack.arrays (standing_saves v (past b))))) is.0) f.late (subst (λ (zs : List Array). StandsAsCount x.late (length zs) is.0) all is.1),
           subst (λ (name : List ℕ). HasFile held name (begun_file (file_shape g stack v) is.0 (group_of r.count i (W v)))) (f.named i)
               (subst (λ (sh : FileShape). HasFile held (name_of x i) (begun_file sh is.0 (group_of r.count i (W v)))) f.shape
               (subst (λ (zs : List Array). HasFile held (name_of x i) (begun_file x.shape is.0 zs)) same has)),
         );
+    untouched = λ v i n r bytes rule kind is off none_.
+        let f = groups.files-of-rule g stack sound prefix before b xs true held h v n r rule kind in
+        let x = f.files in
+        let off_ : (x.node ≢ t.node.node) ⊎ (i ≢ t.group) = elim off [ inl ne ↦ inl (λ e. ne (sym f.node ∙ e)) | inr ne ↦ inr ne ] in
+        let off_at : (f.at ≢ t.at) ⊎ (i ≢ t.group) = elim off_ [
+          | inl ne ↦ inl (λ e. ne (ap (λ (z : NodeFile). z.node) (torn-here f.at x f.listed e)))
+          | inr ne ↦ inr ne
+        ] in
+        let same : group_of x.count i (W x.node) ≡ group_of r.count i (W v) = ap (λ (c : ℕ). group_of c i (W x.node)) f.count ∙ ap (λ (w : ℕ). group_of r.count i (W w)) f.node in
+        let file_ : whole_file x.shape (group_of x.count i (F x.node)) ≡ Some bytes =
+        sym (groups.group-is g stack sound prefix before b xs true held h f.at x f.listed n i f.rule) ∙ ap (λ (w : ℕ). kind_group g stack (past b) w n.kind i) f.node ∙ is in
+        let small = group-low kept f.at x f.listed i (whole-bytes x.shape (group_of x.count i (F x.node)) bytes file_).1 in
+        subst (λ (name : List ℕ). file_at held name ≡ file_at before name) (f.named i)
+        (none-touched f.at x f.listed i small off_at (same ∙ none_) (has-at f.at x f.listed i off_at));
+    torn = λ n r rule kind.
+        let f = groups.files-of-rule g stack sound prefix before b xs true held h t.node.node n r rule kind in
+        let x = f.files in
+        let here = torn-here f.at x f.listed (one-index g stack sound prefix xs nodes f.at t.at x now-at.files f.listed now-at.listed (f.node ∙ sym (ap (λ (z : NodeFile). z.node) now-at.same))) in
+        let final = ap (group_of r.count t.group) (groups.written-is g stack sound prefix before b xs true held h t.node.node) in
+        torn-at (is_stream r.mode) (file_shape g stack t.node.node) (group_of r.count t.group (contents g.nodes stack.arrays (standing_saves t.node.node (past b)))) (group_of r.count t.group (W t.node.node))
+        (group_name prefix n.name t.group) (λ told.
+        let Q : NodeFile → Type 0 = λ z. IsTornName z.late z.shape (group_of z.count t.group (F z.node)) (group_of z.count t.group (W z.node)) (file_at before (name_of z t.group)) (file_at held (name_of z t.group)) in
+        let q = subst Q (sym here) (torn-name told) in
+        subst (λ (name : List ℕ). IsTornName (is_stream r.mode) (file_shape g stack t.node.node) (group_of r.count t.group (contents g.nodes stack.arrays (standing_saves t.node.node (past b)))) (group_of r.count t.group (W t.node.node)) (file_at before name) (file_at held name)) (f.named t.group)
+        (subst (λ (zs : List Array). IsTornName (is_stream r.mode) (file_shape g stack t.node.node) zs (group_of r.count t.group (W t.node.node)) (file_at before (name_of x t.group)) (file_at held (name_of x t.group))) final
+        (subst (λ (w : ℕ). IsTornName (is_stream r.mode) (file_shape g stack t.node.node) (group_of r.count t.group (F w)) (group_of r.count t.group (W w)) (file_at before (name_of x t.group)) (file_at held (name_of x t.group))) f.node
+        (subst (λ (c : ℕ). IsTornName (is_stream r.mode) (file_shape g stack t.node.node) (group_of c t.group (F x.node)) (group_of c t.group (W x.node)) (file_at before (name_of x t.group)) (file_at held (name_of x t.group))) f.count
+        (subst (λ (sh : FileShape). IsTornName (is_stream r.mode) sh (group_of x.count t.group (F x.node)) (group_of x.count t.group (W x.node)) (file_at before (name_of x t.group)) (file_at held (name_of x t.group))) f.shape
+        (subst (λ (late : Bool). IsTornName late x.shape (group_of x.count t.group (F x.node)) (group_of x.count t.group (W x.node)) (file_at before (name_of x t.group)) (file_at held (name_of x t.group))) f.late q)))))) held refl;
   }
