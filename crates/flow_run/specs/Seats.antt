@@ -36,18 +36,18 @@ pub record IsRoleEnd {O : Type 0} (s : Setting) (r v : ℕ) (p : Pass) (left : L
   pub reclaimed : MayComeBack name_of parts_of length s r p.made left
 
 -- seats for these passes, one each: role r and those after it, at these nodes
-abbrev pub seats_from : {F B O P : Type 0} → (r : ℕ) → (posts : List ℕ) → List P → List (Seat F B O P)
+abbrev pub seats_from : {F P B O : Type 0} → (r : ℕ) → (posts : List ℕ) → List P → List (Seat F P B O)
 seats_from r [] ps = []
 seats_from r (v ∷ vs) [] = []
 seats_from r (v ∷ vs) (p ∷ ps) = Ready r v p ∷ seats_from (r + 1) vs ps
 
-abbrev pub is_back : {F B O P : Type 0} → Seat F B O P → Bool
+abbrev pub is_back : {F P B O : Type 0} → Seat F P B O → Bool
 is_back (Back end) = true
 is_back (Ready r v p) = false
 is_back Away = false
 
 -- the ends of the roles that are back
-abbrev pub ends_of : {F B O P : Type 0} → List (Seat F B O P) → List (RoleEnd F B O P)
+abbrev pub ends_of : {F P B O : Type 0} → List (Seat F P B O) → List (RoleEnd F P B O)
 ends_of [] = []
 ends_of (Back end ∷ xs) = end ∷ ends_of xs
 ends_of (Ready r v p ∷ xs) = ends_of xs
@@ -55,37 +55,38 @@ ends_of (Away ∷ xs) = ends_of xs
 
 module _ {O P : Type 0} (ours : P → Type 0) (knows : P → Pass) where
   -- the seat of role r at node v, which hasn't begun
-  abbrev pub IsReady : (r v : ℕ) → Seat Sealed (List ℕ) O P → Type 0
+  abbrev pub IsReady : (r v : ℕ) → Seat Sealed P (List ℕ) O → Type 0
   IsReady r v (Ready role node pass) = (role ≡ r) × (node ≡ v) × ours pass × IsFresh r (knows pass)
   IsReady r v Away = ⊥
   IsReady r v (Back end) = ⊥
 
   -- and once it has ended
-  abbrev pub IsBack : Setting → (r v : ℕ) → Seat Sealed (List ℕ) O P → Type 0
+  abbrev pub IsBack : Setting → (r v : ℕ) → Seat Sealed P (List ℕ) O → Type 0
   IsBack s r v (Back end) = ours end.pass × IsRoleEnd s r v (knows end.pass) end.left end.want
   IsBack s r v Away = ⊥
   IsBack s r v (Ready role node pass) = ⊥
 
   -- the seats of role r and those after it, one each, at these nodes
-  abbrev pub AreReady : (r : ℕ) → (posts : List ℕ) → List (Seat Sealed (List ℕ) O P) → Type 0
-  AreReady r posts seats = (k v : ℕ) (x : Seat Sealed (List ℕ) O P) → slice_get posts k ≡ Some v → slice_get seats k ≡ Some x → IsReady (r + k) v x
+  abbrev pub AreReady : (r : ℕ) → (posts : List ℕ) → List (Seat Sealed P (List ℕ) O) → Type 0
+  AreReady r posts seats = (k v : ℕ) (x : Seat Sealed P (List ℕ) O) → slice_get posts k ≡ Some v → slice_get seats k ≡ Some x → IsReady (r + k) v x
 
-  abbrev pub AreBack : Setting → (r : ℕ) → (posts : List ℕ) → List (Seat Sealed (List ℕ) O P) → Type 0
-  AreBack s r posts seats = (k v : ℕ) (x : Seat Sealed (List ℕ) O P) → slice_get posts k ≡ Some v → slice_get seats k ≡ Some x → IsBack s (r + k) v x
+  abbrev pub AreBack : Setting → (r : ℕ) → (posts : List ℕ) → List (Seat Sealed P (List ℕ) O) → Type 0
+  AreBack s r posts seats = (k v : ℕ) (x : Seat Sealed P (List ℕ) O) → slice_get posts k ≡ Some v → slice_get seats k ≡ Some x → IsBack s (r + k) v x
 
   -- a worker's seat, which hasn't begun
-  abbrev pub IsWorker : Setting → (r v : ℕ) → Seat Sealed (List ℕ) O P → Type 0
+  abbrev pub IsWorker : Setting → (r v : ℕ) → Seat Sealed P (List ℕ) O → Type 0
   IsWorker s r v x = (1 ≤ r) × (r < last_role s) × IsTrue (is_node s v) × IsReady r v x
 
-  abbrev pub SomeWorker : Setting → Seat Sealed (List ℕ) O P → Type 0
+  abbrev pub SomeWorker : Setting → Seat Sealed P (List ℕ) O → Type 0
   SomeWorker s x = (r : ℕ) × ((v : ℕ) × IsWorker s r v x)
 
   -- what its work leaves
-  abbrev pub HasWorked : Setting → (old new : Seat Sealed (List ℕ) O P) → Type 0
+  abbrev pub HasWorked : Setting → (old new : Seat Sealed P (List ℕ) O) → Type 0
   HasWorked s old new = (r v : ℕ) → IsWorker s r v old → IsBack s r v new
 
+module _ {O P : Type 0} (knows : P → Pass) where
   -- the feeder of this seat was handed the clock's next answers
-  abbrev pub HasFed : Setting → (old new : Option Coming) → Seat Sealed (List ℕ) O P → Type 0
+  abbrev pub HasFed : Setting → (old new : Option Coming) → Seat Sealed P (List ℕ) O → Type 0
   HasFed s old new (Back end) = (first : Pass) × IsFresh 0 first × FeedsByTheClock s first (knows end.pass) old new
   HasFed s old new Away = ⊥
   HasFed s old new (Ready role node pass) = ⊥

@@ -6,4 +6,4 @@ mod seats;
 mod threads;
 
 pub use run::{RunEnd, play_run};
-pub use seats::Seat;
+pub use seats::{Dealt, Seat};

@@ -15,8 +15,7 @@ ghost use Rattle.flow_roles.specs.TurnPasses.{known_by, IsPassOf, IsFreshOf};
 ghost use Rattle.graph_files.specs.OpenFiles.{file_nodes};
 ghost use Rattle.flow_saver.specs.Saver.{CountsSo};
 ghost use Rattle.flow_run.specs.SaverEnds.{SaverBegins, SaverEnds};
-ghost use Rattle.flow_run.specs.Workers as roles;
-ghost use Rattle.flow_run.specs.Workers.{posts, workers};
+ghost use Rattle.flow_run.specs.Workers.{workers};
 ghost use Rattle.flow_run.specs.Seats.{IsReady, IsBack, AreReady, AreBack, SomeWorker, HasWorked, HasFed};
 
 use crate::seats::Seat;
@@ -126,7 +125,7 @@ fn work_all<
     for_each_mut(rt, seats, count, &work);
 }
 
-/// The feeder, whose seat is the first one, and all workers, each in a thread of its own.
+/// The feeder and all workers, each in a thread of its own.
 fn feed_and_work<
     R: Run + Send + Sync,
     B: BoardCalls<Frame<R>> + Send,
@@ -141,41 +140,41 @@ fn feed_and_work<
     stack: &Stack,
     gate: &G,
     clock: &mut C,
+    feeder: &mut Seat<Frame<R>, TurnPass<Frame<R>, B>>,
     seats: &mut [Seat<Frame<R>, TurnPass<Frame<R>, B>>],
 )
     requires plan { plan.now ≡ plan_of R.graph R.stack }
     requires graph { IsGraph R.graph }
     requires stack { stack.now ≡ R.stack }
-    requires seats { length seats.old ≡ length (posts (run_setting R.graph R.stack)) }
-    requires ready { AreReady (λ p. IsPassOf desk.now.id p.inner) (λ p. known_by p.inner p.last) 0 (posts (run_setting R.graph R.stack)) seats.old }
+    requires feeder { IsReady (λ p. IsPassOf desk.now.id p.inner) (λ p. known_by p.inner p.last) 0 0 feeder.old }
+    requires seats { length seats.old ≡ length (workers (run_setting R.graph R.stack)) }
+    requires ready { AreReady (λ p. IsPassOf desk.now.id p.inner) (λ p. known_by p.inner p.last) 1 (workers (run_setting R.graph R.stack)) seats.old }
+    ensures fed { IsBack (λ p. IsPassOf desk.now.id p.inner) (λ p. known_by p.inner p.last) (run_setting R.graph R.stack) 0 0 feeder.new }
+    ensures ticks { HasFed (λ p. known_by p.inner p.last) (run_setting R.graph R.stack) (C.coming clock.old) (C.coming clock.new) feeder.new }
     ensures seats { length seats.new ≡ length seats.old }
-    ensures back { AreBack (λ p. IsPassOf desk.now.id p.inner) (λ p. known_by p.inner p.last) (run_setting R.graph R.stack) 0
-        (posts (run_setting R.graph R.stack)) seats.new }
-    ensures ticks { (x : _) → slice_get seats.new 0 ≡ Some x
-        → HasFed (λ p. known_by p.inner p.last) (run_setting R.graph R.stack) (C.coming clock.old) (C.coming clock.new) x }
+    ensures back { AreBack (λ p. IsPassOf desk.now.id p.inner) (λ p. known_by p.inner p.last) (run_setting R.graph R.stack) 1
+        (workers (run_setting R.graph R.stack)) seats.new }
 {
-    let (feeder, workers) = seats.split_at_mut(1);
+    let clock = &mut *clock;
+    let feeder = &mut *feeder;
+    let seats = &mut *seats;
     join_mut(
         rt,
         &mut ||
-            requires { (stack.now ≡ R.stack) × (length feeder.now ≡ 1)
-                × ((x : _) → slice_get feeder.now 0 ≡ Some x → IsReady (λ p. IsPassOf desk.now.id p.inner) (λ p. known_by p.inner p.last) 0 0 x) }
-            ensures { (length feeder.exit.now ≡ 1)
-                × ((x : _) → slice_get feeder.exit.now 0 ≡ Some x
-                    → IsBack (λ p. IsPassOf desk.entry.now.id p.inner) (λ p. known_by p.inner p.last) (run_setting R.graph R.stack) 0 0 x
-                    × HasFed (λ p. known_by p.inner p.last) (run_setting R.graph R.stack) (C.coming clock.entry.now) (C.coming clock.exit.now) x) }
-        { feed_at(rt, alloc, desk, stack, gate, clock, &mut feeder[0]) },
+            requires { (stack.now ≡ R.stack) × IsReady (λ p. IsPassOf desk.now.id p.inner) (λ p. known_by p.inner p.last) 0 0 feeder.now }
+            ensures { IsBack (λ p. IsPassOf desk.entry.now.id p.inner) (λ p. known_by p.inner p.last) (run_setting R.graph R.stack) 0 0 feeder.exit.now
+                × HasFed (λ p. known_by p.inner p.last) (run_setting R.graph R.stack) (C.coming clock.entry.now) (C.coming clock.exit.now) feeder.exit.now }
+        { feed_at(rt, alloc, desk, stack, gate, clock, feeder) },
         &mut ||
             requires { (plan.now ≡ plan_of R.graph R.stack) × IsGraph R.graph × (stack.now ≡ R.stack)
-                × (length workers.now ≡ length (roles.workers (run_setting R.graph R.stack)))
-                × AreReady (λ p. IsPassOf desk.now.id p.inner) (λ p. known_by p.inner p.last) 1 (roles.workers (run_setting R.graph R.stack)) workers.now }
-            ensures { (length workers.exit.now ≡ length workers.entry.now)
+                × (length seats.now ≡ length (workers (run_setting R.graph R.stack)))
+                × AreReady (λ p. IsPassOf desk.now.id p.inner) (λ p. known_by p.inner p.last) 1 (workers (run_setting R.graph R.stack)) seats.now }
+            ensures { (length seats.exit.now ≡ length seats.entry.now)
                 × AreBack (λ p. IsPassOf desk.entry.now.id p.inner) (λ p. known_by p.inner p.last) (run_setting R.graph R.stack) 1
-                    (roles.workers (run_setting R.graph R.stack)) workers.exit.now }
-        { work_all(rt, alloc, desk, plan, stack, gate, workers) },
+                    (workers (run_setting R.graph R.stack)) seats.exit.now }
+        { work_all(rt, alloc, desk, plan, stack, gate, seats) },
     );
 }
-
 /// The role that saves, with what it begins with.
 fn save_at<R: Run, B: BoardCalls<Frame<R>>, K: Shelf, N: Watch, G: Gate, W: Wait>(
     rt: &W,
@@ -194,7 +193,7 @@ fn save_at<R: Run, B: BoardCalls<Frame<R>>, K: Shelf, N: Watch, G: Gate, W: Wait
     requires kept { IsKeptStack R.stack }
     requires begins { SaverBegins (λ p. IsFreshOf desk.now.id role p.inner p.last) R.graph R.stack begins.old }
     ensures end { SaverEnds (λ p. IsPassOf desk.now.id p.inner) (λ p. known_by p.inner p.last) R.graph R.stack (K.held shelf.old) begins.old
-        result.pass result.left result.files result.fault result.want (K.held shelf.new) }
+        result.pass result.left result.files result.fault (K.held shelf.new) }
     ensures fault { CountsSo result.fault (K.faults shelf.old) (K.faults shelf.new) }
 {
     let Some((pass, files)) = begins.take() else {
@@ -226,6 +225,7 @@ pub(crate) fn run_roles<
     shelf: &mut K,
     begins: &mut Option<(TurnPass<Frame<R>, B>, OpenFiles)>,
     clock: &mut C,
+    feeder: &mut Seat<Frame<R>, TurnPass<Frame<R>, B>>,
     seats: &mut [Seat<Frame<R>, TurnPass<Frame<R>, B>>],
 ) -> SaveEnd<Frame<R>, TurnPass<Frame<R>, B>>
     requires role { role ≡ last_role (run_setting R.graph R.stack) }
@@ -234,36 +234,36 @@ pub(crate) fn run_roles<
     requires stack { stack.now ≡ R.stack }
     requires kept { IsKeptStack R.stack }
     requires begins { SaverBegins (λ p. IsFreshOf desk.now.id role p.inner p.last) R.graph R.stack begins.old }
-    requires seats { length seats.old ≡ length (posts (run_setting R.graph R.stack)) }
-    requires ready { AreReady (λ p. IsPassOf desk.now.id p.inner) (λ p. known_by p.inner p.last) 0 (posts (run_setting R.graph R.stack)) seats.old }
+    requires feeder { IsReady (λ p. IsPassOf desk.now.id p.inner) (λ p. known_by p.inner p.last) 0 0 feeder.old }
+    requires seats { length seats.old ≡ length (workers (run_setting R.graph R.stack)) }
+    requires ready { AreReady (λ p. IsPassOf desk.now.id p.inner) (λ p. known_by p.inner p.last) 1 (workers (run_setting R.graph R.stack)) seats.old }
+    ensures fed { IsBack (λ p. IsPassOf desk.now.id p.inner) (λ p. known_by p.inner p.last) (run_setting R.graph R.stack) 0 0 feeder.new }
+    ensures ticks { HasFed (λ p. known_by p.inner p.last) (run_setting R.graph R.stack) (C.coming clock.old) (C.coming clock.new) feeder.new }
     ensures seats { length seats.new ≡ length seats.old }
-    ensures back { AreBack (λ p. IsPassOf desk.now.id p.inner) (λ p. known_by p.inner p.last) (run_setting R.graph R.stack) 0
-        (posts (run_setting R.graph R.stack)) seats.new }
-    ensures ticks { (x : _) → slice_get seats.new 0 ≡ Some x
-        → HasFed (λ p. known_by p.inner p.last) (run_setting R.graph R.stack) (C.coming clock.old) (C.coming clock.new) x }
+    ensures back { AreBack (λ p. IsPassOf desk.now.id p.inner) (λ p. known_by p.inner p.last) (run_setting R.graph R.stack) 1
+        (workers (run_setting R.graph R.stack)) seats.new }
     ensures end { SaverEnds (λ p. IsPassOf desk.now.id p.inner) (λ p. known_by p.inner p.last) R.graph R.stack (K.held shelf.old) begins.old
-        result.pass result.left result.files result.fault result.want (K.held shelf.new) }
+        result.pass result.left result.files result.fault (K.held shelf.new) }
     ensures fault { CountsSo result.fault (K.faults shelf.old) (K.faults shelf.new) }
 {
-    let (_, end) = join_mut(
-        rt,
-        &mut ||
-            requires { (plan.now ≡ plan_of R.graph R.stack) × IsGraph R.graph × (stack.now ≡ R.stack)
-                × (length seats.now ≡ length (posts (run_setting R.graph R.stack)))
-                × AreReady (λ p. IsPassOf desk.now.id p.inner) (λ p. known_by p.inner p.last) 0 (posts (run_setting R.graph R.stack)) seats.now }
-            ensures { (length seats.exit.now ≡ length seats.entry.now)
-                × AreBack (λ p. IsPassOf desk.entry.now.id p.inner) (λ p. known_by p.inner p.last) (run_setting R.graph R.stack) 0
-                    (posts (run_setting R.graph R.stack)) seats.exit.now
-                × ((x : _) → slice_get seats.exit.now 0 ≡ Some x
-                    → HasFed (λ p. known_by p.inner p.last) (run_setting R.graph R.stack) (C.coming clock.entry.now) (C.coming clock.exit.now) x) }
-        { feed_and_work(rt, alloc, desk, plan, stack, gate, clock, seats) },
-        &mut || -> SaveEnd<Frame<R>, TurnPass<Frame<R>, B>>
+    let mut others = ||
+        requires { (plan.now ≡ plan_of R.graph R.stack) × IsGraph R.graph × (stack.now ≡ R.stack)
+            × IsReady (λ p. IsPassOf desk.now.id p.inner) (λ p. known_by p.inner p.last) 0 0 feeder.now
+            × (length seats.now ≡ length (workers (run_setting R.graph R.stack)))
+            × AreReady (λ p. IsPassOf desk.now.id p.inner) (λ p. known_by p.inner p.last) 1 (workers (run_setting R.graph R.stack)) seats.now }
+        ensures { IsBack (λ p. IsPassOf desk.entry.now.id p.inner) (λ p. known_by p.inner p.last) (run_setting R.graph R.stack) 0 0 feeder.exit.now
+            × HasFed (λ p. known_by p.inner p.last) (run_setting R.graph R.stack) (C.coming clock.entry.now) (C.coming clock.exit.now) feeder.exit.now
+            × (length seats.exit.now ≡ length seats.entry.now)
+            × AreBack (λ p. IsPassOf desk.entry.now.id p.inner) (λ p. known_by p.inner p.last) (run_setting R.graph R.stack) 1
+                (workers (run_setting R.graph R.stack)) seats.exit.now }
+    { feed_and_work(rt, alloc, desk, plan, stack, gate, clock, feeder, seats) };
+    let mut saves = || -> SaveEnd<Frame<R>, TurnPass<Frame<R>, B>>
             requires { (role ≡ last_role (run_setting R.graph R.stack)) × IsGraph R.graph × (stack.now ≡ R.stack) × IsKeptStack R.stack
                 × SaverBegins (λ p. IsFreshOf desk.now.id role p.inner p.last) R.graph R.stack begins.now }
             ensures { SaverEnds (λ p. IsPassOf desk.entry.now.id p.inner) (λ p. known_by p.inner p.last) R.graph R.stack (K.held shelf.entry.now) begins.entry.now
-                    result.pass result.left result.files result.fault result.want (K.held shelf.exit.now)
+                    result.pass result.left result.files result.fault (K.held shelf.exit.now)
                 × CountsSo result.fault (K.faults shelf.entry.now) (K.faults shelf.exit.now) }
-        { save_at(rt, alloc, desk, role, stack, gate, watch, shelf, begins) },
-    );
+    { save_at(rt, alloc, desk, role, stack, gate, watch, shelf, begins) };
+    let (_, end) = join_mut(rt, &mut others, &mut saves);
     end
 }
