@@ -1,6 +1,6 @@
 -- What is left of a run, from the board on which all roles have ended to its end.
 use Rattle.std.proofs.Common.{◌≡◌, ◌≢◌, ℕ, suc, ◌+◌, ◌<◌, ◌≤◌, Bool, true, false, eqb, List, [], ◌∷◌, ◌++◌, length, refl, sym, ap, ◌∙◌, subst, arith, Option, Some, None}
-use Rattle.std.specs.Prelude.{slice_get}
+use Rattle.std.specs.Prelude.{slice_get, is_err, OnOk, OnErr, Result, Ok, Err}
 use Rattle.std.specs.List.{list_all}
 use Rattle.std.proofs.lemmas.Bool.{and_parts, false≢true}
 use Rattle.nd_base.specs.Array.{StackValue}
@@ -29,7 +29,12 @@ use Rattle.graph_files.specs.NodeFiles.{NodeFile}
 use Rattle.flow_saver.specs.declared.piece.DuePiece.{DuePiece}
 use Rattle.flow_saver.specs.Saver.{saver_logs, CountsSo, CountsStep}
 use Rattle.flow_saver.specs.Remaining.{is_rest, RestMoves, IsSavingAlone}
-use Rattle.flow_saver.proofs.Handing.{rest-others, rest-reclaims, free-alone, drained-alone}
+use Rattle.flow_saver.specs.HistoryFiles.{HoldsGroupsOf}
+use Rattle.flow_saver.specs.Ending.{IsTornHistory}
+use Rattle.file_out.specs.declared.fault.SaveFault.{SaveFault}
+use Rattle.flow_journal.specs.Pasts.{Past}
+use Rattle.flow_run.specs.RunFiles.{HasSavedRun}
+use Rattle.flow_saver.proofs.Handing.{rest-others, rest-reclaims, free-alone}
 use Rattle.flow_run.specs.Strangers.{AreOwnMoves}
 use Rattle.flow_run.specs.Ticks.{AfterMoves, IsFedByTheClock}
 use Rattle.flow_run.specs.Joined.{IsJoined, IsFedUntil}
@@ -95,7 +100,9 @@ module _ {O : Type 0} (g : Graph) (stack : StackValue) (joined ready : BoardStat
       log = refl;
     }
 
-    pub run-saving : (prefix : List ℕ) (before : Option Files) (xs : List NodeFile) (fault : Bool) (held : Option Files) → is_history s (past done) ≡ true → IsDrained s (past done)
-        → IsSavingAlone g stack prefix before ready xs fault held → IsSavingAlone g stack prefix before done xs fault held
-    run-saving prefix before xs fault held legal drained saving =
-        drained-alone name_of g stack prefix before tick lefts ready done xs fault held drain legal (none-held (last_role s) (past done) drained.free) saving
+-- what stands on the shelf in the end
+pub saved-run : {T : Type 0} (g : Graph) (stack : StackValue) (P : Past) (held : Option Files) (Saving : List ℕ → Option Files → Type 0) (prefix : List ℕ) (before : Option Files) (answer : Result T SaveFault) (fault : Bool)
+    → fault ≡ is_err answer → Saving prefix before → OnOk answer ((p : List ℕ) (b : Option Files) → Saving p b → HoldsGroupsOf g stack p P b held)
+    → OnErr answer ((p : List ℕ) (b : Option Files) → Saving p b → IsTornHistory g stack p P b held) → HasSavedRun g stack prefix P before fault held
+saved-run g stack P held Saving prefix before (Ok x) fault is a ok err = subst (λ (b : Bool). HasSavedRun g stack prefix P before b held) (sym is) (ok prefix before a)
+saved-run g stack P held Saving prefix before (Err e) fault is a ok err = subst (λ (b : Bool). HasSavedRun g stack prefix P before b held) (sym is) (err prefix before a)

@@ -88,3 +88,24 @@ pub not-back : {F P B O : Type 0} (x : Seat F P B O) → is_back x ≡ true → 
 not-back (Ready r v p) h none = false≢true h
 not-back Away h none = false≢true h
 not-back (Back e) h none = none e refl
+
+-- GATHERED
+
+no-items : {X : Type 0} (xs : List X) → length xs ≡ 0 → xs ≡ []
+no-items [] h = refl
+no-items (x ∷ xs) h = cc
+
+ends-cons : {F P B O X : Type 0} (f : RoleEnd F P B O → X) (x : Seat F P B O) (xs : List (Seat F P B O)) → map f (ends_of (x ∷ [])) ++ map f (ends_of xs) ≡ map f (ends_of (x ∷ xs))
+ends-cons f (Ready r v p) xs = refl
+ends-cons f Away xs = refl
+ends-cons f (Back e) xs = refl
+
+pub gathered : {F P B O X : Type 0} (f : RoleEnd F P B O → X) (x : Seat F P B O) (xs : List (Seat F P B O)) (none first all : List X) → length none ≡ 0 → first ≡ none ++ map f (ends_of (x ∷ []))
+    → all ≡ first ++ map f (ends_of xs) → all ≡ map f (ends_of (x ∷ xs))
+gathered {F} {P} {B} {O} {X} f x xs none first all empty one rest =
+    rest ∙ (ap (λ (ys : List X). ys ++ map f (ends_of xs)) (one ∙ ap (λ (ys : List X). ys ++ map f (ends_of (x ∷ []))) (no-items none empty)) ∙ ends-cons f x xs)
+
+pub seats-length : {F P B O : Type 0} (r : ℕ) (nodes : List ℕ) (ps : List P) → length ps ≡ length nodes → length (seats_from {F = F} {P = P} {B = B} {O = O} r nodes ps) ≡ length nodes
+seats-length r [] ps many = refl
+seats-length r (v ∷ nodes) [] many = absurd (omega (arith, many))
+seats-length {F} {P} {B} {O} r (v ∷ nodes) (p ∷ ps) many = ap suc (seats-length {F = F} {P = P} {B = B} {O = O} (r + 1) nodes ps (omega (arith, many)))

@@ -199,3 +199,9 @@ module _ {P : Type 0} (all front rest : List P) (first last : P) (whole : all �
 pub parted : {P : Type 0} (xs ys : List P) (x : P) → 0 < length xs → x ≡ slice_index_or xs 0 x → ys ≡ take 0 xs ++ drop (0 + 1) xs → xs ≡ x ∷ ys
 parted [] ys x some is rest = absurd (omega (arith, some))
 parted {P} (y ∷ xs) ys x some is rest = ap (λ (z : P). z ∷ xs) (sym is) ∙ ap (λ (zs : List P). x ∷ zs) (sym rest)
+
+-- the workers' seats of passes that were dealt out
+pub ready-dealt : {O P : Type 0} (ours : P → Type 0) (knows : P → Pass) (nodes : List ℕ) (ps : List P) → ((k : ℕ) (p : P) → slice_get ps k ≡ Some p → ours p × IsFresh (suc k) (knows p))
+    → AreReady {O = O} ours knows 1 nodes (seats_from 1 nodes ps)
+ready-dealt {O} {P} ours knows nodes ps fresh =
+    ready-from ours knows 1 nodes ps (λ k p at. let f = fresh k p at in let same_ : suc k ≡ 1 + k = omega arith in (f.0, subst (λ (r : ℕ). IsFresh r (knows p)) same_ f.1))

@@ -25,7 +25,7 @@ use Rattle.flow_saver.proofs.Handing.{saving-alone, unsaved-alone}
 use Rattle.flow_run.specs.declared.seats.Seat.{Seat}
 use Rattle.flow_run.specs.declared.seats.Seat.TheVariants.{Ready, Away, Back}
 use Rattle.flow_run.specs.Workers.{posts}
-use Rattle.flow_run.specs.Seats.{ends_of, HasFed}
+use Rattle.flow_run.specs.Seats.{IsRoleEnd, ends_of, HasFed}
 use Rattle.flow_run.specs.Joined.{IsJoined, IsFedUntil}
 use Rattle.flow_run.specs.SaverEnds.{IsSaverEnd}
 use Rattle.flow_run.specs.RunFiles.{SaverLeaves}

@@ -171,7 +171,7 @@ pub fn play_run<
 {
     let nodes = worker_nodes::<R>(alloc, plan)?;
     let role = nodes.len() as u32 + 1;
-    let passes_back = Vec::with_capacity(alloc, nodes.len() + 2)?;
+    let joined = Vec::with_capacity(alloc, nodes.len() + 2)?;
     let lefts = Vec::with_capacity(alloc, nodes.len() + 1)?;
     let (desk, passes) = share_board(alloc, board, role + 1)?;
     let Dealt {
@@ -199,9 +199,9 @@ pub fn play_run<
         &mut begins,
         clock,
         &mut feeder,
-        workers.as_mut_slice(),
+        &mut workers,
     );
-    let (passes, lefts) = gather(feeder, workers, pass, passes_back, lefts);
+    let (passes, lefts) = gather(feeder, workers, pass, joined, lefts);
     let board = take_back(desk, passes);
     finish_run(
         alloc, board, role, lefts, plan, stack, left, files, fault, shelf, clock,

@@ -115,6 +115,7 @@ pub(crate) fn part_all<F: Held, P: Drop>(
     ensures passes { passes.new.items ≡ passes.old.items ++ map (λ e. e.pass) (ends_of seats.items) }
     ensures lefts { lefts.new.items ≡ lefts.old.items ++ map (λ e. e.left) (ends_of seats.items) }
     ensures room { vec_capacity passes.new ≡ vec_capacity passes.old }
+    ensures many { vec_len passes.new ≡ vec_len passes.old + vec_len seats }
 {
     for seat in seats {
         part_one(seat, passes, lefts);

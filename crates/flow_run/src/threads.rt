@@ -1,6 +1,6 @@
 //! The roles of a run, each in its thread.
 
-ghost use Rattle.std.specs.Prelude.{◌≡◌, ◌<◌, ◌≤◌, ◌+◌, ℕ, List, Option, Some, None, [], true, false, length, map, drop, slice_get, is_some, IsTrue};
+ghost use Rattle.std.specs.Prelude.{◌≡◌, ◌<◌, ◌≤◌, ◌+◌, ℕ, List, Option, Some, None, [], true, false, length, vec_len, IsTrue};
 ghost use Rattle.std.specs.Option.{option_map};
 ghost use Rattle.std.specs.List.{list_all};
 ghost use Rattle.nd_base.specs.GraphRules.{IsGraph};
@@ -15,6 +15,7 @@ ghost use Rattle.flow_roles.specs.TurnPasses.{known_by, IsPassOf, IsFreshOf};
 ghost use Rattle.graph_files.specs.OpenFiles.{file_nodes};
 ghost use Rattle.flow_saver.specs.Saver.{CountsSo};
 ghost use Rattle.flow_run.specs.SaverEnds.{SaverBegins, SaverEnds};
+ghost use Rattle.flow_run.specs.Workers as roles;
 ghost use Rattle.flow_run.specs.Workers.{workers};
 ghost use Rattle.flow_run.specs.Seats.{IsReady, IsBack, AreReady, AreBack, SomeWorker, HasWorked, HasFed};
 
@@ -141,23 +142,21 @@ fn feed_and_work<
     gate: &G,
     clock: &mut C,
     feeder: &mut Seat<Frame<R>, TurnPass<Frame<R>, B>>,
-    seats: &mut [Seat<Frame<R>, TurnPass<Frame<R>, B>>],
+    workers: &mut Vec<Seat<Frame<R>, TurnPass<Frame<R>, B>>>,
 )
     requires plan { plan.now ≡ plan_of R.graph R.stack }
     requires graph { IsGraph R.graph }
     requires stack { stack.now ≡ R.stack }
     requires feeder { IsReady (λ p. IsPassOf desk.now.id p.inner) (λ p. known_by p.inner p.last) 0 0 feeder.old }
-    requires seats { length seats.old ≡ length (workers (run_setting R.graph R.stack)) }
-    requires ready { AreReady (λ p. IsPassOf desk.now.id p.inner) (λ p. known_by p.inner p.last) 1 (workers (run_setting R.graph R.stack)) seats.old }
+    requires many { vec_len workers.old ≡ length (roles.workers (run_setting R.graph R.stack)) }
+    requires ready { AreReady (λ p. IsPassOf desk.now.id p.inner) (λ p. known_by p.inner p.last) 1 (roles.workers (run_setting R.graph R.stack)) workers.old.items }
     ensures fed { IsBack (λ p. IsPassOf desk.now.id p.inner) (λ p. known_by p.inner p.last) (run_setting R.graph R.stack) 0 0 feeder.new }
     ensures ticks { HasFed (λ p. known_by p.inner p.last) (run_setting R.graph R.stack) (C.coming clock.old) (C.coming clock.new) feeder.new }
-    ensures seats { length seats.new ≡ length seats.old }
+    ensures many { vec_len workers.new ≡ vec_len workers.old }
     ensures back { AreBack (λ p. IsPassOf desk.now.id p.inner) (λ p. known_by p.inner p.last) (run_setting R.graph R.stack) 1
-        (workers (run_setting R.graph R.stack)) seats.new }
+        (roles.workers (run_setting R.graph R.stack)) workers.new.items }
 {
-    let clock = &mut *clock;
-    let feeder = &mut *feeder;
-    let seats = &mut *seats;
+    let seats = workers.as_mut_slice();
     join_mut(
         rt,
         &mut ||
@@ -167,11 +166,11 @@ fn feed_and_work<
         { feed_at(rt, alloc, desk, stack, gate, clock, feeder) },
         &mut ||
             requires { (plan.now ≡ plan_of R.graph R.stack) × IsGraph R.graph × (stack.now ≡ R.stack)
-                × (length seats.now ≡ length (workers (run_setting R.graph R.stack)))
-                × AreReady (λ p. IsPassOf desk.now.id p.inner) (λ p. known_by p.inner p.last) 1 (workers (run_setting R.graph R.stack)) seats.now }
+                × (length seats.now ≡ length (roles.workers (run_setting R.graph R.stack)))
+                × AreReady (λ p. IsPassOf desk.now.id p.inner) (λ p. known_by p.inner p.last) 1 (roles.workers (run_setting R.graph R.stack)) seats.now }
             ensures { (length seats.exit.now ≡ length seats.entry.now)
                 × AreBack (λ p. IsPassOf desk.entry.now.id p.inner) (λ p. known_by p.inner p.last) (run_setting R.graph R.stack) 1
-                    (workers (run_setting R.graph R.stack)) seats.exit.now }
+                    (roles.workers (run_setting R.graph R.stack)) seats.exit.now }
         { work_all(rt, alloc, desk, plan, stack, gate, seats) },
     );
 }
@@ -204,6 +203,13 @@ fn save_at<R: Run, B: BoardCalls<Frame<R>>, K: Shelf, N: Watch, G: Gate, W: Wait
     )
 }
 
+/// The same reference, lent on here. The borrow checker has no rule yet for a second closure over references of parameters alone.
+fn lend_on<T>(x: &mut T) -> &mut T
+    ensures { result.now ≡ x.old }
+{
+    x
+}
+
 /// All roles of a run, each in a thread of its own but for the one that saves, which has this one.
 pub(crate) fn run_roles<
     R: Run + Send + Sync,
@@ -226,7 +232,7 @@ pub(crate) fn run_roles<
     begins: &mut Option<(TurnPass<Frame<R>, B>, OpenFiles)>,
     clock: &mut C,
     feeder: &mut Seat<Frame<R>, TurnPass<Frame<R>, B>>,
-    seats: &mut [Seat<Frame<R>, TurnPass<Frame<R>, B>>],
+    workers: &mut Vec<Seat<Frame<R>, TurnPass<Frame<R>, B>>>,
 ) -> SaveEnd<Frame<R>, TurnPass<Frame<R>, B>>
     requires role { role ≡ last_role (run_setting R.graph R.stack) }
     requires plan { plan.now ≡ plan_of R.graph R.stack }
@@ -235,35 +241,38 @@ pub(crate) fn run_roles<
     requires kept { IsKeptStack R.stack }
     requires begins { SaverBegins (λ p. IsFreshOf desk.now.id role p.inner p.last) R.graph R.stack begins.old }
     requires feeder { IsReady (λ p. IsPassOf desk.now.id p.inner) (λ p. known_by p.inner p.last) 0 0 feeder.old }
-    requires seats { length seats.old ≡ length (workers (run_setting R.graph R.stack)) }
-    requires ready { AreReady (λ p. IsPassOf desk.now.id p.inner) (λ p. known_by p.inner p.last) 1 (workers (run_setting R.graph R.stack)) seats.old }
+    requires many { vec_len workers.old ≡ length (roles.workers (run_setting R.graph R.stack)) }
+    requires ready { AreReady (λ p. IsPassOf desk.now.id p.inner) (λ p. known_by p.inner p.last) 1 (roles.workers (run_setting R.graph R.stack)) workers.old.items }
     ensures fed { IsBack (λ p. IsPassOf desk.now.id p.inner) (λ p. known_by p.inner p.last) (run_setting R.graph R.stack) 0 0 feeder.new }
     ensures ticks { HasFed (λ p. known_by p.inner p.last) (run_setting R.graph R.stack) (C.coming clock.old) (C.coming clock.new) feeder.new }
-    ensures seats { length seats.new ≡ length seats.old }
+    ensures many { vec_len workers.new ≡ vec_len workers.old }
     ensures back { AreBack (λ p. IsPassOf desk.now.id p.inner) (λ p. known_by p.inner p.last) (run_setting R.graph R.stack) 1
-        (workers (run_setting R.graph R.stack)) seats.new }
+        (roles.workers (run_setting R.graph R.stack)) workers.new.items }
     ensures end { SaverEnds (λ p. IsPassOf desk.now.id p.inner) (λ p. known_by p.inner p.last) R.graph R.stack (K.held shelf.old) begins.old
         result.pass result.left result.files result.fault (K.held shelf.new) }
     ensures fault { CountsSo result.fault (K.faults shelf.old) (K.faults shelf.new) }
 {
-    let mut others = ||
-        requires { (plan.now ≡ plan_of R.graph R.stack) × IsGraph R.graph × (stack.now ≡ R.stack)
-            × IsReady (λ p. IsPassOf desk.now.id p.inner) (λ p. known_by p.inner p.last) 0 0 feeder.now
-            × (length seats.now ≡ length (workers (run_setting R.graph R.stack)))
-            × AreReady (λ p. IsPassOf desk.now.id p.inner) (λ p. known_by p.inner p.last) 1 (workers (run_setting R.graph R.stack)) seats.now }
-        ensures { IsBack (λ p. IsPassOf desk.entry.now.id p.inner) (λ p. known_by p.inner p.last) (run_setting R.graph R.stack) 0 0 feeder.exit.now
-            × HasFed (λ p. known_by p.inner p.last) (run_setting R.graph R.stack) (C.coming clock.entry.now) (C.coming clock.exit.now) feeder.exit.now
-            × (length seats.exit.now ≡ length seats.entry.now)
-            × AreBack (λ p. IsPassOf desk.entry.now.id p.inner) (λ p. known_by p.inner p.last) (run_setting R.graph R.stack) 1
-                (workers (run_setting R.graph R.stack)) seats.exit.now }
-    { feed_and_work(rt, alloc, desk, plan, stack, gate, clock, feeder, seats) };
-    let mut saves = || -> SaveEnd<Frame<R>, TurnPass<Frame<R>, B>>
+    let begins = lend_on(begins);
+    let (_, end) = join_mut(
+        rt,
+        &mut ||
+            requires { (plan.now ≡ plan_of R.graph R.stack) × IsGraph R.graph × (stack.now ≡ R.stack)
+                × IsReady (λ p. IsPassOf desk.now.id p.inner) (λ p. known_by p.inner p.last) 0 0 feeder.now
+                × (vec_len workers.now ≡ length (roles.workers (run_setting R.graph R.stack)))
+                × AreReady (λ p. IsPassOf desk.now.id p.inner) (λ p. known_by p.inner p.last) 1 (roles.workers (run_setting R.graph R.stack)) workers.now.items }
+            ensures { IsBack (λ p. IsPassOf desk.entry.now.id p.inner) (λ p. known_by p.inner p.last) (run_setting R.graph R.stack) 0 0 feeder.exit.now
+                × HasFed (λ p. known_by p.inner p.last) (run_setting R.graph R.stack) (C.coming clock.entry.now) (C.coming clock.exit.now) feeder.exit.now
+                × (vec_len workers.exit.now ≡ vec_len workers.entry.now)
+                × AreBack (λ p. IsPassOf desk.entry.now.id p.inner) (λ p. known_by p.inner p.last) (run_setting R.graph R.stack) 1
+                    (roles.workers (run_setting R.graph R.stack)) workers.exit.now.items }
+        { feed_and_work(rt, alloc, desk, plan, stack, gate, clock, feeder, workers) },
+        &mut || -> SaveEnd<Frame<R>, TurnPass<Frame<R>, B>>
             requires { (role ≡ last_role (run_setting R.graph R.stack)) × IsGraph R.graph × (stack.now ≡ R.stack) × IsKeptStack R.stack
                 × SaverBegins (λ p. IsFreshOf desk.now.id role p.inner p.last) R.graph R.stack begins.now }
             ensures { SaverEnds (λ p. IsPassOf desk.entry.now.id p.inner) (λ p. known_by p.inner p.last) R.graph R.stack (K.held shelf.entry.now) begins.entry.now
                     result.pass result.left result.files result.fault (K.held shelf.exit.now)
                 × CountsSo result.fault (K.faults shelf.entry.now) (K.faults shelf.exit.now) }
-    { save_at(rt, alloc, desk, role, stack, gate, watch, shelf, begins) };
-    let (_, end) = join_mut(rt, &mut others, &mut saves);
+        { save_at(rt, alloc, desk, role, stack, gate, watch, shelf, begins) },
+    );
     end
 }

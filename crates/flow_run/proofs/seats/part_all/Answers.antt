@@ -16,4 +16,5 @@ loop-seat-preserved g c =
       omega (arith, fewer, i.1, e.room.0, e.many.0),
       omega (arith, fewer, i.2, e.room.1, e.many.1),
       e.room.0 ∙ i.3,
+      omega (arith, fewer, i.4, e.many.0),
     )

@@ -8,3 +8,4 @@ invariant-loop-seat g l =
     × (vec_len l.passes + length l.seat-iterator.rest.items ≤ vec_capacity l.passes)
     × (vec_len l.lefts + length l.seat-iterator.rest.items ≤ vec_capacity l.lefts)
     × (vec_capacity l.passes ≡ vec_capacity l.fn.passes)
+    × (vec_len l.passes + length l.seat-iterator.rest.items ≡ vec_len l.fn.passes + vec_len l.fn.seats)
