@@ -1,60 +1,60 @@
--- What a role was lent, and what its hand keeps.
-use Rattle.std.proofs.Common.{◌≡◌, ℕ, ◌<◌, true, List, length, map, set, get_or, sym, ap, ◌∙◌, subst, Option, None}
-use Rattle.std.specs.Prelude.{All}
-use Rattle.std.proofs.lemmas.List.{get_or-map, get_or-set_same, length-set}
-use Rattle.std.proofs.lemmas.List.Elements.{All-get_or}
-use Rattle.nd_base.specs.Parts.{Parts}
+-- The array of a hand, at the block that the course tells of it.
+use Rattle.std.proofs.Common.{◌≡◌, ◌<◌, ℕ, [], ◌∷◌, true, List, Option, length, sym, subst}
 use Rattle.nd_base.specs.declared.frame.FrameName.{FrameName}
-use Rattle.flow_journal.specs.Pasts.{Past}
+use Rattle.nd_base.specs.Parts.{Parts}
+use Rattle.flow_journal.specs.Setting.{Setting}
 use Rattle.flow_journal.specs.Hands.{hand}
-use Rattle.flow_core.specs.declared.hand.Hand.{Hand}
-use Rattle.flow_core.specs.declared.hand.Hand.TheVariants.{Job, Piece}
-use Rattle.flow_core.specs.States.{given_to}
-use Rattle.flow_core.specs.InHand.{seen, is_job_on, is_piece_on, hand_node}
-use Rattle.flow_core.specs.Replay.{AreKept, Keeps, IsRest, IsOneAway, given_for, part_of}
-use Rattle.flow_core.proofs.Kept.{kept_at}
-use Rattle.flow_core.proofs.Moves.{job_in, piece_in, names_role}
-use Rattle.flow_core.proofs.Views.{board_of}
+use Rattle.flow_journal.specs.Accounts.{block_of}
+use Rattle.board_rules.specs.States.{BoardState, past, lent_to}
+use Rattle.board_rules.specs.InHand.{has_part_of}
+use Rattle.frame_table.specs.Kept.{Kept, Frame, kept_at, IsPartOf, MayGiveBack, MayLend, IsUntold}
+use Rattle.flow_emit.specs.Courses.{Coursed}
+use Rattle.board_rules.specs.InHand.{TellParts}
+use Rattle.kept_blocks.specs.LookLaws.{LookLaws, IsLent, IsLendable, IsWithin}
+use Rattle.flow_core.specs.Boards.{IsBoard}
 
--- what the role was given is what its hand says
-pub lent_is : {F : Type 0} (parts : F → Option Parts) (N : Past) (hands : List (Hand F)) (r : ℕ) (h : Hand F) → r < length hands → given_to r (board_of parts N (set hands r h)) ≡ given_for parts h
-lent_is parts N hands r h lt = get_or-map (given_for parts) (set hands r h) r h None (subst (λ (n : ℕ). r < n) (sym (length-set hands r h)) lt) ∙ ap (given_for parts) (get_or-set_same hands r h h lt)
+-- the course tells this of the array's block
+abbrev pub Tells : BoardState → FrameName → ℕ → Type 0
+Tells told a c = (b : ℕ) → block_of (past told) a ≡ b ∷ [] → c ≡ b
 
--- what the board keeps of the job that a role has
-pub record JobKept {F : Type 0} (name_of : F → FrameName) (parts : F → Option Parts) (P : Past) (hands : List (Hand F)) (r v : ℕ) (a : FrameName) (kept : F) : Type 0 where
-  pub node : v ≡ 1
-  pub name : name_of kept ≡ a
-  pub away : IsOneAway (parts kept)
-  pub given : given_to r (board_of parts P hands) ≡ part_of (parts kept)
+pub record LentAt (r : ℕ) (told : BoardState) (t : List Kept) (a : FrameName) (c : ℕ) : Type 0 where
+  pub has : block_of (past told) a ≡ c ∷ []
+  pub place : c < length t
+  pub part : IsPartOf (kept_at t c) a (lent_to r told)
+  pub may : MayGiveBack (kept_at t c) (lent_to r told)
 
-pub job_is_kept : {F : Type 0} (name_of : F → FrameName) (parts : F → Option Parts) (P : Past) (hands : List (Hand F)) (r v : ℕ) (a : FrameName) (w : ℕ) (kept : F) (d : Hand F) → AreKept (map (seen name_of) hands) P → All (IsRest parts) hands → r < length hands → d ≡ get_or hands r d → d ≡ Job w kept → is_job_on v a (hand r P) ≡ true → JobKept name_of parts P hands r v a kept
-job_is_kept name_of parts P hands r v a w kept d all rests lt at_role is yours =
-    let held = job_in r v a (hand r P) (names_role r P) yours in
-    let keeps : Keeps (seen name_of (Job w kept)) (hand r P) = subst (λ (h : Hand _). Keeps (seen name_of h) (hand r P)) is (kept_at name_of hands P r d all lt at_role) in
-    let k = subst (Keeps (Job w (name_of kept))) held keeps in
-    let found : get_or hands r d ≡ Job w kept = sym at_role ∙ is in
-    record {
-      node = k.1;
-      name = k.2;
-      away = subst (IsRest parts) found (All-get_or (IsRest parts) hands r d lt rests);
-      given = get_or-map (given_for parts) hands r d None lt ∙ ap (given_for parts) found;
-    }
+pub lent-at : {F : Type 0} (parts : F → Option Parts) (look : LookLaws parts) (s : Setting) (w : Coursed) (t : List Kept) (r : ℕ) (a : FrameName) (c : ℕ) → IsBoard parts s w t → Tells w.told a c → has_part_of a (hand r (past w.told)) ≡ true → LentAt r w.told t a c
+lent-at parts look s w t r a c i tells has =
+    let l = look.in_hand s w.told t r a i.run i.holds has in
+    subst (λ (b : ℕ). LentAt r w.told t a b) (sym (tells l.block l.has)) (record { has = l.has; place = l.place; part = l.part; may = l.may })
 
-pub record PieceKept {F : Type 0} (name_of : F → FrameName) (parts : F → Option Parts) (P : Past) (hands : List (Hand F)) (r : ℕ) (a : FrameName) (kept : F) : Type 0 where
-  pub node : hand_node (hand r P) ≡ 1
-  pub name : name_of kept ≡ a
-  pub away : IsOneAway (parts kept)
-  pub given : given_to r (board_of parts P hands) ≡ part_of (parts kept)
+-- an array of which a part may be lent, there
+pub record LendsAt {F : Type 0} (parts : F → Option Parts) (told : BoardState) (t : List Kept) (a : FrameName) (c : ℕ) : Type 0 where
+  pub has : block_of (past told) a ≡ c ∷ []
+  pub place : c < length t
+  pub its_parts : Option Parts
+  pub frame : kept_at t c ≡ Frame a its_parts
+  pub may : MayLend (kept_at t c)
+  pub within : IsWithin (kept_at t c)
+  pub tells : TellParts parts → IsUntold (kept_at t c) → ⊥
 
-pub piece_is_kept : {F : Type 0} (name_of : F → FrameName) (parts : F → Option Parts) (P : Past) (hands : List (Hand F)) (r : ℕ) (a : FrameName) (w : ℕ) (kept : F) (d : Hand F) → AreKept (map (seen name_of) hands) P → All (IsRest parts) hands → r < length hands → d ≡ get_or hands r d → d ≡ Piece w kept → is_piece_on a (hand r P) ≡ true → PieceKept name_of parts P hands r a kept
-piece_is_kept name_of parts P hands r a w kept d all rests lt at_role is yours =
-    let held = piece_in r a (hand r P) (names_role r P) yours in
-    let keeps : Keeps (seen name_of (Piece w kept)) (hand r P) = subst (λ (h : Hand _). Keeps (seen name_of h) (hand r P)) is (kept_at name_of hands P r d all lt at_role) in
-    let k = subst (Keeps (Piece w (name_of kept))) held.1 keeps in
-    let found : get_or hands r d ≡ Piece w kept = sym at_role ∙ is in
-    record {
-      node = k.1;
-      name = k.2;
-      away = subst (IsRest parts) found (All-get_or (IsRest parts) hands r d lt rests);
-      given = get_or-map (given_for parts) hands r d None lt ∙ ap (given_for parts) found;
-    }
+pub lends-at : {F : Type 0} (parts : F → Option Parts) (told : BoardState) (t : List Kept) (a : FrameName) (c : ℕ) → IsLendable parts (past told) t a → Tells told a c → LendsAt parts told t a c
+lends-at parts told t a c l tells =
+    subst (λ (b : ℕ). LendsAt parts told t a b) (sym (tells l.block l.has))
+    (record { has = l.has; place = l.place; its_parts = l.its_parts; frame = l.frame; may = l.may; within = l.within; tells = l.tells })
+
+part-of-frame : (k : Kept) (a n : FrameName) (p q : Option Parts) → k ≡ Frame a p → IsPartOf k n q → n ≡ a
+part-of-frame k a n p q is part = let here : IsPartOf (Frame a p) n q = subst (λ (x : Kept). IsPartOf x n q) is part in here.0
+
+-- its part has its name
+pub lent-name : {F : Type 0} (parts : F → Option Parts) (told : BoardState) (t : List Kept) (a : FrameName) (c : ℕ) (n : FrameName) (q : Option Parts) → LendsAt parts told t a c → IsPartOf (kept_at t c) n q → n ≡ a
+lent-name parts told t a c n q l part = part-of-frame (kept_at t c) a n l.its_parts q l.frame part
+
+-- the course was asked by the same name
+pub lent-named : {F : Type 0} (parts : F → Option Parts) (look : LookLaws parts) (s : Setting) (w : Coursed) (t : List Kept) (r : ℕ) (a n : FrameName) (c : ℕ) → IsBoard parts s w t → n ≡ a → Tells w.told n c → has_part_of a (hand r (past w.told)) ≡ true → LentAt r w.told t a c
+lent-named parts look s w t r a n c i named tells has =
+    lent-at parts look s w t r a c i (subst (λ (x : FrameName). Tells w.told x c) named tells) has
+
+-- a part that is what the role was lent may be given back
+pub may-back : {F : Type 0} (parts : F → Option Parts) (r : ℕ) (told : BoardState) (t : List Kept) (a : FrameName) (c : ℕ) (f : F) → LentAt r told t a c → parts f ≡ lent_to r told → MayGiveBack (kept_at t c) (parts f)
+may-back parts r told t a c f l own = subst (λ (q : Option Parts). MayGiveBack (kept_at t c) q) (sym own) l.may

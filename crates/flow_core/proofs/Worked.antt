@@ -8,8 +8,11 @@ use Rattle.nd_base.specs.declared.graph.Graph.{Graph}
 use Rattle.nd_base.specs.declared.graph.NodeRule.{NodeRule}
 use Rattle.nd_base.specs.declared.plan.Maker.{Maker}
 use Rattle.nd_base.specs.declared.plan.Plan.{Plan}
-use Rattle.flow_core.specs.OneFile.{IsOneFile, one_file_plan}
-use Rattle.flow_core.specs.Worked.{worked_graph, worked_array, worked_stack, IsWorkedPlan, HasFrames, IsWorked}
+use Rattle.nd_base.specs.Stacks.{IsStack, HasShape}
+use Rattle.nd_base.specs.declared.array.SampleType.TheVariants.{UInt8}
+use Rattle.std.specs.List.{All}
+use Rattle.chain_plain.specs.Plans.{plan_of}
+use Rattle.flow_core.specs.Worked.{side, worked_graph, worked_shape, worked_array, worked_stack, IsWorkedPlan, HasFrames, IsWorked}
 
 ids_of : (ids : List ℤ) → ids ≡ map (λ (a : Array). a.id) (map worked_array ids)
 ids_of [] = refl
@@ -33,14 +36,32 @@ worked_is_graph wait count some =
       threads = omega arith;
     }
 
+worked_is_stack : (ids : List ℤ) → length ids ≤ 65536 → IsStack (worked_stack ids)
+worked_is_stack ids few =
+    record {
+      dimensions = refl;
+      few_samples = omega arith;
+      few_frames = omega (arith, length-map ids worked_array, few);
+      frames = each ids;
+    } where
+      each : (ids : List ℤ) → All (HasShape worked_shape) (map worked_array ids)
+      each [] = All-nil (HasShape worked_shape)
+      each (i ∷ ids) = All-cons (HasShape worked_shape) (worked_array i) (map worked_array ids) (record { kind = refl; dims = refl; count = refl }) (each ids)
+
+abbrev the_plan : Bool → ℕ → List ℤ → Plan
+the_plan wait count ids = record { graph = worked_graph wait count; ids = ids; makers = record { node = 0; kind = UInt8; dims = side ∷ side ∷ []; need = 4 } ∷ [] }
+
+worked_plan : (wait : Bool) (count : ℕ) (ids : List ℤ) → the_plan wait count ids ≡ plan_of (worked_graph wait count) (worked_stack ids)
+worked_plan wait count ids = ap (λ (js : List ℤ). the_plan wait count js) (ids_of ids)
+
 pub worked_is : (wait : Bool) (count : ℕ) (ids : List ℤ) (p : Plan) → IsBetween 1 65536 count → length ids ≤ 65536 → IsWorkedPlan wait count ids p → IsWorked p.graph (worked_stack p.ids) p
 worked_is wait count ids p some few h =
-    let plan : p ≡ one_file_plan p.graph (worked_stack p.ids) = ap (λ (js : List ℤ). record { graph = p.graph; ids = js; makers = p.makers }) (ids_of p.ids) ∙ ap (λ (ms : List Maker). record { graph = p.graph; ids = map (λ (a : Array). a.id) (map worked_array p.ids); makers = ms }) h.makers in
-    let frames : HasFrames (worked_graph wait count) (worked_stack p.ids) = record { roles = refl; node = refl; size = refl } in
+    let frames : HasFrames (worked_graph wait count) (worked_stack p.ids) = record { roles = refl; node = refl; size = refl; passes = refl; unmeasured = λ a. refl; quiet = λ k. refl } in
+    let made : p ≡ the_plan wait count p.ids = ap (λ (g : Graph). record { graph = g; ids = p.ids; makers = p.makers }) h.graph ∙ ap (λ (ms : List Maker). record { graph = worked_graph wait count; ids = p.ids; makers = ms }) h.makers in
+    let plan : p ≡ plan_of p.graph (worked_stack p.ids) = made ∙ (worked_plan wait count p.ids ∙ ap (λ (g : Graph). plan_of g (worked_stack p.ids)) (sym h.graph)) in
     record {
       plan = plan;
       graph = subst IsGraph (sym h.graph) (worked_is_graph wait count some);
-      one_file = subst IsOneFile (sym h.graph) (record { node = _; rule = _; one = refl; file = refl; unlimited = refl });
-      few = let n = length-map p.ids worked_array in let same = ap length h.all in omega (arith, n, same, few);
+      sound = worked_is_stack p.ids (omega (arith, ap length h.all, few));
       frames = subst (λ (g : Graph). HasFrames g (worked_stack p.ids)) (sym h.graph) frames;
     }

@@ -1,9 +1,2 @@
-pub mod States
-pub mod OneFile
-pub mod InHand
-pub mod Feeding
-pub mod Working
-pub mod Saving
-pub mod Replay
-pub mod Runs
+pub mod Boards
 pub mod Worked

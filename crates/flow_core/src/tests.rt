@@ -3,7 +3,8 @@
 ghost use Rattle.std.specs.Prelude.{◌≡◌, ◌≤◌, IfOk, None, false};
 ghost use Rattle.flow_core.specs.Worked.{side, worked_graph, IsWorked, IsWorkedPlan, HasFrames};
 
-use crate::{Board, Done, HandName, Load, NotYours, Save, Settled, Take, logs_are_histories};
+use crate::Board;
+use board_rules::{BoardCalls, Done, HandName, Left, Load, NotYours, Save, Settled, Take};
 use flow_journal::{Entry, Log, Why};
 use frame_table::TestFrame;
 use nd_base::SampleType::UInt8;
@@ -135,7 +136,6 @@ fn file<R: Run>(board: &mut Board<TestFrame<R>>, role: u32) -> Result<(u32, u32,
 fn feed_three<R: Run>(alloc: Global, plan: &Plan) -> Result<Log, Fail>
     requires { IsWorked R.graph R.stack plan.now }
 {
-    logs_are_histories::<TestFrame<R>>();
     let mut board = Board::<TestFrame<R>>::start(alloc, plan)?;
     feed(&mut board, alloc, 3)?;
     feed(&mut board, alloc, 1)?;
@@ -144,13 +144,13 @@ fn feed_three<R: Run>(alloc: Global, plan: &Plan) -> Result<Log, Fail>
     Ok(log)
 }
 
-fn loaded(index: u32) -> Entry {
+fn loaded(index: u32, block: u32, fresh: bool) -> Entry {
     Entry::Load {
         role: 0,
         index,
-        block: 0,
-        size: 0,
-        fresh: false,
+        block,
+        size: 4,
+        fresh,
         given: 0,
         regrown: false,
     }
@@ -185,17 +185,17 @@ fn a_queue_of_one_takes_one(rt: HostRuntime) -> Result<(), Fail> {
     let plan = plan(alloc, false, 1, &[1, 2, 3])?;
     let log = feed_three::<Brand>(alloc, &plan)?;
     let expected = [
-        loaded(0),
+        loaded(0, 0, true),
         Entry::Tick { tick: 3 },
         Entry::Issue { role: 0, index: 0 },
         emitted(0),
         ACCEPTED,
-        loaded(1),
+        loaded(1, 1, true),
         Entry::Tick { tick: 3 },
         Entry::Issue { role: 0, index: 1 },
         emitted(1),
         full(1),
-        loaded(2),
+        loaded(2, 1, false),
         Entry::Tick { tick: 4 },
         Entry::Issue { role: 0, index: 2 },
         emitted(2),
@@ -236,7 +236,7 @@ fn one_frame_goes_through(rt: HostRuntime) -> Result<(), Fail> {
     let plan = plan(alloc, false, 1, &[1])?;
     let (log, finished) = go_through::<Brand>(alloc, &plan)?;
     let expected = [
-        loaded(0),
+        loaded(0, 0, true),
         Entry::Tick { tick: 0 },
         Entry::Issue { role: 0, index: 0 },
         emitted(0),
@@ -380,5 +380,41 @@ fn whole_groups_are_saved(rt: HostRuntime) -> Result<(), Fail> {
     let plan = plan(alloc, false, 2, &[1, 2, 3])?;
     let pieces = save_groups::<Brand>(alloc, &plan)?;
     assert_eq!(rt; pieces, [(0, 0, Some(2)), (0, 1, Some(2)), (1, 0, Some(1))]);
+    Ok(())
+}
+
+/// A worker leaves with a job in hand, which is taken back and then done by the drain: what the feeder and the worker are answered then.
+fn take_back<R: Run>(alloc: Global, plan: &Plan) -> Result<[bool; 4], Fail>
+    requires { IsWorked R.graph R.stack plan.now }
+{
+    let mut board = Board::<TestFrame<R>>::start(alloc, plan)?;
+    feed(&mut board, alloc, 0)?;
+    let Take::Job { input, .. } = board.take(alloc, 1, 1) else {
+        return Err(Fail::from("there is no job"));
+    };
+    board.leave(1);
+    let left = matches!(board.load(alloc, 0, 0), Load::Left);
+    let brought = Left {
+        input: Some(input),
+        made: None,
+        blank: None,
+    };
+    let taken_back = board.reclaim(1, brought).is_ok();
+    let nothing = Left {
+        input: None,
+        made: None,
+        blank: None,
+    };
+    let again = board.reclaim(1, nothing).is_ok();
+    let job = matches!(board.take(alloc, 2, 1), Take::Job { .. });
+    Ok([left, taken_back, again, job])
+}
+
+#[test]
+fn a_job_is_taken_back(rt: HostRuntime) -> Result<(), Fail> {
+    let alloc = rt.alloc();
+    let plan = plan(alloc, false, 1, &[1, 2])?;
+    let answers = take_back::<Brand>(alloc, &plan)?;
+    assert_eq!(rt; answers, [true, true, false, true]);
     Ok(())
 }

@@ -30,6 +30,9 @@ pub mod Putting
 pub mod RuleFound
 pub mod PutMoves
 pub mod Looking
+pub mod Ticking
+pub mod Flushing
+pub mod Rings
 pub mod Placing
 pub mod PlacedCourse
 pub mod PutSorted

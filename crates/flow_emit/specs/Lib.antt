@@ -15,3 +15,7 @@ pub mod Placing
 pub mod Watched
 pub mod Ticks
 pub mod Settling
+pub mod Ticks
+pub mod Settling
+pub mod Placing
+pub mod Watched
