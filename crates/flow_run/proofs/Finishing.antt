@@ -1,0 +1,101 @@
+-- What is left of a run, from the board on which all roles have ended to its end.
+use Rattle.std.proofs.Common.{◌≡◌, ◌≢◌, ℕ, suc, ◌+◌, ◌<◌, ◌≤◌, Bool, true, false, eqb, List, [], ◌∷◌, ◌++◌, length, refl, sym, ap, ◌∙◌, subst, arith, Option, Some, None}
+use Rattle.std.specs.Prelude.{slice_get}
+use Rattle.std.specs.List.{list_all}
+use Rattle.std.proofs.lemmas.Bool.{and_parts, false≢true}
+use Rattle.nd_base.specs.Array.{StackValue}
+use Rattle.nd_base.specs.GraphRules.{IsGraph}
+use Rattle.nd_base.specs.declared.graph.Graph.{Graph}
+use Rattle.edge_traits.specs.Files.{Files}
+use Rattle.edge_traits.specs.Ticks.{Coming, Ticks}
+use Rattle.frame_store.specs.Sealed.{Sealed}
+use Rattle.flow_journal.specs.declared.entry.Entry.{Entry}
+use Rattle.flow_journal.specs.declared.entry.Entry.TheVariants.{Save, Saved}
+use Rattle.flow_journal.specs.Setting.{Setting, last_role}
+use Rattle.flow_journal.specs.Hands.{hand, is_free}
+use Rattle.flow_journal.specs.Ended.{was_reclaimed}
+use Rattle.flow_journal.specs.Histories.{is_history}
+use Rattle.board_rules.specs.declared.answers.Left.{Left}
+use Rattle.board_rules.specs.States.{BoardState, past, begins, is_role_of}
+use Rattle.board_rules.specs.Movers.{moves_by}
+use Rattle.board_rules.specs.Leaving.{MayReclaim}
+use Rattle.board_rules.specs.RunMeasures.{run_setting}
+use Rattle.flow_roles.specs.Passes.{Pass, only_drain_saves}
+use Rattle.flow_roles.specs.TurnPasses.{BeginsWith}
+use Rattle.flow_roles.specs.Feeder.{name_of, parts_of}
+use Rattle.flow_drain.specs.Drains.{IsDrained, DrainMoves, taken_back}
+use Rattle.flow_drain.proofs.Growth.{none-held}
+use Rattle.graph_files.specs.NodeFiles.{NodeFile}
+use Rattle.flow_saver.specs.declared.piece.DuePiece.{DuePiece}
+use Rattle.flow_saver.specs.Saver.{saver_logs, CountsSo, CountsStep}
+use Rattle.flow_saver.specs.Remaining.{is_rest, RestMoves, IsSavingAlone}
+use Rattle.flow_saver.proofs.Handing.{rest-others, rest-reclaims, free-alone, drained-alone}
+use Rattle.flow_run.specs.Strangers.{AreOwnMoves}
+use Rattle.flow_run.specs.Ticks.{AfterMoves, IsFedByTheClock}
+use Rattle.flow_run.specs.Joined.{IsJoined, IsFedUntil}
+use Rattle.flow_run.proofs.Joined.{none-back, may-back}
+use Rattle.flow_run.proofs.OwnMoves.{SavesOn, own-moves}
+use Rattle.flow_run.proofs.AfterAll.{after-all}
+
+-- the last role's saves, in other words
+rest-entry : (s : Setting) (e : Entry) → is_rest s e ≡ true → (is_role_of (last_role s) (begins e) ≡ true) × (saver_logs e ≡ true)
+rest-entry s (Save r v m k g) h = (h, refl)
+rest-entry s (Saved r v m k) h = (h, refl)
+rest-entry s _ h = absurd (false≢true h)
+
+rest-ours : (s : Setting) (added : BoardState) → list_all (is_rest s) (past added) ≡ true → list_all (λ (e : Entry). is_role_of (last_role s) (begins e)) (past added) ≡ true
+rest-ours s [] h = refl
+rest-ours s (t ∷ added) h = let a = and_parts (is_rest s t.entry) (list_all (is_rest s) (past added)) h in rw (rest-entry s t.entry a.0).0 (rest-ours s added a.1)
+
+rest-logs : (s : Setting) (added : BoardState) → list_all (is_rest s) (past added) ≡ true → list_all saver_logs (past added) ≡ true
+rest-logs s [] h = refl
+rest-logs s (t ∷ added) h = let a = and_parts (is_rest s t.entry) (list_all (is_rest s) (past added)) h in rw (rest-entry s t.entry a.0).1 (rest-logs s added a.1)
+
+pub rest-saves : (s : Setting) (old new : BoardState) → RestMoves s old new → SavesOn s old new
+rest-saves s old new m = record { added = m.0; whole = m.1; ours = rest-ours s m.0 m.2; logs = rest-logs s m.0 m.2 }
+
+module _ {O : Type 0} (g : Graph) (stack : StackValue) (joined ready : BoardState) (passes : List Pass) (lefts : List (Left Sealed (List ℕ) O)) (saver : Pass)
+    (j : IsJoined (run_setting g stack) joined passes lefts saver) (first : RestMoves (run_setting g stack) joined ready) where
+  abbrev s : Setting
+  s = run_setting g stack
+
+  below : (k : ℕ) → k < last_role s → moves_by k ready ≡ moves_by k joined
+  below k low = rest-others s k joined ready (λ is. omega (arith, low, is)) first
+
+  -- the drain may begin
+  pub ready-once : (r : ℕ) → was_reclaimed r (past ready) ≡ false
+  ready-once r = rest-reclaims s r joined ready first ∙ none-back s joined passes lefts saver j r
+
+  pub ready-left : (k : ℕ) (left : Left Sealed (List ℕ) O) → slice_get lefts k ≡ Some left → MayReclaim name_of parts_of length s ready k left
+  ready-left k left at = may-back s joined passes lefts saver j ready below k left at
+
+  module _ (tick : ℕ) (done ended : BoardState) (drain : DrainMoves s tick (taken_back name_of s 0 lefts ready) done) (rest : RestMoves s done ended) where
+    after : AfterMoves s tick joined ended
+    after = after-all name_of s tick lefts joined ready done ended (omega (arith, j.lefts_many)) (rest-saves s joined ready first) drain (rest-saves s done ended rest)
+
+    pub run-own : IsGraph g → (prefix : List ℕ) (before : Option Files) (xs : List NodeFile) (fault : Bool) (held : Option Files) → IsSavingAlone g stack prefix before ready xs fault held
+        → BeginsWith done ready → (IsDrained s (past ready) → done ≡ ready) → AreOwnMoves s (past ended)
+    run-own sound prefix before xs fault held saving grown still =
+        own-moves g stack sound tick joined ready done ended passes lefts saver j (rest-saves s joined ready first) saving.legal saving.drained (free-alone g stack prefix before ready xs fault held saving)
+          grown still (rest-saves s done ended rest) after
+
+    pub run-ticks : (old mid new : Option Coming) → IsFedUntil s joined old mid → Ticks mid tick new → IsFedByTheClock s (past ended) old new
+    run-ticks old mid new fed answered = record {
+      joined = joined;
+      first = fed.first;
+      fresh = fed.fresh;
+      last = fed.last;
+      made = fed.made;
+      then_coming = mid;
+      feeds = fed.feeds;
+      tick = tick;
+      answered = answered;
+      ended = ended;
+      moves = after;
+      log = refl;
+    }
+
+    pub run-saving : (prefix : List ℕ) (before : Option Files) (xs : List NodeFile) (fault : Bool) (held : Option Files) → is_history s (past done) ≡ true → IsDrained s (past done)
+        → IsSavingAlone g stack prefix before ready xs fault held → IsSavingAlone g stack prefix before done xs fault held
+    run-saving prefix before xs fault held legal drained saving =
+        drained-alone name_of g stack prefix before tick lefts ready done xs fault held drain legal (none-held (last_role s) (past done) drained.free) saving

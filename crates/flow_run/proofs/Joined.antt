@@ -1,0 +1,147 @@
+-- The board once all roles have ended.
+use Rattle.std.proofs.Common.{◌≡◌, ◌≢◌, ℕ, zero, suc, ◌+◌, ◌<◌, ◌≤◌, Bool, true, false, ◌&&◌, ◌||◌, eqb, ltb, List, [], ◌∷◌, ◌++◌, map, length, refl, sym, ap, ◌∙◌, subst, arith, Option, Some, None, inl, inr}
+use Rattle.std.specs.Prelude.{slice_get}
+use Rattle.std.specs.Option.{option_map}
+use Rattle.std.specs.List.{list_all, list_any}
+use Rattle.std.proofs.lemmas.Bool.{and_parts, and_from, false≢true, true≢false, cases_Bool, eqb-true, eqb-false, eq-eqb, ltb-true, ltb-false}
+use Rattle.std.proofs.lemmas.Option.{slice_get-map, slice_get_within}
+use Rattle.nd_base.specs.Array.{StackValue}
+use Rattle.nd_base.specs.GraphRules.{IsGraph}
+use Rattle.nd_base.specs.declared.graph.Graph.{Graph}
+use Rattle.frame_store.specs.Sealed.{Sealed}
+use Rattle.flow_journal.specs.declared.entry.Entry.{Entry}
+use Rattle.flow_journal.specs.declared.entry.Entry.TheVariants.{Reclaim}
+use Rattle.flow_journal.specs.Setting.{Setting, is_node, last_role}
+use Rattle.flow_journal.specs.Pasts.{Past}
+use Rattle.flow_journal.specs.Ended.{reclaims, was_reclaimed, closes, is_closed, settles, is_settled, leaves, has_left_any}
+use Rattle.flow_journal.specs.Histories.{is_history}
+use Rattle.board_rules.specs.declared.told.Told.{Told}
+use Rattle.board_rules.specs.declared.answers.Left.{Left}
+use Rattle.board_rules.specs.States.{BoardState, past, begins, is_role_of}
+use Rattle.board_rules.specs.Movers.{first_some, mover, moves_by}
+use Rattle.board_rules.specs.Leaving.{MayReclaim}
+use Rattle.board_rules.specs.RunMeasures.{run_setting}
+use Rattle.flow_roles.specs.Passes.{Pass, only_drain_saves}
+use Rattle.flow_roles.specs.TurnPasses.{BeginsWith, HasMade}
+use Rattle.flow_roles.specs.Feeder.{name_of, parts_of}
+use Rattle.flow_drain.proofs.Growth.{past-append}
+use Rattle.flow_saver.specs.Saver.{saver_logs}
+use Rattle.flow_run.specs.Workers.{workers, posts}
+use Rattle.flow_run.specs.Seats.{post_logs, IsRoleEnd}
+use Rattle.flow_run.specs.Joined.{IsJoined}
+use Rattle.flow_run.proofs.Workers.{posts-length, node-worker}
+use Rattle.flow_run.proofs.Ends.{feeder-closed, worker-settled, post-none, saver-none}
+use Rattle.flow_run.proofs.Movers.{none-such, none-before, any-later}
+
+listed : {X : Type 0} (xs : List X) (k : ℕ) → k < length xs → (x : X) × (slice_get xs k ≡ Some x)
+listed [] k h = absurd (omega (arith, h))
+listed (x ∷ xs) zero h = (x, refl)
+listed (x ∷ xs) (suc k) h = listed xs k (omega (arith, h))
+
+-- the hands that are taken back are among the moves of their roles
+back-move : (r : ℕ) (e : Entry) (o : Option ℕ) → reclaims r e ≡ true → is_role_of r (first_some (begins e) o) ≡ true
+back-move r (Reclaim q) o h = h
+back-move r _ o h = absurd (false≢true h)
+
+back-moves : (r : ℕ) (b : BoardState) → was_reclaimed r (past b) ≡ true → was_reclaimed r (past (moves_by r b)) ≡ true
+back-moves r [] h = h
+back-moves r (t ∷ b) h =
+    elim (cases_Bool (reclaims r t.entry)) [
+      | inl back ↦ rw (back-move r t.entry (mover b) back, back) refl
+      | inr other ↦
+          let later = back-moves r b (rw other at h) in
+          elim (cases_Bool (is_role_of r (first_some (begins t.entry) (mover b)))) [
+            | inl yes_ ↦ rw (yes_, other) later
+            | inr no_ ↦ rw no_ later
+          ]
+    ]
+
+not-back : (r : ℕ) (b : BoardState) → was_reclaimed r (past (moves_by r b)) ≡ false → was_reclaimed r (past b) ≡ false
+not-back r b none =
+    elim (cases_Bool (was_reclaimed r (past b))) [
+      | inl some ↦ absurd (true≢false (sym (back-moves r b some) ∙ none))
+      | inr no_ ↦ no_
+    ]
+
+module _ {O : Type 0} (s : Setting) (b : BoardState) (passes : List Pass) (lefts : List (Left Sealed (List ℕ) O)) (saver : Pass) (j : IsJoined s b passes lefts saver) where
+  post-of : (k : ℕ) → k < last_role s → (v : ℕ) × (slice_get (posts s) k ≡ Some v)
+  post-of k low = listed (posts s) k (omega (arith, low, posts-length s))
+
+  pass-of : (k : ℕ) → k < last_role s → (p : Pass) × (slice_get passes k ≡ Some p)
+  pass-of k low = listed passes k (omega (arith, low, j.passes_many))
+
+  left-of : (k : ℕ) → k < last_role s → (left : Left Sealed (List ℕ) O) × (slice_get lefts k ≡ Some left)
+  left-of k low = listed lefts k (omega (arith, low, j.lefts_many))
+
+  pub below-last : (k v : ℕ) → slice_get (posts s) k ≡ Some v → k < last_role s
+  below-last k v at = omega (arith, posts-length s, slice_get_within (posts s) k v at)
+
+  made-by : (k v : ℕ) (p : Pass) (left : Left Sealed (List ℕ) O) → slice_get (posts s) k ≡ Some v → slice_get passes k ≡ Some p → slice_get lefts k ≡ Some left → moves_by k b ≡ p.made
+  made-by k v p left at is has = let h = j.each k v p left at is has in subst (λ (r : ℕ). moves_by r b ≡ p.made) h.1.1.role h.0.made
+
+  -- the moves of a role on the board
+  pub role-moves : (k v : ℕ) → slice_get (posts s) k ≡ Some v → list_all (post_logs v) (past (moves_by k b)) ≡ true
+  role-moves k v at =
+      let p = pass-of k (below-last k v at) in
+      let l = left-of k (below-last k v at) in
+      subst (λ (c : BoardState). list_all (post_logs v) (past c) ≡ true) (sym (made-by k v p.0 l.0 at p.1 l.1)) (j.each k v p.0 l.0 at p.1 l.1).1.1.moves
+
+  pub last-by : moves_by (last_role s) b ≡ saver.made
+  last-by = subst (λ (r : ℕ). moves_by r b ≡ saver.made) j.last_is j.last_made.made
+
+  pub last-moves : list_all saver_logs (past (moves_by (last_role s) b)) ≡ true
+  last-moves = subst (λ (c : BoardState). list_all saver_logs (past c) ≡ true) (sym last-by) j.last_moves
+
+  -- no hand was taken back
+  pub none-back : (r : ℕ) → was_reclaimed r (past b) ≡ false
+  none-back r =
+      not-back r b (elim (cases_Bool (ltb r (last_role s))) [
+        | inl low ↦
+            let v = post-of r (ltb-true r (last_role s) low) in
+            none-such (post_logs v.0) (reclaims r) (past (moves_by r b)) (λ e h. post-none v.0 r e h) (role-moves r v.0 v.1)
+        | inr high ↦ elim (cases_Bool (eqb r (last_role s))) [
+          | inl here ↦
+              let moves = subst (λ (q : ℕ). list_all saver_logs (past (moves_by q b)) ≡ true) (sym (eqb-true r (last_role s) here)) last-moves in
+              none-such saver_logs (reclaims r) (past (moves_by r b)) (λ e h. saver-none r e h) moves
+          | inr away ↦
+              let ne : r ≢ last_role s = eqb-false r (last_role s) away in
+              let beyond : last_role s < r = omega (arith, ltb-false r (last_role s) high, ne) in
+              ap (λ (c : BoardState). was_reclaimed r (past c)) (j.others r beyond)
+        ]
+      ])
+
+  -- what each role left may be taken back, also at a later board on which it made no move
+  pub may-back : (c : BoardState) → ((k : ℕ) → k < last_role s → moves_by k c ≡ moves_by k b) → (k : ℕ) (left : Left Sealed (List ℕ) O) → slice_get lefts k ≡ Some left
+      → MayReclaim name_of parts_of length s c k left
+  may-back c same k left at =
+      let low : k < last_role s = omega (arith, j.lefts_many, slice_get_within lefts k left at) in
+      let v = post-of k low in
+      let p = pass-of k low in
+      (j.each k v.0 p.0 left v.1 p.1 at).1.1.reclaimed c (same k low ∙ made-by k v.0 p.0 left v.1 p.1 at)
+
+  seen-none : (p : Pass) → HasMade b p → has_left_any (past b) ≡ false → has_left_any (past p.seen) ≡ false
+  seen-none p h none =
+      let whole = ap past h.seen.1 ∙ past-append h.seen.0 p.seen in
+      none-before leaves (past h.seen.0) (past p.seen) (ap has_left_any (sym whole) ∙ none)
+
+  seen-some : (q : Entry → Bool) (p : Pass) → HasMade b p → list_any q (past p.seen) ≡ true → list_any q (past b) ≡ true
+  seen-some q p h some =
+      let whole = ap past h.seen.1 ∙ past-append h.seen.0 p.seen in
+      ap (list_any q) whole ∙ any-later q (past h.seen.0) (past p.seen) some
+
+  -- without a leave the feed is closed, and each worker's node is settled
+  pub feed-closed : has_left_any (past b) ≡ false → is_closed (past b) ≡ true
+  feed-closed none =
+      let low : 0 < last_role s = omega arith in
+      let p = pass-of 0 low in
+      let l = left-of 0 low in
+      let h = j.each 0 0 p.0 l.0 refl p.1 l.1 in
+      seen-some closes p.0 h.0 (feeder-closed p.0.last (past p.0.seen) h.1.0 h.1.1.last (seen-none p.0 h.0 none))
+
+  pub worked-off : (k v : ℕ) → slice_get (workers s) k ≡ Some (suc v) → has_left_any (past b) ≡ false → is_settled (suc v) (past b) ≡ true
+  worked-off k v at none =
+      let low = below-last (suc k) (suc v) at in
+      let p = pass-of (suc k) low in
+      let l = left-of (suc k) low in
+      let h = j.each (suc k) (suc v) p.0 l.0 at p.1 l.1 in
+      seen-some (settles (suc v)) p.0 h.0 (worker-settled (suc v) p.0.last (past p.0.seen) h.1.0 h.1.1.last (seen-none p.0 h.0 none))

@@ -1,0 +1,10 @@
+pub mod Workers
+pub mod Ends
+pub mod Movers
+pub mod Joined
+pub mod OwnMoves
+pub mod AfterAll
+pub mod Seating
+pub mod Parting
+pub mod Finishing
+pub mod Sharing

@@ -1,0 +1,7 @@
+pub mod Workers
+pub mod Strangers
+pub mod Ticks
+pub mod Seats
+pub mod Joined
+pub mod RunFiles
+pub mod SaverEnds
