@@ -16,7 +16,7 @@ use Rattle.replay_top.specs.Answers.{Ends}
 use Rattle.replay_top.specs.Causes.{Counts, IsCause}
 use Rattle.replay_top.specs.Printed.{IsCutShort}
 use Rattle.replay_top.specs.RunCommand.{RunCommand, plain_run, plain_run_of}
-use Rattle.replay_top.specs.RunFiles.{HoldsFiles, AreTorn, GroupsReadBack}
+use Rattle.replay_top.specs.RunFiles.{HoldsFiles, AreTorn, HaveGroupsBack}
 use Rattle.replay_top.specs.Works.{Source, IsRead, IsWithin}
 
 -- the log is a finished history of the graph and the stack that were read, which pass no limit
@@ -34,7 +34,7 @@ pub record IsRunDone (told : Option Files) (c : RunCommand) (P : Past) (held now
   pub source : Source
   pub log : IsLogOf told c source P
   pub files : HoldsFiles c.logs source c.prefix P held now
-  pub back : GroupsReadBack source P
+  pub back : HaveGroupsBack source P
   pub printed : after ≡ with_written before (run_print source P)
 
 -- the files of the log were written, and a proper front of its report
@@ -42,7 +42,7 @@ pub record IsRunCutShort (told : Option Files) (c : RunCommand) (P : Past) (held
   pub source : Source
   pub log : IsLogOf told c source P
   pub files : HoldsFiles c.logs source c.prefix P held now
-  pub back : GroupsReadBack source P
+  pub back : HaveGroupsBack source P
   pub printed : IsCutShort before (run_print source P) after
 
 -- the shelf failed while the files of the log were written, and nothing was printed

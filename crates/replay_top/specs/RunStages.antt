@@ -9,13 +9,15 @@ use Rattle.graph_files.specs.OutFiles.{OutFile, with_files}
 use Rattle.replay_top.specs.declared.status.Status.{Status}
 use Rattle.replay_top.specs.declared.status.Status.TheVariants.{Done, ShelfFault, OutFault, OutOfMemory}
 use Rattle.replay_top.specs.Printed.{IsCutShort}
-use Rattle.replay_top.specs.RunFiles.{HoldsGroupsOf, HoldsTornGroupsOf}
-use Rattle.replay_top.specs.Works.{Source}
+use Rattle.flow_saver.specs.Ending.{IsTornHistory}
+use Rattle.flow_saver.specs.HistoryFiles.{HoldsGroupsOf}
+use Rattle.nd_base.specs.Array.{StackValue}
+use Rattle.nd_base.specs.declared.graph.Graph.{Graph}
 
 -- the groups of all file nodes; or what stands of them where the shelf failed on one
-abbrev pub LeavesGroups : (fault : Bool) → Source → (prefix : List ℕ) → Past → (before held : Option Files) → Type 0
-LeavesGroups false source prefix P before held = HoldsGroupsOf source prefix P before held
-LeavesGroups true source prefix P before held = HoldsTornGroupsOf source prefix P before held
+abbrev pub LeavesGroups : (fault : Bool) → Graph → StackValue → (prefix : List ℕ) → Past → (before held : Option Files) → Type 0
+LeavesGroups false g stack prefix P before held = HoldsGroupsOf g stack prefix P before held
+LeavesGroups true g stack prefix P before held = IsTornHistory g stack prefix P before held
 
 -- the shelf's count rose where it failed, and nowhere else
 abbrev pub CountsFault : (fault : Bool) → (before now : ℕ) → Type 0

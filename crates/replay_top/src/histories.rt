@@ -45,7 +45,7 @@ pub(crate) fn run_plan<K: Shelf, C: Clock + Send, G: Gate + Sync, W: Threads + W
     requires within { limit_fault plan.now.graph stack.now ≡ None }
     ensures run { IfOk result (λ h. IsFinishedRun (run_setting plan.now.graph stack.now) h.log.past) }
     ensures measures { IfOk result (λ h. h.measures ≡ measured (run_measure plan.now.graph stack.now) (run_setting plan.now.graph stack.now) h.log.past) }
-    ensures groups { IfOk result (λ h. LeavesGroups h.fault (record { graph = plan.now.graph; stack = stack.now }) prefix.now h.log.past (K.held shelf.old) (K.held shelf.new)) }
+    ensures groups { IfOk result (λ h. LeavesGroups h.fault plan.now.graph stack.now prefix.now h.log.past (K.held shelf.old) (K.held shelf.new)) }
     ensures cause { IfOk result (λ h. CountsFault h.fault (K.faults shelf.old) (K.faults shelf.new)) }
 {
     let _ = (rt, alloc, plan, stack, prefix, shelf, clock, gate);
