@@ -20,7 +20,7 @@ ghost use Rattle.replay_top.specs.RunStages.{RestEnds, RestCause};
 ghost use Rattle.replay_top.specs.Stages.{SaveStops, PrintStops};
 
 use crate::exit::{Exit, unfinished};
-use crate::histories::{History, run_plan};
+use crate::histories::run_plan;
 use crate::printing::print;
 use crate::run_rows::save_later;
 use crate::run_sources::load_run;
@@ -29,6 +29,8 @@ use crate::status::Status;
 use edge_traits::{Clock, Gate, Library, Shelf, Sink};
 use file_out::SaveFault;
 use flow_journal::Log;
+use flow_run::RunEnd;
+use flow_saver::{groups_read_back, rows_complete_the_files};
 use nd_base::{OutOfMemory, Plan};
 use run_report::{counters, report_text};
 use std::alloc::Global;
@@ -41,7 +43,7 @@ fn save_rest<K: Shelf>(
     shelf: &mut K,
     prefix: &str,
     plan: &Plan,
-    history: &History,
+    history: &RunEnd,
     logs: bool,
 ) -> Result<(), Status>
     requires graph { IsGraph plan.now.graph }
@@ -95,7 +97,7 @@ fn finish<K: Shelf, T: Sink>(
     out: &mut T,
     prefix: &str,
     plan: &Plan,
-    history: &History,
+    history: &RunEnd,
     logs: bool,
 ) -> Status
     requires graph { IsGraph plan.now.graph }
@@ -136,7 +138,8 @@ fn run_words<
     clock: &mut C,
     gate: &G,
 ) -> Exit
-    ensures ends { RunEnds result.status result.log (Some (run_told words.entry)) (L.holds library.old) (K.held shelf.old) (K.held shelf.new) (T.written out.old) (T.written out.new) }
+    ensures ends { RunEnds result.status result.log (Some (run_told words.entry))
+        (record { told = L.holds library.old; coming = C.coming clock.old; later = C.coming clock.new; held = K.held shelf.old; now = K.held shelf.new; written = T.written out.old; out = T.written out.new }) }
     ensures cause { IsRunCause result.status (record { library = L.faults library.old; shelf = K.faults shelf.old; sink = T.faults out.old })
         (record { library = L.faults library.new; shelf = K.faults shelf.new; sink = T.faults out.new }) }
 {
@@ -144,6 +147,8 @@ fn run_words<
         Ok(loaded) => loaded,
         Err(status) => return unfinished(status),
     };
+    groups_read_back();
+    rows_complete_the_files();
     let Ok(history) = run_plan(rt, alloc, &plan, &stack, words.prefix, shelf, clock, gate) else {
         return unfinished(Status::OutOfMemory);
     };
@@ -180,11 +185,14 @@ pub fn run_top<
     // The log is there exactly where the run has finished, and is then a finished history of the graph and the stack that were read. With
     // Done and OutFault the shelf holds its files, and the sink its report, or a proper front of it; with ShelfFault each file is as it was left.
     ensures logged { HasFinished result.status ↔ IsSome result.log }
-    ensures done { result.status ≡ Status.Done → OfLog (λ c P. IsRunDone (L.holds library.old) c P (K.held shelf.old) (K.held shelf.new) (T.written out.old) (T.written out.new))
+    ensures done { result.status ≡ Status.Done → OfLog (IsRunDone
+        (record { told = L.holds library.old; coming = C.coming clock.old; later = C.coming clock.new; held = K.held shelf.old; now = K.held shelf.new; written = T.written out.old; out = T.written out.new }))
         (run_command_of (map string_bytes words.now)) result.log }
-    ensures shelf_fault { result.status ≡ Status.ShelfFault → OfLog (λ c P. IsRunTorn (L.holds library.old) c P (K.held shelf.old) (K.held shelf.new) (T.written out.old) (T.written out.new))
+    ensures shelf_fault { result.status ≡ Status.ShelfFault → OfLog (IsRunTorn
+        (record { told = L.holds library.old; coming = C.coming clock.old; later = C.coming clock.new; held = K.held shelf.old; now = K.held shelf.new; written = T.written out.old; out = T.written out.new }))
         (run_command_of (map string_bytes words.now)) result.log }
-    ensures out_fault { result.status ≡ Status.OutFault → OfLog (λ c P. IsRunCutShort (L.holds library.old) c P (K.held shelf.old) (K.held shelf.new) (T.written out.old) (T.written out.new))
+    ensures out_fault { result.status ≡ Status.OutFault → OfLog (IsRunCutShort
+        (record { told = L.holds library.old; coming = C.coming clock.old; later = C.coming clock.new; held = K.held shelf.old; now = K.held shelf.new; written = T.written out.old; out = T.written out.new }))
         (run_command_of (map string_bytes words.now)) result.log }
 
     // Refusals: exactly where the words are no run; and else those of the plain run of the same words.
