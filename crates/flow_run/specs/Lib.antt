@@ -1,0 +1,4 @@
+pub mod Workers
+pub mod Strangers
+pub mod Ticks
+pub mod RunFiles
