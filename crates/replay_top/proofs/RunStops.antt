@@ -22,7 +22,8 @@ use Rattle.replay_top.specs.declared.status.Status.TheVariants.{Done, Usage, Gra
 use Rattle.replay_top.specs.Causes.{Counts}
 use Rattle.replay_top.specs.RunAnswers.{Objects, IsLogOf, RunEnds, IsRunCause, run_print}
 use Rattle.replay_top.specs.RunCommand.{RunCommand}
-use Rattle.replay_top.specs.RunFiles.{log_files, later_files, HoldsFiles, HaveGroupsBack, AtGroups, AfterGroups, log_name, log_text}
+use Rattle.replay_top.specs.RunFiles.{later_files, HoldsFiles, HaveGroupsBack, AtGroups, AfterGroups}
+use Rattle.replay_top.specs.LogFiles.{log_files}
 use Rattle.replay_top.specs.RunSources.{IsSourceRead, SourceStops}
 use Rattle.replay_top.specs.RunStages.{RestEnds, RestCause}
 use Rattle.replay_top.specs.Works.{Source}

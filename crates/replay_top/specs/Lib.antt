@@ -6,6 +6,7 @@ pub mod Copy
 pub mod CopyLaw
 pub mod Info
 pub mod Limits
+pub mod LogFiles
 pub mod MeasuredFiles
 pub mod PlainText
 pub mod Printed

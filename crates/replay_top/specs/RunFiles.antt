@@ -1,6 +1,6 @@
 -- What a run leaves on the shelf, by its log: the groups of its file nodes, then the rows of its statistics nodes, and then the text of
 -- the log.
-use Rattle.std.specs.Prelude.{◌≡◌, ◌≢◌, ℕ, Bool, true, false, List, [], ◌∷◌, ◌++◌, reverse, Option, Some, codes}
+use Rattle.std.specs.Prelude.{◌≡◌, ◌≢◌, ℕ, Bool, true, false, List, [], ◌∷◌, ◌++◌, Option, Some}
 use Rattle.nd_base.specs.declared.graph.FileRule.{FileRule}
 use Rattle.nd_base.specs.declared.graph.Kind.TheVariants.{File}
 use Rattle.nd_base.specs.declared.graph.NodeRule.{NodeRule}
@@ -8,7 +8,6 @@ use Rattle.nd_base.specs.GraphRules.{rule_at}
 use Rattle.edge_traits.specs.Files.{Files, with_file}
 use Rattle.nd_stack.specs.RoundTrip.{ReadsBack}
 use Rattle.flow_journal.specs.Pasts.{Past}
-use Rattle.flow_journal.specs.Spelling.{text_of}
 use Rattle.flow_journal.specs.Unsaved.{standing_saves}
 use Rattle.run_laws.specs.Results.{contents}
 use Rattle.graph_files.specs.BegunFiles.{AreBegun}
@@ -16,19 +15,9 @@ use Rattle.graph_files.specs.Groups.{group_of}
 use Rattle.graph_files.specs.OutFiles.{OutFile, file_shape}
 use Rattle.flow_saver.specs.Ending.{IsTornHistory}
 use Rattle.flow_saver.specs.HistoryFiles.{HoldsFilesOf, HoldsGroupsOf, rows_files}
+use Rattle.replay_top.specs.LogFiles.{log_name, log_text, log_files}
 use Rattle.replay_top.specs.RunCommand.{RunCommand}
 use Rattle.replay_top.specs.Works.{Source}
-
-abbrev pub log_name : (prefix : List ℕ) → List ℕ
-log_name prefix = prefix ++ codes "log.txt"
-
--- the text of the log, whose entries are these, the newest first
-abbrev pub log_text : Past → List ℕ
-log_text P = text_of (reverse P)
-
-abbrev pub log_files : (logs : Bool) → (prefix : List ℕ) → Past → List OutFile
-log_files false prefix P = []
-log_files true prefix P = record { name = log_name prefix; bytes = log_text P; late = false } ∷ []
 
 -- what is written once the groups stand: the rows, and the log's text last
 abbrev pub later_files : RunCommand → Source → Past → List OutFile

@@ -18,8 +18,9 @@ ghost use Rattle.flow_run.specs.Ticks.{IsFedByTheClock};
 use edge_traits::{Clock, Gate, Shelf};
 use flow_run::RunEnd;
 use graph_files::OpenFiles;
-use nd_base::{Brand, OutOfMemory, Plan, Run, Stack};
+use nd_base::{OutOfMemory, Plan, Run, Stack};
 use std::alloc::Global;
+use std::marker::Brand;
 use std::sync::Wait;
 use std::thread::Threads;
 

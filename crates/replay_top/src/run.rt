@@ -14,7 +14,7 @@ ghost use Rattle.replay_top.specs.Claims.{Completes};
 ghost use Rattle.replay_top.specs.RunAnswers.{RunEnds, IsRunCause, OfLog, HasFinished, IsRunDone, IsRunTorn, IsRunCutShort};
 ghost use Rattle.replay_top.specs.MeasuredFiles.{measured_files};
 ghost use Rattle.replay_top.specs.RunCommand.{run_command_of, plain_run_of};
-ghost use Rattle.replay_top.specs.RunFiles.{log_files};
+ghost use Rattle.replay_top.specs.LogFiles.{log_files};
 ghost use Rattle.replay_top.specs.RunWords.{run_told};
 ghost use Rattle.replay_top.specs.RunStages.{RestEnds, RestCause};
 ghost use Rattle.replay_top.specs.Stages.{SaveStops, PrintStops};

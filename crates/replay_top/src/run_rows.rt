@@ -9,7 +9,7 @@ ghost use Rattle.nd_stats.specs.Row.{row};
 ghost use Rattle.graph_files.specs.BegunFiles.{AreBegun};
 ghost use Rattle.graph_files.specs.OutFiles.{with_files};
 ghost use Rattle.replay_top.specs.MeasuredFiles.{measured_rows, measured_files};
-ghost use Rattle.replay_top.specs.RunFiles.{log_name, log_text, log_files};
+ghost use Rattle.replay_top.specs.LogFiles.{log_name, log_text, log_files};
 
 use board_rules::Measures;
 use edge_traits::Shelf;
