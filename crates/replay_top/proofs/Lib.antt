@@ -16,3 +16,4 @@ pub mod MeasuredRows
 pub mod MeasureRows
 pub mod RunStops
 pub mod RunClaims
+pub mod RunReading

@@ -20,15 +20,21 @@ pub(crate) fn load_run<L: Library>(
     alloc: Global,
     library: &mut L,
     graph: &str,
-    stack: &str,
+    name: &str,
 ) -> Result<(Plan, Stack), Status>
-    ensures read { IfOk result (λ r. IsSourceRead (L.holds library.old) graph.now stack.now r.0.graph r.1) }
+    ensures read { IfOk result (λ r. IsSourceRead (L.holds library.old) graph.now name.now r.0.graph r.1) }
     ensures plan { IfOk result (λ r. r.0 ≡ plan_of r.0.graph r.1) }
     ensures stays { OnOk result (L.faults library.new ≡ L.faults library.old) }
-    ensures err { IfErr result (λ s. SourceStops s (L.holds library.old) graph.now stack.now (L.faults library.old) (L.faults library.new)) }
+    ensures err { IfErr result (λ s. SourceStops s (L.holds library.old) graph.now name.now (L.faults library.old) (L.faults library.new)) }
 {
-    let graph = load_graph(alloc, library, graph)?;
-    let stack = load_stack(alloc, library, stack)?;
+    let graph = match load_graph(alloc, library, graph) {
+        Ok(graph) => graph,
+        Err(status) => return Err(status),
+    };
+    let stack = match load_stack(alloc, library, name) {
+        Ok(stack) => stack,
+        Err(status) => return Err(status),
+    };
     let Ok(plan) = plan(alloc, graph, &stack) else {
         return Err(Status::OutOfMemory);
     };
