@@ -17,3 +17,4 @@ pub mod MeasureRows
 pub mod RunStops
 pub mod RunClaims
 pub mod RunReading
+pub mod SmoothFiles

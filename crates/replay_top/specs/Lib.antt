@@ -24,3 +24,4 @@ pub mod StatusText
 pub mod Words
 pub mod WorkedInfo
 pub mod Works
+pub mod SmoothRuns
