@@ -18,3 +18,4 @@ pub mod RunStops
 pub mod RunClaims
 pub mod RunReading
 pub mod SmoothFiles
+pub mod KeptStacks

@@ -7,7 +7,7 @@ ghost use Rattle.edge_traits.specs.Files.{with_file};
 ghost use Rattle.file_out.specs.Saving.{IsBegun, IsSaveCause};
 ghost use Rattle.nd_stats.specs.Row.{row};
 ghost use Rattle.graph_files.specs.BegunFiles.{AreBegun};
-ghost use Rattle.graph_files.specs.OutFiles.{with_files};
+ghost use Rattle.graph_files.specs.OutFiles.{stats_name, with_files};
 ghost use Rattle.replay_top.specs.MeasuredFiles.{measured_rows, measured_files};
 ghost use Rattle.replay_top.specs.LogFiles.{log_name, log_text, log_files};
 
@@ -51,6 +51,22 @@ fn save_text<K: Shelf>(shelf: &mut K, name: &str, text: &str) -> Result<(), Save
     Ok(())
 }
 
+/// Writes the rows of a statistics node of this name.
+fn save_stats_rows<K: Shelf>(
+    alloc: Global,
+    shelf: &mut K,
+    prefix: &str,
+    node: &str,
+    measures: &[Measure],
+) -> Result<(), SaveFault>
+    ensures ok { OnOk result (K.held shelf.new ≡ with_file (K.held shelf.old) (stats_name prefix.now node.now) (flat_map row measures.now)) }
+    ensures err { OnErr result (IsBegun (K.held shelf.old) (stats_name prefix.now node.now) (flat_map row measures.now) (K.held shelf.new)) }
+    ensures cause { IsSaveCause result (K.faults shelf.old) (K.faults shelf.new) }
+{
+    let file = format!(in alloc; "{prefix}{node}.txt")?;
+    save_measures(alloc, shelf, file.as_str(), measures)
+}
+
 /// Writes the rows of a node of this rule, where it is a statistics node.
 fn save_node_rows<K: Shelf>(
     alloc: Global,
@@ -64,11 +80,7 @@ fn save_node_rows<K: Shelf>(
     ensures cause { IsSaveCause result (K.faults shelf.old) (K.faults shelf.new) }
 {
     match &rule.kind {
-        Kind::Stats(_) => {
-            let name = rule.name.text();
-            let file = format!(in alloc; "{prefix}{name}.txt")?;
-            save_measures(alloc, shelf, file.as_str(), measures)
-        }
+        Kind::Stats(_) => save_stats_rows(alloc, shelf, prefix, rule.name.text(), measures),
         Kind::Roi(_) | Kind::Circular(_) | Kind::File(_) | Kind::Scatter => Ok(()),
     }
 }

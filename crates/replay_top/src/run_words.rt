@@ -19,18 +19,19 @@ pub(crate) struct RunWords<'a> {
 pub(crate) fn run_in(words: &[String]) -> Option<RunWords<'_>>
     ensures { MatchOption result (run_command_of (map string_bytes words.now) ≡ None) (λ c. run_command_of (map string_bytes words.now) ≡ Some (run_told c)) }
 {
-    let [command, graph, stack, prefix] = words else {
-        return None;
-    };
-    let logs = match command.as_str() {
-        "run" => false,
-        "run-log" => true,
-        _ => return None,
-    };
-    Some(RunWords {
-        graph: graph.as_str(),
-        stack: stack.as_str(),
-        prefix: prefix.as_str(),
-        logs,
-    })
+    match words {
+        [command, graph, stack, prefix] if command.as_str() == "run" => Some(RunWords {
+            graph: graph.as_str(),
+            stack: stack.as_str(),
+            prefix: prefix.as_str(),
+            logs: false,
+        }),
+        [command, graph, stack, prefix] if command.as_str() == "run-log" => Some(RunWords {
+            graph: graph.as_str(),
+            stack: stack.as_str(),
+            prefix: prefix.as_str(),
+            logs: true,
+        }),
+        _ => None,
+    }
 }
