@@ -1,5 +1,5 @@
 -- What the nodes of a run measured, as rows of its log.
-use Rattle.std.proofs.Common.{◌≡◌, ℕ, zero, suc, ◌+◌, ◌-◌, ◌<◌, ◌≤◌, List, [], ◌∷◌, ◌++◌, Option, None, Some, length, map, take, drop, refl, ap, sym, ◌∙◌, arith}
+use Rattle.std.proofs.Common.{◌≡◌, ℕ, zero, suc, ◌+◌, ◌-◌, ◌<◌, ◌≤◌, false, List, [], ◌∷◌, ◌++◌, Option, None, Some, length, map, take, drop, refl, ap, sym, ◌∙◌, arith}
 use Rattle.std.specs.Prelude.{slice_get, slice_index_or}
 use Rattle.std.specs.List.{flat_map}
 use Rattle.std.proofs.lemmas.List.{append-nil, length-map}
@@ -73,4 +73,4 @@ length-numbers v (n ∷ ns) = ap suc (length-numbers (v + 1) ns)
 
 pub length-measured : (g : Graph) (stack : StackValue) (P : Past) (ms : List (List Measure)) → ms ≡ measured (run_measure g stack) (run_setting g stack) P → length ms ≡ length g.nodes
 length-measured g stack P ms same =
-    ap length same ∙ length-map (measured_at (run_measure g stack) P) (numbers_from 1 (map node_of g.nodes)) ∙ length-numbers 1 g.nodes
+    ap length same ∙ length-map (numbers_from 1 (map node_of g.nodes)) (measured_at (run_measure g stack) P) ∙ length-numbers 1 g.nodes

@@ -17,17 +17,17 @@ use Rattle.replay_top.proofs.Claims.{Ends-none, answered}
 
 -- the log is there where the run has finished, and nowhere else
 unlogged : (log : Option Journal) → log ≡ None → IsSome log → ⊥
-unlogged None is some = some
-unlogged (Some l) is some = cc
+unlogged None is some = absurd (cc)
+unlogged (Some l) is some = absurd (cc)
 
 pub is_logged : (s : Status) (log : Option Journal) (command : Option RunCommand) (o : Objects) → RunEnds s log command o → HasFinished s ↔ IsSome log
-is_logged Done (Some l) command o ends = ((λ h. tt), (λ h. tt))
+is_logged Done (Some l) command o ends = ((λ h. refl), (λ h. tt))
 is_logged Done None None o ends = absurd ends
 is_logged Done None (Some c) o ends = absurd ends
-is_logged ShelfFault (Some l) command o ends = ((λ h. tt), (λ h. tt))
+is_logged ShelfFault (Some l) command o ends = ((λ h. refl), (λ h. tt))
 is_logged ShelfFault None None o ends = absurd ends
 is_logged ShelfFault None (Some c) o ends = absurd ends
-is_logged OutFault (Some l) command o ends = ((λ h. tt), (λ h. tt))
+is_logged OutFault (Some l) command o ends = ((λ h. refl), (λ h. tt))
 is_logged OutFault None None o ends = absurd ends
 is_logged OutFault None (Some c) o ends = absurd ends
 is_logged Usage log command o ends = ((λ h. absurd h), unlogged log ends.0)
