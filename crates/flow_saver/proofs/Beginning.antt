@@ -2,7 +2,6 @@
 use Rattle.std.proofs.Common.{◌≡◌, ℕ, zero, suc, ◌+◌, ◌*◌, ◌%◌, true, false, List, [], ◌∷◌, ◌++◌, length, take, map, refl, sym, ap, subst, ◌∙◌, arith, Option, Some, None}
 use Rattle.std.specs.Prelude.{slice_get}
 use Rattle.std.proofs.lemmas.List.{drop_all}
-use Rattle.std.specs.List.{list_all}
 use Rattle.nd_base.specs.Array.{Array, StackValue}
 use Rattle.nd_base.specs.declared.graph.Graph.{Graph}
 use Rattle.nd_base.specs.declared.graph.Kind.{Kind}
@@ -20,7 +19,7 @@ use Rattle.graph_files.specs.NodeFileLaws.{none-open}
 use Rattle.graph_files.specs.OpenFiles.{kind_node, nodes_from, file_nodes, closed, AllWritten}
 use Rattle.graph_files.specs.OpenFileLaws.{of_node}
 use Rattle.flow_saver.specs.GivenBack.{given_back, written_by}
-use Rattle.flow_saver.specs.Saver.{Start, IsSaving, AreSaved, AreBegunSo, saver_logs}
+use Rattle.flow_saver.specs.Saver.{Start, IsSaving, AreSaved, AreBegunSo}
 
 module _ (g : Graph) (stack : StackValue) (prefix : List ℕ) where
   closed-kind : (v : ℕ) (n : NodeRule) (c : Kind) (rest : List NodeFile) → map closed rest ≡ rest → map closed (kind_node g stack prefix v n.name c ++ rest) ≡ kind_node g stack prefix v n.name c ++ rest
@@ -64,11 +63,12 @@ nothing_written x held none = record {
 }
 
 pub fresh-saving : (g : Graph) (stack : StackValue) (prefix : List ℕ) (held : Option Files) (r : ℕ) (p : Pass) (xs : List NodeFile) → xs ≡ file_nodes g stack prefix → IsFresh r p
-    → IsSaving g stack (record { prefix = prefix; held = held }) r p xs false held
+    → IsSaving g stack (record { prefix = prefix; made = []; held = held }) r p xs false held
 fresh-saving g stack prefix held r p xs files fresh =
-    let start : Start = record { prefix = prefix; held = held } in
+    let start : Start = record { prefix = prefix; made = []; held = held } in
     let none_ = λ (k : ℕ) (x : NodeFile) (at : slice_get xs k ≡ Some x). none-current g stack prefix k x (ap (λ (ys : List NodeFile). slice_get ys k) (sym files) ∙ at) in
     let all : AllWritten held xs (written_by g stack []) held = record {
+      told = refl;
       each = λ k x at. nothing_written x held (none_ k x at);
       few = λ k x at. omega arith;
       others = λ q away. refl;
@@ -77,10 +77,11 @@ fresh-saving g stack prefix held r p xs files fresh =
     let saved : AreSaved g stack held [] (past p.seen) xs false held = (all, begun) in
     record {
       role = fresh.role;
-      moves = subst (λ (b : BoardState). list_all saver_logs (past b) ≡ true) (sym fresh.made) refl;
+      moves = ([], fresh.made, refl);
       free = subst (λ (b : BoardState). hand r (past b) ≡ None) (sym fresh.made) refl;
       alike = subst (λ (b : BoardState). (v : ℕ) → saves v (past b) ≡ given_back v (past b)) (sym fresh.made) (λ v. refl);
       whole = subst (λ (b : BoardState). (v : ℕ) → length (written_by g stack (past b) v) ≡ length (given_back v (past b))) (sym fresh.made) (λ v. refl);
+      rows = λ fine j x f off at is. let clash : Some f ≡ None = sym is ∙ none_ j x at in absurd (cc);
       nodes = ap (map closed) files ∙ closed-nodes g stack prefix;
       saved = subst (λ (b : BoardState). AreSaved g stack held (past b) (past p.seen) xs false held) (sym fresh.made) saved;
     }

@@ -2,6 +2,7 @@
 use Rattle.std.proofs.Common.{◌≡◌, ℕ, zero, suc, ◌+◌, ◌^◌, ◌<◌, ◌≤◌, Bool, true, false, List, [], ◌∷◌, ◌++◌, length, set, refl, sym, ap, subst, ◌∙◌, arith, Option, Some, None}
 use Rattle.std.specs.Prelude.{slice_get, IsSomeAnd, is_none, IsTrue}
 use Rattle.std.proofs.lemmas.Bool.{false≢true}
+use Rattle.std.proofs.lemmas.Option.{same_Some, slice_get_within}
 use Rattle.nd_base.specs.Array.{Array, StackValue}
 use Rattle.nd_base.specs.GraphRules.{IsGraph}
 use Rattle.nd_base.specs.declared.frame.FrameName.{FrameName}
@@ -28,8 +29,9 @@ use Rattle.flow_saver.specs.Pieces.{content_of, IsDuePiece}
 use Rattle.flow_saver.specs.Saver.{Start, IsSaving, IsToGiveBack, HasUnsaved, AreSaved}
 use Rattle.flow_saver.proofs.Answers.{busy-held, not_yet-still}
 use Rattle.flow_saver.proofs.Due.{of_file}
-use Rattle.flow_saver.proofs.Steps.{saving-still, due-piece, place-after, few}
-use Rattle.flow_saver.proofs.Writing.{wrote, tore, wanted, skipped}
+use Rattle.flow_saver.specs.declared.piece.DuePiece.{DuePiece}
+use Rattle.flow_saver.proofs.Steps.{saving-still, in-hand}
+use Rattle.flow_saver.proofs.Writing.{due-piece, wrote, tore, wanted, skipped}
 
 pub item : {X : Type 0} (xs : List X) (k : ℕ) → k < length xs → (x : X) × (slice_get xs k ≡ Some x)
 item [] k h = absurd (omega (arith, h))
@@ -69,63 +71,69 @@ module _ (g : Graph) (stack : StackValue) (sound : IsGraph g) (start : Start) (r
       let gives : BoardState → BoardState → Type 0 = λ old new. SaveGives name_of parts_of s old r v NotYet new in
       saving-still g stack start r gives answered p q xs fault held st c (not_yet-still s (c.between ++ p.seen) q.seen r v c.answer)
 
-  module _ (input : Sealed) (group place : ℕ) (of : Option ℕ) (call : Called s (λ old new. SaveGives name_of parts_of s old r v (Piece input group place of) new) answered p q) (bytes : List ℕ)
-      (content_ : IsContent g stack input.name bytes) where
-    at-node : (x : NodeFile) → slice_get xs k ≡ Some x → Called s (λ old new. SaveGives name_of parts_of s old r x.node (Piece input group place of) new) answered p q
-    at-node x at = subst (λ (w : ℕ). Called s (λ old new. SaveGives name_of parts_of s old r w (Piece input group place of) new) answered p q) (node x at) call
+  -- a piece that was handed out is in hand
+  pub one-taken : length stack.arrays ≤ 65536 → (input : Sealed) (group place : ℕ) (of : Option ℕ) → Called s (λ old new. SaveGives name_of parts_of s old r v (Piece input group place of) new) answered p q
+      → HasUnsaved g stack start r q xs fault held (record { piece = input; at = k; group = group; place = place; of = of })
+  one-taken small input group place of call =
+      let i = item xs k within in
+      let c = subst (λ (w : ℕ). Called s (λ old new. SaveGives name_of parts_of s old r w (Piece input group place of) new) answered p q) (node i.0 i.1) call in
+      in-hand g stack sound start r drain p q xs fault held answered st k i.0 i.1 input group place of c small
 
-    pub one-due : fault ≡ false → (x : NodeFile) → slice_get xs k ≡ Some x → IsDuePiece g stack x input.name group place of held
-    one-due fine x at = due-piece g stack sound start r drain p q xs fault held answered st k x at input group place of (at-node x at) fine
+-- A PIECE'S WRITE
 
-    pub one-skipped : fault ≡ true → IsToGiveBack g stack start r q xs true held input
-    one-skipped torn =
-        let i = item xs k within in
-        let a = content-some g stack input.name bytes content_ in
-        skipped g stack sound start r drain p q xs fault held answered st k i.0 i.1 input group place of (at-node i.0 i.1) a.0 a.1 torn
+module _ (g : Graph) (stack : StackValue) (sound : IsGraph g) (start : Start) (r : ℕ) (p : Pass) (xs : List NodeFile) (fault : Bool) (held : Option Files) (due : DuePiece Sealed)
+    (st : HasUnsaved g stack start r p xs fault held due) where
+  same-node : (x : NodeFile) → slice_get xs due.at ≡ Some x → st.node ≡ x
+  same-node x at = same_Some st.node x (sym st.listed ∙ at)
 
-    module _ (fine : fault ≡ false) (ys : List NodeFile) (nodes : IsReopened xs k of ys) (stands : Option Files) where
-      pub one-count : length ys ≡ length xs
-      one-count = let i = item xs k within in let n = nodes i.0 i.1 in ap length n.1 ∙ length-put xs k (record i.0 { current = n.0 })
+  pub within-files : due.at < length xs
+  within-files = slice_get_within xs due.at st.node st.listed
 
+  module _ (bytes : List ℕ) (content_ : IsContent g stack due.piece.name bytes) where
+    pub one-due : fault ≡ false → (x : NodeFile) → slice_get xs due.at ≡ Some x → IsDuePiece g stack x due.piece.name due.group due.place due.of held
+    one-due fine x at =
+        let a = content-some g stack due.piece.name bytes content_ in
+        subst (λ (z : NodeFile). IsDuePiece g stack z due.piece.name due.group due.place due.of held) (same-node x at) (due-piece g stack sound start r p xs fault held due st a.0 a.1 fine)
+
+    pub one-skipped : fault ≡ true → IsToGiveBack g stack start r p xs true held due.piece
+    one-skipped torn = let a = content-some g stack due.piece.name bytes content_ in skipped g stack sound start r p xs fault held due st a.0 a.1 torn
+
+    module _ (fine : fault ≡ false) (ys : List NodeFile) (nodes : IsReopened xs due.at due.of ys) (stands : Option Files) where
       saved : AreSaved g stack start.held (past p.made) (past p.seen) xs false held
       saved = subst (λ (b : Bool). AreSaved g stack start.held (past p.made) (past p.seen) xs b held) fine st.saved
 
-      pub one-wrote : length stack.arrays ≤ 65536
-          → ((before : Option Files) (written : ℕ → List Array) (x : NodeFile) (a : Array) → slice_get xs k ≡ Some x → content_of g stack input.name ≡ Some a → length (written x.node) + 1 < 2 ^ 64
-          → IsPlaceAfter x.count (written x.node) group place → AllWritten before xs written held → AllWritten before ys (with_array written x.node a) stands)
-          → ((x : NodeFile) → slice_get xs k ≡ Some x → place + 1 ≡ x.count → (y : NodeFile) → slice_get ys k ≡ Some y → y.current ≡ None)
-          → IsToGiveBack g stack start r q ys false stands input
-      one-wrote small ok ended =
-          let i = item xs k within in
-          let x = i.0 in
-          let a = content-some g stack input.name bytes content_ in
-          let n = nodes x i.1 in
-          let c = at-node x i.1 in
-          let place_ = place-after g stack sound start r drain p q xs fault held answered st k x i.1 input group place of c in
-          let few_ = few g stack sound start r drain p q xs fault held answered st k x i.1 input group place of c small in
-          wrote g stack sound start r drain p q xs fault held answered st k x i.1 input group place of c a.0 a.1 ys n.0 n.1 n.2 fine stands
-          (ok start.held (written_by g stack (past p.made)) x a.0 i.1 a.1 few_ place_ saved.0) (ended x i.1)
+      pub one-wrote : ((before : Option Files) (written : ℕ → List Array) (x : NodeFile) (a : Array) → slice_get xs due.at ≡ Some x → content_of g stack due.piece.name ≡ Some a → length (written x.node) + 1 < 2 ^ 64
+          → IsPlaceAfter x.count (written x.node) due.group due.place → AllWritten before xs written held → AllWritten before ys (with_array written x.node a) stands)
+          → ((x : NodeFile) → slice_get xs due.at ≡ Some x → due.place + 1 ≡ x.count → (y : NodeFile) → slice_get ys due.at ≡ Some y → y.current ≡ None)
+          → IsToGiveBack g stack start r p ys false stands due.piece
+      one-wrote ok ended =
+          let x = st.node in
+          let a = content-some g stack due.piece.name bytes content_ in
+          let n = nodes x st.listed in
+          wrote g stack sound start r p xs fault held due st a.0 a.1 ys n.0 n.1 n.2 fine stands
+          (ok start.held (written_by g stack (past p.made)) x a.0 st.listed a.1 st.few st.place saved.0) (ended x st.listed)
 
-      module _ (fault_ : SaveFault) (stops : (before : Option Files) (written : ℕ → List Array) (x : NodeFile) (a : Array) → slice_get xs k ≡ Some x → content_of g stack input.name ≡ Some a
-          → IsPlaceAfter x.count (written x.node) group place → AllWritten before xs written held → AllStops fault_ before x ys written group (first_count x.late of) a held stands) where
-        stopped : (x : NodeFile) (at : slice_get xs k ≡ Some x) (a : Array) → content_of g stack input.name ≡ Some a → AllStops fault_ start.held x ys (written_by g stack (past p.made)) group (first_count x.late of) a held stands
-        stopped x at a holds =
-            stops start.held (written_by g stack (past p.made)) x a at holds (place-after g stack sound start r drain p q xs fault held answered st k x at input group place of (at-node x at)) saved.0
+      module _ (fault_ : SaveFault) (stops : (before : Option Files) (written : ℕ → List Array) (x : NodeFile) (a : Array) → slice_get xs due.at ≡ Some x → content_of g stack due.piece.name ≡ Some a
+          → IsPlaceAfter x.count (written x.node) due.group due.place → AllWritten before xs written held → AllStops fault_ before x ys written due.group (first_count x.late due.of) a held stands) where
+        stopped : (a : Array) → content_of g stack due.piece.name ≡ Some a → AllStops fault_ start.held st.node ys (written_by g stack (past p.made)) due.group (first_count st.node.late due.of) a held stands
+        stopped a holds = stops start.held (written_by g stack (past p.made)) st.node a st.listed holds st.place saved.0
 
-        pub one-tore : fault_ ≡ Failed → IsToGiveBack g stack start r q ys true stands input
+        pub one-tore : fault_ ≡ Failed → IsToGiveBack g stack start r p ys true stands due.piece
         one-tore is =
-            let i = item xs k within in
-            let x = i.0 in
-            let a = content-some g stack input.name bytes content_ in
-            let n = nodes x i.1 in
-            tore g stack sound start r drain p q xs fault held answered st k x i.1 input group place of (at-node x i.1) a.0 a.1 ys n.0 n.1 n.2 fine stands
-            (subst (λ (f : SaveFault). AllStops f start.held x ys (written_by g stack (past p.made)) group (first_count x.late of) a.0 held stands) is (stopped x i.1 a.0 a.1))
+            let x = st.node in
+            let a = content-some g stack due.piece.name bytes content_ in
+            let n = nodes x st.listed in
+            tore g stack sound start r p xs fault held due st a.0 a.1 ys n.0 n.1 n.2 fine stands
+            (subst (λ (f : SaveFault). AllStops f start.held x ys (written_by g stack (past p.made)) due.group (first_count x.late due.of) a.0 held stands) is (stopped a.0 a.1))
 
-        pub one-wanted : fault_ ≡ OutOfMemory → HasUnsaved g stack start r q ys false stands input
+        pub one-wanted : fault_ ≡ OutOfMemory → HasUnsaved g stack start r p ys false stands due
         one-wanted is =
-            let i = item xs k within in
-            let x = i.0 in
-            let a = content-some g stack input.name bytes content_ in
-            let n = nodes x i.1 in
-            wanted g stack sound start r drain p q xs fault held answered st k x i.1 input group place of (at-node x i.1) a.0 a.1 ys n.0 n.1 n.2 fine stands
-            (subst (λ (f : SaveFault). AllStops f start.held x ys (written_by g stack (past p.made)) group (first_count x.late of) a.0 held stands) is (stopped x i.1 a.0 a.1))
+            let x = st.node in
+            let a = content-some g stack due.piece.name bytes content_ in
+            let n = nodes x st.listed in
+            wanted g stack sound start r p xs fault held due st a.0 a.1 ys n.0 n.1 n.2 fine stands
+            (subst (λ (f : SaveFault). AllStops f start.held x ys (written_by g stack (past p.made)) due.group (first_count x.late due.of) a.0 held stands) is (stopped a.0 a.1))
+
+-- the files are as many as before
+pub count-kept : (xs ys : List NodeFile) (k : ℕ) (of : Option ℕ) → k < length xs → IsReopened xs k of ys → length ys ≡ length xs
+count-kept xs ys k of within nodes = let i = item xs k within in let n = nodes i.0 i.1 in ap length n.1 ∙ length-put xs k (record i.0 { current = n.0 })

@@ -4,7 +4,7 @@ use Rattle.std.specs.Prelude.{slice_get, if◌then◌else◌}
 use Rattle.std.specs.List.{list_all}
 use Rattle.std.proofs.Math.Nat.{mod-lt}
 use Rattle.std.proofs.lemmas.Nat.{div-add-mod'}
-use Rattle.std.proofs.lemmas.Bool.{and_parts, eq-eqb, false≢true}
+use Rattle.std.proofs.lemmas.Bool.{and_parts, and_from, eq-eqb, false≢true}
 use Rattle.std.proofs.lemmas.List.{append_cancel_right}
 use Rattle.nd_base.specs.Array.{StackValue}
 use Rattle.nd_base.specs.GraphRules.{IsGraph}
@@ -14,7 +14,7 @@ use Rattle.frame_store.specs.Sealed.{Sealed}
 use Rattle.flow_journal.specs.declared.entry.Entry.{Entry}
 use Rattle.flow_journal.specs.declared.entry.Entry.TheVariants as entry
 use Rattle.flow_journal.specs.Setting.{Setting, last_role}
-use Rattle.flow_journal.specs.Pasts.{Past}
+use Rattle.flow_journal.specs.Pasts.{Past, comes_at}
 use Rattle.flow_journal.specs.Hands.{hand}
 use Rattle.flow_journal.specs.Following.{owed}
 use Rattle.flow_journal.specs.Histories.{is_legal, is_history, is_nothing, next}
@@ -24,6 +24,7 @@ use Rattle.board_rules.specs.declared.told.Told.{Told}
 use Rattle.board_rules.specs.declared.answers.Save.TheVariants.{Piece}
 use Rattle.board_rules.specs.States.{BoardState, past, lends, lent_to, begins, is_role_of}
 use Rattle.board_rules.specs.Movers.{first_some, mover, moves_by}
+use Rattle.board_rules.specs.Moving.{moved_at}
 use Rattle.board_rules.specs.RunMeasures.{run_setting}
 use Rattle.board_rules.specs.Saving.{SaveGives}
 use Rattle.flow_roles.specs.declared.last.Last.{Last}
@@ -32,10 +33,10 @@ use Rattle.flow_roles.specs.Feeder.{name_of, parts_of}
 use Rattle.flow_roles.proofs.Calls.{Moved, unmoved, moved, role-after}
 use Rattle.graph_files.specs.NodeFiles.{NodeFile, IsPlaceAfter, HasNumrecs, first_count}
 use Rattle.flow_saver.specs.GivenBack.{given_back, written_by}
-use Rattle.flow_saver.specs.Pieces.{IsDuePiece}
-use Rattle.flow_saver.specs.Saver.{Start, IsSaving, AreSaved, IsFirstCount, saver_logs}
+use Rattle.flow_saver.specs.Saver.{Start, IsSaving, HasUnsaved, AreSaved, IsFirstCount, HasSavedSince, saver_logs}
+use Rattle.flow_saver.specs.declared.piece.DuePiece.{DuePiece}
 use Rattle.flow_saver.proofs.Answers.{Given, piece-given}
-use Rattle.flow_saver.proofs.Due.{OfFile, of_file, IsNext, next-piece, next-room, next-sized, next-numrecs}
+use Rattle.flow_saver.proofs.Due.{OfFile, of_file, IsNext, next-piece, next-room, next-sized, next-numrecs, next-first}
 use Rattle.flow_saver.proofs.Saves.{saves-stand, saves-mine}
 use Rattle.flow_saver.proofs.Sizes.{first-more, begun-more}
 
@@ -70,27 +71,76 @@ nothing_owed : (s : Setting) (P : Past) (r v m k g : ℕ) (ds : List Entry) → 
 nothing_owed s P r v m k g [] h = refl
 nothing_owed s P r v m k g (d ∷ ds) h = absurd (false≢true h)
 
-pub saver-quiet : (e : Entry) → begins e ≡ None → saver_logs e ≡ true
-saver-quiet (entry.Load r k b n f g x) h = cc
-saver-quiet (entry.LoadRefused r k n z) h = cc
-saver-quiet (entry.Issue r k) h = cc
-saver-quiet (entry.Take r v m k) h = cc
-saver-quiet (entry.TakeBlock f x r v m k b n g) h = cc
-saver-quiet (entry.PoolDrop r v m k n z) h = cc
-saver-quiet (entry.Put r v m k f) h = cc
-saver-quiet (entry.Settle r v) h = cc
-saver-quiet (entry.Save r v m k g) h = refl
-saver-quiet (entry.Saved r v m k) h = refl
-saver-quiet (entry.Close r) h = cc
-saver-quiet (entry.Leave r) h = cc
-saver-quiet (entry.Reclaim r) h = cc
-saver-quiet _ h = refl
-
 -- what is saved stays so as the log grows
 pub saved-more : (g : Graph) (stack : StackValue) (start : Start) (P : Past) (more b : BoardState) (xs : List NodeFile) (fault : Bool) (held : Option Files) → is_legal (run_setting g stack) (past (more ++ b)) ≡ true
     → AreSaved g stack start.held P (past b) xs fault held → AreSaved g stack start.held P (past (more ++ b)) xs fault held
-saved-more g stack start P more b xs true held legal h = h
+saved-more g stack start P more b xs true held legal h = record {
+  later = h.later;
+  front = h.front;
+  role = h.role;
+  name = h.name;
+  node = h.node;
+  whole = h.whole;
+  files = h.files;
+  then_held = h.then_held;
+  written = h.written;
+  begun = begun-more (run_setting g stack) more b (written_by g stack h.front) h.files legal h.begun;
+  at = h.at;
+  listed = h.listed;
+  nodes = h.nodes;
+  others = h.others;
+  array = h.array;
+  holds = h.holds;
+  group = h.group;
+  place = h.place;
+  place_is = h.place_is;
+  numrecs = h.numrecs;
+  first = first-more (run_setting g stack) more b h.node.node h.node.count h.group h.node.late h.numrecs legal h.first;
+  stops = h.stops;
+}
 saved-more g stack start P more b xs false held legal h = (h.0, begun-more (run_setting g stack) more b (written_by g stack P) xs legal h.1)
+
+-- and as the role takes a piece
+pub saved-taken : (g : Graph) (stack : StackValue) (before : Option Files) (r v m k i : ℕ) (P seen : Past) (xs : List NodeFile) (fault : Bool) (held : Option Files)
+    → AreSaved g stack before P seen xs fault held → AreSaved g stack before (entry.Save r v m k i ∷ P) seen xs fault held
+saved-taken g stack before r v m k i P seen xs true held h = record {
+  later = entry.Save r v m k i ∷ h.later;
+  front = h.front;
+  role = h.role;
+  name = h.name;
+  node = h.node;
+  whole = ap (λ (Q : Past). entry.Save r v m k i ∷ Q) h.whole;
+  files = h.files;
+  then_held = h.then_held;
+  written = h.written;
+  begun = h.begun;
+  at = h.at;
+  listed = h.listed;
+  nodes = h.nodes;
+  others = h.others;
+  array = h.array;
+  holds = h.holds;
+  group = h.group;
+  place = h.place;
+  place_is = h.place_is;
+  numrecs = h.numrecs;
+  first = h.first;
+  stops = h.stops;
+}
+saved-taken g stack before r v m k i P seen xs false held h = (h.0, h.1)
+
+-- a role that made one move more that saves
+pub saved-since : (then_made made new : BoardState) (t : Told) → saver_logs t.entry ≡ true → new ≡ t ∷ made → HasSavedSince then_made made → HasSavedSince then_made new
+saved-since then_made made new t logs is h = (t ∷ h.0, is ∙ ap (λ (b : BoardState). t ∷ b) h.1, and_from _ _ logs h.2)
+
+-- what a move with no condition on its entries says
+all-true : (P : Past) → list_all (λ (e : Entry). true) P ≡ true
+all-true [] = refl
+all-true (e ∷ P) = all-true P
+
+pub any-moved : (s : Setting) (gives : BoardState → BoardState → Type 0) (answered : Last) (p q : Pass) (r : ℕ) → p.role ≡ r → (c : Called s gives answered p q) (t : Told)
+    → begins t.entry ≡ Some r → q.seen ≡ moved_at s 0 t (c.between ++ p.seen) → Moved s (λ (e : Entry). true) r t (c.between ++ p.seen) p q
+any-moved s gives answered p q r is c t first logged = moved s gives answered p q r is c (λ (e : Entry). true) 0 t logged first (λ e h. refl) refl (all-true (past p.made))
 
 -- a call that changed nothing
 pub saving-still : (g : Graph) (stack : StackValue) (start : Start) (r : ℕ) (gives : BoardState → BoardState → Type 0) (answered : Last) (p q : Pass) (xs : List NodeFile) (fault : Bool) (held : Option Files)
@@ -102,11 +152,12 @@ saving-still g stack start r gives answered p q xs fault held st c still =
     let saved = saved-more g stack start (past p.made) c.between p.seen xs fault held legal st.saved in
     record {
       role = role-after s gives answered p q r st.role c;
-      moves = subst (λ (b : BoardState). list_all saver_logs (past b) ≡ true) (sym made) st.moves;
+      moves = subst (λ (b : BoardState). HasSavedSince start.made b) (sym made) st.moves;
       free = subst (λ (b : BoardState). hand r (past b) ≡ None) (sym made) st.free;
       alike = subst (λ (b : BoardState). (v : ℕ) → saves v (past b) ≡ given_back v (past b)) (sym made) st.alike;
       whole = subst (λ (b : BoardState). (v : ℕ) → length (written_by g stack (past b) v) ≡ length (given_back v (past b))) (sym made) st.whole;
       nodes = st.nodes;
+      rows = st.rows;
       saved = subst (λ (b : BoardState). AreSaved g stack start.held (past b) (past q.seen) xs fault held) (sym made)
           (subst (λ (b : BoardState). AreSaved g stack start.held (past p.made) (past b) xs fault held) (sym still) saved);
     }
@@ -187,31 +238,48 @@ module _ (g : Graph) (stack : StackValue) (sound : IsGraph g) (start : Start) (r
       next-numrecs g stack x (past here) (length (written_by g stack (past p.made) x.node)) input.name group place of f.numrecs upcoming
       (subst (λ (i : ℕ). IsFirstCount (past here) x.node x.count i x.late f.numrecs) (sym upcoming.group_is) now)
 
-  -- it may be written
-  pub due-piece : fault ≡ false → IsDuePiece g stack x input.name group place of held
-  due-piece fine =
-      let saved = subst (λ (b : Bool). AreSaved g stack start.held (past p.made) (past p.seen) xs b held) fine st.saved in
+  numrecs-by : (b : Bool) → fault ≡ b → fault ≡ false → HasNumrecs (first_count x.late of) x.current
+  numrecs-by b is fine =
+      let saved = subst (λ (w : Bool). AreSaved g stack start.held (past p.made) (past p.seen) xs w held) fine st.saved in
+      numrecs-of saved x.current refl
+
+  took : Moved s (λ (e : Entry). true) r t here p q
+  took = any-moved s gives answered p q r st.role c t refl given.logged
+
+  legal-then : is_legal s (past (t ∷ here)) ≡ true
+  legal-then = subst (λ (b : BoardState). is_legal s (past b) ≡ true) given.logged (and_parts (is_legal s (past q.seen)) _ c.legal).0
+
+  abbrev back : Entry
+  back = entry.Saved r x.node input.name.maker input.name.index
+
+  abbrev due : DuePiece Sealed
+  due = record { piece = input; at = k; group = group; place = place; of = of }
+
+  -- it is in hand, and may be written
+  pub in-hand : length stack.arrays ≤ 65536 → HasUnsaved g stack start r q xs fault held due
+  in-hand small =
+      let saved : AreSaved g stack start.held (past (t ∷ p.made)) (past (t ∷ here)) xs fault held =
+      saved-taken g stack start.held r x.node input.name.maker input.name.index group (past p.made) (past (t ∷ here)) xs fault held (saved-more g stack start (past p.made) (t ∷ c.between) p.seen xs fault held legal-then st.saved) in
+      let first_ : IsFirstCount (past (t ∷ here)) x.node x.count group x.late (first_count x.late of) =
+      first-more s (t ∷ []) here x.node x.count group x.late (first_count x.late of) legal-then (next-first g stack x (past here) (length (written_by g stack (past p.made) x.node)) input.name group place of upcoming) in
       record {
-        written = (written_by g stack (past p.made) x.node, place-after, saved.0.each k x at);
+        role = role-after s gives answered p q r st.role c;
+        moves = saved-since start.made p.made q.made t refl taken-made st.moves;
+        node = x;
+        listed = at;
+        hand = took.hand ∙ hand_laws.up r t.entry (past here) (eq-eqb r r refl);
+        lent = took.lent ∙ ap (λ (b : Bool). if b then t.lent else lent_to r p.made) (eq-eqb r r refl);
+        maker = upcoming.named;
+        place = subst (λ (b : BoardState). IsPlaceAfter x.count (written_by g stack (past b) x.node) group place) (sym taken-made) place-after;
+        few = subst (λ (b : BoardState). length (written_by g stack (past b) x.node) + 1 < 2 ^ 64) (sym taken-made) (few small);
         room = next-room g stack x file (past here) (length (written_by g stack (past p.made) x.node)) input.name group place of upcoming;
         sized = next-sized g stack x file (past here) (length (written_by g stack (past p.made) x.node)) input.name group place of upcoming;
-        numrecs = numrecs-of saved x.current refl;
-        shape = file.shape;
-        maker = upcoming.named;
+        first = subst (λ (b : BoardState). IsFirstCount (past b) x.node x.count group x.late (first_count x.late of)) (sym given.logged) first_;
+        numrecs = numrecs-by fault refl;
+        alike = subst (λ (b : BoardState). (v : ℕ) → saves v (past b) ≡ given_back v (back ∷ past b)) (sym taken-made) (λ v. ap (comes_at v x.node input.name) (st.alike v));
+        whole = subst (λ (b : BoardState). (v : ℕ) → length (written_by g stack (past b) v) ≡ length (given_back v (past b))) (sym taken-made) st.whole;
+        nodes = st.nodes;
+        rows = λ fine j y f off. st.rows fine j y f (λ e. let none_ : None ≡ Some j = e in absurd (cc));
+        saved = subst (λ (b : BoardState). AreSaved g stack start.held (past b) (past q.seen) xs fault held) (sym taken-made)
+            (subst (λ (b : BoardState). AreSaved g stack start.held (past (t ∷ p.made)) (past b) xs fault held) (sym given.logged) saved);
       }
-
-  took : Moved s saver_logs r t here p q
-  took = moved s gives answered p q r st.role c saver_logs 0 t given.logged refl saver-quiet refl st.moves
-
-  -- and is in hand
-  pub taken-hand : hand r (past q.made) ≡ Some t.entry
-  taken-hand = took.hand ∙ hand_laws.up r t.entry (past here) (eq-eqb r r refl)
-
-  pub taken-lent : lent_to r q.made ≡ parts_of input
-  taken-lent = took.lent ∙ ap (λ (b : Bool). if b then t.lent else lent_to r p.made) (eq-eqb r r refl)
-
-  pub taken-moves : list_all saver_logs (past q.made) ≡ true
-  taken-moves = took.moves
-
-  pub taken-role : q.role ≡ r
-  taken-role = role-after s gives answered p q r st.role c

@@ -2,3 +2,5 @@ pub mod GivenBack
 pub mod HistoryFiles
 pub mod Pieces
 pub mod Saver
+pub mod Remaining
+pub mod Ending

@@ -1,6 +1,6 @@
 //! One piece, written into its file.
 
-ghost use Rattle.std.specs.Prelude.{◌≡◌, ◌+◌, ◌<◌, ◌^◌, ℕ, List, None, Some, Option, length, slice_get, IfErr, OnOk};
+ghost use Rattle.std.specs.Prelude.{◌≡◌, ◌+◌, ◌<◌, ◌^◌, ℕ, List, None, Some, Option, length, slice_get, IfErr, OnOk, OnErr};
 ghost use Rattle.nd_base.specs.Array.{Array};
 ghost use Rattle.nd_base.specs.GraphRules.{IsGraph};
 ghost use Rattle.edge_traits.specs.Files.{Files};
@@ -8,14 +8,29 @@ ghost use Rattle.nd_stack.specs.KeptStacks.{IsKeptStack};
 ghost use Rattle.file_out.specs.Saving.{IsSaveCause};
 ghost use Rattle.graph_files.specs.NodeFiles.{NodeFile, first_count, IsPlaceAfter};
 ghost use Rattle.graph_files.specs.OpenFiles.{IsReopened, AllWritten, AllStops, with_array};
+ghost use Rattle.board_rules.specs.RunMeasures.{run_setting};
+ghost use Rattle.flow_journal.specs.Setting.{last_role};
+ghost use Rattle.flow_roles.specs.Passes.{Pass};
 ghost use Rattle.flow_saver.specs.Pieces.{IsDuePiece, content_of};
+ghost use Rattle.flow_saver.specs.Saver.{Start, HasUnsaved, IsToGiveBack, CountsStep};
 
 use edge_traits::Shelf;
 use file_out::SaveFault;
 use frame_store::Frame;
 use graph_files::OpenFiles;
-use nd_base::{Named, Run, Stack};
+use nd_base::{Named, OutOfMemory, Run, Stack};
 use std::alloc::Global;
+
+/// A piece that is due, and where it goes: the array at this place of this group of file node `at` of the files. The group has
+/// `of` arrays where that is known.
+#[derive(Drop)]
+pub struct DuePiece<F> {
+    pub piece: F,
+    pub at: usize,
+    pub group: u32,
+    pub place: u32,
+    pub of: Option<u32>,
+}
 
 /// The index of a frame, which is below the number of frames.
 fn index_of<R: Run>(piece: &Frame<R>) -> u32
@@ -61,4 +76,44 @@ pub fn write_piece<R: Run, K: Shelf>(
 {
     let head = stack.head(index_of(piece));
     files.write(alloc, shelf, at, group, place, of, head, piece.samples())
+}
+
+/// Writes a piece that is in hand, so that it can be given back. A fault of the shelf is noted, and after one nothing is written any
+/// more.
+///
+/// # Errors
+///
+/// After want of memory the piece isn't written, and may be written again.
+pub(crate) fn write_due<R: Run, K: Shelf>(
+    alloc: Global,
+    shelf: &mut K,
+    stack: &Stack,
+    files: &mut OpenFiles,
+    fault: &mut bool,
+    due: &DuePiece<Frame<R>>,
+) -> Result<(), OutOfMemory>
+    requires graph { IsGraph R.graph }
+    requires stack { stack.now ≡ R.stack }
+    requires kept { IsKeptStack R.stack }
+    requires unsaved { (start : Start) × ((role : ℕ) × ((pass : Pass)
+        × HasUnsaved R.graph R.stack start role pass files.old fault.old (K.held shelf.old) due.now)) }
+    ensures ok { OnOk result ((start : Start) (role : ℕ) (pass : Pass) → HasUnsaved R.graph R.stack start role pass files.old fault.old (K.held shelf.old) due.now
+        → IsToGiveBack R.graph R.stack start role pass files.new fault.new (K.held shelf.new) due.now.piece) }
+    ensures err { OnErr result ((start : Start) (role : ℕ) (pass : Pass) → HasUnsaved R.graph R.stack start role pass files.old fault.old (K.held shelf.old) due.now
+        → HasUnsaved R.graph R.stack start role pass files.new fault.new (K.held shelf.new) due.now) }
+    ensures count { length files.new ≡ length files.old }
+    ensures cause { CountsStep fault.old fault.new (K.faults shelf.old) (K.faults shelf.new) }
+{
+    let _content = due.piece.samples();
+    if *fault {
+        return Ok(());
+    }
+    match write_piece(alloc, files, shelf, stack, due.at, &due.piece, due.group, due.place, due.of) {
+        Ok(()) => Ok(()),
+        Err(SaveFault::Failed) => {
+            *fault = true;
+            Ok(())
+        }
+        Err(SaveFault::OutOfMemory) => Err(OutOfMemory),
+    }
 }

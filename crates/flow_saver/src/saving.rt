@@ -1,6 +1,7 @@
 //! The role that saves.
 
-ghost use Rattle.std.specs.Prelude.{◌≡◌, ◌<◌, ℕ, List, Option, true, false, length, map, is_some, IsTrue, IsNone};
+ghost use Rattle.std.specs.Prelude.{◌≡◌, ◌<◌, ℕ, List, [], Option, true, false, length, map, is_some, IsTrue};
+ghost use Rattle.std.specs.Option.{option_map};
 ghost use Rattle.std.specs.List.{list_all};
 ghost use Rattle.nd_base.specs.GraphRules.{IsGraph};
 ghost use Rattle.edge_traits.specs.Files.{Files};
@@ -13,17 +14,17 @@ ghost use Rattle.board_rules.specs.RunMeasures.{run_setting};
 ghost use Rattle.flow_roles.specs.RoleMoves.{IsFresh};
 ghost use Rattle.graph_files.specs.OpenFiles.{closed, file_nodes};
 ghost use Rattle.flow_saver.specs.GivenBack.{given_back};
-ghost use Rattle.flow_saver.specs.Saver.{saver_logs, saver_ends, IsPieceOfHand, AreSaved, CountsSo, Start, IsSaving, IsToGiveBack, StepLeaves, CountsStep};
+ghost use Rattle.flow_saver.specs.Saver.{saver_logs, saver_ends, piece_of, IsPieceOfHand, AreSaved, CountsSo, Start, IsSaving, IsToGiveBack, StepLeaves, RoleLeaves, CountsStep};
 
-use crate::write_piece;
-use board_rules::{Left, Save};
+use crate::DuePiece;
+use crate::piece::write_due;
+use board_rules::Save;
 use edge_traits::{Gate, Shelf};
-use file_out::SaveFault;
 use flow_journal::Watch;
 use flow_roles::Desk;
 use frame_store::Frame;
 use graph_files::OpenFiles;
-use nd_base::{Held, Run, Stack};
+use nd_base::{Run, Stack};
 use std::alloc::Global;
 use std::sync::Wait;
 
@@ -35,7 +36,7 @@ pub enum Step<F> {
     /// A piece was saved and given back.
     Wrote,
     /// Memory was wanting for this piece, which isn't saved.
-    Wants(F),
+    Wants(DuePiece<F>),
 }
 
 /// Gives a piece back.
@@ -98,23 +99,18 @@ fn save_one<R: Run, D: Desk<Frame<R>>, K: Shelf, W: Wait>(
             place,
             of,
         } => {
-            let _content = input.samples();
-            if *fault {
-                give_back::<R, D, W>(rt, alloc, desk, pass, role, files, true, input);
-                return Step::Wrote;
-            }
-            match write_piece(alloc, files, shelf, stack, at, &input, group, place, of) {
-                Ok(()) => {
-                    give_back::<R, D, W>(rt, alloc, desk, pass, role, files, false, input);
-                    Step::Wrote
-                }
-                Err(SaveFault::Failed) => {
-                    *fault = true;
-                    give_back::<R, D, W>(rt, alloc, desk, pass, role, files, true, input);
-                    Step::Wrote
-                }
-                Err(SaveFault::OutOfMemory) => Step::Wants(input),
-            }
+            let due = DuePiece {
+                piece: input,
+                at,
+                group,
+                place,
+                of,
+            };
+            let Ok(()) = write_due(alloc, shelf, stack, files, fault, &due) else {
+                return Step::Wants(due);
+            };
+            give_back::<R, D, W>(rt, alloc, desk, pass, role, files, *fault, due.piece);
+            Step::Wrote
         }
     }
 }
@@ -150,7 +146,7 @@ fn save_node<R: Run, D: Desk<Frame<R>>, K: Shelf, W: Wait>(
         match save_one(rt, alloc, desk, pass, role, shelf, stack, files, fault, at) {
             Step::Nothing => return if any { Step::Wrote } else { Step::Nothing },
             Step::Wrote => any = true,
-            Step::Wants(piece) => return Step::Wants(piece),
+            Step::Wants(due) => return Step::Wants(due),
         }
     }
     unreachable!()
@@ -184,18 +180,18 @@ fn save_turn<R: Run, D: Desk<Frame<R>>, K: Shelf, W: Wait>(
         match save_node(rt, alloc, desk, pass, role, shelf, stack, files, fault, at) {
             Step::Nothing => {}
             Step::Wrote => any = true,
-            Step::Wants(piece) => return Step::Wants(piece),
+            Step::Wants(due) => return Step::Wants(due),
         }
     }
     if any { Step::Wrote } else { Step::Nothing }
 }
 
-/// The end of the role that saves: its pass, the piece that it has in hand, the files with those that are open, whether the shelf
+/// The end of the role that saves: its pass, the piece that it has in hand, with its place, the files with those that are open, whether the shelf
 /// failed, and whether memory was wanting.
 #[derive(Drop)]
-pub struct SaveEnd<F: Held, P> {
+pub struct SaveEnd<F, P> {
     pub pass: P,
-    pub left: Left<F>,
+    pub left: Option<DuePiece<F>>,
     pub files: OpenFiles,
     pub fault: bool,
     pub want: bool,
@@ -227,11 +223,13 @@ pub fn save_role<R: Run, D: Desk<Frame<R>>, K: Shelf, N: Watch, G: Gate, W: Wait
     ensures role { (D.knows result.pass).role ≡ role }
     ensures moves { list_all saver_logs (past (D.knows result.pass).made) ≡ true }
     ensures last { IsTrue (saver_ends (run_setting R.graph R.stack) (D.knows result.pass).last (past (D.knows result.pass).seen) result.want) }
-    ensures left { IsPieceOfHand (lent_to role (D.knows result.pass).made) (hand role (past (D.knows result.pass).made)) result.left.input × IsNone result.left.made × IsNone result.left.blank }
-    ensures wants { result.want ≡ is_some result.left.input }
+    ensures left { IsPieceOfHand (lent_to role (D.knows result.pass).made) (hand role (past (D.knows result.pass).made)) (option_map piece_of result.left) }
+    ensures wants { result.want ≡ is_some result.left }
     ensures nodes { map closed result.files ≡ files }
     ensures history { result.want ≡ false → (v : ℕ) → standing_saves v (past (D.knows result.pass).seen) ≡ given_back v (past (D.knows result.pass).made) }
     ensures saved { AreSaved R.graph R.stack (K.held shelf.old) (past (D.knows result.pass).made) (past (D.knows result.pass).seen) result.files result.fault (K.held shelf.new) }
+    ensures leaves { (prefix : List ℕ) → files ≡ file_nodes R.graph R.stack prefix
+        → RoleLeaves R.graph R.stack (record { prefix = prefix; made = []; held = K.held shelf.old }) role result.left (D.knows result.pass) result.files result.fault (K.held shelf.new) }
     ensures fault { CountsSo result.fault (K.faults shelf.old) (K.faults shelf.new) }
 {
     let mut pass = pass;
@@ -241,14 +239,9 @@ pub fn save_role<R: Run, D: Desk<Frame<R>>, K: Shelf, N: Watch, G: Gate, W: Wait
         let progress = desk.progress(rt, alloc, &mut pass, role);
         let _ = watch.note(alloc, &progress);
         if progress.done || progress.left {
-            let left = Left {
-                input: None,
-                made: None,
-                blank: None,
-            };
             return SaveEnd {
                 pass,
-                left,
+                left: None,
                 files,
                 fault,
                 want: false,
@@ -259,15 +252,10 @@ pub fn save_role<R: Run, D: Desk<Frame<R>>, K: Shelf, N: Watch, G: Gate, W: Wait
         ) {
             Step::Nothing => gate.idle(),
             Step::Wrote => {}
-            Step::Wants(piece) => {
-                let left = Left {
-                    input: Some(piece),
-                    made: None,
-                    blank: None,
-                };
+            Step::Wants(due) => {
                 return SaveEnd {
                     pass,
-                    left,
+                    left: Some(due),
                     files,
                     fault,
                     want: true,

@@ -1,3 +1,4 @@
 pub mod Torn
 pub mod Names
 pub mod Writes
+pub mod Ends

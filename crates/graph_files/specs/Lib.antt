@@ -11,3 +11,4 @@ pub mod GroupLaws
 pub mod NodeFileLaws
 pub mod OpenFiles
 pub mod OpenFileLaws
+pub mod EndedFiles

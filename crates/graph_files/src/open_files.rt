@@ -1,6 +1,6 @@
 //! The files of all file nodes of a graph.
 
-ghost use Rattle.std.specs.Prelude.{◌≡◌, ◌+◌, ◌^◌, ◌<◌, ℕ, List, None, Some, Option, length, slice_get, IfOk, IfErr, OnOk, OnErr};
+ghost use Rattle.std.specs.Prelude.{◌≡◌, ◌+◌, ◌^◌, ◌<◌, ℕ, List, None, Some, Option, length, slice_get, slice_set, IfOk, IfErr, OnOk, OnErr};
 ghost use Rattle.nd_base.specs.Array.{Array};
 ghost use Rattle.nd_base.specs.Shapes.{array_of};
 ghost use Rattle.nd_base.specs.GraphRules.{IsGraph};
@@ -9,8 +9,10 @@ ghost use Rattle.nd_stack.specs.KeptStacks.{IsKeptStack};
 ghost use Rattle.chain_plain.specs.Plans.{plan_of};
 ghost use Rattle.graph_conf.specs.Loads.{limit_fault};
 ghost use Rattle.file_out.specs.Saving.{IsSaveCause};
-ghost use Rattle.graph_files.specs.NodeFiles.{NodeFile, first_count, IsPlaceAfter};
-ghost use Rattle.graph_files.specs.OpenFiles.{file_nodes, IsReady, IsReopened, AllWritten, AllStops, with_array};
+ghost use Rattle.file_out.specs.declared.fault.SaveFault.TheVariants as faults;
+ghost use Rattle.graph_files.specs.NodeFiles.{NodeFile, first_count, IsPlaceAfter, AreWritten, IsFilled};
+ghost use Rattle.graph_files.specs.OpenFiles.{closed, file_nodes, IsReady, IsReopened, AllWritten, AllStops, with_array};
+ghost use Rattle.graph_files.specs.EndedFiles.{AllEnded, AllEndStops, AllStand, OneEndStops, AreOthersAsBefore};
 
 use crate::NodeFiles;
 use edge_traits::Shelf;
@@ -111,5 +113,46 @@ impl OpenFiles {
         ensures cause { IsSaveCause result (K.faults shelf.old) (K.faults shelf.new) }
     {
         self.nodes[at].write(alloc, shelf, group, place, of, head, samples)
+    }
+
+    /// Ends the open file of file node `at` of these, if there is one.
+    fn end_node<K: Shelf>(&mut self, shelf: &mut K, at: usize) -> Result<(), SaveFault>
+        requires at { at < length self.old }
+        requires written { (x : NodeFile) → slice_get self.old at ≡ Some x → (arrays : List Array) × AreWritten x arrays (K.held shelf.old) }
+        requires filled { (x : NodeFile) → slice_get self.old at ≡ Some x → IsFilled x.current }
+        ensures nodes { (x : NodeFile) → slice_get self.old at ≡ Some x → self.new ≡ slice_set self.old at (closed x) }
+        ensures ok { OnOk result ((before : Option Files) (written : ℕ → List Array) (x : NodeFile) → slice_get self.old at ≡ Some x → AreWritten x (written x.node) (K.held shelf.old)
+            → AllStand before self.old written (K.held shelf.old) → AllStand before self.new written (K.held shelf.new)) }
+        ensures err { OnErr result ((before : Option Files) (written : ℕ → List Array) (x : NodeFile) → slice_get self.old at ≡ Some x → AreWritten x (written x.node) (K.held shelf.old)
+            → AllStand before self.old written (K.held shelf.old) → OneEndStops before x self.new written (K.held shelf.old) (K.held shelf.new)) }
+        ensures others { (before : Option Files) (written : ℕ → List Array) (x : NodeFile) → slice_get self.old at ≡ Some x → AreWritten x (written x.node) (K.held shelf.old)
+            → AllStand before self.old written (K.held shelf.old) → AreOthersAsBefore self.old at written (K.held shelf.old) (K.held shelf.new) }
+        ensures failed { IfErr result (λ fault. fault ≡ faults.Failed) }
+        ensures cause { IsSaveCause result (K.faults shelf.old) (K.faults shelf.new) }
+    {
+        self.nodes[at].end(shelf)
+    }
+
+    /// Ends each file that is open: those of the last, short groups.
+    ///
+    /// # Errors
+    ///
+    /// `Failed` alone, where the shelf failed: its count of faults rose. The files that aren't ended then stay as they were, but for
+    /// the one whose end failed: its name has the header and the rows, with any number of records where the header left it open.
+    pub fn end<K: Shelf>(self, shelf: &mut K) -> Result<(), SaveFault>
+        requires written { (before : Option Files) × ((written : ℕ → List Array) × AllWritten before self written (K.held shelf.old)) }
+        requires filled { (k : ℕ) (x : NodeFile) → slice_get self k ≡ Some x → IsFilled x.current }
+        ensures ok { OnOk result ((before : Option Files) (written : ℕ → List Array) → AllWritten before self written (K.held shelf.old)
+            → AllEnded before self written (K.held shelf.new)) }
+        ensures err { OnErr result ((before : Option Files) (written : ℕ → List Array) → AllWritten before self written (K.held shelf.old)
+            → AllEndStops before self written (K.held shelf.old) (K.held shelf.new)) }
+        ensures failed { IfErr result (λ fault. fault ≡ faults.Failed) }
+        ensures cause { IsSaveCause result (K.faults shelf.old) (K.faults shelf.new) }
+    {
+        let mut files = self;
+        for at in 0..files.count() {
+            files.end_node(shelf, at)?;
+        }
+        Ok(())
     }
 }

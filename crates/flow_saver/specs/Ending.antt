@@ -1,0 +1,66 @@
+-- What stands under the names of a run's groups after a fault of the shelf, and that the groups' files read back.
+use Rattle.std.specs.Prelude.{◌≡◌, ◌≢◌, ◌⊎◌, ℕ, Bool, true, List, [], ◌++◌, length, Option, None, Some, Result, Ok, Err}
+use Rattle.nd_base.specs.Array.{Array, StackValue}
+use Rattle.nd_base.specs.declared.graph.FileRule.{FileRule}
+use Rattle.nd_base.specs.declared.graph.Graph.{Graph}
+use Rattle.nd_base.specs.declared.graph.Kind.TheVariants.{File}
+use Rattle.nd_base.specs.declared.graph.NodeRule.{NodeRule}
+use Rattle.nd_base.specs.GraphRules.{IsGraph, rule_at}
+use Rattle.edge_traits.specs.Files.{Files, HasFile, file_at, overwritten}
+use Rattle.cdf_write.specs.Layout.{layout}
+use Rattle.file_out.specs.declared.fault.SaveFault.{SaveFault}
+use Rattle.file_out.specs.Saving.{IsSaveCause}
+use Rattle.file_out.specs.Streams.{count_place}
+use Rattle.nd_stack.specs.KeptStacks.{IsKeptStack}
+use Rattle.nd_stack.specs.RoundTrip.{ReadsBack}
+use Rattle.graph_conf.specs.Loads.{limit_fault}
+use Rattle.flow_journal.specs.Pasts.{Past}
+use Rattle.flow_journal.specs.Histories.{is_history}
+use Rattle.flow_journal.specs.Unsaved.{standing_saves}
+use Rattle.board_rules.specs.RunMeasures.{run_setting}
+use Rattle.run_laws.specs.Results.{contents}
+use Rattle.graph_files.specs.BegunFiles.{open_count}
+use Rattle.graph_files.specs.Groups.{group_of}
+use Rattle.graph_files.specs.OutFiles.{file_shape, group_name, is_stream}
+use Rattle.flow_saver.specs.HistoryFiles.{kind_group}
+
+-- What was there before, or a front of the file's final bytes. Where its count of records is put in when it ends, the count may be open in that
+-- front, and it may be any four bytes after a patch that failed.
+pub data IsBegunAs (late : Bool) (final : List ℕ) (before now : Option (List ℕ)) : Type 0 where
+  AsBefore : now ≡ before → IsBegunAs late final before now
+  Counted : (front rest : List ℕ) → final ≡ front ++ rest → now ≡ Some front → IsBegunAs late final before now
+  Open : late ≡ true → (front rest : List ℕ) → overwritten final count_place open_count ≡ front ++ rest → now ≡ Some front → IsBegunAs late final before now
+  Miscounted : late ≡ true → (count front rest : List ℕ) → length count ≡ 4 → overwritten final count_place count ≡ front ++ rest → now ≡ Some front
+      → IsBegunAs late final before now
+
+-- where the shelf tells its files
+abbrev pub IsBegunAt : (late : Bool) → (final : List ℕ) → (before held : Option Files) → (name : List ℕ) → Type 0
+IsBegunAt late final before None name = Unit {0}
+IsBegunAt late final before (Some files) name = IsBegunAs late final (file_at before name) (file_at (Some files) name)
+
+-- AFTER A FAULT: each name of a group is as before the run, or begun as its final file; every other name is as before. Of the arrays of each node
+-- the first were written, and each group of which all were is whole, but for the one whose name the shelf failed on.
+pub record IsTornHistory (g : Graph) (stack : StackValue) (prefix : List ℕ) (P : Past) (before held : Option Files) : Type 0 where
+  pub each : (v i : ℕ) (n : NodeRule) (r : FileRule) (bytes : List ℕ) → rule_at g.nodes v ≡ Some n → n.kind ≡ File r → kind_group g stack P v n.kind i ≡ Some bytes
+      → IsBegunAt (is_stream r.mode) bytes before held (group_name prefix n.name i)
+  pub others : (q : List ℕ) → ((v i : ℕ) (n : NodeRule) (bytes : List ℕ) → rule_at g.nodes v ≡ Some n → kind_group g stack P v n.kind i ≡ Some bytes → q ≢ group_name prefix n.name i)
+      → file_at held q ≡ file_at before q
+  pub written : ℕ → List Array
+  pub first : (v : ℕ) → (rest : List Array) × (contents g.nodes stack.arrays (standing_saves v P) ≡ written v ++ rest)
+  -- the node and the group of the torn name
+  pub node : ℕ
+  pub group : ℕ
+  pub whole : (v i : ℕ) (n : NodeRule) (r : FileRule) → rule_at g.nodes v ≡ Some n → n.kind ≡ File r → (v ≢ node) ⊎ (i ≢ group) → length (group_of r.count i (written v)) ≡ r.count
+      → HasFile held (group_name prefix n.name i) (layout (file_shape g stack v) (group_of r.count i (written v)))
+
+-- READING BACK: in every history of a run that no limit refuses, the arrays of each group of a file node read back from their file
+abbrev pub GroupsReadBack : Type 0
+GroupsReadBack = (g : Graph) (stack : StackValue) (P : Past) (v i : ℕ) (n : NodeRule) (r : FileRule) → IsGraph g → IsKeptStack stack → limit_fault g stack ≡ None
+    → is_history (run_setting g stack) P ≡ true → rule_at g.nodes v ≡ Some n → n.kind ≡ File r → group_of r.count i (contents g.nodes stack.arrays (standing_saves v P)) ≢ []
+    → ReadsBack (file_shape g stack v) (group_of r.count i (contents g.nodes stack.arrays (standing_saves v P)))
+
+-- an end that comes after a fault leaves the shelf's count, and any other answers a fault where the count rose, and nowhere else
+abbrev pub CountsEnd : {T : Type 0} → (fault : Bool) → Result T SaveFault → (before now : ℕ) → Type 0
+CountsEnd true (Ok x) before now = ⊥
+CountsEnd true (Err e) before now = now ≡ before
+CountsEnd false result before now = IsSaveCause result before now
