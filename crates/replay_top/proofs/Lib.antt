@@ -12,3 +12,7 @@ pub mod EachNode
 pub mod Asked
 pub mod Stops
 pub mod Claims
+pub mod MeasuredRows
+pub mod MeasureRows
+pub mod RunStops
+pub mod RunClaims
