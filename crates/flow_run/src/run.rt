@@ -15,11 +15,11 @@ ghost use Rattle.flow_run.specs.RunFiles.{HasSavedRun};
 
 use crate::seats::{part, posts, seats};
 use crate::threads::run_roles;
-use board_rules::{BoardCalls, Measures};
+use board_rules::{BoardCalls, Left, Measures};
 use edge_traits::{Clock, Gate, Shelf};
 use flow_drain::drain;
 use flow_journal::{Log, Watch};
-use flow_roles::{share_board, take_back};
+use flow_roles::{TurnPass, share_board, take_back};
 use flow_saver::{SaveEnd, end_files, save_left, save_rest};
 use frame_store::Frame;
 use graph_files::OpenFiles;
@@ -78,19 +78,19 @@ pub fn play_run<
     ensures roles { IfOk result (λ end. AreOwnMoves (run_setting R.graph R.stack) end.log.past) }
     ensures ticks { IfOk result (λ end. IsFedByTheClock (run_setting R.graph R.stack) end.log.past (C.coming clock.old) (C.coming clock.new)) }
 {
-    let posts = posts(alloc, plan)?;
-    let role = posts.len() as u32;
-    let mut back = Vec::with_capacity(alloc, posts.len() + 1)?;
-    let mut lefts = Vec::with_capacity(alloc, posts.len())?;
+    let nodes = posts::<R>(alloc, plan)?;
+    let role = nodes.len() as u32;
+    let mut back: Vec<TurnPass<Frame<R>, B>> = Vec::with_capacity(alloc, nodes.len() + 1)?;
+    let mut lefts: Vec<Left<Frame<R>>> = Vec::with_capacity(alloc, nodes.len())?;
     let (desk, mut passes) = share_board(alloc, board, role + 1)?;
     let pass = passes.pop().unwrap();
-    let mut seats = seats(alloc, passes, posts.as_slice())?;
+    let mut places = seats(alloc, passes, nodes.as_slice())?;
     let mut begins = Some((pass, files));
     let saved = run_roles(
-        rt, alloc, &desk, role, plan, stack, gate, watch, shelf, &mut begins, clock, seats.as_mut_slice(),
+        rt, alloc, &desk, role, plan, stack, gate, watch, shelf, &mut begins, clock, places.as_mut_slice(),
     );
     let SaveEnd { pass, left, files, fault, want: _ } = saved;
-    part(seats, &mut back, &mut lefts);
+    part(places, &mut back, &mut lefts);
     back.push_reserved(pass);
     let mut board = take_back(desk, back);
     let mut files = files;
