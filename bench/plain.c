@@ -1,11 +1,16 @@
-/* What `nd_replay plain` does with the graph of plain.sh, as a plain program: frames of 1,024 by 1,024 unsigned bytes after
-   144 bytes of header, binned two by two into 16 bits, measured, and written to a netCDF file and a text. */
+/* What `nd_replay plain` and `run` do with the graph of plain.sh and run.sh, as a plain program: frames of SIDE by SIDE unsigned bytes
+   after 144 bytes of header, binned two by two into 16 bits, measured, and written to a netCDF file and a text. With a number of threads
+   as a fourth word, so many threads compute while the first one writes. */
+#include <pthread.h>
 #include <stdint.h>
 #include <stdio.h>
 #include <stdlib.h>
 #include <string.h>
 
-enum { SIDE = 1024, HALF = SIDE / 2, BEGIN = 144, HEADER = 540 };
+#ifndef SIDE
+#define SIDE 1024
+#endif
+enum { HALF = SIDE / 2, BEGIN = 144, HEADER = 540, MOST_THREADS = 16 };
 
 struct measure {
     uint32_t n, min_at, max_at, border_n, over;
@@ -111,29 +116,78 @@ static void spell(uint16_t *values) {
     for (int i = 0; i < HALF * HALF; i++) values[i] = (uint16_t)(values[i] << 8 | values[i] >> 8);
 }
 
+/* What is computed of a frame. */
+struct result {
+    struct measure m;
+    uint16_t half[HALF * HALF];
+};
+
+static const uint8_t *bytes;
+static uint32_t frames, batch, threads;
+static struct result *results[2];
+static pthread_barrier_t turn;
+
+static void compute(uint32_t k, struct result *r) {
+    bin(bytes + BEGIN + (size_t)k * SIDE * SIDE, r->half);
+    measure(&r->m, r->half);
+    spell(r->half);
+}
+
+static void row(FILE *text, FILE *file, uint32_t k, const struct result *r) {
+    const struct measure *m = &r->m;
+    fprintf(text, "%u n=%u min=%lld@%u max=%lld@%u total=%lld squares=%llu border=0/0 over=%u m0=%lld mx=%lld my=%lld\n", k + 1,
+            m->n, (long long)m->min, m->min_at, (long long)m->max, m->max_at, (long long)m->total, (unsigned long long)m->squares,
+            m->over, (long long)m->m0, (long long)m->mx, (long long)m->my);
+    word(file, k + 1);
+    for (int i = 0; i < 4; i++) word(file, 0);
+    fwrite(r->half, 2, HALF * HALF, file);
+}
+
+/* Computes this thread's share of each batch, one batch ahead of the writer. */
+static void *work(void *number) {
+    uint32_t first = (uint32_t)(size_t)number;
+    for (uint32_t begin = 0, turns = 0; begin < frames; begin += batch, turns++) {
+        for (uint32_t k = begin + first; k < frames && k < begin + batch; k += threads) compute(k, &results[turns % 2][k - begin]);
+        pthread_barrier_wait(&turn);
+    }
+    return NULL;
+}
+
+static void write_batches(FILE *text, FILE *file) {
+    pthread_t ids[MOST_THREADS];
+    batch = (4u << 20) / sizeof(struct result);
+    batch = batch < threads ? threads : batch;
+    for (int i = 0; i < 2; i++)
+        if (!(results[i] = malloc(batch * sizeof(struct result)))) die("memory");
+    pthread_barrier_init(&turn, NULL, threads + 1);
+    for (uint32_t i = 0; i < threads; i++)
+        if (pthread_create(&ids[i], NULL, work, (void *)(size_t)i)) die("thread");
+    for (uint32_t begin = 0, turns = 0; begin < frames; begin += batch, turns++) {
+        pthread_barrier_wait(&turn);
+        for (uint32_t k = begin; k < frames && k < begin + batch; k++) row(text, file, k, &results[turns % 2][k - begin]);
+    }
+    for (uint32_t i = 0; i < threads; i++) pthread_join(ids[i], NULL);
+}
+
 int main(int argc, char **argv) {
-    if (argc != 4) return 1;
+    if (argc < 4) return 1;
     FILE *stack = fopen(argv[1], "rb"), *file = fopen(argv[2], "wb"), *text = fopen(argv[3], "wb");
     if (!stack || !file || !text) die("open");
     fseek(stack, 0, SEEK_END);
     size_t size = (size_t)ftell(stack);
     rewind(stack);
-    uint8_t *bytes = malloc(size);
-    if (!bytes || fread(bytes, 1, size, stack) != size) die("read");
-    uint32_t frames = (uint32_t)((size - BEGIN) / (SIDE * SIDE));
-    static uint16_t half[HALF * HALF];
+    uint8_t *all = malloc(size);
+    if (!all || fread(all, 1, size, stack) != size) die("read");
+    bytes = all;
+    frames = (uint32_t)((size - BEGIN) / (SIDE * SIDE));
+    threads = argc > 4 ? (uint32_t)atoi(argv[4]) : 0;
+    if (threads > MOST_THREADS) return 1;
     header(file, frames);
-    for (uint32_t k = 0; k < frames; k++) {
-        struct measure m;
-        bin(bytes + BEGIN + (size_t)k * SIDE * SIDE, half);
-        measure(&m, half);
-        fprintf(text, "%u n=%u min=%lld@%u max=%lld@%u total=%lld squares=%llu border=0/0 over=%u m0=%lld mx=%lld my=%lld\n", k + 1,
-                m.n, (long long)m.min, m.min_at, (long long)m.max, m.max_at, (long long)m.total, (unsigned long long)m.squares,
-                m.over, (long long)m.m0, (long long)m.mx, (long long)m.my);
-        spell(half);
-        word(file, k + 1);
-        for (int i = 0; i < 4; i++) word(file, 0);
-        fwrite(half, 2, HALF * HALF, file);
+    if (threads) write_batches(text, file);
+    static struct result one;
+    for (uint32_t k = 0; !threads && k < frames; k++) {
+        compute(k, &one);
+        row(text, file, k, &one);
     }
     if (fclose(file) || fclose(text)) die("close");
     printf("frames %u\n", frames);

@@ -7,15 +7,18 @@ trap 'rm -rf "$work"' EXIT
 "$here/nd_replay" --version > "$work/version"
 program=$here/crates/replay_main/out/replay_main
 
-# A stack of so many frames of 1,024 by 1,024 unsigned bytes: 144 bytes of header, and the records of its one variable.
-# make_stack FRAMES
+# A number as the four bytes of a word, spelled for printf.
+word() { printf '\\x%02x' $(($1 >> 24 & 255)) $(($1 >> 16 & 255)) $(($1 >> 8 & 255)) $(($1 & 255)); }
+
+# A stack of so many frames of 1,024 by 1,024 unsigned bytes, or of another side: 144 bytes of header, and the records of its one variable.
+# make_stack FRAMES [SIDE]
 make_stack() {
-    local frames=$1 count
-    count=$(printf '\\x%02x' $((frames >> 24 & 255)) $((frames >> 16 & 255)) $((frames >> 8 & 255)) $((frames & 255)))
+    local frames=$1 side=${2:-1024} count
+    count=$(word "$frames")
     printf 'CDF\001%b\0\0\0\012\0\0\0\003' "$count"
-    printf '\0\0\0\001n\0\0\0\0\0\0\0\0\0\0\001y\0\0\0\0\0\004\0\0\0\0\001x\0\0\0\0\0\004\0'
+    printf '\0\0\0\001n\0\0\0\0\0\0\0\0\0\0\001y\0\0\0%b\0\0\0\001x\0\0\0%b' "$(word "$side")" "$(word "$side")"
     printf '\0\0\0\014\0\0\0\001\0\0\0\010dataType\0\0\0\004\0\0\0\001\0\0\0\001'
     printf '\0\0\0\013\0\0\0\001\0\0\0\012array_data\0\0\0\0\0\003\0\0\0\0\0\0\0\001\0\0\0\002'
     printf '\0\0\0\0\0\0\0\0\0\0\0\001\0\0\0\004\0\0\0\220'
-    head -c $((frames * 1048576)) /dev/urandom
+    head -c $((frames * side * side)) /dev/urandom
 }

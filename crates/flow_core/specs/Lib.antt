@@ -1,9 +1,1 @@
-pub mod States
-pub mod OneFile
-pub mod InHand
-pub mod Feeding
-pub mod Working
-pub mod Saving
-pub mod Replay
-pub mod Runs
-pub mod Worked
+pub mod Boards

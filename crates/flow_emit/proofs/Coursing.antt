@@ -144,7 +144,7 @@ holds-below measure s k b i =
 pub node-is : (measure : Measuring) (s : Setting) (k : Parts) (v c : ℕ) (n : NodeState) → suc c ≡ v → IsCourse measure s k → slice_get k.nodes c ≡ Some n → IsNode measure s v (log_of k) n
 node-is measure s k v c n is i at = subst (λ u. IsNode measure s u (log_of k) n) is (i.nodes.each c n at)
 
-listed-some : (v : ℕ) (measure : Measuring) (x : Measure) (xs : List FrameName) → length (flat_map (λ a. listed_one (measure v a)) xs) ≤ length xs
+pub listed-some : (v : ℕ) (measure : Measuring) (x : Measure) (xs : List FrameName) → length (flat_map (λ a. listed_one (measure v a)) xs) ≤ length xs
 listed-some v measure x [] = omega arith
 listed-some v measure x (a ∷ xs) = omega (arith, length-append (listed_one (measure v a)) (flat_map (λ b. listed_one (measure v b)) xs), one-listed (measure v a), listed-some v measure x xs) where
   one-listed : (o : Option Measure) → length (listed_one o) ≤ 1

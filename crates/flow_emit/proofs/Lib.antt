@@ -1,5 +1,9 @@
 pub mod Each
 pub mod Roles
+pub mod HandWords
+pub mod Flushed
+pub mod HandRoles
+pub mod Ending
 pub mod Nodes
 pub mod Elsewhere
 pub mod Bounds
@@ -9,10 +13,12 @@ pub mod FactsAfter
 pub mod FrameBlocks
 pub mod Coursing
 pub mod Reading
+pub mod Asking
 pub mod Opening
 pub mod Depth
 pub mod RulesOf
 pub mod Starts
+pub mod Starting
 pub mod Offering
 pub mod Dealing
 pub mod Begins
@@ -24,3 +30,12 @@ pub mod Putting
 pub mod RuleFound
 pub mod PutMoves
 pub mod Looking
+pub mod Ticking
+pub mod Flushing
+pub mod Rings
+pub mod Placing
+pub mod PlacedCourse
+pub mod PutSorted
+pub mod Listing
+pub mod Ringing
+pub mod PutWatched

@@ -2,6 +2,8 @@ pub mod Having
 pub mod RunRules
 pub mod NodeStates
 pub mod RoleStates
+pub mod HandWords
+pub mod Endings
 pub mod Facts
 pub mod FrameBlocks
 pub mod Courses
@@ -9,3 +11,7 @@ pub mod Emissions
 pub mod Starts
 pub mod Puts
 pub mod Looks
+pub mod Ticks
+pub mod Settling
+pub mod Placing
+pub mod Watched

@@ -7,12 +7,22 @@ ghost use Rattle.board_rules.specs.States.{past};
 ghost use Rattle.board_rules.specs.RunMeasures.{run_setting};
 ghost use Rattle.flow_journal.specs.Accounts.{block_of};
 
+mod asking;
 mod emission;
+mod ending;
 mod grants;
+mod holding;
 mod looks;
 mod moves;
+mod placing;
 mod puts;
 mod reclaims;
+mod settling;
+mod starting;
+mod ticks;
+mod watching;
+
+pub use ending::MeasureRoom;
 
 use crate::{Facts, NodeState, RoleState, Rules};
 use nd_base::{FrameName, Held};
@@ -63,7 +73,7 @@ fn block_at(blocks: &[u32], frames: u32, name: FrameName) -> u32
 
 impl<F: Held> Course<F> {
     /// The block of a frame that has one.
-    fn block(&self, name: FrameName) -> u32
+    pub fn block(&self, name: FrameName) -> u32
         ensures { (b : ℕ) → block_of (past self.now.told) name ≡ b ∷ [] → result ≡ b }
     {
         let frames = self.rules.ids.as_slice().len() as u32;

@@ -1,5 +1,8 @@
 //! The other facts of a log that are kept.
 
+ghost use Rattle.std.specs.Prelude.{◌≡◌, []};
+ghost use Rattle.flow_emit.specs.Facts.{facts_of};
+
 /// What stands after the entries so far, besides nodes, roles and blocks.
 #[derive(Clone, Copy, Debug, PartialEq, Eq)]
 pub struct Facts {
@@ -18,4 +21,22 @@ pub struct Facts {
     pub dropped: u64,
     /// How many pieces came back.
     pub saved: u64,
+}
+
+impl Facts {
+    /// What stands before any entry.
+    pub(crate) fn none() -> Facts
+        ensures { result ≡ facts_of [] }
+    {
+        Facts {
+            offered: 0,
+            loaded: false,
+            closed: false,
+            left: false,
+            tick: 0,
+            came: 0,
+            dropped: 0,
+            saved: 0,
+        }
+    }
 }

@@ -10,7 +10,7 @@ mod hand;
 mod node;
 mod rules;
 
-pub use course::Course;
+pub use course::{Course, MeasureRoom};
 pub use facts::Facts;
 pub use hand::{Block, Hand, RoleState};
 pub use node::{Kept, NodeState};

@@ -2,3 +2,5 @@ pub mod Workers
 pub mod Strangers
 pub mod Ticks
 pub mod RunFiles
+pub mod Seats
+pub mod SaverEnds

@@ -5,4 +5,5 @@ mod run;
 mod seats;
 mod threads;
 
-
+pub use run::{RunEnd, play_run};
+pub use seats::Seat;

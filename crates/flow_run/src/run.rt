@@ -13,12 +13,14 @@ ghost use Rattle.flow_run.specs.Strangers.{AreOwnMoves};
 ghost use Rattle.flow_run.specs.Ticks.{IsFedByTheClock};
 ghost use Rattle.flow_run.specs.RunFiles.{HasSavedRun};
 
-use board_rules::{BoardCalls, Measures};
+use crate::seats::{part, posts, seats};
+use crate::threads::run_roles;
+use board_rules::{BoardCalls, Left, Measures};
 use edge_traits::{Clock, Gate, Shelf};
 use flow_drain::drain;
 use flow_journal::{Log, Watch};
-use flow_roles::{share_board, take_back};
-use flow_saver::{end_files, save_left, save_rest};
+use flow_roles::{TurnPass, share_board, take_back};
+use flow_saver::{SaveEnd, end_files, save_left, save_rest};
 use frame_store::Frame;
 use graph_files::OpenFiles;
 use nd_base::{OutOfMemory, Plan, Run, Stack};
@@ -76,5 +78,29 @@ pub fn play_run<
     ensures roles { IfOk result (λ end. AreOwnMoves (run_setting R.graph R.stack) end.log.past) }
     ensures ticks { IfOk result (λ end. IsFedByTheClock (run_setting R.graph R.stack) end.log.past (C.coming clock.old) (C.coming clock.new)) }
 {
-    todo!()
+    let nodes = posts::<R>(alloc, plan)?;
+    let role = nodes.len() as u32;
+    let mut back: Vec<TurnPass<Frame<R>, B>> = Vec::with_capacity(alloc, nodes.len() + 1)?;
+    let mut lefts: Vec<Left<Frame<R>>> = Vec::with_capacity(alloc, nodes.len())?;
+    let (desk, mut passes) = share_board(alloc, board, role + 1)?;
+    let pass = passes.pop().unwrap();
+    let mut places = seats(alloc, passes, nodes.as_slice())?;
+    let mut begins = Some((pass, files));
+    let saved = run_roles(
+        rt, alloc, &desk, role, plan, stack, gate, watch, shelf, &mut begins, clock, places.as_mut_slice(),
+    );
+    let SaveEnd { pass, left, files, fault, want: _ } = saved;
+    part(places, &mut back, &mut lefts);
+    back.push_reserved(pass);
+    let mut board = take_back(desk, back);
+    let mut files = files;
+    let mut fault = fault;
+    if let Some(due) = left {
+        save_left(alloc, &mut board, role, shelf, stack, &mut files, &mut fault, due)?;
+    }
+    drain(alloc, &mut board, lefts, plan, stack, clock.tick())?;
+    save_rest(alloc, &mut board, role, shelf, stack, &mut files, &mut fault)?;
+    let fault = end_files(&board, shelf, files, fault).is_err();
+    let (log, measures) = board.into_parts();
+    Ok(RunEnd { log, measures, fault })
 }

@@ -68,6 +68,7 @@ fresh-saving g stack prefix held r p xs files fresh =
     let start : Start = record { prefix = prefix; made = []; held = held } in
     let none_ = λ (k : ℕ) (x : NodeFile) (at : slice_get xs k ≡ Some x). none-current g stack prefix k x (ap (λ (ys : List NodeFile). slice_get ys k) (sym files) ∙ at) in
     let all : AllWritten held xs (written_by g stack []) held = record {
+      told = refl;
       each = λ k x at. nothing_written x held (none_ k x at);
       few = λ k x at. omega arith;
       others = λ q away. refl;

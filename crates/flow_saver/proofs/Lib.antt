@@ -10,3 +10,6 @@ pub mod Writing
 pub mod SaveOne
 pub mod Beginning
 pub mod Counting
+pub mod Alone
+pub mod Resting
+pub mod Handing

@@ -41,6 +41,7 @@ contents-more g stack xs a b is =
 -- the same arrays, said otherwise
 pub all-same : (before : Option Files) (xs : List NodeFile) (f h : ℕ → List Array) (held : Option Files) → ((v : ℕ) → f v ≡ h v) → AllWritten before xs f held → AllWritten before xs h held
 all-same before xs f h held same all = record {
+  told = all.told;
   each = λ k x at. subst (λ (zs : List Array). AreWritten x zs held) (same x.node) (all.each k x at);
   few = λ k x at. subst (λ (zs : List Array). length zs < 2 ^ 64) (same x.node) (all.few k x at);
   others = λ q away. all.others q (λ k x i at named. away k x i at (subst (λ (zs : List Array). IsSome (group_file x zs i)) (same x.node) named));
@@ -206,23 +207,27 @@ module _ (g : Graph) (stack : StackValue) (sound : IsGraph g) (start : Start) (r
     pub tore : fault ≡ false → (stands : Option Files) → AllStops Failed start.held x ys were due.group (first_count x.late due.of) a held stands → IsToGiveBack g stack start r p ys true stands due.piece
     tore fine stands stops =
         let saved = subst (λ (b : Bool). AreSaved g stack start.held (past p.made) (past p.seen) xs b held) fine st.saved in
-        let some : 0 < x.count = omega (arith, st.place.within) in
         to-give-back ys true stands nodes-kept (λ clash. absurd (true≢false clash))
         (record {
-          later = back ∷ [];
+          later = [];
           front = past p.made;
+          role = r;
+          name = name;
+          node = x;
           whole = refl;
           files = xs;
           then_held = held;
           written = saved.0;
           begun = saved.1;
-          name = name;
+          at = due.at;
+          listed = st.listed;
+          nodes = nodes-kept ∙ sym st.nodes;
+          others = λ j ne. ap (λ (zs : List NodeFile). slice_get zs j) set_ ∙ get-set_other xs due.at j (record x { current = o }) ne;
           array = a;
           holds = holds;
-          node = x;
-          listed = (due.at, st.listed);
           group = due.group;
-          group_is = sym (ap (λ n. n / x.count) st.place.all ∙ div-mul-add due.group x.count due.place st.place.within);
+          place = due.place;
+          place_is = st.place;
           numrecs = first_count x.late due.of;
           first = st.first;
           stops = stops;
@@ -266,18 +271,23 @@ module _ (g : Graph) (stack : StackValue) (sound : IsGraph g) (start : Start) (r
       (record {
         later = back ∷ was.later;
         front = was.front;
+        role = was.role;
+        name = was.name;
+        node = was.node;
         whole = ap (λ P. back ∷ P) was.whole;
         files = was.files;
         then_held = was.then_held;
         written = was.written;
         begun = was.begun;
-        name = was.name;
+        at = was.at;
+        listed = was.listed;
+        nodes = was.nodes;
+        others = was.others;
         array = was.array;
         holds = was.holds;
-        node = was.node;
-        listed = was.listed;
         group = was.group;
-        group_is = was.group_is;
+        place = was.place;
+        place_is = was.place_is;
         numrecs = was.numrecs;
         first = was.first;
         stops = was.stops;

@@ -33,11 +33,16 @@ pub data IsBegunAs (late : Bool) (final : List ℕ) (before now : Option (List �
   Miscounted : late ≡ true → (count front rest : List ℕ) → length count ≡ 4 → overwritten final count_place count ≡ front ++ rest → now ≡ Some front
       → IsBegunAs late final before now
 
+-- where the shelf tells its files
+abbrev pub IsBegunAt : (late : Bool) → (final : List ℕ) → (before held : Option Files) → (name : List ℕ) → Type 0
+IsBegunAt late final before None name = Unit {0}
+IsBegunAt late final before (Some files) name = IsBegunAs late final (file_at before name) (file_at (Some files) name)
+
 -- AFTER A FAULT: each name of a group is as before the run, or begun as its final file; every other name is as before. Of the arrays of each node
 -- the first were written, and each group of which all were is whole, but for the one whose name the shelf failed on.
 pub record IsTornHistory (g : Graph) (stack : StackValue) (prefix : List ℕ) (P : Past) (before held : Option Files) : Type 0 where
   pub each : (v i : ℕ) (n : NodeRule) (r : FileRule) (bytes : List ℕ) → rule_at g.nodes v ≡ Some n → n.kind ≡ File r → kind_group g stack P v n.kind i ≡ Some bytes
-      → IsBegunAs (is_stream r.mode) bytes (file_at before (group_name prefix n.name i)) (file_at held (group_name prefix n.name i))
+      → IsBegunAt (is_stream r.mode) bytes before held (group_name prefix n.name i)
   pub others : (q : List ℕ) → ((v i : ℕ) (n : NodeRule) (bytes : List ℕ) → rule_at g.nodes v ≡ Some n → kind_group g stack P v n.kind i ≡ Some bytes → q ≢ group_name prefix n.name i)
       → file_at held q ≡ file_at before q
   pub written : ℕ → List Array

@@ -71,23 +71,34 @@ IsFirstCount P v count group false numrecs = (size : ℕ) × (numrecs ≡ Some s
 abbrev pub AreBegunSo : (P : Past) → (written : ℕ → List Array) → List NodeFile → Type 0
 AreBegunSo P written xs = (k : ℕ) (x : NodeFile) (f : _) → slice_get xs k ≡ Some x → x.current ≡ Some f → IsFirstCount P x.node x.count (length (written x.node) / x.count) x.late f.numrecs
 
+-- the entry that gives this piece back, at this node
+abbrev pub back_of : (r v : ℕ) → FrameName → Entry
+back_of r v name = entry.Saved r v name.maker name.index
+
 -- what stands once the shelf has failed on a piece: all that was given back before it, but for the name of that call
 pub record IsTornSince (g : Graph) (stack : StackValue) (before : Option Files) (P seen : Past) (ys : List NodeFile) (held : Option Files) : Type 0 where
   pub later : Past
   pub front : Past
-  pub whole : P ≡ later ++ front
+  pub role : ℕ
+  -- the piece, its node, and the group that it was to go to
+  pub name : FrameName
+  pub node : NodeFile
+  pub whole : P ≡ later ++ back_of role node.node name ∷ front
+  -- before it
   pub files : List NodeFile
   pub then_held : Option Files
   pub written : AllWritten before files (written_by g stack front) then_held
   pub begun : AreBegunSo seen (written_by g stack front) files
-  -- the piece, and the group that it was to go to
-  pub name : FrameName
+  pub at : ℕ
+  pub listed : slice_get files at ≡ Some node
+  -- no other node's files are touched
+  pub nodes : map closed ys ≡ map closed files
+  pub others : (j : ℕ) → j ≢ at → slice_get ys j ≡ slice_get files j
   pub array : Array
   pub holds : content_of g stack name ≡ Some array
-  pub node : NodeFile
-  pub listed : (k : ℕ) × (slice_get files k ≡ Some node)
   pub group : ℕ
-  pub group_is : group ≡ length (written_by g stack front node.node) / node.count
+  pub place : ℕ
+  pub place_is : IsPlaceAfter node.count (written_by g stack front node.node) group place
   pub numrecs : Option ℕ
   pub first : IsFirstCount seen node.node node.count group node.late numrecs
   pub stops : AllStops Failed before node ys (written_by g stack front) group numrecs array then_held held
@@ -126,10 +137,6 @@ pub record IsSaving (g : Graph) (stack : StackValue) (start : Start) (r : ℕ) (
   pub nodes : map closed xs ≡ file_nodes g stack start.prefix
   pub rows : fault ≡ false → HaveRowsBut None xs
   pub saved : AreSaved g stack start.held (past p.made) (past p.seen) xs fault held
-
--- the entry that gives this piece back, at this node
-abbrev pub back_of : (r v : ℕ) → FrameName → Entry
-back_of r v name = entry.Saved r v name.maker name.index
 
 -- with a piece in hand that isn't written
 pub record HasUnsaved (g : Graph) (stack : StackValue) (start : Start) (r : ℕ) (p : Pass) (xs : List NodeFile) (fault : Bool) (held : Option Files) (due : DuePiece Sealed) : Type 0 where

@@ -1,6 +1,6 @@
 -- What an end at one node does to the files of all, and what ends at all nodes come to.
-use Rattle.std.proofs.Common.{◌≡◌, ◌≢◌, ◌⊎◌, ℕ, zero, suc, ◌+◌, ◌/◌, ◌^◌, ◌<◌, ◌≤◌, List, [], ◌∷◌, ◌++◌, length, take, drop, map, set, Option, None, Some, inl, inr, refl, sym, ap, subst, ◌∙◌, arith}
-use Rattle.std.specs.Prelude.{slice_get, IsSome}
+use Rattle.std.proofs.Common.{◌≡◌, ◌≢◌, ◌⊎◌, ℕ, zero, suc, ◌+◌, ◌/◌, ◌^◌, ◌<◌, ◌≤◌, List, [], ◌∷◌, ◌++◌, length, take, drop, map, set, Option, None, Some, Result, Ok, Err, inl, inr, refl, sym, ap, subst, ◌∙◌, arith}
+use Rattle.std.specs.Prelude.{slice_get, IsSome, OnErr}
 use Rattle.std.proofs.lemmas.Bool.{cases_lt}
 use Rattle.nd_base.specs.Array.{Array}
 use Rattle.nd_base.specs.declared.attribute.FileShape.{FileShape}
@@ -8,7 +8,7 @@ use Rattle.edge_traits.specs.Files.{Files, file_at}
 use Rattle.file_out.specs.Streams.{Stream}
 use Rattle.graph_files.specs.Groups.{group_of, whole_file, file_of, HasBytes}
 use Rattle.graph_files.specs.NodeFiles.{NodeFile, IsChangedAt, Same, AreWritten, AreWrittenBut, AreEnded, EndTorn, EndStops, IsTorn, IsFilled, name_of, group_file}
-use Rattle.graph_files.specs.NodeFileLaws.{cases_eq, none-open, open-elsewhere, changed-HasBytes, changed-file_at}
+use Rattle.graph_files.specs.NodeFileLaws.{cases_eq, none-open, open-elsewhere, changed-HasBytes, changed-file_at, changed-told}
 use Rattle.graph_files.specs.OpenFiles.{closed, AreApart, IsElsewhere, AllWritten, AllWrittenBut}
 use Rattle.graph_files.specs.OpenFileLaws.{get-set_same, get-set_other, far-none}
 use Rattle.graph_files.specs.EndedFiles.{AllEnded, AllStand, OneEndStops, AllEndStops, AreOthersAsBefore, IsNoGroup, ended_to, open_group}
@@ -23,6 +23,10 @@ some-by {X} e h = subst (λ (o : Option X). IsSome o) e h
 whole-some : (shape : FileShape) (zs : List Array) → 1 ≤ length zs → IsSome (whole_file shape zs)
 whole-some shape [] some = absurd (omega arith)
 whole-some shape (a ∷ zs) some = refl
+
+pub on-err : {T E : Type 0} {P Q : Type 0} (r : Result T E) → OnErr r P → (P → Q) → OnErr r Q
+on-err (Ok x) h f = tt
+on-err (Err e) h f = f h
 
 -- LISTS
 
@@ -135,6 +139,7 @@ module _ (before : Option Files) (xs : List NodeFile) (written : ℕ → List Ar
     -- it ended
     pub one-ended : (x.current ≡ None → u ≡ t) → AreEnded x (written x.node) u → AllStand before ys written u
     one-ended still ended = record {
+      told = changed-told t u (name_of x g) changed ∙ h.told;
       each = λ j y i is. elim (cases_eq j k) [
         | inl there ↦
             let same : closed x ≡ y = this y (ap (slice_get ys) (sym there) ∙ is) in
@@ -153,6 +158,7 @@ module _ (before : Option Files) (xs : List NodeFile) (written : ℕ → List Ar
     -- or the shelf failed
     pub one-stops : EndStops x (written x.node) t u → OneEndStops before x ys written t u
     one-stops stops = (record {
+        told = changed-told t u (name_of x g) changed ∙ h.told;
         each = λ j y i is off. elim (cases_eq j k) [
           | inl there ↦
               let same : closed x ≡ y = this y (ap (slice_get ys) (sym there) ∙ is) in
@@ -169,13 +175,14 @@ module _ (before : Option Files) (xs : List NodeFile) (written : ℕ → List Ar
 -- at the beginning
 pub all-stand : (before : Option Files) (xs : List NodeFile) (written : ℕ → List Array) (t : Option Files) → AllWritten before xs written t → AllStand before (ended_to 0 xs) written t
 all-stand before xs written t h =
-    subst (λ (zs : List NodeFile). AllStand before zs written t) (sym (ended_to-first xs)) (record { each = λ k x i is. (h.each k x is).each i; few = h.few; others = h.others })
+    subst (λ (zs : List NodeFile). AllStand before zs written t) (sym (ended_to-first xs)) (record { told = h.told; each = λ k x i is. (h.each k x is).each i; few = h.few; others = h.others })
 
 -- at the end
 pub all-ended : (before : Option Files) (xs : List NodeFile) (written : ℕ → List Array) (n : ℕ) (u : Option Files) → n ≡ length xs → AllStand before (ended_to n xs) written u → AllEnded before xs written u
 all-ended before xs written n u whole stand =
     let h : AllStand before (map closed xs) written u = subst (λ (zs : List NodeFile). AllStand before zs written u) (ap (λ (m : ℕ). ended_to m xs) whole ∙ ended_to-all xs) stand in
     record {
+      told = h.told;
       each = λ k x is i. subst (HasBytes u (name_of x i)) (closed-file x (written x.node) i) (h.each k (closed x) i (closed-at xs k x is));
       others = λ q away. h.others q (λ k y i is named.
           let o = of-closed xs k y is in
@@ -189,12 +196,6 @@ torn-from : (o : Option Stream) (x : NodeFile) (i : ℕ) (arrays : List Array) (
     → EndTorn o x i arrays first u
 torn-from None x i arrays first t u same torn = torn
 torn-from (Some f) x i arrays first t u same torn = subst (λ (b : Option (List ℕ)). IsTorn b x.shape f.numrecs arrays (file_at u (name_of x i))) same torn
-
--- the next node's files, as they were
-pub record IsNextEnd (xs ys : List NodeFile) (n : ℕ) (written : ℕ → List Array) (first t : Option Files) (x : NodeFile) : Type 0 where
-  pub listed : slice_get xs n ≡ Some x
-  pub there : slice_get ys n ≡ Some x
-  pub name : file_at t (name_of x (open_group x written)) ≡ file_at first (name_of x (open_group x written))
 
 pub stops-then : (before : Option Files) (xs zs : List NodeFile) (written : ℕ → List Array) (n : ℕ) (x : NodeFile) (first t u : Option Files) → slice_get xs n ≡ Some x
     → file_at t (name_of x (open_group x written)) ≡ file_at first (name_of x (open_group x written))
@@ -214,13 +215,35 @@ ended_to-more n xs zs x h made = made ∙ ended_to-step n xs x h ∙ ap (λ (m :
 pub ended_to-get : (n : ℕ) (xs : List NodeFile) (x : NodeFile) → slice_get xs n ≡ Some x → slice_get (ended_to n xs) n ≡ Some x
 ended_to-get n xs x h = ended_to-here n xs x h
 
-pub ended_to-later : (n k : ℕ) (xs : List NodeFile) (x : NodeFile) → n ≤ k → slice_get (ended_to n xs) k ≡ slice_get xs k
-ended_to-later zero k xs x h = ap (λ (zs : List NodeFile). slice_get zs k) (ended_to-first xs)
-ended_to-later (suc n) k [] x h = refl
-ended_to-later (suc n) zero (y ∷ xs) x h = absurd (omega arith)
-ended_to-later (suc n) (suc k) (y ∷ xs) x h = ended_to-later n k xs x (omega arith)
+pub ended_to-later : (n k : ℕ) (xs : List NodeFile) → n ≤ k → slice_get (ended_to n xs) k ≡ slice_get xs k
+ended_to-later zero k xs h = ap (λ (zs : List NodeFile). slice_get zs k) (ended_to-first xs)
+ended_to-later (suc n) k [] h = refl
+ended_to-later (suc n) zero (y ∷ xs) h = absurd (omega arith)
+ended_to-later (suc n) (suc k) (y ∷ xs) h = ended_to-later n k xs (omega arith)
 
 pub length-ended_to : (n : ℕ) (xs : List NodeFile) → length (ended_to n xs) ≡ length xs
 length-ended_to zero xs = ap (λ (zs : List NodeFile). length zs) (ended_to-first xs)
 length-ended_to (suc n) [] = refl
 length-ended_to (suc n) (y ∷ xs) = ap suc (length-ended_to n xs)
+
+pub item : {X : Type 0} (xs : List X) (k : ℕ) → k < length xs → (x : X) × (slice_get xs k ≡ Some x)
+item [] k h = absurd (omega (arith, h))
+item (x ∷ xs) zero h = (x, refl)
+item (x ∷ xs) (suc k) h = item xs k (omega (arith, h))
+
+-- the next node's files are as they were
+pub next-at : (n : ℕ) (xs files : List NodeFile) (x : NodeFile) → files ≡ ended_to n xs → slice_get files n ≡ Some x → slice_get xs n ≡ Some x
+next-at n xs files x is h = sym (ended_to-later n n xs (let same : n ≤ n = omega arith in same)) ∙ ap (λ (zs : List NodeFile). slice_get zs n) (sym is) ∙ h
+
+pub at-next : (n : ℕ) (xs files : List NodeFile) (x : NodeFile) → files ≡ ended_to n xs → slice_get xs n ≡ Some x → slice_get files n ≡ Some x
+at-next n xs files x is h = ap (λ (zs : List NodeFile). slice_get zs n) is ∙ ended_to-later n n xs (let same : n ≤ n = omega arith in same) ∙ h
+
+pub next-written : (before : Option Files) (xs : List NodeFile) (written : ℕ → List Array) (n : ℕ) (x : NodeFile) (first t : Option Files) → slice_get xs n ≡ Some x → AllWritten before xs written first
+    → AllStand before (ended_to n xs) written t → AreWritten x (written x.node) t
+next-written before xs written n x first t is all stand = record { begun = (all.each n x is).begun; each = λ i. stand.each n x i (ended_to-get n xs x is) }
+
+-- the names of open files after one more
+pub names-more : (xs files : List NodeFile) (n k : ℕ) (written : ℕ → List Array) (t u : Option Files) (y : NodeFile) → files ≡ ended_to n xs → n + 1 ≤ k → slice_get xs k ≡ Some y → AreOthersAsBefore files n written t u
+    → file_at u (name_of y (open_group y written)) ≡ file_at t (name_of y (open_group y written))
+names-more xs files n k written t u y is after at others =
+    others k y (λ e. absurd (omega (arith, after, e))) (ap (λ (zs : List NodeFile). slice_get zs k) is ∙ ended_to-later n k xs (omega (arith, after)) ∙ at)

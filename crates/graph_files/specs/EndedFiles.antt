@@ -1,5 +1,5 @@
 -- The files of all file nodes when those that are still open end, one after the other.
-use Rattle.std.specs.Prelude.{◌≡◌, ◌≢◌, ℕ, ◌+◌, ◌/◌, ◌<◌, ◌^◌, List, ◌++◌, length, map, take, drop, slice_get, Option, Some, IsSome}
+use Rattle.std.specs.Prelude.{◌≡◌, ◌≢◌, ℕ, ◌+◌, ◌/◌, ◌<◌, ◌^◌, List, ◌++◌, length, map, take, drop, slice_get, Option, Some, IsSome, is_some}
 use Rattle.nd_base.specs.Array.{Array}
 use Rattle.edge_traits.specs.Files.{Files, file_at}
 use Rattle.graph_files.specs.Groups.{group_of, whole_file, HasBytes}
@@ -13,6 +13,7 @@ IsNoGroup xs written q = (k : ℕ) (x : NodeFile) (i : ℕ) → slice_get xs k �
 -- Since the shelf had these files, just these arrays were written at each node and all files ended: each name of a group has its whole file, and
 -- every other name is as it was.
 pub record AllEnded (before : Option Files) (xs : List NodeFile) (written : ℕ → List Array) (held : Option Files) : Type 0 where
+  pub told : is_some held ≡ is_some before
   pub each : (k : ℕ) (x : NodeFile) → slice_get xs k ≡ Some x → AreEnded x (written x.node) held
   pub others : (q : List ℕ) → IsNoGroup xs written q → file_at held q ≡ file_at before q
 
@@ -22,6 +23,7 @@ ended_to n xs = map closed (take n xs) ++ drop n xs
 
 -- the same while they end: each name of a group has its file, whole or open, and every other name is as it was
 pub record AllStand (before : Option Files) (xs : List NodeFile) (written : ℕ → List Array) (held : Option Files) : Type 0 where
+  pub told : is_some held ≡ is_some before
   pub each : (k : ℕ) (x : NodeFile) (i : ℕ) → slice_get xs k ≡ Some x → HasBytes held (name_of x i) (group_file x (written x.node) i)
   pub few : (k : ℕ) (x : NodeFile) → slice_get xs k ≡ Some x → length (written x.node) < 2 ^ 64
   pub others : (q : List ℕ) → IsElsewhere xs written q → file_at held q ≡ file_at before q

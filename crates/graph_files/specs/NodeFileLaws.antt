@@ -1,6 +1,6 @@
 -- LAWS of the files of a node: what a write under one name does to all of them.
 use Rattle.std.proofs.Common.{◌≡◌, ◌≢◌, ℕ, ◌+◌, ◌/◌, ◌%◌, ◌^◌, ◌<◌, true, false, eqb, List, [], ◌∷◌, ◌++◌, length, Option, None, Some, ◌⊎◌, inl, inr, refl, sym, ap, subst, ◌∙◌, arith}
-use Rattle.std.specs.Prelude.{codes, if◌then◌else◌}
+use Rattle.std.specs.Prelude.{codes, is_some, if◌then◌else◌}
 use Rattle.std.proofs.lemmas.Bool.{cases_lt, ne_eqb, eq-eqb}
 use Rattle.std.proofs.lemmas.List.{append_cancel_left, append_cancel_right}
 use Rattle.nd_base.specs.Array.{Array}
@@ -44,6 +44,15 @@ pub changed-HasBytes : (t u : Option Files) (name q : List ℕ) (o : Option (Lis
 changed-HasBytes t u name q None changed h has = tt
 changed-HasBytes t u name q (Some b) (Same e) h has = subst (λ (w : Option Files). HasFile w q b) (sym e) has
 changed-HasBytes t u name q (Some b) (Wrote bytes e) h has = subst (λ (w : Option Files). HasFile w q b) (sym e) (kept-file t name bytes q b h has)
+
+-- and the shelf tells its files as before
+with_file-told : (t : Option Files) (name bytes : List ℕ) → is_some (with_file t name bytes) ≡ is_some t
+with_file-told None name bytes = refl
+with_file-told (Some m) name bytes = refl
+
+pub changed-told : (t u : Option Files) (name : List ℕ) → IsChangedAt t name u → is_some u ≡ is_some t
+changed-told t u name (Same e) = ap (λ (w : Option Files). is_some w) e
+changed-told t u name (Wrote bytes e) = ap (λ (w : Option Files). is_some w) e ∙ with_file-told t name bytes
 
 -- NAMES OF GROUPS
 

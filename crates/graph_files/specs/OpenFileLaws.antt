@@ -23,7 +23,7 @@ use Rattle.file_out.specs.Streams.{Stream}
 use Rattle.graph_files.specs.Groups.{group_of, whole_file, file_of, HasBytes}
 use Rattle.graph_files.specs.GroupLaws.{group-is, group-more, group-other}
 use Rattle.graph_files.specs.NodeFiles.{NodeFile, node_file, IsChangedAt, IsPlaceAfter, AreWritten, AreWrittenBut, IsHeldBack, WriteStops, name_of, open_at, group_file}
-use Rattle.graph_files.specs.NodeFileLaws.{cases_eq, open-elsewhere, open-here, changed-HasBytes, changed-file_at, whole-some}
+use Rattle.graph_files.specs.NodeFileLaws.{cases_eq, open-elsewhere, open-here, changed-HasBytes, changed-file_at, changed-told, whole-some}
 use Rattle.graph_files.specs.OpenFiles.{kind_node, nodes_from, file_nodes, AreApart, IsElsewhere, AllWritten, AllWrittenBut, AllStops, with_array}
 
 -- LISTS
@@ -227,6 +227,7 @@ module _ (xs : List NodeFile) (k : ℕ) (x : NodeFile) (o : Option Stream) (at :
 
       pub all-then : AreWritten (record x { current = o }) (now x.node) u → (IsSome (group_file (record x { current = o }) (now x.node) g) ⊎ (u ≡ t)) → AllWritten before ys now u
       all-then mine named = record {
+        told = changed-told t u (name_of x g) changed ∙ h.told;
         each = λ j y is. elim (cases_eq j k) [
           | inl here ↦
               let same : record x { current = o } ≡ y = some-same (sym (get-set_same xs k x (record x { current = o }) at) ∙ ap (slice_get ys) (sym here) ∙ is) in
@@ -249,6 +250,7 @@ module _ (xs : List NodeFile) (k : ℕ) (x : NodeFile) (o : Option Stream) (at :
     pub all-but : AreWrittenBut (record x { current = o }) (written x.node) g u
         → ((i : ℕ) → i ≢ g → IsSome (group_file x (written x.node) i) → IsSome (group_file (record x { current = o }) (written x.node) i)) → AllWrittenBut before ys written x g u
     all-but mine mono = record {
+      told = changed-told t u (name_of x g) changed ∙ h.told;
       each = λ j y i is off. elim (cases_eq j k) [
         | inl here ↦
             let same : record x { current = o } ≡ y = some-same (sym (get-set_same xs k x (record x { current = o }) at) ∙ ap (slice_get ys) (sym here) ∙ is) in

@@ -1,5 +1,5 @@
 -- The files of all file nodes of a graph while they are written.
-use Rattle.std.specs.Prelude.{◌≡◌, ◌≢◌, ◌⊎◌, ℕ, ◌+◌, ◌<◌, ◌^◌, ◌==◌, List, [], ◌∷◌, ◌++◌, length, slice_get, slice_set, Option, None, Some, IsSome, if◌then◌else◌}
+use Rattle.std.specs.Prelude.{◌≡◌, ◌≢◌, ◌⊎◌, ℕ, ◌+◌, ◌<◌, ◌^◌, ◌==◌, List, [], ◌∷◌, ◌++◌, length, slice_get, slice_set, Option, None, Some, IsSome, is_some, if◌then◌else◌}
 use Rattle.nd_base.specs.Array.{Array, StackValue}
 use Rattle.nd_base.specs.declared.array.Head.{Head}
 use Rattle.nd_base.specs.declared.graph.Graph.{Graph}
@@ -44,14 +44,16 @@ abbrev pub IsElsewhere : List NodeFile → (written : ℕ → List Array) → Li
 IsElsewhere xs written q = (k : ℕ) (x : NodeFile) (i : ℕ) → slice_get xs k ≡ Some x → IsSome (group_file x (written x.node) i) → q ≢ name_of x i
 
 -- Since the shelf had these files, just these arrays were written at each node: each name of a group has its file, and every other name is as
--- it was.
+-- it was. The shelf tells its files as it did.
 pub record AllWritten (before : Option Files) (xs : List NodeFile) (written : ℕ → List Array) (held : Option Files) : Type 0 where
+  pub told : is_some held ≡ is_some before
   pub each : (k : ℕ) (x : NodeFile) → slice_get xs k ≡ Some x → AreWritten x (written x.node) held
   pub few : (k : ℕ) (x : NodeFile) → slice_get xs k ≡ Some x → length (written x.node) < 2 ^ 64
   pub others : (q : List ℕ) → IsElsewhere xs written q → file_at held q ≡ file_at before q
 
 -- the same, but for the name of this group of this node
 pub record AllWrittenBut (before : Option Files) (xs : List NodeFile) (written : ℕ → List Array) (at : NodeFile) (group : ℕ) (held : Option Files) : Type 0 where
+  pub told : is_some held ≡ is_some before
   pub each : (k : ℕ) (x : NodeFile) (i : ℕ) → slice_get xs k ≡ Some x → (x.node ≢ at.node) ⊎ (i ≢ group) → HasBytes held (name_of x i) (group_file x (written x.node) i)
   pub others : (q : List ℕ) → q ≢ name_of at group → IsElsewhere xs written q → file_at held q ≡ file_at before q
 

@@ -250,6 +250,7 @@ impl NodeFiles {
             → EndStops self.old arrays (K.held shelf.old) (K.held shelf.new)) }
         ensures changed { (arrays : List Array) → AreWritten self.old arrays (K.held shelf.old) → IsChangedAt (K.held shelf.old) (name_of self.old (length arrays / self.old.count)) (K.held shelf.new) }
         ensures still { self.old.current ≡ None → K.held shelf.new ≡ K.held shelf.old }
+        ensures some { 1 ≤ self.old.count }
         ensures failed { IfErr result (λ fault. fault ≡ faults.Failed) }
         ensures cause { IsSaveCause result (K.faults shelf.old) (K.faults shelf.new) }
     {

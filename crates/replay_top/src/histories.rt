@@ -15,8 +15,12 @@ ghost use Rattle.flow_run.specs.RunFiles.{HasSavedRun};
 ghost use Rattle.flow_run.specs.Strangers.{AreOwnMoves};
 ghost use Rattle.flow_run.specs.Ticks.{IsFedByTheClock};
 
+use board_rules::BoardCalls;
 use edge_traits::{Clock, Gate, Shelf};
-use flow_run::RunEnd;
+use flow_core::Board;
+use flow_journal::Quiet;
+use flow_run::{RunEnd, play_run};
+use frame_store::Frame;
 use graph_files::OpenFiles;
 use nd_base::{OutOfMemory, Plan, Run, Stack};
 use std::alloc::Global;
@@ -54,8 +58,10 @@ fn play<
     ensures roles { IfOk result (λ end. AreOwnMoves (run_setting R.graph R.stack) end.log.past) }
     ensures ticks { IfOk result (λ end. IsFedByTheClock (run_setting R.graph R.stack) end.log.past (C.coming clock.old) (C.coming clock.new)) }
 {
-    let _ = (rt, alloc, plan, stack, files, shelf, clock, gate);
-    Err(OutOfMemory)
+    let board = Board::<Frame<R>>::start(alloc, plan)?;
+    play_run(
+        rt, alloc, board, plan, stack, files, shelf, &mut Quiet, clock, gate,
+    )
 }
 
 /// Runs a graph over a stack with all its roles, and writes the groups of its file nodes.

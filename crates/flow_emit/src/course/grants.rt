@@ -77,6 +77,86 @@ impl<F: Held> Course<F> {
         self.pool.given_next()
     }
 
+    /// The next frame is loaded, into the block that the pool grants. With `regrown` the storage of a block that isn't fresh was made again.
+    ///
+    /// # Errors
+    ///
+    /// Only for want of memory for a fresh block. Then nothing changes.
+    pub fn load(
+        &mut self,
+        alloc: Global,
+        role: u32,
+        tick: u64,
+        grant: Grant,
+        regrown: bool,
+    ) -> Result<(), OutOfMemory>
+        requires still { self.old.transit ≡ [] }
+        requires role { role ≤ last_role (run_setting F.Of.graph F.Of.stack) }
+        requires history { is_history (run_setting F.Of.graph F.Of.stack) (past self.old.told) ≡ true }
+        requires allowed { load_refusal {B = F.Blank} (run_setting F.Of.graph F.Of.stack) role (past self.old.told) ≡ None }
+        requires granted { granted_by (run_setting F.Of.graph F.Of.stack) (past self.old.told) ((run_setting F.Of.graph F.Of.stack).need 0) ≡ Granted grant.block grant.size grant.fresh grant.given_up }
+        requires stale { (regrown && grant.fresh) ≡ false }
+        ensures loaded { OnOk result (self.new ≡ record self.old {
+          told = moved_at (run_setting F.Of.graph F.Of.stack) tick
+              (plain (Load role (next_index (past self.old.told)) grant.block grant.size grant.fresh grant.given_up regrown)) self.old.told;
+        }) }
+        ensures refused { OnErr result ((self.new ≡ self.old) × (grant.fresh ≡ true)) }
+    {
+        self.note_load(alloc, role, grant, regrown)?;
+        self.tick(tick);
+        Ok(())
+    }
+
+    /// The same, but the tick.
+    fn note_load(
+        &mut self,
+        alloc: Global,
+        role: u32,
+        grant: Grant,
+        regrown: bool,
+    ) -> Result<(), OutOfMemory>
+        requires still { self.old.transit ≡ [] }
+        requires role { role ≤ last_role (run_setting F.Of.graph F.Of.stack) }
+        requires history { is_history (run_setting F.Of.graph F.Of.stack) (past self.old.told) ≡ true }
+        requires allowed { load_refusal {B = F.Blank} (run_setting F.Of.graph F.Of.stack) role (past self.old.told) ≡ None }
+        requires granted { granted_by (run_setting F.Of.graph F.Of.stack) (past self.old.told) ((run_setting F.Of.graph F.Of.stack).need 0) ≡ Granted grant.block grant.size grant.fresh grant.given_up }
+        requires stale { (regrown && grant.fresh) ≡ false }
+        ensures loaded { OnOk result (self.new ≡ record self.old {
+          told =
+              plain (Load role (next_index (past self.old.told)) grant.block grant.size grant.fresh grant.given_up regrown) ∷ self.old.told;
+        }) }
+        ensures refused { OnErr result ((self.new ≡ self.old) × (grant.fresh ≡ true)) }
+    {
+        take_grant(&mut self.pool, alloc, self.rules.need, grant)?;
+        let Grant {
+            block,
+            size,
+            fresh,
+            given_up,
+        } = grant;
+        let index = self.facts.offered;
+        self.blocks[index as usize] = block;
+        self.roles[role as usize].hand = Hand::Loaded {
+            index,
+            block: Block {
+                number: block,
+                size,
+            },
+        };
+        self.facts.offered += 1;
+        self.facts.loaded = true;
+        self.log.push(Entry::Load {
+            role,
+            index,
+            block,
+            size,
+            fresh,
+            given: given_up,
+            regrown,
+        });
+        Ok(())
+    }
+
     /// The next array of the queue of a node that makes arrays goes out as a job, of which this is the part, with the block that the pool
     /// grants. With `regrown` the storage of a block that isn't fresh was made again.
     ///

@@ -252,4 +252,44 @@ impl<F: Held> Course<F> {
             .push_back_reserved(FrameName { maker: 0, index });
         self.log.push(Entry::Issue { role, index });
     }
+
+    /// The pool refuses the block for the next frame, which is not offered again.
+    pub fn refuse_load(&mut self, role: u32, tick: u64)
+        requires still { self.old.transit ≡ [] }
+        requires role { role ≤ last_role (run_setting F.Of.graph F.Of.stack) }
+        requires history { is_history (run_setting F.Of.graph F.Of.stack) (past self.old.told) ≡ true }
+        requires allowed { load_refusal {B = F.Blank} (run_setting F.Of.graph F.Of.stack) role (past self.old.told) ≡ None }
+        requires refused { grant (run_setting F.Of.graph F.Of.stack) (past self.old.told) ((run_setting F.Of.graph F.Of.stack).need 0) ≡ Refused }
+        ensures { self.new ≡ record self.old {
+          told = moved_at (run_setting F.Of.graph F.Of.stack) tick
+              (plain (LoadRefused role (next_index (past self.old.told)) ((run_setting F.Of.graph F.Of.stack).need 0) (held (run_setting F.Of.graph F.Of.stack) (past self.old.told)))) self.old.told;
+        } }
+    {
+        self.note_refusal(role);
+        self.tick(tick);
+    }
+
+    /// The same, but the tick.
+    fn note_refusal(&mut self, role: u32)
+        requires still { self.old.transit ≡ [] }
+        requires role { role ≤ last_role (run_setting F.Of.graph F.Of.stack) }
+        requires history { is_history (run_setting F.Of.graph F.Of.stack) (past self.old.told) ≡ true }
+        requires allowed { load_refusal {B = F.Blank} (run_setting F.Of.graph F.Of.stack) role (past self.old.told) ≡ None }
+        requires refused { grant (run_setting F.Of.graph F.Of.stack) (past self.old.told) ((run_setting F.Of.graph F.Of.stack).need 0) ≡ Refused }
+        ensures { self.new ≡ record self.old {
+          told =
+              plain (LoadRefused role (next_index (past self.old.told)) ((run_setting F.Of.graph F.Of.stack).need 0) (held (run_setting F.Of.graph F.Of.stack) (past self.old.told))) ∷ self.old.told;
+        } }
+    {
+        let index = self.facts.offered;
+        let need = self.rules.need;
+        let held = self.pool.held();
+        self.facts.offered += 1;
+        self.log.push(Entry::LoadRefused {
+            role,
+            index,
+            need,
+            held,
+        });
+    }
 }

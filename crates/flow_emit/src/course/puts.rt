@@ -191,4 +191,35 @@ impl<F: Held> Course<F> {
             fired,
         });
     }
+
+    /// The result of a job of the role is put: it goes out, waits, is kept or is dropped, as its node does, with all that follows.
+    pub fn put(
+        &mut self,
+        role: u32,
+        node: u32,
+        name: FrameName,
+        measured: Option<Measure>,
+        fired: bool,
+    )
+        requires role { role ≤ last_role (run_setting F.Of.graph F.Of.stack) }
+        requires node { is_node (run_setting F.Of.graph F.Of.stack) node ≡ true }
+        requires still { self.old.transit ≡ [] }
+        requires history { is_history (run_setting F.Of.graph F.Of.stack) (past self.old.told) ≡ true }
+        requires hand { is_job_on node name (hand role (past self.old.told)) ≡ true }
+        requires measured { measured ≡ run_measure F.Of.graph F.Of.stack node name }
+        requires fired { fired ≡ fires_for (run_setting F.Of.graph F.Of.stack) node name }
+        ensures { self.new ≡ record self.old { told = moved (run_setting F.Of.graph F.Of.stack) (plain (put_of (run_setting F.Of.graph F.Of.stack) role node name fired)) self.old.told } }
+    {
+        match self.work(node) {
+            NodeWork::Saves { .. } => self.put_to_save(role, node, name, fired),
+            NodeWork::Watches { .. } => self.put_watched(role, node, name, fired),
+            NodeWork::Makes | NodeWork::Passes | NodeWork::Deals => {
+                if self.sorts(node) {
+                    self.put_sorted(role, node, name, measured, fired);
+                } else {
+                    self.put_at_once(role, node, name, measured, fired);
+                }
+            }
+        }
+    }
 }

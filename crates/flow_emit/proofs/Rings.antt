@@ -1,0 +1,168 @@
+-- What a node keeps for a window to come, when it is settled.
+use Rattle.std.proofs.Common.{◌≡◌, ◌∙◌, ◌≤◌, ◌-◌, ℕ, zero, suc, true, false, Bool, ◌||◌, ltb, max, List, [], ◌∷◌, ◌++◌, Some, length, map, drop, set, refl, sym, ap, subst, arith, length-drop, if◌then◌else◌}
+use Rattle.std.specs.Prelude.{slice_get, slice_index_or}
+use Rattle.std.specs.List.{All, flat_map}
+use Rattle.std.proofs.lemmas.Bool.{false≢true, true≢false}
+use Rattle.std.proofs.lemmas.List.{map-id}
+use Rattle.std.proofs.lemmas.List.Elements.{All-head, All-tail, All-nil}
+use Rattle.nd_base.specs.declared.frame.FrameName.{FrameName}
+use Rattle.trig_window.specs.Watch.{Watch}
+use Rattle.trig_window.specs.Windows.{kept, end_of_last, triggers, is_complete}
+use Rattle.flow_journal.specs.declared.entry.Entry.TheVariants.{Settle}
+use Rattle.flow_journal.specs.Setting.{Setting, Work, Makes, Passes, Watches, Saves, Node, node, no_node, is_node}
+use Rattle.flow_journal.specs.Pasts.{Past}
+use Rattle.flow_journal.specs.Accounts.{block_of}
+use Rattle.flow_journal.specs.Ended.{is_settled}
+use Rattle.flow_journal.specs.Puts.{puts, firings}
+use Rattle.flow_journal.specs.Rings.{ring, ring_of}
+use Rattle.flow_journal.specs.Histories.{is_legal}
+use Rattle.flow_journal.specs.RingPushes.{IsWindowOf}
+use Rattle.flow_journal.proofs.Changes.{clock_laws}
+use Rattle.flow_journal.proofs.RingPushes.{ring_window_laws}
+use Rattle.board_rules.specs.States.{plain}
+use Rattle.pool_account.specs.Account.{IsAccount, all_named}
+use Rattle.pool_account.proofs.Laws.{array_laws}
+use Rattle.flow_emit.specs.declared.rules.NodeWork.{NodeWork}
+use Rattle.flow_emit.specs.declared.rules.NodeWork.TheVariants as work
+use Rattle.flow_emit.specs.declared.rules.NodeRules.{NodeRules}
+use Rattle.flow_emit.specs.declared.node.NodeState.{NodeState}
+use Rattle.flow_emit.specs.RunRules.{as_node, as_work, IsWorkWithin}
+use Rattle.flow_emit.specs.NodeStates.{IsNode, IsRing}
+use Rattle.flow_emit.specs.Having.{HasBlock}
+use Rattle.flow_emit.specs.Courses.{Parts, log_of, IsCourse}
+use Rattle.flow_emit.specs.Settling.{is_watching, watches}
+use Rattle.flow_emit.proofs.Coursing.{Measuring, apart-more}
+use Rattle.flow_emit.proofs.Reading.{place-of}
+use Rattle.flow_emit.proofs.Finding.{node-is, still-account}
+use Rattle.flow_emit.proofs.Nodes.{nodes-set}
+use Rattle.flow_emit.proofs.Elsewhere.{same-settle, turn-same}
+use Rattle.flow_emit.proofs.Roles.{roles-kept}
+use Rattle.flow_emit.proofs.FrameBlocks.{blocks-kept}
+use Rattle.flow_emit.proofs.FactsAfter.{facts-settle}
+
+-- HOW MANY
+cut-short : {X : Type 0} (b : Bool) (least end : ℕ) (xs : List X) → length xs - least ≤ end → length (if b then [] else drop end xs) ≤ least
+cut-short true least end xs le = omega arith
+cut-short false least end xs le = omega (arith, length-drop end xs, le)
+
+-- no more than the greatest part of a window before its trigger
+kept-short : (pre post preset : ℕ) (flags : List Bool) (xs : List FrameName) → length (kept pre post preset flags xs) ≤ pre
+kept-short pre post preset flags xs =
+    let end = end_of_last post (triggers post preset flags) in
+    cut-short (ltb (length xs) end || is_complete post preset flags) pre (max end (length xs - pre)) xs (omega arith)
+
+within-work : (w : NodeWork) (pre post preset : ℕ) → IsWorkWithin w → as_work w ≡ Watches pre post preset → pre ≤ 4096
+within-work work.Makes pre post preset h e = absurd (cc)
+within-work work.Passes pre post preset h e = absurd (cc)
+within-work work.Deals pre post preset h e = absurd (cc)
+within-work (work.Watches a b d) pre post preset h e = let same : a ≡ pre = cc in omega (arith, h.0, same)
+within-work (work.Saves whole n) pre post preset h e = absurd (cc)
+
+within-works : (ns : List NodeRules) (j pre post preset : ℕ) → All (λ (n : NodeRules). IsWorkWithin n.work) ns → (slice_index_or (map as_node ns) j no_node).work ≡ Watches pre post preset → pre ≤ 4096
+within-works [] j pre post preset all e = absurd (cc)
+within-works (n ∷ ns) zero pre post preset all e = within-work n.work pre post preset (All-head (λ (x : NodeRules). IsWorkWithin x.work) n ns all) e
+within-works (n ∷ ns) (suc j) pre post preset all e = within-works ns j pre post preset (All-tail (λ (x : NodeRules). IsWorkWithin x.work) n ns all) e
+
+small-window : (measure : Measuring) (s : Setting) (k : Parts) (v pre post preset : ℕ) → IsCourse measure s k → is_node s v ≡ true → (node s v).work ≡ Watches pre post preset → pre ≤ 4096
+small-window measure s k v pre post preset i here is =
+    let p = place-of s v here in
+    within-works k.rules.nodes (v - 1) pre post preset i.ruled.works
+    (ap (λ (ns : List Node). (slice_index_or ns (v - 1) no_node).work) i.ruled.nodes ∙ (ap (λ u. (node s u).work) p.0 ∙ is))
+
+-- THE RING OF A CIRCULAR NODE
+-- its window has the ring, and nothing is pending
+pub record HasRing (s : Setting) (v : ℕ) (P : Past) (w : Watch FrameName) : Type 0 where
+  pub same : w.ring ≡ ring s v P
+  pub pending : w.pending ≡ []
+  pub few : length w.ring ≤ 4096
+
+watched : (w : Work) → is_watching w ≡ true → (pre post preset : ℕ) × (w ≡ Watches pre post preset)
+watched Makes h = absurd (false≢true h)
+watched (Passes d) h = absurd (false≢true h)
+watched (Watches pre post preset) h = (pre, post, preset, refl)
+watched (Saves whole n) h = absurd (false≢true h)
+
+pub has-ring : (measure : Measuring) (s : Setting) (k : Parts) (v : ℕ) (n : NodeState) → IsCourse measure s k → is_node s v ≡ true → slice_get k.nodes (v - 1) ≡ Some n → watches s v ≡ true → is_settled v (log_of k) ≡ false → HasRing s v (log_of k) n.window
+has-ring measure s k v n i here at kind unsettled =
+    let P = log_of k in
+    let d = watched (node s v).work kind in
+    let r : IsRing s v P (Watches d.0 d.1 d.2) n.window = subst (λ (w : Work). IsRing s v P w n.window) d.3 (node-is measure s k v n i here at).ring in
+    let x : IsWindowOf (λ (a : FrameName). a) s v P n.window (puts v P) = r.0 unsettled in
+    record {
+      same = sym (map-id n.window.ring) ∙ (ring_window_laws FrameName).has_ring (λ (a : FrameName). a) s v P n.window (puts v P) x unsettled;
+      pending = r.2;
+      few = omega (arith, ap length x.ring, kept-short n.window.pre n.window.post n.window.preset (firings v P) (puts v P), small-window measure s k v n.window.pre n.window.post n.window.preset i here x.rule);
+    }
+
+-- NODES THAT KEEP NOTHING
+plain-ring : (s : Setting) (v : ℕ) (Q : Past) (w : Work) (x : Watch FrameName) → is_watching w ≡ false → IsRing s v Q w x
+plain-ring s v Q Makes x h = tt
+plain-ring s v Q (Passes d) x h = tt
+plain-ring s v Q (Watches pre post preset) x h = absurd (true≢false h)
+plain-ring s v Q (Saves whole n) x h = tt
+
+no-ring : (w : Work) (b : Bool) (flags : List Bool) (xs : List FrameName) → is_watching w ≡ false → (if b then [] else ring_of w flags xs) ≡ []
+no-ring w true flags xs h = refl
+no-ring Makes false flags xs h = refl
+no-ring (Passes d) false flags xs h = refl
+no-ring (Watches pre post preset) false flags xs h = absurd (true≢false h)
+no-ring (Saves whole n) false flags xs h = refl
+
+here-settle : (measure : Measuring) (s : Setting) (r v : ℕ) (P : Past) (n : NodeState) → IsNode measure s v P n → is_legal s (Settle r v ∷ P) ≡ true → watches s v ≡ false
+    → IsNode measure s v (Settle r v ∷ P) (record n { settled = true })
+here-settle measure s r v P n i legal kind =
+    let e = Settle r v in
+    record {
+      inbox = i.inbox;
+      working = i.working;
+      few = i.few;
+      fits = i.fits;
+      ended = sym (clock_laws.settle r v P);
+      list_size = i.list_size;
+      last = i.last;
+      waits = i.waits;
+      ticks = i.ticks;
+      ring = plain-ring s v (e ∷ P) (node s v).work n.window kind;
+      kept = i.kept;
+      results = i.results;
+      pieces = i.pieces;
+      saving = i.saving;
+      next_child = λ d some. i.next_child d some ∙ sym (turn-same s v e P legal (λ c m k b. refl) d some);
+      measures = i.measures;
+      unsaved_room = i.unsaved_room;
+      measures_room = i.measures_room;
+    }
+
+settled_here : (measure : Measuring) (s : Setting) (k : Parts) (r c : ℕ) (n : NodeState) → IsCourse measure s k → is_legal s (Settle r (suc c) ∷ log_of k) ≡ true → slice_get k.nodes c ≡ Some n → k.transit ≡ [] → watches s (suc c) ≡ false
+    → IsCourse measure s (record k { log = record k.log { told = plain (Settle r (suc c)) ∷ k.log.told }; nodes = set k.nodes c (record n { settled = true }); transit = [] })
+settled_here measure s k r c n i legal here empty kind =
+    let P = log_of k in
+    let e = Settle r (suc c) in
+    let none : ring s (suc c) P ≡ [] = no-ring (node s (suc c)).work (is_settled (suc c) P) (firings (suc c) P) (puts (suc c) P) kind in
+    record {
+      ruled = i.ruled;
+      legal = legal;
+      nodes = nodes-set measure s P (e ∷ P) k.nodes c _ i.nodes (here-settle measure s r (suc c) P n (i.nodes.each c n here) legal kind) (λ v ne. same-settle s (suc v) r (suc c) P legal (apart-more ne));
+      roles = roles-kept s P _ k.roles i.roles (λ r. refl);
+      account = subst (λ (xs : List FrameName). IsAccount s (e ∷ P) (flat_map (block_of P) xs ++ []) (all_named k.pool)) none (array_laws.settle s P r (suc c) (all_named k.pool) [] legal (still-account measure s k i empty));
+      standing = All-nil (HasBlock P);
+      blocks = blocks-kept s P _ k.blocks i.blocks (λ a. refl);
+      facts = i.facts ∙ sym (facts-settle s r (suc c) P legal);
+      log_room = i.log_room;
+      reclaims = i.reclaims;
+      moving = omega arith;
+      transit_room = i.transit_room;
+    }
+
+pub settled_plain : (measure : Measuring) (s : Setting) (k : Parts) (v r c : ℕ) (n : NodeState) → suc c ≡ v → IsCourse measure s k → is_legal s (Settle r v ∷ log_of k) ≡ true → slice_get k.nodes c ≡ Some n → k.transit ≡ [] → watches s v ≡ false
+    → IsCourse measure s (record k { log = record k.log { told = plain (Settle r v) ∷ k.log.told }; nodes = set k.nodes c (record n { settled = true }); transit = [] })
+settled_plain measure s k v r c n is i =
+    subst (λ u. is_legal s (Settle r u ∷ log_of k) ≡ true → slice_get k.nodes c ≡ Some n → k.transit ≡ [] → watches s u ≡ false → IsCourse measure s (record k { log = record k.log { told = plain (Settle r u) ∷ k.log.told }; nodes = set k.nodes c (record n { settled = true }); transit = [] })) is (settled_here measure s k r c n i)
+
+-- what a node does, as code reads it
+pub not-watching : (w : NodeWork) → ((pre post preset : ℕ) → w ≡ work.Watches pre post preset → ⊥) → is_watching (as_work w) ≡ false
+not-watching work.Makes h = refl
+not-watching work.Passes h = refl
+not-watching work.Deals h = refl
+not-watching (work.Watches pre post preset) h = absurd (h pre post preset refl)
+not-watching (work.Saves whole n) h = refl

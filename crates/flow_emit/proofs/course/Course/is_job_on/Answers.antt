@@ -1,0 +1,16 @@
+use Rattle.std.proofs.Common.{◌≡◌, ◌∙◌, ap, sym, subst}
+use Rattle.board_rules.specs.RunMeasures.{run_setting, run_measure}
+use Rattle.board_rules.specs.States.{past}
+use Rattle.flow_journal.specs.Hands.{hand}
+use Rattle.flow_emit.specs.Courses.{IsCourse, Coursed}
+use Rattle.flow_emit.specs.RoleStates.{role_of, hand_of}
+use Rattle.flow_emit.specs.declared.hand.RoleState.{RoleState}
+
+use Rattle.flow_emit.specs.HandWords.{works_on}
+use Rattle.flow_emit.proofs.HandWords.{works_on-is}
+use Rattle.flow_emit.proofs.course.Course.is_job_on.Goals as goal
+
+pub returns : goal.returns
+returns g c =
+    let h = hand c.args.role (past c.args.self.now.told) in
+    c.is_job_on.ensures ∙ (ap (works_on c.args.node c.args.name) c.hand.ensures ∙ works_on-is c.args.node c.args.name h)

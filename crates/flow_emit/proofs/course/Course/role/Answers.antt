@@ -1,0 +1,20 @@
+use Rattle.std.proofs.Common.{◌≡◌, ◌∙◌, ap, sym, subst}
+use Rattle.board_rules.specs.RunMeasures.{run_setting, run_measure}
+use Rattle.board_rules.specs.States.{past}
+use Rattle.flow_journal.specs.Hands.{hand}
+use Rattle.flow_emit.specs.Courses.{IsCourse, Coursed}
+use Rattle.flow_emit.specs.RoleStates.{role_of, hand_of}
+use Rattle.flow_emit.specs.declared.hand.RoleState.{RoleState}
+
+use Rattle.flow_emit.proofs.Opening.{parts}
+use Rattle.flow_emit.proofs.Finding.{role-found}
+use Rattle.flow_emit.proofs.course.Course.role.Goals as goal
+
+pub returns : goal.returns
+returns g c =
+    let m = run_measure g.F.Of.Run.graph g.F.Of.Run.stack in
+    let s = run_setting g.F.Of.Run.graph g.F.Of.Run.stack in
+    let k = parts c.self.inside in
+    let i : IsCourse m s k = c.self.invariant in
+    let x = c.index.result.now in
+    i.roles.each c.args.role x (role-found m s k c.args.role x i c.requires c.index.ensures) ∙ ap (λ (w : Coursed). role_of (past w.told) c.args.role) c.self.view_is

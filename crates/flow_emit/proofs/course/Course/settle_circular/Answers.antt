@@ -1,0 +1,23 @@
+use Rattle.std.proofs.Common.{◌≡◌, ◌∷◌, ◌∙◌, [], sym, ap}
+use Rattle.board_rules.specs.RunMeasures.{run_setting}
+use Rattle.board_rules.specs.States.{BoardState, past, plain}
+use Rattle.flow_journal.specs.declared.entry.Entry.TheVariants.{Settle}
+use Rattle.flow_emit.specs.Courses.{Coursed}
+use Rattle.flow_emit.proofs.Finding.{coursed-as}
+use Rattle.flow_emit.proofs.Flushing.{may-settle, moved-none, circular-unsorted}
+use Rattle.flow_emit.proofs.course.Course.settle_circular.Goals as goal
+
+pub note_ring-requires-clause-legal : goal.note_ring-requires-clause-legal
+note_ring-requires-clause-legal g c =
+    let s = run_setting g.F.Of.Run.graph g.F.Of.Run.stack in
+    let h = c.requires in
+    may-settle s c.args.self.now.told c.args.role c.args.node h.history h.role h.node h.ready h.unsettled
+
+pub returns : goal.returns
+returns g c =
+    let s = run_setting g.F.Of.Run.graph g.F.Of.Run.stack in
+    let h = c.requires in
+    let old = c.args.self.now in
+    c.release_all.ensures
+    ∙ (ap (λ (w : Coursed). record w { transit = [] }) c.note_ring.ensures
+    ∙ coursed-as (sym (moved-none s c.args.role c.args.node old.told (circular-unsorted s c.args.node h.kind))) (sym h.still))

@@ -1,0 +1,5 @@
+pub mod LastGrants
+pub mod Keeping
+pub mod LookLaws
+pub mod GrantLaws
+pub mod MoveLaws
