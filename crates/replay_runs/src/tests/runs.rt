@@ -97,7 +97,7 @@ fn each_frame_is_accepted_or_finds_the_queue_full(rt: HostRuntime) -> Result<(),
         .iter()
         .filter(|entry| matches!(entry, Entry::Full { .. }))
         .count();
-    assert_eq!(rt; accepted + full, 9);
+    assert_eq!(rt; accepted.saturating_add(full), 9);
     let rows = run.shelf.bytes("x_st.txt").ok_or("no rows")?;
     assert_eq!(rt; rows.iter().filter(|byte| **byte == b'\n').count(), accepted);
     Ok(())
