@@ -1,13 +1,22 @@
 -- A role that saves, before its first call.
-use Rattle.std.proofs.Common.{◌≡◌, ℕ, zero, suc, ◌+◌, ◌*◌, ◌%◌, true, false, List, [], ◌∷◌, ◌++◌, length, take, map, refl, sym, ap, subst, ◌∙◌, arith, Option, Some, None}
+use Rattle.std.proofs.Common.{◌≡◌, ℕ, zero, suc, ◌+◌, ◌*◌, ◌%◌, Bool, true, false, List, [], ◌∷◌, ◌++◌, length, take, map, refl, sym, ap, subst, ◌∙◌, arith, Option, Some, None}
 use Rattle.std.specs.Prelude.{slice_get}
-use Rattle.std.proofs.lemmas.List.{drop_all}
+use Rattle.std.specs.List.{list_all}
+use Rattle.std.proofs.lemmas.List.{drop_all, append-nil}
 use Rattle.nd_base.specs.Array.{Array, StackValue}
 use Rattle.nd_base.specs.declared.graph.Graph.{Graph}
 use Rattle.nd_base.specs.declared.graph.Kind.{Kind}
 use Rattle.nd_base.specs.declared.graph.Kind.TheVariants.{Roi, Stats, Circular, File, Scatter}
 use Rattle.nd_base.specs.declared.graph.NodeRule.{NodeRule}
+use Rattle.nd_base.specs.Parts.{Parts}
 use Rattle.edge_traits.specs.Files.{Files}
+use Rattle.frame_store.specs.Sealed.{Sealed}
+use Rattle.flow_journal.specs.declared.entry.Entry.{Entry}
+use Rattle.flow_journal.specs.declared.entry.Entry.TheVariants as entry
+use Rattle.flow_journal.specs.Pasts.{frame}
+use Rattle.flow_roles.specs.Feeder.{parts_of}
+use Rattle.flow_roles.specs.Feeder as feeder
+use Rattle.flow_roles.specs.RoleEnds.{IsLent}
 use Rattle.flow_journal.specs.Hands.{hand}
 use Rattle.flow_journal.specs.Unsaved.{saves}
 use Rattle.board_rules.specs.States.{BoardState, past}
@@ -18,8 +27,9 @@ use Rattle.graph_files.specs.NodeFiles.{NodeFile, AreWritten, IsOpenAfter, group
 use Rattle.graph_files.specs.NodeFileLaws.{none-open}
 use Rattle.graph_files.specs.OpenFiles.{kind_node, nodes_from, file_nodes, closed, AllWritten}
 use Rattle.graph_files.specs.OpenFileLaws.{of_node}
+use Rattle.flow_saver.specs.declared.piece.DuePiece.{DuePiece}
 use Rattle.flow_saver.specs.GivenBack.{given_back, written_by}
-use Rattle.flow_saver.specs.Saver.{Start, IsSaving, AreSaved, AreBegunSo}
+use Rattle.flow_saver.specs.Saver.{Start, IsSaving, HasUnsaved, HasSavedSince, AreSaved, AreBegunSo, IsPieceOfHand, saver_logs}
 
 module _ (g : Graph) (stack : StackValue) (prefix : List ℕ) where
   closed-kind : (v : ℕ) (n : NodeRule) (c : Kind) (rest : List NodeFile) → map closed rest ≡ rest → map closed (kind_node g stack prefix v n.name c ++ rest) ≡ kind_node g stack prefix v n.name c ++ rest
@@ -85,3 +95,55 @@ fresh-saving g stack prefix held r p xs files fresh =
       nodes = ap (map closed) files ∙ closed-nodes g stack prefix;
       saved = subst (λ (b : BoardState). AreSaved g stack held (past b) (past p.seen) xs false held) (sym fresh.made) saved;
     }
+
+-- THE END OF THE ROLE
+
+-- what the role made from the beginning on saves alone
+pub all-since : (then_made made : BoardState) → HasSavedSince then_made made → then_made ≡ [] → list_all saver_logs (past made) ≡ true
+all-since then_made made h first =
+    subst (λ (b : BoardState). list_all saver_logs (past b) ≡ true) (sym (h.1 ∙ ap (λ (b : BoardState). h.0 ++ b) first ∙ append-nil h.0)) h.2
+
+since-none : (then_made made : BoardState) → HasSavedSince then_made made → then_made ≡ [] → HasSavedSince [] made
+since-none then_made made h first = (h.0, h.1 ∙ ap (λ (b : BoardState). h.0 ++ b) first, h.2)
+
+module _ (g : Graph) (stack : StackValue) (start : Start) (prefix : List ℕ) (before : Option Files) (r : ℕ) (p : Pass) (xs : List NodeFile) (fault : Bool) (held : Option Files) (began : start.held ≡ before) (first : start.made ≡ [])
+    (named : file_nodes g stack start.prefix ≡ file_nodes g stack prefix) where
+  -- the same files by other names of the beginning
+  pub saving-from : IsSaving g stack start r p xs fault held → IsSaving g stack (record { prefix = prefix; made = []; held = before }) r p xs fault held
+  saving-from st = record {
+    role = st.role;
+    moves = since-none start.made p.made st.moves first;
+    free = st.free;
+    alike = st.alike;
+    whole = st.whole;
+    nodes = st.nodes ∙ named;
+    rows = st.rows;
+    saved = subst (λ (h : Option Files). AreSaved g stack h (past p.made) (past p.seen) xs fault held) began st.saved;
+  }
+
+  pub unsaved-from : (due : DuePiece Sealed) → HasUnsaved g stack start r p xs fault held due → HasUnsaved g stack (record { prefix = prefix; made = []; held = before }) r p xs fault held due
+  unsaved-from due st = record {
+    role = st.role;
+    moves = since-none start.made p.made st.moves first;
+    node = st.node;
+    listed = st.listed;
+    hand = st.hand;
+    lent = st.lent;
+    maker = st.maker;
+    place = st.place;
+    few = st.few;
+    room = st.room;
+    sized = st.sized;
+    first = st.first;
+    numrecs = st.numrecs;
+    alike = st.alike;
+    whole = st.whole;
+    nodes = st.nodes ∙ named;
+    rows = st.rows;
+    saved = subst (λ (h : Option Files). AreSaved g stack h (past p.made) (past p.seen) xs fault held) began st.saved;
+  }
+
+-- the piece of a hand
+pub hand-piece : (r v group : ℕ) (lent : Option Parts) (piece : Sealed) (e : Option Entry) → e ≡ Some (entry.Save r v piece.name.maker piece.name.index group) → lent ≡ parts_of piece → IsPieceOfHand lent e (Some piece)
+hand-piece r v group lent piece e is same =
+    subst (λ (o : Option Entry). IsPieceOfHand lent o (Some piece)) (sym is) (let both : IsLent feeder.name_of parts_of (frame piece.name.maker piece.name.index) lent (Some piece) = (refl, sym same) in both)

@@ -26,16 +26,16 @@ use Rattle.board_rules.specs.Moving.{moved, moved_at}
 use Rattle.board_rules.specs.RunMeasures.{run_setting}
 use Rattle.board_rules.proofs.Moves.{followers, one-move, moves-tell}
 use Rattle.flow_roles.specs.Passes.{Pass, saved_by_drain, only_drain_saves}
-use Rattle.flow_roles.specs.TurnPasses.{HasMade, BeginsWith}
+use Rattle.flow_roles.specs.TurnPasses.{HasMade}
 use Rattle.flow_roles.proofs.Calls.{GoesAfter, from-move}
 use Rattle.flow_drain.specs.Drains.{DrainMoves, is_drains, taken, taken_back}
 use Rattle.run_laws.specs.Results.{contents}
 use Rattle.graph_files.specs.NodeFiles.{NodeFile, IsPlaceAfter, first_count}
-use Rattle.graph_files.specs.OpenFiles.{AllWritten}
 use Rattle.flow_saver.specs.declared.piece.DuePiece.{DuePiece}
 use Rattle.flow_saver.specs.GivenBack.{given_back, written_by}
-use Rattle.flow_saver.specs.Saver.{Start, IsSaving, HasUnsaved, AreSaved, AreBegunSo, HasSavedSince, IsFirstCount, back_of}
-use Rattle.flow_saver.specs.Remaining.{alone, is_rest, RestMoves, IsSavingAlone, HasUnsavedAlone}
+use Rattle.flow_saver.specs.Saver.{Start, IsSaving, HasUnsaved, RoleLeaves, AreSaved, HasSavedSince, IsFirstCount, back_of}
+use Rattle.flow_saver.specs.HandingLaws.{LeftAlone, HandingLaws}
+use Rattle.flow_saver.specs.Remaining.{is_rest, RestMoves, IsSavingAlone, HasUnsavedAlone}
 use Rattle.flow_saver.proofs.Sizes.{first-more}
 use Rattle.flow_saver.proofs.Steps.{saved-more}
 use Rattle.flow_saver.proofs.Writing.{all-same}
@@ -234,9 +234,10 @@ module _ (g : Graph) (stack : StackValue) (before : Option Files) (more o : Boar
   written-still v = ap (λ (ns : List FrameName). contents g.nodes stack.arrays ns) (sym (given-still v more o none).0)
 
   saved-still : (fault : Bool) → AreSaved g stack before (past o) seen xs fault held → AreSaved g stack before (past (more ++ o)) seen xs fault held
-  saved-still false h =
-      (all-same before xs (written_by g stack (past o)) (written_by g stack (past (more ++ o))) held written-still h.0,
-      λ k x f at is. subst (λ (zs : List Array). IsFirstCount seen x.node x.count (length zs / x.count) x.late f.numrecs) (written-still x.node) (h.1 k x f at is))
+  saved-still false h = (
+    all-same before xs (written_by g stack (past o)) (written_by g stack (past (more ++ o))) held written-still h.0,
+    λ k x f at is. subst (λ (zs : List Array). IsFirstCount seen x.node x.count (length zs / x.count) x.late f.numrecs) (written-still x.node) (h.1 k x f at is),
+  )
   saved-still true h = record {
     later = past more ++ h.later;
     front = h.front;
@@ -250,6 +251,7 @@ module _ (g : Graph) (stack : StackValue) (before : Option Files) (more o : Boar
     begun = h.begun;
     at = h.at;
     listed = h.listed;
+    rows = h.rows;
     nodes = h.nodes;
     others = h.others;
     array = h.array;
@@ -335,3 +337,19 @@ reclaims-more s r (t ∷ added) b h =
 -- and what was taken back
 pub rest-reclaims : (s : Setting) (r : ℕ) (old new : BoardState) → RestMoves s old new → was_reclaimed r (past new) ≡ was_reclaimed r (past old)
 rest-reclaims s r old new m = ap (λ (b : BoardState). was_reclaimed r (past b)) m.1 ∙ reclaims-more s r m.0 old m.2
+
+-- THE LAWS
+
+role-left : (g : Graph) (stack : StackValue) (start : Start) (r : ℕ) (p : Pass) (left : Option (DuePiece Sealed)) (xs : List NodeFile) (fault : Bool) (held : Option Files) (b : BoardState) → r ≡ last_role (run_setting g stack)
+    → HasMade b p → is_history (run_setting g stack) (past b) ≡ true → only_drain_saves (run_setting g stack) (past b) ≡ true → RoleLeaves g stack start r left p xs fault held → LeftAlone g stack start.prefix start.held left b xs fault held
+role-left g stack start r p None xs fault held b drain there legal drained st = saving-alone g stack start.prefix start.made start.held r drain p xs fault held b there legal drained st
+role-left g stack start r p (Some due) xs fault held b drain there legal drained st = unsaved-alone g stack start.prefix start.made start.held r drain p xs fault held b there legal drained due st
+
+pub handing_laws : {F B O : Type 0} → HandingLaws F B O
+handing_laws {F} {B} {O} = record {
+  role = role-left;
+  free = free-alone;
+  drained = drained-alone {F = F} {B = B} {O = O};
+  others = rest-others;
+  reclaims = rest-reclaims;
+}

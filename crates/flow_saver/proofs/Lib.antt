@@ -13,3 +13,11 @@ pub mod Counting
 pub mod Alone
 pub mod Resting
 pub mod Handing
+pub mod Remains
+pub mod Groups
+pub mod RowFiles
+pub mod BegunBytes
+pub mod TornHistory
+pub mod RestLoops
+pub mod TornEnd
+pub mod ReadBack

@@ -1,18 +1,17 @@
 -- What a save and what follows it leave of a drained log.
-use Rattle.std.proofs.Common.{◌≡◌, ◌≢◌, ◌⊎◌, ℕ, suc, ◌+◌, ◌*◌, ◌/◌, ◌<◌, ◌≤◌, Bool, true, false, not, ◌&&◌, ◌||◌, eqb, leb, List, [], ◌∷◌, ◌++◌, length, map, refl, sym, ap, subst, ◌∙◌, arith, inl, inr, Option, Some, None, Result, Ok}
+use Rattle.std.proofs.Common.{◌≡◌, ◌≢◌, ℕ, ◌+◌, ◌*◌, ◌/◌, ◌<◌, ◌≤◌, Bool, true, false, not, ◌&&◌, ◌||◌, leb, List, [], ◌∷◌, ◌++◌, length, map, refl, sym, ap, ◌∙◌, arith, inl, inr, Some, None}
 use Rattle.std.specs.Prelude.{find, is_none, if◌then◌else◌}
 use Rattle.std.specs.List.{list_all, list_any}
 use Rattle.std.proofs.lemmas.Bool.{and_parts, and_from, cases_Bool, false≢true, true≢false, eq-eqb, ne_eqb, lt-ltb, le-leb}
 use Rattle.std.proofs.lemmas.List.{append_assoc}
 use Rattle.nd_base.specs.declared.frame.FrameName.{FrameName}
-use Rattle.nd_base.specs.declared.graph.Graph.{Graph}
 use Rattle.frame_store.specs.Sealed.{Sealed}
 use Rattle.flow_journal.specs.declared.entry.Entry.{Entry}
 use Rattle.flow_journal.specs.declared.entry.Entry.TheVariants as entry
-use Rattle.flow_journal.specs.Setting.{Setting, Work, Makes, Passes, Watches, Saves, Node, node, is_node, last_role, numbers_from, node_numbers}
-use Rattle.flow_journal.specs.Pasts.{Past, frame, comes_at, minus}
-use Rattle.flow_journal.specs.Hands.{hands, hand, let_go, is_free, is_piece, standing, takes_up}
-use Rattle.flow_journal.specs.Ended.{is_closed, is_settled}
+use Rattle.flow_journal.specs.Setting.{Setting, Work, Makes, Passes, Watches, Saves, Node, node, is_node, last_role, numbers_from}
+use Rattle.flow_journal.specs.Pasts.{Past, frame, minus}
+use Rattle.flow_journal.specs.Hands.{hands, let_go, is_free, is_piece, standing, takes_up}
+use Rattle.flow_journal.specs.Ended.{is_settled}
 use Rattle.flow_journal.specs.Offered.{next_index}
 use Rattle.flow_journal.specs.Queued.{queued}
 use Rattle.flow_journal.specs.Waiting.{Waiting, waiting}
@@ -20,14 +19,12 @@ use Rattle.flow_journal.specs.Rings.{ring}
 use Rattle.flow_journal.specs.Puts.{puts}
 use Rattle.flow_journal.specs.Accounts.{arrays_at}
 use Rattle.flow_journal.specs.Finished.{none_left, is_done, is_finished}
-use Rattle.flow_journal.specs.Histories.{is_legal, is_history}
+use Rattle.flow_journal.specs.Histories.{is_history}
 use Rattle.flow_journal.specs.Unsaved.{unsaved, saves, standing_saves, is_file, is_due}
-use Rattle.board_rules.specs.declared.answers.Save.{Save}
 use Rattle.board_rules.specs.declared.answers.Save.TheVariants.{Busy, NotYet}
 use Rattle.board_rules.specs.declared.told.Told.{Told}
 use Rattle.board_rules.specs.States.{BoardState, past}
-use Rattle.board_rules.specs.RunMeasures.{run_setting}
-use Rattle.board_rules.specs.Saving.{has_due, save_refusal, SaveAnswers, SaveGives}
+use Rattle.board_rules.specs.Saving.{has_due, SaveAnswers, SaveGives}
 use Rattle.flow_roles.specs.Feeder.{name_of, parts_of}
 use Rattle.flow_drain.specs.Drains.{IsDrained}
 use Rattle.flow_drain.proofs.Quiet.{drained-by}

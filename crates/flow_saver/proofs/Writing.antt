@@ -221,6 +221,7 @@ module _ (g : Graph) (stack : StackValue) (sound : IsGraph g) (start : Start) (r
           begun = saved.1;
           at = due.at;
           listed = st.listed;
+          rows = st.rows fine;
           nodes = nodes-kept ∙ sym st.nodes;
           others = λ j ne. ap (λ (zs : List NodeFile). slice_get zs j) set_ ∙ get-set_other xs due.at j (record x { current = o }) ne;
           array = a;
@@ -281,6 +282,7 @@ module _ (g : Graph) (stack : StackValue) (sound : IsGraph g) (start : Start) (r
         begun = was.begun;
         at = was.at;
         listed = was.listed;
+        rows = was.rows;
         nodes = was.nodes;
         others = was.others;
         array = was.array;

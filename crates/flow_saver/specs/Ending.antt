@@ -1,23 +1,18 @@
--- What stands under the names of a run's groups after a fault of the shelf, and that the groups' files read back.
-use Rattle.std.specs.Prelude.{◌≡◌, ◌≢◌, ◌⊎◌, ℕ, Bool, true, List, [], ◌++◌, length, Option, None, Some, Result, Ok, Err}
+-- What stands under the names of a run's groups after a fault of the shelf.
+use Rattle.std.specs.Prelude.{◌≡◌, ◌≢◌, ◌⊎◌, ℕ, Bool, true, false, List, ◌++◌, length, Option, None, Some, Result, Ok, Err}
 use Rattle.nd_base.specs.Array.{Array, StackValue}
 use Rattle.nd_base.specs.declared.graph.FileRule.{FileRule}
 use Rattle.nd_base.specs.declared.graph.Graph.{Graph}
 use Rattle.nd_base.specs.declared.graph.Kind.TheVariants.{File}
 use Rattle.nd_base.specs.declared.graph.NodeRule.{NodeRule}
-use Rattle.nd_base.specs.GraphRules.{IsGraph, rule_at}
+use Rattle.nd_base.specs.GraphRules.{rule_at}
 use Rattle.edge_traits.specs.Files.{Files, HasFile, file_at, overwritten}
 use Rattle.cdf_write.specs.Layout.{layout}
 use Rattle.file_out.specs.declared.fault.SaveFault.{SaveFault}
 use Rattle.file_out.specs.Saving.{IsSaveCause}
 use Rattle.file_out.specs.Streams.{count_place}
-use Rattle.nd_stack.specs.KeptStacks.{IsKeptStack}
-use Rattle.nd_stack.specs.RoundTrip.{ReadsBack}
-use Rattle.graph_conf.specs.Loads.{limit_fault}
 use Rattle.flow_journal.specs.Pasts.{Past}
-use Rattle.flow_journal.specs.Histories.{is_history}
 use Rattle.flow_journal.specs.Unsaved.{standing_saves}
-use Rattle.board_rules.specs.RunMeasures.{run_setting}
 use Rattle.run_laws.specs.Results.{contents}
 use Rattle.graph_files.specs.BegunFiles.{open_count}
 use Rattle.graph_files.specs.Groups.{group_of}
@@ -53,14 +48,8 @@ pub record IsTornHistory (g : Graph) (stack : StackValue) (prefix : List ℕ) (P
   pub whole : (v i : ℕ) (n : NodeRule) (r : FileRule) → rule_at g.nodes v ≡ Some n → n.kind ≡ File r → (v ≢ node) ⊎ (i ≢ group) → length (group_of r.count i (written v)) ≡ r.count
       → HasFile held (group_name prefix n.name i) (layout (file_shape g stack v) (group_of r.count i (written v)))
 
--- READING BACK: in every history of a run that no limit refuses, the arrays of each group of a file node read back from their file
-abbrev pub GroupsReadBack : Type 0
-GroupsReadBack = (g : Graph) (stack : StackValue) (P : Past) (v i : ℕ) (n : NodeRule) (r : FileRule) → IsGraph g → IsKeptStack stack → limit_fault g stack ≡ None
-    → is_history (run_setting g stack) P ≡ true → rule_at g.nodes v ≡ Some n → n.kind ≡ File r → group_of r.count i (contents g.nodes stack.arrays (standing_saves v P)) ≢ []
-    → ReadsBack (file_shape g stack v) (group_of r.count i (contents g.nodes stack.arrays (standing_saves v P)))
-
--- an end that comes after a fault leaves the shelf's count, and any other answers a fault where the count rose, and nowhere else
-abbrev pub CountsEnd : {T : Type 0} → (fault : Bool) → Result T SaveFault → (before now : ℕ) → Type 0
-CountsEnd true (Ok x) before now = ⊥
-CountsEnd true (Err e) before now = now ≡ before
-CountsEnd false result before now = IsSaveCause result before now
+-- An end that comes after a fault changes nothing on the shelf, and any other answers a fault where the count rose, and nowhere else.
+abbrev pub CountsEnd : {T : Type 0} → (fault : Bool) → Result T SaveFault → (before now : ℕ) → (held held_now : Option Files) → Type 0
+CountsEnd true (Ok x) before now held held_now = ⊥
+CountsEnd true (Err e) before now held held_now = (now ≡ before) × (held_now ≡ held)
+CountsEnd false result before now held held_now = IsSaveCause result before now

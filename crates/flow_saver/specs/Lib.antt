@@ -4,3 +4,5 @@ pub mod Pieces
 pub mod Saver
 pub mod Remaining
 pub mod Ending
+pub mod ReadBack
+pub mod HandingLaws

@@ -60,7 +60,7 @@ pub record IsToGiveBackAlone (g : Graph) (stack : StackValue) (prefix : List ℕ
   pub legal : is_history (run_setting g stack) (past b) ≡ true
   pub drained : only_drain_saves (run_setting g stack) (past b) ≡ true
   pub made : BoardState
-  pub held : IsToGiveBack g stack (record { prefix = prefix; made = made; held = before }) (last_role (run_setting g stack)) (alone (run_setting g stack) b) xs fault held piece
+  pub to_give : IsToGiveBack g stack (record { prefix = prefix; made = made; held = before }) (last_role (run_setting g stack)) (alone (run_setting g stack) b) xs fault held piece
 
 -- what one save at a node leaves
 abbrev pub StepLeavesAlone : (g : Graph) (stack : StackValue) (prefix : List ℕ) (before : Option Files) → Step Sealed → (b : BoardState) (xs : List NodeFile) (fault : Bool) (held : Option Files) → Type 0

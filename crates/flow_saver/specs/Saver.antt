@@ -71,6 +71,10 @@ IsFirstCount P v count group false numrecs = (size : ℕ) × (numrecs ≡ Some s
 abbrev pub AreBegunSo : (P : Past) → (written : ℕ → List Array) → List NodeFile → Type 0
 AreBegunSo P written xs = (k : ℕ) (x : NodeFile) (f : _) → slice_get xs k ≡ Some x → x.current ≡ Some f → IsFirstCount P x.node x.count (length (written x.node) / x.count) x.late f.numrecs
 
+-- each open file has a row, but for that of node k, if there is one
+abbrev pub HaveRowsBut : Option ℕ → List NodeFile → Type 0
+HaveRowsBut k xs = (j : ℕ) (x : NodeFile) (f : Stream) → k ≢ Some j → slice_get xs j ≡ Some x → x.current ≡ Some f → 1 ≤ f.count
+
 -- the entry that gives this piece back, at this node
 abbrev pub back_of : (r v : ℕ) → FrameName → Entry
 back_of r v name = entry.Saved r v name.maker name.index
@@ -91,6 +95,7 @@ pub record IsTornSince (g : Graph) (stack : StackValue) (before : Option Files) 
   pub begun : AreBegunSo seen (written_by g stack front) files
   pub at : ℕ
   pub listed : slice_get files at ≡ Some node
+  pub rows : HaveRowsBut (Some at) files
   -- no other node's files are touched
   pub nodes : map closed ys ≡ map closed files
   pub others : (j : ℕ) → j ≢ at → slice_get ys j ≡ slice_get files j
@@ -122,10 +127,6 @@ pub record Start : Type 0 where
 -- since then the role has saved alone
 abbrev pub HasSavedSince : (then_made made : BoardState) → Type 0
 HasSavedSince then_made made = (added : BoardState) × (made ≡ added ++ then_made) × (list_all saver_logs (past added) ≡ true)
-
--- each open file has a row, but for that of node k, if there is one
-abbrev pub HaveRowsBut : Option ℕ → List NodeFile → Type 0
-HaveRowsBut k xs = (j : ℕ) (x : NodeFile) (f : Stream) → k ≢ Some j → slice_get xs j ≡ Some x → x.current ≡ Some f → 1 ≤ f.count
 
 -- between two pieces
 pub record IsSaving (g : Graph) (stack : StackValue) (start : Start) (r : ℕ) (p : Pass) (xs : List NodeFile) (fault : Bool) (held : Option Files) : Type 0 where
@@ -184,7 +185,7 @@ abbrev pub RoleLeaves : (g : Graph) (stack : StackValue) (start : Start) (r : �
 RoleLeaves g stack start r None p xs fault held = IsSaving g stack start r p xs fault held
 RoleLeaves g stack start r (Some due) p xs fault held = HasUnsaved g stack start r p xs fault held due
 
--- a fault is answered where the shelf's count rose, and nowhere else
-abbrev pub CountsStep : (old new : Bool) → (before now : ℕ) → Type 0
-CountsStep true new before now = (new ≡ true) × (now ≡ before)
-CountsStep false new before now = CountsSo new before now
+-- A fault is answered where the shelf's count rose, and nowhere else. After one nothing changes on the shelf any more.
+abbrev pub CountsStep : (old new : Bool) → (before now : ℕ) → (held held_now : Option Files) → Type 0
+CountsStep true new before now held held_now = (new ≡ true) × (now ≡ before) × (held_now ≡ held)
+CountsStep false new before now held held_now = CountsSo new before now

@@ -8,8 +8,9 @@ ghost use Rattle.nd_stack.specs.KeptStacks.{IsKeptStack};
 ghost use Rattle.flow_journal.specs.Finished.{is_finished};
 ghost use Rattle.board_rules.specs.States.{past};
 ghost use Rattle.board_rules.specs.RunMeasures.{run_setting};
-ghost use Rattle.flow_saver.specs.Ending.{IsTornHistory, GroupsReadBack, CountsEnd};
+ghost use Rattle.flow_saver.specs.Ending.{IsTornHistory, CountsEnd};
 ghost use Rattle.flow_saver.specs.HistoryFiles.{HoldsGroupsOf, RowsComplete};
+ghost use Rattle.flow_saver.specs.ReadBack.{GroupsReadBack};
 ghost use Rattle.flow_saver.specs.Remaining.{IsSavingAlone};
 
 use board_rules::BoardCalls;
@@ -32,6 +33,7 @@ pub fn end_files<R: Run, B: BoardCalls<Frame<R>>, K: Shelf>(
     fault: bool,
 ) -> Result<(), SaveFault>
     requires graph { IsGraph R.graph }
+    requires kept { IsKeptStack R.stack }
     requires finished { is_finished (run_setting R.graph R.stack) (past (B.shown board.now)) ≡ true }
     requires saving { (prefix : List ℕ) × ((before : Option Files)
         × IsSavingAlone R.graph R.stack prefix before (B.shown board.now) files fault (K.held shelf.old)) }
@@ -40,7 +42,7 @@ pub fn end_files<R: Run, B: BoardCalls<Frame<R>>, K: Shelf>(
     ensures err { OnErr result ((prefix : List ℕ) (before : Option Files) → IsSavingAlone R.graph R.stack prefix before (B.shown board.now) files fault (K.held shelf.old)
         → IsTornHistory R.graph R.stack prefix (past (B.shown board.now)) before (K.held shelf.new)) }
     ensures failed { IfErr result (λ fault. fault ≡ faults.Failed) }
-    ensures cause { CountsEnd fault result (K.faults shelf.old) (K.faults shelf.new) }
+    ensures cause { CountsEnd fault result (K.faults shelf.old) (K.faults shelf.new) (K.held shelf.old) (K.held shelf.new) }
 {
     let _finished = board.finished();
     if fault {
@@ -54,7 +56,7 @@ pub fn rows_complete_the_files()
     ensures { RowsComplete }
 {}
 
-/// Each group of a history reads back from its file.
+/// Each group of a history reads back from its file as its arrays, where no limit refuses the run.
 pub fn groups_read_back()
     ensures { GroupsReadBack }
 {}

@@ -8,5 +8,5 @@ mod saving;
 
 pub use ending::{end_files, groups_read_back, rows_complete_the_files};
 pub use piece::{DuePiece, write_piece};
-pub use remaining::{save_left, save_rest};
+pub use remaining::{files_go_on, save_left, save_rest};
 pub use saving::{SaveEnd, save_role};

@@ -102,13 +102,15 @@ pub(crate) fn write_due<R: Run, K: Shelf>(
     ensures err { OnErr result ((start : Start) (role : ℕ) (pass : Pass) → HasUnsaved R.graph R.stack start role pass files.old fault.old (K.held shelf.old) due.now
         → HasUnsaved R.graph R.stack start role pass files.new fault.new (K.held shelf.new) due.now) }
     ensures count { length files.new ≡ length files.old }
-    ensures cause { CountsStep fault.old fault.new (K.faults shelf.old) (K.faults shelf.new) }
+    ensures cause { CountsStep fault.old fault.new (K.faults shelf.old) (K.faults shelf.new) (K.held shelf.old) (K.held shelf.new) }
 {
     let _content = due.piece.samples();
     if *fault {
         return Ok(());
     }
-    match write_piece(alloc, files, shelf, stack, due.at, &due.piece, due.group, due.place, due.of) {
+    match write_piece(
+        alloc, files, shelf, stack, due.at, &due.piece, due.group, due.place, due.of,
+    ) {
         Ok(()) => Ok(()),
         Err(SaveFault::Failed) => {
             *fault = true;

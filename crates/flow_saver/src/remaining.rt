@@ -1,6 +1,6 @@
 //! What is left to save once all roles have ended.
 
-ghost use Rattle.std.specs.Prelude.{◌≡◌, ℕ, ◌<◌, List, [], ◌∷◌, Option, Some, true, length, map, slice_get, OnOk};
+ghost use Rattle.std.specs.Prelude.{◌≡◌, ◌≢◌, ℕ, ◌<◌, List, [], ◌∷◌, Option, Some, true, length, map, slice_get, OnOk};
 ghost use Rattle.nd_base.specs.GraphRules.{IsGraph};
 ghost use Rattle.edge_traits.specs.Files.{Files};
 ghost use Rattle.nd_stack.specs.KeptStacks.{IsKeptStack};
@@ -16,6 +16,7 @@ ghost use Rattle.flow_drain.specs.Drains.{IsDrained};
 ghost use Rattle.graph_files.specs.NodeFiles.{NodeFile};
 ghost use Rattle.graph_files.specs.OpenFiles.{closed};
 ghost use Rattle.flow_saver.specs.Saver.{CountsStep, back_of};
+ghost use Rattle.flow_saver.specs.HandingLaws.{HandingLaws};
 ghost use Rattle.flow_saver.specs.Remaining.{RestMoves, IsSavingAlone, HasUnsavedAlone, IsToGiveBackAlone, StepLeavesAlone, StepRests};
 
 use crate::DuePiece;
@@ -25,7 +26,7 @@ use board_rules::{BoardCalls, Save};
 use edge_traits::Shelf;
 use frame_store::Frame;
 use graph_files::OpenFiles;
-use nd_base::{OutOfMemory, Run, Stack};
+use nd_base::{Held, OutOfMemory, Run, Stack};
 use std::alloc::Global;
 
 /// Gives a piece back.
@@ -43,7 +44,7 @@ fn return_piece<R: Run, B: BoardCalls<Frame<R>>>(
         → IsToGiveBackAlone R.graph R.stack prefix before (B.shown board.old) files.now fault held piece
         → IsSavingAlone R.graph R.stack prefix before (B.shown board.new) files.now fault held }
     ensures logged { (v m k g : ℕ) → hand role (past (B.shown board.old)) ≡ Some (entry.Save role v m k g)
-        → B.shown board.new ≡ plain (back_of role v piece.now.name) ∷ B.shown board.old }
+        → B.shown board.new ≡ plain (back_of role v piece.name) ∷ B.shown board.old }
 {
     let Ok(()) = board.saved(role, piece) else {
         unreachable!()
@@ -75,7 +76,7 @@ fn save_next<R: Run, B: BoardCalls<Frame<R>>, K: Shelf>(
     ensures moves { RestMoves (run_setting R.graph R.stack) (B.shown board.old) (B.shown board.new) }
     ensures legal { is_history (run_setting R.graph R.stack) (past (B.shown board.new)) ≡ true }
     ensures nodes { map closed files.new ≡ map closed files.old }
-    ensures cause { CountsStep fault.old fault.new (K.faults shelf.old) (K.faults shelf.new) }
+    ensures cause { CountsStep fault.old fault.new (K.faults shelf.old) (K.faults shelf.new) (K.held shelf.old) (K.held shelf.new) }
 {
     let node = files.node(at);
     match board.save(role, node) {
@@ -127,11 +128,12 @@ fn save_all<R: Run, B: BoardCalls<Frame<R>>, K: Shelf>(
         → IsSavingAlone R.graph R.stack prefix before (B.shown board.new) files.new fault.new (K.held shelf.new)) }
     ensures drained { OnOk result (IsDrained (run_setting R.graph R.stack) (past (B.shown board.new))) }
     ensures empty { OnOk result ((x : NodeFile) → slice_get files.old at ≡ Some x → unsaved (run_setting R.graph R.stack) x.node (past (B.shown board.new)) ≡ []) }
-    ensures others { OnOk result ((w : ℕ) → unsaved (run_setting R.graph R.stack) w (past (B.shown board.old)) ≡ [] → unsaved (run_setting R.graph R.stack) w (past (B.shown board.new)) ≡ []) }
+    ensures others { OnOk result ((x : NodeFile) → slice_get files.old at ≡ Some x → (w : ℕ) → w ≢ x.node
+        → unsaved (run_setting R.graph R.stack) w (past (B.shown board.new)) ≡ unsaved (run_setting R.graph R.stack) w (past (B.shown board.old))) }
     ensures moves { RestMoves (run_setting R.graph R.stack) (B.shown board.old) (B.shown board.new) }
     ensures legal { is_history (run_setting R.graph R.stack) (past (B.shown board.new)) ≡ true }
     ensures nodes { map closed files.new ≡ map closed files.old }
-    ensures cause { CountsStep fault.old fault.new (K.faults shelf.old) (K.faults shelf.new) }
+    ensures cause { CountsStep fault.old fault.new (K.faults shelf.old) (K.faults shelf.new) (K.held shelf.old) (K.held shelf.new) }
 {
     'pieces: loop {
         match save_next(alloc, board, role, shelf, stack, files, fault, at) {
@@ -170,7 +172,7 @@ pub fn save_rest<R: Run, B: BoardCalls<Frame<R>>, K: Shelf>(
         → IsSavingAlone R.graph R.stack prefix before (B.shown board.new) files.new fault.new (K.held shelf.new)) }
     ensures moves { RestMoves (run_setting R.graph R.stack) (B.shown board.old) (B.shown board.new) }
     ensures legal { is_history (run_setting R.graph R.stack) (past (B.shown board.new)) ≡ true }
-    ensures cause { CountsStep fault.old fault.new (K.faults shelf.old) (K.faults shelf.new) }
+    ensures cause { CountsStep fault.old fault.new (K.faults shelf.old) (K.faults shelf.new) (K.held shelf.old) (K.held shelf.new) }
 {
     for at in 0..files.count() {
         save_all(alloc, board, role, shelf, stack, files, fault, at)?;
@@ -204,9 +206,14 @@ pub fn save_left<R: Run, B: BoardCalls<Frame<R>>, K: Shelf>(
         → IsSavingAlone R.graph R.stack prefix before (B.shown board.new) files.new fault.new (K.held shelf.new)) }
     ensures moves { RestMoves (run_setting R.graph R.stack) (B.shown board.old) (B.shown board.new) }
     ensures legal { is_history (run_setting R.graph R.stack) (past (B.shown board.new)) ≡ true }
-    ensures cause { CountsStep fault.old fault.new (K.faults shelf.old) (K.faults shelf.new) }
+    ensures cause { CountsStep fault.old fault.new (K.faults shelf.old) (K.faults shelf.new) (K.held shelf.old) (K.held shelf.new) }
 {
     write_due(alloc, shelf, stack, files, fault, &due)?;
     return_piece::<R, B>(board, role, files, *fault, due.piece);
     Ok(())
 }
+
+/// The files go on from the role that saves to the last role on a board that it has alone, and through the drain.
+pub fn files_go_on<F: Held>()
+    ensures { HandingLaws F F.Blank F.Of }
+{}

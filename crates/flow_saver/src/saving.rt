@@ -86,7 +86,7 @@ fn save_one<R: Run, D: Desk<Frame<R>>, K: Shelf, W: Wait>(
     ensures leaves { (start : Start) → IsSaving R.graph R.stack start role (D.knows pass.old) files.old fault.old (K.held shelf.old)
         → StepLeaves R.graph R.stack start role result (D.knows pass.new) files.new fault.new (K.held shelf.new) }
     ensures count { length files.new ≡ length files.old }
-    ensures cause { CountsStep fault.old fault.new (K.faults shelf.old) (K.faults shelf.new) }
+    ensures cause { CountsStep fault.old fault.new (K.faults shelf.old) (K.faults shelf.new) (K.held shelf.old) (K.held shelf.new) }
 {
     let node = files.node(at);
     match desk.save(rt, alloc, pass, role, node) {
@@ -139,7 +139,7 @@ fn save_node<R: Run, D: Desk<Frame<R>>, K: Shelf, W: Wait>(
     ensures leaves { (start : Start) → IsSaving R.graph R.stack start role (D.knows pass.old) files.old fault.old (K.held shelf.old)
         → StepLeaves R.graph R.stack start role result (D.knows pass.new) files.new fault.new (K.held shelf.new) }
     ensures count { length files.new ≡ length files.old }
-    ensures cause { CountsStep fault.old fault.new (K.faults shelf.old) (K.faults shelf.new) }
+    ensures cause { CountsStep fault.old fault.new (K.faults shelf.old) (K.faults shelf.new) (K.held shelf.old) (K.held shelf.new) }
 {
     let mut any = false;
     for _ in rt.forever() {
@@ -173,7 +173,7 @@ fn save_turn<R: Run, D: Desk<Frame<R>>, K: Shelf, W: Wait>(
     ensures ours { D.ours desk.now pass.new }
     ensures leaves { (start : Start) → IsSaving R.graph R.stack start role (D.knows pass.old) files.old fault.old (K.held shelf.old)
         → StepLeaves R.graph R.stack start role result (D.knows pass.new) files.new fault.new (K.held shelf.new) }
-    ensures cause { CountsStep fault.old fault.new (K.faults shelf.old) (K.faults shelf.new) }
+    ensures cause { CountsStep fault.old fault.new (K.faults shelf.old) (K.faults shelf.new) (K.held shelf.old) (K.held shelf.new) }
 {
     let mut any = false;
     for at in 0..files.count() {

@@ -1,5 +1,5 @@
 -- What an end at one node does to the files of all, and what ends at all nodes come to.
-use Rattle.std.proofs.Common.{◌≡◌, ◌≢◌, ◌⊎◌, ℕ, zero, suc, ◌+◌, ◌/◌, ◌^◌, ◌<◌, ◌≤◌, List, [], ◌∷◌, ◌++◌, length, take, drop, map, set, Option, None, Some, Result, Ok, Err, inl, inr, refl, sym, ap, subst, ◌∙◌, arith}
+use Rattle.std.proofs.Common.{◌≡◌, ◌≢◌, ℕ, zero, suc, ◌+◌, ◌/◌, ◌^◌, ◌<◌, ◌≤◌, List, [], ◌∷◌, length, map, set, Option, None, Some, Result, Ok, Err, inl, inr, refl, sym, ap, subst, ◌∙◌, arith}
 use Rattle.std.specs.Prelude.{slice_get, IsSome, OnErr}
 use Rattle.std.proofs.lemmas.Bool.{cases_lt}
 use Rattle.nd_base.specs.Array.{Array}
@@ -7,11 +7,11 @@ use Rattle.nd_base.specs.declared.attribute.FileShape.{FileShape}
 use Rattle.edge_traits.specs.Files.{Files, file_at}
 use Rattle.file_out.specs.Streams.{Stream}
 use Rattle.graph_files.specs.Groups.{group_of, whole_file, file_of, HasBytes}
-use Rattle.graph_files.specs.NodeFiles.{NodeFile, IsChangedAt, Same, AreWritten, AreWrittenBut, AreEnded, EndTorn, EndStops, IsTorn, IsFilled, name_of, group_file}
+use Rattle.graph_files.specs.NodeFiles.{NodeFile, IsChangedAt, Same, AreWritten, AreEnded, EndTorn, EndStops, IsTorn, IsFilled, name_of, group_file}
 use Rattle.graph_files.specs.NodeFileLaws.{cases_eq, none-open, open-elsewhere, changed-HasBytes, changed-file_at, changed-told}
 use Rattle.graph_files.specs.OpenFiles.{closed, AreApart, IsElsewhere, AllWritten, AllWrittenBut}
 use Rattle.graph_files.specs.OpenFileLaws.{get-set_same, get-set_other, far-none}
-use Rattle.graph_files.specs.EndedFiles.{AllEnded, AllStand, OneEndStops, AllEndStops, AreOthersAsBefore, IsNoGroup, ended_to, open_group}
+use Rattle.graph_files.specs.EndedFiles.{AllEnded, AllStand, OneEndStops, AllEndStops, AreOthersAsBefore, ended_to, open_group}
 use Rattle.graph_files.proofs.Writes.{small-group, end-rows}
 
 some-same : {X : Type 0} {x y : X} → Some x ≡ Some y → x ≡ y
@@ -157,7 +157,8 @@ module _ (before : Option Files) (xs : List NodeFile) (written : ℕ → List Ar
 
     -- or the shelf failed
     pub one-stops : EndStops x (written x.node) t u → OneEndStops before x ys written t u
-    one-stops stops = (record {
+    one-stops stops = (
+      record {
         told = changed-told t u (name_of x g) changed ∙ h.told;
         each = λ j y i is off. elim (cases_eq j k) [
           | inl there ↦
@@ -168,7 +169,9 @@ module _ (before : Option Files) (xs : List NodeFile) (written : ℕ → List Ar
           | inr ne ↦ other-bytes j y (old j y ne is) ne i
         ];
         others = λ q off away. changed-file_at t u (name_of x g) q changed off ∙ h.others q (elsewhere q away);
-      }, stops.1)
+      },
+      stops.1,
+    )
 
 -- ALL NODES
 

@@ -50,8 +50,8 @@ give_back-requires-clause-held g c =
     let q = g.D.Desk.knows c.save.new.pass in
     (c.requires.saving.0, g.K.Shelf.held c.write_due.new.shelf, c.in-Ok.ensures.ok c.requires.saving.0 c.args.role q (one-taken gr stack c.requires.graph c.requires.saving.0 c.args.role c.requires.role p q xs c.args.fault.now held _ c.requires.saving.1 c.args.at c.node-node.result c.node-node.ensures c.requires.at c.requires.kept.few c.in-Piece.input c.in-Piece.group c.in-Piece.place c.in-Piece.of c.in-Piece.ensures.called))
 
-pub returns-clause-leaves : goal.returns-clause-leaves
-returns-clause-leaves g c =
+pub returns-in-Ok-clause-leaves : goal.returns-in-Ok-clause-leaves
+returns-in-Ok-clause-leaves g c =
     let gr = g.R.Run.graph in
     let stack = g.R.Run.stack in
     let xs = c.args.files.now in

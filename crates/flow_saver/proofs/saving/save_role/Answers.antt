@@ -1,11 +1,11 @@
-use Rattle.std.proofs.Common.{sym, subst, refl, ◌∙◌, Option, None}
+use Rattle.std.proofs.Common.{[], sym, subst, refl, ◌∙◌, Option, None}
 use Rattle.edge_traits.specs.Files.{Files}
 use Rattle.flow_journal.specs.declared.entry.Entry.{Entry}
 use Rattle.board_rules.specs.RunMeasures.{run_setting}
 use Rattle.board_rules.specs.States.{past, lent_to}
 use Rattle.flow_saver.specs.Saver.{AreSaved, IsPieceOfHand}
 use Rattle.flow_saver.proofs.Steps.{saving-still, all-given}
-use Rattle.flow_saver.proofs.Beginning.{fresh-saving}
+use Rattle.flow_saver.proofs.Beginning.{fresh-saving, all-since, saving-from, unsaved-from, hand-piece}
 use Rattle.flow_saver.proofs.Counting.{counts-then}
 use Rattle.flow_saver.proofs.saving.save_role.Goals as goal
 
@@ -14,8 +14,9 @@ loop-init g c =
     let files = c.requires.files in
     record {
       ours = c.requires.ours;
-      start = record { prefix = files.0; held = g.K.Shelf.held c.args.shelf.now };
+      start = record { prefix = files.0; made = []; held = g.K.Shelf.held c.args.shelf.now };
       began = refl;
+      first = refl;
       named = sym files.1;
       saving = fresh-saving g.R.Run.graph g.R.Run.stack files.0 (g.K.Shelf.held c.args.shelf.now) c.args.role (g.D.Desk.knows c.args.pass) c.args.files files.1 c.requires.fresh;
       cause = refl;
@@ -27,7 +28,7 @@ returns-then-progress-clause-moves g c =
     let stack = g.R.Run.stack in
     let inv = c.loop.invariant in
     let still = saving-still gr stack inv.start c.args.role _ _ (g.D.Desk.knows c.loop.pass) (g.D.Desk.knows c.progress-progress.new.pass) c.loop.files c.loop.fault (g.K.Shelf.held c.loop.shelf) inv.saving c.progress-progress.ensures.called c.progress-progress.ensures.called.answer.1 in
-    still.moves
+    all-since inv.start.made (g.D.Desk.knows c.progress-progress.new.pass).made still.moves inv.first
 
 pub returns-then-progress-clause-left : goal.returns-then-progress-clause-left
 returns-then-progress-clause-left g c =
@@ -35,7 +36,7 @@ returns-then-progress-clause-left g c =
     let stack = g.R.Run.stack in
     let inv = c.loop.invariant in
     let still = saving-still gr stack inv.start c.args.role _ _ (g.D.Desk.knows c.loop.pass) (g.D.Desk.knows c.progress-progress.new.pass) c.loop.files c.loop.fault (g.K.Shelf.held c.loop.shelf) inv.saving c.progress-progress.ensures.called c.progress-progress.ensures.called.answer.1 in
-    (subst (λ (e : Option Entry). IsPieceOfHand (lent_to c.args.role (g.D.Desk.knows c.progress-progress.new.pass).made) e None) (sym still.free) refl, refl, refl)
+    (subst (λ (e : Option Entry). IsPieceOfHand (lent_to c.args.role (g.D.Desk.knows c.progress-progress.new.pass).made) e None) (sym still.free) refl)
 
 pub returns-then-progress-clause-history : goal.returns-then-progress-clause-history
 returns-then-progress-clause-history g c =
@@ -79,9 +80,10 @@ loop-preserved-in-Nothing g c =
       ours = c.save_turn.ensures.ours;
       start = inv.start;
       began = inv.began;
+      first = inv.first;
       named = inv.named;
       saving = c.in-Nothing.ensures.leaves inv.start still;
-      cause = counts-then c.loop.fault c.save_turn.new.fault _ (g.K.Shelf.faults c.loop.shelf) _ inv.cause c.save_turn.ensures.cause;
+      cause = counts-then c.loop.fault c.save_turn.new.fault _ (g.K.Shelf.faults c.loop.shelf) _ (g.K.Shelf.held c.loop.shelf) (g.K.Shelf.held c.save_turn.new.shelf) inv.cause c.save_turn.ensures.cause;
     }
 
 pub loop-preserved : goal.loop-preserved
@@ -94,9 +96,10 @@ loop-preserved g c =
       ours = c.save_turn.ensures.ours;
       start = inv.start;
       began = inv.began;
+      first = inv.first;
       named = inv.named;
       saving = c.in-Wrote.ensures.leaves inv.start still;
-      cause = counts-then c.loop.fault c.save_turn.new.fault _ (g.K.Shelf.faults c.loop.shelf) _ inv.cause c.save_turn.ensures.cause;
+      cause = counts-then c.loop.fault c.save_turn.new.fault _ (g.K.Shelf.faults c.loop.shelf) _ (g.K.Shelf.held c.loop.shelf) (g.K.Shelf.held c.save_turn.new.shelf) inv.cause c.save_turn.ensures.cause;
     }
 
 pub returns-in-Wants-clause-role : goal.returns-in-Wants-clause-role
@@ -115,7 +118,7 @@ returns-in-Wants-clause-moves g c =
     let inv = c.loop.invariant in
     let still = saving-still gr stack inv.start c.args.role _ _ (g.D.Desk.knows c.loop.pass) (g.D.Desk.knows c.progress-progress.new.pass) c.loop.files c.loop.fault (g.K.Shelf.held c.loop.shelf) inv.saving c.progress-progress.ensures.called c.progress-progress.ensures.called.answer.1 in
     let end = c.in-Wants.ensures.leaves inv.start still in
-    end.moves
+    all-since inv.start.made (g.D.Desk.knows c.save_turn.new.pass).made end.moves inv.first
 
 pub returns-in-Wants-clause-left : goal.returns-in-Wants-clause-left
 returns-in-Wants-clause-left g c =
@@ -124,7 +127,7 @@ returns-in-Wants-clause-left g c =
     let inv = c.loop.invariant in
     let still = saving-still gr stack inv.start c.args.role _ _ (g.D.Desk.knows c.loop.pass) (g.D.Desk.knows c.progress-progress.new.pass) c.loop.files c.loop.fault (g.K.Shelf.held c.loop.shelf) inv.saving c.progress-progress.ensures.called c.progress-progress.ensures.called.answer.1 in
     let end = c.in-Wants.ensures.leaves inv.start still in
-    (end.hand, refl, refl)
+    hand-piece c.args.role end.node.node c.in-Wants.due.group _ c.in-Wants.due.piece _ end.hand end.lent
 
 pub returns-in-Wants-clause-nodes : goal.returns-in-Wants-clause-nodes
 returns-in-Wants-clause-nodes g c =
@@ -150,4 +153,21 @@ returns-in-Wants-clause-fault g c =
     let stack = g.R.Run.stack in
     let inv = c.loop.invariant in
     let still = saving-still gr stack inv.start c.args.role _ _ (g.D.Desk.knows c.loop.pass) (g.D.Desk.knows c.progress-progress.new.pass) c.loop.files c.loop.fault (g.K.Shelf.held c.loop.shelf) inv.saving c.progress-progress.ensures.called c.progress-progress.ensures.called.answer.1 in
-    counts-then c.loop.fault c.save_turn.new.fault _ (g.K.Shelf.faults c.loop.shelf) _ inv.cause c.save_turn.ensures.cause
+    counts-then c.loop.fault c.save_turn.new.fault _ (g.K.Shelf.faults c.loop.shelf) _ (g.K.Shelf.held c.loop.shelf) (g.K.Shelf.held c.save_turn.new.shelf) inv.cause c.save_turn.ensures.cause
+
+pub returns-then-progress-clause-leaves : goal.returns-then-progress-clause-leaves
+returns-then-progress-clause-leaves g c =
+    let gr = g.R.Run.graph in
+    let stack = g.R.Run.stack in
+    let inv = c.loop.invariant in
+    let still = saving-still gr stack inv.start c.args.role _ _ (g.D.Desk.knows c.loop.pass) (g.D.Desk.knows c.progress-progress.new.pass) c.loop.files c.loop.fault (g.K.Shelf.held c.loop.shelf) inv.saving c.progress-progress.ensures.called c.progress-progress.ensures.called.answer.1 in
+    λ prefix is. saving-from gr stack inv.start prefix (g.K.Shelf.held c.args.shelf.now) c.args.role (g.D.Desk.knows c.progress-progress.new.pass) c.loop.files c.loop.fault (g.K.Shelf.held c.loop.shelf) inv.began inv.first (inv.named ∙ is) still
+
+pub returns-in-Wants-clause-leaves : goal.returns-in-Wants-clause-leaves
+returns-in-Wants-clause-leaves g c =
+    let gr = g.R.Run.graph in
+    let stack = g.R.Run.stack in
+    let inv = c.loop.invariant in
+    let still = saving-still gr stack inv.start c.args.role _ _ (g.D.Desk.knows c.loop.pass) (g.D.Desk.knows c.progress-progress.new.pass) c.loop.files c.loop.fault (g.K.Shelf.held c.loop.shelf) inv.saving c.progress-progress.ensures.called c.progress-progress.ensures.called.answer.1 in
+    let end = c.in-Wants.ensures.leaves inv.start still in
+    λ prefix is. unsaved-from gr stack inv.start prefix (g.K.Shelf.held c.args.shelf.now) c.args.role (g.D.Desk.knows c.save_turn.new.pass) c.save_turn.new.files c.save_turn.new.fault (g.K.Shelf.held c.save_turn.new.shelf) inv.began inv.first (inv.named ∙ is) c.in-Wants.due end

@@ -1,4 +1,4 @@
-use Rattle.std.proofs.Common.{◌≡◌}
+use Rattle.std.proofs.Common.{◌≡◌, []}
 use Rattle.graph_files.specs.OpenFiles.{file_nodes}
 use Rattle.flow_saver.specs.Saver.{Start, IsSaving, CountsSo}
 use Rattle.flow_saver.proofs.saving.save_role.Given as goal
@@ -9,6 +9,7 @@ invariant-loop g l =
       ours : g.D.Desk.ours l.desk l.pass;
       start : Start;
       began : start.held ≡ g.K.Shelf.held l.fn.shelf;
+      first : start.made ≡ [];
       named : file_nodes g.R.Run.graph g.R.Run.stack start.prefix ≡ l.fn.files;
       saving : IsSaving g.R.Run.graph g.R.Run.stack start l.role (g.D.Desk.knows l.pass) l.files l.fault (g.K.Shelf.held l.shelf);
       cause : CountsSo l.fault (g.K.Shelf.faults l.fn.shelf) (g.K.Shelf.faults l.shelf);

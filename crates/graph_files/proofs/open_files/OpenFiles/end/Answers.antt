@@ -1,10 +1,8 @@
-use Rattle.std.proofs.Common.{◌≡◌, ℕ, ◌+◌, ◌<◌, ◌≤◌, List, Some, set, length, sym, ap, subst, refl, ◌∙◌, arith}
-use Rattle.std.specs.Prelude.{slice_get, Option}
+use Rattle.std.proofs.Common.{◌≡◌, ◌+◌, ◌<◌, ◌≤◌, List, set, length, sym, ap, subst, refl, ◌∙◌, arith}
 use Rattle.std.proofs.lemmas.Result.{err_from_is_err_and}
-use Rattle.edge_traits.specs.Files.{Files, file_at}
-use Rattle.graph_files.specs.NodeFiles.{NodeFile, AreWritten, IsFilled, name_of}
-use Rattle.graph_files.specs.OpenFiles.{AllWritten, closed}
-use Rattle.graph_files.specs.EndedFiles.{AllStand, OneEndStops, ended_to}
+use Rattle.graph_files.specs.NodeFiles.{NodeFile}
+use Rattle.graph_files.specs.OpenFiles.{closed}
+use Rattle.graph_files.specs.EndedFiles.{AllStand, ended_to}
 use Rattle.graph_files.proofs.Ends.{item, next-at, at-next, next-written, names-more, all-stand, all-ended, ended_to-more, stops-then}
 use Rattle.graph_files.proofs.open_files.OpenFiles.end.Goals as goal
 

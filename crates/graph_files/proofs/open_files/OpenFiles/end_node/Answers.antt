@@ -1,12 +1,11 @@
-use Rattle.std.proofs.Common.{◌≡◌, ℕ, ◌/◌, ◌^◌, ◌<◌, ◌≤◌, List, Some, None, set, get_or, length, sym, ap, subst, refl, ◌∙◌, arith}
-use Rattle.std.specs.Prelude.{slice_get, Option, OnOk, OnErr}
+use Rattle.std.proofs.Common.{◌≡◌, ℕ, ◌/◌, ◌^◌, ◌<◌, ◌≤◌, List, Some, None, set, get_or, length, sym, ap, subst, refl, ◌∙◌}
+use Rattle.std.specs.Prelude.{slice_get}
 use Rattle.std.proofs.lemmas.Option.{slice_get_read, same_Some}
 use Rattle.nd_base.specs.Array.{Array}
-use Rattle.edge_traits.specs.Files.{Files}
 use Rattle.graph_files.specs.NodeFiles.{NodeFile, AreWritten, AreEnded, EndStops, IsFilled, IsChangedAt, name_of}
 use Rattle.graph_files.specs.OpenFiles.{AreApart, closed}
 use Rattle.graph_files.specs.OpenFileLaws.{apart-kept}
-use Rattle.graph_files.specs.EndedFiles.{AllStand, OneEndStops, open_group}
+use Rattle.graph_files.specs.EndedFiles.{AllStand, OneEndStops}
 use Rattle.graph_files.proofs.Writes.{on-ok}
 use Rattle.graph_files.proofs.Ends.{on-err, one-ended, one-stops, others-kept}
 use Rattle.graph_files.proofs.open_files.OpenFiles.end_node.Goals as goal

@@ -1,0 +1,242 @@
+-- What stands after a fault in the end of the files, by the finished log.
+use Rattle.std.proofs.Common.{◌≡◌, ◌≢◌, ◌⊎◌, ℕ, zero, suc, ◌+◌, ◌≤◌, Bool, true, false, List, [], ◌∷◌, length, map, refl, sym, ap, subst, ◌∙◌, arith, inl, inr, Option, Some, None}
+use Rattle.std.specs.Prelude.{slice_get, IsSome, is_some}
+use Rattle.std.proofs.lemmas.Option.{same_Some}
+use Rattle.std.proofs.lemmas.List.{append-nil}
+use Rattle.nd_base.specs.Array.{Array, StackValue}
+use Rattle.nd_base.specs.GraphRules.{IsGraph, rule_at}
+use Rattle.nd_base.specs.declared.attribute.FileShape.{FileShape}
+use Rattle.nd_base.specs.declared.graph.Graph.{Graph}
+use Rattle.nd_base.specs.declared.graph.NodeRule.{NodeRule}
+use Rattle.edge_traits.specs.Files.{Files, HasFile, file_at}
+use Rattle.cdf_write.specs.Layout.{layout}
+use Rattle.file_out.specs.Streams.{Stream, begun_file}
+use Rattle.flow_journal.specs.Setting.{Setting, last_role}
+use Rattle.flow_journal.specs.Pasts.{Past}
+use Rattle.flow_journal.specs.Puts.{puts}
+use Rattle.flow_journal.specs.Finished.{is_finished}
+use Rattle.board_rules.specs.States.{BoardState, past}
+use Rattle.board_rules.specs.Movers.{moves_by}
+use Rattle.board_rules.specs.RunMeasures.{run_setting}
+use Rattle.graph_files.specs.Groups.{group_of, whole_file, file_of, HasBytes}
+use Rattle.graph_files.specs.NodeFiles.{NodeFile, EndTorn, name_of, group_file, open_at}
+use Rattle.graph_files.specs.NodeFileLaws.{cases_eq, none-open, open-here}
+use Rattle.graph_files.specs.OpenFiles.{closed}
+use Rattle.graph_files.specs.EndedFiles.{AllEndStops, ended_to, open_group}
+use Rattle.graph_files.specs.OutFiles.{file_shape, group_name, is_stream}
+use Rattle.flow_saver.specs.GivenBack.{written_by}
+use Rattle.flow_saver.specs.HistoryFiles.{kind_group}
+use Rattle.flow_saver.specs.Ending.{IsBegunAs, IsBegunAt, IsTornHistory}
+use Rattle.flow_saver.specs.Saver.{IsFirstCount}
+use Rattle.flow_saver.specs.Remaining.{IsSavingAlone}
+use Rattle.flow_saver.proofs.BegunBytes.{begun-front, begun-torn, begun-whole, GroupHas, Nothing, Whole, Opened, group-has}
+use Rattle.flow_saver.proofs.Groups as groups
+use Rattle.flow_saver.proofs.Groups.{some-is}
+use Rattle.flow_saver.proofs.TornHistory.{full-file, one-index, told-file, whole-bytes, whole-some, file-some, count-by}
+
+-- a node's files among those that have ended so far
+ended-at : (n : ℕ) (xs : List NodeFile) (j : ℕ) (x : NodeFile) → slice_get xs j ≡ Some x → (slice_get (ended_to n xs) j ≡ Some (closed x)) ⊎ ((n ≤ j) × (slice_get (ended_to n xs) j ≡ Some x))
+ended-at n [] j x at = let none_ : None ≡ Some x = at in absurd (cc)
+ended-at zero (y ∷ xs) j x at = inr (omega arith, at)
+ended-at (suc n) (y ∷ xs) zero x at = inl (ap (λ (z : NodeFile). Some (closed z)) (same_Some y x at))
+ended-at (suc n) (y ∷ xs) (suc j) x at = elim (ended-at n xs j x at) [ inl ended ↦ inl ended | inr open_ ↦ inr (omega (arith, open_.0), open_.1) ]
+
+closed-file : (x : NodeFile) (arrays : List Array) (i : ℕ) → group_file (closed x) arrays i ≡ whole_file x.shape (group_of x.count i arrays)
+closed-file x arrays i = ap (λ o. file_of o x.shape (group_of x.count i arrays)) (none-open (closed x) (length arrays) i refl)
+
+whole-is : (shape : FileShape) (zs : List Array) → 1 ≤ length zs → whole_file shape zs ≡ Some (layout shape zs)
+whole-is shape [] some = absurd (omega arith)
+whole-is shape (a ∷ zs) some = refl
+
+whole-long : (shape : FileShape) (zs : List Array) → IsSome (whole_file shape zs) → 1 ≤ length zs
+whole-long shape zs h = let o = some-is (whole_file shape zs) h in (whole-bytes shape zs o.0 o.1).1
+
+module _ (g : Graph) (stack : StackValue) (sound : IsGraph g) (prefix : List ℕ) (before : Option Files) (b : BoardState) (xs : List NodeFile) (held now : Option Files)
+    (h : IsSavingAlone g stack prefix before b xs false held) (finished : is_finished (run_setting g stack) (past b) ≡ true) where
+  abbrev s : Setting
+  s = run_setting g stack
+
+  abbrev own : Past
+  own = past (moves_by (last_role s) b)
+
+  abbrev F : ℕ → List Array
+  F = written_by g stack own
+
+  module _ (e : AllEndStops before xs F held now) where
+    abbrev node : NodeFile
+    node = e.node
+
+    abbrev torn : ℕ
+    torn = open_group node F
+
+    some-at : (j : ℕ) (x : NodeFile) → slice_get xs j ≡ Some x → 1 ≤ x.count
+    some-at j x at = let f = groups.file g stack sound prefix before b xs false held h finished j x at in omega (arith, f.count, f.sound.count.0)
+
+    all-written : (j : ℕ) (x : NodeFile) → slice_get xs j ≡ Some x → length (puts x.node (past b)) ≡ length (F x.node)
+    all-written j x at = groups.all-written g stack sound prefix before b xs false held h finished j x at
+
+    torn-here : (j : ℕ) (x : NodeFile) → slice_get xs j ≡ Some x → j ≡ e.at → x ≡ node
+    torn-here j x at here = same_Some x node (sym at ∙ ap (λ (w : ℕ). slice_get xs w) here ∙ e.listed)
+
+    off-node : (j : ℕ) (x : NodeFile) → slice_get xs j ≡ Some x → (i : ℕ) → (j ≢ e.at) ⊎ (i ≢ torn) → (x.node ≢ node.node) ⊎ (i ≢ torn)
+    off-node j x at i (inr ne) = inr ne
+    off-node j x at i (inl other) = inl (λ same. other (one-index g stack sound prefix xs h.saving.nodes j e.at x node at e.listed same))
+
+    abbrev Goal : NodeFile → ℕ → Type 0
+    Goal x i = IsBegunAs x.late (layout x.shape (group_of x.count i (F x.node))) (file_at before (name_of x i)) (file_at now (name_of x i))
+
+    open-goal : (x : NodeFile) (i : ℕ) (f : Stream) (is : Option (List ℕ)) → length (puts x.node (past b)) ≡ length (F x.node) → IsFirstCount (past b) x.node x.count i x.late f.numrecs
+        → is ≡ Some (begun_file x.shape f.numrecs (group_of x.count i (F x.node))) → IsBegunAs x.late (layout x.shape (group_of x.count i (F x.node))) (file_at before (name_of x i)) is
+    open-goal x i f is all first made =
+        let zs = group_of x.count i (F x.node) in
+        begun-front x.shape zs [] zs (sym (append-nil zs)) (file_at before (name_of x i)) x.late f.numrecs (begun_file x.shape f.numrecs zs) [] is (count-by (past b) x i (F x.node) x.late f.numrecs all first) (sym (append-nil (begun_file x.shape f.numrecs zs))) made
+
+    module _ (told : is_some now ≡ true) where
+      told-then : is_some held ≡ true
+      told-then = h.saving.saved.0.told ∙ sym e.stops.0.told ∙ told
+
+      whole-goal : (x : NodeFile) (i : ℕ) (o : Option (List ℕ)) → HasBytes now (name_of x i) o → o ≡ Some (layout x.shape (group_of x.count i (F x.node))) → Goal x i
+      whole-goal x i o has is =
+          begun-whole x.late (layout x.shape (group_of x.count i (F x.node))) (file_at before (name_of x i)) (file_at now (name_of x i))
+          (told-file now (name_of x i) (layout x.shape (group_of x.count i (F x.node))) told (subst (HasBytes now (name_of x i)) is has))
+
+      has-goal : (j : ℕ) (x : NodeFile) (at : slice_get xs j ≡ Some x) (i : ℕ) → 1 ≤ length (group_of x.count i (F x.node)) → HasBytes now (name_of x i) (group_file x (F x.node) i) → GroupHas x (F x.node) i → Goal x i
+      has-goal j x at i some has (Nothing none_) = absurd (file-some (open_at x (length (F x.node)) i) x.shape (group_of x.count i (F x.node)) some none_)
+      has-goal j x at i some has (Whole full is) = whole-goal x i (group_file x (F x.node) i) has is
+      has-goal j x at i some has (Opened f open_ here is) =
+          let first = subst (λ (w : ℕ). IsFirstCount (past b) x.node x.count w x.late f.numrecs) (sym here) (h.saving.saved.1 j x f at open_) in
+          open-goal x i f (file_at now (name_of x i)) (all-written j x at) first (told-file now (name_of x i) (begun_file x.shape f.numrecs (group_of x.count i (F x.node))) told (subst (HasBytes now (name_of x i)) is has))
+
+      off-goal : (j : ℕ) (x : NodeFile) (at : slice_get xs j ≡ Some x) (i : ℕ) → 1 ≤ length (group_of x.count i (F x.node)) → (off : (j ≢ e.at) ⊎ (i ≢ torn)) → Goal x i
+      off-goal j x at i some off =
+          elim (ended-at (e.at + 1) xs j x at) [
+            | inl ended ↦
+                whole-goal x i (group_file (closed x) (F x.node) i) (e.stops.0.each j (closed x) i ended (off-node j x at i off)) (closed-file x (F x.node) i ∙ whole-is x.shape (group_of x.count i (F x.node)) some)
+            | inr open_ ↦
+                has-goal j x at i some (e.stops.0.each j x i open_.1 (off-node j x at i off)) (group-has x (F x.node) (some-at j x at) (h.saving.saved.0.each j x at).begun i)
+          ]
+
+      then-goal : GroupHas node (F node.node) torn → 1 ≤ length (group_of node.count torn (F node.node)) → (is : Option (List ℕ)) → is ≡ file_at held (name_of node torn)
+          → IsBegunAs node.late (layout node.shape (group_of node.count torn (F node.node))) (file_at before (name_of node torn)) is
+      then-goal (Nothing none_) some is same = absurd (file-some (open_at node (length (F node.node)) torn) node.shape (group_of node.count torn (F node.node)) some none_)
+      then-goal (Whole full made) some is same =
+          begun-whole node.late (layout node.shape (group_of node.count torn (F node.node))) (file_at before (name_of node torn)) is
+          (same ∙ told-file held (name_of node torn) (layout node.shape (group_of node.count torn (F node.node))) told-then (subst (HasBytes held (name_of node torn)) made ((h.saving.saved.0.each e.at node e.listed).each torn)))
+      then-goal (Opened f open_ here made) some is same =
+          open-goal node torn f is (all-written e.at node e.listed) (h.saving.saved.1 e.at node f e.listed open_)
+          (same ∙ told-file held (name_of node torn) (begun_file node.shape f.numrecs (group_of node.count torn (F node.node))) told-then (subst (HasBytes held (name_of node torn)) made ((h.saving.saved.0.each e.at node e.listed).each torn)))
+
+      torn-by : (o : Option Stream) → node.current ≡ o → 1 ≤ length (group_of node.count torn (F node.node)) → EndTorn o node torn (group_of node.count torn (F node.node)) held now → Goal node torn
+      torn-by None is some t = absurd t
+      torn-by (Some f) is some t =
+          let zs = group_of node.count torn (F node.node) in
+          let first = h.saving.saved.1 e.at node f e.listed is in
+          begun-torn node.shape zs [] zs (sym (append-nil zs)) (file_at before (name_of node torn)) node.late f.numrecs (file_at held (name_of node torn)) (file_at now (name_of node torn))
+          (count-by (past b) node torn (F node.node) node.late f.numrecs (all-written e.at node e.listed) first)
+          (then-goal (group-has node (F node.node) (some-at e.at node e.listed) (h.saving.saved.0.each e.at node e.listed).begun torn) some (file_at now (name_of node torn))) t
+
+      each-goal : (j : ℕ) (x : NodeFile) → slice_get xs j ≡ Some x → (i : ℕ) → 1 ≤ length (group_of x.count i (F x.node)) → Goal x i
+      each-goal j x at i some =
+          elim (cases_eq j e.at) [
+            | inr ne ↦ off-goal j x at i some (inl ne)
+            | inl here ↦ elim (cases_eq i torn) [
+              | inr apart ↦ off-goal j x at i some (inr apart)
+              | inl last ↦
+                  let same = torn-here j x at here in
+                  let some_ : 1 ≤ length (group_of node.count torn (F node.node)) = subst (λ (w : ℕ). 1 ≤ length (group_of node.count w (F node.node))) last (subst (λ (z : NodeFile). 1 ≤ length (group_of z.count i (F z.node))) same some) in
+                  subst (λ (z : NodeFile). Goal z i) (sym same) (subst (λ (w : ℕ). Goal node w) (sym last) (torn-by node.current refl some_ e.stops.1))
+            ]
+          ]
+
+    at-by : (late : Bool) (bytes name : List ℕ) → (is_some now ≡ true → IsBegunAs late bytes (file_at before name) (file_at now name)) → (o : Option Files) → now ≡ o → IsBegunAt late bytes before o name
+    at-by late bytes name goal None is = tt
+    at-by late bytes name goal (Some m) is =
+        subst (λ (o : Option Files). IsBegunAs late bytes (file_at before name) (file_at o name)) is (goal (ap (λ (o : Option Files). is_some o) is))
+
+    not-named : (q : List ℕ) → ((v i : ℕ) (n : NodeRule) (bytes : List ℕ) → rule_at g.nodes v ≡ Some n → kind_group g stack (past b) v n.kind i ≡ Some bytes → q ≢ group_name prefix n.name i)
+        → (j : ℕ) (x : NodeFile) → slice_get xs j ≡ Some x → (i : ℕ) → 1 ≤ length (group_of x.count i (F x.node)) → q ≢ name_of x i
+    not-named q away j x at i some same =
+        let f = groups.file g stack sound prefix before b xs false held h finished j x at in
+        let o = some-is (whole_file x.shape (group_of x.count i (F x.node))) (whole-some x.shape (group_of x.count i (F x.node)) some) in
+        away x.node i f.rule o.0 f.at (groups.group-is g stack sound prefix before b xs false held h j x at f.rule i f.at ∙ o.1)
+        (same ∙ groups.group-named g stack prefix xs h.saving.nodes j x f.rule at f.at i)
+
+    -- each open file has a row, so its group has an array
+    open-long : (j : ℕ) (x : NodeFile) (at : slice_get xs j ≡ Some x) (i : ℕ) → IsSome (group_file x (F x.node) i) → 1 ≤ length (group_of x.count i (F x.node))
+    open-long j x at i named = groups.named-long g stack sound prefix before b xs held h finished j x at i named
+
+    torn-some : (o : Option Stream) → node.current ≡ o → EndTorn o node torn (group_of node.count torn (F node.node)) held now → IsSome (group_file node (F node.node) torn)
+    torn-some None is t = absurd t
+    torn-some (Some f) is t = ap (λ (w : Option (List ℕ)). is_some w) (ap (λ w. file_of w node.shape (group_of node.count torn (F node.node))) (open-here node (length (F node.node)) torn refl ∙ is))
+
+    pub torn-end : IsTornHistory g stack prefix (past b) before now
+    torn-end = record {
+      each = λ v i n r bytes rule kind is.
+          let f = groups.files-of-rule g stack sound prefix before b xs false held h v n r rule kind in
+          let x = f.files in
+          let file_ : whole_file x.shape (group_of x.count i (F x.node)) ≡ Some bytes =
+          sym (groups.group-is g stack sound prefix before b xs false held h f.at x f.listed n i f.rule) ∙ ap (λ (w : ℕ). kind_group g stack (past b) w n.kind i) f.node ∙ is in
+          let final = whole-bytes x.shape (group_of x.count i (F x.node)) bytes file_ in
+          at-by (is_stream r.mode) bytes (group_name prefix n.name i) (λ told.
+          subst (λ (name : List ℕ). IsBegunAs (is_stream r.mode) bytes (file_at before name) (file_at now name)) (f.named i)
+          (subst (λ (late : Bool). IsBegunAs late bytes (file_at before (name_of x i)) (file_at now (name_of x i))) f.late
+          (subst (λ (w : List ℕ). IsBegunAs x.late w (file_at before (name_of x i)) (file_at now (name_of x i))) (sym final.0)
+          (each-goal told f.at x f.listed i final.1)))) now refl;
+      others = λ q away. e.stops.0.others q
+          (not-named q away e.at node e.listed torn (open-long e.at node e.listed torn (torn-some node.current refl e.stops.1)))
+          (λ k y l at_y named.
+          let o = groups.of-open g stack prefix xs k (closed y) (ended-back (e.at + 1) xs k y at_y) in
+          let some = ended-long k o.0 y l o.1 o.2 at_y named in
+          (λ eq. not-named q away k o.0 o.1 l some (eq ∙ sym (ap (λ (z : NodeFile). name_of z l) o.2))));
+      written = F;
+      first = λ v. ([], sym (groups.written-is g stack sound prefix before b xs false held h v) ∙ sym (append-nil (F v)));
+      node = node.node;
+      group = torn;
+      whole = λ v i n r rule kind off full.
+          let f = groups.files-of-rule g stack sound prefix before b xs false held h v n r rule kind in
+          let x = f.files in
+          let off_ : (x.node ≢ node.node) ⊎ (i ≢ torn) = elim off [ inl ne ↦ inl (λ eq. ne (sym f.node ∙ eq)) | inr ne ↦ inr ne ] in
+          let full_ : length (group_of x.count i (F x.node)) ≡ x.count =
+          ap (λ (c : ℕ). length (group_of c i (F x.node))) f.count ∙ ap (λ (w : ℕ). length (group_of r.count i (F w))) f.node ∙ full ∙ sym f.count in
+          let has = whole-has f.at x f.listed i off_ full_ in
+          subst (λ (name : List ℕ). HasFile now name (layout (file_shape g stack v) (group_of r.count i (F v)))) (f.named i)
+          (subst (λ (sh : FileShape). HasFile now (name_of x i) (layout sh (group_of r.count i (F v)))) f.shape
+          (subst (λ (c : ℕ). HasFile now (name_of x i) (layout x.shape (group_of c i (F v)))) f.count
+          (subst (λ (w : ℕ). HasFile now (name_of x i) (layout x.shape (group_of x.count i (F w)))) f.node has)));
+    }
+      where
+        ended-back : (n : ℕ) (zs : List NodeFile) (k : ℕ) (y : NodeFile) → slice_get (ended_to n zs) k ≡ Some y → slice_get (map closed zs) k ≡ Some (closed y)
+        ended-back n [] k y at_y = let none_ : None ≡ Some y = nil-get n k y at_y in absurd (cc)
+          where
+            nil-get : (m j : ℕ) (w : NodeFile) → slice_get (ended_to m []) j ≡ Some w → None ≡ Some w
+            nil-get zero j w eq = eq
+            nil-get (suc m) j w eq = eq
+        ended-back zero (z ∷ zs) k y at_y = closed-get (z ∷ zs) k y at_y
+          where
+            closed-get : (ws : List NodeFile) (j : ℕ) (w : NodeFile) → slice_get ws j ≡ Some w → slice_get (map closed ws) j ≡ Some (closed w)
+            closed-get [] j w eq = let none_ : None ≡ Some w = eq in absurd (cc)
+            closed-get (u ∷ ws) zero w eq = ap (λ (q : NodeFile). Some (closed q)) (same_Some u w eq)
+            closed-get (u ∷ ws) (suc j) w eq = closed-get ws j w eq
+        ended-back (suc n) (z ∷ zs) zero y at_y = ap (λ (q : NodeFile). Some (closed q)) (same_Some (closed z) y at_y)
+        ended-back (suc n) (z ∷ zs) (suc k) y at_y = ended-back n zs k y at_y
+
+        ended-long : (k : ℕ) (x y : NodeFile) (l : ℕ) → slice_get xs k ≡ Some x → closed x ≡ closed y → slice_get (ended_to (e.at + 1) xs) k ≡ Some y → IsSome (group_file y (F y.node) l) → 1 ≤ length (group_of x.count l (F x.node))
+        ended-long k x y l at same at_y named =
+            elim (ended-at (e.at + 1) xs k x at) [
+              | inl ended ↦
+                  let is : closed x ≡ y = same_Some (closed x) y (sym ended ∙ at_y) in
+                  whole-long x.shape (group_of x.count l (F x.node))
+                  (subst (λ (o : Option (List ℕ)). IsSome o) (closed-file x (F x.node) l) (subst (λ (z : NodeFile). IsSome (group_file z (F z.node) l)) (sym is) named))
+              | inr open_ ↦
+                  let is : x ≡ y = same_Some x y (sym open_.1 ∙ at_y) in
+                  open-long k x at l (subst (λ (z : NodeFile). IsSome (group_file z (F z.node) l)) (sym is) named)
+            ]
+
+        whole-has : (j : ℕ) (x : NodeFile) → slice_get xs j ≡ Some x → (i : ℕ) → (x.node ≢ node.node) ⊎ (i ≢ torn) → length (group_of x.count i (F x.node)) ≡ x.count → HasFile now (name_of x i) (layout x.shape (group_of x.count i (F x.node)))
+        whole-has j x at i off full =
+            let some : 1 ≤ length (group_of x.count i (F x.node)) = omega (arith, full, some-at j x at) in
+            elim (ended-at (e.at + 1) xs j x at) [
+              | inl ended ↦ subst (HasBytes now (name_of x i)) (closed-file x (F x.node) i ∙ whole-is x.shape (group_of x.count i (F x.node)) some) (e.stops.0.each j (closed x) i ended off)
+              | inr open_ ↦
+                  subst (HasBytes now (name_of x i)) (full-file x (F x.node) i (some-at j x at) full (group-has x (F x.node) (some-at j x at) (h.saving.saved.0.each j x at).begun i)) (e.stops.0.each j x i open_.1 off)
+            ]
