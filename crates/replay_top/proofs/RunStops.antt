@@ -11,7 +11,7 @@ use Rattle.board_rules.specs.RunMeasures.{run_setting}
 use Rattle.run_laws.specs.Results.{IsFinishedRun}
 use Rattle.graph_files.specs.BegunLaws.{with_files-append}
 use Rattle.graph_files.specs.OutFiles.{OutFile, with_files}
-use Rattle.flow_saver.specs.Ending.{GroupsReadBack}
+use Rattle.flow_saver.specs.ReadBack.{GroupsReadBack}
 use Rattle.flow_saver.specs.HistoryFiles.{HoldsFilesOf, HoldsGroupsOf, RowsComplete, rows_files}
 use Rattle.flow_saver.specs.Saver.{CountsSo}
 use Rattle.flow_run.specs.RunFiles.{HasSavedRun}
