@@ -25,7 +25,7 @@ use Rattle.graph_files.proofs.Writes.{next-place}
 use Rattle.flow_saver.specs.Ending.{IsBegunAs, AsBefore, Counted, Open}
 use Rattle.flow_saver.specs.Ending as ending
 
--- THE COUNT OF RECORDS
+-- THE COUNT OF RECORDS, as replay_top has it for a plain run, above this crate
 
 -- the last of two writes at one place counts
 overwritten-twice : (file a b : List ℕ) (off : ℕ) → off ≤ length file → length a ≡ length b → overwritten (overwritten file off a) off b ≡ overwritten file off b

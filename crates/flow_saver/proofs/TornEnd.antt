@@ -32,7 +32,7 @@ use Rattle.flow_saver.specs.Remaining.{IsSavingAlone}
 use Rattle.flow_saver.proofs.BegunBytes.{begun-front, begun-torn, begun-whole, GroupHas, Nothing, Whole, Opened, group-has}
 use Rattle.flow_saver.proofs.Groups as groups
 use Rattle.flow_saver.proofs.Groups.{some-is}
-use Rattle.flow_saver.proofs.TornHistory.{full-file, one-index, told-file, whole-bytes, whole-some, file-some, count-by}
+use Rattle.flow_saver.proofs.TornHistory.{full-file, begun-file, one-index, told-file, whole-bytes, whole-some, file-some, count-by}
 
 -- a node's files among those that have ended so far
 ended-at : (n : ℕ) (xs : List NodeFile) (j : ℕ) (x : NodeFile) → slice_get xs j ≡ Some x → (slice_get (ended_to n xs) j ≡ Some (closed x)) ⊎ ((n ≤ j) × (slice_get (ended_to n xs) j ≡ Some x))
@@ -203,6 +203,17 @@ module _ (g : Graph) (stack : StackValue) (sound : IsGraph g) (prefix : List ℕ
           (subst (λ (sh : FileShape). HasFile now (name_of x i) (layout sh (group_of r.count i (F v)))) f.shape
           (subst (λ (c : ℕ). HasFile now (name_of x i) (layout x.shape (group_of c i (F v)))) f.count
           (subst (λ (w : ℕ). HasFile now (name_of x i) (layout x.shape (group_of x.count i (F w)))) f.node has)));
+      begun = λ v i n r rule kind off some.
+          let f = groups.files-of-rule g stack sound prefix before b xs false held h v n r rule kind in
+          let x = f.files in
+          let off_ : (x.node ≢ node.node) ⊎ (i ≢ torn) = elim off [ inl ne ↦ inl (λ eq. ne (sym f.node ∙ eq)) | inr ne ↦ inr ne ] in
+          let same : group_of x.count i (F x.node) ≡ group_of r.count i (F v) = ap (λ (c : ℕ). group_of c i (F x.node)) f.count ∙ ap (λ (w : ℕ). group_of r.count i (F w)) f.node in
+          let is = begun-has f.at x f.listed i off_ (subst (λ (zs : List Array). 1 ≤ length zs) (sym same) some) in (
+            is.0,
+            subst (λ (name : List ℕ). HasFile now name (begun_file (file_shape g stack v) is.0 (group_of r.count i (F v)))) (f.named i)
+                (subst (λ (sh : FileShape). HasFile now (name_of x i) (begun_file sh is.0 (group_of r.count i (F v)))) f.shape
+                (subst (λ (zs : List Array). HasFile now (name_of x i) (begun_file x.shape is.0 zs)) same is.1)),
+          );
     }
       where
         ended-back : (n : ℕ) (zs : List NodeFile) (k : ℕ) (y : NodeFile) → slice_get (ended_to n zs) k ≡ Some y → slice_get (map closed zs) k ≡ Some (closed y)
@@ -239,4 +250,17 @@ module _ (g : Graph) (stack : StackValue) (sound : IsGraph g) (prefix : List ℕ
               | inl ended ↦ subst (HasBytes now (name_of x i)) (closed-file x (F x.node) i ∙ whole-is x.shape (group_of x.count i (F x.node)) some) (e.stops.0.each j (closed x) i ended off)
               | inr open_ ↦
                   subst (HasBytes now (name_of x i)) (full-file x (F x.node) i (some-at j x at) full (group-has x (F x.node) (some-at j x at) (h.saving.saved.0.each j x at).begun i)) (e.stops.0.each j x i open_.1 off)
+            ]
+
+        begun-has : (j : ℕ) (x : NodeFile) → slice_get xs j ≡ Some x → (i : ℕ) → (x.node ≢ node.node) ⊎ (i ≢ torn) → 1 ≤ length (group_of x.count i (F x.node))
+            → (numrecs : Option ℕ) × HasFile now (name_of x i) (begun_file x.shape numrecs (group_of x.count i (F x.node)))
+        begun-has j x at i off some =
+            elim (ended-at (e.at + 1) xs j x at) [
+              | inl ended ↦ (
+                Some (length (group_of x.count i (F x.node))),
+                subst (HasBytes now (name_of x i)) (closed-file x (F x.node) i ∙ whole-is x.shape (group_of x.count i (F x.node)) some) (e.stops.0.each j (closed x) i ended off),
+              )
+              | inr open_ ↦
+                  let is = begun-file x (F x.node) i some (group-has x (F x.node) (some-at j x at) (h.saving.saved.0.each j x at).begun i) in
+                  (is.0, subst (HasBytes now (name_of x i)) is.1 (e.stops.0.each j x i open_.1 off))
             ]

@@ -111,6 +111,12 @@ full-file x arrays i some full (Opened f open_ here is) =
     let low = mod-lt (length arrays) (let e : 0 < x.count = omega (arith, some) in e) in
     absurd (omega (arith, long, low, full, ap (λ (w : ℕ). length (group_of x.count w arrays)) here))
 
+-- and any other that has an array a header and its rows
+pub begun-file : (x : NodeFile) (arrays : List Array) (i : ℕ) → 1 ≤ length (group_of x.count i arrays) → GroupHas x arrays i → (numrecs : Option ℕ) × (group_file x arrays i ≡ Some (begun_file x.shape numrecs (group_of x.count i arrays)))
+begun-file x arrays i some (Nothing none_) = absurd (file-some (open_at x (length arrays) i) x.shape (group_of x.count i arrays) some none_)
+begun-file x arrays i some (Whole full is) = (Some (length (group_of x.count i arrays)), is)
+begun-file x arrays i some (Opened f open_ here is) = (f.numrecs, is)
+
 -- NAMES OF GROUPS
 
 module _ (g : Graph) (stack : StackValue) (sound : IsGraph g) (prefix : List ℕ) (xs : List NodeFile) (nodes : map closed xs ≡ file_nodes g stack prefix) where
@@ -441,4 +447,20 @@ module _ (g : Graph) (stack : StackValue) (sound : IsGraph g) (prefix : List ℕ
         (subst (λ (sh : FileShape). HasFile held (name_of x i) (layout sh (group_of r.count i (W v)))) f.shape
         (subst (λ (c : ℕ). HasFile held (name_of x i) (layout x.shape (group_of c i (W v)))) f.count
         (subst (λ (w : ℕ). HasFile held (name_of x i) (layout x.shape (group_of x.count i (W w)))) f.node has)));
+    begun = λ v i n r rule kind off some.
+        let f = groups.files-of-rule g stack sound prefix before b xs true held h v n r rule kind in
+        let x = f.files in
+        let off_ : (x.node ≢ t.node.node) ⊎ (i ≢ t.group) = elim off [ inl ne ↦ inl (λ e. ne (sym f.node ∙ e)) | inr ne ↦ inr ne ] in
+        let same : group_of x.count i (W x.node) ≡ group_of r.count i (W v) = ap (λ (c : ℕ). group_of c i (W x.node)) f.count ∙ ap (λ (w : ℕ). group_of r.count i (W w)) f.node in
+        let off_at : (f.at ≢ t.at) ⊎ (i ≢ t.group) = elim off_ [
+          | inl ne ↦ inl (λ e. ne (ap (λ (z : NodeFile). z.node) (torn-here f.at x f.listed e)))
+          | inr ne ↦ inr ne
+        ] in
+        let is = begun-file x (W x.node) i (subst (λ (zs : List Array). 1 ≤ length zs) (sym same) some) (has-at f.at x f.listed i off_at) in
+        let has = subst (HasBytes held (name_of x i)) is.1 (t.stops.0.each f.at x i f.listed off_) in (
+          is.0,
+          subst (λ (name : List ℕ). HasFile held name (begun_file (file_shape g stack v) is.0 (group_of r.count i (W v)))) (f.named i)
+              (subst (λ (sh : FileShape). HasFile held (name_of x i) (begun_file sh is.0 (group_of r.count i (W v)))) f.shape
+              (subst (λ (zs : List Array). HasFile held (name_of x i) (begun_file x.shape is.0 zs)) same has)),
+        );
   }
