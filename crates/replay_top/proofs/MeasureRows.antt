@@ -1,5 +1,5 @@
 -- The rows of measures, one after the other, and the files that are written node by node.
-use Rattle.std.proofs.Common.{◌≡◌, inl, ℕ, Bool, true, zero, suc, ◌+◌, ◌<◌, ◌≤◌, List, [], ◌∷◌, ◌++◌, Option, Some, length, take, drop, get_or, refl, ap, sym, subst, ◌∙◌, arith, append_assoc}
+use Rattle.std.proofs.Common.{◌≡◌, inl, ℕ, Bool, true, ◌+◌, ◌<◌, ◌≤◌, List, [], ◌∷◌, ◌++◌, Option, length, take, drop, get_or, refl, ap, sym, subst, ◌∙◌, arith, append_assoc}
 use Rattle.std.specs.List.{flat_map}
 use Rattle.std.proofs.lemmas.List.{append-nil, length-take-le, take-append-drop, take_all, take_more}
 use Rattle.std.proofs.lemmas.List.Concat.{flat_map-append}
@@ -44,7 +44,7 @@ module _ (ms : List Measure) (i : ℕ) where
     rows-part now d text within is may =
         let rest = flat_map row (drop (i + 1) ms) in
         let all : flat_map row ms ≡ flat_map row (take (i + 1) ms) ++ rest =
-            ap (flat_map row) (sym (take-append-drop (i + 1) ms)) ∙ flat_map-append row (take (i + 1) ms) (drop (i + 1) ms) in
+        ap (flat_map row) (sym (take-append-drop (i + 1) ms)) ∙ flat_map-append row (take (i + 1) ms) (drop (i + 1) ms) in
         IsBegun-append held u now name (flat_map row (take i ms)) text rest (flat_map row ms)
         (all ∙ ap (λ b. b ++ rest) (rows-more d within ∙ ap (λ b. flat_map row (take i ms) ++ b) (sym is))) made may
 
@@ -100,7 +100,7 @@ module _ (prefix : List ℕ) where
       pub next-rows_begun : AreBegun u (measured_rows prefix n m) now → AreBegun held (measured_files prefix ns ms) now
       next-rows_begun begun =
           let one : AreBegun held (first ++ measured_rows prefix n m) now =
-              AreBegun-later held now first (measured_rows prefix n m) (subst (λ (w : Option Files). AreBegun w (measured_rows prefix n m) now) made begun) in
+          AreBegun-later held now first (measured_rows prefix n m) (subst (λ (w : Option Files). AreBegun w (measured_rows prefix n m) now) made begun) in
           subst (λ (fs : List OutFile). AreBegun held fs now) (sym (files-split d at_n at_m))
           (AreBegun-first held now (first ++ measured_rows prefix n m) (measured_files prefix (drop (p + 1) ns) (drop (p + 1) ms)) one)
 

@@ -1,50 +1,16 @@
 -- What the end of a run says of its status.
-use Rattle.std.proofs.Common.{◌≡◌, ◌≢◌, ℕ, List, Option, None, Some, refl, ap, sym, ◌⊎◌, inl, inr}
-use Rattle.std.specs.Prelude.{IsSome, ◌↔◌}
-use Rattle.edge_traits.specs.Files.{Files}
+use Rattle.std.proofs.Common.{◌≡◌, ◌≢◌, Option, None, Some, refl, ap, sym, ◌⊎◌, inl, inr}
 use Rattle.flow_journal.specs.Journal.{Journal}
 use Rattle.replay_top.specs.declared.status.Status.{Status}
 use Rattle.replay_top.specs.declared.status.Status.TheVariants.{Done, Usage, GraphText, GraphRule, StackBytes, Limit, ReadFault, ShelfFault, OutFault, OutOfMemory}
 use Rattle.replay_top.specs.Causes.{Counts}
 use Rattle.replay_top.specs.Claims.{IsAskedOf, NoneRose}
-use Rattle.replay_top.specs.Command.{Command}
 use Rattle.replay_top.specs.Limits.{load_status}
-use Rattle.replay_top.specs.RunAnswers.{Objects, RunEnds, IsRunCause, HasFinished, IsLogOf}
+use Rattle.replay_top.specs.RunAnswers.{Objects, RunEnds, IsRunCause, IsLogOf}
 use Rattle.replay_top.specs.RunCommand.{RunCommand, plain_run, plain_run_of}
 use Rattle.replay_top.specs.Works.{Source}
 use Rattle.replay_top.proofs.Asked.{asked-load}
-use Rattle.replay_top.proofs.Claims.{Ends-none, answered}
-
--- the log is there where the run has finished, and nowhere else
-unlogged : (log : Option Journal) → log ≡ None → IsSome log → ⊥
-unlogged None is some = absurd (cc)
-unlogged (Some l) is some = absurd (cc)
-
-pub is_logged : (s : Status) (log : Option Journal) (command : Option RunCommand) (o : Objects) → RunEnds s log command o → HasFinished s ↔ IsSome log
-is_logged Done (Some l) command o ends = ((λ h. refl), (λ h. tt))
-is_logged Done None None o ends = absurd ends
-is_logged Done None (Some c) o ends = absurd ends
-is_logged ShelfFault (Some l) command o ends = ((λ h. refl), (λ h. tt))
-is_logged ShelfFault None None o ends = absurd ends
-is_logged ShelfFault None (Some c) o ends = absurd ends
-is_logged OutFault (Some l) command o ends = ((λ h. refl), (λ h. tt))
-is_logged OutFault None None o ends = absurd ends
-is_logged OutFault None (Some c) o ends = absurd ends
-is_logged Usage log command o ends = ((λ h. absurd h), unlogged log ends.0)
-is_logged GraphText log command o ends = ((λ h. absurd h), unlogged log ends.0)
-is_logged (GraphRule f) log command o ends = ((λ h. absurd h), unlogged log ends.0)
-is_logged (StackBytes f) log command o ends = ((λ h. absurd h), unlogged log ends.0)
-is_logged (Limit f) log command o ends = ((λ h. absurd h), unlogged log ends.0)
-is_logged ReadFault log command o ends = ((λ h. absurd h), unlogged log ends.0)
-is_logged OutOfMemory log command o ends = ((λ h. absurd h), unlogged log ends.0)
-
--- words that are no run end with Usage, and no others
-no_run : (command : Option RunCommand) → plain_run_of command ≡ None → command ≡ None
-no_run None is = refl
-no_run (Some c) is = absurd (cc)
-
-pub usage_none : (log : Option Journal) (command : Option RunCommand) (o : Objects) → RunEnds Usage log command o → command ≡ None
-usage_none log command o ends = no_run command ends.1.0
+use Rattle.replay_top.proofs.Claims.{answered}
 
 -- where no count rose, the files decide
 asked-run : (o : Objects) (c : RunCommand) (source : Source) (log : Journal) → IsLogOf o c source log.past → IsAskedOf (Some (plain_run c)) o.told Done

@@ -1,5 +1,5 @@
 -- Where the graph or the stack of a run wasn't read, or they pass a limit.
-use Rattle.std.proofs.Common.{◌≡◌, ℕ, List, Option, None, Some, refl, ap, sym, ◌∙◌}
+use Rattle.std.proofs.Common.{◌≡◌, ℕ, List, Option, Some}
 use Rattle.nd_base.specs.Array.{StackValue}
 use Rattle.nd_base.specs.declared.graph.Graph.{Graph}
 use Rattle.edge_traits.specs.Files.{Files}
@@ -11,7 +11,7 @@ use Rattle.replay_top.specs.declared.status.Status.TheVariants.{Done, Usage, Gra
 use Rattle.replay_top.specs.Command.{Plain}
 use Rattle.replay_top.specs.RunSources.{SourceStops}
 use Rattle.replay_top.specs.Sources.{IsGraphRead, IsStackRead}
-use Rattle.replay_top.specs.Stages.{GraphStops, StackStops}
+use Rattle.replay_top.specs.Stages.{GraphStops}
 use Rattle.replay_top.proofs.Asked.{passed-run}
 
 -- the graph
@@ -30,23 +30,6 @@ SourceStops-graph (Limit (Kept n)) told graph stack before now stops = absurd st
 SourceStops-graph (Limit (FileTooLarge v n)) told graph stack before now stops = absurd stops
 SourceStops-graph ShelfFault told graph stack before now stops = absurd stops
 SourceStops-graph OutFault told graph stack before now stops = absurd stops
-
--- the stack, after the graph
-pub SourceStops-stack : (status : Status) (told : Option Files) (graph stack : List ℕ) (g : Graph) (before now : ℕ) → IsGraphRead told graph g → StackStops status told stack before now → SourceStops status told graph stack before now
-SourceStops-stack (StackBytes f) told graph stack g before now read stops = ((λ prefix. (stops.0, ((g, read), stops.1))), stops.2)
-SourceStops-stack (Limit (StackFile n)) told graph stack g before now read stops = ((λ prefix. (stops.0, ((g, read), stops.1))), stops.2)
-SourceStops-stack ReadFault told graph stack g before now read stops = stops
-SourceStops-stack OutOfMemory told graph stack g before now read stops = stops
-SourceStops-stack Done told graph stack g before now read stops = absurd stops
-SourceStops-stack Usage told graph stack g before now read stops = absurd stops
-SourceStops-stack GraphText told graph stack g before now read stops = absurd stops
-SourceStops-stack (GraphRule f) told graph stack g before now read stops = absurd stops
-SourceStops-stack (Limit (GraphBytes n)) told graph stack g before now read stops = absurd stops
-SourceStops-stack (Limit (Load n)) told graph stack g before now read stops = absurd stops
-SourceStops-stack (Limit (Kept n)) told graph stack g before now read stops = absurd stops
-SourceStops-stack (Limit (FileTooLarge v n)) told graph stack g before now read stops = absurd stops
-SourceStops-stack ShelfFault told graph stack g before now read stops = absurd stops
-SourceStops-stack OutFault told graph stack g before now read stops = absurd stops
 
 -- the limits of a run of both
 pub SourceStops-limit : (fault : LimitFault) (told : Option Files) (graph stack : List ℕ) (g : Graph) (s : StackValue) (before now : ℕ) → IsGraphRead told graph g → IsStackRead told stack s → limit_fault g s ≡ Some fault → now ≡ before

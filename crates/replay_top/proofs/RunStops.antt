@@ -1,10 +1,10 @@
 -- Where a stage of a run stopped, the run ends so.
-use Rattle.std.proofs.Common.{◌≡◌, ◌≢◌, ℕ, Bool, true, false, List, [], ◌∷◌, ◌++◌, Option, None, Some, refl, ap, sym, subst, ◌∙◌, inl, inr}
+use Rattle.std.proofs.Common.{◌≡◌, ◌≢◌, ℕ, Bool, true, false, List, ◌++◌, Option, None, Some, refl, ap, sym, subst, ◌∙◌}
 use Rattle.std.proofs.lemmas.List.{append-nil}
 use Rattle.nd_base.specs.Array.{StackValue}
 use Rattle.nd_base.specs.declared.graph.Graph.{Graph}
 use Rattle.edge_traits.specs.Faults.{Rose}
-use Rattle.edge_traits.specs.Files.{Files, with_file}
+use Rattle.edge_traits.specs.Files.{Files}
 use Rattle.flow_journal.specs.Journal.{Journal}
 use Rattle.flow_journal.specs.Pasts.{Past}
 use Rattle.board_rules.specs.RunMeasures.{run_setting}
@@ -19,7 +19,6 @@ use Rattle.flow_run.specs.Strangers.{AreOwnMoves}
 use Rattle.flow_run.specs.Ticks.{IsFedByTheClock}
 use Rattle.replay_top.specs.declared.status.Status.{Status}
 use Rattle.replay_top.specs.declared.status.Status.TheVariants.{Done, Usage, GraphText, GraphRule, StackBytes, Limit, ReadFault, ShelfFault, OutFault, OutOfMemory}
-use Rattle.replay_top.specs.Causes.{Counts}
 use Rattle.replay_top.specs.RunAnswers.{Objects, IsLogOf, RunEnds, IsRunCause, run_print}
 use Rattle.replay_top.specs.RunCommand.{RunCommand}
 use Rattle.replay_top.specs.RunFiles.{later_files, HoldsFiles, HaveGroupsBack, AtGroups, AfterGroups}
@@ -42,19 +41,6 @@ RunEnds-unread Done c o before now stops held written = absurd stops
 RunEnds-unread Usage c o before now stops held written = absurd stops
 RunEnds-unread ShelfFault c o before now stops held written = absurd stops
 RunEnds-unread OutFault c o before now stops held written = absurd stops
-
-pub IsRunCause-unread : (status : Status) (told : Option Files) (graph stack : List ℕ) (before now shelf sink : ℕ) → SourceStops status told graph stack before now
-    → IsRunCause status (record { library = before; shelf = shelf; sink = sink }) (record { library = now; shelf = shelf; sink = sink })
-IsRunCause-unread GraphText told graph stack before now shelf sink stops = ap (λ (n : ℕ). record { library = n; shelf = shelf; sink = sink }) stops.1
-IsRunCause-unread (GraphRule f) told graph stack before now shelf sink stops = ap (λ (n : ℕ). record { library = n; shelf = shelf; sink = sink }) stops.1
-IsRunCause-unread (StackBytes f) told graph stack before now shelf sink stops = ap (λ (n : ℕ). record { library = n; shelf = shelf; sink = sink }) stops.1
-IsRunCause-unread (Limit f) told graph stack before now shelf sink stops = ap (λ (n : ℕ). record { library = n; shelf = shelf; sink = sink }) stops.1
-IsRunCause-unread ReadFault told graph stack before now shelf sink stops = (stops, refl, refl)
-IsRunCause-unread OutOfMemory told graph stack before now shelf sink stops = (stops, refl)
-IsRunCause-unread Done told graph stack before now shelf sink stops = absurd stops
-IsRunCause-unread Usage told graph stack before now shelf sink stops = absurd stops
-IsRunCause-unread ShelfFault told graph stack before now shelf sink stops = absurd stops
-IsRunCause-unread OutFault told graph stack before now shelf sink stops = absurd stops
 
 -- AFTER THE RUN
 

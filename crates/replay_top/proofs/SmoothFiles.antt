@@ -9,7 +9,6 @@ use Rattle.std.proofs.lemmas.Nat.{le-div}
 use Rattle.std.proofs.lemmas.Option.{same_Some, slice_get_within}
 use Rattle.nd_base.specs.Array.{Array, StackValue}
 use Rattle.nd_base.specs.declared.attribute.FileShape.{FileShape}
-use Rattle.nd_base.specs.declared.frame.FrameName.{FrameName}
 use Rattle.nd_base.specs.declared.graph.FileRule.{FileRule}
 use Rattle.nd_base.specs.declared.graph.Graph.{Graph}
 use Rattle.nd_base.specs.declared.graph.Kind.{Kind}
@@ -32,10 +31,10 @@ use Rattle.flow_journal.specs.Setting.{Node, no_node, node}
 use Rattle.flow_journal.specs.Unsaved.{standing_saves, is_file}
 use Rattle.board_rules.specs.RunMeasures.{run_setting}
 use Rattle.run_laws.specs.PlainLaws.{ArePlain}
-use Rattle.run_laws.specs.Results.{put_out, contents, outcome}
+use Rattle.run_laws.specs.Results.{put_out, contents}
 use Rattle.graph_files.specs.Groups.{group_of, whole_file}
 use Rattle.graph_files.specs.NodeFileLaws.{cases_eq}
-use Rattle.graph_files.specs.OutFiles.{OutFile, file_shape, group_files, group_name, stats_name, is_stream, kind_files, node_files, plain_files}
+use Rattle.graph_files.specs.OutFiles.{OutFile, file_shape, group_files, group_name, stats_name, kind_files, node_files, plain_files}
 use Rattle.flow_saver.specs.HistoryFiles.{IsFileOf, Group, Rows, kind_group, kind_rows}
 use Rattle.replay_top.specs.SmoothRuns.{IsAmong}
 
@@ -172,7 +171,7 @@ module _ (g : Graph) (stack : StackValue) (prefix : List ℕ) (P : Past) where
           let rest = length-drop (p.0 * r.count) saved in
           let filled : 1 ≤ length (group_of r.count p.0 saved) = omega (arith, long, rest, some, begun) in
           let is : kind_group g stack P v n.kind p.0 ≡ Some bytes =
-              ap (λ (k : Kind). kind_group g stack P v k p.0) same ∙ is-whole shape (group_of r.count p.0 saved) filled ∙ ap Some p.3 in
+          ap (λ (k : Kind). kind_group g stack P v k p.0) same ∙ is-whole shape (group_of r.count p.0 saved) filled ∙ ap Some p.3 in
           subst (λ (q : List ℕ). IsFileOf g stack prefix P q bytes) p.2 (Group v p.0 n bytes at is)
 
     module _ (r : StatsRule) (same : n.kind ≡ Stats r) where
@@ -230,7 +229,7 @@ module _ (g : Graph) (stack : StackValue) (prefix : List ℕ) (P : Past) (sound 
   at-node : (v : ℕ) (n : NodeRule) (name bytes : List ℕ) → rule_at g.nodes v ≡ Some n → IsAmong (kind_files n.kind (file_shape g stack v) prefix n.name (result_of g stack v)) name bytes → IsAmong (plain_files g stack prefix) name bytes
   at-node v n name bytes at h =
       let here : IsAmong (node_files g stack prefix v) name bytes =
-          subst (λ (o : Option NodeRule). IsAmong (option_map_or (λ m. kind_files m.kind (file_shape g stack v) prefix m.name (result_of g stack v)) o []) name bytes) (sym at) h in
+      subst (λ (o : Option NodeRule). IsAmong (option_map_or (λ m. kind_files m.kind (file_shape g stack v) prefix m.name (result_of g stack v)) o []) name bytes) (sym at) h in
       let p = place v n at in
       among-in (node_files g stack prefix) 1 (length g.nodes) v name bytes p.0 (omega (arith, p.1)) here
 

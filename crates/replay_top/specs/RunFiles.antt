@@ -1,6 +1,6 @@
 -- What a run leaves on the shelf, by its log: the groups of its file nodes, then the rows of its statistics nodes, and then the text of
 -- the log.
-use Rattle.std.specs.Prelude.{◌≡◌, ◌≢◌, ℕ, Bool, true, false, List, [], ◌∷◌, ◌++◌, Option, Some}
+use Rattle.std.specs.Prelude.{◌≡◌, ◌≢◌, ℕ, Bool, true, false, List, [], ◌++◌, Option, Some}
 use Rattle.nd_base.specs.declared.graph.FileRule.{FileRule}
 use Rattle.nd_base.specs.declared.graph.Kind.TheVariants.{File}
 use Rattle.nd_base.specs.declared.graph.NodeRule.{NodeRule}

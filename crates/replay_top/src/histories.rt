@@ -1,7 +1,6 @@
 //! The run itself.
 
-ghost use Rattle.std.specs.Prelude.{◌≡◌, ℕ, List, Option, None, OnErr, IfOk};
-ghost use Rattle.edge_traits.specs.Files.{Files};
+ghost use Rattle.std.specs.Prelude.{◌≡◌, ℕ, List, None, IfOk};
 ghost use Rattle.nd_base.specs.GraphRules.{IsGraph};
 ghost use Rattle.nd_stack.specs.KeptStacks.{IsKeptStack};
 ghost use Rattle.chain_plain.specs.Plans.{plan_of};
@@ -29,13 +28,7 @@ use std::sync::Wait;
 use std::thread::Threads;
 
 /// Runs the graph of a run over its stack.
-fn play<
-    R: Run + Send + Sync,
-    K: Shelf,
-    C: Clock + Send,
-    G: Gate + Sync,
-    W: Threads + Wait + Sync,
->(
+fn play<R: Run + Send + Sync, K: Shelf, C: Clock + Send, G: Gate + Sync, W: Threads + Wait + Sync>(
     rt: &W,
     alloc: Global,
     plan: &Plan,

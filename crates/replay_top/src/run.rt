@@ -1,6 +1,6 @@
 //! `run GRAPH STACK PREFIX` and `run-log GRAPH STACK PREFIX`: runs a graph over a stack with its threads.
 
-ghost use Rattle.std.specs.Prelude.{◌≡◌, ◌≢◌, ◌↔◌, ◌++◌, map, length, None, Some, IsSome, IfOk, OnOk, IfErr, string_bytes};
+ghost use Rattle.std.specs.Prelude.{◌≡◌, ◌↔◌, ◌++◌, map, length, None, Some, IsSome, IfOk, OnOk, IfErr, string_bytes};
 ghost use Rattle.edge_traits.specs.Written.{with_written};
 ghost use Rattle.nd_base.specs.GraphRules.{IsGraph};
 ghost use Rattle.nd_stack.specs.declared.fault.StackFault.{StackFault};

@@ -1,10 +1,7 @@
 //! Reading what a run goes over.
 
-ghost use Rattle.std.specs.Prelude.{◌≡◌, None, OnOk, IfOk, IfErr};
-ghost use Rattle.nd_base.specs.GraphRules.{IsGraph};
-ghost use Rattle.nd_stack.specs.KeptStacks.{IsKeptStack};
+ghost use Rattle.std.specs.Prelude.{◌≡◌, OnOk, IfOk, IfErr};
 ghost use Rattle.chain_plain.specs.Plans.{plan_of};
-ghost use Rattle.graph_conf.specs.Loads.{limit_fault};
 ghost use Rattle.replay_top.specs.RunSources.{IsSourceRead, SourceStops};
 
 use crate::sources::{load_graph, load_stack};

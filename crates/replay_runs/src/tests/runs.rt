@@ -64,10 +64,10 @@ fn a_ring_that_holds_the_pool_has_the_third_frame_refused(rt: HostRuntime) -> Re
         b"frames 3\ndriver offered 3 loaded 2 refused 1 breaks 0\nnode ring offered 2 accepted 2 full 0 pool 0 sort 0 out 0 breaks 0\nregrown 0\n".as_slice()
     );
     let log = run.exit.log.as_ref().ok_or("no log")?;
-    let refused = log
-        .entries()
-        .iter()
-        .any(|entry| matches!(entry, Entry::LoadRefused { held: 8, .. }));
+    let refused = log.entries().iter().any(|entry| matches!(
+        entry,
+        Entry::LoadRefused { held: 8, .. }
+    ));
     assert!(rt; refused);
     Ok(())
 }
@@ -99,7 +99,10 @@ fn each_frame_is_accepted_or_finds_the_queue_full(rt: HostRuntime) -> Result<(),
         .count();
     assert_eq!(rt; accepted.saturating_add(full), 9);
     let rows = run.shelf.bytes("x_st.txt").ok_or("no rows")?;
-    assert_eq!(rt; rows.iter().filter(|byte| **byte == b'\n').count(), accepted);
+    assert_eq!(rt;
+        rows.iter().filter(|byte| **byte == b'\n').count(),
+        accepted
+    );
     Ok(())
 }
 
@@ -118,7 +121,15 @@ sort_time = 1000
 fn two_workers_have_two_frames_at_once(rt: HostRuntime) -> Result<(), Fail> {
     let alloc = rt.alloc();
     let gate = PairGate::new(1, 0, 1, 100_000_000);
-    let run = run_at(&rt, alloc, "run", PAIR, stack(alloc, 2)?, none(alloc), &gate)?;
+    let run = run_at(
+        &rt,
+        alloc,
+        "run",
+        PAIR,
+        stack(alloc, 2)?,
+        none(alloc),
+        &gate,
+    )?;
     assert!(rt; ended(alloc, &run, "status 0 Done")?);
     assert!(rt; !gate.gave_up());
     let log = run.exit.log.as_ref().ok_or("no log")?;

@@ -11,7 +11,7 @@ use Rattle.replay_top.proofs.laws.smooth_runs_are_plain_files.Goals as goal
 pub returns : goal.returns
 returns c g stack prefix P name bytes sound dealer ids smooth =
     let plain : (v : ℕ) (n : NodeRule) → rule_at g.nodes v ≡ Some n → ArePlain g stack v (put_out (run_setting g stack) v P) =
-        λ v n at. c.smooth_runs_are_plain.ensures g (makers_of g.nodes stack.shape) stack P v n sound at dealer ids smooth in (
+    λ v n at. c.smooth_runs_are_plain.ensures g (makers_of g.nodes stack.shape) stack P v n sound at dealer ids smooth in (
       smooth-to g stack prefix P sound plain name bytes,
       smooth-from g stack prefix P sound plain name bytes,
     )

@@ -1,6 +1,6 @@
-use Rattle.std.proofs.Common.{Some, ◌≢◌}
+use Rattle.std.proofs.Common.{Some}
 use Rattle.replay_top.specs.RunWords.{run_told}
-use Rattle.replay_top.proofs.RunClaims.{is_logged, usage_none, answered_run}
+use Rattle.replay_top.proofs.RunClaims.{answered_run}
 use Rattle.replay_top.proofs.run.run_top.Goals as goal
 
 pub returns-in-Some-clause-complete : goal.returns-in-Some-clause-complete

@@ -1,5 +1,4 @@
-use Rattle.std.proofs.Common.{◌≡◌, ◌++◌, refl, ap}
-use Rattle.chain_plain.specs.Plans.{plan_of}
+use Rattle.std.proofs.Common.{◌++◌, refl, ap}
 use Rattle.run_report.specs.Report.{report}
 use Rattle.run_report.specs.Text.{report_text}
 use Rattle.replay_top.specs.LogFiles.{log_files}

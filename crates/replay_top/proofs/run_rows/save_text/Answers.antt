@@ -29,8 +29,8 @@ returns-in_err-finish-clause-err g c =
     let held = g.K.Shelf.held c.args.shelf.now in
     let name = c.args.name.now in
     let whole : g.K.Shelf.held c.finish.new.self ≡ with_file held name c.args.text.now =
-        c.in_err-finish.ensures.files ∙ c.in_ok-append.ensures.ok ∙ ap (λ w. with_more w name c.as_bytes.result.now) c.in_ok-create.ensures.ok
-        ∙ with_more-with_file held name [] c.as_bytes.result.now ∙ ap (with_file held name) c.as_bytes.ensures.value in
+    c.in_err-finish.ensures.files ∙ c.in_ok-append.ensures.ok ∙ ap (λ w. with_more w name c.as_bytes.result.now) c.in_ok-create.ensures.ok
+    ∙ with_more-with_file held name [] c.as_bytes.result.now ∙ ap (with_file held name) c.as_bytes.ensures.value in
     rw p.1 (IsBegun-whole held (g.K.Shelf.held c.finish.new.self) name c.args.text.now whole)
 
 pub returns-clause-ok : goal.returns-clause-ok

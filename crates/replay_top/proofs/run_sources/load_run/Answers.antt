@@ -1,9 +1,9 @@
-use Rattle.std.proofs.Common.{◌≡◌, ap, ◌∙◌, Some, None}
+use Rattle.std.proofs.Common.{◌≡◌, ap, ◌∙◌, Some}
 use Rattle.nd_base.specs.declared.plan.Plan.{Plan}
 use Rattle.graph_conf.specs.Loads.{limit_fault}
 use Rattle.replay_top.specs.Sources.{IsGraphRead, IsStackRead}
-use Rattle.replay_top.proofs.Asked.{fault_in, no_fault}
-use Rattle.replay_top.proofs.RunReading.{SourceStops-graph, SourceStops-stack, SourceStops-limit}
+use Rattle.replay_top.proofs.Asked.{fault_in}
+use Rattle.replay_top.proofs.RunReading.{SourceStops-graph, SourceStops-limit}
 use Rattle.replay_top.proofs.run_sources.load_run.Goals as goal
 
 pub returns-in-Err-clause-err : goal.returns-in-Err-clause-err
