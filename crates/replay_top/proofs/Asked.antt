@@ -25,6 +25,7 @@ use Rattle.replay_top.specs.Answers.{HasGraphRefusal, HasStackRefusal, PassesLim
 use Rattle.replay_top.specs.Command.{Command, Copy, Plain, Info}
 use Rattle.replay_top.specs.Copy.{copy_length}
 use Rattle.replay_top.specs.Limits.{IsGraphRefused, IsStackRefused, copy_limit, IsRunAsked, graph_or_status, graph_in, stack_or_status, stack_in, with_stack, load_status, run_status, IsAskedBy, IsAsked}
+use Rattle.replay_top.specs.Reads.{IsSized}
 use Rattle.replay_top.specs.Sources.{IsGraphRead, IsStackRead, most_graph_bytes, most_stack_bytes}
 use Rattle.replay_top.specs.Stages.{GraphStops, StackStops, graph_fault_status, fault_status}
 use Rattle.replay_top.specs.Works.{Source, limit_of, IsRead}
@@ -44,8 +45,8 @@ graph_in-read told name g source file is =
     rw (← told_bytes told name source.bytes file source.read is) (graph_in-short source.bytes source.short ∙ ap graph_or_status source.found)
 
 graph_refused : (told : Option Files) (name bytes : List ℕ) (fault : GraphFault) (answer : Status) → HasFile told name bytes → length bytes ≤ most_graph_bytes → graph_of_bytes bytes ≡ Err fault → graph_or_status (Err fault) ≡ Err answer → IsGraphRefused answer told name
-graph_refused told name bytes fault answer has short found is file told_file =
-    rw (← told_bytes told name bytes file has told_file) (graph_in-short bytes short ∙ ap graph_or_status found ∙ is)
+graph_refused told name bytes fault answer has short found is =
+    record { bytes = bytes; file = has; refused = graph_in-short bytes short ∙ ap graph_or_status found ∙ is }
 
 -- bytes that are no graph
 pub GraphStops-refused : (fault : GraphFault) (told : Option Files) (name bytes : List ℕ) (before now : ℕ) → HasFile told name bytes → length bytes ≤ most_graph_bytes → graphs.Refuses fault (graph_of_bytes bytes) → now ≡ before → GraphStops (graph_fault_status fault) told name before now
@@ -63,11 +64,11 @@ GraphStops-refused (rule.UnknownInput n) told name bytes before now has short fo
 GraphStops-refused (rule.Cycle n) told name bytes before now has short found same = ((λ e. cc), (λ e. cc), graph_refused told name bytes (rule.Cycle n) _ has short found refl, same)
 
 -- a graph's file that is too long
-pub long_graph : (told : Option Files) (name : List ℕ) (n : ℕ) → most_graph_bytes < n → ((file : List ℕ) → IsTold told name file → n ≡ length file) → IsGraphRefused (Limit (GraphBytes n)) told name
-long_graph told name n past size file told_file =
-    let is : n ≡ length file = size file told_file in
-    let long : nat_le (length file) most_graph_bytes ≡ false = grind (arith, nat_tests) in
-    rw long (ap (λ m. Err (Limit (GraphBytes m))) (sym is))
+pub long_graph : (told : Option Files) (name : List ℕ) (n : ℕ) → most_graph_bytes < n → IsSized told name n → IsGraphRefused (Limit (GraphBytes n)) told name
+long_graph told name n past sized =
+    let is : n ≡ length sized.bytes = sized.size in
+    let long : nat_le (length sized.bytes) most_graph_bytes ≡ false = grind (arith, nat_tests) in
+    record { bytes = sized.bytes; file = sized.file; refused = rw long (ap (λ m. Err (Limit (GraphBytes m))) (sym is)) }
 
 -- THE STACK
 
@@ -79,8 +80,8 @@ stack_in-read told name s source file is =
     rw (← told_bytes told name source.bytes file source.read is) (stack_in-short source.bytes source.short ∙ ap stack_or_status source.found)
 
 stack_refused : (told : Option Files) (name bytes : List ℕ) (fault : StackFault) → HasFile told name bytes → length bytes ≤ most_stack_bytes → stack_of bytes ≡ Err fault → IsStackRefused (StackBytes fault) told name
-stack_refused told name bytes fault has short found file told_file =
-    rw (← told_bytes told name bytes file has told_file) (stack_in-short bytes short ∙ ap stack_or_status found)
+stack_refused told name bytes fault has short found =
+    record { bytes = bytes; file = has; refused = stack_in-short bytes short ∙ ap stack_or_status found }
 
 -- bytes that are no stack
 pub StackStops-refused : (fault : StackFault) (told : Option Files) (name bytes : List ℕ) (before now : ℕ) → HasFile told name bytes → length bytes ≤ most_stack_bytes → stacks.Refuses fault (stack_of bytes) → now ≡ before → StackStops (fault_status fault) told name before now
@@ -95,11 +96,11 @@ StackStops-refused (refusal.FrameCount var) told name bytes before now has short
 StackStops-refused (refusal.AttrShape var) told name bytes before now has short found same = ((λ e. cc), stack_refused told name bytes (refusal.AttrShape var) has short found, same)
 
 -- a stack's file that is too long
-pub long_stack : (told : Option Files) (name : List ℕ) (n : ℕ) → most_stack_bytes < n → ((file : List ℕ) → IsTold told name file → n ≡ length file) → IsStackRefused (Limit (StackFile n)) told name
-long_stack told name n past size file told_file =
-    let is : n ≡ length file = size file told_file in
-    let long : nat_le (length file) most_stack_bytes ≡ false = grind (arith, nat_tests) in
-    rw long (ap (λ m. Err (Limit (StackFile m))) (sym is))
+pub long_stack : (told : Option Files) (name : List ℕ) (n : ℕ) → most_stack_bytes < n → IsSized told name n → IsStackRefused (Limit (StackFile n)) told name
+long_stack told name n past sized =
+    let is : n ≡ length sized.bytes = sized.size in
+    let long : nat_le (length sized.bytes) most_stack_bytes ≡ false = grind (arith, nat_tests) in
+    record { bytes = sized.bytes; file = sized.file; refused = rw long (ap (λ m. Err (Limit (StackFile m))) (sym is)) }
 
 -- THE COMMAND
 
@@ -110,17 +111,20 @@ by_stack asks next answer told name s same source is file told_file = is ∙ sym
 pub asked-graph : (answer : Status) (command : Command) (told : Option Files) → HasGraphRefusal told command answer → IsAsked answer command told
 asked-graph answer (Copy stack prefix) told refused = absurd refused
 asked-graph answer (Info stack) told refused = absurd refused
-asked-graph answer (Plain graph stack prefix) told refused = λ file is. rw (refused file is) refl
+asked-graph answer (Plain graph stack prefix) told refused = λ file is. rw (sym (ap graph_in (told_bytes told graph refused.bytes file refused.file is)) ∙ refused.refused) refl
+
+stack_is : (answer : Status) (told : Option Files) (name file : List ℕ) → IsStackRefused answer told name → IsTold told name file → stack_in file ≡ Err answer
+stack_is answer told name file refused is = sym (ap stack_in (told_bytes told name refused.bytes file refused.file is)) ∙ refused.refused
 
 by_graph : (answer : Status) (told : Option Files) (graph stack : List ℕ) (g : Graph) → IsGraphRead told graph g → IsAskedBy (run_status g) answer told stack → (text : List ℕ) → IsTold told graph text → IsRunAsked answer (graph_in text) told stack
 by_graph answer told graph stack g source asked text is = rw (graph_in-read told graph g source text is) asked
 
 -- the command's stack is refused
 pub asked-stack : (answer : Status) (command : Command) (told : Option Files) → HasStackRefusal told command answer → IsAsked answer command told
-asked-stack answer (Copy stack prefix) told refused = λ file is. sym (ap (with_stack (λ s. load_status (copy_limit s))) (refused.1 file is))
-asked-stack answer (Info stack) told refused = λ file is. sym (ap (with_stack (λ s. Done)) (refused.1 file is))
+asked-stack answer (Copy stack prefix) told refused = λ file is. sym (ap (with_stack (λ s. load_status (copy_limit s))) (stack_is answer told stack file refused.1 is))
+asked-stack answer (Info stack) told refused = λ file is. sym (ap (with_stack (λ s. Done)) (stack_is answer told stack file refused.1 is))
 asked-stack answer (Plain graph stack prefix) told refused =
-    by_graph answer told graph stack refused.0.0 refused.0.1 (λ file is. sym (ap (with_stack (λ s. load_status (limit_fault refused.0.0 s))) (refused.1 file is)))
+    by_graph answer told graph stack refused.0.0 refused.0.1 (λ file is. sym (ap (with_stack (λ s. load_status (limit_fault refused.0.0 s))) (stack_is answer told stack file refused.1 is)))
 
 -- the command's work passes a limit, or none
 pub asked-load : (answer : Status) (command : Command) (told : Option Files) (source : Source) → IsRead told command source → answer ≡ load_status (limit_of command source) → IsAsked answer command told

@@ -1,7 +1,10 @@
 -- What was read of a file, and what was written of a text.
 use Rattle.std.proofs.Common.{◌≡◌, ℕ, ◌+◌, ◌<◌, ◌≤◌, List, ◌++◌, length, ap, sym, ◌∙◌, take, drop, ◌-◌, arith, inl, inr, length-drop}
-use Rattle.std.proofs.lemmas.List.{length-take-le, take-append-le, take_all, take_at, length-append}
+use Rattle.std.proofs.lemmas.List.{length-take-le, take-append-le, take_all, take_at, length-append, length-replicate}
 use Rattle.std.proofs.lemmas.Bool.{cases_lt}
+use Rattle.std.specs.Prelude.{Option, None, Some, replicate}
+use Rattle.edge_traits.specs.Files.{Files, IsTold, Stands}
+use Rattle.replay_top.specs.Reads.{IsSized}
 use Rattle.std.proofs.Math.Seq.{take-append-add, take-add}
 
 -- the front of a list after a piece was put at place a
@@ -28,3 +31,8 @@ front_of new rest size at e = ap (take at) (take_at new rest size e)
 -- what a slice from a place on holds
 pub rest_of : (at : ℕ) (text : List ℕ) → take (length text - at) (drop at text) ≡ drop at text
 rest_of at text = take_all (length text - at) (drop at text) (omega (arith, length-drop at text))
+
+-- so many bytes are a file's where its size says so
+pub sized : (told : Option Files) (name : List ℕ) (n : ℕ) → Stands told name → ((file : List ℕ) → IsTold told name file → n ≡ length file) → IsSized told name n
+sized None name n stands size = record { bytes = replicate n 0; file = tt; size = sym (length-replicate n 0) }
+sized (Some files) name n stands size = record { bytes = stands.0; file = stands.1; size = size stands.0 stands.1 }

@@ -12,3 +12,10 @@ pub mod EachNode
 pub mod Asked
 pub mod Stops
 pub mod Claims
+pub mod MeasuredRows
+pub mod MeasureRows
+pub mod RunStops
+pub mod RunClaims
+pub mod RunReading
+pub mod SmoothFiles
+pub mod KeptStacks

@@ -62,7 +62,7 @@ Ends-stack OutFault command told held before now written given stops = absurd st
 
 -- writing the files
 pub Ends-save : (status : Status) (command : Command) (source : Source) (told held now : Option Files) (before after : ℕ) (written : Option (List ℕ)) → IsRead told command source → IsWithin command source → SaveStops status held (work_of command source).files now before after → Ends status (Some command) told held now written written
-Ends-save ShelfFault command source told held now before after written read within stops = (inr (record { source = source; read = read; within = within; begun = stops.0 }), refl)
+Ends-save ShelfFault command source told held now before after written read within stops = (record { source = source; read = read; within = within; begun = stops.0 }, refl)
 Ends-save OutOfMemory command source told held now before after written read within stops = (inr (record { source = source; read = read; within = within; begun = stops.0 }), refl)
 Ends-save Done command source told held now before after written read within stops = absurd stops
 Ends-save Usage command source told held now before after written read within stops = absurd stops

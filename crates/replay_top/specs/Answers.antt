@@ -103,6 +103,11 @@ abbrev pub IsSaveBegun : Option Command → (told held now : Option Files) → T
 IsSaveBegun None told held now = ⊥
 IsSaveBegun (Some command) told held now = (now ≡ held) ⊎ IsWorkBegun told command held now
 
+-- the shelf failed while the files were written
+abbrev pub IsSaveFailed : Option Command → (told held now : Option Files) → Type 0
+IsSaveFailed None told held now = ⊥
+IsSaveFailed (Some command) told held now = IsWorkBegun told command held now
+
 abbrev pub IsPrintCutShort : Option Command → (told held now : Option Files) → (before after : Option (List ℕ)) → Type 0
 IsPrintCutShort None told held now before after = ⊥
 IsPrintCutShort (Some command) told held now before after = IsWorkCutShort told command held now before after
@@ -116,7 +121,7 @@ Ends (GraphRule fault) command told held now before after = HasGraphFault comman
 Ends (StackBytes fault) command told held now before after = HasStackFault command told fault × (now ≡ held) × (after ≡ before)
 Ends (Limit fault) command told held now before after = HasLimitFault command told fault × (now ≡ held) × (after ≡ before)
 Ends ReadFault command told held now before after = (command ≢ None) × (now ≡ held) × (after ≡ before)
-Ends ShelfFault command told held now before after = IsSaveBegun command told held now × (after ≡ before)
+Ends ShelfFault command told held now before after = IsSaveFailed command told held now × (after ≡ before)
 Ends OutFault command told held now before after = IsPrintCutShort command told held now before after
 Ends OutOfMemory command told held now before after = IsSaveBegun command told held now × (after ≡ before)
 

@@ -2,7 +2,7 @@
 use Rattle.std.specs.Prelude.{◌≡◌, ℕ, nat_le, nat_lt, List, length, Option, None, Some, Result, Ok, Err, if◌then◌else◌}
 use Rattle.nd_base.specs.Array.{StackValue}
 use Rattle.nd_base.specs.declared.graph.Graph.{Graph}
-use Rattle.edge_traits.specs.Files.{Files, IsTold}
+use Rattle.edge_traits.specs.Files.{Files, IsTold, HasFile}
 use Rattle.cdf_write.specs.Lengths.{longest}
 use Rattle.nd_stack.specs.declared.fault.StackFault.{StackFault}
 use Rattle.nd_stack.specs.StackRules.{stack_of}
@@ -36,12 +36,16 @@ stack_or_status (Err fault) = Err (StackBytes fault)
 abbrev pub stack_in : List ℕ → Result StackValue Status
 stack_in file = if nat_le (length file) most_stack_bytes then stack_or_status (stack_of file) else Err (Limit (StackFile (length file)))
 
--- a file is refused so, where it is told
-abbrev pub IsGraphRefused : Status → Option Files → (name : List ℕ) → Type 0
-IsGraphRefused answer told name = (file : List ℕ) → IsTold told name file → graph_in file ≡ Err answer
+-- a file of these bytes, which are the file's where it is told, is refused so
+pub record IsGraphRefused (answer : Status) (told : Option Files) (name : List ℕ) : Type 0 where
+  pub bytes : List ℕ
+  pub file : HasFile told name bytes
+  pub refused : graph_in bytes ≡ Err answer
 
-abbrev pub IsStackRefused : Status → Option Files → (name : List ℕ) → Type 0
-IsStackRefused answer told name = (file : List ℕ) → IsTold told name file → stack_in file ≡ Err answer
+pub record IsStackRefused (answer : Status) (told : Option Files) (name : List ℕ) : Type 0 where
+  pub bytes : List ℕ
+  pub file : HasFile told name bytes
+  pub refused : stack_in bytes ≡ Err answer
 
 -- what the stack of a file asks for, or the status that refuses it
 abbrev pub with_stack : (StackValue → Status) → Result StackValue Status → Status

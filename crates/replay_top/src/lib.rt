@@ -2,7 +2,9 @@
 #![tactic(auto)]
 
 mod copy;
+mod exit;
 mod groups;
+mod histories;
 mod info;
 mod laws;
 mod nodes;
@@ -12,6 +14,10 @@ mod printing;
 mod prints;
 mod reading;
 mod rows;
+mod run;
+mod run_rows;
+mod run_sources;
+mod run_words;
 mod saving;
 mod sources;
 mod status;
@@ -20,7 +26,9 @@ mod tests;
 mod top;
 mod words;
 
+pub use exit::Exit;
 pub use graph_conf::LimitFault;
-pub use laws::copy_is_plain;
+pub use laws::{copy_is_plain, smooth_runs_are_plain_files};
+pub use run::run_top;
 pub use status::{Status, status_text};
 pub use top::tool_top;

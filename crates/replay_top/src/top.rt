@@ -4,7 +4,7 @@ ghost use Rattle.std.specs.Prelude.{◌≡◌, ◌↔◌, map, None, string_byte
 ghost use Rattle.nd_stack.specs.declared.fault.StackFault.{StackFault};
 ghost use Rattle.graph_conf.specs.declared.fault.GraphFault.{GraphFault};
 ghost use Rattle.graph_conf.specs.declared.load.LimitFault.{LimitFault};
-ghost use Rattle.replay_top.specs.Answers.{Ends, IsDone, HasNoText, HasGraphFault, HasStackFault, HasLimitFault, IsSaveBegun, IsPrintCutShort, IsRefused};
+ghost use Rattle.replay_top.specs.Answers.{Ends, IsDone, HasNoText, HasGraphFault, HasStackFault, HasLimitFault, IsSaveBegun, IsSaveFailed, IsPrintCutShort, IsRefused};
 ghost use Rattle.replay_top.specs.Causes.{IsCause};
 ghost use Rattle.replay_top.specs.Claims.{Completes};
 ghost use Rattle.replay_top.specs.Command.{command_of};
@@ -69,7 +69,7 @@ pub fn tool_top<L: Library, K: Shelf, T: Sink>(
     // What a status other than Done leaves.
     ensures untouched { IsRefused result → (K.held shelf.new ≡ K.held shelf.old) × (T.written out.new ≡ T.written out.old) }
     ensures shelf_fault { result ≡ Status.ShelfFault →
-        IsSaveBegun (command_of (map string_bytes words.now)) (L.holds library.old) (K.held shelf.old) (K.held shelf.new) × (T.written out.new ≡ T.written out.old) }
+        IsSaveFailed (command_of (map string_bytes words.now)) (L.holds library.old) (K.held shelf.old) (K.held shelf.new) × (T.written out.new ≡ T.written out.old) }
     ensures out_fault { result ≡ Status.OutFault →
         IsPrintCutShort (command_of (map string_bytes words.now)) (L.holds library.old) (K.held shelf.old) (K.held shelf.new) (T.written out.old) (T.written out.new) }
     ensures memory { result ≡ Status.OutOfMemory →

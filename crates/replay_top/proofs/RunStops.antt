@@ -1,0 +1,119 @@
+-- Where a stage of a run stopped, the run ends so.
+use Rattle.std.proofs.Common.{◌≡◌, ◌≢◌, ℕ, Bool, true, false, List, ◌++◌, Option, None, Some, refl, ap, sym, subst, ◌∙◌}
+use Rattle.std.proofs.lemmas.List.{append-nil}
+use Rattle.nd_base.specs.Array.{StackValue}
+use Rattle.nd_base.specs.declared.graph.Graph.{Graph}
+use Rattle.edge_traits.specs.Faults.{Rose}
+use Rattle.edge_traits.specs.Files.{Files}
+use Rattle.flow_journal.specs.Journal.{Journal}
+use Rattle.flow_journal.specs.Pasts.{Past}
+use Rattle.board_rules.specs.RunMeasures.{run_setting}
+use Rattle.run_laws.specs.Results.{IsFinishedRun}
+use Rattle.graph_files.specs.BegunLaws.{with_files-append}
+use Rattle.graph_files.specs.OutFiles.{OutFile, with_files}
+use Rattle.flow_saver.specs.ReadBack.{GroupsReadBack}
+use Rattle.flow_saver.specs.HistoryFiles.{HoldsFilesOf, HoldsGroupsOf, RowsComplete, rows_files}
+use Rattle.flow_saver.specs.Saver.{CountsSo}
+use Rattle.flow_run.specs.RunFiles.{HasSavedRun}
+use Rattle.flow_run.specs.Strangers.{AreOwnMoves}
+use Rattle.flow_run.specs.Ticks.{IsFedByTheClock}
+use Rattle.replay_top.specs.declared.status.Status.{Status}
+use Rattle.replay_top.specs.declared.status.Status.TheVariants.{Done, Usage, GraphText, GraphRule, StackBytes, Limit, ReadFault, ShelfFault, OutFault, OutOfMemory}
+use Rattle.replay_top.specs.RunAnswers.{Objects, IsLogOf, RunEnds, IsRunCause, run_print}
+use Rattle.replay_top.specs.RunCommand.{RunCommand}
+use Rattle.replay_top.specs.RunFiles.{later_files, HoldsFiles, HaveGroupsBack, AtGroups, AfterGroups}
+use Rattle.replay_top.specs.LogFiles.{log_files}
+use Rattle.replay_top.specs.RunSources.{IsSourceRead, SourceStops}
+use Rattle.replay_top.specs.RunStages.{RestEnds, RestCause}
+use Rattle.replay_top.specs.Works.{Source}
+
+-- READING
+
+-- what there is to run wasn't read
+pub RunEnds-unread : (status : Status) (c : RunCommand) (o : Objects) (before now : ℕ) → SourceStops status o.told c.graph c.stack before now → o.now ≡ o.held → o.out ≡ o.written → RunEnds status None (Some c) o
+RunEnds-unread GraphText c o before now stops held written = (refl, (stops.0 c.prefix, held, written))
+RunEnds-unread (GraphRule f) c o before now stops held written = (refl, (stops.0 c.prefix, held, written))
+RunEnds-unread (StackBytes f) c o before now stops held written = (refl, (stops.0 c.prefix, held, written))
+RunEnds-unread (Limit f) c o before now stops held written = (refl, (stops.0 c.prefix, held, written))
+RunEnds-unread ReadFault c o before now stops held written = (refl, ((λ e. cc), held, written))
+RunEnds-unread OutOfMemory c o before now stops held written = (refl, written)
+RunEnds-unread Done c o before now stops held written = absurd stops
+RunEnds-unread Usage c o before now stops held written = absurd stops
+RunEnds-unread ShelfFault c o before now stops held written = absurd stops
+RunEnds-unread OutFault c o before now stops held written = absurd stops
+
+-- AFTER THE RUN
+
+module _ (g : Graph) (stack : StackValue) (prefix : List ℕ) (P : Past) (held mid now : Option Files) where
+  abbrev rows : Option Files
+  rows = with_files mid (rows_files g stack prefix P)
+
+  holds-by : (logs : Bool) → HoldsFilesOf g stack prefix P held rows → now ≡ with_files mid (rows_files g stack prefix P ++ log_files logs prefix P)
+      → HoldsFiles logs (record { graph = g; stack = stack }) prefix P held now
+  holds-by false holds is =
+      let same : rows ≡ now = ap (with_files mid) (sym (append-nil (rows_files g stack prefix P))) ∙ sym is in
+      subst (λ (w : Option Files). HoldsFilesOf g stack prefix P held w) same holds
+  holds-by true holds is = (rows, holds, is ∙ with_files-append mid (rows_files g stack prefix P) (log_files true prefix P))
+
+module _ (complete : RowsComplete) (reads : GroupsReadBack) (c : RunCommand) (o : Objects) (g : Graph) (stack : StackValue) (log : Journal) (mid : Option Files)
+    (read : IsSourceRead o.told c.graph c.stack g stack) (run : IsFinishedRun (run_setting g stack) log.past) (roles : AreOwnMoves (run_setting g stack) log.past)
+    (ticks : IsFedByTheClock (run_setting g stack) log.past o.coming o.later) where
+  abbrev source : Source
+  source = record { graph = g; stack = stack }
+
+  is_log : IsLogOf o c source log.past
+  is_log = record { read = (read.graph, read.stack.source); within = read.within; run = run; roles = roles; ticks = ticks }
+
+  back : HaveGroupsBack source log.past
+  back v i n r at kind some = reads g stack log.past v i n r read.graph.sound read.stack.kept read.within run.legal at kind some
+
+  holds : HoldsGroupsOf g stack c.prefix log.past o.held mid → o.now ≡ with_files mid (later_files c source log.past) → HoldsFiles c.logs source c.prefix log.past o.held o.now
+  holds groups is = holds-by g stack c.prefix log.past o.held mid o.now c.logs (complete g stack c.prefix log.past o.held mid read.graph.sound groups) is
+
+  -- what was left to write and to print, where the log is kept
+  ends : (status : Status) (fault : Bool) → HasSavedRun g stack c.prefix log.past o.held fault mid → status ≢ OutOfMemory
+      → RestEnds status fault (later_files c source log.past) (run_print source log.past) mid o.now o.written o.out → RunEnds status (Some log) (Some c) o
+  ends Done true groups some rest = absurd (let no : true ≡ false = rest.0 in cc)
+  ends Done false groups some rest = record { source = source; log = is_log; files = holds groups rest.1; back = back; printed = rest.2 }
+  ends ShelfFault true groups some rest =
+      record { source = source; log = is_log; files = AtGroups (subst (λ (w : Option Files). HasSavedRun g stack c.prefix log.past o.held true w) (sym rest.0) groups); unprinted = rest.1 }
+  ends ShelfFault false groups some rest = record { source = source; log = is_log; files = AfterGroups mid groups rest.0; unprinted = rest.1 }
+  ends OutFault true groups some rest = absurd (let no : true ≡ false = rest.0 in cc)
+  ends OutFault false groups some rest = record { source = source; log = is_log; files = holds groups rest.1; back = back; printed = rest.2 }
+  ends OutOfMemory fault groups some rest = absurd (some refl)
+  ends Usage fault groups some rest = absurd rest
+  ends GraphText fault groups some rest = absurd rest
+  ends (GraphRule f) fault groups some rest = absurd rest
+  ends (StackBytes f) fault groups some rest = absurd rest
+  ends (Limit f) fault groups some rest = absurd rest
+  ends ReadFault fault groups some rest = absurd rest
+
+  -- the same by what the nodes measured and what the plan says
+  pub RunEnds-rest : (status : Status) (fault : Bool) (files : List OutFile) (print : List ℕ) → HasSavedRun g stack c.prefix log.past o.held fault mid → status ≢ OutOfMemory
+      → files ≡ later_files c source log.past → print ≡ run_print source log.past → RestEnds status fault files print mid o.now o.written o.out → RunEnds status (Some log) (Some c) o
+  RunEnds-rest status fault files print groups some same_files same_print rest =
+      ends status fault groups some
+      (subst (λ (fs : List OutFile). RestEnds status fault fs (run_print source log.past) mid o.now o.written o.out) same_files
+      (subst (λ (t : List ℕ). RestEnds status fault files t mid o.now o.written o.out) same_print rest))
+
+-- the counts
+rose : (before mid now : ℕ) → mid ≡ before → Rose mid now → Rose before now
+rose before mid now same up = subst (λ (n : ℕ). Rose n now) same up
+
+pub IsRunCause-rest : (status : Status) (fault : Bool) (files : List OutFile) (print : List ℕ) (held_mid held_now : Option Files) (written out : Option (List ℕ)) (library shelf mid shelf_now sink sink_now : ℕ)
+    → RestEnds status fault files print held_mid held_now written out → CountsSo fault shelf mid → RestCause status fault mid shelf_now sink sink_now
+    → IsRunCause status (record { library = library; shelf = shelf; sink = sink }) (record { library = library; shelf = shelf_now; sink = sink_now })
+IsRunCause-rest Done true files print held_mid held_now written out library shelf mid shelf_now sink sink_now rest counts cause = absurd (let no : true ≡ false = rest.0 in cc)
+IsRunCause-rest Done false files print held_mid held_now written out library shelf mid shelf_now sink sink_now rest counts cause =
+    ap (λ (n : ℕ). record { library = library; shelf = n; sink = sink_now }) (cause.0 ∙ counts) ∙ ap (λ (n : ℕ). record { library = library; shelf = shelf; sink = n }) cause.1
+IsRunCause-rest ShelfFault true files print held_mid held_now written out library shelf mid shelf_now sink sink_now rest counts cause = (refl, subst (λ (n : ℕ). Rose shelf n) (sym cause.0) counts, cause.1)
+IsRunCause-rest ShelfFault false files print held_mid held_now written out library shelf mid shelf_now sink sink_now rest counts cause = (refl, rose shelf mid shelf_now counts cause.0, cause.1)
+IsRunCause-rest OutFault true files print held_mid held_now written out library shelf mid shelf_now sink sink_now rest counts cause = absurd (let no : true ≡ false = rest.0 in cc)
+IsRunCause-rest OutFault false files print held_mid held_now written out library shelf mid shelf_now sink sink_now rest counts cause = (refl, cause.0 ∙ counts, cause.1)
+IsRunCause-rest OutOfMemory fault files print held_mid held_now written out library shelf mid shelf_now sink sink_now rest counts cause = (refl, cause)
+IsRunCause-rest Usage fault files print held_mid held_now written out library shelf mid shelf_now sink sink_now rest counts cause = absurd rest
+IsRunCause-rest GraphText fault files print held_mid held_now written out library shelf mid shelf_now sink sink_now rest counts cause = absurd rest
+IsRunCause-rest (GraphRule f) fault files print held_mid held_now written out library shelf mid shelf_now sink sink_now rest counts cause = absurd rest
+IsRunCause-rest (StackBytes f) fault files print held_mid held_now written out library shelf mid shelf_now sink sink_now rest counts cause = absurd rest
+IsRunCause-rest (Limit f) fault files print held_mid held_now written out library shelf mid shelf_now sink sink_now rest counts cause = absurd rest
+IsRunCause-rest ReadFault fault files print held_mid held_now written out library shelf mid shelf_now sink sink_now rest counts cause = absurd rest

@@ -1,0 +1,35 @@
+use Rattle.std.proofs.Common.{◌++◌, refl, ap}
+use Rattle.run_report.specs.Report.{report}
+use Rattle.run_report.specs.Text.{report_text}
+use Rattle.replay_top.specs.LogFiles.{log_files}
+use Rattle.replay_top.specs.RunWords.{run_told}
+use Rattle.replay_top.proofs.MeasuredRows.{measured-rows, length-measured}
+use Rattle.replay_top.proofs.RunStops.{RunEnds-unread, RunEnds-rest, IsRunCause-rest}
+use Rattle.replay_top.proofs.run.run_words.Goals as goal
+
+pub returns-in-Err-clause-ends : goal.returns-in-Err-clause-ends
+returns-in-Err-clause-ends g c =
+    rw (c.unfinished.ensures.status, c.unfinished.ensures.log) (RunEnds-unread c.in-Err.status (run_told c.args.words) _ _ _ c.in-Err.ensures.err refl refl)
+
+pub finish-requires-clause-measures : goal.finish-requires-clause-measures
+finish-requires-clause-measures g c =
+    length-measured c.in-Ok.loaded.0.graph c.in-Ok.loaded.1 c.in-Ok-run_plan.history.log.past c.in-Ok-run_plan.history.measures c.in-Ok-run_plan.ensures.measures
+
+pub returns : goal.returns
+returns g c =
+    let graph = c.in-Ok.loaded.0.graph in
+    let stack = c.in-Ok.loaded.1 in
+    let history = c.in-Ok-run_plan.history in
+    let P = history.log.past in
+    let h = c.in-Ok-run_plan.ensures in
+    let words = run_told c.args.words in
+    record {
+      ends =
+          RunEnds-rest c.rows_complete_the_files.ensures c.groups_read_back.ensures words _ graph stack history.log (g.K.Shelf.held c.run_plan.new.shelf)
+          c.in-Ok.ensures.read h.finished h.roles h.ticks c.finish.result history.fault _ _ h.files c.in_default-finish.not-OutOfMemory
+          (ap (λ fs. fs ++ log_files words.logs words.prefix P) (measured-rows graph stack words.prefix P history.measures h.measures))
+          (ap (λ p. report_text graph (report p P)) c.in-Ok.ensures.plan) c.finish.ensures.ends;
+      cause =
+          rw c.in-Ok.ensures.stays
+          (IsRunCause-rest c.finish.result history.fault _ _ _ _ _ _ _ _ (g.K.Shelf.faults c.run_plan.new.shelf) _ _ _ c.finish.ensures.ends h.fault c.finish.ensures.cause);
+    }

@@ -1,0 +1,218 @@
+//! `run GRAPH STACK PREFIX` and `run-log GRAPH STACK PREFIX`: runs a graph over a stack with its threads.
+
+ghost use Rattle.std.specs.Prelude.{◌≡◌, ◌↔◌, ◌++◌, map, length, None, Some, IsSome, IfOk, OnOk, IfErr, string_bytes};
+ghost use Rattle.edge_traits.specs.Written.{with_written};
+ghost use Rattle.nd_base.specs.GraphRules.{IsGraph};
+ghost use Rattle.nd_stack.specs.declared.fault.StackFault.{StackFault};
+ghost use Rattle.graph_conf.specs.declared.fault.GraphFault.{GraphFault};
+ghost use Rattle.graph_conf.specs.declared.load.LimitFault.{LimitFault};
+ghost use Rattle.run_report.specs.Report.{report};
+ghost use Rattle.run_report.specs.Text.{report_text};
+ghost use Rattle.graph_files.specs.OutFiles.{with_files};
+ghost use Rattle.replay_top.specs.Answers.{HasNoText, HasGraphFault, HasStackFault, HasLimitFault, IsRefused};
+ghost use Rattle.replay_top.specs.Claims.{Completes};
+ghost use Rattle.replay_top.specs.RunAnswers.{RunEnds, IsRunCause, OfLog, HasFinished, IsRunDone, IsRunTorn, IsRunCutShort};
+ghost use Rattle.replay_top.specs.MeasuredFiles.{measured_files};
+ghost use Rattle.replay_top.specs.RunCommand.{run_command_of, plain_run_of};
+ghost use Rattle.replay_top.specs.LogFiles.{log_files};
+ghost use Rattle.replay_top.specs.RunWords.{run_told};
+ghost use Rattle.replay_top.specs.RunStages.{RestEnds, RestCause};
+ghost use Rattle.replay_top.specs.Stages.{SaveStops, PrintStops};
+
+use crate::exit::{Exit, unfinished};
+use crate::histories::run_plan;
+use crate::printing::print;
+use crate::run_rows::save_later;
+use crate::run_sources::load_run;
+use crate::run_words::{RunWords, run_in};
+use crate::status::Status;
+use edge_traits::{Clock, Gate, Library, Shelf, Sink};
+use file_out::SaveFault;
+use flow_journal::Log;
+use flow_run::RunEnd;
+use flow_saver::{groups_read_back, rows_complete_the_files};
+use nd_base::{OutOfMemory, Plan};
+use run_report::{counters, report_text};
+use std::alloc::Global;
+use std::sync::Wait;
+use std::thread::Threads;
+
+/// Writes the rows of the statistics nodes, and the log's text where `logs` says so.
+fn save_rest<K: Shelf>(
+    alloc: Global,
+    shelf: &mut K,
+    prefix: &str,
+    plan: &Plan,
+    history: &RunEnd,
+    logs: bool,
+) -> Result<(), Status>
+    requires graph { IsGraph plan.now.graph }
+    requires measures { length history.now.measures ≡ length plan.now.graph.nodes }
+    ensures ok { OnOk result (K.held shelf.new ≡ with_files (K.held shelf.old)
+        (measured_files prefix.now plan.now.graph.nodes history.now.measures ++ log_files logs prefix.now history.now.log.past)) }
+    ensures stays { OnOk result (K.faults shelf.new ≡ K.faults shelf.old) }
+    ensures err { IfErr result (λ s. SaveStops s (K.held shelf.old)
+        (measured_files prefix.now plan.now.graph.nodes history.now.measures ++ log_files logs prefix.now history.now.log.past)
+        (K.held shelf.new) (K.faults shelf.old) (K.faults shelf.new)) }
+{
+    match save_later(
+        alloc,
+        shelf,
+        prefix,
+        &plan.graph,
+        &history.measures,
+        &history.log,
+        logs,
+    ) {
+        Ok(()) => Ok(()),
+        Err(SaveFault::Failed) => Err(Status::ShelfFault),
+        Err(SaveFault::OutOfMemory) => Err(Status::OutOfMemory),
+    }
+}
+
+/// The text of a log's report.
+fn report_of(alloc: Global, plan: &Plan, log: &Log) -> Result<String, OutOfMemory>
+    ensures { IfOk result (λ text. string_bytes text ≡ report_text plan.now.graph (report plan.now log.now.past)) }
+{
+    let counters = counters(alloc, plan, log)?;
+    report_text(alloc, &plan.graph, &counters)
+}
+
+/// Prints the report of a log.
+fn print_report<T: Sink>(alloc: Global, out: &mut T, plan: &Plan, log: &Log) -> Result<(), Status>
+    ensures ok { OnOk result (T.written out.new ≡ with_written (T.written out.old) (report_text plan.now.graph (report plan.now log.now.past))) }
+    ensures stays { OnOk result (T.faults out.new ≡ T.faults out.old) }
+    ensures err { IfErr result (λ s. PrintStops s (T.written out.old) (report_text plan.now.graph (report plan.now log.now.past)) (T.written out.new) (T.faults out.old) (T.faults out.new)) }
+{
+    match report_of(alloc, plan, log) {
+        Ok(text) => print(out, text.as_str()),
+        Err(_) => Err(Status::OutOfMemory),
+    }
+}
+
+/// Writes what there is to write once the groups stand, and prints the report. Where the shelf has failed it does neither.
+fn finish<K: Shelf, T: Sink>(
+    alloc: Global,
+    shelf: &mut K,
+    out: &mut T,
+    prefix: &str,
+    plan: &Plan,
+    history: &RunEnd,
+    logs: bool,
+) -> Status
+    requires graph { IsGraph plan.now.graph }
+    requires measures { length history.now.measures ≡ length plan.now.graph.nodes }
+    ensures ends { RestEnds result history.now.fault
+        (measured_files prefix.now plan.now.graph.nodes history.now.measures ++ log_files logs prefix.now history.now.log.past)
+        (report_text plan.now.graph (report plan.now history.now.log.past))
+        (K.held shelf.old) (K.held shelf.new) (T.written out.old) (T.written out.new) }
+    ensures cause { RestCause result history.now.fault (K.faults shelf.old) (K.faults shelf.new) (T.faults out.old) (T.faults out.new) }
+{
+    if history.fault {
+        return Status::ShelfFault;
+    }
+    if let Err(status) = save_rest(alloc, shelf, prefix, plan, history, logs) {
+        return status;
+    }
+    match print_report(alloc, out, plan, &history.log) {
+        Ok(()) => Status::Done,
+        Err(status) => status,
+    }
+}
+
+/// Runs what the words of a run ask for.
+fn run_words<
+    L: Library,
+    K: Shelf,
+    T: Sink,
+    C: Clock + Send,
+    G: Gate + Sync,
+    W: Threads + Wait + Sync,
+>(
+    rt: &W,
+    alloc: Global,
+    words: RunWords<'_>,
+    library: &mut L,
+    shelf: &mut K,
+    out: &mut T,
+    clock: &mut C,
+    gate: &G,
+) -> Exit
+    ensures ends { RunEnds result.status result.log (Some (run_told words.entry))
+        (record { told = L.holds library.old; coming = C.coming clock.old; later = C.coming clock.new; held = K.held shelf.old; now = K.held shelf.new; written = T.written out.old; out = T.written out.new }) }
+    ensures cause { IsRunCause result.status (record { library = L.faults library.old; shelf = K.faults shelf.old; sink = T.faults out.old })
+        (record { library = L.faults library.new; shelf = K.faults shelf.new; sink = T.faults out.new }) }
+{
+    let (plan, stack) = match load_run(alloc, library, words.graph, words.stack) {
+        Ok(loaded) => loaded,
+        Err(status) => return unfinished(status),
+    };
+    groups_read_back();
+    rows_complete_the_files();
+    let Ok(history) = run_plan(rt, alloc, &plan, &stack, words.prefix, shelf, clock, gate) else {
+        return unfinished(Status::OutOfMemory);
+    };
+    match finish(alloc, shelf, out, words.prefix, &plan, &history, words.logs) {
+        Status::OutOfMemory => unfinished(Status::OutOfMemory),
+        status => Exit {
+            status,
+            log: Some(history.log),
+        },
+    }
+}
+
+/// Runs a graph over a stack: feeds its frames, works on them in a thread for each thread of each node, writes the files of its nodes, and
+/// prints the report of its log. It waits for its threads.
+///
+/// The commands are `run GRAPH STACK PREFIX`, and `run-log` with the same words, which writes the log's text to `<PREFIX>log.txt`, last.
+pub fn run_top<
+    L: Library,
+    K: Shelf,
+    T: Sink,
+    C: Clock + Send,
+    G: Gate + Sync,
+    W: Threads + Wait + Sync,
+>(
+    rt: &W,
+    alloc: Global,
+    words: &[String],
+    library: &mut L,
+    shelf: &mut K,
+    out: &mut T,
+    clock: &mut C,
+    gate: &G,
+) -> Exit
+    // The log is there exactly where the run has finished, and is then a finished history of the graph and the stack that were read. With
+    // Done and OutFault the shelf holds its files, and the sink its report, or a proper front of it; with ShelfFault each file is as it was left.
+    ensures logged { HasFinished result.status ↔ IsSome result.log }
+    ensures done { result.status ≡ Status.Done → OfLog (IsRunDone
+        (record { told = L.holds library.old; coming = C.coming clock.old; later = C.coming clock.new; held = K.held shelf.old; now = K.held shelf.new; written = T.written out.old; out = T.written out.new }))
+        (run_command_of (map string_bytes words.now)) result.log }
+    ensures shelf_fault { result.status ≡ Status.ShelfFault → OfLog (IsRunTorn
+        (record { told = L.holds library.old; coming = C.coming clock.old; later = C.coming clock.new; held = K.held shelf.old; now = K.held shelf.new; written = T.written out.old; out = T.written out.new }))
+        (run_command_of (map string_bytes words.now)) result.log }
+    ensures out_fault { result.status ≡ Status.OutFault → OfLog (IsRunCutShort
+        (record { told = L.holds library.old; coming = C.coming clock.old; later = C.coming clock.new; held = K.held shelf.old; now = K.held shelf.new; written = T.written out.old; out = T.written out.new }))
+        (run_command_of (map string_bytes words.now)) result.log }
+
+    // Refusals: exactly where the words are no run; and else those of the plain run of the same words.
+    ensures usage { (result.status ≡ Status.Usage) ↔ (run_command_of (map string_bytes words.now) ≡ None) }
+    ensures no_text { result.status ≡ Status.GraphText → HasNoText (plain_run_of (run_command_of (map string_bytes words.now))) (L.holds library.old) }
+    ensures graph { (fault : GraphFault) → result.status ≡ Status.GraphRule fault → HasGraphFault (plain_run_of (run_command_of (map string_bytes words.now))) (L.holds library.old) fault }
+    ensures refused { (fault : StackFault) → result.status ≡ Status.StackBytes fault → HasStackFault (plain_run_of (run_command_of (map string_bytes words.now))) (L.holds library.old) fault }
+    ensures limit { (fault : LimitFault) → result.status ≡ Status.Limit fault → HasLimitFault (plain_run_of (run_command_of (map string_bytes words.now))) (L.holds library.old) fault }
+    ensures untouched { IsRefused result.status → (K.held shelf.new ≡ K.held shelf.old) × (T.written out.new ≡ T.written out.old) }
+    ensures memory { result.status ≡ Status.OutOfMemory → T.written out.new ≡ T.written out.old }
+
+    // Faults come only where their object's count rose; where none rose, the files that were read decide.
+    ensures cause { IsRunCause result.status (record { library = L.faults library.old; shelf = K.faults shelf.old; sink = T.faults out.old })
+        (record { library = L.faults library.new; shelf = K.faults shelf.new; sink = T.faults out.new }) }
+    ensures complete { Completes result.status (plain_run_of (run_command_of (map string_bytes words.now))) (L.holds library.old)
+        (record { library = L.faults library.old; shelf = K.faults shelf.old; sink = T.faults out.old })
+        (record { library = L.faults library.new; shelf = K.faults shelf.new; sink = T.faults out.new }) }
+{
+    match run_in(words) {
+        Some(words) => run_words(rt, alloc, words, library, shelf, out, clock, gate),
+        None => unfinished(Status::Usage),
+    }
+}

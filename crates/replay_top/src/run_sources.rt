@@ -1,0 +1,42 @@
+//! Reading what a run goes over.
+
+ghost use Rattle.std.specs.Prelude.{◌≡◌, OnOk, IfOk, IfErr};
+ghost use Rattle.chain_plain.specs.Plans.{plan_of};
+ghost use Rattle.replay_top.specs.RunSources.{IsSourceRead, SourceStops};
+
+use crate::sources::{load_graph, load_stack};
+use crate::status::Status;
+use chain_plain::plan;
+use edge_traits::Library;
+use graph_conf::check_load;
+use nd_base::{Plan, Stack};
+use std::alloc::Global;
+
+/// Reads a graph and a stack that the graph may go over.
+pub(crate) fn load_run<L: Library>(
+    alloc: Global,
+    library: &mut L,
+    graph: &str,
+    name: &str,
+) -> Result<(Plan, Stack), Status>
+    ensures read { IfOk result (λ r. IsSourceRead (L.holds library.old) graph.now name.now r.0.graph r.1) }
+    ensures plan { IfOk result (λ r. r.0 ≡ plan_of r.0.graph r.1) }
+    ensures stays { OnOk result (L.faults library.new ≡ L.faults library.old) }
+    ensures err { IfErr result (λ s. SourceStops s (L.holds library.old) graph.now name.now (L.faults library.old) (L.faults library.new)) }
+{
+    let graph = match load_graph(alloc, library, graph) {
+        Ok(graph) => graph,
+        Err(status) => return Err(status),
+    };
+    let stack = match load_stack(alloc, library, name) {
+        Ok(stack) => stack,
+        Err(status) => return Err(status),
+    };
+    let Ok(plan) = plan(alloc, graph, &stack) else {
+        return Err(Status::OutOfMemory);
+    };
+    match check_load(&plan.graph, &stack, &plan) {
+        Ok(()) => Ok((plan, stack)),
+        Err(fault) => Err(Status::Limit(fault)),
+    }
+}
