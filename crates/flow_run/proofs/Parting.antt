@@ -105,7 +105,7 @@ pub gathered : {F P B O X : Type 0} (f : RoleEnd F P B O → X) (x : Seat F P B 
 gathered {F} {P} {B} {O} {X} f x xs none first all empty one rest =
     rest ∙ (ap (λ (ys : List X). ys ++ map f (ends_of xs)) (one ∙ ap (λ (ys : List X). ys ++ map f (ends_of (x ∷ []))) (no-items none empty)) ∙ ends-cons f x xs)
 
-pub seats-length : {F P B O : Type 0} (r : ℕ) (nodes : List ℕ) (ps : List P) → length ps ≡ length nodes → length (seats_from {F = F} {P = P} {B = B} {O = O} r nodes ps) ≡ length nodes
-seats-length r [] ps many = refl
-seats-length r (v ∷ nodes) [] many = absurd (omega (arith, many))
-seats-length {F} {P} {B} {O} r (v ∷ nodes) (p ∷ ps) many = ap suc (seats-length {F = F} {P = P} {B = B} {O = O} (r + 1) nodes ps (omega (arith, many)))
+pub seats-length : (F P B O : Type 0) (r : ℕ) (nodes : List ℕ) (ps : List P) → length ps ≡ length nodes → length (seats_from {F = F} {P = P} {B = B} {O = O} r nodes ps) ≡ length nodes
+seats-length F P B O r [] ps many = refl
+seats-length F P B O r (v ∷ nodes) [] many = absurd (omega (arith, many))
+seats-length F P B O r (v ∷ nodes) (p ∷ ps) many = ap suc (seats-length F P B O (r + 1) nodes ps (omega (arith, many)))

@@ -205,3 +205,14 @@ pub ready-dealt : {O P : Type 0} (ours : P → Type 0) (knows : P → Pass) (nod
     → AreReady {O = O} ours knows 1 nodes (seats_from 1 nodes ps)
 ready-dealt {O} {P} ours knows nodes ps fresh =
     ready-from ours knows 1 nodes ps (λ k p at. let f = fresh k p at in let same_ : suc k ≡ 1 + k = omega arith in (f.0, subst (λ (r : ℕ). IsFresh r (knows p)) same_ f.1))
+
+-- WHAT WAS WRITTEN THROUGH A SLICE OF A LIST, ALL OF IT
+
+take-front : {X : Type 0} (xs ys : List X) → take (length xs) (xs ++ ys) ≡ xs
+take-front [] ys = refl
+take-front (x ∷ xs) ys = ap (λ (zs : List _). x ∷ zs) (take-front xs ys)
+
+pub in-slice : {X : Type 0} (xs given : List X) (n k : ℕ) (x : X) → n ≡ length xs → length given ≡ length xs → slice_get (take n (given ++ drop (length given) xs)) k ≡ Some x → slice_get given k ≡ Some x
+in-slice {X} xs given n k x many same at =
+    let whole : take n (given ++ drop (length given) xs) ≡ given = ap (λ (m : ℕ). take m (given ++ drop (length given) xs)) (many ∙ sym same) ∙ take-front given (drop (length given) xs) in
+    sym (ap (λ (ys : List X). slice_get ys k) whole) ∙ at

@@ -1,6 +1,6 @@
 -- From the ends of all roles to the board that comes back.
 use Rattle.std.proofs.Common.{◌≡◌, ℕ, zero, suc, ◌+◌, ◌<◌, ◌≤◌, Bool, true, false, List, [], ◌∷◌, ◌++◌, map, length, refl, sym, ap, ◌∙◌, subst, arith, Option, Some, None}
-use Rattle.std.specs.Prelude.{slice_get, All}
+use Rattle.std.specs.Prelude.{slice_get, All, IfOk, Result, Ok, Err}
 use Rattle.std.specs.List.{list_all}
 use Rattle.std.proofs.lemmas.List.{length-append, length-map}
 use Rattle.nd_base.specs.Array.{StackValue}
@@ -24,25 +24,25 @@ use Rattle.flow_saver.specs.Saver.{saver_logs, RoleLeaves}
 use Rattle.flow_saver.proofs.Handing.{saving-alone, unsaved-alone}
 use Rattle.flow_run.specs.declared.seats.Seat.{Seat}
 use Rattle.flow_run.specs.declared.seats.Seat.TheVariants.{Ready, Away, Back}
-use Rattle.flow_run.specs.Workers.{posts}
-use Rattle.flow_run.specs.Seats.{IsRoleEnd, ends_of, HasFed}
+use Rattle.flow_run.specs.Workers.{workers, posts}
+use Rattle.flow_run.specs.Seats.{IsRoleEnd, ends_of, IsBack, AreBack, HasFed}
 use Rattle.flow_run.specs.Joined.{IsJoined, IsFedUntil}
 use Rattle.flow_run.specs.SaverEnds.{IsSaverEnd}
 use Rattle.flow_run.specs.RunFiles.{SaverLeaves}
 use Rattle.flow_run.proofs.Workers.{posts-length}
-use Rattle.flow_run.proofs.Seating.{at-front, at-end, at-map, map-at, all-at, all-from, AreEnds}
+use Rattle.flow_run.proofs.Seating.{at-front, at-end, at-map, map-at, all-at, all-from, AreEnds, ends-from, all-back}
 
 module _ {O P : Type 0} (ours : P → Type 0) (knows : P → Pass) (s : Setting) (xs : List (Seat Sealed P (List ℕ) O)) (count : length xs ≡ length (posts s)) (e : AreEnds {O = O} ours knows s 0 (posts s) xs) (pass : P) where
-  abbrev ends : List (RoleEnd Sealed P (List ℕ) O)
+  abbrev pub ends : List (RoleEnd Sealed P (List ℕ) O)
   ends = ends_of xs
 
-  abbrev back : List P
+  abbrev pub back : List P
   back = map (λ (d : RoleEnd Sealed P (List ℕ) O). d.pass) ends ++ pass ∷ []
 
-  abbrev lefts : List (Left Sealed (List ℕ) O)
+  abbrev pub lefts : List (Left Sealed (List ℕ) O)
   lefts = map (λ (d : RoleEnd Sealed P (List ℕ) O). d.left) ends
 
-  abbrev passes : List Pass
+  abbrev pub passes : List Pass
   passes = map (λ (d : RoleEnd Sealed P (List ℕ) O). knows d.pass) ends
 
   many : length ends ≡ last_role s
@@ -113,7 +113,8 @@ module _ {O P : Type 0} (ours : P → Type 0) (knows : P → Pass) (s : Setting)
         one k v p left at i h =
             let same : i.0 ≡ h.0 = let is : Some i.0 ≡ Some h.0 = sym i.1 ∙ h.1 in cc in
             let left_is : i.0.left ≡ left = ap (λ (d : RoleEnd Sealed P (List ℕ) O). d.left) same ∙ h.2 in
-            let end = (e.each k v i.0 at i.1).1 in
+            let role : 0 + k ≡ k = omega arith in
+            let end = subst (λ (r : ℕ). IsRoleEnd s r v (knows i.0.pass) i.0.left i.0.want) role (e.each k v i.0 at i.1).1 in
             (
               subst (λ (q : Pass). HasMade b q) i.2 (made-at k i.0 i.1),
               (i.0.want, subst (λ (l : Left Sealed (List ℕ) O). IsRoleEnd s k v p l i.0.want) left_is (subst (λ (q : Pass). IsRoleEnd s k v q i.0.left i.0.want) i.2 end)),
@@ -126,6 +127,19 @@ module _ {O P : Type 0} (ours : P → Type 0) (knows : P → Pass) (s : Setting)
         let d = listed ends 0 low in
         let f = fed (Back d.0) (e.seats 0 d.0 d.1) in
         record { first = f.0; fresh = f.1; last = knows d.0.pass; made = made-at 0 d.0 d.1; feeds = f.2 }
+
+-- the ends of the feeder and the workers
+pub came-back : {O P : Type 0} (ours : P → Type 0) (knows : P → Pass) (s : Setting) (x : Seat Sealed P (List ℕ) O) (xs : List (Seat Sealed P (List ℕ) O)) → length xs ≡ length (workers s)
+    → IsBack {O = O} ours knows s 0 0 x → AreBack {O = O} ours knows s 1 (workers s) xs → AreEnds {O = O} ours knows s 0 (posts s) (x ∷ xs)
+came-back ours knows s x xs many feeder rest = ends-from ours knows s 0 (posts s) (x ∷ xs) (ap suc many) (all-back ours knows s x xs feeder rest)
+
+pub first-fed : {O P : Type 0} (knows : P → Pass) (s : Setting) (old now : Option Coming) (x : Seat Sealed P (List ℕ) O) (xs : List (Seat Sealed P (List ℕ) O)) → HasFed {O = O} knows s old now x
+    → (y : Seat Sealed P (List ℕ) O) → slice_get (x ∷ xs) 0 ≡ Some y → HasFed {O = O} knows s old now y
+first-fed {O} {P} knows s old now x xs fed y at = let same : x ≡ y = cc in subst (λ (z : Seat Sealed P (List ℕ) O). HasFed {O = O} knows s old now z) same fed
+
+pub if-ok : {X E : Type 0} (r : Result X E) (A B : X → Type 0) → ((x : X) → A x → B x) → IfOk r A → IfOk r B
+if-ok (Ok x) A B goes h = goes x h
+if-ok (Err e) A B goes h = h
 
 -- what the role that saves left
 pub leaves-from : (g : Graph) (stack : StackValue) (prefix : List ℕ) (before : Option Files) (p : Pass) (left : Option (DuePiece Sealed)) (xs : List NodeFile) (fault : Bool) (held : Option Files) (b : BoardState)

@@ -142,21 +142,22 @@ fn feed_and_work<
     gate: &G,
     clock: &mut C,
     feeder: &mut Seat<Frame<R>, TurnPass<Frame<R>, B>>,
-    workers: &mut Vec<Seat<Frame<R>, TurnPass<Frame<R>, B>>>,
+    workers: &mut [Seat<Frame<R>, TurnPass<Frame<R>, B>>],
 )
     requires plan { plan.now ≡ plan_of R.graph R.stack }
     requires graph { IsGraph R.graph }
     requires stack { stack.now ≡ R.stack }
     requires feeder { IsReady (λ p. IsPassOf desk.now.id p.inner) (λ p. known_by p.inner p.last) 0 0 feeder.old }
-    requires many { vec_len workers.old ≡ length (roles.workers (run_setting R.graph R.stack)) }
-    requires ready { AreReady (λ p. IsPassOf desk.now.id p.inner) (λ p. known_by p.inner p.last) 1 (roles.workers (run_setting R.graph R.stack)) workers.old.items }
+    requires many { length workers.old ≡ length (roles.workers (run_setting R.graph R.stack)) }
+    requires ready { AreReady (λ p. IsPassOf desk.now.id p.inner) (λ p. known_by p.inner p.last) 1 (roles.workers (run_setting R.graph R.stack)) workers.old }
     ensures fed { IsBack (λ p. IsPassOf desk.now.id p.inner) (λ p. known_by p.inner p.last) (run_setting R.graph R.stack) 0 0 feeder.new }
     ensures ticks { HasFed (λ p. known_by p.inner p.last) (run_setting R.graph R.stack) (C.coming clock.old) (C.coming clock.new) feeder.new }
-    ensures many { vec_len workers.new ≡ vec_len workers.old }
+    ensures many { length workers.new ≡ length workers.old }
     ensures back { AreBack (λ p. IsPassOf desk.now.id p.inner) (λ p. known_by p.inner p.last) (run_setting R.graph R.stack) 1
-        (roles.workers (run_setting R.graph R.stack)) workers.new.items }
+        (roles.workers (run_setting R.graph R.stack)) workers.new }
 {
-    let seats = workers.as_mut_slice();
+    // The borrow checker has no rule yet for a second closure over references of parameters alone, so the workers are those after none.
+    let (_, seats) = workers.split_at_mut(0);
     join_mut(
         rt,
         &mut ||
@@ -265,7 +266,7 @@ pub(crate) fn run_roles<
                 × (vec_len workers.exit.now ≡ vec_len workers.entry.now)
                 × AreBack (λ p. IsPassOf desk.entry.now.id p.inner) (λ p. known_by p.inner p.last) (run_setting R.graph R.stack) 1
                     (roles.workers (run_setting R.graph R.stack)) workers.exit.now.items }
-        { feed_and_work(rt, alloc, desk, plan, stack, gate, clock, feeder, workers) },
+        { feed_and_work(rt, alloc, desk, plan, stack, gate, clock, feeder, workers.as_mut_slice()) },
         &mut || -> SaveEnd<Frame<R>, TurnPass<Frame<R>, B>>
             requires { (role ≡ last_role (run_setting R.graph R.stack)) × IsGraph R.graph × (stack.now ≡ R.stack) × IsKeptStack R.stack
                 × SaverBegins (λ p. IsFreshOf desk.now.id role p.inner p.last) R.graph R.stack begins.now }

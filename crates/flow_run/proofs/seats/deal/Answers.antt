@@ -20,7 +20,7 @@ returns-clause-seats g c =
     let few : length c.remove.new.self.items ≡ vec_len c.remove.new.self = search rules in
     let all : length c.in_ok-worker_seats.field-0.items ≡ vec_len c.in_ok-worker_seats.field-0 = search rules in
     let rest : vec_len c.remove.new.self ≡ length c.args.nodes.now = omega (arith, c.requires.many.0, c.remove.ensures.len, c.pop.ensures.len, ap (λ o. length (option_to_list o)) c.unwrap-last.ensures) in
-    sym all ∙ (ap length c.in_ok-worker_seats.ensures ∙ seats-length 1 c.args.nodes.now c.remove.new.self.items (few ∙ rest))
+    sym all ∙ (ap length c.in_ok-worker_seats.ensures ∙ seats-length _ _ _ _ 1 c.args.nodes.now c.remove.new.self.items (few ∙ rest))
 
 pub returns-clause-workers : goal.returns-clause-workers
 returns-clause-workers g c =
