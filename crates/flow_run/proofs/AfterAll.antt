@@ -50,7 +50,7 @@ after-all-saves s tick (t ∷ added) b ours logs =
     let one = saves-alone s t.entry o.0 l.0 in
     let here : BoardState = added ++ b in
     AfterMoves.more here (t ∷ here) t 0 (after-all-saves s tick added b o.1 l.1) one.after (λ load. absurd (false≢true (sym one.no_load ∙ load)))
-      (sym (ap (λ (ds : List Entry). with_all s 0 3 ds (t ∷ here)) (one.none (past here))))
+    (sym (ap (λ (ds : List Entry). with_all s 0 3 ds (t ∷ here)) (one.none (past here))))
 
 pub after-saves : (s : Setting) (tick : ℕ) (old new : BoardState) → SavesOn s old new → AfterMoves s tick old new
 after-saves s tick old new h = subst (λ (b : BoardState). AfterMoves s tick old b) (sym h.whole) (after-all-saves s tick h.added old h.ours h.logs)
@@ -61,5 +61,5 @@ pub after-all : {F B O : Type 0} (name_of : F → FrameName) (s : Setting) (tick
 after-all {F} {B} {O} name_of s tick ends joined ready done ended few first drain rest =
     let mid : BoardState = taken_back {F = F} {B = B} {O = O} name_of s 0 ends ready in
     after-on s tick joined ready ended (after-saves s tick joined ready first)
-      (after-on s tick ready mid ended (after-back name_of s tick 0 ends ready (omega (arith, few)))
-        (after-on s tick mid done ended (after-drain s tick mid done drain) (after-saves s tick done ended rest)))
+    (after-on s tick ready mid ended (after-back name_of s tick 0 ends ready (omega (arith, few)))
+    (after-on s tick mid done ended (after-drain s tick mid done drain) (after-saves s tick done ended rest)))

@@ -82,7 +82,7 @@ module _ {O : Type 0} (g : Graph) (stack : StackValue) (joined ready : BoardStat
         → BeginsWith done ready → (IsDrained s (past ready) → done ≡ ready) → AreOwnMoves s (past ended)
     run-own sound prefix before xs fault held saving grown still =
         own-moves g stack sound tick joined ready done ended passes lefts saver j (rest-saves s joined ready first) saving.legal saving.drained (free-alone g stack prefix before ready xs fault held saving)
-          grown still (rest-saves s done ended rest) after
+        grown still (rest-saves s done ended rest) after
 
     pub run-ticks : (old mid new : Option Coming) → IsFedUntil s joined old mid → Ticks mid tick new → IsFedByTheClock s (past ended) old new
     run-ticks old mid new fed answered = record {

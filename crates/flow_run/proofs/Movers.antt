@@ -160,5 +160,5 @@ after-back name_of s tick r [] b few = AfterMoves.none b refl
 after-back {F} {B} {O} name_of s tick r (left ∷ ends) b few =
     let next : BoardState = taken {F = F} {B = B} {O = O} name_of s r left b in
     after-on s tick b next (taken_back {F = F} {B = B} {O = O} name_of s (suc r) ends next)
-      (after-taken name_of s tick r left b (omega (arith, few)))
-      (after-back name_of s tick (suc r) ends next (omega (arith, few)))
+    (after-taken name_of s tick r left b (omega (arith, few)))
+    (after-back name_of s tick (suc r) ends next (omega (arith, few)))

@@ -90,7 +90,7 @@ module _ {O : Type 0} (g : Graph) (stack : StackValue) (sound : IsGraph g) (tick
   settled-all none (suc v) here =
       let w = node-worker g stack (suc v) sound here in
       saves-any (settles (suc v)) s joined ready first
-        (worked-off s joined passes lefts saver j w.0 v w.1 (saves-none_before leaves s joined ready first (none-ready none)))
+      (worked-off s joined passes lefts saver j w.0 v w.1 (saves-none_before leaves s joined ready first (none-ready none)))
 
   pub drain-still : has_left_any (past ended) ≡ false → done ≡ ready
   drain-still none =

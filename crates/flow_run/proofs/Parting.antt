@@ -49,7 +49,7 @@ module _ {F P B O : Type 0} (seats rest : List (Seat F P B O)) (passes_then pass
       → IsParting seats rest passes_then passes lefts_then lefts → IsParting seats more passes_then passes_next lefts_then lefts_next
   parting-on x more passes_next lefts_next is p l h =
       subst (λ (ls : List (Left F B O)). IsParting seats more passes_then passes_next lefts_then ls) (sym l)
-        (subst (λ (ps : List P). IsParting seats more passes_then ps lefts_then (lefts ++ map (λ (e : RoleEnd F P B O). e.left) (ends_of (x ∷ [])))) (sym p) (parting-next x more is h))
+      (subst (λ (ps : List P). IsParting seats more passes_then ps lefts_then (lefts ++ map (λ (e : RoleEnd F P B O). e.left) (ends_of (x ∷ [])))) (sym p) (parting-next x more is h))
 
   pub parting-passes : rest ≡ [] → IsParting seats rest passes_then passes lefts_then lefts → passes ≡ passes_then ++ map (λ (e : RoleEnd F P B O). e.pass) (ends_of seats)
   parting-passes none h = sym (append-nil passes) ∙ (sym (ap (λ (xs : List (Seat F P B O)). passes ++ map (λ (e : RoleEnd F P B O). e.pass) (ends_of xs)) none) ∙ h.passes_are)

@@ -69,7 +69,7 @@ module _ {O P : Type 0} (ours : P → Type 0) (knows : P → Pass) where
   ready-from r (w ∷ posts) (p ∷ ps) fresh (suc k) v x at is =
       let step : (j : ℕ) → r + suc j ≡ (r + 1) + j = λ j. omega arith in
       subst (λ (q : ℕ). IsReady ours knows q v x) (sym (step k))
-        (ready-from (r + 1) posts ps (λ j q here. let f = fresh (suc j) q here in (f.0, subst (λ (i : ℕ). IsFresh i (knows q)) (step j) f.1)) k v x at is)
+      (ready-from (r + 1) posts ps (λ j q here. let f = fresh (suc j) q here in (f.0, subst (λ (i : ℕ). IsFresh i (knows q)) (step j) f.1)) k v x at is)
 
   -- AFTERWARDS
 
@@ -170,7 +170,7 @@ all-back {O} {P} ours knows s x xs feeder rest zero v y is at =
     let node : 0 ≡ v = cc in
     let role : 0 ≡ 0 + 0 = omega arith in
     subst (λ (z : Seat Sealed P (List ℕ) O). IsBack {O = O} ours knows s (0 + 0) v z) same
-      (subst (λ (u : ℕ). IsBack {O = O} ours knows s (0 + 0) u x) node (subst (λ (q : ℕ). IsBack {O = O} ours knows s q 0 x) role feeder))
+    (subst (λ (u : ℕ). IsBack {O = O} ours knows s (0 + 0) u x) node (subst (λ (q : ℕ). IsBack {O = O} ours knows s q 0 x) role feeder))
 all-back {O} {P} ours knows s x xs feeder rest (suc k) v y is at =
     let role : 1 + k ≡ 0 + suc k = omega arith in
     subst (λ (q : ℕ). IsBack {O = O} ours knows s q v y) role (rest k v y is at)

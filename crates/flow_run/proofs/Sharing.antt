@@ -86,7 +86,7 @@ module _ {O P : Type 0} (ours : P → Type 0) (knows : P → Pass) (s : Setting)
     pub made-at : (k : ℕ) (d : RoleEnd Sealed P (List ℕ) O) → slice_get ends k ≡ Some d → HasMade b (knows d.pass)
     made-at k d at =
         all-at (λ p. HasMade b (knows p)) back k d.pass made
-          (at-front (map (λ (c : RoleEnd Sealed P (List ℕ) O). c.pass) ends) (pass ∷ []) k d.pass (map-at (λ (c : RoleEnd Sealed P (List ℕ) O). c.pass) ends k d at))
+        (at-front (map (λ (c : RoleEnd Sealed P (List ℕ) O). c.pass) ends) (pass ∷ []) k d.pass (map-at (λ (c : RoleEnd Sealed P (List ℕ) O). c.pass) ends k d at))
 
     pub made-last : HasMade b (knows pass)
     made-last =
@@ -114,8 +114,7 @@ module _ {O P : Type 0} (ours : P → Type 0) (knows : P → Pass) (s : Setting)
             let same : i.0 ≡ h.0 = let is : Some i.0 ≡ Some h.0 = sym i.1 ∙ h.1 in cc in
             let left_is : i.0.left ≡ left = ap (λ (d : RoleEnd Sealed P (List ℕ) O). d.left) same ∙ h.2 in
             let role : 0 + k ≡ k = omega arith in
-            let end = subst (λ (r : ℕ). IsRoleEnd s r v (knows i.0.pass) i.0.left i.0.want) role (e.each k v i.0 at i.1).1 in
-            (
+            let end = subst (λ (r : ℕ). IsRoleEnd s r v (knows i.0.pass) i.0.left i.0.want) role (e.each k v i.0 at i.1).1 in (
               subst (λ (q : Pass). HasMade b q) i.2 (made-at k i.0 i.1),
               (i.0.want, subst (λ (l : Left Sealed (List ℕ) O). IsRoleEnd s k v p l i.0.want) left_is (subst (λ (q : Pass). IsRoleEnd s k v q i.0.left i.0.want) i.2 end)),
             )

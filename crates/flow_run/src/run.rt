@@ -114,10 +114,14 @@ fn finish_run<R: Run, B: BoardCalls<Frame<R>>, K: Shelf, C: Clock>(
     let mut board = board;
     let mut files = files;
     let mut fault = fault;
-    save_unsaved::<R, B, K>(alloc, &mut board, role, shelf, stack, &mut files, &mut fault, left)?;
+    save_unsaved::<R, B, K>(
+        alloc, &mut board, role, shelf, stack, &mut files, &mut fault, left,
+    )?;
     let tick = clock.tick();
     drain(alloc, &mut board, lefts, plan, stack, tick)?;
-    save_rest::<R, B, K>(alloc, &mut board, role, shelf, stack, &mut files, &mut fault)?;
+    save_rest::<R, B, K>(
+        alloc, &mut board, role, shelf, stack, &mut files, &mut fault,
+    )?;
     let fault = end_files::<R, B, K>(&board, shelf, files, fault).is_err();
     let (log, measures) = board.into_parts();
     Ok(RunEnd {

@@ -126,6 +126,35 @@ fn work_all<
     for_each_mut(rt, seats, count, &work);
 }
 
+/// The workers are taken out, and given back once all have ended.
+fn work_taken<
+    R: Run + Send + Sync,
+    B: BoardCalls<Frame<R>> + Send,
+    G: Gate + Sync,
+    T: Threads + Wait + Sync,
+>(
+    rt: &T,
+    alloc: Global,
+    desk: &TurnLock<Played<Frame<R>, B>>,
+    plan: &Plan,
+    stack: &Stack,
+    gate: &G,
+    workers: &mut Vec<Seat<Frame<R>, TurnPass<Frame<R>, B>>>,
+) -> Vec<Seat<Frame<R>, TurnPass<Frame<R>, B>>>
+    requires plan { plan.now ≡ plan_of R.graph R.stack }
+    requires graph { IsGraph R.graph }
+    requires stack { stack.now ≡ R.stack }
+    requires many { vec_len workers.old ≡ length (roles.workers (run_setting R.graph R.stack)) }
+    requires ready { AreReady (λ p. IsPassOf desk.now.id p.inner) (λ p. known_by p.inner p.last) 1 (roles.workers (run_setting R.graph R.stack)) workers.old.items }
+    ensures many { vec_len result ≡ vec_len workers.old }
+    ensures back { AreBack (λ p. IsPassOf desk.now.id p.inner) (λ p. known_by p.inner p.last) (run_setting R.graph R.stack) 1
+        (roles.workers (run_setting R.graph R.stack)) result.items }
+{
+    let mut seats = mem::replace(workers, Vec::new(alloc));
+    work_all(rt, alloc, desk, plan, stack, gate, seats.as_mut_slice());
+    seats
+}
+
 /// The feeder and all workers, each in a thread of its own.
 fn feed_and_work<
     R: Run + Send + Sync,
@@ -142,39 +171,40 @@ fn feed_and_work<
     gate: &G,
     clock: &mut C,
     feeder: &mut Seat<Frame<R>, TurnPass<Frame<R>, B>>,
-    workers: &mut [Seat<Frame<R>, TurnPass<Frame<R>, B>>],
+    workers: &mut Vec<Seat<Frame<R>, TurnPass<Frame<R>, B>>>,
 )
     requires plan { plan.now ≡ plan_of R.graph R.stack }
     requires graph { IsGraph R.graph }
     requires stack { stack.now ≡ R.stack }
     requires feeder { IsReady (λ p. IsPassOf desk.now.id p.inner) (λ p. known_by p.inner p.last) 0 0 feeder.old }
-    requires many { length workers.old ≡ length (roles.workers (run_setting R.graph R.stack)) }
-    requires ready { AreReady (λ p. IsPassOf desk.now.id p.inner) (λ p. known_by p.inner p.last) 1 (roles.workers (run_setting R.graph R.stack)) workers.old }
+    requires many { vec_len workers.old ≡ length (roles.workers (run_setting R.graph R.stack)) }
+    requires ready { AreReady (λ p. IsPassOf desk.now.id p.inner) (λ p. known_by p.inner p.last) 1 (roles.workers (run_setting R.graph R.stack)) workers.old.items }
     ensures fed { IsBack (λ p. IsPassOf desk.now.id p.inner) (λ p. known_by p.inner p.last) (run_setting R.graph R.stack) 0 0 feeder.new }
     ensures ticks { HasFed (λ p. known_by p.inner p.last) (run_setting R.graph R.stack) (C.coming clock.old) (C.coming clock.new) feeder.new }
-    ensures many { length workers.new ≡ length workers.old }
+    ensures many { vec_len workers.new ≡ vec_len workers.old }
     ensures back { AreBack (λ p. IsPassOf desk.now.id p.inner) (λ p. known_by p.inner p.last) (run_setting R.graph R.stack) 1
-        (roles.workers (run_setting R.graph R.stack)) workers.new }
+        (roles.workers (run_setting R.graph R.stack)) workers.new.items }
 {
-    // The borrow checker has no rule yet for a second closure over references of parameters alone, so the workers are those after none.
-    let (_, seats) = workers.split_at_mut(0);
-    join_mut(
+    let seats = lend_on(workers);
+    let (_, back) = join_mut(
         rt,
         &mut ||
             requires { (stack.now ≡ R.stack) × IsReady (λ p. IsPassOf desk.now.id p.inner) (λ p. known_by p.inner p.last) 0 0 feeder.now }
             ensures { IsBack (λ p. IsPassOf desk.entry.now.id p.inner) (λ p. known_by p.inner p.last) (run_setting R.graph R.stack) 0 0 feeder.exit.now
                 × HasFed (λ p. known_by p.inner p.last) (run_setting R.graph R.stack) (C.coming clock.entry.now) (C.coming clock.exit.now) feeder.exit.now }
         { feed_at(rt, alloc, desk, stack, gate, clock, feeder) },
-        &mut ||
+        &mut || -> Vec<Seat<Frame<R>, TurnPass<Frame<R>, B>>>
             requires { (plan.now ≡ plan_of R.graph R.stack) × IsGraph R.graph × (stack.now ≡ R.stack)
-                × (length seats.now ≡ length (roles.workers (run_setting R.graph R.stack)))
-                × AreReady (λ p. IsPassOf desk.now.id p.inner) (λ p. known_by p.inner p.last) 1 (roles.workers (run_setting R.graph R.stack)) seats.now }
-            ensures { (length seats.exit.now ≡ length seats.entry.now)
+                × (vec_len seats.now ≡ length (roles.workers (run_setting R.graph R.stack)))
+                × AreReady (λ p. IsPassOf desk.now.id p.inner) (λ p. known_by p.inner p.last) 1 (roles.workers (run_setting R.graph R.stack)) seats.now.items }
+            ensures { (vec_len result ≡ vec_len seats.entry.now)
                 × AreBack (λ p. IsPassOf desk.entry.now.id p.inner) (λ p. known_by p.inner p.last) (run_setting R.graph R.stack) 1
-                    (roles.workers (run_setting R.graph R.stack)) seats.exit.now }
-        { work_all(rt, alloc, desk, plan, stack, gate, seats) },
+                (roles.workers (run_setting R.graph R.stack)) result.items }
+        { work_taken(rt, alloc, desk, plan, stack, gate, seats) },
     );
+    *workers = back;
 }
+
 /// The role that saves, with what it begins with.
 fn save_at<R: Run, B: BoardCalls<Frame<R>>, K: Shelf, N: Watch, G: Gate, W: Wait>(
     rt: &W,
@@ -265,13 +295,13 @@ pub(crate) fn run_roles<
                 × HasFed (λ p. known_by p.inner p.last) (run_setting R.graph R.stack) (C.coming clock.entry.now) (C.coming clock.exit.now) feeder.exit.now
                 × (vec_len workers.exit.now ≡ vec_len workers.entry.now)
                 × AreBack (λ p. IsPassOf desk.entry.now.id p.inner) (λ p. known_by p.inner p.last) (run_setting R.graph R.stack) 1
-                    (roles.workers (run_setting R.graph R.stack)) workers.exit.now.items }
-        { feed_and_work(rt, alloc, desk, plan, stack, gate, clock, feeder, workers.as_mut_slice()) },
+                (roles.workers (run_setting R.graph R.stack)) workers.exit.now.items }
+        { feed_and_work(rt, alloc, desk, plan, stack, gate, clock, feeder, workers) },
         &mut || -> SaveEnd<Frame<R>, TurnPass<Frame<R>, B>>
             requires { (role ≡ last_role (run_setting R.graph R.stack)) × IsGraph R.graph × (stack.now ≡ R.stack) × IsKeptStack R.stack
                 × SaverBegins (λ p. IsFreshOf desk.now.id role p.inner p.last) R.graph R.stack begins.now }
             ensures { SaverEnds (λ p. IsPassOf desk.entry.now.id p.inner) (λ p. known_by p.inner p.last) R.graph R.stack (K.held shelf.entry.now) begins.entry.now
-                    result.pass result.left result.files result.fault (K.held shelf.exit.now)
+                result.pass result.left result.files result.fault (K.held shelf.exit.now)
                 × CountsSo result.fault (K.faults shelf.entry.now) (K.faults shelf.exit.now) }
         { save_at(rt, alloc, desk, role, stack, gate, watch, shelf, begins) },
     );

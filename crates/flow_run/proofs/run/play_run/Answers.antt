@@ -63,7 +63,7 @@ take_back-board-requires-clause-ours g c =
     let many = few ∙ (e.many ∙ n) in
     let came = came-back (λ p. IsPassOf c.in_ok-desk.desk.id p.inner) (λ p. known_by p.inner p.last) s c.run_roles-pass.new.feeder c.run_roles-pass.new.workers.items many e.fed e.back in
     subst (λ ps. All (λ p. IsPassOf c.in_ok-desk.desk.id p.inner) ps) (sym c.gather-passes.ensures.passes)
-      (back-ours (λ p. IsPassOf c.in_ok-desk.desk.id p.inner) (λ p. known_by p.inner p.last) s (c.run_roles-pass.new.feeder ∷ c.run_roles-pass.new.workers.items) (ap suc many) came c.run_roles-pass.result.pass e.end.0)
+    (back-ours (λ p. IsPassOf c.in_ok-desk.desk.id p.inner) (λ p. known_by p.inner p.last) s (c.run_roles-pass.new.feeder ∷ c.run_roles-pass.new.workers.items) (ap suc many) came c.run_roles-pass.result.pass e.end.0)
 
 pub take_back-board-requires-clause-all : goal.take_back-board-requires-clause-all
 take_back-board-requires-clause-all g c =
@@ -105,14 +105,13 @@ finish_run-requires-clause-joined g c =
     let came = came-back (λ p. IsPassOf c.in_ok-desk.desk.id p.inner) (λ p. known_by p.inner p.last) s c.run_roles-pass.new.feeder c.run_roles-pass.new.workers.items many e.fed e.back in
     let board = g.B.BoardCalls.shown c.take_back-board.result in
     let made = subst (λ ps. All (λ p. HasMade board (known_by p.inner p.last)) ps) c.gather-passes.ensures.passes c.take_back-board.ensures.moves in
-    let all : length c.in_ok-nodes.nodes.items ≡ vec_len c.in_ok-nodes.nodes = search rules in
-    (
+    let all : length c.in_ok-nodes.nodes.items ≡ vec_len c.in_ok-nodes.nodes = search rules in (
       passes (λ p. IsPassOf c.in_ok-desk.desk.id p.inner) (λ p. known_by p.inner p.last) s (c.run_roles-pass.new.feeder ∷ c.run_roles-pass.new.workers.items) (ap suc many) came c.run_roles-pass.result.pass,
       (
         known_by c.run_roles-pass.result.pass.inner c.run_roles-pass.result.pass.last,
         subst (λ ls. IsJoined s board (passes (λ p. IsPassOf c.in_ok-desk.desk.id p.inner) (λ p. known_by p.inner p.last) s (c.run_roles-pass.new.feeder ∷ c.run_roles-pass.new.workers.items) (ap suc many) came c.run_roles-pass.result.pass) ls
             (known_by c.run_roles-pass.result.pass.inner c.run_roles-pass.result.pass.last)) (sym c.gather-passes.ensures.lefts)
-          (joined-from (λ p. IsPassOf c.in_ok-desk.desk.id p.inner) (λ p. known_by p.inner p.last) s (c.run_roles-pass.new.feeder ∷ c.run_roles-pass.new.workers.items) (ap suc many) came c.run_roles-pass.result.pass board made
+            (joined-from (λ p. IsPassOf c.in_ok-desk.desk.id p.inner) (λ p. known_by p.inner p.last) s (c.run_roles-pass.new.feeder ∷ c.run_roles-pass.new.workers.items) (ap suc many) came c.run_roles-pass.result.pass board made
             c.take_back-board.ensures.legal c.take_back-board.ensures.drained
             (λ r high. c.take_back-board.ensures.others r (omega (arith, high, c.in_ok-desk.ensures.seats.0, c.len.ensures, all, ap length c.in_ok-nodes.ensures, workers-many s)))
             e.end.1.role e.end.1.moves),
@@ -133,13 +132,12 @@ finish_run-requires-clause-left g c =
     let came = came-back (λ p. IsPassOf c.in_ok-desk.desk.id p.inner) (λ p. known_by p.inner p.last) s c.run_roles-pass.new.feeder c.run_roles-pass.new.workers.items many e.fed e.back in
     let board = g.B.BoardCalls.shown c.take_back-board.result in
     let made = subst (λ ps. All (λ p. HasMade board (known_by p.inner p.last)) ps) c.gather-passes.ensures.passes c.take_back-board.ensures.moves in
-    let last = made-last (λ p. IsPassOf c.in_ok-desk.desk.id p.inner) (λ p. known_by p.inner p.last) s (c.run_roles-pass.new.feeder ∷ c.run_roles-pass.new.workers.items) (ap suc many) came c.run_roles-pass.result.pass board made in
-    (
+    let last = made-last (λ p. IsPassOf c.in_ok-desk.desk.id p.inner) (λ p. known_by p.inner p.last) s (c.run_roles-pass.new.feeder ∷ c.run_roles-pass.new.workers.items) (ap suc many) came c.run_roles-pass.result.pass board made in (
       c.requires.files.0,
       (
         g.K.Shelf.held c.args.shelf.now,
         leaves-from g.R.Run.graph g.R.Run.stack c.requires.files.0 (g.K.Shelf.held c.args.shelf.now) (known_by c.run_roles-pass.result.pass.inner c.run_roles-pass.result.pass.last) c.run_roles-pass.result.left
-          c.run_roles-pass.result.files c.run_roles-pass.result.fault (g.K.Shelf.held c.run_roles-pass.new.shelf) board last c.take_back-board.ensures.legal c.take_back-board.ensures.drained (e.end.1.leaves c.requires.files.0 c.requires.files.1),
+            c.run_roles-pass.result.files c.run_roles-pass.result.fault (g.K.Shelf.held c.run_roles-pass.new.shelf) board last c.take_back-board.ensures.legal c.take_back-board.ensures.drained (e.end.1.leaves c.requires.files.0 c.requires.files.1),
       ),
     )
 
@@ -159,10 +157,10 @@ returns-clause-files g c =
     let made = subst (λ ps. All (λ p. HasMade board (known_by p.inner p.last)) ps) c.gather-passes.ensures.passes c.take_back-board.ensures.moves in
     let last = made-last (λ p. IsPassOf c.in_ok-desk.desk.id p.inner) (λ p. known_by p.inner p.last) s (c.run_roles-pass.new.feeder ∷ c.run_roles-pass.new.workers.items) (ap suc many) came c.run_roles-pass.result.pass board made in
     if-ok c.finish_run.result _ _
-      (λ end h prefix is. h prefix (g.K.Shelf.held c.args.shelf.now)
-        (leaves-from g.R.Run.graph g.R.Run.stack prefix (g.K.Shelf.held c.args.shelf.now) (known_by c.run_roles-pass.result.pass.inner c.run_roles-pass.result.pass.last) c.run_roles-pass.result.left
-          c.run_roles-pass.result.files c.run_roles-pass.result.fault (g.K.Shelf.held c.run_roles-pass.new.shelf) board last c.take_back-board.ensures.legal c.take_back-board.ensures.drained (e.end.1.leaves prefix is)))
-      c.finish_run.ensures.files
+    (λ end h prefix is. h prefix (g.K.Shelf.held c.args.shelf.now)
+    (leaves-from g.R.Run.graph g.R.Run.stack prefix (g.K.Shelf.held c.args.shelf.now) (known_by c.run_roles-pass.result.pass.inner c.run_roles-pass.result.pass.last) c.run_roles-pass.result.left
+    c.run_roles-pass.result.files c.run_roles-pass.result.fault (g.K.Shelf.held c.run_roles-pass.new.shelf) board last c.take_back-board.ensures.legal c.take_back-board.ensures.drained (e.end.1.leaves prefix is)))
+    c.finish_run.ensures.files
 
 pub returns-clause-ticks : goal.returns-clause-ticks
 returns-clause-ticks g c =
@@ -181,6 +179,6 @@ returns-clause-ticks g c =
     let old = g.C.Clock.coming c.args.clock.now in
     let now = g.C.Clock.coming c.run_roles-pass.new.clock in
     if-ok c.finish_run.result _ _
-      (λ end h. h old (fed-from (λ p. IsPassOf c.in_ok-desk.desk.id p.inner) (λ p. known_by p.inner p.last) s (c.run_roles-pass.new.feeder ∷ c.run_roles-pass.new.workers.items) (ap suc many) came c.run_roles-pass.result.pass board made old now
-        (first-fed (λ p. known_by p.inner p.last) s old now c.run_roles-pass.new.feeder c.run_roles-pass.new.workers.items e.ticks)))
-      c.finish_run.ensures.ticks
+    (λ end h. h old (fed-from (λ p. IsPassOf c.in_ok-desk.desk.id p.inner) (λ p. known_by p.inner p.last) s (c.run_roles-pass.new.feeder ∷ c.run_roles-pass.new.workers.items) (ap suc many) came c.run_roles-pass.result.pass board made old now
+    (first-fed (λ p. known_by p.inner p.last) s old now c.run_roles-pass.new.feeder c.run_roles-pass.new.workers.items e.ticks)))
+    c.finish_run.ensures.ticks
