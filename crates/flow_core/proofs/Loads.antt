@@ -53,9 +53,15 @@ granting parts bytes_of s w t r b z f g x blank l = record { run = l.board.run; 
 pub loaded-gives : {F B : Type 0} (parts : F → Option Parts) (bytes_of : B → ℕ) (laws : GrantLaws parts) (s : Setting) (w : Coursed) (t : List Kept) (r tick b z : ℕ) (f : Bool) (g : ℕ) (x : Bool) (blank : B) (k : ℕ) (new : BoardState) → LoadsOn parts bytes_of s w t r b z f g x blank
     → k ≡ next_index (past w.told) → new ≡ moved_at s tick (plain (Load r (next_index (past w.told)) b z f g x)) w.told → LoadGives parts bytes_of s w.told r tick (load.Loaded k blank) new
 loaded-gives parts bytes_of laws s w t r tick b z f g x blank k new l turn is =
-    load-gives parts bytes_of s w.told new r tick None (Granted b z f g) (load.Loaded k blank) l.allowed l.granted
-    (turn, l.size, (x, remade-regrown parts laws s w.told t (s.need 0) b z f g x (granting parts bytes_of s w t r b z f g x blank l) l.remade,
-    is ∙ ap (λ (i : ℕ). moved_at s tick (plain (Load r i b z f g x)) w.told) (sym turn)))
+    load-gives parts bytes_of s w.told new r tick None (Granted b z f g) (load.Loaded k blank) l.allowed l.granted (
+      turn,
+      l.size,
+      (
+        x,
+        remade-regrown parts laws s w.told t (s.need 0) b z f g x (granting parts bytes_of s w t r b z f g x blank l) l.remade,
+        is ∙ ap (λ (i : ℕ). moved_at s tick (plain (Load r i b z f g x)) w.told) (sym turn),
+      ),
+    )
 
 pub loaded-history : {F B : Type 0} (parts : F → Option Parts) (bytes_of : B → ℕ) (laws : GrantLaws parts) (s : Setting) (w : Coursed) (t : List Kept) (r tick b z : ℕ) (f : Bool) (g : ℕ) (x : Bool) (blank : B) → LoadsOn parts bytes_of s w t r b z f g x blank
     → is_history s (past (moved_at s tick (plain (Load r (next_index (past w.told)) b z f g x)) w.told)) ≡ true

@@ -138,16 +138,22 @@ making O name_of parts bytes_of s w t r v c b z f g x input blank i =
 pub made-gives : {F B : Type 0} (O : Type 0) (name_of : F → FrameName) (parts : F → Option Parts) (bytes_of : B → ℕ) (look : LookLaws parts) (laws : GrantLaws parts) (s : Setting) (w : Coursed) (t : List Kept) (r v c b z : ℕ) (f : Bool) (g : ℕ) (x : Bool) (input : F) (blank : B) (new : BoardState) → Makes O name_of parts bytes_of s w t r v c b z f g x input blank
     → new ≡ made name_of parts s r v b z f g x input w.told → TakeGives {F = F} {B = B} {O = O} name_of parts bytes_of s w.told r v (take.Job v input (Some blank)) new
 made-gives {F} {B} O name_of parts bytes_of look laws s w t r v c b z f g x input blank new i is =
-    take-gives {F = F} {B = B} {O = O} name_of parts bytes_of s w.told new r v None (Some (Granted b z f g)) (take.Job v input (Some blank)) i.allowed (asked-maker s v w.told (Granted b z f g) i.makes i.granted)
-    (refl, (i.next, look.one (kept_at t c) (name_of input) (parts input) i.part), i.size,
-    (x, lent-regrown parts laws s w.told t v (s.need v) b z f g x (name_of input) c (making O name_of parts bytes_of s w t r v c b z f g x input blank i) i.remade, is))
+    take-gives {F = F} {B = B} {O = O} name_of parts bytes_of s w.told new r v None (Some (Granted b z f g)) (take.Job v input (Some blank)) i.allowed (asked-maker s v w.told (Granted b z f g) i.makes i.granted) (
+      refl,
+      (i.next, look.one (kept_at t c) (name_of input) (parts input) i.part),
+      i.size,
+      (x, lent-regrown parts laws s w.told t v (s.need v) b z f g x (name_of input) c (making O name_of parts bytes_of s w t r v c b z f g x input blank i) i.remade, is),
+    )
 
 made-history : {F B : Type 0} (O : Type 0) (name_of : F → FrameName) (parts : F → Option Parts) (bytes_of : B → ℕ) (look : LookLaws parts) (laws : GrantLaws parts) (s : Setting) (w : Coursed) (t : List Kept) (r v c b z : ℕ) (f : Bool) (g : ℕ) (x : Bool) (input : F) (blank : B) → Makes O name_of parts bytes_of s w t r v c b z f g x input blank
     → is_history s (past (made name_of parts s r v b z f g x input w.told)) ≡ true
 made-history {F} {B} O name_of parts bytes_of look laws s w t r v c b z f g x input blank i =
-    take-by {F = F} {B = B} {O = O} name_of parts bytes_of s w.told (made name_of parts s r v b z f g x input w.told) r v None (Some (Granted b z f g)) (take.Job v input (Some blank)) i.board.run.pooled i.board.run.history i.role i.allowed (asked-maker s v w.told (Granted b z f g) i.makes i.granted)
-    (refl, (i.next, look.one (kept_at t c) (name_of input) (parts input) i.part), i.size,
-    (x, lent-regrown parts laws s w.told t v (s.need v) b z f g x (name_of input) c (making O name_of parts bytes_of s w t r v c b z f g x input blank i) i.remade, refl))
+    take-by {F = F} {B = B} {O = O} name_of parts bytes_of s w.told (made name_of parts s r v b z f g x input w.told) r v None (Some (Granted b z f g)) (take.Job v input (Some blank)) i.board.run.pooled i.board.run.history i.role i.allowed (asked-maker s v w.told (Granted b z f g) i.makes i.granted) (
+      refl,
+      (i.next, look.one (kept_at t c) (name_of input) (parts input) i.part),
+      i.size,
+      (x, lent-regrown parts laws s w.told t v (s.need v) b z f g x (name_of input) c (making O name_of parts bytes_of s w t r v c b z f g x input blank i) i.remade, refl),
+    )
 
 pub made-board : {F B : Type 0} (O : Type 0) (name_of : F → FrameName) (parts : F → Option Parts) (bytes_of : B → ℕ) (look : LookLaws parts) (laws : GrantLaws parts) (s : Setting) (w w' : Coursed) (t t' : List Kept) (r v c b z : ℕ) (f : Bool) (g : ℕ) (x : Bool) (input : F) (blank : B) → Makes O name_of parts bytes_of s w t r v c b z f g x input blank
     → w' ≡ record w { told = made name_of parts s r v b z f g x input w.told } → t' ≡ with_kept (with_storage b f (lent_out t c)) b Empty → IsBoard parts s w' t'

@@ -8,6 +8,21 @@ use Rattle.nd_base.specs.declared.graph.Graph.{Graph}
 use Rattle.nd_base.specs.declared.graph.NodeRule.{NodeRule}
 use Rattle.nd_base.specs.declared.plan.Maker.{Maker}
 use Rattle.nd_base.specs.declared.plan.Plan.{Plan}
+use Rattle.std.proofs.Common.{Option, Some, None, true, false, cond}
+use Rattle.frame_table.specs.declared.test_frame.TestFrame.{TestFrame}
+use Rattle.board_rules.specs.declared.answers.Done.{Done}
+use Rattle.nd_base.specs.Array.{StackValue}
+use Rattle.nd_base.specs.Parts.{Parts}
+use Rattle.nd_base.specs.declared.frame.FrameName.{FrameName}
+use Rattle.flow_journal.specs.declared.entry.Entry.TheVariants.{Leave}
+use Rattle.flow_journal.specs.Setting.{Setting, is_maker}
+use Rattle.flow_journal.specs.Ended.{has_left}
+use Rattle.board_rules.specs.States.{BoardState, past, plain, lent_to}
+use Rattle.board_rules.specs.Moving.{moved}
+use Rattle.board_rules.specs.InHand.{result_name, IsMadeAs}
+use Rattle.board_rules.specs.Working.{MayPut}
+use Rattle.board_rules.specs.Leaving.{LeaveGives}
+use Rattle.board_rules.specs.RunMeasures.{run_setting, run_measure}
 use Rattle.nd_base.specs.Stacks.{IsStack, HasShape}
 use Rattle.nd_base.specs.declared.array.SampleType.TheVariants.{UInt8}
 use Rattle.std.specs.List.{All}
@@ -65,3 +80,30 @@ worked_is wait count ids p some few h =
       sound = worked_is_stack p.ids (omega (arith, ap length h.all, few));
       frames = subst (λ (g : Graph). HasFrames g (worked_stack p.ids)) (sym h.graph) frames;
     }
+
+-- what a job that makes nothing brings
+pub put_worked : {F : Type 0} (g : Graph) (stack : StackValue) (name_of : F → FrameName) (parts : F → Option Parts) (b : BoardState) (r : ℕ) (input : F) → HasFrames g stack → lent_to r b ≡ parts input
+    → MayPut name_of parts (run_measure g stack) (run_setting g stack) b r (record { node = 1; input = input; made = None; measured = None; fired = false })
+put_worked g stack name_of parts b r input h lent =
+    let nothing : IsMadeAs name_of (is_maker (run_setting g stack) 1) (result_name (run_setting g stack) 1 (name_of input)) None =
+    subst (λ (m : Bool). IsMadeAs name_of m (result_name (run_setting g stack) 1 (name_of input)) None) (sym h.passes) tt in
+    λ job. (record { made = nothing; measured = sym (h.unmeasured (name_of input)); fired = sym (h.quiet (name_of input).index) }, sym lent, tt)
+
+-- a role that leaves keeps what it was lent
+pub left_worked : (s : Setting) (old new : BoardState) (r q : ℕ) → LeaveGives s old r new → lent_to q new ≡ lent_to q old
+left_worked s old new r q h = ap (lent_to q) h ∙ by (has_left r (past old)) where
+  by : (b : Bool) → lent_to q (cond b old (moved s (plain (Leave r)) old)) ≡ lent_to q old
+  by true = refl
+  by false = refl
+
+-- a frame of the tests, as contracts see it
+abbrev pub test_name : {R : Type 0} → TestFrame R → FrameName
+test_name f = f.name
+
+abbrev pub test_parts : {R : Type 0} → TestFrame R → Option Parts
+test_parts f = Some (record { block = f.block; size = f.size; here = f.here })
+
+pub put_test : {R : Type 0} (g : Graph) (stack : StackValue) (b : BoardState) (r : ℕ) (input : TestFrame R) (d : Done (TestFrame R)) → HasFrames g stack → lent_to r b ≡ test_parts input → d ≡ record { node = 1; input = input; made = None; measured = None; fired = false }
+    → MayPut test_name test_parts (run_measure g stack) (run_setting g stack) b r d
+put_test {R} g stack b r input d h lent is =
+    subst (λ (x : Done (TestFrame R)). MayPut test_name test_parts (run_measure g stack) (run_setting g stack) b r x) (sym is) (put_worked g stack test_name test_parts b r input h lent)

@@ -55,13 +55,7 @@ impl<F: Held> Board<F> {
     }
 
     /// Takes a job on this array back with which this block was granted.
-    pub(crate) fn reclaim_making(
-        &mut self,
-        role: u32,
-        name: FrameName,
-        granted: u32,
-        left: Left<F>,
-    )
+    pub(crate) fn reclaim_making(&mut self, role: u32, name: FrameName, granted: u32, left: Left<F>)
         requires role { role ≤ last_role (run_setting F.Of.graph F.Of.stack) }
         requires allowed { reclaim_refusal (run_setting F.Of.graph F.Of.stack) role (past self.old) ≡ None }
         requires brings { MayReclaim F.name_of F.parts F.bytes_of (run_setting F.Of.graph F.Of.stack) self.old role left }

@@ -9,8 +9,8 @@ mod calls;
 mod feeding;
 mod leaving;
 mod storage;
-mod working;
 #[cfg(test)]
 mod tests;
+mod working;
 
 pub use board::Board;

@@ -200,7 +200,7 @@ returns-in_default-storage_for-clause-gives g c =
     let named : name_of input ≡ a = lent-name parts_ w.told t a b (name_of input) (parts_ input) l c.in-Ok.ensures.part in
     let part : IsPartOf (kept_at t b) a (parts_ input) = subst (λ (x : FrameName). IsPartOf (kept_at t b) x (parts_ input)) named c.in-Ok.ensures.part in
     let T = c.storage_for.new.table in
-    let wants : TellParts parts_ → IsTrue (wants_storage w.told (Granted gr.block gr.size gr.fresh gr.given_up)) = 
+    let wants : TellParts parts_ → IsTrue (wants_storage w.told (Granted gr.block gr.size gr.fresh gr.given_up)) =
     not-stored-lent-wants parts_ (grant_laws parts_) s w.told t T v (s.need v) gr.block gr.size gr.fresh gr.given_up a b beside (subst (λ (u : List Kept). IsNotStored gr.size gr.block gr.fresh u T) c.in-Ok.ensures.rest c.in_default-storage_for.ensures.refused) in
     subst (λ (y : BoardState). TakeGives {F = g.row.F.Denot} {B = g.row.F-Blank.Denot} {O = g.row.F-Of.Denot} name_of parts_ bytes s y r v take.OutOfMemory w0.told) c.self.view_is
     (made-no_memory O name_of parts_ bytes s w.told w0.told r v gr.block gr.size gr.fresh gr.given_up allowed c.requires.makes given wants (ap (λ (y : Coursed). y.told) c.next_queued-name.ensures.same))

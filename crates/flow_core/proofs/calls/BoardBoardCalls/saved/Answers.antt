@@ -57,7 +57,7 @@ invariant_of-self g c =
     let mine : is_piece_on (name_of f) (hand c.args.role (past c.args.self.now)) ≡ true = subst (λ (x : BoardState). is_piece_on (name_of f) (hand c.args.role (past x)) ≡ true) c.self.view_is piece in
     let own : parts_ f ≡ lent_to c.args.role w.told = subst (λ (x : BoardState). parts_ f ≡ lent_to c.args.role x) (sym c.self.view_is) (c.requires.brings mine) in
     let l : LentAt c.args.role w.told t (name_of f) b =
-        subst (λ (x : FrameName). LentAt c.args.role w.told t x b) named
-        (lent-at parts_ (look_laws parts_) s w t c.args.role c.name-name.result b c.self.invariant c.block-block.ensures (piece-shares c.name-name.result o (sym c.is_piece_on.ensures ∙ c.if-not-is_piece_on.false))) in
+    subst (λ (x : FrameName). LentAt c.args.role w.told t x b) named
+    (lent-at parts_ (look_laws parts_) s w t c.args.role c.name-name.result b c.self.invariant c.block-block.ensures (piece-shares c.name-name.result o (sym c.is_piece_on.ensures ∙ c.if-not-is_piece_on.false))) in
     saved-board {O = Unit {0}} name_of parts_ bytes (move_laws (Unit {0}) name_of parts_ bytes) s w c.saved.new.self t c.give_back.new.self c.args.role b f c.self.invariant piece l.has own
     (c.saved.ensures ∙ ap (λ (x : FrameName). record w { told = moved s (plain (Saved c.args.role (hand_node o) x.maker x.index)) w.told }) named) c.give_back.ensures
