@@ -19,3 +19,4 @@ pub mod RunClaims
 pub mod RunReading
 pub mod SmoothFiles
 pub mod KeptStacks
+mod Sends
