@@ -54,11 +54,11 @@ module _ {S E : Type 0} (entries : S → List E) (begins : E → Option ℕ) (se
   abbrev Rule : State S (View E) → Type 0
   Rule = TurnRule entries begins seats
 
-  pub opens : (x : S) → 0 < seats → seats < 4294967296 → entries x ≡ [] → Rule (opening (0 ∷ 0 ∷ 0 ∷ []) (x ∷ []) (first_view seats))
-  opens x some_seat few empty = record {
+  pub opens : (others : List ℕ) (x : S) → 0 < seats → seats < 4294967296 → entries x ≡ [] → Rule (opening (0 ∷ 0 ∷ others) (x ∷ []) (first_view seats))
+  opens others x some_seat few empty = record {
     drawn = 0;
     ended = 0;
-    others = 0 ∷ [];
+    others = others;
     log = [];
     few_seats = few;
     words = refl;

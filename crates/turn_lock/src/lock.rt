@@ -17,15 +17,25 @@ use std::hint::spin_loop;
 use std::marker::Model;
 use std::sync::Wait;
 
-// The words of the table: how many tickets were drawn, how many turns have ended, and how many threads sleep or are about to.
+// The words of the table: how many tickets were drawn, how many turns have ended, how many threads sleep or are about to, and
+// sixteen bells, each of which was rung so often: a thread sleeps by the bell of its ticket.
 const DRAWN: usize = 0;
 
 const ENDED: usize = 1;
 
 const SLEEPERS: usize = 2;
 
+const FIRST_BELL: usize = 3;
+
 // How often a thread polls before it sleeps.
-const SPINS: u32 = 200;
+const SPINS: u32 = 400;
+
+/// The word of a ticket's bell.
+fn bell_of(ticket: u64) -> usize
+    ensures { (2 < result) × (result < 19) }
+{
+    FIRST_BELL + (ticket % 16) as usize
+}
 
 /// A lock whose callers take turns in the order of their tickets.
 #[derive(Drop)]
@@ -39,7 +49,7 @@ impl<S: Object> Model for TurnLock<S> {
 
     ghost view = { λ l. lock_facts l.table.shared.table_id l.seats };
 
-    ghost invariant = { λ l. (l.table.shared.table_id.words ≡ 3) × (l.table.shared.table_id.slots ≡ 1) × (l.table.shared.key ≡ l.seats) };
+    ghost invariant = { λ l. (l.table.shared.table_id.words ≡ 19) × (l.table.shared.table_id.slots ≡ 1) × (l.table.shared.key ≡ l.seats) };
 }
 
 /// What one caller calls with. It means what its roles have made and what it has seen.
@@ -81,21 +91,20 @@ impl<S: Object> TurnLock<S> {
         false
     }
 
-    // Sleeps on the word of ended turns until it is the ticket. Who has said that it sleeps misses no wake: the word changes
-    // before the thread that changes it looks for sleepers.
+    // Sleeps by the bell of the ticket until its turn comes. Who has said that it sleeps misses no ring: the turn has come before
+    // its bell is rung.
     fn sleep<R: Wait>(&self, rt: &R, seat: &mut Seat<S, View<S::Entry>>, ticket: u64)
         requires { (seat.old.table_id ≡ self.now.id) × HasDrawn seat.old.me.0 ticket seat.old.me }
         ensures seat { (seat.new.table_id ≡ seat.old.table_id) × (seat.new.id ≡ seat.old.id) }
         ensures turn { InTurn S.entries S.begins seat.old.me.0 seat.new.me }
     {
+        let bell = bell_of(ticket);
         for _ in rt.forever() {
-            let ended = self.table.shared.load::<Poll>(seat, ENDED);
-            if ended == ticket {
+            let rung = self.table.shared.peek(bell);
+            if self.spin(seat, ticket) {
                 return;
             }
-            self.table
-                .shared
-                .park(rt, ENDED, (ended % (1 << 32)) as u32);
+            self.table.shared.park(rt, bell, (rung % (1 << 32)) as u32);
         }
         unreachable!()
     }
@@ -107,17 +116,33 @@ impl<S: Object> TurnLock<S> {
         ensures turn { InTurn S.entries S.begins seat.old.me.0 seat.new.me }
     {
         let ticket = self.table.shared.fetch_add::<Draw>(seat, DRAWN, 1);
-        if self.spin(seat, ticket) {
-            return;
+        if !self.spin(seat, ticket) {
+            self.table.shared.fetch_add::<Stay>(seat, SLEEPERS, 1);
+            self.sleep(rt, seat, ticket);
+            self.table.shared.fetch_sub::<Stay>(seat, SLEEPERS, 1);
         }
-        self.table.shared.fetch_add::<Stay>(seat, SLEEPERS, 1);
-        self.sleep(rt, seat, ticket);
-        self.table.shared.fetch_sub::<Stay>(seat, SLEEPERS, 1);
     }
 
-    fn wake_sleepers(&self) {
+    // Rings the bell of a ticket.
+    fn ring(&self, seat: &mut Seat<S, View<S::Entry>>, ticket: u64)
+        requires { seat.old.table_id ≡ self.now.id }
+        ensures seat { (seat.new.table_id ≡ seat.old.table_id) × (seat.new.id ≡ seat.old.id) }
+        ensures stays { seat.new.me ≡ seat.old.me }
+    {
+        let bell = bell_of(ticket);
+        self.table.shared.fetch_add::<Stay>(seat, bell, 1);
+        self.table.shared.wake_all(bell);
+    }
+
+    // After this turn: wakes whoever has the next ticket, and whoever has the one after it, so that it is awake when its turn comes.
+    fn wake_next(&self, seat: &mut Seat<S, View<S::Entry>>, ended: u64)
+        requires { seat.old.table_id ≡ self.now.id }
+        ensures seat { (seat.new.table_id ≡ seat.old.table_id) × (seat.new.id ≡ seat.old.id) }
+        ensures stays { seat.new.me ≡ seat.old.me }
+    {
         if self.table.shared.peek(SLEEPERS) != 0 {
-            self.table.shared.wake_all(ENDED);
+            self.ring(seat, ended.wrapping_add(1));
+            self.ring(seat, ended.wrapping_add(2));
         }
     }
 
@@ -139,8 +164,8 @@ impl<S: Object> TurnLock<S> {
         self.begin(rt, seat);
         let state = seat.slot_mut(&self.table.shared, 0);
         let reply = state.play(alloc, op);
-        self.table.shared.fetch_add::<End>(seat, ENDED, 1);
-        self.wake_sleepers();
+        let ended = self.table.shared.fetch_add::<End>(seat, ENDED, 1);
+        self.wake_next(seat, ended);
         reply
     }
 
@@ -206,7 +231,7 @@ fn deal<S: Object>(
     passes: &mut Vec<Pass<S>>,
 )
     requires seat { (seat.table_id ≡ shared.now.table_id) × (seat.me ≡ (view Idle [] (unused 0 seats), [])) }
-    requires words { (shared.now.table_id.words ≡ 3) × (0 < seats) }
+    requires words { (shared.now.table_id.words ≡ 19) × (0 < seats) }
     requires room { (passes.old.items ≡ []) × (vec_len passes.old ≡ 0) × (seats ≤ vec_capacity passes.old) }
     ensures dealt { passes.new.items ≡ new_passes shared.now.table_id 0 seats }
     ensures len { vec_len passes.new ≡ seats }
@@ -243,7 +268,7 @@ impl<S: Object + Drop> TurnLock<S> {
     {
         let mut passes = Vec::with_capacity(alloc, seats as usize)?;
         let slots = one_slot(alloc, state)?;
-        match Table::new(alloc, &[0, 0, 0], slots, &seats) {
+        match Table::new(alloc, &[0; 19], slots, &seats) {
             Ok((table, seat)) => {
                 deal(&table.shared, seat, seats, &mut passes);
                 Ok((TurnLock { table, seats }, passes))
