@@ -70,13 +70,6 @@ impl<F: Held> Course<F> {
         self.rules.nodes.as_slice()[node as usize - 1].need
     }
 
-    /// The next block that was given up for a grant, the largest first.
-    pub fn given_next(&mut self) -> Option<u32>
-        ensures { self.new ≡ self.old }
-    {
-        self.pool.given_next()
-    }
-
     /// The next frame is loaded, into the block that the pool grants. With `regrown` the storage of a block that isn't fresh was made again.
     ///
     /// # Errors
