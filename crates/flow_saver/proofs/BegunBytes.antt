@@ -22,7 +22,7 @@ use Rattle.graph_files.specs.GroupLaws.{group-later, length-group}
 use Rattle.graph_files.specs.NodeFiles.{NodeFile, IsTorn, Untouched, Front, Miscounted, IsOpenAfter, IsPlaceAfter, group_file}
 use Rattle.graph_files.specs.NodeFileLaws.{cases_eq, none-open, open-here, open-elsewhere, empty}
 use Rattle.graph_files.proofs.Writes.{next-place}
-use Rattle.flow_saver.specs.Ending.{IsCountOf, IsBegunAs, AsBefore, Counted, Open}
+use Rattle.flow_saver.specs.Ending.{IsCountOf, IsBegunAs, AsBefore, Unended, Ended}
 use Rattle.flow_saver.specs.Ending as ending
 
 -- THE COUNT OF RECORDS, as replay_top has it for a plain run, above this crate
@@ -83,9 +83,9 @@ module _ (shape : FileShape) (arrays rest full : List Array) (is : full ≡ arra
       → IsBegunAs late (layout shape full) before now
   begun-front true numrecs front tail now count whole made =
       let all : begun_file shape None full ≡ front ++ (tail ++ rows) = longer None ∙ ap (λ bytes. bytes ++ rows) (ap (λ n. begun_file shape n arrays) (sym count) ∙ whole) ∙ append_assoc front tail rows in
-      Open refl front (tail ++ rows) (layout-late shape full ∙ all) made
+      Unended front (tail ++ rows) (layout-late shape full ∙ all) made
   begun-front false numrecs front tail now count whole made =
-      Counted front (tail ++ rows) (longer (Some (length full)) ∙ ap (λ bytes. bytes ++ rows) (ap (λ n. begun_file shape n arrays) (sym count) ∙ whole) ∙ append_assoc front tail rows) made
+      Unended front (tail ++ rows) (longer (Some (length full)) ∙ ap (λ bytes. bytes ++ rows) (ap (λ n. begun_file shape n arrays) (sym count) ∙ whole) ∙ append_assoc front tail rows) made
 
   miscounted : (late : Bool) (numrecs : Option ℕ) (any : List ℕ) (now : Option (List ℕ)) → IsCountOf late (length full) numrecs → numrecs ≡ None → length any ≡ 4 → now ≡ Some (overwritten (begun_file shape numrecs arrays) count_place any)
       → IsBegunAs late (layout shape full) before now
@@ -105,7 +105,7 @@ module _ (shape : FileShape) (arrays rest full : List Array) (is : full ≡ arra
 
 -- a whole file
 pub begun-whole : (late : Bool) (final : List ℕ) (before now : Option (List ℕ)) → now ≡ Some final → IsBegunAs late final before now
-begun-whole late final before now made = Counted final [] (sym (append-nil final)) made
+begun-whole late final before now made = Ended made
 
 -- GROUPS OF A FRONT
 

@@ -1,10 +1,10 @@
 -- Who saves, and what the drain's own moves tell of it.
-use Rattle.std.proofs.Common.{◌≡◌, ℕ, Bool, true, false, not, ◌&&◌, eqb, List, [], ◌∷◌, refl, sym, ap, ◌∙◌, subst, Option, Some, None, inl, inr}
+use Rattle.std.proofs.Common.{◌≡◌, ℕ, Bool, true, false, not, ◌&&◌, eqb, List, [], ◌∷◌, ◌++◌, refl, sym, ap, ◌∙◌, subst, Option, Some, None, inl, inr}
 use Rattle.std.specs.Prelude.{find}
 use Rattle.std.specs.List.{list_all}
 use Rattle.std.proofs.lemmas.Bool.{and_parts, and_from, cases_Bool, false≢true, eqb-true, eq-eqb}
 use Rattle.flow_journal.specs.declared.entry.Entry.{Entry}
-use Rattle.flow_journal.specs.declared.entry.Entry.TheVariants.{Save, Reclaim}
+use Rattle.flow_journal.specs.declared.entry.Entry.TheVariants.{Save, Saved, Reclaim}
 use Rattle.flow_journal.specs.Setting.{Setting, last_role}
 use Rattle.flow_journal.specs.Pasts.{Past, frame, comes_at}
 use Rattle.flow_journal.specs.Hands.{takes_up, let_go, is_free, standing, is_piece}
@@ -15,9 +15,12 @@ use Rattle.flow_journal.proofs.Hands.{row_of}
 use Rattle.flow_journal.proofs.Counts.{hand-standing}
 use Rattle.flow_journal.proofs.Pieces.{saves-let_go}
 use Rattle.flow_journal.proofs.Jobs.{reclaim_hand}
+use Rattle.flow_journal.proofs.Rows.{row_laws}
+use Rattle.board_rules.specs.declared.told.Told.{Told}
 use Rattle.board_rules.specs.States.{BoardState, past, begins, is_role_of}
 use Rattle.board_rules.specs.Movers.{first_some, mover, moves_by}
 use Rattle.flow_roles.specs.Passes.{saved_by_drain, only_drain_saves}
+use Rattle.flow_saver.specs.GivenBack.{given_back}
 
 find-all : (p q : Entry → Bool) (es : List Entry) (e : Entry) → list_all p es ≡ true → find q es ≡ Some e → p e ≡ true
 find-all p q [] e all h = let none_ : None ≡ Some e = h in absurd (cc)
@@ -89,4 +92,54 @@ saves-mine s v (t ∷ b) d =
     elim (cases_Bool (is_role_of (last_role s) (first_some (begins t.entry) (mover b)))) [
       | inl mine ↦ rw mine (saves-then v t.entry (past b) (past (moves_by (last_role s) b)) before)
       | inr other ↦ rw other (saves-skip s v t.entry (mover b) (past b) parts.0 other ∙ before)
+    ]
+
+-- WHAT WAS GIVEN BACK
+
+given-then : (v : ℕ) (e : Entry) (P Q : Past) → given_back v P ≡ given_back v Q → given_back v (e ∷ P) ≡ given_back v (e ∷ Q)
+given-then v (Saved r w m k) P Q same = ap (comes_at v w (frame m k)) same
+given-then v _ P Q same = same
+
+given-skip : (s : Setting) (v : ℕ) (e : Entry) (o : Option ℕ) (P : Past) → is_legal s (e ∷ P) ≡ true → only_drain_saves s P ≡ true → is_role_of (last_role s) (first_some (begins e) o) ≡ false → given_back v (e ∷ P) ≡ given_back v P
+given-skip s v (Saved r w m k) o P h d not_mine =
+    let piece = (row_laws.saved s P r w m k).0 (row_of s (Saved r w m k) P (λ d. refl) h) in
+    let taken = hand-standing s P r (Save r w m k piece.0) (and_parts (is_legal s P) _ h).0 piece.1 in
+    let drain = find-all (saved_by_drain s) (takes_up r) (standing P) (Save r w m k piece.0) (standing-all (saved_by_drain s) P d) taken in
+    absurd (false≢true (sym not_mine ∙ drain))
+given-skip s v _ o P h d not_mine = refl
+
+-- the drain gave it back
+pub given-mine : (s : Setting) (v : ℕ) (b : BoardState) → is_legal s (past b) ≡ true → only_drain_saves s (past b) ≡ true → given_back v (past b) ≡ given_back v (past (moves_by (last_role s) b))
+given-mine s v [] h d = refl
+given-mine s v (t ∷ b) h d =
+    let drained = (and_parts (saved_by_drain s t.entry) (only_drain_saves s (past b)) d).1 in
+    let before = given-mine s v b (and_parts (is_legal s (past b)) _ h).0 drained in
+    elim (cases_Bool (is_role_of (last_role s) (first_some (begins t.entry) (mover b)))) [
+      | inl mine ↦ rw mine (given-then v t.entry (past b) (past (moves_by (last_role s) b)) before)
+      | inr other ↦ rw other (given-skip s v t.entry (mover b) (past b) h drained other ∙ before)
+    ]
+
+-- the place of the board at which just this was given back
+pub record GivenAt (b : BoardState) (front : Past) : Type 0 where
+  pub later : BoardState
+  pub before : BoardState
+  pub board : b ≡ later ++ before
+  pub given : (v : ℕ) → given_back v (past before) ≡ given_back v front
+
+one-more : (t : Told) (b : BoardState) (front : Past) → GivenAt b front → GivenAt (t ∷ b) front
+one-more t b front g = record { later = t ∷ g.later; before = g.before; board = ap (λ (c : BoardState). t ∷ c) g.board; given = g.given }
+
+-- a front of the drain's own moves is that of the board there
+pub given-at : (s : Setting) (b : BoardState) → is_legal s (past b) ≡ true → only_drain_saves s (past b) ≡ true → (later front : Past) → past (moves_by (last_role s) b) ≡ later ++ front → GivenAt b front
+given-at s b h d [] front is = record { later = []; before = b; board = refl; given = λ v. given-mine s v b h d ∙ ap (given_back v) is }
+given-at s [] h d (e ∷ later) front is = absurd (cc)
+given-at s (t ∷ b) h d (e ∷ later) front is =
+    let legal = (and_parts (is_legal s (past b)) _ h).0 in
+    let drained = (and_parts (saved_by_drain s t.entry) (only_drain_saves s (past b)) d).1 in
+    elim (cases_Bool (is_role_of (last_role s) (first_some (begins t.entry) (mover b)))) [
+      | inl mine ↦
+          let all : t.entry ∷ past (moves_by (last_role s) b) ≡ e ∷ (later ++ front) = rw mine at is in
+          let tail : past (moves_by (last_role s) b) ≡ later ++ front = cc in
+          one-more t b front (given-at s b legal drained later front tail)
+      | inr other ↦ one-more t b front (given-at s b legal drained (e ∷ later) front (rw other at is))
     ]

@@ -1,11 +1,13 @@
 -- What stands after a fault in the end of the files, by the finished log.
 use Rattle.std.proofs.Common.{◌≡◌, ◌≢◌, ◌⊎◌, ℕ, zero, suc, ◌+◌, ◌≤◌, Bool, true, false, List, [], ◌∷◌, ◌++◌, length, map, refl, sym, ap, subst, ◌∙◌, arith, inl, inr, Option, Some, None}
 use Rattle.std.specs.Prelude.{slice_get, IsSome, is_some}
+use Rattle.std.proofs.lemmas.Bool.{and_parts}
 use Rattle.std.proofs.lemmas.Option.{same_Some}
 use Rattle.std.proofs.lemmas.List.{append-nil}
 use Rattle.nd_base.specs.Array.{Array, StackValue}
 use Rattle.nd_base.specs.GraphRules.{IsGraph, rule_at}
 use Rattle.nd_base.specs.declared.attribute.FileShape.{FileShape}
+use Rattle.nd_base.specs.declared.frame.FrameName.{FrameName}
 use Rattle.nd_base.specs.declared.graph.Graph.{Graph}
 use Rattle.nd_base.specs.declared.graph.NodeRule.{NodeRule}
 use Rattle.edge_traits.specs.Files.{Files, HasFile, file_at}
@@ -14,6 +16,7 @@ use Rattle.file_out.specs.Streams.{Stream, begun_file}
 use Rattle.flow_journal.specs.Setting.{Setting, last_role}
 use Rattle.flow_journal.specs.Pasts.{Past}
 use Rattle.flow_journal.specs.Puts.{puts}
+use Rattle.flow_journal.specs.Histories.{is_legal}
 use Rattle.flow_journal.specs.Finished.{is_finished}
 use Rattle.board_rules.specs.States.{BoardState, past}
 use Rattle.board_rules.specs.Movers.{moves_by}
@@ -34,6 +37,7 @@ use Rattle.flow_saver.specs.Remaining.{IsSavingAlone}
 use Rattle.flow_saver.proofs.BegunBytes.{begun-front, begun-torn, begun-whole, GroupHas, Nothing, Whole, Opened, group-has}
 use Rattle.flow_saver.proofs.Groups as groups
 use Rattle.flow_saver.proofs.Groups.{some-is}
+use Rattle.flow_saver.proofs.Saves.{given-mine}
 use Rattle.flow_saver.proofs.TornHistory.{full-file, one-index, told-file, whole-bytes, whole-some, file-some, count-by}
 
 -- a node's files among those that have ended so far
@@ -190,7 +194,11 @@ module _ (g : Graph) (stack : StackValue) (sound : IsGraph g) (prefix : List ℕ
           let o = groups.of-open g stack prefix xs k (closed y) (ended-back (e.at + 1) xs k y at_y) in
           let some = ended-long k o.0 y l o.1 o.2 at_y named in
           (λ eq. not-named q away k o.0 o.1 l some (eq ∙ sym (ap (λ (z : NodeFile). name_of z l) o.2))));
+      later = [];
+      front = past b;
+      log = refl;
       written = F;
+      given = λ v. ap (λ (ns : List FrameName). contents g.nodes stack.arrays ns) (sym (given-mine s v b (and_parts (is_legal s (past b)) _ h.legal).0 h.drained));
       first = λ v. ([], sym (groups.written-is g stack sound prefix before b xs false held h v) ∙ sym (append-nil (F v)));
       node = node.node;
       group = torn;
@@ -213,7 +221,9 @@ module _ (g : Graph) (stack : StackValue) (sound : IsGraph g) (prefix : List ℕ
           let all : group_of x.count i (F x.node) ≡ group_of r.count i (contents g.nodes stack.arrays (standing_saves v (past b))) = same ∙ ap (group_of r.count i) (groups.written-is g stack sound prefix before b xs false held h v) in
           let is = begun-has f.at x f.listed i off_ (subst (λ (zs : List Array). 1 ≤ length zs) (sym same) some) in (
             is.0,
-            subst (λ (late : Bool). StandsAsCount late (length (group_of r.count i (contents g.nodes stack.arrays (standing_saves v (past b))))) is.0) f.late (subst (λ (zs : List Array). StandsAsCount x.late (length zs) is.0) all is.1),
+            subst (λ (late : Bool). StandsAsCount late (group_of r.count i (contents g.nodes stack.arrays (standing_saves v (past b)))) (group_of r.count i (F v)) is.0) f.late
+                (subst (λ (zs : List Array). StandsAsCount x.late zs (group_of r.count i (F v)) is.0) all
+                (subst (λ (zs : List Array). StandsAsCount x.late (group_of x.count i (F x.node)) zs is.0) same is.1)),
             subst (λ (name : List ℕ). HasFile now name (begun_file (file_shape g stack v) is.0 (group_of r.count i (F v)))) (f.named i)
                 (subst (λ (sh : FileShape). HasFile now (name_of x i) (begun_file sh is.0 (group_of r.count i (F v)))) f.shape
                 (subst (λ (zs : List Array). HasFile now (name_of x i) (begun_file x.shape is.0 zs)) same is.2)),
@@ -279,20 +289,20 @@ module _ (g : Graph) (stack : StackValue) (sound : IsGraph g) (prefix : List ℕ
             ]
 
         open-count : (j : ℕ) (x : NodeFile) (at : slice_get xs j ≡ Some x) (i : ℕ) → 1 ≤ length (group_of x.count i (F x.node)) → GroupHas x (F x.node) i
-            → (numrecs : Option ℕ) × StandsAsCount x.late (length (group_of x.count i (F x.node))) numrecs × (group_file x (F x.node) i ≡ Some (begun_file x.shape numrecs (group_of x.count i (F x.node))))
+            → (numrecs : Option ℕ) × StandsAsCount x.late (group_of x.count i (F x.node)) (group_of x.count i (F x.node)) numrecs × (group_file x (F x.node) i ≡ Some (begun_file x.shape numrecs (group_of x.count i (F x.node))))
         open-count j x at i some (Nothing none_) = absurd (file-some (open_at x (length (F x.node)) i) x.shape (group_of x.count i (F x.node)) some none_)
-        open-count j x at i some (Whole full is) = (Some (length (group_of x.count i (F x.node))), inr refl, is)
+        open-count j x at i some (Whole full is) = (Some (length (group_of x.count i (F x.node))), inr (refl, refl), is)
         open-count j x at i some (Opened f open_ here is) =
             let first = subst (λ (w : ℕ). IsFirstCount (past b) x.node x.count w x.late f.numrecs) (sym here) (h.saving.saved.1 j x f at open_) in
             (f.numrecs, inl (count-by (past b) x i (F x.node) x.late f.numrecs (all-written j x at) first), is)
 
         begun-has : (j : ℕ) (x : NodeFile) → slice_get xs j ≡ Some x → (i : ℕ) → (x.node ≢ node.node) ⊎ (i ≢ torn) → 1 ≤ length (group_of x.count i (F x.node))
-            → (numrecs : Option ℕ) × StandsAsCount x.late (length (group_of x.count i (F x.node))) numrecs × HasFile now (name_of x i) (begun_file x.shape numrecs (group_of x.count i (F x.node)))
+            → (numrecs : Option ℕ) × StandsAsCount x.late (group_of x.count i (F x.node)) (group_of x.count i (F x.node)) numrecs × HasFile now (name_of x i) (begun_file x.shape numrecs (group_of x.count i (F x.node)))
         begun-has j x at i off some =
             elim (ended-at (e.at + 1) xs j x at) [
               | inl ended ↦ (
                 Some (length (group_of x.count i (F x.node))),
-                inr refl,
+                inr (refl, refl),
                 subst (HasBytes now (name_of x i)) (closed-file x (F x.node) i ∙ whole-is x.shape (group_of x.count i (F x.node)) some) (e.stops.0.each j (closed x) i ended off),
               )
               | inr open_ ↦
@@ -308,7 +318,7 @@ module _ (g : Graph) (stack : StackValue) (sound : IsGraph g) (prefix : List ℕ
             let made : group_file node (F node.node) torn ≡ Some (begun_file node.shape f.numrecs zs) = ap (λ w. file_of w node.shape zs) (open-here node (length (F node.node)) torn refl ∙ is) in
             let has = subst (HasBytes held (name_of node torn)) made ((h.saving.saved.0.each e.at node e.listed).each torn) in
             record {
-              piece = [];
+              piece = None;
               rest = [];
               next = sym (append-nil (zs ++ []) ∙ append-nil zs);
               numrecs = f.numrecs;

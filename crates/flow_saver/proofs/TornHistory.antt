@@ -38,6 +38,7 @@ use Rattle.graph_files.specs.OpenFiles.{closed, file_nodes, IsElsewhere}
 use Rattle.graph_files.specs.OpenFileLaws.{file_nodes-apart, far-none}
 use Rattle.graph_files.specs.OutFiles.{file_shape, group_name, is_stream}
 use Rattle.graph_files.proofs.Writes.{small-group, next-place}
+use Rattle.flow_drain.proofs.Growth.{past-append}
 use Rattle.flow_saver.specs.GivenBack.{given_back, written_by}
 use Rattle.flow_saver.specs.HistoryFiles.{kind_group}
 use Rattle.flow_saver.specs.Ending.{IsCountOf, StandsAsCount, IsBegunAs, AsBefore, IsBegunAt, IsTornName, IsTornAt, IsTornHistory}
@@ -47,6 +48,7 @@ use Rattle.flow_saver.proofs.BegunBytes.{count-one, begun-front, begun-torn, beg
 use Rattle.flow_saver.proofs.Groups as groups
 use Rattle.flow_saver.proofs.Groups.{FilesOfRule, some-is}
 use Rattle.flow_saver.proofs.Puts.{puts-few}
+use Rattle.flow_saver.proofs.Saves.{GivenAt, given-at}
 use Rattle.flow_saver.proofs.Writing.{contents-more}
 
 -- WHAT WAS GIVEN BACK LATER
@@ -406,12 +408,12 @@ module _ (g : Graph) (stack : StackValue) (sound : IsGraph g) (prefix : List ℕ
 
   -- the number in the header of a group that has an array
   begun-count : (j : ℕ) (x : NodeFile) (at : slice_get xs j ≡ Some x) (i : ℕ) → (j ≢ t.at) ⊎ (i ≢ t.group) → 1 ≤ length (group_of x.count i (W x.node)) → GroupHas x (W x.node) i
-      → (numrecs : Option ℕ) × StandsAsCount x.late (length (group_of x.count i (F x.node))) numrecs × (group_file x (W x.node) i ≡ Some (begun_file x.shape numrecs (group_of x.count i (W x.node))))
+      → (numrecs : Option ℕ) × StandsAsCount x.late (group_of x.count i (F x.node)) (group_of x.count i (W x.node)) numrecs × (group_file x (W x.node) i ≡ Some (begun_file x.shape numrecs (group_of x.count i (W x.node))))
   begun-count j x at i off some (Nothing none_) = absurd (file-some (open_at x (length (W x.node)) i) x.shape (group_of x.count i (W x.node)) some none_)
   begun-count j x at i off some (Whole full is) =
       let r = fronts x.node in
       let same : group_of x.count i (F x.node) ≡ group_of x.count i (W x.node) = ap (group_of x.count i) r.1 ∙ group-full x.count i (W x.node) r.0 (some-at j x at) full in
-      (Some (length (group_of x.count i (W x.node))), inr (ap (λ (zs : List Array). Some (length zs)) (sym same)), is)
+      (Some (length (group_of x.count i (W x.node))), inr (sym same, ap (λ (zs : List Array). Some (length zs)) (sym same)), is)
   begun-count j x at i off some (Opened f open_ here is) =
       let ne : j ≢ t.at = elim off [
         | inl other ↦ other
@@ -457,7 +459,7 @@ module _ (g : Graph) (stack : StackValue) (sound : IsGraph g) (prefix : List ℕ
       let front = group-front t.node.count t.group (W t.node.node ++ t.array ∷ []) r.0 in
       let more = group-more t.node.count (W t.node.node) t.array t.group t.place t.place_is in
       record {
-        piece = t.array ∷ [];
+        piece = Some t.array;
         rest = front.0;
         next = ap (group_of t.node.count t.group) all ∙ front.1 ∙ ap (λ zs. zs ++ front.0) more;
         numrecs = t.numrecs;
@@ -471,6 +473,12 @@ module _ (g : Graph) (stack : StackValue) (sound : IsGraph g) (prefix : List ℕ
   torn-at late shape final written name goal None is = tt
   torn-at late shape final written name goal (Some m) is =
       subst (λ (o : Option Files). IsTornName late shape final written (file_at before name) (file_at o name)) is (goal (ap (λ (o : Option Files). is_some o) is))
+
+  -- where the shelf failed
+  place : GivenAt b t.front
+  place =
+      given-at s b (and_parts (is_legal s (past b)) _ h.legal).0 h.drained (t.later ++ back_of t.role t.node.node t.name ∷ []) t.front
+      (t.whole ∙ sym (append_assoc t.later (back_of t.role t.node.node t.name ∷ []) t.front))
 
   pub torn-history : IsKeptStack stack → IsTornHistory g stack prefix (past b) before held
   torn-history kept = record {
@@ -490,7 +498,11 @@ module _ (g : Graph) (stack : StackValue) (sound : IsGraph g) (prefix : List ℕ
         (let Q : NodeFile → Type 0 = λ z. 1 ≤ length (group_of z.count t.group (F z.node)) in subst Q (sym now-at.same) torn-long)
         (e ∙ ap (λ (z : NodeFile). name_of z t.group) (sym now-at.same)))
         (λ k y l at_y named. not-named q away k y at_y l (now-long k y at_y l named));
+    later = past place.later;
+    front = past place.before;
+    log = ap past place.board ∙ past-append place.later place.before;
     written = W;
+    given = λ v. ap (λ (ns : List FrameName). contents g.nodes stack.arrays ns) (sym (place.given v));
     first = λ v. let r = fronts v in (r.0, sym (groups.written-is g stack sound prefix before b xs true held h v) ∙ r.1);
     node = t.node.node;
     group = t.group;
@@ -525,7 +537,9 @@ module _ (g : Graph) (stack : StackValue) (sound : IsGraph g) (prefix : List ℕ
         ap (λ (c : ℕ). group_of c i (F x.node)) f.count ∙ ap (λ (w : ℕ). group_of r.count i (F w)) f.node ∙ ap (group_of r.count i) (groups.written-is g stack sound prefix before b xs true held h v) in
         let has = subst (HasBytes held (name_of x i)) is.2 (t.stops.0.each f.at x i f.listed off_) in (
           is.0,
-          subst (λ (late : Bool). StandsAsCount late (length (group_of r.count i (contents g.nodes stack.arrays (standing_saves v (past b))))) is.0) f.late (subst (λ (zs : List Array). StandsAsCount x.late (length zs) is.0) all is.1),
+          subst (λ (late : Bool). StandsAsCount late (group_of r.count i (contents g.nodes stack.arrays (standing_saves v (past b)))) (group_of r.count i (W v)) is.0) f.late
+              (subst (λ (zs : List Array). StandsAsCount x.late zs (group_of r.count i (W v)) is.0) all
+              (subst (λ (zs : List Array). StandsAsCount x.late (group_of x.count i (F x.node)) zs is.0) same is.1)),
           subst (λ (name : List ℕ). HasFile held name (begun_file (file_shape g stack v) is.0 (group_of r.count i (W v)))) (f.named i)
               (subst (λ (sh : FileShape). HasFile held (name_of x i) (begun_file sh is.0 (group_of r.count i (W v)))) f.shape
               (subst (λ (zs : List Array). HasFile held (name_of x i) (begun_file x.shape is.0 zs)) same has)),

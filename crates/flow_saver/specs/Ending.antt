@@ -12,21 +12,23 @@ use Rattle.cdf_write.specs.Layout.{layout}
 use Rattle.file_out.specs.declared.fault.SaveFault.{SaveFault}
 use Rattle.file_out.specs.Saving.{IsSaveCause}
 use Rattle.file_out.specs.Streams.{begun_file, count_place}
+use Rattle.chain_plain.specs.OneThread.{listed}
 use Rattle.flow_journal.specs.Pasts.{Past}
 use Rattle.flow_journal.specs.Unsaved.{standing_saves}
 use Rattle.run_laws.specs.Results.{contents}
-use Rattle.graph_files.specs.BegunFiles.{open_count}
+use Rattle.graph_files.specs.BegunFiles.{unended_bytes}
 use Rattle.graph_files.specs.Groups.{group_of}
 use Rattle.graph_files.specs.NodeFiles.{IsTorn}
 use Rattle.graph_files.specs.OutFiles.{file_shape, group_name, is_stream}
+use Rattle.flow_saver.specs.GivenBack.{written_by}
 use Rattle.flow_saver.specs.HistoryFiles.{kind_group}
 
--- What was there before, or a front of the file's final bytes. Where its count of records is put in when it ends, the count may be open in that
--- front, and it may be any four bytes after a patch that failed.
+-- What was there before, the final bytes, or a front of the file as it is before it ends. A count of records that is put in at the end may be any four
+-- bytes, after a patch that failed.
 pub data IsBegunAs (late : Bool) (final : List ℕ) (before now : Option (List ℕ)) : Type 0 where
   AsBefore : now ≡ before → IsBegunAs late final before now
-  Counted : (front rest : List ℕ) → final ≡ front ++ rest → now ≡ Some front → IsBegunAs late final before now
-  Open : late ≡ true → (front rest : List ℕ) → overwritten final count_place open_count ≡ front ++ rest → now ≡ Some front → IsBegunAs late final before now
+  Unended : (front rest : List ℕ) → unended_bytes late final ≡ front ++ rest → now ≡ Some front → IsBegunAs late final before now
+  Ended : now ≡ Some final → IsBegunAs late final before now
   Miscounted : late ≡ true → (count front rest : List ℕ) → length count ≡ 4 → overwritten final count_place count ≡ front ++ rest → now ≡ Some front
       → IsBegunAs late final before now
 
@@ -40,36 +42,41 @@ abbrev pub IsCountOf : (late : Bool) → ℕ → Option ℕ → Type 0
 IsCountOf true n numrecs = numrecs ≡ None
 IsCountOf false n numrecs = numrecs ≡ Some n
 
--- and the number that stands in the header: that, or how many arrays the group has, once the file has ended
-abbrev pub StandsAsCount : (late : Bool) → ℕ → Option ℕ → Type 0
-StandsAsCount late n numrecs = IsCountOf late n numrecs ⊎ (numrecs ≡ Some n)
+-- and the number that stands in the header of a group of which these were written: that, or how many arrays the group has, where all of them were
+abbrev pub StandsAsCount : (late : Bool) → (final written : List Array) → Option ℕ → Type 0
+StandsAsCount late final written numrecs = IsCountOf late (length final) numrecs ⊎ ((written ≡ final) × (numrecs ≡ Some (length final)))
 
--- The torn name: what it had when the call failed, or what that call may have left of the header, the rows that were written and what came with the
--- call. It had what was there before the run, or the header and the rows that were written.
+-- The torn name: what it had when the call failed, or what that call may have left of the header, the rows that were written and the array that came with
+-- the call, if one did. It had what was there before the run, or the header and the rows that were written.
 pub record IsTornName (late : Bool) (shape : FileShape) (final written : List Array) (before now : Option (List ℕ)) : Type 0 where
-  pub piece : List Array
+  pub piece : Option Array
   pub rest : List Array
-  pub next : final ≡ written ++ piece ++ rest
+  pub next : final ≡ written ++ listed piece ++ rest
   pub numrecs : Option ℕ
   pub count : IsCountOf late (length final) numrecs
   pub was : Option (List ℕ)
   pub stood : (was ≡ before) ⊎ (was ≡ Some (begun_file shape numrecs written))
-  pub torn : IsTorn was shape numrecs (written ++ piece) now
+  pub torn : IsTorn was shape numrecs (written ++ listed piece) now
 
 -- the same, where the shelf tells its files
 abbrev pub IsTornAt : (late : Bool) → (shape : FileShape) → (final written : List Array) → (before held : Option Files) → (name : List ℕ) → Type 0
 IsTornAt late shape final written before None name = Unit {0}
 IsTornAt late shape final written before (Some files) name = IsTornName late shape final written (file_at before name) (file_at (Some files) name)
 
--- AFTER A FAULT: each name of a group is as before the run, or begun as its final file; every other name is as before. Of the arrays of each node
--- the first were written. But for the name on which the shelf failed, each group of which all were written is whole, any other of which some were has its
--- header and their rows, and one of which none was is as before the run.
+-- AFTER A FAULT: each name of a group is as before the run, whole, or begun as its final file; every other name is as before. What was given back as
+-- saved up to one place of the log was written, which are the first arrays of each node. But for the name on which the shelf failed, each group of
+-- which all were written is whole, any other of which some were has its header and their rows, and one of which none was is as before the run.
 pub record IsTornHistory (g : Graph) (stack : StackValue) (prefix : List ℕ) (P : Past) (before held : Option Files) : Type 0 where
   pub each : (v i : ℕ) (n : NodeRule) (r : FileRule) (bytes : List ℕ) → rule_at g.nodes v ≡ Some n → n.kind ≡ File r → kind_group g stack P v n.kind i ≡ Some bytes
       → IsBegunAt (is_stream r.mode) bytes before held (group_name prefix n.name i)
   pub others : (q : List ℕ) → ((v i : ℕ) (n : NodeRule) (bytes : List ℕ) → rule_at g.nodes v ≡ Some n → kind_group g stack P v n.kind i ≡ Some bytes → q ≢ group_name prefix n.name i)
       → file_at held q ≡ file_at before q
+  -- the place of the log, and what was given back up to there
+  pub later : Past
+  pub front : Past
+  pub log : P ≡ later ++ front
   pub written : ℕ → List Array
+  pub given : (v : ℕ) → written v ≡ written_by g stack front v
   pub first : (v : ℕ) → (rest : List Array) × (contents g.nodes stack.arrays (standing_saves v P) ≡ written v ++ rest)
   -- the node and the group of the torn name
   pub node : ℕ
@@ -81,7 +88,7 @@ pub record IsTornHistory (g : Graph) (stack : StackValue) (prefix : List ℕ) (P
   pub whole : (v i : ℕ) (n : NodeRule) (r : FileRule) → rule_at g.nodes v ≡ Some n → n.kind ≡ File r → (v ≢ node) ⊎ (i ≢ group) → length (group_of r.count i (written v)) ≡ r.count
       → HasFile held (group_name prefix n.name i) (layout (file_shape g stack v) (group_of r.count i (written v)))
   pub begun : (v i : ℕ) (n : NodeRule) (r : FileRule) → rule_at g.nodes v ≡ Some n → n.kind ≡ File r → (v ≢ node) ⊎ (i ≢ group) → 1 ≤ length (group_of r.count i (written v))
-      → (numrecs : Option ℕ) × StandsAsCount (is_stream r.mode) (length (group_of r.count i (contents g.nodes stack.arrays (standing_saves v P)))) numrecs
+      → (numrecs : Option ℕ) × StandsAsCount (is_stream r.mode) (group_of r.count i (contents g.nodes stack.arrays (standing_saves v P))) (group_of r.count i (written v)) numrecs
       × HasFile held (group_name prefix n.name i) (begun_file (file_shape g stack v) numrecs (group_of r.count i (written v)))
 
 -- An end that comes after a fault changes nothing on the shelf, and any other answers a fault where the count rose, and nowhere else.

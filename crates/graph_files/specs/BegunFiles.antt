@@ -1,5 +1,5 @@
 -- What stands on a shelf where not all of some files were written.
-use Rattle.std.specs.Prelude.{◌≡◌, ◌⊎◌, ℕ, true, List, [], ◌∷◌, length, Option}
+use Rattle.std.specs.Prelude.{◌≡◌, ◌⊎◌, ℕ, Bool, true, List, [], ◌∷◌, length, Option, if◌then◌else◌}
 use Rattle.edge_traits.specs.Files.{Files, overwritten, with_file}
 use Rattle.file_out.specs.Saving.{IsBegun}
 use Rattle.file_out.specs.Streams.{count_place}
@@ -9,11 +9,14 @@ use Rattle.graph_files.specs.OutFiles.{OutFile}
 abbrev pub open_count : List ℕ
 open_count = 255 ∷ 255 ∷ 255 ∷ 255 ∷ []
 
--- The shelf as before, or with a front of the file's final bytes under its name. Where its count of records is put in when it
--- ends, the count may be open in the front; and it may be any four bytes in the whole file, after a patch that failed.
+-- the bytes of a file before it ends: its final ones, but with an open count of records where that is put in at the end
+abbrev pub unended_bytes : (late : Bool) → (final : List ℕ) → List ℕ
+unended_bytes late final = if late then overwritten final count_place open_count else final
+
+-- The shelf as before, or with a front of the file under its name, as it is before it ends. A count that is put in at the end may be any
+-- four bytes in the whole file, after a patch that failed.
 pub data IsFileBegun (held : Option Files) (f : OutFile) (now : Option Files) : Type 0 where
-  Counted : IsBegun held f.name f.bytes now → IsFileBegun held f now
-  Open : f.late ≡ true → IsBegun held f.name (overwritten f.bytes count_place open_count) now → IsFileBegun held f now
+  Unended : IsBegun held f.name (unended_bytes f.late f.bytes) now → IsFileBegun held f now
   Miscounted : f.late ≡ true → (count : List ℕ) → length count ≡ 4 → now ≡ with_file held f.name (overwritten f.bytes count_place count) → IsFileBegun held f now
 
 -- the first of the files are there, and the next one is begun, or there is none

@@ -3,7 +3,7 @@ use Rattle.std.specs.Prelude.{◌≡◌, List, [], ◌∷◌, ◌++◌, Option, 
 use Rattle.std.proofs.Common.{inl, inr}
 use Rattle.edge_traits.specs.Files.{Files, with_file}
 use Rattle.file_out.specs.Saving.{Untouched}
-use Rattle.graph_files.specs.BegunFiles.{AreBegun, Counted}
+use Rattle.graph_files.specs.BegunFiles.{AreBegun, Unended}
 use Rattle.graph_files.specs.OutFiles.{OutFile, with_files}
 
 -- the files of both
@@ -14,7 +14,7 @@ with_files-append held (x ∷ xs) ys = with_files-append (with_file held x.name 
 -- none was written
 pub AreBegun-none : (held now : Option Files) (fs : List OutFile) → now ≡ held → AreBegun held fs now
 AreBegun-none held now [] same = same
-AreBegun-none held now (f ∷ fs) same = inl (Counted (Untouched same))
+AreBegun-none held now (f ∷ fs) same = inl (Unended (Untouched same))
 
 -- not all of the first
 pub AreBegun-first : (held now : Option Files) (xs ys : List OutFile) → AreBegun held xs now → AreBegun held (xs ++ ys) now

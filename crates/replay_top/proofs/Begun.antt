@@ -14,7 +14,7 @@ use Rattle.file_out.specs.Saving.{IsBegun}
 use Rattle.file_out.specs.Streams.{begun_file, count_place, with_count, MayCount}
 use Rattle.file_out.specs.StreamLaws.{overwritten-count, with_count-begun_file}
 use Rattle.file_out.specs.BegunLaws.{IsBegun-whole}
-use Rattle.graph_files.specs.BegunFiles.{IsFileBegun, Counted, Open, Miscounted, open_count}
+use Rattle.graph_files.specs.BegunFiles.{IsFileBegun, Unended, Miscounted, open_count}
 use Rattle.graph_files.specs.OutFiles.{OutFile}
 
 -- the number of records that a header begins with
@@ -70,13 +70,13 @@ layout-late shape arrays =
 
 -- a file that wasn't ended
 pub IsFileBegun-unended : (t u : Option Files) (name : List ℕ) (shape : FileShape) (late : Bool) (arrays : List Array) (n : ℕ) → n ≡ length arrays → IsBegun t name (unended late n shape arrays) u → IsFileBegun t (file_of name shape late arrays) u
-IsFileBegun-unended t u name shape true arrays n same begun = Open refl (subst (λ final. IsBegun t name final u) (sym (layout-late shape arrays)) begun)
-IsFileBegun-unended t u name shape false arrays n same begun = Counted (subst (λ m. IsBegun t name (begun_file shape (Some m) arrays) u) same begun)
+IsFileBegun-unended t u name shape true arrays n same begun = Unended (subst (λ final. IsBegun t name final u) (sym (layout-late shape arrays)) begun)
+IsFileBegun-unended t u name shape false arrays n same begun = Unended (subst (λ m. IsBegun t name (begun_file shape (Some m) arrays) u) same begun)
 
 -- a file whose end failed
 pub IsFileBegun-MayCount : (t v u : Option Files) (name : List ℕ) (shape : FileShape) (late : Bool) (arrays : List Array) (n m : ℕ) → n ≡ length arrays → v ≡ with_file t name (unended late n shape arrays) → MayCount v name (first_count late n) m u → IsFileBegun t (file_of name shape late arrays) u
 IsFileBegun-MayCount t v u name shape false arrays n m same all may =
-    Counted (IsBegun-whole t u name (layout shape arrays) (may ∙ all ∙ ap (λ k. with_file t name (begun_file shape (Some k) arrays)) same))
+    Unended (IsBegun-whole t u name (layout shape arrays) (may ∙ all ∙ ap (λ k. with_file t name (begun_file shape (Some k) arrays)) same))
 IsFileBegun-MayCount t v u name shape true arrays n m same all (count, four, is) =
     Miscounted refl count four (
     is ∙ ap (λ w. with_patch w name count_place count) all ∙ with_patch-with_file t name (begun_file shape None arrays) count_place count

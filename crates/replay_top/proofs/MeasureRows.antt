@@ -11,7 +11,7 @@ use Rattle.nd_stats.specs.Row.{row}
 use Rattle.file_out.specs.Saving.{IsBegun, Front}
 use Rattle.file_out.specs.BegunLaws.{IsBegun-append}
 use Rattle.flow_journal.specs.Pasts.{Past}
-use Rattle.graph_files.specs.BegunFiles.{AreBegun, Counted}
+use Rattle.graph_files.specs.BegunFiles.{AreBegun, Unended}
 use Rattle.graph_files.specs.BegunLaws.{with_files-append, AreBegun-first, AreBegun-later}
 use Rattle.graph_files.specs.OutFiles.{OutFile, with_files}
 use Rattle.replay_top.specs.LogFiles.{log_name, log_text, log_files}
@@ -121,4 +121,4 @@ module _ (held mid now : Option Files) (xs : List OutFile) (logs : Bool) (prefix
   log-begun begun =
       subst (λ b. AreBegun held (xs ++ log_files b prefix P) now) (sym some)
       (AreBegun-later held now xs (log_files true prefix P)
-      (subst (λ (w : Option Files). AreBegun w (log_files true prefix P) now) made (inl (Counted begun))))
+      (subst (λ (w : Option Files). AreBegun w (log_files true prefix P) now) made (inl (Unended begun))))

@@ -8,7 +8,7 @@ use Rattle.graph_conf.specs.declared.load.LimitFault.TheVariants.{GraphBytes, St
 use Rattle.replay_top.specs.declared.status.Status.{Status}
 use Rattle.replay_top.specs.declared.status.Status.TheVariants.{Done, Usage, GraphText, GraphRule, StackBytes, Limit, ReadFault, ShelfFault, OutFault, OutOfMemory}
 use Rattle.replay_top.specs.Answers.{Ends, HasGraph, stack_name}
-use Rattle.graph_files.specs.BegunFiles.{AreBegun, Counted}
+use Rattle.graph_files.specs.BegunFiles.{AreBegun, Unended}
 use Rattle.replay_top.specs.Command.{Command, Plain}
 use Rattle.replay_top.specs.Copy.{copy_name, copy_file, copy_files}
 use Rattle.graph_files.specs.OutFiles.{OutFile, with_files}
@@ -24,7 +24,7 @@ AreBegun-all held now (f ∷ fs) is = inr (AreBegun-all (with_file held f.name f
 pub AreBegun-copy : (held now : Option Files) (prefix : List ℕ) (s : StackValue) → length s.arrays ≢ 0 → IsBegun held (copy_name prefix) (copy_file s) now → AreBegun held (copy_files s prefix) now
 AreBegun-copy held now prefix s some begun =
     let other : (length s.arrays == 0) ≡ false = grind (arith, nat_tests) in
-    rw other (inl (Counted begun))
+    rw other (inl (Unended begun))
 
 -- reading the graph
 pub Ends-graph : (status : Status) (told held : Option Files) (graph stack prefix : List ℕ) (before now : ℕ) (written : Option (List ℕ)) → GraphStops status told graph before now → Ends status (Some (Plain graph stack prefix)) told held held written written

@@ -3,7 +3,7 @@ use Rattle.std.proofs.lemmas.Result.{err_from_is_err_and, on_ok_weaker, on_err_w
 use Rattle.nd_base.specs.GraphRules.{rule_at}
 use Rattle.chain_plain.specs.PassingLaws.{rule_within}
 use Rattle.chain_plain.proofs.Rules.{stands}
-use Rattle.graph_files.specs.BegunFiles.{AreBegun, Counted}
+use Rattle.graph_files.specs.BegunFiles.{AreBegun, Unended}
 use Rattle.graph_files.specs.BegunLaws.{AreBegun-none}
 use Rattle.graph_files.specs.OutFiles.{OutFile, node_files, with_files}
 use Rattle.graph_files.specs.NodeShapes.{longest_fits}
@@ -70,4 +70,4 @@ returns-in-Stats-clause-err g c =
     let graph = c.args.plan.now.graph in
     let some : Some c.in-Some.rule.now ≡ rule_at graph.nodes c.args.node = c.in-Some.ensures ∙ ap (λ ns. rule_at ns c.args.node) c.as_slice.ensures in
     let same = saved_rows graph c.args.stack.now c.args.node c.in-Some.rule.now c.requires.graph some c.args.prefix.now c.text-name.result.now c.in-Stats.stats c.in-Stats.is c.text-name.ensures in
-    on_err_weaker c.save_stats.result (λ h. subst (λ (fs : List OutFile). AreBegun (g.K.Shelf.held c.args.shelf.now) fs (g.K.Shelf.held c.save_stats.new.shelf)) same (inl (Counted h))) c.save_stats.ensures.err
+    on_err_weaker c.save_stats.result (λ h. subst (λ (fs : List OutFile). AreBegun (g.K.Shelf.held c.args.shelf.now) fs (g.K.Shelf.held c.save_stats.new.shelf)) same (inl (Unended h))) c.save_stats.ensures.err

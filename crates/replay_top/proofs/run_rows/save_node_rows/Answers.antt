@@ -6,7 +6,7 @@ use Rattle.nd_base.specs.declared.graph.StatsRule.{StatsRule}
 use Rattle.nd_base.specs.declared.graph.NodeRule.{NodeRule}
 use Rattle.nd_base.specs.declared.measure.Measure.{Measure}
 use Rattle.std.proofs.Common.{ℕ}
-use Rattle.graph_files.specs.BegunFiles.{AreBegun, Counted}
+use Rattle.graph_files.specs.BegunFiles.{AreBegun, Unended}
 use Rattle.graph_files.specs.OutFiles.{OutFile, with_files}
 use Rattle.replay_top.specs.MeasuredFiles.{kind_rows_file, measured_rows}
 use Rattle.replay_top.proofs.run_rows.save_node_rows.Goals as goal
@@ -25,4 +25,4 @@ pub returns-in-Stats-clause-err : goal.returns-in-Stats-clause-err
 returns-in-Stats-clause-err g c =
     let held = g.K.Shelf.held c.args.shelf.now in
     let same = rows-are c.args.prefix.now c.text.result.now c.args.rule.now c.in-Stats.field-0 c.args.measures.now c.text.ensures c.in-Stats.is in
-    on_err_weaker c.save_stats_rows.result (λ h. subst (λ (fs : List OutFile). AreBegun held fs (g.K.Shelf.held c.save_stats_rows.new.shelf)) same (inl (Counted h))) c.save_stats_rows.ensures.err
+    on_err_weaker c.save_stats_rows.result (λ h. subst (λ (fs : List OutFile). AreBegun held fs (g.K.Shelf.held c.save_stats_rows.new.shelf)) same (inl (Unended h))) c.save_stats_rows.ensures.err
