@@ -21,8 +21,6 @@ mod run_words;
 mod saving;
 mod sources;
 mod status;
-#[cfg(test)]
-mod tests;
 mod top;
 mod words;
 
