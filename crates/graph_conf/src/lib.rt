@@ -9,8 +9,6 @@ mod load;
 mod node;
 mod read;
 mod rules;
-#[cfg(test)]
-mod tests;
 mod words;
 
 pub use fault::GraphFault;

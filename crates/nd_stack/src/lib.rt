@@ -12,8 +12,6 @@ mod integers;
 mod read;
 mod round_trip;
 mod shape;
-#[cfg(test)]
-mod tests;
 
 pub use arrays::{array, shape_for};
 pub use fault::StackFault;
