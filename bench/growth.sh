@@ -14,7 +14,7 @@ measure() {
     echo "$times" | median
 }
 
-for entry in "${@:-board:16384 header:65536 journal:1250000 pool:16384 window:1000000 sort-rising:16384 sort-falling:16384 sort-shuffled:8192}"; do
+for entry in "${@:-board-file:16384 header:65536 journal:1250000 pool:16384 window:1000000 sort-rising:16384 sort-falling:16384 sort-shuffled:8192}"; do
     for one in $entry; do
         workload=${one%%:*}
         count=${one##*:}

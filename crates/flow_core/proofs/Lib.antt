@@ -7,5 +7,4 @@ pub mod Loads
 pub mod Handing
 pub mod Reclaims
 pub mod Takes
-pub mod Worked
 pub mod Lent

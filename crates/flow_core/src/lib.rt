@@ -9,8 +9,6 @@ mod calls;
 mod feeding;
 mod leaving;
 mod storage;
-#[cfg(test)]
-mod tests;
 mod working;
 
 pub use board::Board;

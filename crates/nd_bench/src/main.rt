@@ -63,7 +63,11 @@ fn run<T: Threads + Wait + Sync>(
     count: u32,
 ) -> Result<u64, Refusal> {
     let checksum = match workload {
-        "board" => board::board(alloc, count),
+        "board-file" => board::board(alloc, board::FILE, count),
+        "board-chain" => board::board(alloc, board::CHAIN, count),
+        "board-ring" => board::board(alloc, board::RING, count),
+        "board-child" => board::board(alloc, board::CHILD, count),
+        "board-children" => board::board(alloc, board::CHILDREN, count),
         "header" => header::header(alloc, count),
         "journal" => journal::journal(alloc, count),
         "log" => journal::log(alloc, count),
@@ -74,6 +78,7 @@ fn run<T: Threads + Wait + Sync>(
         "sort-falling" => sort::sort(alloc, Order::Falling, count),
         "sort-shuffled" => sort::sort(alloc, Order::Shuffled, count),
         "stack" => stack::stack(alloc, count),
+        "start" => board::start(alloc, count),
         "window" => window::window(alloc, count),
         _ => return run_threads(rt, alloc, workload, count),
     };

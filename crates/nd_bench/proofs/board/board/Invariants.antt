@@ -1,5 +1,4 @@
-use Rattle.flow_core.specs.Worked.{worked_stack}
 use Rattle.nd_bench.proofs.board.board.Given as goal
 
-abbrev pub ghosts-pass_all : goal.ghosts-pass_all
-ghosts-pass_all a = record { stack = worked_stack a.plan.now.ids; graph = a.plan.now.graph }
+abbrev pub ghosts-run_alone : goal.ghosts-run_alone
+ghosts-run_alone a = record { stack = a.stack.now; graph = a.plan.now.graph }

@@ -1,0 +1,27 @@
+#!/usr/bin/env bash
+# Times the calls of a board: `nd_bench board-GRAPH` makes all calls of a run of frames of one sample by one role, and prints how many entries
+# its log has. For each graph it prints the nanoseconds an entry at 16,384, 32,768 and 65,536 frames, the median of five runs each in turn, with
+# the time of one frame taken away, and the growth. At the end it prints how long a board of four nodes over 1,024 frames takes to begin.
+# It is no part of the gate.
+set -eu
+here=$(cd "$(dirname "$0")/.." && pwd)
+crate=$here/crates/nd_bench
+source "$here/bench/timing.sh"
+(cd "$crate" && rt run -- start 1) > /dev/null
+program=$crate/out/nd_bench
+
+measure() { for _ in 1 2 3 4 5; do nanoseconds "$program" "$@"; done | median; }
+
+for graph in file chain ring child children; do
+    base=$(measure "board-$graph" 1)
+    first=
+    for frames in 16384 32768 65536; do
+        entries=$("$program" "board-$graph" "$frames" | awk '{ print $NF }')
+        time=$(($(measure "board-$graph" "$frames") - base))
+        first=${first:-$time}
+        awk -v g="$graph" -v f="$frames" -v e="$entries" -v t="$time" -v a="$first" \
+            'BEGIN { printf "%s, %d frames: %d entries, %.0f ns an entry, growth %.2f\n", g, f, e, t / e, t / a }'
+    done
+done
+base=$(measure start 0)
+awk -v t="$(($(measure start 100) - base))" 'BEGIN { printf "start: %.3f ms a board\n", t / 100e6 }'

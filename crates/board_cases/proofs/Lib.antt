@@ -1,0 +1,10 @@
+mod Workers
+mod Lists
+mod Staying
+mod FeederHands
+mod WorkerHands
+mod SaverHands
+mod Seated
+mod Dealing
+mod Reclaiming
+mod Leaving

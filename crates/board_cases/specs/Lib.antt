@@ -1,0 +1,4 @@
+pub mod Hands
+pub mod Workers
+pub mod Seats
+pub mod Ends
