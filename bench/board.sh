@@ -24,4 +24,4 @@ for graph in file chain ring child children; do
     done
 done
 base=$(measure start 0)
-awk -v t="$(($(measure start 100) - base))" 'BEGIN { printf "start: %.3f ms a board\n", t / 100e6 }'
+awk -v t="$(($(measure start 10000) - base))" 'BEGIN { printf "start: %.1f microseconds a board\n", t / 1e7 }'
