@@ -46,3 +46,8 @@ sum_below (suc n) value = sum_below n value +ℤ value n
 -- the sum of so many samples from a place on
 abbrev pub run : SampleType → List ℕ → ℕ → ℕ → ℤ
 run kind bytes n p = sum_below n (λ j. stored kind bytes (p + j))
+
+-- the sum of the squares of so many samples from a place on
+abbrev pub square_run : SampleType → List ℕ → ℕ → ℕ → ℕ
+square_run kind bytes zero p = 0
+square_run kind bytes (suc n) p = square_run kind bytes n p + unsigned_abs (stored kind bytes (p + n)) * unsigned_abs (stored kind bytes (p + n))

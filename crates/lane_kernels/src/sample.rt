@@ -1,6 +1,6 @@
 //! Samples by their places.
 
-ghost use Rattle.std.specs.Prelude.{◌≡◌, ◌/◌, ◌<◌, length};
+ghost use Rattle.std.specs.Prelude.{◌≡◌, ◌*◌, ◌/◌, ◌<◌, ◌≤◌, length, unsigned_abs};
 ghost use Rattle.nd_base.specs.Samples.{width, IsSmall};
 ghost use Rattle.lane_kernels.specs.Plain.{stored};
 
@@ -14,4 +14,40 @@ pub fn sample_at(kind: SampleType, bytes: &[u8], place: usize) -> i64
     ensures small { IsSmall result }
 {
     number_at(kind, bytes, place * kind.width())
+}
+
+/// The sample at a place, of at most 16 bits.
+#[inline(always)]
+#[tactic(auto, using(crate::proofs::Narrow::narrow_stored))]
+pub(crate) fn narrow_at(kind: SampleType, bytes: &[u8], place: usize) -> i32
+    requires place { place < length bytes.now / width kind }
+    requires narrow { width kind ≤ 2 }
+    ensures value { result ≡ stored kind bytes.now place }
+    ensures bound { unsigned_abs result ≤ 65535 }
+{
+    sample_at(kind, bytes, place) as i32
+}
+
+/// The size of the sample at a place, of 8 bits.
+#[inline(always)]
+#[tactic(auto, using(crate::proofs::Narrow::byte_stored))]
+fn byte_size(kind: SampleType, bytes: &[u8], place: usize) -> u32
+    requires place { place < length bytes.now / width kind }
+    requires narrow { width kind ≡ 1 }
+    ensures value { result ≡ unsigned_abs (stored kind bytes.now place) }
+    ensures bound { result ≤ 255 }
+{
+    (sample_at(kind, bytes, place) as i32).unsigned_abs()
+}
+
+/// The square of the sample at a place, of 8 bits.
+#[inline(always)]
+pub(crate) fn byte_square(kind: SampleType, bytes: &[u8], place: usize) -> u32
+    requires place { place < length bytes.now / width kind }
+    requires narrow { width kind ≡ 1 }
+    ensures value { result ≡ unsigned_abs (stored kind bytes.now place) * unsigned_abs (stored kind bytes.now place) }
+    ensures bound { result ≤ 65025 }
+{
+    let size = byte_size(kind, bytes, place);
+    size * size
 }

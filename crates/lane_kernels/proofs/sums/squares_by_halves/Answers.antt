@@ -1,11 +1,10 @@
-use Rattle.std.proofs.Common.{◌≡◌, ◌<◌, ◌≤◌, ◌+◌, ◌*◌, ◌/◌, ◌%◌, ◌^◌, ℕ, length, arith, ap, ◌∙◌, ℤ, w64, FitsSigned}
+use Rattle.std.proofs.Common.{◌≡◌, ◌<◌, ◌*◌, ◌^◌, ℕ, arith, ap, ◌∙◌, ℤ, w64, FitsSigned}
 use Rattle.std.proofs.lemmas.Int.{to_z-of_z, fits_signed_from_abs}
 use Rattle.std.specs.Prelude.{unsigned_abs}
-use Rattle.nd_base.specs.Samples.{width, numbers}
-use Rattle.lane_kernels.specs.Plain.{squares, stored}
+use Rattle.lane_kernels.specs.Plain.{stored}
 use Rattle.lane_kernels.proofs.Samples.{same_number, squares-more}
 use Rattle.lane_kernels.proofs.Halves.{halves, square_below}
-use Rattle.lane_kernels.proofs.sums.squares.Goals as goal
+use Rattle.lane_kernels.proofs.sums.squares_by_halves.Goals as goal
 
 pub loop-k-preserved : goal.loop-k-preserved
 loop-k-preserved c =

@@ -1,4 +1,4 @@
-use Rattle.std.proofs.Common.{rules, ◌≡◌, ◌<◌, ◌≤◌, ◌/◌, ◌*◌, ◌+◌, length, arith, ap, sym, ◌∙◌, ◌+ℤ◌, ℤ, ℕ, w32, w64, to_z, of_z, FitsSigned, Some}
+use Rattle.std.proofs.Common.{rules, ◌≡◌, ◌≤◌, ◌/◌, length, arith, ap, sym, ◌∙◌, ◌+ℤ◌, ℤ, ℕ, w32, w64, to_z, FitsSigned, Some}
 use Rattle.std.specs.Int.{int_max}
 use Rattle.std.proofs.lemmas.Int.{to_z-of_z}
 use Rattle.nd_base.specs.Samples.{width, numbers}
@@ -7,7 +7,7 @@ use Rattle.lane_kernels.specs.Plain.{greatest_with, stored}
 use Rattle.lane_kernels.specs.Lanes.{offset}
 use Rattle.lane_kernels.proofs.Samples.{same_number, some_samples}
 use Rattle.lane_kernels.proofs.Leasts.{stored-first, max_shift, greatest-more, greatest_all}
-use Rattle.lane_kernels.proofs.extremes.max.Goals as goal
+use Rattle.lane_kernels.proofs.extremes.wide_max.Goals as goal
 
 pub loop-k-init : goal.loop-k-init
 loop-k-init c =

@@ -1,9 +1,9 @@
 use Rattle.std.proofs.Common.{◌≡◌, ◌<◌, ◌≤◌, ◌+◌, ◌*◌, ◌/◌, length, arith, ap, sym, subst, ◌∙◌, ◌+ℤ◌, ℤ, w64, to_z}
 use Rattle.std.specs.Prelude.{unsigned_abs}
 use Rattle.nd_base.specs.Samples.{width, numbers}
-use Rattle.lane_kernels.specs.Plain.{total, stored}
+use Rattle.lane_kernels.specs.Plain.{total}
 use Rattle.lane_kernels.proofs.Samples.{same_number, sum_bound, sum_stored, total-more}
-use Rattle.lane_kernels.proofs.sums.sum.Goals as goal
+use Rattle.lane_kernels.proofs.sums.sum_each.Goals as goal
 
 pub loop-k-preserved : goal.loop-k-preserved
 loop-k-preserved c =

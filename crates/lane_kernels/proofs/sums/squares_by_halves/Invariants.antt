@@ -1,7 +1,7 @@
 use Rattle.std.proofs.Common.{◌≡◌, ◌+◌, ◌*◌, ◌≤◌}
 use Rattle.nd_base.specs.Samples.{numbers}
 use Rattle.lane_kernels.specs.Plain.{squares}
-use Rattle.lane_kernels.proofs.sums.squares.Given as goal
+use Rattle.lane_kernels.proofs.sums.squares_by_halves.Given as goal
 
 abbrev pub invariant-loop-k : goal.invariant-loop-k
 invariant-loop-k l = record {

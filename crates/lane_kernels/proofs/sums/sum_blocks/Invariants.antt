@@ -1,0 +1,15 @@
+use Rattle.std.proofs.Common.{◌≡◌, ◌*◌, ◌≤◌, ◌-◌, ◌/◌, length}
+use Rattle.std.specs.Prelude.{unsigned_abs}
+use Rattle.nd_base.specs.Samples.{width, numbers}
+use Rattle.lane_kernels.specs.Plain.{total}
+use Rattle.lane_kernels.proofs.sums.sum_blocks.Given as goal
+
+abbrev pub invariant-loop-done : goal.invariant-loop-done
+invariant-loop-done l = record {
+  done : l.done ≤ length l.samples / width l.kind;
+  sum : l.sum ≡ total (numbers l.kind l.done l.samples);
+  bound : unsigned_abs l.sum ≤ l.done * 65535;
+}
+
+abbrev pub decreases-loop-done : goal.decreases-loop-done
+decreases-loop-done l = l.count - l.done
