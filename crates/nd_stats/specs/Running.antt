@@ -49,6 +49,10 @@ abbrev pub AreBins : StatsRule → List ℕ → Type 0
 AreBins rule bins =
     (k : ℕ) → k < length bins → (let range = unsigned_abs (rule.hist_hi -ℤ rule.hist_lo) in slice_index_or bins k 0 ≡ (2 * k * (rule.hist_size - 1) + range) / (2 * range))
 
+-- no more bins than values of the histogram's range
+abbrev pub IsWithinRange : StatsRule → List ℕ → Type 0
+IsWithinRange rule bins = length bins ≤ unsigned_abs (rule.hist_hi -ℤ rule.hist_lo) + 1
+
 -- the counts of the histogram's range, and of what lies beside it
 pub record IsCounted (rule : StatsRule) (xs : List Sample) (e : Ends) (counts : List ℤ) : Type 0 where
   pub below : e.below ≡ count_where (is_below rule) xs

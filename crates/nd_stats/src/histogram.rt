@@ -1,13 +1,13 @@
 //! The histogram of a piece.
 
-ghost use Rattle.std.specs.Prelude.{◌≡◌, ◌≢◌, ◌+◌, ◌/◌, ◌<◌, ◌≤◌, ◌^◌, ◌≤ℤ◌, ◌-ℤ◌, ◌&&◌, [], int_lt, length, unsigned_abs, IfOk};
+ghost use Rattle.std.specs.Prelude.{◌≡◌, ◌≢◌, ◌+◌, ◌/◌, ◌<◌, ◌≤◌, ◌^◌, ◌≤ℤ◌, ◌-ℤ◌, ◌&&◌, [], int_lt, length, unsigned_abs, IfOk, IfSome};
 ghost use Rattle.nd_base.specs.GraphRules.{IsStats};
-ghost use Rattle.nd_base.specs.Samples.{width, samples_of};
+ghost use Rattle.nd_base.specs.Samples.{width, samples_of, IsSmall};
 ghost use Rattle.nd_base.specs.Shapes.{most_samples};
 ghost use Rattle.nd_stats.specs.Measured.{bin_of, has_histogram};
 ghost use Rattle.nd_stats.specs.Tallies.{HaveRoom, bins_after, one_if};
 ghost use Rattle.nd_stats.specs.Samples.{placed};
-ghost use Rattle.nd_stats.specs.Running.{IsHistogram, AreBins, IsCounted};
+ghost use Rattle.nd_stats.specs.Running.{IsHistogram, AreBins, IsWithinRange, IsCounted};
 
 use crate::tally::{Histogram, add_at, bin_at, bin_of, distance};
 use lane_kernels::sample_at;
@@ -22,6 +22,7 @@ pub(crate) fn list_bins(
 ) -> Result<Vec<u16>, OutOfMemory>
     requires { IsStats rule.now }
     ensures bins { IfOk result (λ bins. AreBins rule.now bins.items) }
+    ensures within { IfOk result (λ bins. IsWithinRange rule.now bins.items) }
     ensures size { IfOk result (λ bins. rule.now.hist_size ≢ 0 → unsigned_abs (rule.now.hist_hi -ℤ rule.now.hist_lo) < count / 2 → length bins.items ≡ unsigned_abs (rule.now.hist_hi -ℤ rule.now.hist_lo) + 1) }
 {
     let mut bins = Vec::new(alloc);
@@ -38,20 +39,33 @@ pub(crate) fn list_bins(
     Ok(bins)
 }
 
-/// The bin of a value of the histogram's range, by the list where it has one.
+/// How far a value lies above the low end of the histogram's range; further than any range where it lies below.
 #[inline(always)]
-fn bin_by(rule: &StatsRule, bins: &[u16], value: i64) -> usize
+fn above_low(rule: &StatsRule, value: i64) -> u64
+    requires rule { IsStats rule.now }
+    requires small { IsSmall value }
+    ensures from { result < 2 ^ 40 → rule.now.hist_lo ≤ℤ value }
+    ensures distance { result < 2 ^ 40 → result ≡ unsigned_abs (value -ℤ rule.now.hist_lo) }
+{
+    (value - rule.hist_lo).cast_unsigned()
+}
+
+/// The bin of a value, where the list has it.
+#[inline(always)]
+fn listed_bin(rule: &StatsRule, bins: &[u16], value: i64) -> Option<usize>
     requires rule { IsStats rule.now }
     requires some { rule.now.hist_size ≢ 0 }
     requires bins { AreBins rule.now bins.now }
-    requires from { rule.now.hist_lo ≤ℤ value }
-    requires to { value ≤ℤ rule.now.hist_hi }
-    ensures bin { result ≡ bin_of rule.now value }
-    ensures below { result < rule.now.hist_size }
+    requires within { IsWithinRange rule.now bins.now }
+    requires small { IsSmall value }
+    ensures from { IfSome result (λ bin. rule.now.hist_lo ≤ℤ value) }
+    ensures to { IfSome result (λ bin. value ≤ℤ rule.now.hist_hi) }
+    ensures bin { IfSome result (λ bin. bin ≡ bin_of rule.now value) }
+    ensures below { IfSome result (λ bin. bin < rule.now.hist_size) }
 {
-    match bins.get(distance(rule.hist_lo, value) as usize) {
-        Some(bin) => usize::from(*bin),
-        None => bin_of(rule, value),
+    match bins.get(above_low(rule, value) as usize) {
+        Some(bin) => Some(usize::from(*bin)),
+        None => None,
     }
 }
 
@@ -68,6 +82,8 @@ fn count_one(rule: &StatsRule, bins: &[u16], value: i64, ends: Ends, counts: &mu
     requires rule { IsStats rule.now }
     requires some { rule.now.hist_size ≢ 0 }
     requires bins { AreBins rule.now bins.now }
+    requires within { IsWithinRange rule.now bins.now }
+    requires small { IsSmall value }
     requires size { length counts.old ≡ rule.now.hist_size }
     requires room { HaveRoom counts.old }
     requires below { ends.below < 2 ^ 31 }
@@ -76,6 +92,10 @@ fn count_one(rule: &StatsRule, bins: &[u16], value: i64, ends: Ends, counts: &mu
     ensures bins { counts.new ≡ bins_after rule.now value counts.old }
     ensures above { result.above ≡ ends.above + one_if (has_histogram rule.now && int_lt rule.now.hist_hi value) }
 {
+    if let Some(bin) = listed_bin(rule, bins, value) {
+        add_at(counts, bin, 1);
+        return ends;
+    }
     let Ends { below, above } = ends;
     if value < rule.hist_lo {
         return Ends {
@@ -89,7 +109,7 @@ fn count_one(rule: &StatsRule, bins: &[u16], value: i64, ends: Ends, counts: &mu
             above: above + 1,
         };
     }
-    add_at(counts, bin_by(rule, bins, value), 1);
+    add_at(counts, bin_of(rule, value), 1);
     ends
 }
 
@@ -106,6 +126,7 @@ fn count_each(
     requires rule { IsStats rule.now }
     requires some { rule.now.hist_size ≢ 0 }
     requires bins { AreBins rule.now bins.now }
+    requires within { IsWithinRange rule.now bins.now }
     requires few { length samples.now / width kind ≤ most_samples }
     requires blank { IsCounted rule.now [] record { below = 0; above = 0 } counts.old }
     ensures { IsCounted rule.now (placed from (samples_of kind samples.now)) result counts.new }
@@ -129,6 +150,7 @@ fn count_all(
     requires rule { IsStats rule.now }
     requires some { rule.now.hist_size ≢ 0 }
     requires bins { AreBins rule.now bins.now }
+    requires within { IsWithinRange rule.now bins.now }
     requires few { length samples.now / width kind ≤ most_samples }
     requires blank { IsCounted rule.now [] record { below = 0; above = 0 } counts.old }
     ensures { IsCounted rule.now (placed from (samples_of kind samples.now)) result counts.new }
@@ -154,6 +176,7 @@ pub(crate) fn histogram_of(
 ) -> Histogram
     requires rule { IsStats rule.now }
     requires bins { AreBins rule.now bins.now }
+    requires within { IsWithinRange rule.now bins.now }
     requires few { length samples.now / width kind ≤ most_samples }
     requires blank { IsHistogram rule.now [] blank }
     ensures { IsHistogram rule.now (placed from (samples_of kind samples.now)) result }

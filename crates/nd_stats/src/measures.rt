@@ -7,7 +7,7 @@ ghost use Rattle.nd_base.specs.Shapes.{has_dimensions, sample_count, most_sample
 ghost use Rattle.nd_base.specs.Places.{size_in};
 ghost use Rattle.nd_stats.specs.Samples.{table, placed};
 ghost use Rattle.nd_stats.specs.Measured.{measure_of};
-ghost use Rattle.nd_stats.specs.Running.{IsTally, IsFrame, AreBins};
+ghost use Rattle.nd_stats.specs.Running.{IsTally, IsFrame, AreBins, IsWithinRange};
 
 use crate::border::edge_of;
 use crate::extremes::extremes_of;
@@ -155,6 +155,7 @@ fn tally_lines(
 ) -> Tally
     requires frame { IsFrame rule.now dims.now }
     requires bins { AreBins rule.now bins.now }
+    requires range { IsWithinRange rule.now bins.now }
     requires whole { length samples.now % width kind ≡ 0 }
     requires some { 0 < length samples.now / width kind }
     requires within { from + length samples.now / width kind ≤ sample_count dims.now }
@@ -195,6 +196,7 @@ fn tally_of(
 ) -> Tally
     requires frame { IsFrame rule.now dims.now }
     requires bins { AreBins rule.now bins.now }
+    requires range { IsWithinRange rule.now bins.now }
     requires whole { length samples.now % width kind ≡ 0 }
     requires some { 0 < length samples.now / width kind }
     requires within { from + length samples.now / width kind ≤ sample_count dims.now }
