@@ -9,17 +9,17 @@ use Rattle.frame_store.specs.Sealed.{Sealed}
 use Rattle.flow_journal.specs.Setting.{Setting, last_role}
 use Rattle.board_rules.specs.RunMeasures.{run_setting}
 use Rattle.flow_roles.specs.Passes.{Pass}
-use Rattle.flow_roles.specs.RoleMoves.{feeder_logs, worker_logs, IsFresh}
+use Rattle.flow_roles.specs.RoleMoves.{feeder_logs, worker_logs, saver_logs, IsFresh}
 use Rattle.flow_roles.proofs.RoleCalls.{fresh-nothing}
 use Rattle.board_cases.specs.declared.seats.Feeder.{Feeder}
 use Rattle.board_cases.specs.declared.seats.Job.{Job}
 use Rattle.board_cases.specs.declared.seats.Worker.{Worker}
 use Rattle.board_cases.specs.declared.seats.Saver.{Saver}
 use Rattle.board_cases.specs.declared.seats.Seats.{Seats}
-use Rattle.board_cases.specs.Workers.{workers}
-use Rattle.board_cases.specs.Seats.{saver_logs, HoldsFrame, HoldsJob, HoldsPiece, IsFeeding, IsWorking, IsSaving, AreSeated, workers_of}
-use Rattle.board_cases.proofs.Lists.{at-front, at-end}
-use Rattle.board_cases.proofs.Workers.{worker-node, workers-many}
+use Rattle.flow_roles.specs.Workers.{workers}
+use Rattle.board_cases.specs.Seats.{HoldsJob, IsFeeding, IsWorking, IsSaving, AreSeated, workers_of}
+use Rattle.flow_roles.proofs.Lists.{at-front, at-end}
+use Rattle.flow_roles.proofs.Workers.{worker-node, workers-many}
 
 -- THE LOOP
 

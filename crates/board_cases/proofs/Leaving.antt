@@ -1,7 +1,6 @@
 -- What the seats leave may be taken back.
-use Rattle.std.proofs.Common.{◌≡◌, ◌≢◌, ℕ, zero, suc, ◌+◌, ◌<◌, ◌≤◌, Bool, true, false, eqb, ltb, List, [], ◌∷◌, ◌++◌, map, length, refl, sym, ap, ◌∙◌, subst, arith, Option, Some, None, inl, inr}
+use Rattle.std.proofs.Common.{◌≡◌, ◌≢◌, ℕ, zero, suc, ◌+◌, ◌<◌, ◌≤◌, true, false, eqb, ltb, List, [], ◌∷◌, ◌++◌, map, length, refl, sym, ap, ◌∙◌, subst, arith, Option, Some, None, inl, inr}
 use Rattle.std.specs.Prelude.{slice_get, All, is_none, is_some}
-use Rattle.std.specs.List.{list_all}
 use Rattle.std.proofs.lemmas.Bool.{false≢true, cases_Bool, eqb-true, eqb-false, ltb-true, ltb-false}
 use Rattle.std.proofs.lemmas.List.{length-append, length-map}
 use Rattle.nd_base.specs.Array.{StackValue}
@@ -22,7 +21,7 @@ use Rattle.board_rules.specs.Leaving.{MayReclaim}
 use Rattle.board_rules.specs.RunMeasures.{run_setting}
 use Rattle.board_rules.proofs.Moves.{moves-tell}
 use Rattle.flow_roles.specs.Passes.{Pass}
-use Rattle.flow_roles.specs.RoleMoves.{feeder_logs, worker_logs}
+use Rattle.flow_roles.specs.RoleMoves.{feeder_logs, worker_logs, saver_logs}
 use Rattle.flow_roles.specs.RoleEnds.{IsOfHand}
 use Rattle.flow_roles.specs.TurnPasses.{HasMade}
 use Rattle.flow_roles.specs.Feeder.{name_of, parts_of}
@@ -31,12 +30,13 @@ use Rattle.board_cases.specs.declared.seats.LoadedFrame.{LoadedFrame}
 use Rattle.board_cases.specs.declared.seats.Job.{Job}
 use Rattle.board_cases.specs.declared.seats.Worker.{Worker}
 use Rattle.board_cases.specs.declared.seats.Seats.{Seats}
-use Rattle.board_cases.specs.Seats.{saver_logs, HoldsFrame, HoldsJob, HoldsPiece, AreSeated}
+use Rattle.board_cases.specs.Seats.{HoldsFrame, HoldsJob, AreSeated}
 use Rattle.board_cases.specs.Ends.{left_of_frame, left_of_job, passes_of, lefts_of, MayDrain}
-use Rattle.board_cases.proofs.Lists.{at-front, at-end, at-map, map-at, listed, all-at, all-from}
+use Rattle.flow_roles.proofs.Lists.{at-front, at-end, at-map, map-at, listed, all-at, all-from}
 use Rattle.board_cases.proofs.Staying.{frame-moves, job-moves, piece-moves}
 use Rattle.board_cases.proofs.SaverHands.{none-free}
-use Rattle.board_cases.proofs.Reclaiming.{feeder-none, worker-none, saver-none, not-back, never-back}
+use Rattle.flow_roles.proofs.TakenBack.{feeder-none, worker-none, saver-none, not-back}
+use Rattle.board_cases.proofs.Reclaiming.{never-back}
 
 -- WHAT IS OF A HAND
 

@@ -1,5 +1,4 @@
-mod Workers
-mod Lists
+mod Measures
 mod Staying
 mod FeederHands
 mod WorkerHands

@@ -1,14 +1,13 @@
 -- What the calls of the role that saves leave in its hand.
-use Rattle.std.proofs.Common.{◌≡◌, ℕ, Bool, true, false, not, ◌||◌, cond, ◌++◌, List, length, refl, ap, sym, ◌∙◌, Option, Some, None, Ok, Err}
+use Rattle.std.proofs.Common.{◌≡◌, ℕ, Bool, true, false, not, ◌||◌, cond, refl, ap, sym, ◌∙◌, Option, Some, None, Ok}
 use Rattle.std.specs.Prelude.{is_some}
 use Rattle.std.specs.List.{list_any}
-use Rattle.std.proofs.lemmas.Bool.{false≢true, true≢false, eq-eqb, and_from}
+use Rattle.std.proofs.lemmas.Bool.{false≢true, true≢false, eq-eqb}
 use Rattle.frame_store.specs.Sealed.{Sealed}
 use Rattle.flow_journal.specs.declared.entry.Entry.{Entry}
 use Rattle.flow_journal.specs.declared.entry.Entry.TheVariants.{Load, LoadRefused, Issue, Take, TakeBlock, PoolDrop, Put, Settle, Save, Saved, Close, Leave, Reclaim}
 use Rattle.flow_journal.specs.Setting.{Setting}
 use Rattle.flow_journal.specs.Hands.{hand, is_free, hands, is_piece}
-use Rattle.flow_journal.specs.Pasts.{Past}
 use Rattle.flow_journal.proofs.Changes.{hand_laws}
 use Rattle.board_rules.specs.declared.answers.Save.{Save as save_answer}
 use Rattle.board_rules.specs.declared.answers.Save.TheVariants as save
@@ -18,12 +17,12 @@ use Rattle.board_rules.specs.InHand.{is_piece_on, hand_node}
 use Rattle.board_rules.specs.Saving.{has_due, save_refusal, SaveAnswers, SaveGives, LendsPiece, MaySaved, SavedGives}
 use Rattle.flow_roles.specs.declared.last.Last.TheVariants as last
 use Rattle.flow_roles.specs.Passes.{Pass, Called}
-use Rattle.flow_roles.specs.RoleMoves.{HasNothing}
+use Rattle.flow_roles.specs.RoleMoves.{saver_logs, HasNothing}
 use Rattle.flow_roles.specs.Feeder.{name_of, parts_of}
 use Rattle.flow_roles.proofs.Calls.{here, moved, role-after}
 use Rattle.flow_roles.proofs.WorkerCalls.{same-self}
 use Rattle.board_cases.specs.Hands.{is_still_save, piece_of}
-use Rattle.board_cases.specs.Seats.{saver_logs, HasPiece, HoldsPiece}
+use Rattle.board_cases.specs.Seats.{HasPiece, HoldsPiece}
 use Rattle.board_cases.proofs.Staying.{piece-still}
 
 pub saver-quiet : (e : Entry) → begins e ≡ None → saver_logs e ≡ true

@@ -1,5 +1,5 @@
 -- The seats where one worker makes a call.
-use Rattle.std.proofs.Common.{◌≡◌, ℕ, suc, ◌<◌, List, length, refl, sym, ap, ◌∙◌, subst, Option, Some, inl, inr}
+use Rattle.std.proofs.Common.{◌≡◌, ◌⊎◌, ℕ, zero, suc, ◌<◌, List, [], ◌∷◌, length, refl, sym, ap, ◌∙◌, subst, Some, inl, inr}
 use Rattle.std.specs.Prelude.{slice_get, slice_set, slice_index_or, Result, Ok, Err, OnOk}
 use Rattle.std.proofs.lemmas.List.{length-set}
 use Rattle.std.proofs.lemmas.Option.{slice_get-get_or}
@@ -12,7 +12,18 @@ use Rattle.board_cases.specs.declared.seats.Worker.{Worker}
 use Rattle.board_cases.specs.declared.seats.Saver.{Saver}
 use Rattle.board_cases.specs.declared.seats.Seats.{Seats}
 use Rattle.board_cases.specs.Seats.{IsFeeding, IsWorking, IsSaving, AreSeated}
-use Rattle.board_cases.proofs.Lists.{at-set}
+
+-- a list in which one item was replaced
+at-set : {X : Type 0} (xs : List X) (k : ℕ) (a : X) (j : ℕ) (x : X) → slice_get (slice_set xs k a) j ≡ Some x → ((j ≡ k) × (a ≡ x)) ⊎ (slice_get xs j ≡ Some x)
+at-set [] k a j x h = cc
+at-set (y ∷ ys) zero a zero x h = let is : a ≡ x = cc in inl (refl, is)
+at-set (y ∷ ys) zero a (suc j) x h = inr h
+at-set (y ∷ ys) (suc k) a zero x h = inr h
+at-set (y ∷ ys) (suc k) a (suc j) x h =
+    elim (at-set ys k a j x h) [
+      | inl both ↦ inl (ap suc both.0, both.1)
+      | inr there ↦ inr there
+    ]
 
 module _ {P : Type 0} (ours : P → Type 0) (knows : P → Pass) (g : Graph) (stack : StackValue) (x : Seats Sealed P) (a : AreSeated ours knows g stack x) where
   pub working-at : (r k : ℕ) (w : Worker Sealed P) → r ≡ suc k → k < length x.workers.items → w ≡ slice_index_or x.workers.items k w → IsWorking ours knows g stack r w

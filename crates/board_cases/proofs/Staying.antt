@@ -1,5 +1,5 @@
 -- What is in a hand stays there at a call that changes nothing, and where the role leaves.
-use Rattle.std.proofs.Common.{◌≡◌, ℕ, Bool, true, List, ◌++◌, length, refl, sym, ap, ◌∙◌, subst, subst₂, Option, Some, None, inl, inr}
+use Rattle.std.proofs.Common.{◌≡◌, ℕ, Bool, true, ◌++◌, length, refl, sym, ap, ◌∙◌, subst, subst₂, Option, Some, None, inl, inr}
 use Rattle.std.specs.List.{list_all}
 use Rattle.std.proofs.lemmas.Bool.{cases_Bool}
 use Rattle.nd_base.specs.Array.{StackValue}
@@ -18,14 +18,13 @@ use Rattle.board_rules.specs.Leaving.{LeaveGives}
 use Rattle.flow_roles.specs.declared.last.Last.{Last}
 use Rattle.flow_roles.specs.declared.last.Last.TheVariants.{Gone}
 use Rattle.flow_roles.specs.Passes.{Pass, Called}
-use Rattle.flow_roles.specs.RoleMoves.{feeder_logs, worker_logs, HasNothing}
+use Rattle.flow_roles.specs.RoleMoves.{feeder_logs, worker_logs, saver_logs, HasNothing}
 use Rattle.flow_roles.specs.RoleEnds.{IsOfHand}
-use Rattle.flow_roles.specs.Feeder.{name_of, parts_of, HasLoaded}
-use Rattle.flow_roles.specs.Worker.{HasJob}
+use Rattle.flow_roles.specs.Feeder.{name_of, parts_of}
 use Rattle.flow_roles.proofs.Calls.{here, unmoved, moved, hand-before, role-after}
 use Rattle.board_cases.specs.declared.seats.LoadedFrame.{LoadedFrame}
 use Rattle.board_cases.specs.declared.seats.Job.{Job}
-use Rattle.board_cases.specs.Seats.{saver_logs, HasPiece, HoldsFrame, HoldsJob, HoldsPiece}
+use Rattle.board_cases.specs.Seats.{HoldsFrame, HoldsJob, HoldsPiece}
 
 -- the hand is as before
 pub record Stays (logs : Entry → Bool) (r : ℕ) (old new : Pass) : Type 0 where

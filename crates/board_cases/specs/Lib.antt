@@ -1,4 +1,3 @@
 pub mod Hands
-pub mod Workers
 pub mod Seats
 pub mod Ends

@@ -1,18 +1,17 @@
 -- The seats of the roles: what each has in hand, by its pass.
-use Rattle.std.specs.Prelude.{◌≡◌, ℕ, suc, Bool, true, List, [], ◌∷◌, length, Option, Some, None, IsTrue, is_none, slice_get}
+use Rattle.std.specs.Prelude.{◌≡◌, ℕ, suc, true, List, [], ◌∷◌, length, Option, Some, None, IsTrue, slice_get}
 use Rattle.std.specs.List.{list_all}
 use Rattle.nd_base.specs.Array.{StackValue}
 use Rattle.nd_base.specs.declared.graph.Graph.{Graph}
 use Rattle.frame_store.specs.Sealed.{Sealed}
-use Rattle.flow_journal.specs.declared.entry.Entry.{Entry}
 use Rattle.flow_journal.specs.declared.entry.Entry.TheVariants as entry
 use Rattle.flow_journal.specs.Setting.{is_node, last_role}
 use Rattle.flow_journal.specs.Hands.{hand}
 use Rattle.board_rules.specs.InHand.{is_piece_on}
 use Rattle.board_rules.specs.RunMeasures.{run_setting}
-use Rattle.board_rules.specs.States.{past, begins, lent_to}
+use Rattle.board_rules.specs.States.{past, lent_to}
 use Rattle.flow_roles.specs.Passes.{Pass}
-use Rattle.flow_roles.specs.RoleMoves.{feeder_logs, worker_logs, HasNothing}
+use Rattle.flow_roles.specs.RoleMoves.{feeder_logs, worker_logs, saver_logs, HasNothing}
 use Rattle.flow_roles.specs.Feeder.{parts_of, HasLoaded}
 use Rattle.flow_roles.specs.Worker.{HasJob}
 use Rattle.board_cases.specs.declared.seats.LoadedFrame.{LoadedFrame}
@@ -21,12 +20,6 @@ use Rattle.board_cases.specs.declared.seats.Job.{Job}
 use Rattle.board_cases.specs.declared.seats.Worker.{Worker}
 use Rattle.board_cases.specs.declared.seats.Saver.{Saver}
 use Rattle.board_cases.specs.declared.seats.Seats.{Seats}
-
--- an entry of the moves of the role that saves
-abbrev pub saver_logs : Entry → Bool
-saver_logs (entry.Save r v m k g) = true
-saver_logs (entry.Saved r v m k) = true
-saver_logs e = is_none (begins e)
 
 -- the role has this piece in hand
 pub record HasPiece (r : ℕ) (piece : Sealed) (p : Pass) : Type 0 where

@@ -10,6 +10,7 @@ ghost use Rattle.board_cases.specs.Ends.{left_of_frame, left_of_job, passes_of, 
 use crate::seats::{Feeder, Job, LoadedFrame, Saver, Seats, Worker};
 use anyhow::{Result, bail};
 use board_rules::{BoardCalls, Left, Save};
+use flow_roles::nothing;
 use frame_store::Frame;
 use nd_base::{Plan, Run};
 use std::alloc::Global;
@@ -24,11 +25,7 @@ fn left_of_feeder<R: Run>(frame: Option<LoadedFrame>) -> Left<Frame<R>>
             made: None,
             blank: Some(blank),
         },
-        None => Left {
-            input: None,
-            made: None,
-            blank: None,
-        },
+        None => nothing(),
     }
 }
 
@@ -42,11 +39,7 @@ fn left_of_worker<R: Run>(job: Option<Job<Frame<R>>>) -> Left<Frame<R>>
             made: None,
             blank,
         },
-        None => Left {
-            input: None,
-            made: None,
-            blank: None,
-        },
+        None => nothing(),
     }
 }
 

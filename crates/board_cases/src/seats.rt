@@ -1,17 +1,15 @@
 //! The seats of the roles: what each makes its calls with, and what it has in hand.
 
-ghost use Rattle.std.specs.Prelude.{◌≡◌, ◌+◌, ◌++◌, ◌<◌, ◌^◌, ℕ, replicate, length, vec_len, Some, slice_get, IfOk, OnOk};
-ghost use Rattle.nd_base.specs.GraphRules.{IsGraph};
-ghost use Rattle.chain_plain.specs.Plans.{plan_of};
+ghost use Rattle.std.specs.Prelude.{◌≡◌, ◌+◌, ◌<◌, ℕ, length, vec_len, Some, slice_get, IfOk};
 ghost use Rattle.board_rules.specs.RunMeasures.{run_setting};
 ghost use Rattle.flow_roles.specs.TurnPasses.{known_by, IsPassOf, IsFreshOf};
-ghost use Rattle.board_cases.specs.Workers as roles;
+ghost use Rattle.flow_roles.specs.Workers as roles;
 ghost use Rattle.board_cases.specs.Seats.{workers_of, AreSeated};
 
 use board_rules::BoardCalls;
 use flow_roles::{Played, TurnPass};
 use frame_store::{Blank, Frame};
-use nd_base::{OutOfMemory, Plan, Run};
+use nd_base::{OutOfMemory, Run};
 use std::alloc::Global;
 use turn_lock::TurnLock;
 
@@ -57,29 +55,6 @@ pub struct Seats<F, P> {
     pub feeder: Feeder<P>,
     pub workers: Vec<Worker<F, P>>,
     pub saver: Saver<F, P>,
-}
-
-/// Adds the number of a node, as often as it has threads.
-fn add_threads(nodes: &mut Vec<u32>, node: u32, threads: u32) -> Result<(), OutOfMemory>
-    ensures { IfOk result (λ _. nodes.new.items ≡ nodes.old.items ++ replicate threads node) }
-{
-    for _ in 0..threads {
-        nodes.push(node)?;
-    }
-    Ok(())
-}
-
-/// The node of each worker, from role 1 on.
-pub fn worker_nodes<R: Run>(alloc: Global, plan: &Plan) -> Result<Vec<u32>, OutOfMemory>
-    requires plan { plan.now ≡ plan_of R.graph R.stack }
-    requires graph { IsGraph R.graph }
-    ensures { IfOk result (λ nodes. nodes.items ≡ roles.workers (run_setting R.graph R.stack)) }
-{
-    let mut nodes = Vec::new(alloc);
-    for (place, rule) in plan.graph.nodes.as_slice().iter().enumerate() {
-        add_threads(&mut nodes, place as u32 + 1, rule.threads)?;
-    }
-    Ok(nodes)
 }
 
 /// The workers at these nodes, with these passes.

@@ -7,9 +7,7 @@ use Rattle.std.proofs.Math.Dec.{eqb-zero-suc}
 use Rattle.std.proofs.lemmas.Bool.{cases_Bool, eqb-true, eqb-false, eq-eqb, false≢true}
 use Rattle.nd_base.specs.GraphRules.{IsGraph, makes_arrays, input_of, rule_at}
 use Rattle.nd_base.specs.declared.graph.Graph.{Graph}
-use Rattle.nd_base.specs.declared.graph.Kind.TheVariants.{Roi}
 use Rattle.nd_base.specs.declared.graph.NodeRule.{NodeRule}
-use Rattle.nd_base.specs.declared.graph.RoiRule.{RoiRule}
 use Rattle.nd_base.specs.declared.plan.Maker.{Maker}
 use Rattle.nd_base.specs.declared.plan.Plan.{Plan}
 use Rattle.nd_base.specs.Array.{StackValue}

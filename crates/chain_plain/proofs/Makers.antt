@@ -1,5 +1,5 @@
 -- The makers and the ids so far.
-use Rattle.std.specs.Prelude.{◌≡◌, ◌≢◌, ℕ, zero, suc, ◌+◌, ◌<◌, Bool, true, false, List, [], ◌∷◌, ◌++◌, length, map, take, filter, Some, IfSome, slice_get, if◌then◌else◌, refl}
+use Rattle.std.specs.Prelude.{◌≡◌, ℕ, zero, suc, ◌+◌, ◌<◌, Bool, true, false, List, [], ◌∷◌, ◌++◌, length, map, take, filter, Some, IfSome, slice_get, if◌then◌else◌}
 use Rattle.std.specs.List.{range_with_len}
 use Rattle.std.specs.Option.{option_map_or}
 use Rattle.std.proofs.Common.{ap, sym, ◌∙◌, arith, get_or}
@@ -9,10 +9,7 @@ use Rattle.std.proofs.lemmas.Option.{slice_get-get_or}
 use Rattle.nd_base.specs.GraphRules.{makes_arrays}
 use Rattle.nd_base.specs.Array.{Array}
 use Rattle.nd_base.specs.declared.array.Head.{Head}
-use Rattle.nd_base.specs.declared.graph.Kind.{Kind}
-use Rattle.nd_base.specs.declared.graph.Kind.TheVariants.{Roi, Stats, Circular, File}
 use Rattle.nd_base.specs.declared.graph.NodeRule.{NodeRule}
-use Rattle.nd_base.specs.declared.graph.RoiRule.{RoiRule}
 use Rattle.nd_base.specs.Stacks.{head_of}
 use Rattle.nd_base.specs.PlaceLaws.{range-split}
 use Rattle.chain_plain.specs.Nodes.{is_region}

@@ -218,13 +218,6 @@ fn half_frame(alloc: Global, maker: u32, index: u32) -> Result<NdArray, Fail> {
     frame(alloc, &plan, &stack, maker, index)
 }
 
-#[test]
-fn halves_frames_of_640_by_480(rt: HostRuntime) -> Result<(), Fail> {
-    let made = half_frame(rt.alloc(), 1, 3)?;
-    assert!(rt; is_half(&made, 4, &[0, 12]));
-    Ok(())
-}
-
 /// The worked region of an array.
 fn half_of(alloc: Global, array: &NdArray) -> Result<NdArray, Fail> {
     Ok(region_of(alloc, &half(alloc)?, array)?)
@@ -248,22 +241,6 @@ fn lines(alloc: Global, sizes: &[u32]) -> Result<Stack, Fail> {
     stack_of(alloc, sizes, heads, bytes)
 }
 
-/// What statistics of the halves of two frames pass on.
-fn measured(alloc: Global, accepted: &[u32]) -> Result<Vec<u32>, Fail> {
-    let stack = lines(alloc, &[8])?;
-    let plan = planned(alloc, Worked::Halved, &stack)?;
-    passed(alloc, &plan, &stack, 2, accepted)
-}
-
-#[test]
-fn statistics_pass_all_on_in_their_order(rt: HostRuntime) -> Result<(), Fail> {
-    assert_eq!(rt;
-        measured(rt.alloc(), &[1, 0])?.as_slice(),
-        [1, 0].as_slice()
-    );
-    Ok(())
-}
-
 /// A content of the three regions, of frames of these sizes.
 fn line_frame(alloc: Global, sizes: &[u32], maker: u32, index: u32) -> Result<NdArray, Fail> {
     let stack = lines(alloc, sizes)?;
@@ -282,36 +259,6 @@ fn regions_follow_one_another(rt: HostRuntime) -> Result<(), Fail> {
     for (maker, samples) in rows {
         let made = line_frame(rt.alloc(), &[8], maker, 1)?;
         assert_eq!(rt; made.bytes(), samples, "{maker}");
-    }
-    Ok(())
-}
-
-/// Whether the plan of the three regions has these makers.
-fn three_makers(alloc: Global, want: &[Made]) -> Result<bool, Fail> {
-    let stack = lines(alloc, &[8])?;
-    let plan = planned(alloc, Worked::Three, &stack)?;
-    Ok(has_makers(&plan, want))
-}
-
-#[test]
-fn makers_stand_in_the_order_of_the_graph(rt: HostRuntime) -> Result<(), Fail> {
-    let want = [
-        (0, UInt8, [8].as_slice(), 8),
-        (1, UInt8, [2].as_slice(), 2),
-        (2, UInt8, [3].as_slice(), 3),
-        (3, UInt8, [6].as_slice(), 6),
-    ];
-    assert!(rt; three_makers(rt.alloc(), &want)?);
-    Ok(())
-}
-
-#[test]
-fn ten_dimensions_go_through_regions(rt: HostRuntime) -> Result<(), Fail> {
-    let sizes = [4, 1, 1, 1, 1, 2, 1, 1, 1, 1].as_slice();
-    let rows = [(3, [2, 3, 4, 6, 7, 8].as_slice()), (1, [5, 13].as_slice())];
-    for (maker, samples) in rows {
-        let made = line_frame(rt.alloc(), sizes, maker, 0)?;
-        assert_eq!(rt; (made.bytes(), made.dims().len()), (samples, 10));
     }
     Ok(())
 }

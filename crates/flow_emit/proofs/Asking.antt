@@ -1,13 +1,12 @@
 -- What stands against a call, as code reads it of a node and its rules.
-use Rattle.std.proofs.Common.{◌≡◌, ◌≤◌, ◌<◌, ◌∙◌, ◌-◌, ℕ, ◌+◌, ◌%◌, zero, suc, true, false, Bool, ◌&&◌, ◌||◌, not, List, [], ◌∷◌, Option, Some, None, length, map, drop, filter, refl, sym, ap, subst, eqb, leb, ltb, get_or, arith, inl, inr, ◌⊎◌}
-use Rattle.std.specs.Prelude.{slice_get, IfSome}
-use Rattle.std.specs.List.{list_all, list_any, All}
-use Rattle.std.proofs.lemmas.Bool.{ne_eqb, cases_Bool, lt-ltb, le-ltb}
-use Rattle.std.proofs.lemmas.List.{length-map}
+use Rattle.std.proofs.Common.{◌≡◌, ◌≤◌, ◌<◌, ◌∙◌, ◌-◌, ℕ, ◌+◌, ◌%◌, true, false, Bool, ◌&&◌, ◌||◌, not, List, [], ◌∷◌, Option, Some, None, length, filter, refl, sym, ap, subst, eqb, leb, ltb, arith, inl, inr}
+use Rattle.std.specs.Prelude.{slice_get}
+use Rattle.std.specs.List.{list_any}
+use Rattle.std.proofs.lemmas.Bool.{ne_eqb, cases_Bool, lt-ltb}
 use Rattle.nd_base.specs.declared.frame.FrameName.{FrameName}
 use Rattle.nd_base.specs.declared.measure.Measure.{Measure}
 use Rattle.queue_sort.specs.Inboxes.{InboxState}
-use Rattle.flow_journal.specs.Setting.{Setting, Node, Work, node, is_node}
+use Rattle.flow_journal.specs.Setting.{Setting, Node, Work, node}
 use Rattle.flow_journal.specs.Pasts.{Past, same}
 use Rattle.flow_journal.specs.Hands.{hands, is_piece, jobs}
 use Rattle.flow_journal.specs.Ended.{is_settled, has_ended}

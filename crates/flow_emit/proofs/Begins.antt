@@ -2,7 +2,7 @@
 use Rattle.std.proofs.Common.{◌≡◌, ◌≤◌, ◌∷◌, ◌++◌, ◌∙◌, ℕ, true, false, Bool, ◌&&◌, [], refl, sym, ap, subst, Some, None, Ok}
 use Rattle.std.proofs.lemmas.Bool.{and_parts, false≢true}
 use Rattle.nd_base.specs.declared.frame.FrameName.{FrameName}
-use Rattle.pool_ledger.specs.Grants.{Answer, Granted}
+use Rattle.pool_ledger.specs.Grants.{Granted}
 use Rattle.pool_ledger.specs.Grants as pool
 use Rattle.flow_journal.specs.declared.entry.Entry.TheVariants.{Load, LoadRefused, Issue, Close, Leave, Take, TakeBlock, PoolDrop, Save, Saved, Reclaim}
 use Rattle.flow_journal.specs.Setting.{Setting, last_role, is_maker, node}

@@ -5,7 +5,7 @@ use Rattle.std.specs.List.{All, flat_map}
 use Rattle.std.proofs.lemmas.List.Elements.{All-head, All-tail}
 use Rattle.nd_base.specs.declared.frame.FrameName.{FrameName}
 use Rattle.nd_base.specs.declared.measure.Measure.{Measure}
-use Rattle.pool_ledger.specs.Ledger.{Ledger, with_refs}
+use Rattle.pool_ledger.specs.Ledger.{with_refs}
 use Rattle.pool_ledger.specs.Ledger as ledger
 use Rattle.flow_journal.specs.Setting.{Setting}
 use Rattle.flow_journal.specs.Accounts.{block_of}

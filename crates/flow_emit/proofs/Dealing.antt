@@ -1,5 +1,6 @@
 -- A node that deals: whose turn it is, and the offer to that child.
-use Rattle.std.proofs.Common.{◌≡◌, ◌≤◌, ◌<◌, ◌∙◌, ◌%◌, mod-lt, ℕ, zero, suc, ◌+◌, true, false, Bool, List, [], ◌∷◌, ◌++◌, Some, None, length, drop, take, map, filter, set, refl, sym, ap, subst, arith}
+use Rattle.std.proofs.Common.{◌≡◌, ◌≤◌, ◌<◌, ◌∙◌, ◌%◌, ◌+◌, ◌-◌, ℕ, zero, suc, true, false, Bool, List, [], ◌∷◌, ◌++◌, Some, None, refl, sym, ap, subst, arith}
+use Rattle.std.proofs.Common.{length, drop, take, map, filter, set, get_or, mod-lt}
 use Rattle.std.specs.Prelude.{slice_get, flat_map, if◌then◌else◌, not}
 use Rattle.std.specs.List.{All, position, position_or_len}
 use Rattle.std.specs.Option.{unwrap_or}
@@ -15,7 +16,7 @@ use Rattle.flow_journal.specs.Setting.{Setting, is_node, children}
 use Rattle.flow_journal.specs.Following.{offer}
 use Rattle.board_rules.specs.Moving.{with_all}
 use Rattle.flow_emit.proofs.Depth.{offers-first}
-use Rattle.flow_emit.proofs.Offering.{children-nodes, offered_as}
+use Rattle.flow_emit.proofs.Offering.{children-nodes, few-children, offered_as}
 use Rattle.flow_journal.specs.Pasts.{Past, frame}
 use Rattle.flow_journal.specs.Queued.{has_room}
 use Rattle.flow_journal.specs.Accounts.{block_of}
@@ -25,8 +26,8 @@ use Rattle.board_rules.specs.States.{BoardState, past, plain}
 use Rattle.pool_account.specs.Account.{all_named}
 use Rattle.pool_account.proofs.Laws.{hold_laws, array_laws}
 use Rattle.queue_sort.specs.Inboxes.{with_last}
-use Rattle.std.proofs.lemmas.List.{length-set}
-use Rattle.std.proofs.lemmas.List.Elements.{filter-append, All-append, All-drop, All-take, All-filter, All-head}
+use Rattle.std.proofs.lemmas.List.{length-map, length-set}
+use Rattle.std.proofs.lemmas.List.Elements.{All-append, All-drop, All-take, All-filter, All-head}
 use Rattle.flow_emit.specs.declared.node.NodeState.{NodeState}
 use Rattle.flow_emit.specs.declared.facts.Facts.{Facts}
 use Rattle.flow_emit.specs.NodeStates.{IsNode, AreNodes}
@@ -39,8 +40,9 @@ use Rattle.flow_emit.proofs.Here.{here-accept-turned}
 use Rattle.flow_emit.proofs.Roles.{roles-kept}
 use Rattle.flow_emit.proofs.FrameBlocks.{blocks-kept}
 use Rattle.flow_emit.proofs.FactsAfter.{facts-accept, facts-full}
-use Rattle.flow_emit.proofs.Reading.{full-of}
-use Rattle.flow_emit.proofs.Coursing.{Measuring, apart-more}
+use Rattle.flow_emit.specs.RunRules.{as_node, children_of}
+use Rattle.flow_emit.proofs.Reading.{full-of, place-of, read-at}
+use Rattle.flow_emit.proofs.Coursing.{Measuring, apart-more, node-is}
 
 -- what is kept of a node is as the log P says, but for its turn, which is already as the log Q says
 record IsReady (measure : Measuring) (s : Setting) (P Q : Past) (v : ℕ) (n : NodeState) : Type 0 where
@@ -111,65 +113,62 @@ dealt-full-suc measure s k a v t m j x i legal at turned quiet =
     }
 
 -- THE CHILD IN TURN
-first-shown : {X : Type 0} (xs ys : List X) (c : X) → slice_get xs 0 ≡ Some c → slice_get (xs ++ ys) 0 ≡ Some c
-first-shown [] ys c h = cc
-first-shown (x ∷ xs) ys c h = h
-
-none-shown : {X : Type 0} (xs : List X) → slice_get xs 0 ≡ None → xs ≡ []
-none-shown [] h = refl
-none-shown (x ∷ xs) h = cc
-
--- of two lists, one after the other: the first that passes, or the first of all
-pub picks-here : (p : ℕ → Bool) (xs ys : List ℕ) (c : ℕ) → slice_get (filter p xs) 0 ≡ Some c → slice_get (filter p (xs ++ ys) ++ (xs ++ ys)) 0 ≡ Some c
-picks-here p xs ys c h =
-    first-shown (filter p (xs ++ ys)) (xs ++ ys) c (rw (filter-append p xs ys) (first-shown (filter p xs) (filter p ys) c h))
-
-pub picks-next : (p : ℕ → Bool) (xs ys : List ℕ) (c : ℕ) → slice_get (filter p xs) 0 ≡ None → slice_get (filter p ys) 0 ≡ Some c → slice_get (filter p (xs ++ ys) ++ (xs ++ ys)) 0 ≡ Some c
-picks-next p xs ys c none h =
-    first-shown (filter p (xs ++ ys)) (xs ++ ys) c (rw (filter-append p xs ys, none-shown (filter p xs) none) h)
-
-pub picks-first : (p : ℕ → Bool) (xs ys : List ℕ) → 0 < length xs → slice_get (filter p xs) 0 ≡ None → slice_get (filter p ys) 0 ≡ None → slice_get (filter p (xs ++ ys) ++ (xs ++ ys)) 0 ≡ slice_get xs 0
-picks-first p [] ys some none h = absurd (omega (arith, some))
-picks-first p (x ∷ xs) ys some none h =
-    let empty : filter p ((x ∷ xs) ++ ys) ≡ [] = filter-append p (x ∷ xs) ys ∙ (ap (λ zs. zs ++ filter p ys) (none-shown (filter p (x ∷ xs)) none) ∙ none-shown (filter p ys) h) in
-    ap (λ zs. slice_get (zs ++ ((x ∷ xs) ++ ys)) 0) empty
-
--- a node that has children is at the place of one
-pub no-children : (s : Setting) (v : ℕ) (P : Past) (t : ℕ) (cs : List ℕ) → cs ≡ children s v → (0 < length (children s v) → t ≡ turn s v P) → length cs ≤ t → cs ≡ []
-no-children s v P t [] is turned le = refl
-no-children s v P t (c ∷ cs) is turned le =
-    let some : 0 < length (children s v) = omega (arith, ap length is) in
-    absurd (omega (arith, le, turned some, ap length is, mod-lt (place_after (last_child v P) (children s v)) some))
-
-taken-one : (xs : List ℕ) → slice_get (take 1 xs) 0 ≡ slice_get xs 0
+pub taken-one : (xs : List ℕ) → slice_get (take 1 xs) 0 ≡ slice_get xs 0
 taken-one [] = refl
 taken-one (x ∷ xs) = refl
 
-round-of-none : (t u : ℕ) (p : ℕ → Bool) (cs : List ℕ) → cs ≡ [] → slice_get (filter p (round_from u cs) ++ round_from u cs) 0 ≡ slice_get (filter p (drop t cs ++ take t cs) ++ (drop t cs ++ take t cs)) 0
-round-of-none zero zero p [] h = refl
-round-of-none (suc t) zero p [] h = refl
-round-of-none zero (suc u) p [] h = refl
-round-of-none (suc t) (suc u) p [] h = refl
-round-of-none t u p (c ∷ cs) h = cc
+-- of no nodes, none
+pub none-in-turn : (s : Setting) (P : Past) (t : ℕ) (cs : List ℕ) → length cs ≡ 0 → slice_get (dealt_to s P (round_from t cs)) 0 ≡ None
+none-in-turn s P zero [] none = refl
+none-in-turn s P (suc t) [] none = refl
+none-in-turn s P t (c ∷ cs) none = absurd (omega (arith, none))
 
--- to whom a node that deals offers what has just gone out of it
-pub dealt-first : (s : Setting) (v : ℕ) (a : FrameName) (b : BoardState) (t : ℕ) (cs : List ℕ) → HasEmitted v a b → is_legal s (past b) ≡ true → deals s v ≡ true → cs ≡ children s v → (0 < length (children s v) → t ≡ turn s v (past b))
-    → slice_get (offered_to s (before_emission b) v) 0 ≡ slice_get (filter (has_room s (past b)) (drop t cs ++ take t cs) ++ (drop t cs ++ take t cs)) 0
-dealt-first s v a b t cs (why, rest, is) legal d kids turned =
-    subst (λ (x : BoardState). slice_get (offered_to s (before_emission x) v) 0 ≡ slice_get (filter (has_room s (past x)) (drop t cs ++ take t cs) ++ (drop t cs ++ take t cs)) 0) (sym is)
-    (rw (d, kids) (taken-one (filter (has_room s (past rest)) (in_turn s (past rest) v) ++ in_turn s (past rest) v) ∙ split (children s v) refl)) where
+-- What a node that deals chooses from, where it has just emitted an array: its children, and whose turn it is. The first one in turn is
+-- whom it offers the array.
+pub record IsDealing (s : Setting) (v : ℕ) (b : BoardState) (t : ℕ) (cs : List ℕ) : Type 0 where
+  pub few : length cs ≤ 32
+  pub nodes : All (λ u. is_node s u ≡ true) cs
+  pub within : 0 < length cs → t < length cs
+  pub first : slice_get (dealt_to s (past b) (round_from t cs)) 0 ≡ slice_get (offered_to s (before_emission b) v) 0
+
+-- the turn is the one of before the emission
+same-turn : (s : Setting) (v : ℕ) (a : FrameName) (b : BoardState) (t : ℕ) → HasEmitted v a b → is_legal s (past b) ≡ true → deals s v ≡ true
+    → (0 < length (children s v) → t ≡ turn s v (past b))
+    → slice_get (dealt_to s (past b) (round_from t (children s v))) 0 ≡ slice_get (offered_to s (before_emission b) v) 0
+same-turn s v a b t (why, rest, is) legal d turned =
+    subst (λ (x : BoardState). slice_get (dealt_to s (past x) (round_from t (children s v))) 0 ≡ slice_get (offered_to s (before_emission x) v) 0) (sym is)
+    (rw d (split (children s v) refl)) where
       P : Past
       P = past rest
 
       e : Entry
       e = Emit v a.maker a.index why
 
-      split : (xs : List ℕ) → children s v ≡ xs → slice_get (filter (has_room s (past rest)) (in_turn s (past rest) v) ++ in_turn s (past rest) v) 0 ≡ slice_get (filter (has_room s (past rest)) (drop t (children s v) ++ take t (children s v)) ++ (drop t (children s v) ++ take t (children s v))) 0
-      split [] none = round-of-none t (turn s v (past rest)) (has_room s (past rest)) (children s v) none
+      split : (xs : List ℕ) → children s v ≡ xs → slice_get (dealt_to s P (round_from t (children s v))) 0 ≡ slice_get (dealt_to s P (in_turn s P v)) 0
+      split [] none = none-in-turn s P t (children s v) (ap length none) ∙ sym (none-in-turn s P (turn s v P) (children s v) (ap length none))
       split (x ∷ xs) h =
           let some : 0 < length (children s v) = omega (arith, ap length h) in
-          let same : t ≡ turn s v (past rest) = turned some ∙ (ap (λ (y : BoardState). turn s v (past y)) is ∙ turn-same s v (Emit v a.maker a.index why) (past rest) (subst (λ (y : BoardState). is_legal s (past y) ≡ true) is legal) (no-emit v a.maker a.index why) d some) in
+          let emitted : is_legal s (e ∷ P) ≡ true = subst (λ (y : BoardState). is_legal s (past y) ≡ true) is legal in
+          let kept : turn s v (e ∷ P) ≡ turn s v P = turn-same s v e P emitted (no-emit v a.maker a.index why) d some in
+          let same : t ≡ turn s v P = turned some ∙ (ap (λ (y : BoardState). turn s v (past y)) is ∙ kept) in
           rw same refl
+
+pub is-dealing : (measure : Measuring) (s : Setting) (k : Parts) (v : ℕ) (a : FrameName) (b : BoardState) (n : NodeState) (cs : List ℕ)
+    → IsCourse measure s k → past b ≡ log_of k → is_node s v ≡ true → deals s v ≡ true → HasEmitted v a b → n ≡ get_or k.nodes (v - 1) n → cs ≡ children_of k.rules v → IsDealing s v b n.turn cs
+is-dealing measure s k v a b n cs i now node d emitted read listed =
+    let q = place-of s v node in
+    let at : slice_get k.nodes (v - 1) ≡ Some n = read-at k.nodes (v - 1) n (omega (arith, q.1, i.nodes.all)) read in
+    let here : IsNode measure s v (log_of k) n = node-is measure s k v (v - 1) n q.0 i at in
+    let kids : cs ≡ children s v = listed ∙ i.ruled.children v (omega (arith, q)) in
+    let turned : 0 < length (children s v) → n.turn ≡ turn s v (past b) = λ some. here.next_child d some ∙ ap (turn s v) (sym now) in
+    let legal : is_legal s (past b) ≡ true = rw now i.legal in
+    record {
+      few = omega (arith, ap length kids, few-children s v, i.ruled.few_nodes, ap length i.ruled.nodes, length-map k.rules.nodes as_node);
+      nodes = subst (All (λ u. is_node s u ≡ true)) (sym kids) (children-nodes s v);
+      within = λ some. let more : 0 < length (children s v) = omega (arith, some, ap length kids) in
+          omega (arith, turned more, ap length kids, mod-lt (place_after (last_child v (past b)) (children s v)) more);
+      first = ap (λ xs. slice_get (dealt_to s (past b) (round_from n.turn xs)) 0) kids ∙ same-turn s v a b n.turn emitted legal d turned;
+    }
 
 -- PLACES
 pub place-found : (test : ℕ → Bool) (xs : List ℕ) → unwrap_or (position test xs) (length xs) ≡ position_or_len test xs
@@ -177,12 +176,6 @@ place-found test xs = split (ltb (position_or_len test xs) (length xs)) refl whe
   split : (b : Bool) → ltb (position_or_len test xs) (length xs) ≡ b → unwrap_or (cond b (Some (position_or_len test xs)) None) (length xs) ≡ position_or_len test xs
   split true lt = refl
   split false ge = omega (arith, ltb-false (position_or_len test xs) (length xs) ge, prefix_len-le-length (λ x. not (test x)) xs)
-
--- of no nodes, none
-pub nothing-shown : (p : ℕ → Bool) (t : ℕ) (cs : List ℕ) → cs ≡ [] → slice_get (filter p (drop t cs ++ take t cs) ++ (drop t cs ++ take t cs)) 0 ≡ None
-nothing-shown p zero [] h = refl
-nothing-shown p (suc t) [] h = refl
-nothing-shown p t (c ∷ cs) h = cc
 
 -- THE OFFER, BY THE NUMBERS OF THE NODES
 pub dealt : (measure : Measuring) (s : Setting) (k : Parts) (v u a c t m j b : ℕ) (x n : NodeState) → suc a ≡ v → suc c ≡ u → IsCourse measure s k → is_legal s (Accept u m j ∷ log_of k) ≡ true → slice_get k.nodes a ≡ Some x → t ≡ turn s v (Accept u m j ∷ log_of k) → OnlyDealt s v (log_of k) → slice_get (set k.nodes a (record x { turn = t })) c ≡ Some n → has_room s (log_of k) u ≡ true → block_of (log_of k) (frame m j) ≡ b ∷ [] → 0 < ledger.refs k.pool b → IsCourse measure s (record k { log = record k.log { told = plain (Accept u m j) ∷ k.log.told }; nodes = set (set k.nodes a (record x { turn = t })) c (record n { inbox = with_last n.inbox (frame m j) }); pool = with_refs b (ledger.refs k.pool b + 1) k.pool; facts = record k.facts { came = k.facts.came + 1 } })

@@ -1,5 +1,5 @@
 -- What is left at the end, as code reads it of nodes and roles.
-use Rattle.std.proofs.Common.{◌≡◌, ◌≤◌, ◌<◌, ◌∙◌, ℕ, ◌+◌, ◌*◌, ◌^◌, zero, suc, true, false, Bool, ◌&&◌, List, [], ◌∷◌, ◌++◌, Option, Some, None, length, map, refl, sym, ap, subst, arith, inl, inr, ◌⊎◌, eqb}
+use Rattle.std.proofs.Common.{◌≡◌, ◌≤◌, ◌<◌, ◌∙◌, ℕ, ◌+◌, ◌^◌, zero, suc, true, false, Bool, ◌&&◌, List, [], ◌∷◌, ◌++◌, Option, Some, None, length, map, refl, sym, ap, subst, arith, inl, inr, ◌⊎◌, eqb}
 use Rattle.std.proofs.Math.Nat.{mul-le-mul}
 use Rattle.std.specs.Prelude.{slice_get, is_none}
 use Rattle.std.specs.List.{list_all}
@@ -15,7 +15,6 @@ use Rattle.flow_journal.specs.Pasts.{Past}
 use Rattle.flow_journal.specs.Hands.{hand, hands, is_free}
 use Rattle.flow_journal.specs.Ended.{is_settled}
 use Rattle.flow_journal.specs.Queued.{queued}
-use Rattle.flow_journal.specs.Waiting.{Waiting, waiting}
 use Rattle.flow_journal.specs.Rings.{ring}
 use Rattle.flow_journal.specs.Unsaved.{unsaved}
 use Rattle.flow_journal.specs.Finished.{none_left, is_done}
@@ -30,9 +29,8 @@ use Rattle.flow_emit.specs.RunRules.{AreRules, as_node}
 use Rattle.flow_emit.specs.declared.node.NodeState.{NodeState}
 use Rattle.flow_emit.specs.declared.hand.RoleState.{RoleState}
 use Rattle.flow_emit.specs.Endings.{is_over, has_free_hand}
-use Rattle.flow_emit.specs.HandWords.{has_nothing}
 use Rattle.flow_emit.specs.NodeStates.{AreNodes, IsNode}
-use Rattle.flow_emit.specs.RoleStates.{AreRoles, hand_of, role_of}
+use Rattle.flow_emit.specs.RoleStates.{AreRoles, role_of}
 use Rattle.flow_emit.proofs.Flushed.{list-empty}
 use Rattle.flow_emit.proofs.HandRoles.{role-of-hand, no-hands}
 use Rattle.flow_emit.proofs.HandWords.{free-is}

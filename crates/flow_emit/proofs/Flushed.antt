@@ -1,32 +1,24 @@
 -- In a history nothing waits at a settled node: what waits there is owed. The lemmas stand in flow_drain too, above this crate.
-use Rattle.std.proofs.Common.{◌≡◌, ◌≢◌, ℕ, ◌≤◌, Bool, true, false, ◌&&◌, cond, eqb, List, [], ◌∷◌, map, drop, refl, sym, ap, ◌∙◌, subst, arith, Option, Some, None, inl, inr}
-use Rattle.std.specs.List.{list_all}
-use Rattle.std.proofs.lemmas.Bool.{and_parts, and_from, false≢true, true≢false, eqb-true, eq-eqb, ne_eqb, cases_Bool}
+use Rattle.std.proofs.Common.{◌≡◌, ◌≢◌, ℕ, ◌≤◌, Bool, true, false, ◌&&◌, eqb, List, [], ◌∷◌, map, drop, refl, sym, ap, ◌∙◌, subst, arith, inl, inr}
+use Rattle.std.proofs.lemmas.Bool.{and_parts, and_from, false≢true, true≢false, eqb-true, eq-eqb, cases_Bool}
 use Rattle.nd_base.specs.declared.frame.FrameName.{FrameName}
 use Rattle.flow_journal.specs.declared.entry.Entry.{Entry}
 use Rattle.flow_journal.specs.declared.entry.Entry.TheVariants.{Load, LoadRefused, Tick, Issue, Emit, Accept, Full, Take, TakeBlock, PoolDrop, Put, SortDrop, Settle, Save, Saved, Close, Leave, Reclaim}
-use Rattle.flow_journal.specs.declared.entry.Why.TheVariants.{Plain}
-use Rattle.flow_journal.specs.Setting.{Setting, node, is_sorted, node_numbers}
+use Rattle.flow_journal.specs.Setting.{Setting, is_sorted}
 use Rattle.flow_journal.specs.Turns.{offered_to}
-use Rattle.flow_journal.specs.Pasts.{Past, frame, same, without}
-use Rattle.flow_journal.specs.Hands.{takes_up, hands, hand, is_job, jobs, job_array, is_loaded}
-use Rattle.flow_journal.specs.Ended.{is_closed, is_settled, has_ended}
-use Rattle.flow_journal.specs.Queued.{queued}
+use Rattle.flow_journal.specs.Pasts.{Past, frame, same}
+use Rattle.flow_journal.specs.Ended.{is_settled}
 use Rattle.flow_journal.specs.Waiting.{Waiting, waiting, not_waiting, least_first}
-use Rattle.flow_journal.specs.Following.{offer, look, calls_for, owed}
+use Rattle.flow_journal.specs.Following.{offer, calls_for, owed}
 use Rattle.flow_journal.specs.Histories.{is_legal, is_history, is_nothing, answers}
-use Rattle.flow_journal.specs.RowFacts.{HasLoaded}
 use Rattle.flow_journal.proofs.Changes.{put_laws}
 use Rattle.flow_journal.proofs.Steps.{same_refl}
 use Rattle.flow_journal.proofs.Hands.{row_of}
-use Rattle.flow_journal.proofs.Rows.{row_laws}
-use Rattle.flow_journal.proofs.EntryCounts.{count, bit, count-cons, count-append, count-drop, count-let_go, owed-first, owed-answered, answers-by_Accept, answers-by_Tick}
-use Rattle.flow_journal.proofs.Settled.{settled-idle, put-unsettled}
-use Rattle.flow_journal.proofs.Outs.{out_of, is_out_at, AllOutAt, waits, none_elsewhere, result-at, flush-at, goes_out-at, count-flush, count-least_first}
-use Rattle.flow_journal.proofs.Offers.{is_number, once_numbered, none_numbered_0, child_once}
-use Rattle.flow_journal.proofs.Dealing.{count-offered}
-use Rattle.flow_journal.proofs.Issues.{looks, looks-none, looks-le, puts_at_node, settles_node}
-use Rattle.flow_journal.proofs.Emissions.{removed, owed-waits, owed-Emit_out, owed-SortDrop_out, no_outs_in_offers}
+use Rattle.flow_journal.proofs.EntryCounts.{count, bit, count-cons, count-append, owed-first, owed-answered, answers-by_Accept, answers-by_Tick}
+use Rattle.flow_journal.proofs.Settled.{put-unsettled}
+use Rattle.flow_journal.proofs.Outs.{out_of, waits, count-flush, count-least_first}
+use Rattle.flow_journal.proofs.Issues.{settles_node}
+use Rattle.flow_journal.proofs.Emissions.{removed, owed-waits, owed-Emit_out, owed-SortDrop_out}
 
 -- WHAT WAITS AT A SETTLED NODE IS OWED
 

@@ -1,5 +1,5 @@
 -- What code reads of a hand is what the words of the board say of the entry that gave it.
-use Rattle.std.proofs.Common.{◌≡◌, ℕ, List, [], ◌∷◌, Bool, true, false, Option, Some, None, refl}
+use Rattle.std.proofs.Common.{◌≡◌, ℕ, [], ◌∷◌, true, false, Option, Some, None, refl}
 use Rattle.std.proofs.lemmas.Bool.{false≢true}
 use Rattle.std.specs.Prelude.{MatchOption}
 use Rattle.flow_journal.specs.Pasts.{Past}
@@ -10,7 +10,6 @@ use Rattle.flow_journal.specs.declared.entry.Entry.{Entry}
 use Rattle.flow_journal.specs.declared.entry.Entry.TheVariants.{Load, Take, TakeBlock, Save}
 use Rattle.std.specs.Prelude.{is_none}
 use Rattle.board_rules.specs.InHand.{hand_name, hand_node, is_load_of, is_job_on, is_piece_on, has_part_of, granted_block, granted_size, has_grant}
-use Rattle.flow_emit.specs.declared.hand.Block.{Block}
 use Rattle.flow_emit.specs.RoleStates.{hand_of}
 use Rattle.flow_emit.specs.HandWords.{has_nothing, array_of, node_of, loads, works_on, saves_on, shares, grant_of}
 

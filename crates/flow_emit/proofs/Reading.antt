@@ -61,11 +61,6 @@ rule-of ru s v i r is are at = ap (node s) (sym is) ∙ (ap (λ ns. slice_index_
 pub more-of : {X : Type 0} (n : ℕ) (xs : List X) (d : X) → n < length xs → drop n xs ≡ get_or xs n d ∷ drop (n + 1) xs
 more-of n xs d lt = rw (add-one, drop-cons xs n d) refl
 
--- whether the queue of a node has room
-pub room-read : (measure : ℕ → FrameName → Option Measure) (s : Setting) (v : ℕ) (P : Past) (n : NodeState) (r : NodeRules) (count : ℕ) → IsNode measure s v P n → node s v ≡ as_node r → count ≡ length n.inbox.items → ltb count r.queue ≡ has_room s P v
-room-read measure s v P n r count i is here =
-    ap (λ (x : ℕ). ltb x r.queue) (here ∙ ap (λ (b : InboxState FrameName). length b.items) i.inbox) ∙ ap (λ (o : Node). ltb (length (queued v P)) o.queue) (sym is)
-
 -- whether a node deals
 pub deals-read : (s : Setting) (v : ℕ) (r : NodeRules) → node s v ≡ as_node r → r.work ≡ Deals → deals s v ≡ true
 deals-read s v r is here = ap (λ (o : Node). is_dealing o.work) is ∙ ap (λ w. is_dealing (as_work w)) here
@@ -79,7 +74,3 @@ not-dealing (Saves whole_groups count) ne = refl
 
 pub deals-not : (s : Setting) (v : ℕ) (r : NodeRules) → node s v ≡ as_node r → r.work ≢ Deals → deals s v ≡ false
 deals-not s v r is ne = ap (λ (o : Node). is_dealing o.work) is ∙ not-dealing r.work ne
-
-pub first-there : {X : Type 0} (xs : List X) (d : X) → 0 < length xs → slice_get xs 0 ≡ Some (get_or xs 0 d)
-first-there [] d lt = absurd (omega (arith, lt))
-first-there (x ∷ xs) d lt = refl

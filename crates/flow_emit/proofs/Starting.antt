@@ -1,11 +1,11 @@
 -- A course of which nothing is logged.
-use Rattle.std.proofs.Common.{◌≡◌, ◌≤◌, ◌<◌, ◌∙◌, ℕ, ℤ, ◌+◌, ◌*◌, zero, suc, false, List, [], ◌∷◌, Option, Some, length, map, replicate, refl, sym, ap, subst, arith}
+use Rattle.std.proofs.Common.{◌≡◌, ◌≤◌, ◌∙◌, ℕ, ℤ, ◌+◌, ◌*◌, zero, suc, false, List, [], ◌∷◌, Option, Some, length, map, replicate, refl, sym, ap, subst, arith}
 use Rattle.std.specs.Prelude.{slice_get, sum_by, fold}
 use Rattle.std.proofs.lemmas.List.{length-map, length-replicate}
 use Rattle.std.proofs.lemmas.List.Elements.{All-nil}
 use Rattle.nd_base.specs.declared.frame.FrameName.{FrameName}
 use Rattle.nd_base.specs.declared.measure.Measure.{Measure}
-use Rattle.pool_ledger.specs.Ledger.{Ledger, empty_ledger}
+use Rattle.pool_ledger.specs.Ledger.{empty_ledger}
 use Rattle.flow_journal.specs.Setting.{Setting, Node, last_role}
 use Rattle.flow_journal.specs.LengthLaws.{most_entries}
 use Rattle.pool_account.specs.Account.{IsAccount, all_named}
@@ -21,7 +21,7 @@ use Rattle.flow_emit.specs.Facts.{facts_of}
 use Rattle.flow_emit.specs.FrameBlocks.{AreBlocks}
 use Rattle.flow_emit.specs.Having.{HasBlock}
 use Rattle.flow_emit.specs.NodeStates.{AreNodes}
-use Rattle.flow_emit.specs.RoleStates.{AreRoles, role_of}
+use Rattle.flow_emit.specs.RoleStates.{AreRoles}
 use Rattle.flow_emit.specs.RunRules.{AreRules, as_node}
 
 abbrev Measuring : Type 0

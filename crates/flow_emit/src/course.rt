@@ -1,8 +1,8 @@
 //! The course of a run.
 
 ghost use Rattle.std.specs.Prelude.{◌≡◌, ◌≤◌, ◌<◌, ◌*◌, ◌+◌, ◌∷◌, ◌++◌, ℕ, [], true, false, length, drop, slice_get, slice_index_or, Some};
-ghost use Rattle.flow_journal.specs.Setting.{is_node};
-ghost use Rattle.flow_journal.specs.Queued.{has_room};
+ghost use Rattle.flow_journal.specs.Setting.{is_node, node};
+ghost use Rattle.flow_journal.specs.Queued.{has_room, queued};
 ghost use Rattle.board_rules.specs.States.{past};
 ghost use Rattle.board_rules.specs.RunMeasures.{run_setting};
 ghost use Rattle.flow_journal.specs.Accounts.{block_of};
@@ -79,12 +79,27 @@ impl<F: Held> Course<F> {
         block_at(&self.blocks, frames, name)
     }
 
+    /// How many arrays are queued at a node.
+    fn queued_at(&self, v: u32) -> u32
+        requires { is_node (run_setting F.Of.graph F.Of.stack) v ≡ true }
+        ensures { result ≡ length (queued v (past self.now.told)) }
+    {
+        self.nodes[v as usize - 1].inbox.len()
+    }
+
+    /// How many arrays the queue of a node takes.
+    fn queue_of(&self, v: u32) -> u32
+        requires { is_node (run_setting F.Of.graph F.Of.stack) v ≡ true }
+        ensures { result ≡ (node (run_setting F.Of.graph F.Of.stack) v).queue }
+    {
+        self.rules.node(v).queue
+    }
+
     /// Whether the queue of a node takes one more.
     fn has_room(&self, node: u32) -> bool
         requires { is_node (run_setting F.Of.graph F.Of.stack) node ≡ true }
         ensures { result ≡ has_room (run_setting F.Of.graph F.Of.stack) (past self.now.told) node }
     {
-        let place = node as usize - 1;
-        self.nodes[place].inbox.len() < self.rules.nodes.as_slice()[place].queue
+        self.queued_at(node) < self.queue_of(node)
     }
 }

@@ -11,3 +11,6 @@ pub mod Results
 pub mod Reclaims
 pub mod TurnCalls
 pub mod TurnJoins
+pub mod Workers
+pub mod Lists
+pub mod TakenBack

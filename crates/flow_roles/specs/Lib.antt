@@ -8,3 +8,4 @@ pub mod Feeder
 pub mod Worker
 pub mod FeederTicks
 pub mod TurnPasses
+pub mod Workers

@@ -2,7 +2,7 @@
 use Rattle.std.specs.Prelude.{◌≡◌, ℕ, ◌==◌, Bool, true, [], None, is_none}
 use Rattle.std.specs.List.{list_all}
 use Rattle.flow_journal.specs.declared.entry.Entry.{Entry}
-use Rattle.flow_journal.specs.declared.entry.Entry.TheVariants.{Load, LoadRefused, Issue, Take, TakeBlock, PoolDrop, Put, Settle, Close, Leave}
+use Rattle.flow_journal.specs.declared.entry.Entry.TheVariants.{Load, LoadRefused, Issue, Take, TakeBlock, PoolDrop, Put, Settle, Save, Saved, Close, Leave}
 use Rattle.flow_journal.specs.Hands.{hand}
 use Rattle.board_rules.specs.States.{past, begins}
 use Rattle.flow_roles.specs.declared.last.Last.TheVariants.{Fresh}
@@ -26,6 +26,12 @@ worker_logs v (Put r w m k f) = w == v
 worker_logs v (Settle r w) = w == v
 worker_logs v (Leave r) = true
 worker_logs v e = is_none (begins e)
+
+-- an entry of the moves of the role that saves
+abbrev pub saver_logs : Entry → Bool
+saver_logs (Save r v m k g) = true
+saver_logs (Saved r v m k) = true
+saver_logs e = is_none (begins e)
 
 -- the pass of this role, which has made no call yet
 pub record IsFresh (r : ℕ) (p : Pass) : Type 0 where

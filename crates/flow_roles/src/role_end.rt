@@ -24,7 +24,7 @@ pub(crate) enum Round<F: Held> {
 }
 
 /// What a role without a hand leaves.
-pub(crate) fn nothing<F: Held>() -> Left<F>
+pub fn nothing<F: Held>() -> Left<F>
     ensures { result ≡ record { input = None; made = None; blank = None } }
 {
     Left {

@@ -1,20 +1,18 @@
 -- What comes once all roles have ended, as moves one after the other.
-use Rattle.std.proofs.Common.{◌≡◌, ℕ, ◌+◌, ◌≤◌, Bool, true, false, eqb, List, [], ◌∷◌, ◌++◌, length, refl, sym, ap, ◌∙◌, subst, arith, Option, Some, None}
+use Rattle.std.proofs.Common.{◌≡◌, ℕ, ◌+◌, ◌≤◌, true, false, List, [], ◌∷◌, ◌++◌, length, refl, sym, ap, ◌∙◌, subst, arith}
 use Rattle.std.specs.List.{list_all}
 use Rattle.std.proofs.lemmas.Bool.{and_parts, false≢true}
-use Rattle.edge_traits.specs.Ticks.{Coming, Ticks}
 use Rattle.nd_base.specs.declared.frame.FrameName.{FrameName}
 use Rattle.flow_journal.specs.declared.entry.Entry.{Entry}
 use Rattle.flow_journal.specs.declared.entry.Entry.TheVariants.{Load, LoadRefused, Issue, Take, TakeBlock, PoolDrop, Put, Settle, Save, Saved, Close, Leave, Reclaim}
 use Rattle.flow_journal.specs.Setting.{Setting, last_role}
 use Rattle.flow_journal.specs.Pasts.{Past}
 use Rattle.flow_journal.specs.Following.{calls_for}
-use Rattle.board_rules.specs.declared.told.Told.{Told}
 use Rattle.board_rules.specs.declared.answers.Left.{Left}
 use Rattle.board_rules.specs.States.{BoardState, past, begins, is_role_of}
-use Rattle.board_rules.specs.Moving.{with_all, moved_at}
+use Rattle.board_rules.specs.Moving.{with_all}
 use Rattle.flow_drain.specs.Drains.{is_load, DrainMoves, taken_back}
-use Rattle.flow_saver.specs.Saver.{saver_logs}
+use Rattle.flow_roles.specs.RoleMoves.{saver_logs}
 use Rattle.flow_run.specs.Ticks.{is_after, AfterMoves}
 use Rattle.flow_run.proofs.Movers.{after-on, after-drain, after-back}
 use Rattle.flow_run.proofs.OwnMoves.{SavesOn}

@@ -1,19 +1,14 @@
 -- How the roles of a run end.
-use Rattle.std.proofs.Common.{◌≡◌, ℕ, zero, suc, ◌+◌, ◌<◌, ◌≤◌, Bool, true, false, ◌&&◌, not, List, [], ◌∷◌, ◌++◌, map, length, refl, sym, ap, ◌∙◌, subst, arith, Option, Some, None, inl, inr}
-use Rattle.std.specs.Prelude.{slice_get, is_none}
-use Rattle.std.specs.List.{list_all, list_any}
-use Rattle.std.proofs.lemmas.Bool.{and_parts, false≢true, true≢false, cases_Bool}
+use Rattle.std.proofs.Common.{◌≡◌, ℕ, zero, suc, Bool, true, false, ◌&&◌, not, sym, ◌∙◌}
+use Rattle.std.proofs.lemmas.Bool.{and_parts, false≢true, true≢false}
 use Rattle.flow_journal.specs.declared.entry.Entry.{Entry}
-use Rattle.flow_journal.specs.declared.entry.Entry.TheVariants.{Reclaim}
 use Rattle.flow_journal.specs.Pasts.{Past}
-use Rattle.flow_journal.specs.Ended.{reclaims, closes, is_closed, settles, is_settled, has_left_any}
-use Rattle.board_rules.specs.States.{begins}
+use Rattle.flow_journal.specs.Ended.{reclaims, is_closed, is_settled, has_left_any}
 use Rattle.flow_roles.specs.declared.last.Last.{Last}
 use Rattle.flow_roles.specs.declared.last.Last.TheVariants as last
-use Rattle.flow_roles.specs.RoleMoves.{feeder_logs, worker_logs}
 use Rattle.flow_roles.specs.RoleEnds.{feeder_ends, worker_ends}
-use Rattle.flow_saver.specs.Saver.{saver_logs}
-use Rattle.flow_run.specs.Seats.{post_logs, post_ends}
+use Rattle.flow_roles.proofs.TakenBack.{feeder-none, worker-none}
+use Rattle.flow_run.specs.Seats.{post_logs}
 
 -- WITHOUT A LEAVE
 
@@ -42,18 +37,6 @@ worker-settled v last.Other P want h none = absurd (false≢true h)
 
 -- NO ROLE TAKES BACK A HAND
 
-feeder-none : (r : ℕ) (e : Entry) → feeder_logs e ≡ true → reclaims r e ≡ false
-feeder-none r (Reclaim q) h = absurd (false≢true h)
-feeder-none r _ h = refl
-
-worker-none : (v r : ℕ) (e : Entry) → worker_logs v e ≡ true → reclaims r e ≡ false
-worker-none v r (Reclaim q) h = absurd (false≢true h)
-worker-none v r _ h = refl
-
 pub post-none : (v r : ℕ) (e : Entry) → post_logs v e ≡ true → reclaims r e ≡ false
 post-none zero r e h = feeder-none r e h
 post-none (suc v) r e h = worker-none (suc v) r e h
-
-pub saver-none : (r : ℕ) (e : Entry) → saver_logs e ≡ true → reclaims r e ≡ false
-saver-none r (Reclaim q) h = absurd (false≢true h)
-saver-none r _ h = refl

@@ -1,5 +1,5 @@
 -- What is left of a run, from the board on which all roles have ended to its end.
-use Rattle.std.proofs.Common.{◌≡◌, ◌≢◌, ℕ, suc, ◌+◌, ◌<◌, ◌≤◌, Bool, true, false, eqb, List, [], ◌∷◌, ◌++◌, length, refl, sym, ap, ◌∙◌, subst, arith, Option, Some, None}
+use Rattle.std.proofs.Common.{◌≡◌, ◌≢◌, ℕ, ◌<◌, Bool, true, false, List, [], ◌∷◌, length, refl, sym, ◌∙◌, subst, arith, Option, Some}
 use Rattle.std.specs.Prelude.{slice_get, is_err, OnOk, OnErr, Result, Ok, Err}
 use Rattle.std.specs.List.{list_all}
 use Rattle.std.proofs.lemmas.Bool.{and_parts, false≢true}
@@ -12,22 +12,18 @@ use Rattle.frame_store.specs.Sealed.{Sealed}
 use Rattle.flow_journal.specs.declared.entry.Entry.{Entry}
 use Rattle.flow_journal.specs.declared.entry.Entry.TheVariants.{Save, Saved}
 use Rattle.flow_journal.specs.Setting.{Setting, last_role}
-use Rattle.flow_journal.specs.Hands.{hand, is_free}
 use Rattle.flow_journal.specs.Ended.{was_reclaimed}
-use Rattle.flow_journal.specs.Histories.{is_history}
 use Rattle.board_rules.specs.declared.answers.Left.{Left}
 use Rattle.board_rules.specs.States.{BoardState, past, begins, is_role_of}
 use Rattle.board_rules.specs.Movers.{moves_by}
 use Rattle.board_rules.specs.Leaving.{MayReclaim}
 use Rattle.board_rules.specs.RunMeasures.{run_setting}
-use Rattle.flow_roles.specs.Passes.{Pass, only_drain_saves}
+use Rattle.flow_roles.specs.Passes.{Pass}
 use Rattle.flow_roles.specs.TurnPasses.{BeginsWith}
 use Rattle.flow_roles.specs.Feeder.{name_of, parts_of}
 use Rattle.flow_drain.specs.Drains.{IsDrained, DrainMoves, taken_back}
-use Rattle.flow_drain.proofs.Growth.{none-held}
 use Rattle.graph_files.specs.NodeFiles.{NodeFile}
-use Rattle.flow_saver.specs.declared.piece.DuePiece.{DuePiece}
-use Rattle.flow_saver.specs.Saver.{saver_logs, CountsSo, CountsStep}
+use Rattle.flow_roles.specs.RoleMoves.{saver_logs}
 use Rattle.flow_saver.specs.Remaining.{is_rest, RestMoves, IsSavingAlone}
 use Rattle.flow_saver.specs.HistoryFiles.{HoldsGroupsOf}
 use Rattle.flow_saver.specs.Ending.{IsTornHistory}

@@ -1,67 +1,30 @@
 -- The board once all roles have ended.
-use Rattle.std.proofs.Common.{◌≡◌, ◌≢◌, ℕ, zero, suc, ◌+◌, ◌<◌, ◌≤◌, Bool, true, false, ◌&&◌, ◌||◌, eqb, ltb, List, [], ◌∷◌, ◌++◌, map, length, refl, sym, ap, ◌∙◌, subst, arith, Option, Some, None, inl, inr}
+use Rattle.std.proofs.Common.{◌≡◌, ◌≢◌, ℕ, suc, ◌<◌, Bool, true, false, eqb, ltb, List, length, refl, sym, ap, ◌∙◌, subst, arith, Some, inl, inr}
 use Rattle.std.specs.Prelude.{slice_get}
-use Rattle.std.specs.Option.{option_map}
 use Rattle.std.specs.List.{list_all, list_any}
-use Rattle.std.proofs.lemmas.Bool.{and_parts, and_from, false≢true, true≢false, cases_Bool, eqb-true, eqb-false, eq-eqb, ltb-true, ltb-false}
-use Rattle.std.proofs.lemmas.Option.{slice_get-map, slice_get_within}
-use Rattle.nd_base.specs.Array.{StackValue}
-use Rattle.nd_base.specs.GraphRules.{IsGraph}
-use Rattle.nd_base.specs.declared.graph.Graph.{Graph}
+use Rattle.std.proofs.lemmas.Bool.{cases_Bool, eqb-true, eqb-false, ltb-true, ltb-false}
+use Rattle.std.proofs.lemmas.Option.{slice_get_within}
 use Rattle.frame_store.specs.Sealed.{Sealed}
 use Rattle.flow_journal.specs.declared.entry.Entry.{Entry}
-use Rattle.flow_journal.specs.declared.entry.Entry.TheVariants.{Reclaim}
-use Rattle.flow_journal.specs.Setting.{Setting, is_node, last_role}
-use Rattle.flow_journal.specs.Pasts.{Past}
+use Rattle.flow_journal.specs.Setting.{Setting, last_role}
 use Rattle.flow_journal.specs.Ended.{reclaims, was_reclaimed, closes, is_closed, settles, is_settled, leaves, has_left_any}
-use Rattle.flow_journal.specs.Histories.{is_history}
-use Rattle.board_rules.specs.declared.told.Told.{Told}
 use Rattle.board_rules.specs.declared.answers.Left.{Left}
-use Rattle.board_rules.specs.States.{BoardState, past, begins, is_role_of}
-use Rattle.board_rules.specs.Movers.{first_some, mover, moves_by}
+use Rattle.board_rules.specs.States.{BoardState, past}
+use Rattle.board_rules.specs.Movers.{moves_by}
 use Rattle.board_rules.specs.Leaving.{MayReclaim}
-use Rattle.board_rules.specs.RunMeasures.{run_setting}
-use Rattle.flow_roles.specs.Passes.{Pass, only_drain_saves}
-use Rattle.flow_roles.specs.TurnPasses.{BeginsWith, HasMade}
+use Rattle.flow_roles.specs.Passes.{Pass}
+use Rattle.flow_roles.specs.TurnPasses.{HasMade}
 use Rattle.flow_roles.specs.Feeder.{name_of, parts_of}
 use Rattle.flow_drain.proofs.Growth.{past-append}
-use Rattle.flow_saver.specs.Saver.{saver_logs}
-use Rattle.flow_run.specs.Workers.{workers, posts}
-use Rattle.flow_run.specs.Seats.{post_logs, IsRoleEnd}
+use Rattle.flow_roles.specs.RoleMoves.{saver_logs}
+use Rattle.flow_roles.specs.Workers.{workers, posts}
+use Rattle.flow_run.specs.Seats.{post_logs}
 use Rattle.flow_run.specs.Joined.{IsJoined}
-use Rattle.flow_run.proofs.Workers.{posts-length, node-worker}
-use Rattle.flow_run.proofs.Ends.{feeder-closed, worker-settled, post-none, saver-none}
-use Rattle.flow_run.proofs.Movers.{none-such, none-before, any-later}
-
-listed : {X : Type 0} (xs : List X) (k : ℕ) → k < length xs → (x : X) × (slice_get xs k ≡ Some x)
-listed [] k h = absurd (omega (arith, h))
-listed (x ∷ xs) zero h = (x, refl)
-listed (x ∷ xs) (suc k) h = listed xs k (omega (arith, h))
-
--- the hands that are taken back are among the moves of their roles
-back-move : (r : ℕ) (e : Entry) (o : Option ℕ) → reclaims r e ≡ true → is_role_of r (first_some (begins e) o) ≡ true
-back-move r (Reclaim q) o h = h
-back-move r _ o h = absurd (false≢true h)
-
-back-moves : (r : ℕ) (b : BoardState) → was_reclaimed r (past b) ≡ true → was_reclaimed r (past (moves_by r b)) ≡ true
-back-moves r [] h = h
-back-moves r (t ∷ b) h =
-    elim (cases_Bool (reclaims r t.entry)) [
-      | inl back ↦ rw (back-move r t.entry (mover b) back, back) refl
-      | inr other ↦
-          let later = back-moves r b (rw other at h) in
-          elim (cases_Bool (is_role_of r (first_some (begins t.entry) (mover b)))) [
-            | inl yes_ ↦ rw (yes_, other) later
-            | inr no_ ↦ rw no_ later
-          ]
-    ]
-
-not-back : (r : ℕ) (b : BoardState) → was_reclaimed r (past (moves_by r b)) ≡ false → was_reclaimed r (past b) ≡ false
-not-back r b none =
-    elim (cases_Bool (was_reclaimed r (past b))) [
-      | inl some ↦ absurd (true≢false (sym (back-moves r b some) ∙ none))
-      | inr no_ ↦ no_
-    ]
+use Rattle.flow_roles.proofs.Workers.{posts-length}
+use Rattle.flow_roles.proofs.Lists.{listed}
+use Rattle.flow_roles.proofs.TakenBack.{saver-none, none-such, not-back}
+use Rattle.flow_run.proofs.Ends.{feeder-closed, worker-settled, post-none}
+use Rattle.flow_run.proofs.Movers.{none-before, any-later}
 
 module _ {O : Type 0} (s : Setting) (b : BoardState) (passes : List Pass) (lefts : List (Left Sealed (List ℕ) O)) (saver : Pass) (j : IsJoined s b passes lefts saver) where
   post-of : (k : ℕ) → k < last_role s → (v : ℕ) × (slice_get (posts s) k ≡ Some v)

@@ -1,24 +1,21 @@
 -- Whose moves the entries of a board are, and what moves after all roles have ended leave of them.
-use Rattle.std.proofs.Common.{◌≡◌, ◌≢◌, ℕ, zero, suc, ◌+◌, ◌<◌, ◌≤◌, Bool, true, false, ◌&&◌, ◌||◌, eqb, ltb, List, [], ◌∷◌, ◌++◌, map, length, refl, sym, ap, ◌∙◌, subst, arith, Option, Some, None, inl, inr}
+use Rattle.std.proofs.Common.{◌≡◌, ◌≢◌, ℕ, suc, ◌+◌, ◌<◌, ◌≤◌, Bool, true, false, eqb, List, [], ◌∷◌, ◌++◌, map, length, refl, sym, ap, ◌∙◌, subst, arith, Option, Some, None, inl, inr}
 use Rattle.std.specs.List.{list_all, list_any}
-use Rattle.std.proofs.lemmas.Bool.{and_parts, and_from, false≢true, true≢false, cases_Bool, eqb-true, eq-eqb, ltb-true, lt-ltb}
-use Rattle.std.proofs.lemmas.List.{append_assoc}
+use Rattle.std.proofs.lemmas.Bool.{and_parts, and_from, false≢true, true≢false, cases_Bool, eqb-true, ltb-true, lt-ltb}
 use Rattle.nd_base.specs.declared.frame.FrameName.{FrameName}
 use Rattle.flow_journal.specs.declared.entry.Entry.{Entry}
-use Rattle.flow_journal.specs.declared.entry.Entry.TheVariants.{Load, LoadRefused, Issue, Take, TakeBlock, PoolDrop, Put, Settle, Save, Saved, Close, Leave, Reclaim}
+use Rattle.flow_journal.specs.declared.entry.Entry.TheVariants.{Load, LoadRefused, Issue, Take, TakeBlock, PoolDrop, Put, Settle, Save, Saved, Close, Reclaim}
 use Rattle.flow_journal.specs.Setting.{Setting, last_role}
 use Rattle.flow_journal.specs.Pasts.{Past}
 use Rattle.flow_journal.specs.Hands.{hand, is_free}
-use Rattle.board_rules.specs.declared.told.Told.{Told}
 use Rattle.board_rules.specs.declared.answers.Left.{Left}
 use Rattle.board_rules.specs.States.{BoardState, past, plain, loses, begins, is_role_of}
-use Rattle.board_rules.specs.Movers.{first_some, mover, moves_by, IsMoveOf}
-use Rattle.board_rules.specs.Moving.{moved_at}
+use Rattle.board_rules.specs.Movers.{first_some, mover, moves_by}
 use Rattle.board_rules.specs.Storage.{lost_of}
 use Rattle.board_rules.proofs.Moves.{moved-one, moves-added}
 use Rattle.flow_roles.specs.TurnPasses.{BeginsWith}
-use Rattle.flow_drain.specs.Drains.{is_drains, is_load, DrainMoves, taken, taken_back}
-use Rattle.flow_drain.proofs.Growth.{past-append, begins-on}
+use Rattle.flow_drain.specs.Drains.{is_drains, DrainMoves, taken, taken_back}
+use Rattle.flow_drain.proofs.Growth.{begins-on}
 use Rattle.flow_run.specs.Strangers.{entries_by}
 use Rattle.flow_run.specs.Ticks.{is_after, AfterMoves}
 
@@ -38,10 +35,6 @@ entries-are r (t ∷ b) =
     ]
 
 -- LISTS OF ENTRIES
-
-pub none-such : (p q : Entry → Bool) (P : Past) → ((e : Entry) → p e ≡ true → q e ≡ false) → list_all p P ≡ true → list_any q P ≡ false
-none-such p q [] apart h = refl
-none-such p q (e ∷ P) apart h = let a = and_parts (p e) (list_all p P) h in rw (apart e a.0) (none-such p q P apart a.1)
 
 pub all-weaker : (p q : Entry → Bool) (P : Past) → ((e : Entry) → p e ≡ true → q e ≡ true) → list_all p P ≡ true → list_all q P ≡ true
 all-weaker p q [] goes h = refl

@@ -1,38 +1,35 @@
 -- Where no role has left, the roles have done the work.
-use Rattle.std.proofs.Common.{◌≡◌, ◌≢◌, ℕ, zero, suc, ◌+◌, ◌<◌, ◌≤◌, Bool, true, false, List, [], ◌∷◌, ◌++◌, length, refl, sym, ap, ◌∙◌, subst, arith, Option, Some, None, inl, inr}
+use Rattle.std.proofs.Common.{◌≡◌, ◌≢◌, ℕ, zero, suc, ◌+◌, ◌<◌, Bool, true, false, List, [], ◌++◌, refl, sym, ap, ◌∙◌, subst, arith, Some}
 use Rattle.std.specs.Prelude.{slice_get}
 use Rattle.std.specs.List.{list_all, list_any}
-use Rattle.std.proofs.lemmas.Bool.{and_parts, false≢true, true≢false, eqb-true, eq-eqb}
 use Rattle.nd_base.specs.Array.{StackValue}
 use Rattle.nd_base.specs.GraphRules.{IsGraph}
 use Rattle.nd_base.specs.declared.graph.Graph.{Graph}
 use Rattle.frame_store.specs.Sealed.{Sealed}
 use Rattle.flow_journal.specs.declared.entry.Entry.{Entry}
-use Rattle.flow_journal.specs.declared.entry.Entry.TheVariants.{Save, Saved}
 use Rattle.flow_journal.specs.Setting.{Setting, is_node, last_role}
-use Rattle.flow_journal.specs.Pasts.{Past}
-use Rattle.flow_journal.specs.Hands.{hand, is_free}
-use Rattle.flow_journal.specs.Ended.{reclaims, was_reclaimed, closes, is_closed, settles, is_settled, leaves, has_left_any}
+use Rattle.flow_journal.specs.Hands.{is_free}
+use Rattle.flow_journal.specs.Ended.{reclaims, was_reclaimed, closes, settles, is_settled, leaves, has_left_any}
 use Rattle.flow_journal.specs.Histories.{is_history}
 use Rattle.board_rules.specs.declared.answers.Left.{Left}
 use Rattle.board_rules.specs.States.{BoardState, past, begins, is_role_of}
 use Rattle.board_rules.specs.Movers.{moves_by}
 use Rattle.board_rules.specs.RunMeasures.{run_setting}
 use Rattle.flow_roles.specs.Passes.{Pass, only_drain_saves}
-use Rattle.flow_roles.specs.RoleMoves.{feeder_logs, worker_logs}
+use Rattle.flow_roles.specs.RoleMoves.{feeder_logs, worker_logs, saver_logs}
 use Rattle.flow_roles.specs.TurnPasses.{BeginsWith}
 use Rattle.flow_drain.specs.Drains.{IsDrained}
 use Rattle.flow_drain.proofs.Growth.{past-append}
 use Rattle.flow_drain.proofs.Rounds.{node-above}
 use Rattle.flow_drain.proofs.AllEnded.{all-ended-drained}
-use Rattle.flow_saver.specs.Saver.{saver_logs}
-use Rattle.flow_run.specs.Workers.{workers, posts}
+use Rattle.flow_roles.specs.Workers.{workers}
 use Rattle.flow_run.specs.Strangers.{entries_by, AreOwnMoves}
 use Rattle.flow_run.specs.Ticks.{AfterMoves}
 use Rattle.flow_run.specs.Joined.{IsJoined}
-use Rattle.flow_run.proofs.Workers.{worker-node, node-worker, posts-length}
-use Rattle.flow_run.proofs.Ends.{saver-none}
-use Rattle.flow_run.proofs.Movers.{entries-are, none-such, none-before, none-append, any-later, all-append, single-moves, after-others}
+use Rattle.flow_roles.proofs.Workers.{worker-node}
+use Rattle.flow_roles.proofs.TakenBack.{saver-none, none-such}
+use Rattle.flow_run.proofs.Workers.{node-worker}
+use Rattle.flow_run.proofs.Movers.{entries-are, none-before, none-append, any-later, all-append, single-moves, after-others}
 use Rattle.flow_run.proofs.Joined.{role-moves, last-moves, none-back, below-last, feed-closed, worked-off}
 
 -- the last role saved alone, one entry after the other

@@ -1,16 +1,12 @@
 -- The seats of the feeder and the workers: before they begin, and once they are back.
-use Rattle.std.proofs.Common.{◌≡◌, ℕ, zero, suc, ◌+◌, ◌<◌, ◌≤◌, Bool, true, false, ◌&&◌, List, [], ◌∷◌, ◌++◌, map, length, take, drop, refl, sym, ap, ◌∙◌, subst, arith, Option, Some, None}
-use Rattle.std.specs.Prelude.{slice_get, All, slice_index_or}
+use Rattle.std.proofs.Common.{◌≡◌, ℕ, zero, suc, ◌+◌, ◌<◌, ◌≤◌, true, List, [], ◌∷◌, ◌++◌, length, take, drop, refl, sym, ap, ◌∙◌, subst, arith, Some}
+use Rattle.std.specs.Prelude.{slice_get, slice_index_or}
 use Rattle.std.specs.List.{list_all}
-use Rattle.std.proofs.lemmas.Bool.{and_from}
-use Rattle.std.proofs.lemmas.List.{length-append, length-map}
-use Rattle.std.proofs.lemmas.List.Elements.{All-get_or, All-from_get_or}
 use Rattle.std.proofs.lemmas.Option.{get_or_from_slice_get, slice_get-get_or, slice_get_within}
 use Rattle.frame_store.specs.Sealed.{Sealed}
 use Rattle.nd_base.specs.Array.{StackValue}
 use Rattle.nd_base.specs.declared.graph.Graph.{Graph}
 use Rattle.flow_journal.specs.Setting.{Setting, is_node, last_role}
-use Rattle.board_rules.specs.declared.answers.Left.{Left}
 use Rattle.board_rules.specs.States.{past}
 use Rattle.board_rules.specs.RunMeasures.{run_setting}
 use Rattle.flow_roles.specs.declared.role_end.RoleEnd.{RoleEnd}
@@ -19,39 +15,12 @@ use Rattle.flow_roles.specs.RoleMoves.{worker_logs, IsFresh}
 use Rattle.flow_roles.specs.RoleEnds.{worker_ends, MayComeBack}
 use Rattle.flow_roles.specs.Feeder.{name_of, parts_of}
 use Rattle.flow_drain.proofs.Rounds.{node-above}
-use Rattle.flow_run.specs.Workers.{workers, posts}
+use Rattle.flow_roles.specs.Workers.{workers, posts}
 use Rattle.flow_run.specs.declared.seats.Seat.{Seat}
 use Rattle.flow_run.specs.declared.seats.Seat.TheVariants.{Ready, Away, Back}
 use Rattle.flow_run.specs.Seats.{IsRoleEnd, seats_from, is_back, ends_of, IsReady, IsBack, AreReady, AreBack, IsWorker, SomeWorker, HasWorked}
-use Rattle.flow_run.proofs.Workers.{worker-node, workers-many}
-
--- LISTS
-
-pub at-front : {X : Type 0} (xs ys : List X) (k : ℕ) (x : X) → slice_get xs k ≡ Some x → slice_get (xs ++ ys) k ≡ Some x
-at-front [] ys k x h = cc
-at-front (a ∷ xs) ys zero x h = h
-at-front (a ∷ xs) ys (suc k) x h = at-front xs ys k x h
-
-pub at-end : {X : Type 0} (xs : List X) (y : X) → slice_get (xs ++ y ∷ []) (length xs) ≡ Some y
-at-end [] y = refl
-at-end (a ∷ xs) y = at-end xs y
-
-pub at-map : {X Y : Type 0} (f : X → Y) (xs : List X) (k : ℕ) (y : Y) → slice_get (map f xs) k ≡ Some y → (x : X) × (slice_get xs k ≡ Some x) × (f x ≡ y)
-at-map f [] k y h = cc
-at-map f (x ∷ xs) zero y h = let is : f x ≡ y = cc in (x, refl, is)
-at-map f (x ∷ xs) (suc k) y h = at-map f xs k y h
-
-pub map-at : {X Y : Type 0} (f : X → Y) (xs : List X) (k : ℕ) (x : X) → slice_get xs k ≡ Some x → slice_get (map f xs) k ≡ Some (f x)
-map-at f [] k x h = cc
-map-at f (a ∷ xs) zero x h = let is : a ≡ x = cc in ap (λ z. Some (f z)) is
-map-at f (a ∷ xs) (suc k) x h = map-at f xs k x h
-
--- what holds of all holds of the one at a place
-pub all-at : {X : Type 0} (Q : X → Type 0) (xs : List X) (k : ℕ) (x : X) → All Q xs → slice_get xs k ≡ Some x → Q x
-all-at Q xs k x all at = subst Q (get_or_from_slice_get xs k x x at) (All-get_or Q xs k x (slice_get_within xs k x at) all)
-
-pub all-from : {X : Type 0} (Q : X → Type 0) (xs : List X) → ((k : ℕ) (x : X) → slice_get xs k ≡ Some x → Q x) → All Q xs
-all-from Q xs each k d low = each k (slice_index_or xs k d) (slice_get-get_or xs k d low)
+use Rattle.flow_roles.proofs.Workers.{worker-node, workers-many}
+use Rattle.flow_roles.proofs.Lists.{at-front, at-end}
 
 -- BEFORE
 
@@ -194,11 +163,6 @@ module _ {P : Type 0} (all front rest : List P) (first last : P) (whole : all �
   last-dealt n many =
       let role : n + 1 ≡ length front = omega (arith, many, ap (λ (ps : List P). length ps) begins) in
       ap (λ (ps : List P). slice_get ps (n + 1)) whole ∙ (ap (λ (k : ℕ). slice_get (front ++ last ∷ []) k) role ∙ at-end front last)
-
--- the first of a list, and the others
-pub parted : {P : Type 0} (xs ys : List P) (x : P) → 0 < length xs → x ≡ slice_index_or xs 0 x → ys ≡ take 0 xs ++ drop (0 + 1) xs → xs ≡ x ∷ ys
-parted [] ys x some is rest = absurd (omega (arith, some))
-parted {P} (y ∷ xs) ys x some is rest = ap (λ (z : P). z ∷ xs) (sym is) ∙ ap (λ (zs : List P). x ∷ zs) (sym rest)
 
 -- the workers' seats of passes that were dealt out
 pub ready-dealt : {O P : Type 0} (ours : P → Type 0) (knows : P → Pass) (nodes : List ℕ) (ps : List P) → ((k : ℕ) (p : P) → slice_get ps k ≡ Some p → ours p × IsFresh (suc k) (knows p))

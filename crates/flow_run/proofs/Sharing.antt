@@ -1,5 +1,5 @@
 -- From the ends of all roles to the board that comes back.
-use Rattle.std.proofs.Common.{◌≡◌, ℕ, zero, suc, ◌+◌, ◌<◌, ◌≤◌, Bool, true, false, List, [], ◌∷◌, ◌++◌, map, length, refl, sym, ap, ◌∙◌, subst, arith, Option, Some, None}
+use Rattle.std.proofs.Common.{◌≡◌, ℕ, zero, suc, ◌+◌, ◌<◌, ◌≤◌, Bool, true, List, [], ◌∷◌, ◌++◌, map, length, refl, sym, ap, ◌∙◌, subst, arith, Option, Some, None}
 use Rattle.std.specs.Prelude.{slice_get, All, IfOk, Result, Ok, Err}
 use Rattle.std.specs.List.{list_all}
 use Rattle.std.proofs.lemmas.List.{length-append, length-map}
@@ -18,19 +18,19 @@ use Rattle.flow_roles.specs.declared.role_end.RoleEnd.{RoleEnd}
 use Rattle.flow_roles.specs.Passes.{Pass, only_drain_saves}
 use Rattle.flow_roles.specs.TurnPasses.{HasMade}
 use Rattle.graph_files.specs.NodeFiles.{NodeFile}
-use Rattle.graph_files.specs.OpenFiles.{file_nodes}
 use Rattle.flow_saver.specs.declared.piece.DuePiece.{DuePiece}
-use Rattle.flow_saver.specs.Saver.{saver_logs, RoleLeaves}
+use Rattle.flow_saver.specs.Saver.{RoleLeaves}
+use Rattle.flow_roles.specs.RoleMoves.{saver_logs}
 use Rattle.flow_saver.proofs.Handing.{saving-alone, unsaved-alone}
 use Rattle.flow_run.specs.declared.seats.Seat.{Seat}
-use Rattle.flow_run.specs.declared.seats.Seat.TheVariants.{Ready, Away, Back}
-use Rattle.flow_run.specs.Workers.{workers, posts}
+use Rattle.flow_run.specs.declared.seats.Seat.TheVariants.{Back}
+use Rattle.flow_roles.specs.Workers.{workers, posts}
 use Rattle.flow_run.specs.Seats.{IsRoleEnd, ends_of, IsBack, AreBack, HasFed}
 use Rattle.flow_run.specs.Joined.{IsJoined, IsFedUntil}
-use Rattle.flow_run.specs.SaverEnds.{IsSaverEnd}
 use Rattle.flow_run.specs.RunFiles.{SaverLeaves}
-use Rattle.flow_run.proofs.Workers.{posts-length}
-use Rattle.flow_run.proofs.Seating.{at-front, at-end, at-map, map-at, all-at, all-from, AreEnds, ends-from, all-back}
+use Rattle.flow_roles.proofs.Workers.{posts-length}
+use Rattle.flow_roles.proofs.Lists.{at-front, at-end, at-map, map-at, all-at, all-from}
+use Rattle.flow_run.proofs.Seating.{AreEnds, ends-from, all-back}
 
 module _ {O P : Type 0} (ours : P → Type 0) (knows : P → Pass) (s : Setting) (xs : List (Seat Sealed P (List ℕ) O)) (count : length xs ≡ length (posts s)) (e : AreEnds {O = O} ours knows s 0 (posts s) xs) (pass : P) where
   abbrev pub ends : List (RoleEnd Sealed P (List ℕ) O)

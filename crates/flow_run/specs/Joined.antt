@@ -9,11 +9,10 @@ use Rattle.board_rules.specs.declared.answers.Left.{Left}
 use Rattle.board_rules.specs.States.{BoardState, past}
 use Rattle.board_rules.specs.Movers.{moves_by}
 use Rattle.flow_roles.specs.Passes.{Pass, only_drain_saves}
-use Rattle.flow_roles.specs.RoleMoves.{IsFresh}
+use Rattle.flow_roles.specs.RoleMoves.{saver_logs, IsFresh}
 use Rattle.flow_roles.specs.FeederTicks.{FeedsByTheClock}
 use Rattle.flow_roles.specs.TurnPasses.{HasMade}
-use Rattle.flow_saver.specs.Saver.{saver_logs}
-use Rattle.flow_run.specs.Workers.{posts}
+use Rattle.flow_roles.specs.Workers.{posts}
 use Rattle.flow_run.specs.Seats.{IsRoleEnd}
 
 -- What the passes of all roles say of it. Item k of each list is that of role k, and left what it left; the last role has only saved.

@@ -1,4 +1,3 @@
-pub mod Workers
 pub mod Strangers
 pub mod Ticks
 pub mod Seats

@@ -12,7 +12,8 @@ use Rattle.flow_roles.specs.Passes.{Pass}
 use Rattle.graph_files.specs.NodeFiles.{NodeFile}
 use Rattle.graph_files.specs.OpenFiles.{file_nodes}
 use Rattle.flow_saver.specs.declared.piece.DuePiece.{DuePiece}
-use Rattle.flow_saver.specs.Saver.{saver_logs, RoleLeaves}
+use Rattle.flow_saver.specs.Saver.{RoleLeaves}
+use Rattle.flow_roles.specs.RoleMoves.{saver_logs}
 
 module _ {P : Type 0} (ours : P → Type 0) where
   -- a pass that has made no call, and the files before any was begun

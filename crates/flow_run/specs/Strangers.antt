@@ -6,9 +6,8 @@ use Rattle.flow_journal.specs.Pasts.{Past}
 use Rattle.flow_journal.specs.Ended.{has_left_any, was_reclaimed}
 use Rattle.board_rules.specs.States.{past, plain}
 use Rattle.board_rules.specs.Movers.{moves_by}
-use Rattle.flow_roles.specs.RoleMoves.{feeder_logs, worker_logs}
-use Rattle.flow_saver.specs.Saver.{saver_logs}
-use Rattle.flow_run.specs.Workers.{workers}
+use Rattle.flow_roles.specs.RoleMoves.{feeder_logs, worker_logs, saver_logs}
+use Rattle.flow_roles.specs.Workers.{workers}
 
 -- the moves of a role, whole
 abbrev pub entries_by : ℕ → Past → Past

@@ -19,13 +19,13 @@ ghost use Rattle.flow_run.specs.Strangers.{AreOwnMoves};
 ghost use Rattle.flow_run.specs.Ticks.{IsFedByTheClock};
 ghost use Rattle.flow_run.specs.RunFiles.{SaverLeaves, HasSavedRun};
 
-use crate::seats::{Dealt, deal, gather, worker_nodes};
+use crate::seats::{Dealt, deal, gather};
 use crate::threads::run_roles;
 use board_rules::{BoardCalls, Left, Measures};
 use edge_traits::{Clock, Gate, Shelf};
 use flow_drain::drain;
 use flow_journal::{Log, Watch};
-use flow_roles::{share_board, take_back};
+use flow_roles::{share_board, take_back, worker_nodes};
 use flow_saver::{DuePiece, SaveEnd, end_files, save_left, save_rest};
 use frame_store::Frame;
 use graph_files::OpenFiles;

@@ -1,18 +1,15 @@
 //! The seats of the feeder and the workers.
 
-ghost use Rattle.std.specs.Prelude.{◌≡◌, ℕ, ◌+◌, ◌++◌, ◌≤◌, ◌^◌, ◌<◌, true, [], ◌∷◌, map, replicate, length, vec_len, vec_capacity, Some, slice_get, IfOk};
+ghost use Rattle.std.specs.Prelude.{◌≡◌, ℕ, ◌+◌, ◌++◌, ◌≤◌, ◌^◌, ◌<◌, true, [], ◌∷◌, map, length, vec_len, vec_capacity, Some, slice_get, IfOk};
 ghost use Rattle.std.specs.List.{list_all};
-ghost use Rattle.nd_base.specs.GraphRules.{IsGraph};
-ghost use Rattle.chain_plain.specs.Plans.{plan_of};
-ghost use Rattle.board_rules.specs.RunMeasures.{run_setting};
-ghost use Rattle.flow_run.specs.Workers.{workers};
+ghost use Rattle.flow_roles.specs.Workers.{workers};
 ghost use Rattle.flow_roles.specs.TurnPasses.{known_by, IsPassOf, IsFreshOf};
 ghost use Rattle.flow_run.specs.Seats.{seats_from, is_back, ends_of, IsReady, AreReady};
 
 use board_rules::{BoardCalls, Left};
 use flow_roles::{Played, RoleEnd, TurnPass};
 use frame_store::Frame;
-use nd_base::{Held, OutOfMemory, Plan, Run};
+use nd_base::{Held, OutOfMemory, Run};
 use std::alloc::Global;
 use turn_lock::TurnLock;
 
@@ -33,29 +30,6 @@ pub struct Dealt<F: Held, P> {
     pub feeder: Seat<F, P>,
     pub workers: Vec<Seat<F, P>>,
     pub last: P,
-}
-
-/// Adds the number of a node, as often as it has threads.
-fn add_threads(nodes: &mut Vec<u32>, node: u32, threads: u32) -> Result<(), OutOfMemory>
-    ensures { IfOk result (λ _. nodes.new.items ≡ nodes.old.items ++ replicate threads node) }
-{
-    for _ in 0..threads {
-        nodes.push(node)?;
-    }
-    Ok(())
-}
-
-/// The node of each worker, from role 1 on.
-pub(crate) fn worker_nodes<R: Run>(alloc: Global, plan: &Plan) -> Result<Vec<u32>, OutOfMemory>
-    requires plan { plan.now ≡ plan_of R.graph R.stack }
-    requires graph { IsGraph R.graph }
-    ensures { IfOk result (λ nodes. nodes.items ≡ workers (run_setting R.graph R.stack)) }
-{
-    let mut nodes = Vec::new(alloc);
-    for (place, rule) in plan.graph.nodes.as_slice().iter().enumerate() {
-        add_threads(&mut nodes, place as u32 + 1, rule.threads)?;
-    }
-    Ok(nodes)
 }
 
 /// A seat for each of these passes, at its node: the first is that of role 1.

@@ -15,8 +15,8 @@ ghost use Rattle.flow_roles.specs.TurnPasses.{known_by, IsPassOf, IsFreshOf};
 ghost use Rattle.graph_files.specs.OpenFiles.{file_nodes};
 ghost use Rattle.flow_saver.specs.Saver.{CountsSo};
 ghost use Rattle.flow_run.specs.SaverEnds.{SaverBegins, SaverEnds};
-ghost use Rattle.flow_run.specs.Workers as roles;
-ghost use Rattle.flow_run.specs.Workers.{workers};
+ghost use Rattle.flow_roles.specs.Workers as roles;
+ghost use Rattle.flow_roles.specs.Workers.{workers};
 ghost use Rattle.flow_run.specs.Seats.{IsReady, IsBack, AreReady, AreBack, SomeWorker, HasWorked, HasFed};
 
 use crate::seats::Seat;

@@ -21,7 +21,7 @@ use Rattle.flow_journal.specs.Hands.{hand}
 use Rattle.flow_journal.specs.Unsaved.{saves}
 use Rattle.board_rules.specs.States.{BoardState, past}
 use Rattle.flow_roles.specs.Passes.{Pass}
-use Rattle.flow_roles.specs.RoleMoves.{IsFresh}
+use Rattle.flow_roles.specs.RoleMoves.{saver_logs, IsFresh}
 use Rattle.graph_files.specs.Groups.{group_of, whole_file, file_of, HasBytes}
 use Rattle.graph_files.specs.NodeFiles.{NodeFile, AreWritten, IsOpenAfter, group_file, name_of}
 use Rattle.graph_files.specs.NodeFileLaws.{none-open}
@@ -29,7 +29,7 @@ use Rattle.graph_files.specs.OpenFiles.{kind_node, nodes_from, file_nodes, close
 use Rattle.graph_files.specs.OpenFileLaws.{of_node}
 use Rattle.flow_saver.specs.declared.piece.DuePiece.{DuePiece}
 use Rattle.flow_saver.specs.GivenBack.{given_back, written_by}
-use Rattle.flow_saver.specs.Saver.{Start, IsSaving, HasUnsaved, HasSavedSince, AreSaved, AreBegunSo, IsPieceOfHand, saver_logs}
+use Rattle.flow_saver.specs.Saver.{Start, IsSaving, HasUnsaved, HasSavedSince, AreSaved, AreBegunSo, IsPieceOfHand}
 
 module _ (g : Graph) (stack : StackValue) (prefix : List ℕ) where
   closed-kind : (v : ℕ) (n : NodeRule) (c : Kind) (rest : List NodeFile) → map closed rest ≡ rest → map closed (kind_node g stack prefix v n.name c ++ rest) ≡ kind_node g stack prefix v n.name c ++ rest

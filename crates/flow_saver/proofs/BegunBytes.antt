@@ -22,7 +22,7 @@ use Rattle.graph_files.specs.GroupLaws.{group-later, length-group}
 use Rattle.graph_files.specs.NodeFiles.{NodeFile, IsTorn, Untouched, Front, Miscounted, IsOpenAfter, IsPlaceAfter, group_file}
 use Rattle.graph_files.specs.NodeFileLaws.{cases_eq, none-open, open-here, open-elsewhere, empty}
 use Rattle.graph_files.proofs.Writes.{next-place}
-use Rattle.flow_saver.specs.Ending.{IsCountOf, IsBegunAs, AsBefore, Unended, Ended}
+use Rattle.flow_saver.specs.Ending.{IsCountOf, IsBegunAs, Unended, Ended}
 use Rattle.flow_saver.specs.Ending as ending
 
 -- THE COUNT OF RECORDS, as replay_top has it for a plain run, above this crate

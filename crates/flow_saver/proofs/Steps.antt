@@ -33,7 +33,8 @@ use Rattle.flow_roles.specs.Feeder.{name_of, parts_of}
 use Rattle.flow_roles.proofs.Calls.{Moved, unmoved, moved, role-after}
 use Rattle.graph_files.specs.NodeFiles.{NodeFile, IsPlaceAfter, HasNumrecs, first_count}
 use Rattle.flow_saver.specs.GivenBack.{given_back, written_by}
-use Rattle.flow_saver.specs.Saver.{Start, IsSaving, HasUnsaved, AreSaved, IsFirstCount, HasSavedSince, saver_logs}
+use Rattle.flow_saver.specs.Saver.{Start, IsSaving, HasUnsaved, AreSaved, IsFirstCount, HasSavedSince}
+use Rattle.flow_roles.specs.RoleMoves.{saver_logs}
 use Rattle.flow_saver.specs.declared.piece.DuePiece.{DuePiece}
 use Rattle.flow_saver.proofs.Answers.{Given, piece-given}
 use Rattle.flow_saver.proofs.Due.{OfFile, of_file, IsNext, next-piece, next-room, next-sized, next-numrecs, next-first}

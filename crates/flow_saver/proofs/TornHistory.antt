@@ -46,7 +46,7 @@ use Rattle.flow_saver.specs.Saver.{IsTornSince, IsFirstCount, back_of}
 use Rattle.flow_saver.specs.Remaining.{IsSavingAlone}
 use Rattle.flow_saver.proofs.BegunBytes.{count-one, begun-front, begun-torn, begun-whole, group-front, group-full, GroupHas, Nothing, Whole, Opened, group-has, group-apart}
 use Rattle.flow_saver.proofs.Groups as groups
-use Rattle.flow_saver.proofs.Groups.{FilesOfRule, some-is}
+use Rattle.flow_saver.proofs.Groups.{some-is}
 use Rattle.flow_saver.proofs.Puts.{puts-few}
 use Rattle.flow_saver.proofs.Saves.{GivenAt, given-at}
 use Rattle.flow_saver.proofs.Writing.{contents-more}

@@ -1,5 +1,5 @@
 -- The role that saves: its moves, how it ends, and what its files are between two calls.
-use Rattle.std.specs.Prelude.{◌≡◌, ◌≢◌, ◌⊎◌, ℕ, ◌+◌, ◌*◌, ◌/◌, ◌<◌, ◌≤◌, ◌^◌, Bool, true, false, ◌||◌, List, ◌∷◌, ◌++◌, length, map, slice_get, Option, None, Some, IsNone, is_none}
+use Rattle.std.specs.Prelude.{◌≡◌, ◌≢◌, ◌⊎◌, ℕ, ◌+◌, ◌*◌, ◌/◌, ◌<◌, ◌≤◌, ◌^◌, Bool, true, false, ◌||◌, List, ◌∷◌, ◌++◌, length, map, slice_get, Option, None, Some, IsNone}
 use Rattle.std.specs.List.{list_all}
 use Rattle.nd_base.specs.Array.{Array, StackValue}
 use Rattle.nd_base.specs.Parts.{Parts}
@@ -18,11 +18,12 @@ use Rattle.flow_journal.specs.Puts.{puts}
 use Rattle.flow_journal.specs.Ended.{is_settled, has_left_any}
 use Rattle.flow_journal.specs.Finished.{is_finished}
 use Rattle.flow_journal.specs.Unsaved.{saves}
-use Rattle.board_rules.specs.States.{BoardState, past, begins, lent_to}
+use Rattle.board_rules.specs.States.{BoardState, past, lent_to}
 use Rattle.flow_roles.specs.declared.last.Last.{Last}
 use Rattle.flow_roles.specs.declared.last.Last.TheVariants as last
 use Rattle.flow_roles.specs.Passes.{Pass}
 use Rattle.flow_roles.specs.RoleEnds.{IsLent}
+use Rattle.flow_roles.specs.RoleMoves.{saver_logs}
 use Rattle.flow_roles.specs.Feeder.{name_of, parts_of}
 use Rattle.file_out.specs.Streams.{Stream}
 use Rattle.chain_plain.specs.Nodes.{maker_at}
@@ -33,12 +34,6 @@ use Rattle.flow_saver.specs.Pieces.{content_of}
 use Rattle.flow_saver.specs.declared.piece.DuePiece.{DuePiece}
 use Rattle.flow_saver.specs.declared.saving.Step.{Step}
 use Rattle.flow_saver.specs.declared.saving.Step.TheVariants.{Nothing, Wrote, Wants}
-
--- an entry of the saver's moves
-abbrev pub saver_logs : Entry → Bool
-saver_logs (entry.Save r v m k g) = true
-saver_logs (entry.Saved r v m k) = true
-saver_logs e = is_none (begins e)
 
 -- The saver ends where the run is done or some role has left, unless memory was wanting.
 abbrev pub saver_ends : Setting → Last → Past → (want : Bool) → Bool

@@ -11,10 +11,10 @@ ghost use Rattle.flow_journal.specs.Hands.{hand};
 ghost use Rattle.flow_journal.specs.Unsaved.{standing_saves};
 ghost use Rattle.board_rules.specs.States.{past, lent_to};
 ghost use Rattle.board_rules.specs.RunMeasures.{run_setting};
-ghost use Rattle.flow_roles.specs.RoleMoves.{IsFresh};
+ghost use Rattle.flow_roles.specs.RoleMoves.{saver_logs, IsFresh};
 ghost use Rattle.graph_files.specs.OpenFiles.{closed, file_nodes};
 ghost use Rattle.flow_saver.specs.GivenBack.{given_back};
-ghost use Rattle.flow_saver.specs.Saver.{saver_logs, saver_ends, piece_of, IsPieceOfHand, AreSaved, CountsSo, Start, IsSaving, IsToGiveBack, StepLeaves, RoleLeaves, CountsStep};
+ghost use Rattle.flow_saver.specs.Saver.{saver_ends, piece_of, IsPieceOfHand, AreSaved, CountsSo, Start, IsSaving, IsToGiveBack, StepLeaves, RoleLeaves, CountsStep};
 
 use crate::DuePiece;
 use crate::piece::write_due;

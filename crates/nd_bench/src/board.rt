@@ -11,6 +11,7 @@ use board_rules::{BoardCalls, Left};
 use chain_plain::plan;
 use flow_core::Board;
 use flow_drain::drain;
+use flow_roles::nothing;
 use frame_store::Frame;
 use graph_conf::read_graph;
 use nd_base::{Plan, Run, Stack};
@@ -160,13 +161,7 @@ fn empty_hands<R: Run>(alloc: Global, roles: u32) -> Option<Vec<Left<Frame<R>>>>
 {
     let mut hands = Vec::new(alloc);
     for _ in 0..roles {
-        hands
-            .push(Left {
-                input: None,
-                made: None,
-                blank: None,
-            })
-            .ok()?;
+        hands.push(nothing()).ok()?;
     }
     Some(hands)
 }

@@ -9,7 +9,7 @@ use Rattle.std.proofs.lemmas.List.Sums.{sum_by-cons}
 use Rattle.std.proofs.lemmas.List.Sorted.{sum_by-IsPermutation}
 use Rattle.pool_ledger.specs.Grants.{Block, Granted, sizes, has_number, granted, free_in_order, largest_free, known_after}
 use Rattle.pool_ledger.specs.GrantLaws.{SameBlocks, same_none, same_trans, filter-same, sizes-same, free_in_order-same, granted-same}
-use Rattle.pool_ledger.specs.Ledger.{Ledger, block_of, blocks, numbers, empty_ledger, is_free, largest_first, grant_for, with_refs, after}
+use Rattle.pool_ledger.specs.Ledger.{Ledger, block_of, blocks, numbers, is_free, largest_first, grant_for, with_refs, after}
 use Rattle.pool_ledger.specs.Ledger as ledger
 use Rattle.pool_ledger.specs.LedgerLaws.{blocks-with_refs, refs-with_refs_other, refs-with_refs_same, after-known}
 use Rattle.flow_journal.specs.declared.entry.Entry.{Entry}

@@ -17,7 +17,7 @@ use Rattle.flow_journal.specs.Accepted.{accepts, is_dropped_by, accepted}
 use Rattle.flow_journal.specs.Histories.{is_legal}
 use Rattle.flow_journal.proofs.Steps.{comes_here, comes_elsewhere, same_refl}
 use Rattle.flow_journal.proofs.Rows.{row_laws}
-use Rattle.flow_journal.proofs.Hands.{row_of, hands-more, takes-alone}
+use Rattle.flow_journal.proofs.Hands.{row_of, hands-more}
 use Rattle.flow_journal.proofs.Changes.{queue_laws}
 use Rattle.flow_journal.proofs.EntryCounts.{count, bit, count-cons, count-let_go-le, accepts_at}
 use Rattle.flow_journal.proofs.Jobs.{reclaim_hand}

@@ -26,7 +26,6 @@ use Rattle.flow_journal.proofs.EntryCounts.{count, bit, count-cons, count-append
 use Rattle.flow_journal.proofs.Found.{none_counted, found_up}
 use Rattle.flow_journal.proofs.Jobs.{reclaim_hand}
 use Rattle.flow_journal.proofs.Once.{load-once}
-use Rattle.flow_journal.proofs.Pieces.{piece-file}
 use Rattle.flow_journal.proofs.Outs.{out_of, none_elsewhere, result-at, flush-at}
 use Rattle.flow_journal.proofs.Offers.{none_numbered_0}
 use Rattle.flow_journal.proofs.Issues.{looks-none, puts_at_node, settles_node}

@@ -3,7 +3,7 @@ use Rattle.std.proofs.Common.{◌≡◌, ◌≢◌, ℕ, zero, suc, ◌≤◌, �
 use Rattle.std.specs.Prelude.{All, IsTrue, reverse, slice_get}
 use Rattle.std.specs.List.{list_any, flat_map}
 use Rattle.std.specs.Option.{option_map_or}
-use Rattle.std.proofs.lemmas.Bool.{and_parts, or_parts, false≢true, true≢false, eqb-true, cases_Bool}
+use Rattle.std.proofs.lemmas.Bool.{and_parts, or_parts, false≢true, true≢false, cases_Bool}
 use Rattle.std.proofs.lemmas.List.{append-nil, length-map, map-append, reverse-append}
 use Rattle.std.proofs.lemmas.List.Elements.{All-get_or}
 use Rattle.std.proofs.lemmas.Option.{slice_get_within, get_or_from_slice_get}
@@ -25,11 +25,11 @@ use Rattle.chain_plain.proofs.Rules.{stands}
 use Rattle.flow_journal.proofs.Found.{found_up}
 use Rattle.flow_journal.proofs.LastOuts.{outs_of, no_out}
 use Rattle.flow_journal.specs.declared.entry.Entry.{Entry}
-use Rattle.flow_journal.specs.declared.entry.Entry.TheVariants.{LoadRefused, Emit, Accept, Full, PoolDrop, SortDrop, Save, Reclaim}
+use Rattle.flow_journal.specs.declared.entry.Entry.TheVariants.{LoadRefused, Emit, Accept, Full, PoolDrop, SortDrop, Reclaim}
 use Rattle.flow_journal.specs.Setting.{Setting, Node, node, is_node, may_sort}
 use Rattle.flow_journal.specs.Turns.{is_dealing, deals}
 use Rattle.flow_journal.specs.Pasts.{Past, frame, comes_at}
-use Rattle.flow_journal.specs.Hands.{hand, standing, is_loaded, is_piece, let_go, takes_up}
+use Rattle.flow_journal.specs.Hands.{standing, is_loaded, let_go, takes_up}
 use Rattle.flow_journal.specs.Offered.{loads, offered}
 use Rattle.flow_journal.specs.Unsaved.{is_file}
 use Rattle.flow_journal.specs.Breaks.{outs, breaks_of, out_at}
@@ -37,13 +37,11 @@ use Rattle.flow_journal.specs.Accepted.{accepts, is_dropped_by, accepted, emitte
 use Rattle.flow_journal.specs.Histories.{is_legal, is_history}
 use Rattle.flow_journal.specs.IndexLaws.{below}
 use Rattle.flow_journal.specs.RunSetting.{work_of, setting_of}
-use Rattle.flow_journal.proofs.Rows.{row_laws}
-use Rattle.flow_journal.proofs.Hands.{row_of, stood, flat-let_go}
+use Rattle.flow_journal.proofs.Hands.{stood, flat-let_go}
 use Rattle.flow_journal.proofs.Counts.{hand-standing}
 use Rattle.flow_journal.proofs.EntryCounts.{count, count-cons}
 use Rattle.flow_journal.proofs.Jobs.{reclaim_hand}
 use Rattle.flow_journal.proofs.Once.{emits_once-law}
-use Rattle.flow_journal.proofs.Pieces.{piece-file}
 use Rattle.flow_journal.proofs.Outs.{of_index}
 use Rattle.run_laws.specs.Drops.{is_refused_load, load_index, drops, has_drop}
 use Rattle.run_laws.specs.Results.{IsFinishedRun, put_out, indices, contents, outcome}

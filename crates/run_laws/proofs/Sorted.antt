@@ -1,23 +1,19 @@
 -- What was put at a sorted node went out, was dropped or waits; and what was put at a node that makes nothing was accepted there.
-use Rattle.std.proofs.Common.{◌≡◌, ◌≢◌, ℕ, ◌+◌, ◌≤◌, Bool, true, false, ◌&&◌, eqb, List, [], ◌∷◌, ◌++◌, refl, sym, ap, ◌∙◌, subst, arith, inl, inr, ◌⊎◌}
+use Rattle.std.proofs.Common.{◌≡◌, ◌≢◌, ℕ, ◌+◌, ◌≤◌, Bool, true, false, ◌&&◌, eqb, List, [], ◌∷◌, refl, sym, ap, ◌∙◌, arith, inl, inr, ◌⊎◌}
 use Rattle.std.specs.Prelude.{flat_map}
-use Rattle.std.proofs.lemmas.Bool.{and_parts, and_from, true≢false, eqb-true, eqb-false, cases_Bool, eq-eqb}
+use Rattle.std.proofs.lemmas.Bool.{and_parts, true≢false, eqb-true, cases_Bool, eq-eqb}
 use Rattle.nd_base.specs.declared.frame.FrameName.{FrameName}
 use Rattle.flow_journal.specs.declared.entry.Entry.{Entry}
 use Rattle.flow_journal.specs.declared.entry.Entry.TheVariants.{Issue, Emit, Take, TakeBlock, PoolDrop, Put, SortDrop, Saved, Reclaim, Load, Save}
-use Rattle.flow_journal.specs.declared.entry.Why.{Why}
 use Rattle.flow_journal.specs.Setting.{Setting, is_maker, is_sorted}
 use Rattle.flow_journal.specs.Pasts.{Past, frame, same, comes_at}
 use Rattle.flow_journal.specs.Hands.{hands, standing, let_go}
 use Rattle.flow_journal.specs.QueueCounts.{gone_at}
-use Rattle.flow_journal.specs.Waiting.{Waiting, waiting, not_waiting}
-use Rattle.flow_journal.specs.Ended.{now}
+use Rattle.flow_journal.specs.Waiting.{Waiting}
 use Rattle.flow_journal.specs.Accepted.{accepts}
 use Rattle.flow_journal.specs.Histories.{is_legal}
-use Rattle.flow_journal.proofs.Steps.{same_refl}
 use Rattle.flow_journal.proofs.Rows.{row_laws}
 use Rattle.flow_journal.proofs.Hands.{row_of, takes-alone, stood}
-use Rattle.flow_journal.proofs.Changes.{put_laws}
 use Rattle.flow_journal.proofs.Counts.{times_by, queued-by, hand-standing}
 use Rattle.flow_journal.proofs.EntryCounts.{count, bit, count-cons, count-append, count-let_go, puts_at, puts_of, emits_at}
 use Rattle.flow_journal.proofs.Jobs.{reclaim_hand}

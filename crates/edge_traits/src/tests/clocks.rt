@@ -1,6 +1,6 @@
 //! Clocks, called through their trait.
 
-use crate::{Clock, MemClock, RealClock};
+use crate::{Clock, RealClock};
 use std::io::ErrorKind;
 use std::process::Abort;
 use std::sync::atomic::{AtomicU64, Ordering};
@@ -13,16 +13,6 @@ fn ticks<C: Clock>(rt: &impl Abort, clock: &mut C, answers: &[u64]) {
     for answer in answers {
         assert_eq!(rt; clock.tick(), *answer);
     }
-}
-
-#[test]
-fn clock_in_memory_gives_its_ticks_and_then_the_last(rt: HostRuntime) -> Result<(), Fail> {
-    let alloc = rt.alloc();
-    let mut clock = MemClock::new(alloc, vec![in alloc; 5, 3, 9]?)?;
-    ticks(&rt, &mut clock, &[5, 3, 9, 9, 9]);
-    let mut empty = MemClock::new(alloc, vec![in alloc]?)?;
-    ticks(&rt, &mut empty, &[0, 0]);
-    Ok(())
 }
 
 /// A machine's clock whose readings are these, in microseconds; one of 0 can't be had.

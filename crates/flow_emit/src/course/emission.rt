@@ -1,16 +1,16 @@
 //! One emission: the entry, and the offers to the node's children.
 
-ghost use Rattle.std.specs.Prelude.{◌≡◌, ◌<◌, ◌≤◌, ◌%◌, ◌==◌, ◌∷◌, ◌++◌, ℕ, [], true, false, length, drop, map, filter, slice_get, vec_len, vec_capacity, Some};
+ghost use Rattle.std.specs.Prelude.{◌≡◌, ◌<◌, ◌≤◌, ◌%◌, ◌==◌, ◌∷◌, ◌++◌, ℕ, [], true, false, length, drop, take, map, slice_get, vec_len, vec_capacity, Some};
 ghost use Rattle.std.specs.List.{All, position};
 ghost use Rattle.nd_base.specs.declared.frame.FrameName.{FrameName};
 ghost use Rattle.nd_base.specs.declared.measure.Measure.{Measure};
 ghost use Rattle.board_rules.specs.Ends.{listed};
 ghost use Rattle.flow_journal.specs.declared.entry.Entry.TheVariants.{Accept, Emit, Full};
-ghost use Rattle.flow_journal.specs.Setting.{is_node, is_sorted, children};
-ghost use Rattle.flow_journal.specs.Queued.{has_room};
+ghost use Rattle.flow_journal.specs.Setting.{is_node, is_sorted, children, node};
+ghost use Rattle.flow_journal.specs.Queued.{has_room, queued};
 ghost use Rattle.flow_journal.specs.Histories.{is_legal};
 ghost use Rattle.flow_journal.specs.Following.{offer, emit};
-ghost use Rattle.flow_journal.specs.Turns.{deals, turn, place_after, has_just_emitted, offered_to};
+ghost use Rattle.flow_journal.specs.Turns.{deals, turn, place_after, has_just_emitted, offered_to, dealt_to, round_from};
 ghost use Rattle.board_rules.specs.States.{past, plain};
 ghost use Rattle.board_rules.specs.Moving.{with_all};
 ghost use Rattle.board_rules.specs.RunMeasures.{run_setting, run_measure};
@@ -19,6 +19,14 @@ ghost use Rattle.flow_emit.specs.Emissions.{HasEmitted, OnlyDealt, before_emissi
 use crate::{Course, NodeWork};
 use flow_journal::{Entry, Why};
 use nd_base::{FrameName, Held, Measure};
+use scatter_rule::{Choice, next_child};
+
+/// The queues of some nodes: how many arrays are queued at each, and how many its queue takes. A graph has at most 32 nodes.
+#[derive(Drop)]
+struct Queues {
+    queued: [u32; 32],
+    sizes: [u32; 32],
+}
 
 /// Keeps the measure of an array that goes out, where there is one.
 pub(crate) fn keep_measure(measures: &mut Vec<Measure>, measured: Option<Measure>)
@@ -131,17 +139,40 @@ impl<F: Held> Course<F> {
         }
     }
 
-    /// The first of some nodes whose queue has room.
-    fn first_with_room(&self, nodes: &[u32]) -> Option<u32>
-        requires { All (λ v. is_node (run_setting F.Of.graph F.Of.stack) v ≡ true) nodes.now }
-        ensures { result ≡ slice_get (filter (has_room (run_setting F.Of.graph F.Of.stack) (past self.now.told)) nodes.now) 0 }
+    /// The queues of some nodes.
+    fn queues_of(&self, nodes: &[u32]) -> Queues
+        requires few { length nodes.now ≤ 32 }
+        requires nodes { All (λ v. is_node (run_setting F.Of.graph F.Of.stack) v ≡ true) nodes.now }
+        ensures queued { take (length nodes.now) result.queued ≡ map (λ v. length (queued v (past self.now.told))) nodes.now }
+        ensures sizes { take (length nodes.now) result.sizes ≡ map (λ v. (node (run_setting F.Of.graph F.Of.stack) v).queue) nodes.now }
     {
-        for node in nodes {
-            if self.has_room(*node) {
-                return Some(*node);
-            }
+        let mut queues = Queues {
+            queued: [0; 32],
+            sizes: [0; 32],
+        };
+        for place in 0..nodes.len() {
+            queues.queued[place] = self.queued_at(nodes[place]);
+            queues.sizes[place] = self.queue_of(nodes[place]);
         }
-        None
+        queues
+    }
+
+    /// The first of these children, from this place on round, whose queue has room; where none has, the one at this place.
+    fn first_in_turn(&self, children: &[u32], turn: u32) -> Option<u32>
+        requires few { length children.now ≤ 32 }
+        requires nodes { All (λ v. is_node (run_setting F.Of.graph F.Of.stack) v ≡ true) children.now }
+        requires turn { 0 < length children.now → turn < length children.now }
+        ensures { result ≡ slice_get (dealt_to (run_setting F.Of.graph F.Of.stack) (past self.now.told) (round_from turn children.now)) 0 }
+    {
+        if children.is_empty() {
+            return None;
+        }
+        let count = children.len();
+        let queues = self.queues_of(children);
+        match next_child(turn, &queues.queued[..count], &queues.sizes[..count]) {
+            Choice::Give(place) => Some(children[place]),
+            Choice::AllFull => Some(children[turn as usize]),
+        }
     }
 
     /// The child to which a node that deals offers the array that has just gone out of it.
@@ -152,18 +183,8 @@ impl<F: Held> Course<F> {
         ensures { result ≡ slice_get (offered_to (run_setting F.Of.graph F.Of.stack) (before_emission self.now.told) from) 0 }
     {
         let children = self.rules.children_of(from);
-        let turn = self.nodes[from as usize - 1].turn as usize;
-        if turn >= children.len() {
-            return None;
-        }
-        let (before, behind) = children.split_at(turn);
-        if let Some(child) = self.first_with_room(behind) {
-            return Some(child);
-        }
-        if let Some(child) = self.first_with_room(before) {
-            return Some(child);
-        }
-        Some(behind[0])
+        let turn = self.nodes[from as usize - 1].turn;
+        self.first_in_turn(children, turn)
     }
 
     /// A node deals the array on its way to a child with room.

@@ -1,5 +1,5 @@
 use Rattle.board_rules.specs.States.{past}
-use Rattle.board_cases.proofs.Workers.{measures-many}
+use Rattle.board_cases.proofs.Measures.{measures-many}
 use Rattle.board_cases.proofs.board.finish.Goals as goal
 
 pub print_measures-requires-clause-measures : goal.print_measures-requires-clause-measures

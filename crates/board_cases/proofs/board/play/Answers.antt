@@ -1,9 +1,9 @@
-use Rattle.std.proofs.Common.{◌≡◌, ◌<◌, ◌≤◌, ◌+◌, length, vec_len, ap, sym, subst, arith, rules}
+use Rattle.std.proofs.Common.{◌≡◌, ◌<◌, length, vec_len, ap, sym, subst, arith, rules}
 use Rattle.std.specs.Prelude.{All}
 use Rattle.board_rules.specs.RunMeasures.{run_setting}
 use Rattle.flow_roles.specs.TurnPasses.{known_by, IsPassOf}
 use Rattle.flow_drain.proofs.TakingBack.{few-roles}
-use Rattle.board_cases.proofs.Workers.{workers-many}
+use Rattle.flow_roles.proofs.Workers.{workers-many}
 use Rattle.board_cases.proofs.Leaving.{all-ours, passes-many, drain-from}
 use Rattle.board_cases.proofs.board.play.Goals as goal
 

@@ -1,5 +1,3 @@
-use Rattle.std.proofs.Common.{sym, subst}
-use Rattle.board_cases.specs.Seats.{HoldsPiece}
 use Rattle.board_cases.proofs.Staying.{piece-still}
 use Rattle.board_cases.proofs.saving.progress.Goals as goal
 

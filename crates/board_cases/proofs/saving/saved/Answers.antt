@@ -1,7 +1,7 @@
 use Rattle.std.proofs.Common.{◌≡◌, sym, subst, ◌∙◌, Some}
 use Rattle.board_rules.specs.RunMeasures.{run_setting}
-use Rattle.flow_roles.specs.RoleMoves.{HasNothing}
-use Rattle.board_cases.specs.Seats.{saver_logs, HoldsPiece}
+use Rattle.flow_roles.specs.RoleMoves.{saver_logs, HasNothing}
+use Rattle.board_cases.specs.Seats.{HoldsPiece}
 use Rattle.board_cases.proofs.SaverHands.{saved-holds}
 use Rattle.board_cases.proofs.saving.saved.Goals as goal
 

@@ -2,9 +2,9 @@ use Rattle.std.proofs.Common.{◌≡◌, ◌<◌, ◌++◌, length, vec_len, ref
 use Rattle.std.specs.Option.{option_to_list}
 use Rattle.board_rules.specs.RunMeasures.{run_setting}
 use Rattle.flow_roles.specs.TurnPasses.{known_by, IsPassOf}
-use Rattle.board_cases.specs.Workers.{workers}
+use Rattle.flow_roles.specs.Workers.{workers}
 use Rattle.board_cases.specs.Seats.{workers_of}
-use Rattle.board_cases.proofs.Lists.{parted}
+use Rattle.flow_roles.proofs.Lists.{parted}
 use Rattle.board_cases.proofs.Dealing.{seated}
 use Rattle.board_cases.proofs.seats.deal.Goals as goal
 

@@ -2,7 +2,7 @@ use Rattle.std.proofs.Common.{arith, ◌≡◌, Some, None, length, ap, sym, ◌
 use Rattle.nd_base.specs.GraphRules.{rule_at}
 use Rattle.chain_plain.specs.PassingLaws.{maker_within-none}
 use Rattle.chain_plain.proofs.Rules.{stands}
-use Rattle.chain_plain.proofs.Found.{maker_of_region, maker_of_other}
+use Rattle.chain_plain.proofs.Found.{maker_of_other}
 use Rattle.chain_plain.proofs.plans.+maker_number.Goals as goal
 
 pub returns-in_default : goal.returns-in_default

@@ -1,4 +1,4 @@
-use Rattle.std.proofs.Common.{◌≡◌, ◌∷◌, [], ◌++◌, ◌+◌, ◌<◌, length, map, filter, get_or, ap, sym, ◌∙◌, arith, ℕ, Bool, true, false}
+use Rattle.std.proofs.Common.{◌≡◌, ◌∷◌, [], ◌++◌, ◌+◌, ◌<◌, length, map, filter, get_or, ap, sym, ◌∙◌, arith, ℕ}
 use Rattle.std.specs.List.{range_with_len}
 use Rattle.nd_base.specs.GraphRules.{makes_arrays}
 use Rattle.nd_base.specs.declared.plan.Maker.{Maker}

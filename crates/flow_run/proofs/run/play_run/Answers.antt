@@ -1,15 +1,14 @@
-use Rattle.std.proofs.Common.{◌≡◌, ℕ, suc, ◌+◌, ◌<◌, ◌≤◌, List, ◌∷◌, length, vec_len, ap, sym, subst, ◌∙◌, arith, rules}
+use Rattle.std.proofs.Common.{◌≡◌, suc, ◌<◌, ◌∷◌, length, vec_len, ap, sym, subst, ◌∙◌, arith, rules}
 use Rattle.std.specs.Prelude.{All}
 use Rattle.std.specs.List.{list_all}
 use Rattle.std.proofs.lemmas.Bool.{and_parts}
-use Rattle.flow_journal.specs.Setting.{last_role}
 use Rattle.board_rules.specs.RunMeasures.{run_setting}
 use Rattle.flow_roles.specs.TurnPasses.{known_by, IsPassOf, HasMade}
 use Rattle.flow_drain.proofs.TakingBack.{few-roles}
-use Rattle.flow_run.specs.Workers.{workers}
+use Rattle.flow_roles.specs.Workers.{workers}
 use Rattle.flow_run.specs.Seats.{is_back}
 use Rattle.flow_run.specs.Joined.{IsJoined}
-use Rattle.flow_run.proofs.Workers.{workers-many}
+use Rattle.flow_roles.proofs.Workers.{workers-many}
 use Rattle.flow_run.proofs.Sharing.{came-back, first-fed, if-ok, back-many, back-ours, joined-from, fed-from, made-last, leaves-from, passes}
 use Rattle.flow_run.proofs.run.play_run.Goals as goal
 

@@ -1,9 +1,10 @@
 use Rattle.std.proofs.Common.{◌≡◌, ◌<◌, ◌++◌, length, vec_len, refl, sym, ap, subst, ◌∙◌, arith, rules}
 use Rattle.std.specs.Option.{option_to_list}
-use Rattle.flow_roles.specs.TurnPasses.{known_by, IsPassOf, IsFreshOf}
+use Rattle.flow_roles.specs.TurnPasses.{known_by, IsPassOf}
 use Rattle.flow_run.specs.Seats.{AreReady}
 use Rattle.flow_run.proofs.Parting.{seats-length}
-use Rattle.flow_run.proofs.Seating.{first-dealt, rest-dealt, last-dealt, parted, ready-dealt}
+use Rattle.flow_roles.proofs.Lists.{parted}
+use Rattle.flow_run.proofs.Seating.{first-dealt, rest-dealt, last-dealt, ready-dealt}
 use Rattle.flow_run.proofs.seats.deal.Goals as goal
 
 pub returns-clause-feeder : goal.returns-clause-feeder

@@ -1,4 +1,4 @@
-use Rattle.std.proofs.Common.{◌≡◌, ◌++◌, ◌∷◌, [], length, vec_len, ap, ◌∙◌, arith, rules}
+use Rattle.std.proofs.Common.{◌≡◌, ◌++◌, ◌∷◌, [], length, vec_len, ap, ◌∙◌, rules}
 use Rattle.flow_run.proofs.Parting.{gathered}
 use Rattle.flow_run.proofs.seats.gather.Goals as goal
 

@@ -1,4 +1,4 @@
-use Rattle.std.proofs.Common.{◌≡◌, ap, sym, ◌∙◌, length, vec_len, vec_capacity, arith, rules}
+use Rattle.std.proofs.Common.{ap, ◌∙◌, length, arith}
 use Rattle.flow_run.proofs.Parting.{parting-back, parting-on}
 use Rattle.flow_run.proofs.seats.part_all.Goals as goal
 

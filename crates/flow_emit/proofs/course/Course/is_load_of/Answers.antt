@@ -1,10 +1,6 @@
-use Rattle.std.proofs.Common.{◌≡◌, ◌∙◌, ap, sym, subst}
-use Rattle.board_rules.specs.RunMeasures.{run_setting, run_measure}
+use Rattle.std.proofs.Common.{◌∙◌, ap}
 use Rattle.board_rules.specs.States.{past}
 use Rattle.flow_journal.specs.Hands.{hand}
-use Rattle.flow_emit.specs.Courses.{IsCourse, Coursed}
-use Rattle.flow_emit.specs.RoleStates.{role_of, hand_of}
-use Rattle.flow_emit.specs.declared.hand.RoleState.{RoleState}
 use Rattle.flow_emit.specs.HandWords.{loads}
 use Rattle.flow_emit.proofs.HandWords.{loads-is}
 use Rattle.flow_emit.proofs.course.Course.is_load_of.Goals as goal

@@ -1,4 +1,4 @@
-use Rattle.std.proofs.Common.{◌≡◌, ◌∙◌, ◌+◌, ◌*◌, ℕ, ℤ, [], List, length, replicate, refl, sym, ap}
+use Rattle.std.proofs.Common.{◌≡◌, ◌∙◌, ◌+◌, ◌*◌, ℤ, [], List, length, replicate, refl, sym, ap}
 use Rattle.board_rules.specs.RunMeasures.{run_setting, run_measure}
 use Rattle.flow_journal.specs.LengthLaws.{most_entries}
 use Rattle.pool_ledger.specs.Ledger.{empty_ledger}

@@ -10,7 +10,7 @@ use Rattle.flow_emit.specs.Courses.{IsCourse, Coursed, log_of}
 use Rattle.flow_emit.proofs.Opening.{parts}
 use Rattle.flow_emit.proofs.Coursing.{room-for}
 use Rattle.flow_emit.proofs.Finding.{role-found, course-as}
-use Rattle.pool_ledger.specs.Ledger.{Ledger, with_refs}
+use Rattle.pool_ledger.specs.Ledger.{with_refs}
 use Rattle.pool_ledger.specs.Ledger as ledger
 use Rattle.flow_emit.proofs.Begins.{may-reclaim}
 use Rattle.flow_emit.proofs.Reclaiming.{back_loaded, hand-loaded, hand-there, few-reclaims, granted-held, load-carried}

@@ -15,7 +15,7 @@ use Rattle.flow_emit.proofs.Reading.{place-of}
 use Rattle.flow_emit.proofs.Coursing.{room-for}
 use Rattle.flow_emit.proofs.Finding.{node-found, role-found, course-as}
 use Rattle.queue_sort.specs.Inboxes.{with_front}
-use Rattle.pool_ledger.specs.Ledger.{Ledger, with_refs}
+use Rattle.pool_ledger.specs.Ledger.{with_refs}
 use Rattle.pool_ledger.specs.Ledger as ledger
 use Rattle.flow_emit.proofs.Begins.{may-reclaim}
 use Rattle.std.proofs.lemmas.Bool.{eq-eqb}

@@ -1,15 +1,8 @@
-use Rattle.std.proofs.Common.{◌≡◌, ◌≤◌, ◌<◌, ◌∙◌, ◌-◌, ℕ, true, false, Bool, ◌&&◌, ◌||◌, not, List, Some, length, map, drop, eqb, ltb, leb, refl, sym, ap, subst, arith}
-use Rattle.std.specs.Prelude.{slice_get}
-use Rattle.std.proofs.lemmas.List.{length-map}
-use Rattle.nd_base.specs.declared.frame.FrameName.{FrameName}
+use Rattle.std.proofs.Common.{◌-◌, subst}
 use Rattle.board_rules.specs.RunMeasures.{run_setting, run_measure}
 use Rattle.board_rules.specs.States.{past}
-use Rattle.flow_journal.specs.Setting.{Node, node}
-use Rattle.flow_emit.specs.declared.node.NodeState.{NodeState}
-use Rattle.flow_emit.specs.declared.rules.NodeRules.{NodeRules}
 use Rattle.flow_emit.specs.Courses.{IsCourse, Coursed}
 use Rattle.flow_emit.specs.NodeStates.{IsNode}
-use Rattle.flow_emit.specs.RunRules.{as_node, as_work}
 use Rattle.flow_emit.proofs.Opening.{parts}
 use Rattle.flow_emit.proofs.Finding.{node-found, node-is, few-saves}
 use Rattle.flow_emit.proofs.course.Course.state.Goals as goal

@@ -1,8 +1,8 @@
 use Rattle.std.proofs.Common.{◌≡◌, ◌+◌, ◌++◌, drop, map}
 use Rattle.flow_journal.specs.RunSetting.{node_of}
 use Rattle.board_rules.specs.RunMeasures.{run_setting}
-use Rattle.flow_run.specs.Workers.{workers_from, workers}
-use Rattle.flow_run.proofs.seats.worker_nodes.Given as goal
+use Rattle.flow_roles.specs.Workers.{workers_from, workers}
+use Rattle.flow_roles.proofs.nodes.worker_nodes.Given as goal
 
 abbrev pub invariant-loop-place : goal.invariant-loop-place
 invariant-loop-place g l =

@@ -1,20 +1,12 @@
 -- The workers of a run: their nodes, and their number.
-use Rattle.std.proofs.Common.{◌≡◌, ◌⊎◌, ℕ, zero, suc, ◌+◌, ◌<◌, ◌≤◌, Bool, true, ◌&&◌, ltb, leb, List, [], ◌∷◌, ◌++◌, length, replicate, map, refl, sym, ap, ◌∙◌, arith, Option, Some, None, inl, inr}
+use Rattle.std.proofs.Common.{◌≡◌, ◌⊎◌, ℕ, zero, suc, ◌+◌, ◌<◌, ◌≤◌, true, ltb, leb, List, [], ◌∷◌, ◌++◌, length, replicate, sym, ◌∙◌, arith, Some, inl, inr}
 use Rattle.std.specs.Prelude.{slice_get, fold}
 use Rattle.std.proofs.lemmas.Bool.{and_from, lt-ltb, le-leb}
-use Rattle.std.proofs.lemmas.List.{length-append, length-replicate, length-map}
-use Rattle.nd_base.specs.Array.{StackValue}
-use Rattle.nd_base.specs.declared.frame.FrameName.{FrameName}
-use Rattle.nd_base.specs.declared.graph.Graph.{Graph}
-use Rattle.nd_base.specs.declared.measure.Measure.{Measure}
-use Rattle.nd_base.specs.declared.plan.Plan.{Plan}
-use Rattle.chain_plain.specs.Plans.{plan_of}
-use Rattle.flow_journal.specs.Setting.{Setting, Node, is_node, last_role, numbers_from}
-use Rattle.flow_journal.specs.Pasts.{Past}
-use Rattle.flow_journal.specs.RunSetting.{node_of}
-use Rattle.board_rules.specs.Ends.{measured_at, measured}
-use Rattle.board_rules.specs.RunMeasures.{run_setting, run_measure}
-use Rattle.board_cases.specs.Workers.{workers_from, workers}
+use Rattle.std.proofs.lemmas.List.{length-append, length-replicate}
+use Rattle.flow_journal.specs.Setting.{Setting, Node, is_node, last_role}
+use Rattle.flow_roles.specs.Workers.{workers_from, workers, posts}
+
+-- HOW MANY
 
 workers-sum : (a v : ℕ) (ns : List Node) → a + length (workers_from v ns) ≡ fold (λ (m : ℕ) (n : Node). m + n.threads) a ns
 workers-sum a v [] = omega arith
@@ -24,8 +16,13 @@ workers-sum a v (n ∷ ns) =
     let moved_ : a + length (workers_from v (n ∷ ns)) ≡ (a + n.threads) + length (workers_from (v + 1) ns) = omega (arith, both, here) in
     moved_ ∙ workers-sum (a + n.threads) (v + 1) ns
 
+pub posts-length : (s : Setting) → length (posts s) ≡ last_role s
+posts-length s = omega (arith, workers-sum 0 1 s.nodes)
+
 pub workers-many : (s : Setting) → length (workers s) + 1 ≡ last_role s
 workers-many s = omega (arith, workers-sum 0 1 s.nodes)
+
+-- WHERE
 
 at-times : (n v : ℕ) (rest : List ℕ) (k w : ℕ) → slice_get (replicate n v ++ rest) k ≡ Some w → (w ≡ v) ⊎ ((j : ℕ) × (slice_get rest j ≡ Some w))
 at-times zero v rest k w h = inr (k, h)
@@ -52,13 +49,3 @@ pub worker-node : (s : Setting) (k v : ℕ) → slice_get (workers s) k ≡ Some
 worker-node s k v h =
     let i = node-within 1 s.nodes k v h in
     and_from (ltb 0 v) (leb v (length s.nodes)) (lt-ltb 0 v (omega (arith, i.0))) (le-leb v (length s.nodes) (omega (arith, i.1)))
-
-numbers-many : (v : ℕ) (ns : List Node) → length (numbers_from v ns) ≡ length ns
-numbers-many v [] = refl
-numbers-many v (n ∷ ns) = ap suc (numbers-many (v + 1) ns)
-
--- each node has its measures
-pub measures-many : (g : Graph) (stack : StackValue) (p : Plan) (P : Past) (m : List (List Measure)) → p ≡ plan_of g stack → m ≡ measured (run_measure g stack) (run_setting g stack) P → length m ≡ length p.graph.nodes
-measures-many g stack p P m plan_ is =
-    ap length is ∙ (length-map (numbers_from 1 (run_setting g stack).nodes) (measured_at (run_measure g stack) P)
-    ∙ (numbers-many 1 (run_setting g stack).nodes ∙ (length-map g.nodes node_of ∙ sym (ap (λ (q : Plan). length q.graph.nodes) plan_))))

@@ -1,6 +1,6 @@
 -- Lists by their places.
-use Rattle.std.proofs.Common.{◌≡◌, ◌⊎◌, ℕ, zero, suc, ◌+◌, ◌<◌, List, [], ◌∷◌, ◌++◌, map, length, take, drop, inl, inr, refl, sym, ap, ◌∙◌, subst, arith, Option, Some, None}
-use Rattle.std.specs.Prelude.{slice_get, slice_set, All, slice_index_or}
+use Rattle.std.proofs.Common.{◌≡◌, ℕ, zero, suc, ◌+◌, ◌<◌, List, [], ◌∷◌, ◌++◌, map, length, take, drop, refl, sym, ap, ◌∙◌, subst, arith, Some}
+use Rattle.std.specs.Prelude.{slice_get, All, slice_index_or}
 use Rattle.std.proofs.lemmas.List.Elements.{All-get_or}
 use Rattle.std.proofs.lemmas.Option.{get_or_from_slice_get, slice_get-get_or, slice_get_within}
 
@@ -39,15 +39,3 @@ all-from Q xs each k d low = each k (slice_index_or xs k d) (slice_get-get_or xs
 pub parted : {P : Type 0} (xs ys : List P) (x : P) → 0 < length xs → x ≡ slice_index_or xs 0 x → ys ≡ take 0 xs ++ drop (0 + 1) xs → xs ≡ x ∷ ys
 parted [] ys x some is rest = absurd (omega (arith, some))
 parted {P} (y ∷ xs) ys x some is rest = ap (λ (z : P). z ∷ xs) (sym is) ∙ ap (λ (zs : List P). x ∷ zs) (sym rest)
-
--- a list in which one item was replaced
-pub at-set : {X : Type 0} (xs : List X) (k : ℕ) (a : X) (j : ℕ) (x : X) → slice_get (slice_set xs k a) j ≡ Some x → ((j ≡ k) × (a ≡ x)) ⊎ (slice_get xs j ≡ Some x)
-at-set [] k a j x h = cc
-at-set (y ∷ ys) zero a zero x h = let is : a ≡ x = cc in inl (refl, is)
-at-set (y ∷ ys) zero a (suc j) x h = inr h
-at-set (y ∷ ys) (suc k) a zero x h = inr h
-at-set (y ∷ ys) (suc k) a (suc j) x h =
-    elim (at-set ys k a j x h) [
-      | inl both ↦ inl (ap suc both.0, both.1)
-      | inr there ↦ inr there
-    ]
