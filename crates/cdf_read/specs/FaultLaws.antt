@@ -1,18 +1,24 @@
 -- No fault of a file is want of memory.
-use Rattle.std.specs.Prelude.{◌≡◌, ℕ, zero, suc, List, [], ◌∷◌, ◌++◌, length, Option, Some, None, Result, Ok, Err, ok_or, Bool, true, false, ◌*◌, ◌==◌, ◌||◌, ◌&&◌, nat_lt, nat_le, refl}
-use Rattle.std.specs.Str.{bytes_eq, is_utf8}
+use Rattle.std.specs.Prelude.{◌≡◌, ℕ, zero, suc, List, [], ◌∷◌, ◌++◌, length, Option, Some, None, Result, Ok, Err, ok_or, Bool, true, false, ◌*◌, ◌==◌, ◌||◌}
+use Rattle.std.specs.Prelude.{◌&&◌, nat_lt, nat_le, refl}
+use Rattle.std.specs.Str.{is_utf8}
 use Rattle.std.specs.List.{list_all}
 use Rattle.std.proofs.Common.{subst}
+use Rattle.nd_base.specs.declared.form.Form.{Form}
+use Rattle.nd_base.specs.declared.form.Form.TheVariants.{Classic, Wide}
 use Rattle.cdf_read.specs.declared.fault.CdfFault.{CdfFault}
-use Rattle.cdf_read.specs.declared.fault.CdfFault.TheVariants.{Magic, Short, Tag, Negative, NameText, NameLength, DimNumber, TwoRecordDims, ValueType, RecordDimNotFirst, Overflow, DataShort, OutOfMemory}
+use Rattle.cdf_read.specs.declared.fault.CdfFault.TheVariants.{Magic, Short, Tag, Negative, NameText, NameLength, DimNumber, TwoRecordDims, ValueType}
+use Rattle.cdf_read.specs.declared.fault.CdfFault.TheVariants.{RecordDimNotFirst, Overflow, DataShort, OutOfMemory}
 use Rattle.cdf_read.specs.declared.head.HeadDim.{HeadDim}
 use Rattle.cdf_read.specs.declared.head.HeadAttr.{HeadAttr}
 use Rattle.cdf_read.specs.declared.head.HeadVar.{HeadVar}
 use Rattle.cdf_read.specs.Fields as fields
-use Rattle.cdf_read.specs.Fields.{magic}
-use Rattle.cdf_read.specs.FieldReading.{free_in, word_in}
-use Rattle.cdf_read.specs.Places.{dim_length, value_size, size_of, streaming}
-use Rattle.cdf_read.specs.HeaderReading.{place, header_with, short_var, ◌>>=◌, need, word_at, number_at, kind_at, padded_at, name_at, list_head_at, many_at, dim_at, dims_at, attr_at, attrs_at, dim_number_at, dim_numbers_at, var_at, vars_at, numrecs_at, magic_at, data_fault, header_of, Faults}
+use Rattle.cdf_read.specs.Fields.{place}
+use Rattle.cdf_read.specs.FieldReading.{free_in, word_in, double_word_in}
+use Rattle.cdf_read.specs.Places.{dim_length, value_size, size_of, streaming, header_with}
+use Rattle.cdf_read.specs.HeaderReading.{short_var, ◌>>=◌, need, word_at, number_at, wide_begin_at, begin_at, kind_at, padded_at, name_at, list_head_at}
+use Rattle.cdf_read.specs.HeaderReading.{many_at, dim_at, dims_at, attr_at, attrs_at, dim_number_at, dim_numbers_at, var_at, vars_at, numrecs_at, form_of}
+use Rattle.cdf_read.specs.HeaderReading.{magic_at, data_fault, header_of, Faults}
 
 abbrev IsOfFile : CdfFault → Type 0
 IsOfFile OutOfMemory = ⊥
@@ -43,6 +49,16 @@ word total bytes = presents (word_in bytes) (Short (place total bytes)) tt
 number : (total : ℕ) (bytes : List ℕ) → Answers (number_at total bytes)
 unfolding number_at
 number total bytes = binds (word_at total bytes) _ (word total bytes) (λ w. checks (nat_le w.0 2147483647) (Negative (place total bytes)) _ tt (ends w))
+
+wide_begin : (total : ℕ) (bytes : List ℕ) → Answers (wide_begin_at total bytes)
+unfolding wide_begin_at
+wide_begin total bytes =
+    binds (ok_or (double_word_in bytes) (Short (place total bytes))) _ (presents (double_word_in bytes) (Short (place total bytes)) tt)
+    (λ w. checks (nat_le w.0 9223372036854775807) (Negative (place total bytes)) _ tt (ends w))
+
+begin : (form : Form) (total : ℕ) (bytes : List ℕ) → Answers (begin_at form total bytes)
+begin Classic total bytes = number total bytes
+begin Wide total bytes = wide_begin total bytes
 
 kind : (total : ℕ) (bytes : List ℕ) → Answers (kind_at total bytes)
 unfolding kind_at
@@ -96,16 +112,17 @@ dim_numbers : (total : ℕ) (ds : List HeadDim) (v : ℕ) (bytes : List ℕ) →
 unfolding dim_numbers_at
 dim_numbers total ds v bytes = binds (number_at total bytes) _ (number total bytes) (λ rank. many (dim_number_at total ds v) (dim_number total ds v) rank.0 [] rank.1)
 
-var : (total : ℕ) (ds : List HeadDim) (v : ℕ) (bytes : List ℕ) → Answers (var_at total ds v bytes)
+var : (form : Form) (total : ℕ) (ds : List HeadDim) (v : ℕ) (bytes : List ℕ) → Answers (var_at form total ds v bytes)
 unfolding var_at
-var total ds v bytes =
+var form total ds v bytes =
     binds (name_at total bytes) _ (name total bytes) (λ n. binds (dim_numbers_at total ds v n.1) _ (dim_numbers total ds v n.1) (λ ns. binds (attrs_at total ns.1) _ (attrs total ns.1)
     (λ xs. binds (kind_at total xs.1) _ (kind total xs.1) (λ k. checks (nat_le (size_of ds ns.0 k.0) 4294967296) (Overflow v) _ tt (binds (word_at total k.1) _ (word total k.1)
-    (λ size. binds (number_at total size.1) _ (number total size.1) (λ begin. ends _)))))))
+    (λ size. binds (begin_at form total size.1) _ (begin form total size.1) (λ place. ends _)))))))
 
-vars : (total : ℕ) (ds : List HeadDim) (bytes : List ℕ) → Answers (vars_at total ds bytes)
+vars : (form : Form) (total : ℕ) (ds : List HeadDim) (bytes : List ℕ) → Answers (vars_at form total ds bytes)
 unfolding vars_at
-vars total ds bytes = binds (list_head_at total 11 bytes) _ (list_head total 11 bytes) (λ head. many (λ (earlier : List HeadVar). var_at total ds (length earlier)) (λ earlier. var total ds (length earlier)) head.0 [] head.1)
+vars form total ds bytes = binds (list_head_at total 11 bytes) _ (list_head total 11 bytes)
+    (λ head. many (λ (earlier : List HeadVar). var_at form total ds (length earlier)) (λ earlier. var form total ds (length earlier)) head.0 [] head.1)
 
 numrecs : (total : ℕ) (bytes : List ℕ) → Answers (numrecs_at total bytes)
 unfolding numrecs_at
@@ -113,7 +130,8 @@ numrecs total bytes = binds (word_at total bytes) _ (word total bytes) (λ w. ch
 
 first : (bytes : List ℕ) → Answers (magic_at bytes)
 unfolding magic_at
-first bytes = binds (ok_or (free_in 4 bytes) (Short 0)) _ (presents (free_in 4 bytes) (Short 0) tt) (λ field. checks (bytes_eq field.0 magic) Magic _ tt (ends field.1))
+first bytes = binds (ok_or (free_in 4 bytes) (Short 0)) _ (presents (free_in 4 bytes) (Short 0) tt)
+    (λ field. binds (ok_or (form_of field.0) Magic) _ (presents (form_of field.0) Magic tt) (λ form. ends (form, field.1)))
 
 data_ends : (o : Option ℕ) → Answers (data_fault o)
 data_ends None = ends tt
@@ -123,8 +141,10 @@ whole : (bytes : List ℕ) → Answers (header_of bytes)
 unfolding header_of
 whole bytes =
     let total : ℕ = length bytes in
-    binds (magic_at bytes) _ (first bytes) (λ rest. binds (numrecs_at total rest) _ (numrecs total rest) (λ n. binds (dims_at total n.1) _ (dims total n.1)
-    (λ ds. binds (attrs_at total ds.1) _ (attrs total ds.1) (λ xs. binds (vars_at total ds.0 xs.1) _ (vars total ds.0 xs.1) (λ vs. binds (data_fault (short_var total (header_with total n.0 ds.0 xs.0 vs.0))) _ (data_ends (short_var total (header_with total n.0 ds.0 xs.0 vs.0))) (λ _. ends _))))))
+    binds (magic_at bytes) _ (first bytes) (λ f. binds (numrecs_at total f.1) _ (numrecs total f.1) (λ n. binds (dims_at total n.1) _ (dims total n.1)
+    (λ ds. binds (attrs_at total ds.1) _ (attrs total ds.1) (λ xs. binds (vars_at f.0 total ds.0 xs.1) _ (vars f.0 total ds.0 xs.1)
+    (λ vs. binds (data_fault (short_var total (header_with total n.0 ds.0 xs.0 vs.0))) _ (data_ends (short_var total (header_with total n.0 ds.0 xs.0 vs.0)))
+    (λ _. ends _))))))
 
 pub Faults-memory : (bytes : List ℕ) → ¬ Faults bytes OutOfMemory
 Faults-memory bytes e = (whole bytes).of_file OutOfMemory e

@@ -1,15 +1,18 @@
--- The header of a netCDF classic file (CDF-1) as a relation between bytes and headers. Each part is between the bytes
--- from it on and those after it. The content of padding and the stored vsize are free.
+-- The header of a netCDF classic file, CDF-1 or CDF-2, as a relation between bytes and headers (NetCDF Classic Format
+-- Specification). Each part is between the bytes from it on and those after it. The content of padding and the stored
+-- vsize are free.
 use Rattle.std.specs.Prelude.{◌≡◌, ◌≢◌, ℕ, ◌*◌, ◌≤◌, ◌<◌, ◌^◌, List, [], ◌∷◌, ◌++◌, length, All}
 use Rattle.std.specs.Str.{IsUtf8}
+use Rattle.nd_base.specs.declared.form.Form.{Form}
+use Rattle.nd_base.specs.declared.form.Form.TheVariants.{Classic, Wide}
 use Rattle.cdf_read.specs.declared.head.HeadDim.{HeadDim}
 use Rattle.cdf_read.specs.declared.head.HeadAttr.{HeadAttr}
 use Rattle.cdf_read.specs.declared.head.HeadVar.{HeadVar}
 use Rattle.cdf_read.specs.declared.head.Header.{Header}
-use Rattle.cdf_read.specs.Fields.{magic, IsFixed, IsFree, IsWord, padding}
+use Rattle.cdf_read.specs.Fields.{magic, IsFixed, IsFree, IsWord, IsDoubleWord, padding}
 use Rattle.cdf_read.specs.Places.{dim_length, value_size, size_of, record_size, record_count, values_end, streaming}
 
--- the greatest number of records, count, length, rank or begin
+-- the greatest number of records, count, length, rank or begin of four bytes
 abbrev pub greatest : ℕ
 greatest = 2147483647
 
@@ -17,6 +20,20 @@ greatest = 2147483647
 pub record IsNumber (number : ℕ) (before after : List ℕ) : Type 0 where
   pub word : IsWord number before after
   pub positive : number ≤ greatest
+
+-- the greatest begin of eight bytes
+abbrev pub greatest_wide : ℕ
+greatest_wide = 9223372036854775807
+
+-- a double word that is no negative number
+pub record IsWideBegin (number : ℕ) (before after : List ℕ) : Type 0 where
+  pub word : IsDoubleWord number before after
+  pub positive : number ≤ greatest_wide
+
+-- a begin, the place of a variable's first value: a word in CDF-1, and a double word in CDF-2
+abbrev pub IsBegin : Form → (begin : ℕ) (before after : List ℕ) → Type 0
+IsBegin Classic begin before after = IsNumber begin before after
+IsBegin Wide begin before after = IsWideBegin begin before after
 
 -- a value type: byte, char, short, int, float or double
 pub record IsKind (kind : ℕ) (before after : List ℕ) : Type 0 where
@@ -81,7 +98,7 @@ pub record IsDimNumber (dims : List HeadDim) (earlier : List ℕ) (number : ℕ)
   pub record_first : dim_length dims number ≡ 0 → earlier ≡ []
 
 -- a variable: name, rank, dimensions, attributes, value type, vsize and begin
-pub record IsVar (dims : List HeadDim) (v : HeadVar) (before after : List ℕ) : Type 0 where
+pub record IsVar (form : Form) (dims : List HeadDim) (v : HeadVar) (before after : List ℕ) : Type 0 where
   pub at_rank : List ℕ
   pub at_dims : List ℕ
   pub at_attrs : List ℕ
@@ -95,30 +112,31 @@ pub record IsVar (dims : List HeadDim) (v : HeadVar) (before after : List ℕ) :
   pub kind : IsKind v.kind at_kind at_vsize
   pub within : size_of dims v.dims v.kind ≤ 4294967296
   pub vsize : IsFree 4 at_vsize at_begin
-  pub begin_number : IsNumber v.begin at_begin after
+  pub begin_number : IsBegin form v.begin at_begin after
 
 -- numrecs: a number of records, or the mark of a file whose records are to be counted
 pub record IsNumrecs (numrecs : ℕ) (before after : List ℕ) : Type 0 where
   pub word : IsWord numrecs before after
   pub counted : numrecs ≢ streaming → numrecs ≤ greatest
 
--- the header with this numrecs: magic, numrecs, dimension list, global attribute list and variable list
-pub record IsHeader (numrecs : ℕ) (h : Header) (before after : List ℕ) : Type 0 where
+-- the header of a file of this form, with this numrecs: magic, numrecs, dimension list, global attribute list and variable list
+pub record IsHeader (form : Form) (numrecs : ℕ) (h : Header) (before after : List ℕ) : Type 0 where
   pub at_numrecs : List ℕ
   pub at_dims : List ℕ
   pub at_gatts : List ℕ
   pub at_vars : List ℕ
-  pub magic_text : IsFixed magic before at_numrecs
+  pub magic_text : IsFixed (magic form) before at_numrecs
   pub numrecs_word : IsNumrecs numrecs at_numrecs at_dims
   pub dims : IsList 10 IsDim h.dims at_dims at_gatts
   pub gatts : IsList 12 (λ earlier. IsAttr) h.gatts at_gatts at_vars
-  pub vars : IsList 11 (λ earlier. IsVar h.dims) h.vars at_vars after
+  pub vars : IsList 11 (λ earlier. IsVar form h.dims) h.vars at_vars after
 
 -- a front of the bytes spells the header, and no variable's last value ends after them
 pub record Reads (bytes : List ℕ) (h : Header) : Type 0 where
+  pub form : Form
   pub numrecs : ℕ
   pub after : List ℕ
-  pub header : IsHeader numrecs h bytes after
+  pub header : IsHeader form numrecs h bytes after
   pub recsize : h.recsize ≡ record_size h.dims h.vars
   pub records : h.records ≡ record_count (length bytes) numrecs h.dims h.vars
   pub whole : All (λ v. values_end h v ≤ length bytes) h.vars

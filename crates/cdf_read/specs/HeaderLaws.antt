@@ -1,5 +1,6 @@
 -- What is read is spelled so, and what is spelled so is read: reading and the grammar are one.
-use Rattle.std.specs.Prelude.{◌≡◌, ◌≢◌, ℕ, zero, suc, ◌*◌, ◌≤◌, List, [], ◌∷◌, ◌++◌, length, take, drop, Option, Some, None, Result, Ok, Err, ok_or, Bool, true, false, ◌==◌, ◌||◌, ◌&&◌, nat_lt, nat_le, All, ◌⊎◌, refl}
+use Rattle.std.specs.Prelude.{◌≡◌, ◌≢◌, ℕ, zero, suc, ◌*◌, ◌≤◌, List, [], ◌∷◌, ◌++◌, length, take, drop, Option, Some, None, Result, Ok, Err, ok_or, Bool}
+use Rattle.std.specs.Prelude.{true, false, ◌==◌, ◌||◌, ◌&&◌, nat_lt, nat_le, if◌then◌else◌, All, ◌⊎◌, refl}
 use Rattle.std.specs.Bool.{Decides}
 use Rattle.std.specs.Int.{w32, from_be_bytes}
 use Rattle.std.specs.List.{list_all}
@@ -10,19 +11,25 @@ use Rattle.std.proofs.lemmas.Bool.Decides.{nat_tests, Decides-by_and}
 use Rattle.std.proofs.lemmas.Slice.Eq.{bytes_eq-Decides}
 use Rattle.std.proofs.lemmas.Str.{IsUtf8-from_is_utf8, is_utf8-from_IsUtf8}
 use Rattle.std.proofs.lemmas.List.{take_at, take-append-drop, length-take-le, length-drop, append-nil}
+use Rattle.nd_base.specs.declared.form.Form.{Form}
+use Rattle.nd_base.specs.declared.form.Form.TheVariants.{Classic, Wide}
 use Rattle.cdf_read.specs.declared.fault.CdfFault.{CdfFault}
-use Rattle.cdf_read.specs.declared.fault.CdfFault.TheVariants.{Magic, Short, Tag, Negative, NameText, NameLength, DimNumber, TwoRecordDims, ValueType, RecordDimNotFirst, Overflow}
+use Rattle.cdf_read.specs.declared.fault.CdfFault.TheVariants.{Magic, Short, Tag, Negative, NameText, NameLength, DimNumber, TwoRecordDims, ValueType}
+use Rattle.cdf_read.specs.declared.fault.CdfFault.TheVariants.{RecordDimNotFirst, Overflow}
 use Rattle.cdf_read.specs.declared.head.HeadDim.{HeadDim}
 use Rattle.cdf_read.specs.declared.head.HeadAttr.{HeadAttr}
 use Rattle.cdf_read.specs.declared.head.HeadVar.{HeadVar}
 use Rattle.cdf_read.specs.declared.head.Header.{Header}
-use Rattle.cdf_read.specs.Fields.{magic, IsFixed, IsFree, IsWord, padded, padding}
-use Rattle.cdf_read.specs.FieldReading.{free_in, word_in}
-use Rattle.cdf_read.specs.FieldLaws.{free-found, free-again, word-found, word-again}
-use Rattle.cdf_read.specs.Places.{dim_length, value_size, size_of, values_end, streaming}
+use Rattle.cdf_read.specs.Fields.{magic, place, IsFixed, IsFree, IsWord, padded, padding}
+use Rattle.cdf_read.specs.FieldReading.{free_in, word_in, double_word_in}
+use Rattle.cdf_read.specs.FieldLaws.{free-found, free-again, word-found, word-again, double_word-found, double_word-again}
+use Rattle.cdf_read.specs.Places.{dim_length, value_size, size_of, values_end, streaming, header_with}
 use Rattle.cdf_read.specs.PlaceLaws.{position-none, position-None}
-use Rattle.cdf_read.specs.Grammar.{IsNumber, IsKind, IsPadded, IsName, AreMany, IsListHead, IsList, IsDim, IsAttr, IsDimNumber, IsVar, IsNumrecs, Reads}
-use Rattle.cdf_read.specs.HeaderReading.{◌>>=◌, need, place, word_at, number_at, kind_at, padded_at, name_at, list_head_at, many_at, dim_at, dims_at, attr_at, attrs_at, dim_number_at, dim_numbers_at, var_at, vars_at, numrecs_at, magic_at, header_with, short_var, data_fault, header_of, Faults}
+use Rattle.cdf_read.specs.Grammar.{IsNumber, IsWideBegin, IsBegin, IsKind, IsPadded, IsName, AreMany, IsListHead, IsList, IsDim, IsAttr, IsDimNumber, IsVar}
+use Rattle.cdf_read.specs.Grammar.{IsNumrecs, Reads}
+use Rattle.cdf_read.specs.HeaderReading.{◌>>=◌, need, word_at, number_at, wide_begin_at, begin_at, kind_at, padded_at, name_at, list_head_at, many_at, dim_at}
+use Rattle.cdf_read.specs.HeaderReading.{dims_at, attr_at, attrs_at, dim_number_at, dim_numbers_at, var_at, vars_at, numrecs_at, form_of, magic_at, short_var}
+use Rattle.cdf_read.specs.HeaderReading.{data_fault, header_of, Faults}
 
 pub bind_ok : {A B : Type 0} (read : Result A CdfFault) (next : A → Result B CdfFault) (y : B) → (read >>= next) ≡ Ok y → (x : A) × (read ≡ Ok x) × (next x ≡ Ok y)
 bind_ok (Ok x) next y e = (x, refl, e)
@@ -41,11 +48,11 @@ need_ok false fault u e = absurd (cc)
 pub need_to : (b : Bool) (fault : CdfFault) → b ≡ true → need b fault ≡ Ok tt
 need_to b fault e = rw e refl
 
-present : {A : Type 0} (o : Option A) (fault : CdfFault) (x : A) → ok_or o fault ≡ Ok x → o ≡ Some x
+pub present : {A : Type 0} (o : Option A) (fault : CdfFault) (x : A) → ok_or o fault ≡ Ok x → o ≡ Some x
 present (Some y) fault x e = let same : y ≡ x = cc in ap Some same
 present None fault x e = absurd (cc)
 
-present_to : {A : Type 0} (o : Option A) (fault : CdfFault) (x : A) → o ≡ Some x → ◌≡◌ {A = Result A CdfFault} (ok_or o fault) (Ok x)
+pub present_to : {A : Type 0} (o : Option A) (fault : CdfFault) (x : A) → o ≡ Some x → ◌≡◌ {A = Result A CdfFault} (ok_or o fault) (Ok x)
 present_to o fault x e = ap (λ m. ok_or m fault) e
 
 pub word_at-found : (total : ℕ) (before : List ℕ) (r : ℕ × List ℕ) → word_at total before ≡ Ok r → IsWord r.0 before r.1
@@ -69,6 +76,31 @@ number_at-again total number before after h =
     let test : nat_le number 2147483647 ≡ true = grind (arith, nat_tests, h.positive) in
     bind_to (word_at total before) _ (number, after) _ (word_at-again total number before after h.word)
     (bind_to (need (nat_le number 2147483647) (Negative (place total before))) _ tt _ (need_to _ _ test) refl)
+
+pub wide_begin_at-found : (total : ℕ) (before : List ℕ) (r : ℕ × List ℕ) → wide_begin_at total before ≡ Ok r → IsWideBegin r.0 before r.1
+unfolding wide_begin_at
+wide_begin_at-found total before r e =
+    let a = bind_ok (ok_or (double_word_in before) (Short (place total before))) _ r e in
+    let b = bind_ok (need (nat_le a.0.0 9223372036854775807) (Negative (place total before))) _ r a.2 in
+    let test = need_ok (nat_le a.0.0 9223372036854775807) _ b.0 b.1 in
+    let same : a.0 ≡ r = cc in
+    subst (λ (q : ℕ × List ℕ). IsWideBegin q.0 before q.1) same
+    (record { word = double_word-found before a.0 (present (double_word_in before) _ a.0 a.1); positive = leb-true a.0.0 9223372036854775807 test })
+
+pub wide_begin_at-again : (total begin : ℕ) (before after : List ℕ) → IsWideBegin begin before after → wide_begin_at total before ≡ Ok (begin, after)
+unfolding wide_begin_at
+wide_begin_at-again total begin before after h =
+    bind_to (ok_or (double_word_in before) (Short (place total before))) _ (begin, after) _
+    (present_to (double_word_in before) _ (begin, after) (double_word-again begin before after h.word))
+    (bind_to (need (nat_le begin 9223372036854775807) (Negative (place total before))) _ tt _ (need_to _ _ (le-leb begin 9223372036854775807 h.positive)) refl)
+
+pub begin_at-found : (form : Form) (total : ℕ) (before : List ℕ) (r : ℕ × List ℕ) → begin_at form total before ≡ Ok r → IsBegin form r.0 before r.1
+begin_at-found Classic total before r e = number_at-found total before r e
+begin_at-found Wide total before r e = wide_begin_at-found total before r e
+
+pub begin_at-again : (form : Form) (total begin : ℕ) (before after : List ℕ) → IsBegin form begin before after → begin_at form total before ≡ Ok (begin, after)
+begin_at-again Classic total begin before after h = number_at-again total begin before after h
+begin_at-again Wide total begin before after h = wide_begin_at-again total begin before after h
 
 pub kind_at-found : (total : ℕ) (before : List ℕ) (r : ℕ × List ℕ) → kind_at total before ≡ Ok r → IsKind r.0 before r.1
 unfolding kind_at
@@ -147,10 +179,10 @@ name_at-again total name before after h =
     (bind_to (padded_at total (length name) h.at_text) _ (name, after) _ (padded_at-again total name h.at_text after h.text)
     (bind_to (need (is_utf8 name) (NameText (place total h.at_text))) _ tt _ (need_to _ _ (is_utf8-from_IsUtf8 name h.utf8)) refl)))
 
-own-true : (first tag count : ℕ) → ((first == tag) || ((first == 0) && (count == 0))) ≡ true → first ≢ tag → (first ≡ 0) × (count ≡ 0)
+pub own-true : (first tag count : ℕ) → ((first == tag) || ((first == 0) && (count == 0))) ≡ true → first ≢ tag → (first ≡ 0) × (count ≡ 0)
 own-true first tag count e other = (grind (arith, nat_tests, e, other), grind (arith, nat_tests, e, other))
 
-own-from : (first tag count : ℕ) → (first ≢ tag → (first ≡ 0) × (count ≡ 0)) → ((first == tag) || ((first == 0) && (count == 0))) ≡ true
+pub own-from : (first tag count : ℕ) → (first ≢ tag → (first ≡ 0) × (count ≡ 0)) → ((first == tag) || ((first == 0) && (count == 0))) ≡ true
 own-from first tag count h = grind (arith, nat_tests, h)
 
 pub list_head_at-found : (total tag : ℕ) (before : List ℕ) (r : ℕ × List ℕ) → list_head_at total tag before ≡ Ok r → IsListHead tag r.0 before r.1
@@ -211,14 +243,16 @@ pub list_at-again : {A : Type 0} (total tag : ℕ) (read : List A → List ℕ �
 list_at-again total tag read Is each xs before after h =
     bind_to (list_head_at total tag before) _ (length xs, h.0) _ (list_head_at-again total tag (length xs) before h.0 h.1) (many_at-again read Is each [] xs h.0 after h.2)
 
-fixed-Decides : (dims : List HeadDim) → Decides (list_all (λ d. nat_lt 0 d.length) dims) (All (λ d. d.length ≢ 0) dims)
+pub fixed-Decides : (dims : List HeadDim) → Decides (list_all (λ d. nat_lt 0 d.length) dims) (All (λ d. d.length ≢ 0) dims)
 fixed-Decides dims = Decides-by_and (λ (d : HeadDim). nat_lt 0 d.length) (λ d. d.length ≢ 0) (list_all (λ (d : HeadDim). nat_lt 0 d.length)) (λ d. (λ e. λ z. grind (arith, nat_tests, e, z), λ h. grind (arith, nat_tests, h))) refl (λ _ _. refl) dims
 
-one_record-true : (size : ℕ) (earlier : List HeadDim) → (nat_lt 0 size || list_all (λ d. nat_lt 0 d.length) earlier) ≡ true → size ≡ 0 → All (λ d. d.length ≢ 0) earlier
+pub one_record-true : (size : ℕ) (earlier : List HeadDim) → (nat_lt 0 size || list_all (λ d. nat_lt 0 d.length) earlier) ≡ true → size ≡ 0 →
+    All (λ d. d.length ≢ 0) earlier
 one_record-true zero earlier e z = (fixed-Decides earlier).0 e
 one_record-true (suc size) earlier e z = absurd (cc)
 
-one_record-from : (size : ℕ) (earlier : List HeadDim) → (size ≡ 0 → All (λ d. d.length ≢ 0) earlier) → (nat_lt 0 size || list_all (λ d. nat_lt 0 d.length) earlier) ≡ true
+pub one_record-from : (size : ℕ) (earlier : List HeadDim) → (size ≡ 0 → All (λ d. d.length ≢ 0) earlier) →
+    (nat_lt 0 size || list_all (λ d. nat_lt 0 d.length) earlier) ≡ true
 one_record-from zero earlier h = (fixed-Decides earlier).1 (h refl)
 one_record-from (suc size) earlier h = grind (arith, nat_tests)
 
@@ -290,12 +324,12 @@ pub attrs_at-again : (total : ℕ) (attrs : List HeadAttr) (before after : List 
 unfolding attrs_at
 attrs_at-again total attrs before after h = list_at-again total 12 (λ (earlier : List HeadAttr). attr_at total) (λ (earlier : List HeadAttr). IsAttr) (λ earlier. attr_at-again total) attrs before after h
 
-first-true : (size : ℕ) (earlier : List ℕ) → (nat_lt 0 size || (length earlier == 0)) ≡ true → size ≡ 0 → earlier ≡ []
+pub first-true : (size : ℕ) (earlier : List ℕ) → (nat_lt 0 size || (length earlier == 0)) ≡ true → size ≡ 0 → earlier ≡ []
 first-true zero [] e z = refl
 first-true zero (x ∷ earlier) e z = absurd (grind (arith, nat_tests, e))
 first-true (suc size) earlier e z = absurd (cc)
 
-first-from : (size : ℕ) (earlier : List ℕ) → (size ≡ 0 → earlier ≡ []) → (nat_lt 0 size || (length earlier == 0)) ≡ true
+pub first-from : (size : ℕ) (earlier : List ℕ) → (size ≡ 0 → earlier ≡ []) → (nat_lt 0 size || (length earlier == 0)) ≡ true
 first-from zero earlier h = rw (h refl) refl
 first-from (suc size) earlier h = grind (arith, nat_tests)
 
@@ -334,21 +368,22 @@ unfolding dim_numbers_at
 dim_numbers_at-again total dims var numbers before next after rank many =
     bind_to (number_at total before) _ (length numbers, next) _ (number_at-again total (length numbers) before next rank) (many_at-again (dim_number_at total dims var) (IsDimNumber dims) (dim_number_at-again total dims var) [] numbers next after many)
 
-pub var_at-found : (total : ℕ) (dims : List HeadDim) (var : ℕ) (before : List ℕ) (r : HeadVar × List ℕ) → var_at total dims var before ≡ Ok r → IsVar dims r.0 before r.1
+pub var_at-found : (form : Form) (total : ℕ) (dims : List HeadDim) (var : ℕ) (before : List ℕ) (r : HeadVar × List ℕ) →
+    var_at form total dims var before ≡ Ok r → IsVar form dims r.0 before r.1
 unfolding var_at
-var_at-found total dims var before r e =
+var_at-found form total dims var before r e =
     let a = bind_ok (name_at total before) _ r e in
     let b = bind_ok (dim_numbers_at total dims var a.0.1) _ r a.2 in
     let c = bind_ok (attrs_at total b.0.1) _ r b.2 in
     let d = bind_ok (kind_at total c.0.1) _ r c.2 in
     let f = bind_ok (need (nat_le (size_of dims b.0.0 d.0.0) 4294967296) (Overflow var)) _ r d.2 in
     let g = bind_ok (word_at total d.0.1) _ r f.2 in
-    let i = bind_ok (number_at total g.0.1) _ r g.2 in
+    let i = bind_ok (begin_at form total g.0.1) _ r g.2 in
     let numbers = dim_numbers_at-found total dims var a.0.1 b.0 b.1 in
     let vsize = word_at-found total d.0.1 g.0 g.1 in
     let found : HeadVar = record { name = a.0.0; dims = b.0.0; attrs = c.0.0; kind = d.0.0; begin = i.0.0 } in
     let same : (found, i.0.1) ≡ r = ok_same (found, i.0.1) r i.2 in
-    subst (λ (q : HeadVar × List ℕ). IsVar dims q.0 before q.1) {x = (found, i.0.1)} same (record {
+    subst (λ (q : HeadVar × List ℕ). IsVar form dims q.0 before q.1) {x = (found, i.0.1)} same (record {
       at_rank = a.0.1;
       at_dims = numbers.0;
       at_attrs = b.0.1;
@@ -362,35 +397,40 @@ var_at-found total dims var before r e =
       kind = kind_at-found total c.0.1 d.0 d.1;
       within = leb-true (size_of dims b.0.0 d.0.0) 4294967296 (need_ok (nat_le (size_of dims b.0.0 d.0.0) 4294967296) _ f.0 f.1);
       vsize = record { text = vsize.text; whole = vsize.whole; size = vsize.size };
-      begin_number = number_at-found total g.0.1 i.0 i.1;
+      begin_number = begin_at-found form total g.0.1 i.0 i.1;
     })
 
 free_word-again : (total : ℕ) (before after : List ℕ) (h : IsFree 4 before after) → word_at total before ≡ Ok (from_be_bytes w32 h.text, after)
 free_word-again total before after h = word_at-again total (from_be_bytes w32 h.text) before after (record { text = h.text; whole = h.whole; size = h.size; spells = refl })
 
-pub var_at-again : (total : ℕ) (dims : List HeadDim) (var : ℕ) (v : HeadVar) (before after : List ℕ) → IsVar dims v before after → var_at total dims var before ≡ Ok (v, after)
+pub var_at-again : (form : Form) (total : ℕ) (dims : List HeadDim) (var : ℕ) (v : HeadVar) (before after : List ℕ) → IsVar form dims v before after →
+    var_at form total dims var before ≡ Ok (v, after)
 unfolding var_at
-var_at-again total dims var v before after h =
+var_at-again form total dims var v before after h =
     bind_to (name_at total before) _ (v.name, h.at_rank) _ (name_at-again total v.name before h.at_rank h.name)
     (bind_to (dim_numbers_at total dims var h.at_rank) _ (v.dims, h.at_attrs) _ (dim_numbers_at-again total dims var v.dims h.at_rank h.at_dims h.at_attrs h.rank h.numbers)
     (bind_to (attrs_at total h.at_attrs) _ (v.attrs, h.at_kind) _ (attrs_at-again total v.attrs h.at_attrs h.at_kind h.attrs)
     (bind_to (kind_at total h.at_kind) _ (v.kind, h.at_vsize) _ (kind_at-again total v.kind h.at_kind h.at_vsize h.kind)
     (bind_to (need (nat_le (size_of dims v.dims v.kind) 4294967296) (Overflow var)) _ tt _ (need_to _ _ (le-leb (size_of dims v.dims v.kind) 4294967296 h.within))
     (bind_to (word_at total h.at_vsize) _ (from_be_bytes w32 h.vsize.text, h.at_begin) _ (free_word-again total h.at_vsize h.at_begin h.vsize)
-    (bind_to (number_at total h.at_begin) _ (v.begin, after) _ (number_at-again total v.begin h.at_begin after h.begin_number) refl))))))
+    (bind_to (begin_at form total h.at_begin) _ (v.begin, after) _ (begin_at-again form total v.begin h.at_begin after h.begin_number) refl))))))
 
-pub vars_at-found : (total : ℕ) (dims : List HeadDim) (before : List ℕ) (r : List HeadVar × List ℕ) → vars_at total dims before ≡ Ok r → IsList 11 (λ earlier. IsVar dims) r.0 before r.1
+pub vars_at-found : (form : Form) (total : ℕ) (dims : List HeadDim) (before : List ℕ) (r : List HeadVar × List ℕ) → vars_at form total dims before ≡ Ok r →
+    IsList 11 (λ earlier. IsVar form dims) r.0 before r.1
 unfolding vars_at
-vars_at-found total dims before r e = list_at-found total 11 (λ (earlier : List HeadVar). var_at total dims (length earlier)) (λ (earlier : List HeadVar). IsVar dims) (λ earlier. var_at-found total dims (length earlier)) before r e
+vars_at-found form total dims before r e = list_at-found total 11 (λ (earlier : List HeadVar). var_at form total dims (length earlier))
+    (λ (earlier : List HeadVar). IsVar form dims) (λ earlier. var_at-found form total dims (length earlier)) before r e
 
-pub vars_at-again : (total : ℕ) (dims : List HeadDim) (vars : List HeadVar) (before after : List ℕ) → IsList 11 (λ earlier. IsVar dims) vars before after → vars_at total dims before ≡ Ok (vars, after)
+pub vars_at-again : (form : Form) (total : ℕ) (dims : List HeadDim) (vars : List HeadVar) (before after : List ℕ) →
+    IsList 11 (λ earlier. IsVar form dims) vars before after → vars_at form total dims before ≡ Ok (vars, after)
 unfolding vars_at
-vars_at-again total dims vars before after h = list_at-again total 11 (λ (earlier : List HeadVar). var_at total dims (length earlier)) (λ (earlier : List HeadVar). IsVar dims) (λ earlier. var_at-again total dims (length earlier)) vars before after h
+vars_at-again form total dims vars before after h = list_at-again total 11 (λ (earlier : List HeadVar). var_at form total dims (length earlier))
+    (λ (earlier : List HeadVar). IsVar form dims) (λ earlier. var_at-again form total dims (length earlier)) vars before after h
 
-counted-true : (numrecs : ℕ) → ((numrecs == streaming) || nat_le numrecs 2147483647) ≡ true → numrecs ≢ streaming → numrecs ≤ 2147483647
+pub counted-true : (numrecs : ℕ) → ((numrecs == streaming) || nat_le numrecs 2147483647) ≡ true → numrecs ≢ streaming → numrecs ≤ 2147483647
 counted-true numrecs e other = grind (arith, nat_tests, e, other)
 
-counted-from : (numrecs : ℕ) → (numrecs ≢ streaming → numrecs ≤ 2147483647) → ((numrecs == streaming) || nat_le numrecs 2147483647) ≡ true
+pub counted-from : (numrecs : ℕ) → (numrecs ≢ streaming → numrecs ≤ 2147483647) → ((numrecs == streaming) || nat_le numrecs 2147483647) ≡ true
 counted-from numrecs h = grind (arith, nat_tests, h)
 
 pub numrecs_at-found : (total : ℕ) (before : List ℕ) (r : ℕ × List ℕ) → numrecs_at total before ≡ Ok r → IsNumrecs r.0 before r.1
@@ -408,22 +448,39 @@ numrecs_at-again total numrecs before after h =
     bind_to (word_at total before) _ (numrecs, after) _ (word_at-again total numrecs before after h.word)
     (bind_to (need ((numrecs == streaming) || nat_le numrecs 2147483647) (Negative (place total before))) _ tt _ (need_to _ _ (counted-from numrecs h.counted)) refl)
 
-pub magic_at-found : (before after : List ℕ) → magic_at before ≡ Ok after → IsFixed magic before after
-unfolding magic_at
-magic_at-found before after e =
-    let a = bind_ok (ok_or (free_in 4 before) (Short 0)) _ after e in
-    let b = bind_ok (need (bytes_eq a.0.0 magic) Magic) _ after a.2 in
-    let f = free-found 4 before a.0 (present (free_in 4 before) _ a.0 a.1) in
-    let own : a.0.0 ≡ magic = (bytes_eq-Decides a.0.0 magic).0 (need_ok (bytes_eq a.0.0 magic) _ b.0 b.1) in
-    let same : a.0.1 ≡ after = cc in
-    f.0 ∙ ap (λ (t : List ℕ). t ++ a.0.1) own ∙ ap (λ (t : List ℕ). magic ++ t) same
+pub form_of-found : (text : List ℕ) (form : Form) → form_of text ≡ Some form → text ≡ magic form
+form_of-found text form e = found (bytes_eq text (magic Classic)) (bytes_eq text (magic Wide)) refl refl e
+  where
+    found : (classic wide : Bool) → bytes_eq text (magic Classic) ≡ classic → bytes_eq text (magic Wide) ≡ wide →
+        (if classic then Some Classic else (if wide then Some Wide else None)) ≡ Some form → text ≡ magic form
+    found true wide c w is = let same : Classic ≡ form = cc in (bytes_eq-Decides text (magic Classic)).0 c ∙ ap magic same
+    found false true c w is = let same : Wide ≡ form = cc in (bytes_eq-Decides text (magic Wide)).0 w ∙ ap magic same
+    found false false c w is = absurd (cc)
 
-pub magic_at-again : (before after : List ℕ) → IsFixed magic before after → magic_at before ≡ Ok after
+pub form_of-magic : (form : Form) → form_of (magic form) ≡ Some form
+form_of-magic Classic = refl
+form_of-magic Wide = refl
+
+four_bytes : (form : Form) → length (magic form) ≡ 4
+four_bytes Classic = refl
+four_bytes Wide = refl
+
+pub magic_at-found : (before : List ℕ) (r : Form × List ℕ) → magic_at before ≡ Ok r → IsFixed (magic r.0) before r.1
 unfolding magic_at
-magic_at-again before after h =
-    let field : free_in 4 before ≡ Some (magic, after) = ap (free_in 4) h ∙ free-again 4 magic after refl in
-    bind_to (ok_or (free_in 4 before) (Short 0)) _ (magic, after) _ (present_to (free_in 4 before) _ (magic, after) field)
-    refl
+magic_at-found before r e =
+    let a = bind_ok (ok_or (free_in 4 before) (Short 0)) _ r e in
+    let b = bind_ok (ok_or (form_of a.0.0) Magic) _ r a.2 in
+    let f = free-found 4 before a.0 (present (free_in 4 before) _ a.0 a.1) in
+    let own : a.0.0 ≡ magic b.0 = form_of-found a.0.0 b.0 (present (form_of a.0.0) _ b.0 b.1) in
+    let same : (b.0, a.0.1) ≡ r = ok_same (b.0, a.0.1) r b.2 in
+    subst (λ (q : Form × List ℕ). IsFixed (magic q.0) before q.1) {x = (b.0, a.0.1)} same (f.0 ∙ ap (λ (t : List ℕ). t ++ a.0.1) own)
+
+pub magic_at-again : (form : Form) (before after : List ℕ) → IsFixed (magic form) before after → magic_at before ≡ Ok (form, after)
+unfolding magic_at
+magic_at-again form before after h =
+    let field : free_in 4 before ≡ Some (magic form, after) = ap (free_in 4) h ∙ free-again 4 (magic form) after (four_bytes form) in
+    bind_to (ok_or (free_in 4 before) (Short 0)) _ (magic form, after) _ (present_to (free_in 4 before) _ (magic form, after) field)
+    (bind_to (ok_or (form_of (magic form)) Magic) _ form _ (present_to (form_of (magic form)) _ form (form_of-magic form)) refl)
 
 data-ok : (o : Option ℕ) (u : Unit {0}) → data_fault o ≡ Ok u → o ≡ None
 data-ok None u e = refl
@@ -441,26 +498,27 @@ unfolding header_of
 header_of-found bytes h e =
     let total : ℕ = length bytes in
     let a = bind_ok (magic_at bytes) _ h e in
-    let b = bind_ok (numrecs_at total a.0) _ h a.2 in
+    let b = bind_ok (numrecs_at total a.0.1) _ h a.2 in
     let c = bind_ok (dims_at total b.0.1) _ h b.2 in
     let d = bind_ok (attrs_at total c.0.1) _ h c.2 in
-    let f = bind_ok (vars_at total c.0.0 d.0.1) _ h d.2 in
+    let f = bind_ok (vars_at a.0.0 total c.0.0 d.0.1) _ h d.2 in
     let found : Header = header_with total b.0.0 c.0.0 d.0.0 f.0.0 in
     let g = bind_ok (data_fault (short_var total found)) _ h f.2 in
     let same : found ≡ h = ok_same found h g.2 in
     subst (Reads bytes) same (record {
+      form = a.0.0;
       numrecs = b.0.0;
       after = f.0.1;
       header = record {
-        at_numrecs = a.0;
+        at_numrecs = a.0.1;
         at_dims = b.0.1;
         at_gatts = c.0.1;
         at_vars = d.0.1;
         magic_text = magic_at-found bytes a.0 a.1;
-        numrecs_word = numrecs_at-found total a.0 b.0 b.1;
+        numrecs_word = numrecs_at-found total a.0.1 b.0 b.1;
         dims = dims_at-found total b.0.1 c.0 c.1;
         gatts = attrs_at-found total c.0.1 d.0 d.1;
-        vars = vars_at-found total c.0.0 d.0.1 f.0 f.1;
+        vars = vars_at-found a.0.0 total c.0.0 d.0.1 f.0 f.1;
       };
       recsize = refl;
       records = refl;
@@ -475,11 +533,11 @@ header_of-again bytes h reads =
     let f = reads.header in
     let built : header_with total reads.numrecs h.dims h.gatts h.vars ≡ h = rw (← reads.records, ← reads.recsize) refl in
     let whole : short_var total (header_with total reads.numrecs h.dims h.gatts h.vars) ≡ None = ap (short_var total) built ∙ whole-from total h reads.whole in
-    bind_to (magic_at bytes) _ f.at_numrecs _ (magic_at-again bytes f.at_numrecs f.magic_text)
+    bind_to (magic_at bytes) _ (reads.form, f.at_numrecs) _ (magic_at-again reads.form bytes f.at_numrecs f.magic_text)
     (bind_to (numrecs_at total f.at_numrecs) _ (reads.numrecs, f.at_dims) _ (numrecs_at-again total reads.numrecs f.at_numrecs f.at_dims f.numrecs_word)
     (bind_to (dims_at total f.at_dims) _ (h.dims, f.at_gatts) _ (dims_at-again total h.dims f.at_dims f.at_gatts f.dims)
     (bind_to (attrs_at total f.at_gatts) _ (h.gatts, f.at_vars) _ (attrs_at-again total h.gatts f.at_gatts f.at_vars f.gatts)
-    (bind_to (vars_at total h.dims f.at_vars) _ (h.vars, reads.after) _ (vars_at-again total h.dims h.vars f.at_vars reads.after f.vars)
+    (bind_to (vars_at reads.form total h.dims f.at_vars) _ (h.vars, reads.after) _ (vars_at-again reads.form total h.dims h.vars f.at_vars reads.after f.vars)
     (bind_to (data_fault (short_var total (header_with total reads.numrecs h.dims h.gatts h.vars))) _ tt _ (ap data_fault whole) (ap Ok built))))))
 
 -- each list of bytes has a header or a fault

@@ -1,17 +1,21 @@
 -- Reading a header from left to right, with the first fault that is met and its place: from the bytes that are left of a
 -- file to a value and the bytes after it. The place of a rest is the size of the whole file less its own.
-use Rattle.std.specs.Prelude.{◌≡◌, ℕ, zero, suc, ◌-◌, ◌*◌, List, [], ◌∷◌, ◌++◌, length, take, position, Option, Some, None, Result, Ok, Err, ok_or, Bool, nat_lt, nat_le, ◌==◌, ◌||◌, ◌&&◌, if◌then◌else◌}
+use Rattle.std.specs.Prelude.{◌≡◌, ℕ, zero, suc, ◌*◌, List, [], ◌∷◌, ◌++◌, length, take, position, Option, Some, None, Result, Ok, Err, ok_or, Bool, nat_lt}
+use Rattle.std.specs.Prelude.{nat_le, ◌==◌, ◌||◌, ◌&&◌, if◌then◌else◌}
 use Rattle.std.specs.Str.{bytes_eq, is_utf8}
 use Rattle.std.specs.List.{list_all}
+use Rattle.nd_base.specs.declared.form.Form.{Form}
+use Rattle.nd_base.specs.declared.form.Form.TheVariants.{Classic, Wide}
 use Rattle.cdf_read.specs.declared.fault.CdfFault.{CdfFault}
-use Rattle.cdf_read.specs.declared.fault.CdfFault.TheVariants.{Magic, Short, Tag, Negative, NameText, NameLength, DimNumber, TwoRecordDims, ValueType, RecordDimNotFirst, Overflow, DataShort, OutOfMemory}
+use Rattle.cdf_read.specs.declared.fault.CdfFault.TheVariants.{Magic, Short, Tag, Negative, NameText, NameLength, DimNumber, TwoRecordDims, ValueType}
+use Rattle.cdf_read.specs.declared.fault.CdfFault.TheVariants.{RecordDimNotFirst, Overflow, DataShort, OutOfMemory}
 use Rattle.cdf_read.specs.declared.head.HeadDim.{HeadDim}
 use Rattle.cdf_read.specs.declared.head.HeadAttr.{HeadAttr}
 use Rattle.cdf_read.specs.declared.head.HeadVar.{HeadVar}
 use Rattle.cdf_read.specs.declared.head.Header.{Header}
-use Rattle.cdf_read.specs.Fields.{magic, padded}
-use Rattle.cdf_read.specs.FieldReading.{free_in, word_in}
-use Rattle.cdf_read.specs.Places.{dim_length, value_size, size_of, record_size, record_count, values_end, streaming}
+use Rattle.cdf_read.specs.Fields.{magic, padded, place}
+use Rattle.cdf_read.specs.FieldReading.{free_in, word_in, double_word_in}
+use Rattle.cdf_read.specs.Places.{dim_length, value_size, size_of, values_end, streaming, header_with}
 
 infixl 10 ◌>>=◌
 abbrev pub ◌>>=◌ : {A B : Type 0} → Result A CdfFault → (A → Result B CdfFault) → Result B CdfFault
@@ -32,9 +36,6 @@ Gives view (Err fault) read = Fails fault read
 abbrev pub need : Bool → CdfFault → Result (Unit {0}) CdfFault
 need holds fault = if holds then Ok tt else Err fault
 
-abbrev pub place : ℕ → List ℕ → ℕ
-place total rest = total - length rest
-
 abbrev pub word_at : ℕ → List ℕ → Result (ℕ × List ℕ) CdfFault
 word_at total bytes = ok_or (word_in bytes) (Short (place total bytes))
 
@@ -43,6 +44,17 @@ number_at total bytes = do
   word ← word_at total bytes
   fits ← need (nat_le word.0 2147483647) (Negative (place total bytes))
   Ok word
+
+unfoldable pub wide_begin_at : ℕ → List ℕ → Result (ℕ × List ℕ) CdfFault
+wide_begin_at total bytes = do
+  begin ← ok_or (double_word_in bytes) (Short (place total bytes))
+  fits ← need (nat_le begin.0 9223372036854775807) (Negative (place total bytes))
+  Ok begin
+
+-- a begin, by the form of the file
+abbrev pub begin_at : Form → ℕ → List ℕ → Result (ℕ × List ℕ) CdfFault
+begin_at Classic total bytes = number_at total bytes
+begin_at Wide total bytes = wide_begin_at total bytes
 
 unfoldable pub kind_at : ℕ → List ℕ → Result (ℕ × List ℕ) CdfFault
 kind_at total bytes = do
@@ -115,43 +127,37 @@ dim_numbers_at total dims var bytes = do
   rank ← number_at total bytes
   many_at (dim_number_at total dims var) rank.0 [] rank.1
 
-unfoldable pub var_at : ℕ → List HeadDim → ℕ → List ℕ → Result (HeadVar × List ℕ) CdfFault
-var_at total dims var bytes = do
+unfoldable pub var_at : Form → ℕ → List HeadDim → ℕ → List ℕ → Result (HeadVar × List ℕ) CdfFault
+var_at form total dims var bytes = do
   name ← name_at total bytes
   numbers ← dim_numbers_at total dims var name.1
   attrs ← attrs_at total numbers.1
   kind ← kind_at total attrs.1
   within ← need (nat_le (size_of dims numbers.0 kind.0) 4294967296) (Overflow var)
   vsize ← word_at total kind.1
-  begin ← number_at total vsize.1
+  begin ← begin_at form total vsize.1
   Ok (record { name = name.0; dims = numbers.0; attrs = attrs.0; kind = kind.0; begin = begin.0 }, begin.1)
 
-unfoldable pub vars_at : ℕ → List HeadDim → List ℕ → Result (List HeadVar × List ℕ) CdfFault
-vars_at total dims bytes = do
+unfoldable pub vars_at : Form → ℕ → List HeadDim → List ℕ → Result (List HeadVar × List ℕ) CdfFault
+vars_at form total dims bytes = do
   head ← list_head_at total 11 bytes
-  many_at (λ (earlier : List HeadVar). var_at total dims (length earlier)) head.0 [] head.1
+  many_at (λ (earlier : List HeadVar). var_at form total dims (length earlier)) head.0 [] head.1
 
-unfoldable pub magic_at : List ℕ → Result (List ℕ) CdfFault
+-- the form of a file that begins with these four bytes
+abbrev pub form_of : List ℕ → Option Form
+form_of first = if bytes_eq first (magic Classic) then Some Classic else (if bytes_eq first (magic Wide) then Some Wide else None)
+
+unfoldable pub magic_at : List ℕ → Result (Form × List ℕ) CdfFault
 magic_at bytes = do
   field ← ok_or (free_in 4 bytes) (Short 0)
-  own ← need (bytes_eq field.0 magic) Magic
-  Ok field.1
+  form ← ok_or (form_of field.0) Magic
+  Ok (form, field.1)
 
 unfoldable pub numrecs_at : ℕ → List ℕ → Result (ℕ × List ℕ) CdfFault
 numrecs_at total bytes = do
   word ← word_at total bytes
   fits ← need ((word.0 == streaming) || nat_le word.0 2147483647) (Negative (place total bytes))
   Ok word
-
--- the header of these parts, in a file of so many bytes
-abbrev pub header_with : ℕ → ℕ → List HeadDim → List HeadAttr → List HeadVar → Header
-header_with total numrecs dims gatts vars = record {
-  records = record_count total numrecs dims vars;
-  recsize = record_size dims vars;
-  dims = dims;
-  gatts = gatts;
-  vars = vars;
-}
 
 -- the first variable whose last value ends after the file
 abbrev pub short_var : ℕ → Header → Option ℕ
@@ -165,10 +171,10 @@ data_fault (Some var) = Err (DataShort var)
 unfoldable pub header_of : List ℕ → Result Header CdfFault
 header_of bytes = do
   first ← magic_at bytes
-  numrecs ← numrecs_at (length bytes) first
+  numrecs ← numrecs_at (length bytes) first.1
   dims ← dims_at (length bytes) numrecs.1
   gatts ← attrs_at (length bytes) dims.1
-  vars ← vars_at (length bytes) dims.0 gatts.1
+  vars ← vars_at first.0 (length bytes) dims.0 gatts.1
   let header : Header = header_with (length bytes) numrecs.0 dims.0 gatts.0 vars.0
   whole ← data_fault (short_var (length bytes) header)
   Ok header

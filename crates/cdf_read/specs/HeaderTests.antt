@@ -5,13 +5,14 @@ use Rattle.std.specs.List.{list_all}
 use Rattle.std.proofs.Common.{lit<}
 use Rattle.std.proofs.lemmas.Bool.{ltb-true, and_parts}
 use Rattle.std.proofs.lemmas.Str.{is_utf8-from_IsUtf8, IsUtf8-from_ascii}
-use Rattle.cdf_read.specs.declared.fault.CdfFault.TheVariants.{Magic, Short, DataShort}
+use Rattle.cdf_read.specs.declared.fault.CdfFault.TheVariants.{Magic, Short, Negative, DataShort}
 use Rattle.cdf_read.specs.declared.head.HeadDim.{HeadDim}
 use Rattle.cdf_read.specs.declared.head.HeadVar.{HeadVar}
 use Rattle.cdf_read.specs.declared.head.Header.{Header}
-use Rattle.cdf_read.specs.Fields.{word}
+use Rattle.cdf_read.specs.Fields.{word, double_word}
 use Rattle.cdf_read.specs.Places.{place_of_value}
-use Rattle.cdf_read.specs.HeaderReading.{header_of, number_at, kind_at, padded_at, name_at, list_head_at, dim_at, dims_at, attr_at, attrs_at, dim_number_at, dim_numbers_at, var_at, vars_at, numrecs_at, magic_at}
+use Rattle.cdf_read.specs.HeaderReading.{header_of, number_at, wide_begin_at, kind_at, padded_at, name_at, list_head_at, dim_at, dims_at, attr_at, attrs_at}
+use Rattle.cdf_read.specs.HeaderReading.{dim_number_at, dim_numbers_at, var_at, vars_at, numrecs_at, magic_at}
 
 is_ascii : (name : List ℕ) → list_all (λ byte. nat_lt byte 128) name ≡ true → IsAscii name
 is_ascii [] e i = lit< tt
@@ -37,9 +38,12 @@ id_name = is_text (codes "uniqueId") refl
 abbrev dimensions : List ℕ
 dimensions = word 10 ++ word 2 ++ word 9 ++ codes "numArrays" ++ (0 ∷ 0 ∷ 0 ∷ []) ++ word 0 ++ word 4 ++ codes "dim0" ++ word 3
 
--- the variable array_data, of type byte over both
+-- the variable array_data, of type byte over both, before its begin
+abbrev data_before_begin : List ℕ
+data_before_begin = word 10 ++ codes "array_data" ++ (0 ∷ 0 ∷ []) ++ word 2 ++ word 0 ++ word 1 ++ word 0 ++ word 0 ++ word 1 ++ word 4
+
 abbrev array_data : ℕ → List ℕ
-array_data begin = word 10 ++ codes "array_data" ++ (0 ∷ 0 ∷ []) ++ word 2 ++ word 0 ++ word 1 ++ word 0 ++ word 0 ++ word 1 ++ word 4 ++ word begin
+array_data begin = data_before_begin ++ word begin
 
 -- one record variable of bytes, with two records
 abbrev one_variable : List ℕ
@@ -71,9 +75,14 @@ three_bytes : header_of (take 3 one_variable) ≡ Err (Short 0)
 unfolding header_of magic_at
 three_bytes = refl
 
-the_64_bit_format : header_of (codes "CDF" ++ (2 ∷ 0 ∷ 0 ∷ 0 ∷ 0 ∷ [])) ≡ Err Magic
-unfolding header_of magic_at
+-- numrecs is read, and the tag of the dimension list is missing
+the_64_bit_format : header_of (codes "CDF" ++ (2 ∷ 0 ∷ 0 ∷ 0 ∷ 0 ∷ [])) ≡ Err (Short 8)
+unfolding header_of number_at list_head_at dims_at numrecs_at magic_at
 the_64_bit_format = refl
+
+no_third_form : header_of (codes "CDF" ++ (3 ∷ 0 ∷ 0 ∷ 0 ∷ 0 ∷ [])) ≡ Err Magic
+unfolding header_of magic_at
+no_third_form = refl
 
 a_count_without_elements : header_of (codes "CDF" ++ (1 ∷ []) ++ word 0 ++ word 10 ++ word 2147483647) ≡ Err (Short 16)
 unfolding header_of number_at kind_at padded_at name_at list_head_at dim_at dims_at numrecs_at magic_at
@@ -107,3 +116,29 @@ whole_records_are_counted = simp (record_name, size_name, data_name, id_name) re
 a_value_is_missing : header_of (take 117 one_variable) ≡ Err (DataShort 0)
 unfolding header_of number_at kind_at padded_at name_at list_head_at dim_at dims_at attr_at attrs_at dim_number_at dim_numbers_at var_at vars_at numrecs_at magic_at
 a_value_is_missing = simp (record_name, size_name, data_name) refl
+
+-- one_variable in the 64-bit offset format
+abbrev one_wide_variable : ℕ → List ℕ
+one_wide_variable begin =
+    codes "CDF" ++ (2 ∷ []) ++ word 2 ++ dimensions ++ word 0 ++ word 0 ++ word 11 ++ word 1 ++ data_before_begin ++ double_word begin
+    ++ (1 ∷ 2 ∷ 3 ∷ 4 ∷ 5 ∷ 6 ∷ [])
+
+abbrev one_wide_header : Header
+one_wide_header = record { records = 2; recsize = 3; dims = dims; gatts = []; vars = data_var 116 ∷ [] }
+
+a_begin_has_eight_bytes : header_of (one_wide_variable 116) ≡ Ok one_wide_header
+unfolding header_of number_at wide_begin_at kind_at padded_at name_at list_head_at dim_at dims_at attr_at attrs_at dim_number_at dim_numbers_at var_at vars_at numrecs_at magic_at
+a_begin_has_eight_bytes = simp (record_name, size_name, data_name) refl
+
+half_a_begin_is_left : header_of (take 112 (one_wide_variable 116)) ≡ Err (Short 108)
+unfolding header_of number_at wide_begin_at kind_at padded_at name_at list_head_at dim_at dims_at attr_at attrs_at dim_number_at dim_numbers_at var_at vars_at numrecs_at magic_at
+half_a_begin_is_left = simp (record_name, size_name, data_name) refl
+
+-- the greatest begin is read, though the values would end past 2 ^ 63
+the_greatest_begin : header_of (one_wide_variable 9223372036854775807) ≡ Err (DataShort 0)
+unfolding header_of number_at wide_begin_at kind_at padded_at name_at list_head_at dim_at dims_at attr_at attrs_at dim_number_at dim_numbers_at var_at vars_at numrecs_at magic_at
+the_greatest_begin = simp (record_name, size_name, data_name) refl
+
+a_negative_begin : header_of (one_wide_variable 9223372036854775808) ≡ Err (Negative 108)
+unfolding header_of number_at wide_begin_at kind_at padded_at name_at list_head_at dim_at dims_at attr_at attrs_at dim_number_at dim_numbers_at var_at vars_at numrecs_at magic_at
+a_negative_begin = simp (record_name, size_name, data_name) refl

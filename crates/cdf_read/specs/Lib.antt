@@ -9,4 +9,6 @@ pub mod ManyLaws
 pub mod HeaderLaws
 pub mod ValueLaws
 pub mod FaultLaws
+pub mod FirstFault
+pub mod FirstFaultLaws
 pub mod HeaderTests

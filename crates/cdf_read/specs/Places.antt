@@ -4,6 +4,7 @@ use Rattle.std.specs.Option.{option_map_or}
 use Rattle.std.specs.List.{list_all}
 use Rattle.nd_base.specs.Shapes.{product}
 use Rattle.cdf_read.specs.declared.head.HeadDim.{HeadDim}
+use Rattle.cdf_read.specs.declared.head.HeadAttr.{HeadAttr}
 use Rattle.cdf_read.specs.declared.head.HeadVar.{HeadVar}
 use Rattle.cdf_read.specs.declared.head.Header.{Header}
 use Rattle.cdf_read.specs.Fields.{padded}
@@ -63,6 +64,16 @@ streaming = 4294967295
 abbrev pub record_count : ℕ → ℕ → List HeadDim → List HeadVar → ℕ
 record_count total numrecs dims vars =
     if numrecs == streaming then (total - first_record total (record_vars dims vars)) / record_size dims vars else numrecs
+
+-- the header of these parts, in a file of so many bytes
+abbrev pub header_with : ℕ → ℕ → List HeadDim → List HeadAttr → List HeadVar → Header
+header_with total numrecs dims gatts vars = record {
+  records = record_count total numrecs dims vars;
+  recsize = record_size dims vars;
+  dims = dims;
+  gatts = gatts;
+  vars = vars;
+}
 
 -- the place of value i of record r of a variable
 abbrev pub place_of_value : Header → HeadVar → ℕ → ℕ → ℕ

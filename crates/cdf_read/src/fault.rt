@@ -7,16 +7,18 @@ use thiserror::Error;
 /// from the beginning of the file, and `var` the number of a variable from 0.
 #[derive(Clone, Copy, Debug, PartialEq, Eq, Error)]
 pub enum CdfFault {
-    /// The first four bytes aren't those of the format.
+    /// The first four bytes are neither those of CDF-1 nor those of CDF-2.
     #[error("no netCDF classic file")]
     Magic,
-    /// Fewer bytes are left than the field has: a word, a name or an attribute's values with padding.
+    /// Fewer bytes are left than the field has: a word, a begin of eight bytes, a name or an attribute's
+    /// values with padding.
     #[error("the file ends within the field at {at}")]
     Short { at: u64 },
     /// The tag is neither the list's own nor that of an absent list.
     #[error("no list begins at {at}")]
     Tag { at: u64 },
-    /// A number of records, a count, a length, a rank or a begin is above 2,147,483,647.
+    /// A number of records, a count, a length, a rank or a begin of four bytes is above 2,147,483,647, or
+    /// a begin of eight bytes is above 9,223,372,036,854,775,807.
     #[error("the number at {at} is negative")]
     Negative { at: u64 },
     /// A name isn't UTF-8; `at` is the place of its first byte.

@@ -2,10 +2,13 @@
 
 ghost use Rattle.std.specs.Prelude.{◌≡◌, ◌<◌, ◌^◌};
 ghost use Rattle.cdf_read.specs.Fields.{padded};
-ghost use Rattle.cdf_read.specs.FieldReading.{Finds, free_in, word_in};
+ghost use Rattle.cdf_read.specs.FieldReading.{Finds, free_in, word_in, double_word_in};
 
-/// What a netCDF classic file begins with.
-pub(crate) const MAGIC: &[u8] = b"CDF\x01";
+/// What a netCDF classic file of form `Classic` begins with.
+pub(crate) const CLASSIC_MAGIC: &[u8] = b"CDF\x01";
+
+/// What a netCDF classic file of form `Wide` begins with.
+pub(crate) const WIDE_MAGIC: &[u8] = b"CDF\x02";
 
 /// So many bytes raised to a multiple of 4.
 pub(crate) fn padded_to_word(count: usize) -> usize
@@ -28,4 +31,12 @@ pub(crate) fn read_word(rest: &[u8]) -> Option<(u32, &[u8])>
 {
     let (word, rest) = rest.split_first_chunk::<4>()?;
     Some((u32::from_be_bytes(*word), rest))
+}
+
+/// A double word of eight bytes, the most significant first, and what follows it.
+pub(crate) fn read_double_word(rest: &[u8]) -> Option<(u64, &[u8])>
+    ensures { Finds (λ field. (field.0, field.1.now)) result (double_word_in rest.now) }
+{
+    let (word, rest) = rest.split_first_chunk::<8>()?;
+    Some((u64::from_be_bytes(*word), rest))
 }

@@ -4,14 +4,15 @@ ghost use Rattle.std.specs.Prelude.{◌≡◌, ◌≢◌, ◌≤◌, length, Lis
 ghost use Rattle.std.specs.Str.{bytes_eq};
 ghost use Rattle.cdf_read.specs.declared.fault.CdfFault.{CdfFault};
 ghost use Rattle.cdf_read.specs.declared.head.Header.{Header};
+ghost use Rattle.cdf_read.specs.FirstFault.{FirstFault};
 ghost use Rattle.cdf_read.specs.Grammar.{Reads};
-ghost use Rattle.cdf_read.specs.HeaderReading.{Gives, Faults, header_of, header_with};
-ghost use Rattle.cdf_read.specs.Places.{var_size};
+ghost use Rattle.cdf_read.specs.HeaderReading.{Gives, Faults, header_of};
+ghost use Rattle.cdf_read.specs.Places.{var_size, header_with};
 
 use crate::parts::{read_attrs, read_dims, read_vars};
 use crate::place::{count_of_records, short_var};
 use crate::size::size_of_record;
-use crate::word::{read_numrecs, skip_magic};
+use crate::word::{read_form, read_numrecs};
 use crate::{CdfFault, HeadAttr, HeadDim, HeadVar, Header};
 use nd_base::Seq;
 use std::alloc::Global;
@@ -35,11 +36,11 @@ fn read_parts(alloc: Global, bytes: &[u8]) -> Result<Header, CdfFault>
     ensures { Gives (λ header. header) result (header_of bytes.now) }
 {
     let total = bytes.len();
-    let rest = skip_magic(bytes)?;
+    let (form, rest) = read_form(bytes)?;
     let (numrecs, rest) = read_numrecs(total, rest)?;
     let (dims, rest) = read_dims(alloc, total, rest)?;
     let (gatts, rest) = read_attrs(alloc, total, rest)?;
-    let (vars, _) = read_vars(alloc, total, &dims, rest)?;
+    let (vars, _) = read_vars(alloc, form, total, &dims, rest)?;
     let header = put_together(total, numrecs, dims, gatts, vars);
     match short_var(total, &header) {
         Some(var) => Err(CdfFault::DataShort { var }),
@@ -77,6 +78,12 @@ pub fn header_or_fault()
     ensures one_header { (bytes : List ℕ) (one other : Header) → Reads bytes one → Reads bytes other → one ≡ other }
     ensures one_fault { (bytes : List ℕ) (one other : CdfFault) → Faults bytes one → Faults bytes other → one ≡ other }
     ensures of_the_file { (bytes : List ℕ) → ¬ Faults bytes CdfFault.OutOfMemory }
+{}
+
+/// What the first fault of a file is: the bytes before some field spell the fields before it, and that field
+/// is at fault; or they spell a header, and this variable is the first with a value past the end of the file.
+pub fn faults_are_first()
+    ensures { (bytes : List ℕ) (fault : CdfFault) → (Faults bytes fault → FirstFault bytes fault) × (FirstFault bytes fault → Faults bytes fault) }
 {}
 
 impl Header {

@@ -11,10 +11,10 @@ ghost use Rattle.cdf_read.specs.Places.{var_size};
 
 use crate::size::{length_of, size_of_value, size_within};
 use crate::word::{
-    place_of, read_kind, read_list_head, read_name, read_number, read_padded, read_word,
+    place_of, read_begin, read_kind, read_list_head, read_name, read_number, read_padded, read_word,
 };
 use crate::{CdfFault, HeadAttr, HeadDim, HeadVar};
-use nd_base::{Bytes, Seq};
+use nd_base::{Bytes, Form, Seq};
 use std::alloc::Global;
 
 const DIMENSIONS: u32 = 10;
@@ -189,12 +189,13 @@ fn read_dim_numbers<'a>(
 #[tactic(auto, unfolding(crate::specs::HeaderReading::var_at))]
 fn read_var<'a>(
     alloc: Global,
+    form: Form,
     total: usize,
     dims: &[HeadDim],
     var: u32,
     rest: &'a [u8],
 ) -> Result<(HeadVar, &'a [u8]), CdfFault>
-    ensures gives { Gives (λ field. (field.0, field.1.now)) result (var_at total dims.now var rest.now) }
+    ensures gives { Gives (λ field. (field.0, field.1.now)) result (var_at form total dims.now var rest.now) }
     ensures small { IfOk result (λ field. var_size dims.now field.0 ≤ 4294967296) }
 {
     let (name, rest) = read_name(alloc, total, rest)?;
@@ -205,8 +206,7 @@ fn read_var<'a>(
         return Err(CdfFault::Overflow { var });
     }
     let (_, rest) = read_word(total, rest)?;
-    let (begin, rest) = read_number(total, rest)?;
-    let begin = u64::from(begin);
+    let (begin, rest) = read_begin(form, total, rest)?;
     let dims = Seq::new(numbers);
     let attrs = Seq::new(attrs);
     Ok((
@@ -223,18 +223,19 @@ fn read_var<'a>(
 
 fn read_so_many_vars<'a>(
     alloc: Global,
+    form: Form,
     total: usize,
     dims: &[HeadDim],
     count: u32,
     mut rest: &'a [u8],
 ) -> Result<(Vec<HeadVar>, &'a [u8]), CdfFault>
-    ensures gives { Gives (λ list. (list.0.items, list.1.now)) result (many_at (λ (earlier : List HeadVar). var_at total dims.now (length earlier)) count [] rest.entry.now) }
+    ensures gives { Gives (λ list. (list.0.items, list.1.now)) result (many_at (λ (earlier : List HeadVar). var_at form total dims.now (length earlier)) count [] rest.entry.now) }
     ensures count { IfOk result (λ list. length list.0.items ≡ count) }
     ensures small { IfOk result (λ list. All (λ v. var_size dims.now v ≤ 4294967296) list.0.items) }
 {
     let mut vars = Vec::new(alloc);
     for number in 0..count {
-        let (var, after) = read_var(alloc, total, dims, number, rest)?;
+        let (var, after) = read_var(alloc, form, total, dims, number, rest)?;
         vars.push(var)?;
         rest = after;
     }
@@ -245,14 +246,15 @@ fn read_so_many_vars<'a>(
 #[tactic(auto, unfolding(crate::specs::HeaderReading::vars_at))]
 pub(crate) fn read_vars<'a>(
     alloc: Global,
+    form: Form,
     total: usize,
     dims: &[HeadDim],
     rest: &'a [u8],
 ) -> Result<(Vec<HeadVar>, &'a [u8]), CdfFault>
-    ensures gives { Gives (λ list. (list.0.items, list.1.now)) result (vars_at total dims.now rest.now) }
+    ensures gives { Gives (λ list. (list.0.items, list.1.now)) result (vars_at form total dims.now rest.now) }
     ensures few { IfOk result (λ list. length list.0.items ≤ 2147483647) }
     ensures small { IfOk result (λ list. All (λ v. var_size dims.now v ≤ 4294967296) list.0.items) }
 {
     let (count, rest) = read_list_head(total, VARIABLES, rest)?;
-    read_so_many_vars(alloc, total, dims, count, rest)
+    read_so_many_vars(alloc, form, total, dims, count, rest)
 }

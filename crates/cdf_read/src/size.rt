@@ -10,8 +10,8 @@ use crate::{HeadDim, HeadVar};
 /// The most bytes of a variable, or of one record of it.
 pub(crate) const LARGEST: u64 = 4_294_967_296;
 
-/// The bytes of one value.
-pub(crate) fn size_of_value(kind: u32) -> u32
+/// The bytes of one value of the type of this number.
+pub fn size_of_value(kind: u32) -> u32
     ensures value { result ≡ value_size kind }
     ensures small { result ≤ 8 }
 {

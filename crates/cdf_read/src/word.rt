@@ -3,15 +3,20 @@
 
 ghost use Rattle.std.specs.Prelude.{◌≡◌, ◌<◌, ◌^◌, length, true, false, ◌≤◌, IfOk, IfSome, IfNone};
 ghost use Rattle.std.specs.Str.{is_utf8};
-ghost use Rattle.cdf_read.specs.HeaderReading.{Gives, place, word_at, number_at, kind_at, padded_at, name_at, list_head_at, magic_at, numrecs_at};
+ghost use Rattle.cdf_read.specs.Fields.{place};
+ghost use Rattle.cdf_read.specs.HeaderReading.{Gives, word_at, number_at, wide_begin_at, begin_at, kind_at, padded_at, name_at, list_head_at, form_of};
+ghost use Rattle.cdf_read.specs.HeaderReading.{magic_at, numrecs_at};
 
 use crate::CdfFault;
-use crate::field::{self, MAGIC, padded_to_word};
-use nd_base::Name;
+use crate::field::{self, CLASSIC_MAGIC, WIDE_MAGIC, padded_to_word};
+use nd_base::{Form, Name};
 use std::alloc::Global;
 
-/// The greatest number of records, count, length, rank or begin.
+/// The greatest number of records, count, length, rank or begin of four bytes.
 const GREATEST: u32 = 2_147_483_647;
+
+/// The greatest begin of eight bytes.
+const GREATEST_WIDE: u64 = 9_223_372_036_854_775_807;
 
 /// The most bytes of a name.
 const LONGEST_NAME: u32 = 1024;
@@ -44,6 +49,32 @@ pub(crate) fn read_number(total: usize, rest: &[u8]) -> Result<(u32, &[u8]), Cdf
         return Err(CdfFault::Negative { at });
     }
     Ok((number, after))
+}
+
+/// A begin of eight bytes, which is at most `GREATEST_WIDE`.
+#[tactic(auto, unfolding(crate::specs::HeaderReading::wide_begin_at))]
+fn read_wide_begin(total: usize, rest: &[u8]) -> Result<(u64, &[u8]), CdfFault>
+    ensures { Gives (λ field. (field.0, field.1.now)) result (wide_begin_at total rest.now) }
+{
+    let at = place_of(total, rest);
+    let (begin, after) = field::read_double_word(rest).ok_or(CdfFault::Short { at })?;
+    if begin > GREATEST_WIDE {
+        return Err(CdfFault::Negative { at });
+    }
+    Ok((begin, after))
+}
+
+/// A begin in a file of this form.
+pub(crate) fn read_begin(form: Form, total: usize, rest: &[u8]) -> Result<(u64, &[u8]), CdfFault>
+    ensures { Gives (λ field. (field.0, field.1.now)) result (begin_at form total rest.now) }
+{
+    match form {
+        Form::Classic => {
+            let (begin, rest) = read_number(total, rest)?;
+            Ok((u64::from(begin), rest))
+        }
+        Form::Wide => read_wide_begin(total, rest),
+    }
 }
 
 /// The number of a value type.
@@ -121,16 +152,27 @@ pub(crate) fn read_list_head(total: usize, tag: u32, rest: &[u8]) -> Result<(u32
     Ok((count, rest))
 }
 
-/// What follows the format's first four bytes.
-#[tactic(auto, unfolding(crate::specs::HeaderReading::magic_at))]
-pub(crate) fn skip_magic(bytes: &[u8]) -> Result<&[u8], CdfFault>
-    ensures { Gives (λ after. after.now) result (magic_at bytes.now) }
+/// The form of a file that begins with these four bytes.
+fn form_of(first: &[u8]) -> Option<Form>
+    ensures { result ≡ form_of first.now }
 {
-    let (front, rest) = field::read_free(bytes, 4).ok_or(CdfFault::Short { at: 0 })?;
-    if front != MAGIC {
-        return Err(CdfFault::Magic);
+    if first == CLASSIC_MAGIC {
+        Some(Form::Classic)
+    } else if first == WIDE_MAGIC {
+        Some(Form::Wide)
+    } else {
+        None
     }
-    Ok(rest)
+}
+
+/// The form of a file by its first four bytes.
+#[tactic(auto, unfolding(crate::specs::HeaderReading::magic_at))]
+pub(crate) fn read_form(bytes: &[u8]) -> Result<(Form, &[u8]), CdfFault>
+    ensures { Gives (λ field. (field.0, field.1.now)) result (magic_at bytes.now) }
+{
+    let (first, rest) = field::read_free(bytes, 4).ok_or(CdfFault::Short { at: 0 })?;
+    let form = form_of(first).ok_or(CdfFault::Magic)?;
+    Ok((form, rest))
 }
 
 /// The number of records, or `STREAMING`.

@@ -5,12 +5,22 @@ use Rattle.nd_base.specs.declared.attribute.AttrValue.{AttrValue}
 use Rattle.nd_base.specs.declared.attribute.AttrValue.TheVariants.{Whole, Text, Bits64, Bits32}
 use Rattle.nd_base.specs.declared.attribute.Extra.{Extra}
 use Rattle.nd_base.specs.declared.attribute.FileShape.{FileShape}
+use Rattle.nd_base.specs.declared.form.Form.{Form}
+use Rattle.nd_base.specs.declared.form.Form.TheVariants.{Classic, Wide}
 use Rattle.nd_base.specs.Array.{Array}
 use Rattle.nd_base.specs.Samples.{bytes_of}
 use Rattle.cdf_write.specs.Spelling.{word, double_word, signed_word, padded_length, element_list, absent, name_field, dimension, attribute, int_attribute, type_size, padded_values}
 use Rattle.cdf_write.specs.Columns.{Column, columns, sample_kind, type_number}
 
 -- THE HEADER
+
+-- the version of the format, 1 with places of four bytes and 2 with places of eight
+abbrev pub version : Form → ℕ
+version Classic = 1
+version Wide = 2
+
+abbrev pub magic : Form → List ℕ
+magic form = 67 ∷ 68 ∷ 70 ∷ version form ∷ []
 
 -- numrecs: the number of records, or STREAMING
 abbrev pub record_count : Option ℕ → List ℕ
@@ -51,21 +61,26 @@ extra_attribute e = attribute e.name e.kind (length e.values / type_size e.kind)
 abbrev pub attributes : FileShape → List (List ℕ)
 attributes shape = fixed_attributes shape ++ map extra_attribute shape.extras
 
+-- OFFSET: a place in the file, in four bytes or in eight
+abbrev pub offset : Form → ℕ → List ℕ
+offset Classic place = word place
+offset Wide place = double_word place
+
 -- var: name, rank, dimension numbers, no attributes, nc_type, vsize, begin
-abbrev pub variable : Column → ℕ → List ℕ
-variable c begin =
-    name_field c.name ++ word (length c.dims) ++ flat_map word c.dims ++ absent ++ word c.kind ++ word (padded_length c.size) ++ word begin
+abbrev pub variable : Form → Column → ℕ → List ℕ
+variable form c begin =
+    name_field c.name ++ word (length c.dims) ++ flat_map word c.dims ++ absent ++ word c.kind ++ word (padded_length c.size) ++ offset form begin
 
 -- each variable begins where the padded values of the one before it end
-abbrev pub variables : ℕ → List Column → List (List ℕ)
-variables begin [] = []
-variables begin (c ∷ cs) = variable c begin ∷ variables (begin + padded_length c.size) cs
+abbrev pub variables : Form → ℕ → List Column → List (List ℕ)
+variables form begin [] = []
+variables form begin (c ∷ cs) = variable form c begin ∷ variables form (begin + padded_length c.size) cs
 
 -- magic, numrecs, dimension list, global attribute list, variable list; the first variable begins at this place
 abbrev pub header_from : FileShape → Option ℕ → ℕ → List ℕ
 header_from shape numrecs begin =
-    (67 ∷ 68 ∷ 70 ∷ 1 ∷ []) ++ record_count numrecs ++ element_list 10 (dimensions shape) ++ element_list 12 (attributes shape)
-    ++ element_list 11 (variables begin (columns shape))
+    magic shape.form ++ record_count numrecs ++ element_list 10 (dimensions shape) ++ element_list 12 (attributes shape)
+    ++ element_list 11 (variables shape.form begin (columns shape))
 
 -- no begin changes the header's length
 unfoldable pub header_length : FileShape → ℕ

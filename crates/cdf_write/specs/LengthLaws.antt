@@ -17,6 +17,9 @@ use Rattle.nd_base.specs.declared.attribute.AttrColumn.{AttrColumn}
 use Rattle.nd_base.specs.declared.attribute.AttrKind.{AttrKind}
 use Rattle.nd_base.specs.declared.attribute.AttrKind.TheVariants.{WholeKind, TextKind, Bits64Kind, Bits32Kind}
 use Rattle.nd_base.specs.declared.attribute.FileShape.{FileShape}
+use Rattle.nd_base.specs.declared.form.Form.{Form}
+use Rattle.nd_base.specs.declared.form.Form.TheVariants.{Classic, Wide}
+use Rattle.nd_base.specs.Forms.{longest_of}
 use Rattle.nd_base.specs.Array.{Array}
 use Rattle.nd_base.specs.Samples.{width, bytes_of}
 use Rattle.nd_base.specs.SampleLaws.{length-bytes_of}
@@ -24,9 +27,24 @@ use Rattle.nd_base.specs.Shapes.{sample_count}
 use Rattle.cdf_write.specs.Spelling.{word, double_word, signed_word, gap, padded_length, name_field, absent, dimension, element_list, fill, padded_values}
 use Rattle.cdf_write.specs.SpellingLaws.{length-flat_map, length-flat_map_words, length-name_field, length-attribute, length-int_attribute, concat-map, length-concat, length-concat-append, length-element_list, length_in_room, padded_text}
 use Rattle.cdf_write.specs.Columns.{Column, columns, fixed_columns, attr_column, sample_kind, kind_size}
-use Rattle.cdf_write.specs.Layout.{record_count, slowest_first, size_dimensions, dimensions, fixed_attributes, extra_attribute, attributes, variable, variables, header_from, header_length, header, attr_values, row, layout}
-use Rattle.cdf_write.specs.Lengths.{columns_length, row_length, length_of, attr_header_length, extra_header_length}
+use Rattle.cdf_write.specs.Layout.{record_count, slowest_first, size_dimensions, dimensions, fixed_attributes, extra_attribute, attributes, magic, offset, variable, variables, header_from, header_length, header, attr_values, row, layout}
+use Rattle.cdf_write.specs.Lengths.{columns_length, row_length, length_of, offset_length, attr_header_length, extra_header_length}
 use Rattle.cdf_write.specs.Writable.{kind_of, column_of, FitsIn, HasShape}
+
+-- FORMS
+
+pub length-offset : (form : Form) (place : ℕ) → length (offset form place) ≡ offset_length form
+length-offset Classic place = refl
+length-offset Wide place = refl
+
+pub offset_length_few : (form : Form) → offset_length form ≤ 8
+offset_length_few Classic = omega arith
+offset_length_few Wide = omega arith
+
+-- no form has longer files than the wide one
+pub longest_of_few : (form : Form) → longest_of form ≤ 8589934592
+longest_of_few Classic = omega arith
+longest_of_few Wide = omega arith
 
 -- DIMENSIONS
 
@@ -80,11 +98,11 @@ attributes_bytes shape =
 -- VARIABLES
 
 -- the bytes of a variable in the header
-abbrev variable_length : Column → ℕ
-variable_length c = 28 + padded_length (length c.name) + 4 * length c.dims
+abbrev variable_length : Form → Column → ℕ
+variable_length form c = 24 + offset_length form + padded_length (length c.name) + 4 * length c.dims
 
-length-variable : (c : Column) (begin : ℕ) → length (variable c begin) ≡ variable_length c
-length-variable c begin =
+length-variable : (form : Form) (c : Column) (begin : ℕ) → length (variable form c begin) ≡ variable_length form c
+length-variable form c begin =
     let field = length-name_field c.name in
     let one = length-append (name_field c.name) (word (length c.dims)) in
     let two = length-append (name_field c.name ++ word (length c.dims)) (flat_map word c.dims) in
@@ -92,16 +110,17 @@ length-variable c begin =
     let three = length-append (name_field c.name ++ word (length c.dims) ++ flat_map word c.dims) absent in
     let four = length-append (name_field c.name ++ word (length c.dims) ++ flat_map word c.dims ++ absent) (word c.kind) in
     let five = length-append (name_field c.name ++ word (length c.dims) ++ flat_map word c.dims ++ absent ++ word c.kind) (word (padded_length c.size)) in
-    let six = length-append (name_field c.name ++ word (length c.dims) ++ flat_map word c.dims ++ absent ++ word c.kind ++ word (padded_length c.size)) (word begin) in
+    let six = length-append (name_field c.name ++ word (length c.dims) ++ flat_map word c.dims ++ absent ++ word c.kind ++ word (padded_length c.size)) (offset form begin) in
+    let place = length-offset form begin in
     omega arith
 
-variables_bytes : (begin : ℕ) (cs : List Column) → length (concat (variables begin cs)) ≡ sum_by variable_length cs
-variables_bytes begin [] = refl
-variables_bytes begin (c ∷ cs) =
-    let front = length-append (variable c begin) (concat (variables (begin + padded_length c.size) cs)) in
-    let here = length-variable c begin in
-    let rest = variables_bytes (begin + padded_length c.size) cs in
-    let total = sum_by-cons variable_length c cs in
+variables_bytes : (form : Form) (begin : ℕ) (cs : List Column) → length (concat (variables form begin cs)) ≡ sum_by (variable_length form) cs
+variables_bytes form begin [] = refl
+variables_bytes form begin (c ∷ cs) =
+    let front = length-append (variable form c begin) (concat (variables form (begin + padded_length c.size) cs)) in
+    let here = length-variable form c begin in
+    let rest = variables_bytes form (begin + padded_length c.size) cs in
+    let total = sum_by-cons (variable_length form) c cs in
     omega arith
 
 sum_by-map : {X Y : Type 0} → (f : Y → ℕ) (g : X → Y) (h : X → ℕ) (xs : List X) → ((x : X) → f (g x) ≡ h x) → sum_by f (map g xs) ≡ sum_by h xs
@@ -113,24 +132,25 @@ sum_by-map f g h (x ∷ xs) e =
     let rest = sum_by-map f g h xs e in
     omega arith
 
-attr_by_kind : (shape : FileShape) (name : List ℕ) (kind : AttrKind) → variable_length (attr_column shape (record { name = name; kind = kind })) ≡ attr_header_length (record { name = name; kind = kind })
+attr_by_kind : (shape : FileShape) (name : List ℕ) (kind : AttrKind) → variable_length shape.form (attr_column shape (record { name = name; kind = kind })) ≡ attr_header_length shape.form (record { name = name; kind = kind })
 attr_by_kind shape name WholeKind = omega arith
 attr_by_kind shape name TextKind = omega arith
 attr_by_kind shape name Bits64Kind = omega arith
 attr_by_kind shape name Bits32Kind = omega arith
 
-fixed_variables_bytes : (shape : FileShape) → sum_by variable_length (fixed_columns shape) ≡ 216 + 4 * length shape.dims
+fixed_variables_bytes : (shape : FileShape) → sum_by (variable_length shape.form) (fixed_columns shape) ≡ 196 + 5 * offset_length shape.form + 4 * length shape.dims
 fixed_variables_bytes shape =
     let numbers = length-range_with_len 0 (suc (length shape.dims)) in
     omega arith
 
-all_variables_bytes : (shape : FileShape) (begin : ℕ) → length (element_list 11 (variables begin (columns shape))) ≡ 224 + 4 * length shape.dims + sum_by attr_header_length shape.attrs
+all_variables_bytes : (shape : FileShape) (begin : ℕ) → length (element_list 11 (variables shape.form begin (columns shape)))
+    ≡ 204 + 5 * offset_length shape.form + 4 * length shape.dims + sum_by (attr_header_length shape.form) shape.attrs
 all_variables_bytes shape begin =
-    let whole = length-element_list 11 (variables begin (columns shape)) in
-    let bytes = variables_bytes begin (columns shape) in
-    let parts = sum_by-append variable_length (fixed_columns shape) (map (attr_column shape) shape.attrs) in
+    let whole = length-element_list 11 (variables shape.form begin (columns shape)) in
+    let bytes = variables_bytes shape.form begin (columns shape) in
+    let parts = sum_by-append (variable_length shape.form) (fixed_columns shape) (map (attr_column shape) shape.attrs) in
     let fixed = fixed_variables_bytes shape in
-    let attrs = sum_by-map variable_length (attr_column shape) attr_header_length shape.attrs (λ a. attr_by_kind shape a.name a.kind) in
+    let attrs = sum_by-map (variable_length shape.form) (attr_column shape) (attr_header_length shape.form) shape.attrs (λ a. attr_by_kind shape a.name a.kind) in
     omega arith
 
 -- THE HEADER
@@ -139,24 +159,26 @@ record_count_bytes : (numrecs : Option ℕ) → length (record_count numrecs) �
 record_count_bytes None = refl
 record_count_bytes (Some n) = refl
 
-length-header_from : (shape : FileShape) (numrecs : Option ℕ) (begin : ℕ) → length (header_from shape numrecs begin) ≡ 476 + 32 * length shape.dims + sum_by attr_header_length shape.attrs + sum_by extra_header_length shape.extras
+length-header_from : (shape : FileShape) (numrecs : Option ℕ) (begin : ℕ) → length (header_from shape numrecs begin)
+    ≡ 456 + 5 * offset_length shape.form + 32 * length shape.dims + sum_by (attr_header_length shape.form) shape.attrs + sum_by extra_header_length shape.extras
 length-header_from shape numrecs begin =
-    let magic : List ℕ = 67 ∷ 68 ∷ 70 ∷ 1 ∷ [] in
+    let front = magic shape.form in
     let dims = element_list 10 (dimensions shape) in
     let attrs = element_list 12 (attributes shape) in
-    let vars = element_list 11 (variables begin (columns shape)) in
-    let one = length-append magic (record_count numrecs) in
-    let two = length-append (magic ++ record_count numrecs) dims in
-    let three = length-append (magic ++ record_count numrecs ++ dims) attrs in
-    let four = length-append (magic ++ record_count numrecs ++ dims ++ attrs) vars in
+    let vars = element_list 11 (variables shape.form begin (columns shape)) in
+    let one = length-append front (record_count numrecs) in
+    let two = length-append (front ++ record_count numrecs) dims in
+    let three = length-append (front ++ record_count numrecs ++ dims) attrs in
+    let four = length-append (front ++ record_count numrecs ++ dims ++ attrs) vars in
     let count = record_count_bytes numrecs in
     let dims_bytes = dimensions_bytes shape in
     let attrs_bytes = attributes_bytes shape in
     let vars_bytes = all_variables_bytes shape begin in
     omega arith
 
--- 476 bytes, 32 for each dimension, and those of each attribute's variable and each extra
-pub header_length_is : (shape : FileShape) → header_length shape ≡ 476 + 32 * length shape.dims + sum_by attr_header_length shape.attrs + sum_by extra_header_length shape.extras
+-- 456 bytes, five places, 32 bytes for each dimension, and those of each attribute's variable and each extra
+pub header_length_is : (shape : FileShape) → header_length shape
+    ≡ 456 + 5 * offset_length shape.form + 32 * length shape.dims + sum_by (attr_header_length shape.form) shape.attrs + sum_by extra_header_length shape.extras
 unfolding header_length
 header_length_is shape = length-header_from shape None 0
 

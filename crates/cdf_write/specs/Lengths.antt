@@ -1,7 +1,8 @@
 -- Lengths of files and records in bytes, and what a header is refused for.
 use Rattle.std.specs.Prelude.{◌≡◌, ℕ, ◌+◌, ◌*◌, ◌<◌, ◌≤◌, List, length}
 use Rattle.std.specs.List.{sum_by}
-use Rattle.nd_base.specs.declared.form.Form.TheVariants.{Classic}
+use Rattle.nd_base.specs.declared.form.Form.{Form}
+use Rattle.nd_base.specs.declared.form.Form.TheVariants.{Classic, Wide}
 use Rattle.nd_base.specs.Forms.{longest_of}
 use Rattle.nd_base.specs.declared.attribute.AttrColumn.{AttrColumn}
 use Rattle.nd_base.specs.declared.attribute.AttrKind.{AttrKind}
@@ -30,10 +31,16 @@ length_of shape count = header_length shape + count * row_length shape
 abbrev pub longest : ℕ
 longest = longest_of Classic
 
--- what the header of a file of this length is refused for: the length, exactly where it is too long, else want of memory
-abbrev pub IsRefusal : ℕ → TooLarge → Type 0
-IsRefusal length (FileTooLarge bytes) = (bytes ≡ length) × (longest < length)
-IsRefusal length OutOfMemory = length ≤ longest
+-- what the header of a file of this form and length is refused for: the length, exactly where it is too long, else
+-- want of memory
+abbrev pub IsRefusal : Form → ℕ → TooLarge → Type 0
+IsRefusal form length (FileTooLarge bytes) = (bytes ≡ length) × (longest_of form < length)
+IsRefusal form length OutOfMemory = length ≤ longest_of form
+
+-- the bytes of a place in the header
+abbrev pub offset_length : Form → ℕ
+offset_length Classic = 4
+offset_length Wide = 8
 
 -- the bytes of the dimension numbers of an attribute's variable
 abbrev pub dims_length : AttrKind → ℕ
@@ -43,8 +50,8 @@ dims_length Bits32Kind = 4
 dims_length TextKind = 8
 
 -- the header's bytes for the variable of an attribute
-abbrev pub attr_header_length : AttrColumn → ℕ
-attr_header_length a = 28 + dims_length a.kind + padded_length (5 + length a.name)
+abbrev pub attr_header_length : Form → AttrColumn → ℕ
+attr_header_length form a = 24 + offset_length form + dims_length a.kind + padded_length (5 + length a.name)
 
 -- the header's bytes for an extra
 abbrev pub extra_header_length : Extra → ℕ

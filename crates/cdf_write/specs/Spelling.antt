@@ -1,4 +1,4 @@
--- How the parts of a netCDF classic header are spelled (netCDF classic format specification, CDF-1): words of
+-- How the parts of a netCDF classic header are spelled (netCDF classic format specification): words of
 -- four bytes, most significant first; names and values padded to whole words.
 use Rattle.std.specs.Prelude.{ℕ, ◌+◌, ◌-◌, ◌%◌, ℤ, List, [], ◌∷◌, ◌++◌, length, take, replicate, ◌==◌, nat_lt, if◌then◌else◌}
 use Rattle.std.specs.List.{concat, flat_map}

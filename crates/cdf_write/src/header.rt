@@ -3,21 +3,19 @@
 ghost use Rattle.std.specs.Prelude.{◌≡◌, ◌+◌, ◌≤◌, ◌++◌, [], ◌∷◌, length, map, OnOk, IfOk, IfErr};
 ghost use Rattle.std.specs.Option.{ForSome};
 ghost use Rattle.std.specs.List.{concat};
+ghost use Rattle.nd_base.specs.Forms.{longest_of};
 ghost use Rattle.cdf_write.specs.Spelling.{element_list};
-ghost use Rattle.cdf_write.specs.Layout.{record_count, slowest_first, size_dimensions, dimensions, header};
-ghost use Rattle.cdf_write.specs.Lengths.{length_of, longest, IsRefusal};
+ghost use Rattle.cdf_write.specs.Layout.{version, record_count, slowest_first, size_dimensions, dimensions, header};
+ghost use Rattle.cdf_write.specs.Lengths.{length_of, IsRefusal};
 ghost use Rattle.cdf_write.specs.Writable.{IsWritable};
 
 use crate::attributes::push_attributes;
 use crate::lengths::{file_length, header_size};
 use crate::spelling::{push_dimension, push_word};
 use crate::variables::push_variables;
-use nd_base::{Dim, FileShape, LONGEST_CLASSIC};
+use nd_base::{Dim, FileShape, Form};
 use std::alloc::{AllocError, Global};
 use thiserror::Error;
-
-/// The magic of the classic format, version 1.
-const MAGIC: [u8; 4] = [b'C', b'D', b'F', 1];
 
 /// The number of records of a file whose records are counted by its length.
 const STREAMING: u32 = 0xffff_ffff;
@@ -25,13 +23,11 @@ const STREAMING: u32 = 0xffff_ffff;
 /// The tag of the list of dimensions.
 const DIMENSIONS: u32 = 10;
 
-/// The most bytes of a file.
-const LONGEST: u128 = LONGEST_CLASSIC as u128;
-
 /// Why no header is made.
 #[derive(Clone, Copy, Debug, PartialEq, Eq, Error)]
 pub enum TooLarge {
-    /// The whole file would have so many bytes, more than 2,147,483,647.
+    /// The whole file would have so many bytes, more than 2,147,483,647 in form `Classic` or 8,589,934,592 in
+    /// form `Wide`.
     #[error("the file would have {bytes} bytes")]
     FileTooLarge { bytes: u128 },
     #[error("out of memory")]
@@ -46,6 +42,16 @@ impl From<AllocError> for TooLarge {
 
     fn from(_: AllocError) -> Self {
         TooLarge::OutOfMemory
+    }
+}
+
+/// The version of the format, which is the last byte of the magic.
+fn version_of(form: Form) -> u8
+    ensures { result ≡ version form }
+{
+    match form {
+        Form::Classic => 1,
+        Form::Wide => 2,
     }
 }
 
@@ -90,7 +96,8 @@ fn push_dimensions(out: &mut Vec<u8>, shape: &FileShape) -> Result<(), AllocErro
 ///
 /// # Errors
 ///
-/// `FileTooLarge` where a file of `room` rows is longer than 2,147,483,647 bytes, else want of memory.
+/// `FileTooLarge` where a file of `room` rows is longer than 2,147,483,647 bytes in form `Classic` or
+/// 8,589,934,592 in form `Wide`, else want of memory.
 pub fn header_bytes(
     alloc: Global,
     shape: &FileShape,
@@ -101,19 +108,19 @@ pub fn header_bytes(
     requires room { 1 ≤ room }
     requires numrecs { ForSome numrecs (λ n. n ≤ room) }
     ensures bytes { IfOk result (λ v. v.items ≡ header shape.now numrecs) }
-    ensures within { OnOk result (length_of shape.now room ≤ longest) }
-    ensures refused { IfErr result (IsRefusal (length_of shape.now room)) }
+    ensures within { OnOk result (length_of shape.now room ≤ longest_of shape.now.form) }
+    ensures refused { IfErr result (IsRefusal shape.now.form (length_of shape.now room)) }
 {
     let bytes = file_length(shape, room);
-    if bytes > LONGEST {
+    if bytes > u128::from(shape.form.longest()) {
         return Err(TooLarge::FileTooLarge { bytes });
     }
-    let begin = header_size(shape, shape.dims.as_slice());
+    let begin = header_size(shape, shape.form, shape.dims.as_slice());
     let mut out = Vec::with_capacity(alloc, begin as usize)?;
-    out.extend_from_slice(&MAGIC)?;
+    out.extend_from_slice(&[b'C', b'D', b'F', version_of(shape.form)])?;
     push_record_count(&mut out, numrecs)?;
     push_dimensions(&mut out, shape)?;
     push_attributes(&mut out, shape)?;
-    push_variables(&mut out, shape, begin as u32)?;
+    push_variables(&mut out, shape, begin as u64)?;
     Ok(out)
 }

@@ -8,13 +8,14 @@ ghost use Rattle.nd_base.specs.Shapes.{has_dimensions, sample_count, most_sample
 ghost use Rattle.cdf_write.specs.Spelling.{padded_length};
 ghost use Rattle.cdf_write.specs.Columns.{kind_size};
 ghost use Rattle.cdf_write.specs.Layout.{header_length};
-ghost use Rattle.cdf_write.specs.Lengths.{row_length, length_of, attr_header_length, extra_header_length};
+ghost use Rattle.cdf_write.specs.Lengths.{row_length, length_of, offset_length, attr_header_length, extra_header_length};
 ghost use Rattle.cdf_write.specs.Writable.{IsWritable, IsExtra};
 
-use nd_base::{AttrColumn, AttrKind, Dim, Extra, FileShape, SampleType};
+use nd_base::{AttrColumn, AttrKind, Dim, Extra, FileShape, Form, SampleType};
 
-/// The bytes of a header without dimensions, attributes and extras.
-const PLAIN_HEADER: u64 = 476;
+/// The bytes of a header without dimensions, attributes and extras, and without the places of the five
+/// variables.
+const PLAIN_HEADER: u64 = 456;
 
 /// The header's bytes for each dimension.
 const DIMENSION: u64 = 32;
@@ -88,11 +89,22 @@ pub fn row_size(shape: &FileShape, kind: SampleType, dims: &[Dim]) -> u64
     PLAIN_ROW + padded(samples_size(kind, dims)) + values
 }
 
+/// The bytes of a place in the header.
+fn offset_size(form: Form) -> u64
+    ensures value { result ≡ offset_length form }
+    ensures small { result ≤ 8 }
+{
+    match form {
+        Form::Classic => 4,
+        Form::Wide => 8,
+    }
+}
+
 /// The header's bytes for the variables of these attributes.
-fn attrs_header_size(attrs: &[AttrColumn]) -> u64
+fn attrs_header_size(form: Form, attrs: &[AttrColumn]) -> u64
     requires few { length attrs.now ≤ 2147483647 }
     requires names { All (λ a. IsBetween 1 1019 (length a.name)) attrs.now }
-    ensures value { result ≡ sum_by attr_header_length attrs.now }
+    ensures value { result ≡ sum_by (attr_header_length form) attrs.now }
     ensures small { result < 2 ^ 62 }
 {
     let mut total = 0;
@@ -101,7 +113,7 @@ fn attrs_header_size(attrs: &[AttrColumn]) -> u64
             AttrKind::TextKind => 8,
             _ => 4,
         };
-        total += 28 + dims + padded(5 + attr.name.text().len() as u64);
+        total += 24 + offset_size(form) + dims + padded(5 + attr.name.text().len() as u64);
     }
     total
 }
@@ -122,15 +134,16 @@ fn extras_header_size(extras: &[Extra]) -> u128
     total
 }
 
-/// The bytes of a header of this shape with these dimensions.
-pub fn header_size(shape: &FileShape, dims: &[Dim]) -> u128
-    requires { IsWritable (record shape.now { dims = dims.now }) }
-    ensures value { result ≡ header_length (record shape.now { dims = dims.now }) }
+/// The bytes of a header of this shape in this form with these dimensions.
+pub fn header_size(shape: &FileShape, form: Form, dims: &[Dim]) -> u128
+    requires { IsWritable (record shape.now { form = form; dims = dims.now }) }
+    ensures value { result ≡ header_length (record shape.now { form = form; dims = dims.now }) }
     ensures small { result < 2 ^ 97 }
 {
-    let attrs = attrs_header_size(shape.attrs.as_slice());
+    let fixed = PLAIN_HEADER + 5 * offset_size(form) + DIMENSION * dims.len() as u64;
+    let attrs = attrs_header_size(form, shape.attrs.as_slice());
     let extras = extras_header_size(shape.extras.as_slice());
-    u128::from(PLAIN_HEADER + DIMENSION * dims.len() as u64 + attrs) + extras
+    u128::from(fixed + attrs) + extras
 }
 
 /// The length in bytes of a file of this shape with `count` rows. It takes no memory.
@@ -138,14 +151,21 @@ pub fn file_length(shape: &FileShape, count: u64) -> u128
     requires { IsWritable shape.now }
     ensures { result ≡ length_of shape.now count }
 {
-    length_with(shape, shape.kind, shape.dims.as_slice(), count)
+    length_with(shape, shape.form, shape.kind, shape.dims.as_slice(), count)
 }
 
-/// The `file_length` of this shape with another sample type and other dimensions. It takes no memory.
-pub fn length_with(shape: &FileShape, kind: SampleType, dims: &[Dim], count: u64) -> u128
-    requires { IsWritable (record shape.now { kind = kind; dims = dims.now }) }
-    ensures { result ≡ length_of (record shape.now { kind = kind; dims = dims.now }) count }
+/// The `file_length` of this shape in another form, with another sample type and other dimensions. It takes no
+/// memory.
+pub fn length_with(
+    shape: &FileShape,
+    form: Form,
+    kind: SampleType,
+    dims: &[Dim],
+    count: u64,
+) -> u128
+    requires { IsWritable (record shape.now { form = form; kind = kind; dims = dims.now }) }
+    ensures { result ≡ length_of (record shape.now { form = form; kind = kind; dims = dims.now }) count }
 {
     let row = u128::from(row_size(shape, kind, dims));
-    header_size(shape, dims) + u128::from(count) * row
+    header_size(shape, form, dims) + u128::from(count) * row
 }

@@ -1,4 +1,4 @@
-//! Writes frames as netCDF classic files (CDF-1), in the layout of `specs/Layout.antt`: a header, and then
+//! Writes frames as netCDF classic files (CDF-1 or CDF-2), in the layout of `specs/Layout.antt`: a header, and then
 //! the bytes of one row for each frame.
 #![tactic(auto)]
 

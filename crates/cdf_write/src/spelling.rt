@@ -1,11 +1,13 @@
 //! How the parts of a file are spelled: words of four bytes, the most significant first, and names and
 //! values padded to whole words.
 
-ghost use Rattle.std.specs.Prelude.{◌≡◌, ◌+◌, ◌<◌, ◌^◌, [], ◌∷◌, ◌++◌, pos, length, OnOk, IfOk, replicate};
+ghost use Rattle.std.specs.Prelude.{◌≡◌, ◌+◌, ◌<◌, ◌≤◌, ◌^◌, [], ◌∷◌, ◌++◌, pos, length, OnOk, IfOk, replicate};
 ghost use Rattle.std.specs.List.{flat_map};
+ghost use Rattle.nd_base.specs.Forms.{longest_of};
 ghost use Rattle.cdf_write.specs.Spelling.{word, double_word, gap, padded, padded_length, name_field, dimension, attribute, int_attribute};
-ghost use Rattle.cdf_write.specs.Layout.{variable};
+ghost use Rattle.cdf_write.specs.Layout.{offset, variable};
 
+use nd_base::Form;
 use std::alloc::AllocError;
 
 /// The external type of text and of single bytes as characters.
@@ -45,6 +47,17 @@ pub fn push_double_word(out: &mut Vec<u8>, n: u64) -> Result<(), AllocError>
     ensures { OnOk result (out.new.items ≡ out.old.items ++ double_word n) }
 {
     out.extend_from_slice(&n.to_be_bytes())
+}
+
+/// Appends a place in a file of this form.
+fn push_offset(out: &mut Vec<u8>, form: Form, place: u64) -> Result<(), AllocError>
+    requires { place ≤ longest_of form }
+    ensures { OnOk result (out.new.items ≡ out.old.items ++ offset form place) }
+{
+    match form {
+        Form::Classic => push_word(out, place as u32),
+        Form::Wide => push_double_word(out, place),
+    }
 }
 
 /// Appends a word for each number.
@@ -123,12 +136,18 @@ pub struct Variable<'a> {
 }
 
 /// Appends a variable without attributes, and answers where the values of the next one begin.
-pub fn push_variable(out: &mut Vec<u8>, v: &Variable<'_>, begin: u32) -> Result<u32, AllocError>
+pub fn push_variable(
+    out: &mut Vec<u8>,
+    form: Form,
+    v: &Variable<'_>,
+    begin: u64,
+) -> Result<u64, AllocError>
     requires name { length v.now.prefix.now + length v.now.name.now < 2 ^ 32 }
     requires rank { length v.now.dims.now < 2 ^ 32 }
-    requires end { begin + padded_length v.now.size < 2 ^ 32 }
+    requires size { padded_length v.now.size < 2 ^ 32 }
+    requires end { begin + padded_length v.now.size ≤ longest_of form }
     ensures bytes { OnOk result (out.new.items ≡ out.old.items
-        ++ variable (record { name = v.now.prefix.now ++ v.now.name.now; dims = v.now.dims.now; kind = v.now.kind; size = v.now.size }) begin) }
+        ++ variable form (record { name = v.now.prefix.now ++ v.now.name.now; dims = v.now.dims.now; kind = v.now.kind; size = v.now.size }) begin) }
     ensures next { IfOk result (λ next. next ≡ begin + padded_length v.now.size) }
 {
     let size = v.size + missing(v.size as usize) as u32;
@@ -138,6 +157,6 @@ pub fn push_variable(out: &mut Vec<u8>, v: &Variable<'_>, begin: u32) -> Result<
     out.extend_from_slice(&[0; 8])?;
     push_word(out, v.kind)?;
     push_word(out, size)?;
-    push_word(out, begin)?;
-    Ok(begin + size)
+    push_offset(out, form, begin)?;
+    Ok(begin + u64::from(size))
 }

@@ -2,16 +2,17 @@
 
 ghost use Rattle.std.specs.Prelude.{◌≡◌, ◌+◌, ◌<◌, ◌≤◌, ◌^◌, ◌++◌, length, map, OnOk, IfOk};
 ghost use Rattle.std.specs.List.{concat, range_with_len};
+ghost use Rattle.nd_base.specs.Forms.{longest_of};
 ghost use Rattle.nd_base.specs.GraphRules.{IsBetween};
 ghost use Rattle.cdf_write.specs.Spelling.{padded_length, element_list};
 ghost use Rattle.cdf_write.specs.Columns.{columns, fixed_columns, scalar, attr_column, sample_column, sample_kind};
 ghost use Rattle.cdf_write.specs.Layout.{variable, variables};
-ghost use Rattle.cdf_write.specs.Lengths.{columns_length, row_length, longest};
+ghost use Rattle.cdf_write.specs.Lengths.{columns_length, row_length};
 ghost use Rattle.cdf_write.specs.Writable.{IsWritable};
 
 use crate::lengths::samples_size;
 use crate::spelling::{CHAR, DOUBLE, FLOAT, INT, Variable, push_variable, push_word};
-use nd_base::{AttrColumn, AttrKind, FileShape, SampleType};
+use nd_base::{AttrColumn, AttrKind, FileShape, Form, SampleType};
 use std::alloc::AllocError;
 
 /// The tag of the list of variables.
@@ -43,14 +44,16 @@ fn samples_type(kind: SampleType) -> u32
 /// Appends a variable with one value a record, and answers where the next one's values begin.
 fn push_scalar(
     out: &mut Vec<u8>,
+    form: Form,
     name: &[u8],
     kind: u32,
     size: u32,
-    begin: u32,
-) -> Result<u32, AllocError>
+    begin: u64,
+) -> Result<u64, AllocError>
     requires name { length name.now < 2 ^ 32 }
-    requires end { begin + padded_length size < 2 ^ 32 }
-    ensures bytes { OnOk result (out.new.items ≡ out.old.items ++ variable (scalar name.now kind size) begin) }
+    requires size { padded_length size < 2 ^ 32 }
+    requires end { begin + padded_length size ≤ longest_of form }
+    ensures bytes { OnOk result (out.new.items ≡ out.old.items ++ variable form (scalar name.now kind size) begin) }
     ensures next { IfOk result (λ next. next ≡ begin + padded_length size) }
 {
     let variable = Variable {
@@ -60,18 +63,18 @@ fn push_scalar(
         kind,
         size,
     };
-    push_variable(out, &variable, begin)
+    push_variable(out, form, &variable, begin)
 }
 
 /// Appends the variable of the samples, and answers where the next one's values begin.
 fn push_samples_variable(
     out: &mut Vec<u8>,
     shape: &FileShape,
-    begin: u32,
-) -> Result<u32, AllocError>
+    begin: u64,
+) -> Result<u64, AllocError>
     requires writable { IsWritable shape.now }
-    requires end { begin + padded_length (sample_column shape.now).size < 2 ^ 32 }
-    ensures bytes { OnOk result (out.new.items ≡ out.old.items ++ variable (sample_column shape.now) begin) }
+    requires end { begin + padded_length (sample_column shape.now).size ≤ longest_of shape.now.form }
+    ensures bytes { OnOk result (out.new.items ≡ out.old.items ++ variable shape.now.form (sample_column shape.now) begin) }
     ensures next { IfOk result (λ next. next ≡ begin + padded_length (sample_column shape.now).size) }
 {
     let dims = shape.dims.as_slice();
@@ -82,20 +85,21 @@ fn push_samples_variable(
         kind: samples_type(shape.kind),
         size: samples_size(shape.kind, dims) as u32,
     };
-    push_variable(out, &variable, begin)
+    push_variable(out, shape.form, &variable, begin)
 }
 
 /// Appends the variables that every file has, and answers where the next one's values begin.
-fn push_fixed(out: &mut Vec<u8>, shape: &FileShape, begin: u32) -> Result<u32, AllocError>
+fn push_fixed(out: &mut Vec<u8>, shape: &FileShape, begin: u64) -> Result<u64, AllocError>
     requires writable { IsWritable shape.now }
-    requires end { begin + columns_length (fixed_columns shape.now) < 2 ^ 32 }
-    ensures bytes { OnOk result (out.new.items ≡ out.old.items ++ concat (variables begin (fixed_columns shape.now))) }
+    requires end { begin + columns_length (fixed_columns shape.now) ≤ longest_of shape.now.form }
+    ensures bytes { OnOk result (out.new.items ≡ out.old.items ++ concat (variables shape.now.form begin (fixed_columns shape.now))) }
     ensures next { IfOk result (λ next. next ≡ begin + columns_length (fixed_columns shape.now)) }
 {
-    let stamp = push_scalar(out, b"uniqueId", INT, 4, begin)?;
-    let sec = push_scalar(out, b"timeStamp", DOUBLE, 8, stamp)?;
-    let nsec = push_scalar(out, b"epicsTSSec", INT, 4, sec)?;
-    let samples = push_scalar(out, b"epicsTSNsec", INT, 4, nsec)?;
+    let form = shape.form;
+    let stamp = push_scalar(out, form, b"uniqueId", INT, 4, begin)?;
+    let sec = push_scalar(out, form, b"timeStamp", DOUBLE, 8, stamp)?;
+    let nsec = push_scalar(out, form, b"epicsTSSec", INT, 4, sec)?;
+    let samples = push_scalar(out, form, b"epicsTSNsec", INT, 4, nsec)?;
     push_samples_variable(out, shape, samples)
 }
 
@@ -104,12 +108,12 @@ fn push_attr(
     out: &mut Vec<u8>,
     shape: &FileShape,
     attr: &AttrColumn,
-    begin: u32,
-) -> Result<u32, AllocError>
-    requires rank { length shape.now.dims ≤ 10 }
+    begin: u64,
+) -> Result<u64, AllocError>
+    requires writable { IsWritable shape.now }
     requires name { IsBetween 1 1019 (length attr.now.name) }
-    requires end { begin + padded_length (attr_column shape.now attr.now).size < 2 ^ 32 }
-    ensures bytes { OnOk result (out.new.items ≡ out.old.items ++ variable (attr_column shape.now attr.now) begin) }
+    requires end { begin + padded_length (attr_column shape.now attr.now).size ≤ longest_of shape.now.form }
+    ensures bytes { OnOk result (out.new.items ≡ out.old.items ++ variable shape.now.form (attr_column shape.now attr.now) begin) }
     ensures next { IfOk result (λ next. next ≡ begin + padded_length (attr_column shape.now attr.now).size) }
 {
     let text_dims = [0, shape.dims.as_slice().len() as u32 + 1];
@@ -127,14 +131,14 @@ fn push_attr(
         kind,
         size,
     };
-    push_variable(out, &variable, begin)
+    push_variable(out, shape.form, &variable, begin)
 }
 
 /// Appends the variables of the attributes.
-fn push_attrs(out: &mut Vec<u8>, shape: &FileShape, mut begin: u32) -> Result<(), AllocError>
+fn push_attrs(out: &mut Vec<u8>, shape: &FileShape, mut begin: u64) -> Result<(), AllocError>
     requires writable { IsWritable shape.now }
-    requires end { begin + columns_length (map (attr_column shape.now) shape.now.attrs) < 2 ^ 32 }
-    ensures { OnOk result (out.new.items ≡ out.old.items ++ concat (variables begin (map (attr_column shape.now) shape.now.attrs))) }
+    requires end { begin + columns_length (map (attr_column shape.now) shape.now.attrs) ≤ longest_of shape.now.form }
+    ensures { OnOk result (out.new.items ≡ out.old.items ++ concat (variables shape.now.form begin (map (attr_column shape.now) shape.now.attrs))) }
 {
     for attr in shape.attrs.as_slice() {
         begin = push_attr(out, shape, attr, begin)?;
@@ -143,10 +147,10 @@ fn push_attrs(out: &mut Vec<u8>, shape: &FileShape, mut begin: u32) -> Result<()
 }
 
 /// Appends the list of variables, of which the first one's values begin at `begin`.
-pub fn push_variables(out: &mut Vec<u8>, shape: &FileShape, begin: u32) -> Result<(), AllocError>
+pub fn push_variables(out: &mut Vec<u8>, shape: &FileShape, begin: u64) -> Result<(), AllocError>
     requires writable { IsWritable shape.now }
-    requires end { begin + row_length shape.now ≤ longest }
-    ensures { OnOk result (out.new.items ≡ out.old.items ++ element_list 11 (variables begin (columns shape.now))) }
+    requires end { begin + row_length shape.now ≤ longest_of shape.now.form }
+    ensures { OnOk result (out.new.items ≡ out.old.items ++ element_list 11 (variables shape.now.form begin (columns shape.now))) }
 {
     push_word(out, VARIABLES)?;
     push_word(out, shape.attrs.as_slice().len() as u32 + 5)?;

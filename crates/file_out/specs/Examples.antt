@@ -7,7 +7,8 @@ use Rattle.nd_base.specs.declared.array.Dim.{Dim}
 use Rattle.nd_base.specs.declared.array.Head.{Head}
 use Rattle.nd_base.specs.declared.array.SampleType.TheVariants.{UInt8}
 use Rattle.nd_base.specs.declared.attribute.FileShape.{FileShape}
-use Rattle.cdf_write.specs.Lengths.{row_length, length_of, longest}
+use Rattle.nd_base.specs.Forms.{longest_of}
+use Rattle.cdf_write.specs.Lengths.{row_length, length_of}
 use Rattle.cdf_write.specs.LengthLaws.{header_length_is, row_length_is}
 use Rattle.cdf_write.specs.Writable.{IsWritable, column_of}
 use Rattle.file_out.specs.Streams.{IsRow}
@@ -35,7 +36,7 @@ two_by_two-IsRow head bytes none four = record {
   samples = four;
 }
 
-pub two_by_two-within : (n : ℕ) → n ≤ 5 → length_of two_by_two n ≤ longest
+pub two_by_two-within : (n : ℕ) → n ≤ 5 → length_of two_by_two n ≤ longest_of two_by_two.form
 two_by_two-within n few =
     let front = header_length_is two_by_two in
     let row : row_length two_by_two ≡ 24 = row_length_is two_by_two in

@@ -7,48 +7,45 @@ use Rattle.std.proofs.Math.Nat.{mul-le-mul}
 use Rattle.std.proofs.lemmas.List.Concat.{flat_map-append}
 use Rattle.nd_base.specs.declared.attribute.FileShape.{FileShape}
 use Rattle.nd_base.specs.Array.{Array}
+use Rattle.nd_base.specs.Forms.{longest_of}
 use Rattle.edge_traits.specs.Files.{Files, overwritten, with_file, with_more, HasFile, HasRange, Stands}
 use Rattle.edge_traits.specs.FileLaws.{HasFile-with_file, Stands-HasRange, overwritten-middle, with_patch-with_file, file_at-with_more_same, file_at-with_patch_same, HasRange-with_file}
 use Rattle.cdf_write.specs.Spelling.{word, element_list}
 use Rattle.cdf_write.specs.Columns.{columns}
-use Rattle.cdf_write.specs.Layout.{record_count, dimensions, attributes, variables, header_length, header, row, layout}
-use Rattle.cdf_write.specs.Lengths.{row_length, length_of, longest}
-use Rattle.cdf_write.specs.LengthLaws.{header_length_is, length-header, row_length_is}
+use Rattle.cdf_write.specs.Layout.{magic, record_count, dimensions, attributes, variables, header_length, header, row, layout}
+use Rattle.cdf_write.specs.Lengths.{row_length, length_of}
+use Rattle.cdf_write.specs.LengthLaws.{longest_of_few, header_length_is, length-header, row_length_is}
 use Rattle.file_out.specs.Streams.{Stream, HasRows, begun_file, count_place, with_count}
 
 -- no file has more rows than a word counts
-pub rows_few : (shape : FileShape) (room : ℕ) → length_of shape room ≤ longest → room < 2 ^ 32
+pub rows_few : (shape : FileShape) (room : ℕ) → length_of shape room ≤ longest_of shape.form → room < 2 ^ 32
 rows_few shape room within =
     let row : 20 ≤ row_length shape = omega (arith, row_length_is shape) in
     let all : room * 20 ≤ room * row_length shape = mul-le-mul (let same : room ≤ room = omega arith in same) row in
-    omega (arith, all, within)
-
-magic : List ℕ
-magic = 67 ∷ 68 ∷ 70 ∷ 1 ∷ []
+    omega (arith, all, within, longest_of_few shape.form)
 
 -- a header behind its number of records
 after_count : FileShape → List ℕ
-after_count shape = element_list 10 (dimensions shape) ++ (element_list 12 (attributes shape) ++ element_list 11 (variables (header_length shape) (columns shape)))
+after_count shape = element_list 10 (dimensions shape) ++ (element_list 12 (attributes shape) ++ element_list 11 (variables shape.form (header_length shape) (columns shape)))
 
-header_parts : (shape : FileShape) (numrecs : Option ℕ) → header shape numrecs ≡ magic ++ (record_count numrecs ++ after_count shape)
-unfolding header magic after_count
+header_parts : (shape : FileShape) (numrecs : Option ℕ) → header shape numrecs ≡ magic shape.form ++ (record_count numrecs ++ after_count shape)
+unfolding header after_count
 header_parts shape numrecs =
     let dims = element_list 10 (dimensions shape) in
     let attrs = element_list 12 (attributes shape) in
-    let vars = element_list 11 (variables (header_length shape) (columns shape)) in
-    let front = (67 ∷ 68 ∷ 70 ∷ 1 ∷ []) ++ record_count numrecs in
+    let vars = element_list 11 (variables shape.form (header_length shape) (columns shape)) in
+    let front = magic shape.form ++ record_count numrecs in
     append_assoc (front ++ dims) attrs vars ∙ append_assoc front dims (attrs ++ vars)
-    ∙ append_assoc (67 ∷ 68 ∷ 70 ∷ 1 ∷ []) (record_count numrecs) (dims ++ (attrs ++ vars))
+    ∙ append_assoc (magic shape.form) (record_count numrecs) (dims ++ (attrs ++ vars))
 
 -- the number of records put into a header that left it open, whatever follows
 pub overwritten-count : (shape : FileShape) (n : ℕ) (rest : List ℕ) → overwritten (header shape None ++ rest) count_place (word n) ≡ header shape (Some n) ++ rest
-unfolding magic
 overwritten-count shape n rest =
-    let parts : (numrecs : Option ℕ) → header shape numrecs ++ rest ≡ magic ++ (record_count numrecs ++ (after_count shape ++ rest)) =
-    λ numrecs. ap (λ bytes. bytes ++ rest) (header_parts shape numrecs) ∙ append_assoc magic (record_count numrecs ++ after_count shape) rest
-    ∙ ap (λ bytes. magic ++ bytes) (append_assoc (record_count numrecs) (after_count shape) rest) in
+    let parts : (numrecs : Option ℕ) → header shape numrecs ++ rest ≡ magic shape.form ++ (record_count numrecs ++ (after_count shape ++ rest)) =
+    λ numrecs. ap (λ bytes. bytes ++ rest) (header_parts shape numrecs) ∙ append_assoc (magic shape.form) (record_count numrecs ++ after_count shape) rest
+    ∙ ap (λ bytes. magic shape.form ++ bytes) (append_assoc (record_count numrecs) (after_count shape) rest) in
     ap (λ bytes. overwritten bytes count_place (word n)) (parts None)
-    ∙ overwritten-middle magic (record_count None) (after_count shape ++ rest) (word n) refl ∙ sym (parts (Some n))
+    ∙ overwritten-middle (magic shape.form) (record_count None) (after_count shape ++ rest) (word n) refl ∙ sym (parts (Some n))
 
 -- one array more
 pub begun_file-more : (shape : FileShape) (numrecs : Option ℕ) (arrays : List Array) (a : Array) → begun_file shape numrecs (arrays ++ a ∷ []) ≡ begun_file shape numrecs arrays ++ row shape a

@@ -4,12 +4,13 @@ use Rattle.std.specs.List.{flat_map}
 use Rattle.nd_base.specs.declared.array.Head.{Head}
 use Rattle.nd_base.specs.declared.attribute.FileShape.{FileShape}
 use Rattle.nd_base.specs.Array.{Array}
+use Rattle.nd_base.specs.Forms.{longest_of}
 use Rattle.nd_base.specs.Samples.{width}
 use Rattle.nd_base.specs.Shapes.{sample_count}
 use Rattle.edge_traits.specs.Files.{Files, with_patch, HasFile, MayPatch}
 use Rattle.cdf_write.specs.Spelling.{word}
 use Rattle.cdf_write.specs.Layout.{header, row}
-use Rattle.cdf_write.specs.Lengths.{length_of, longest}
+use Rattle.cdf_write.specs.Lengths.{length_of}
 use Rattle.cdf_write.specs.Writable.{IsWritable, HasColumns}
 
 -- A file that was begun: its name, the shape of its arrays, the number of records in its header (None: left
@@ -24,7 +25,7 @@ pub record Stream : Type 0 where
 -- what every stream keeps to
 pub record IsOpen (file : Stream) : Type 0 where
   pub writable : IsWritable file.shape
-  pub within : length_of file.shape file.room ≤ longest
+  pub within : length_of file.shape file.room ≤ longest_of file.shape.form
   pub filled : file.count ≤ file.room
 
 -- a head and the bytes of samples that a row of the shape is made of

@@ -1,9 +1,10 @@
 //! Groups of frames that are written as one file.
 
 ghost use Rattle.std.specs.Prelude.{◌≡◌, ◌≢◌, ◌≤◌, ℕ, List, length, All, OnOk, OnErr};
+ghost use Rattle.nd_base.specs.Forms.{longest_of};
 ghost use Rattle.edge_traits.specs.Files.{file_at, with_file};
 ghost use Rattle.cdf_write.specs.Layout.{layout};
-ghost use Rattle.cdf_write.specs.Lengths.{length_of, longest};
+ghost use Rattle.cdf_write.specs.Lengths.{length_of};
 ghost use Rattle.cdf_write.specs.Writable.{IsWritable};
 ghost use Rattle.file_out.specs.Streams.{IsRow};
 ghost use Rattle.file_out.specs.Saving.{IsBegun, IsSaveCause};
@@ -38,7 +39,7 @@ pub fn save_group<K: Shelf>(
     requires writable { IsWritable shape.now }
     requires some { 1 ≤ length rows.now }
     requires each { All (λ r. IsRow shape.now r.head r.samples) rows.now }
-    requires within { length_of shape.now (length rows.now) ≤ longest }
+    requires within { length_of shape.now (length rows.now) ≤ longest_of shape.now.form }
     ensures ok { OnOk result (K.held shelf.new ≡ with_file (K.held shelf.old) name.now (layout shape.now (arrays_of shape.now rows.now))) }
     ensures err { OnErr result (IsBegun (K.held shelf.old) name.now (layout shape.now (arrays_of shape.now rows.now)) (K.held shelf.new)) }
     ensures others { (q : List ℕ) → q ≢ name.now → file_at (K.held shelf.new) q ≡ file_at (K.held shelf.old) q }

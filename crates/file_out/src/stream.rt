@@ -3,11 +3,12 @@
 ghost use Rattle.std.specs.Prelude.{◌≡◌, ◌≢◌, ◌+◌, ◌<◌, ◌≤◌, ◌++◌, ◌∷◌, [], ℕ, List, length, string_bytes, IfOk, IfErr, OnOk, OnErr};
 ghost use Rattle.std.specs.Option.{ForSome};
 ghost use Rattle.nd_base.specs.Array.{Array};
+ghost use Rattle.nd_base.specs.Forms.{longest_of};
 ghost use Rattle.nd_base.specs.Shapes.{array_of};
 ghost use Rattle.edge_traits.specs.Faults.{Counts};
 ghost use Rattle.edge_traits.specs.Files.{file_at, with_file, with_more, HasFile, HasRange, Stands};
 ghost use Rattle.cdf_write.specs.Layout.{header, layout, row};
-ghost use Rattle.cdf_write.specs.Lengths.{length_of, longest};
+ghost use Rattle.cdf_write.specs.Lengths.{length_of};
 ghost use Rattle.cdf_write.specs.Writable.{IsWritable};
 ghost use Rattle.file_out.specs.Streams.{HasRows, IsRow, MayCount, count_place, with_count};
 ghost use Rattle.file_out.specs.Saving.{AddStops, BeginStops, IsSaveCause};
@@ -52,7 +53,7 @@ fn header_of(
 ) -> Result<Vec<u8>, OutOfMemory>
     requires writable { IsWritable shape.now }
     requires room { 1 ≤ room }
-    requires within { length_of shape.now room ≤ longest }
+    requires within { length_of shape.now room ≤ longest_of shape.now.form }
     requires numrecs { ForSome numrecs (λ n. n ≤ room) }
     ensures { IfOk result (λ v. v.items ≡ header shape.now numrecs) }
 {
@@ -86,7 +87,7 @@ fn without_rows(
     room: u64,
 ) -> Result<StreamFile, OutOfMemory>
     requires writable { IsWritable shape.now }
-    requires within { length_of shape.now room ≤ longest }
+    requires within { length_of shape.now room ≤ longest_of shape.now.form }
     ensures { IfOk result (λ f. f ≡ record { name = name.now; shape = shape.now; numrecs = numrecs; room = room; count = 0 }) }
 {
     Ok(StreamFile {
@@ -116,7 +117,7 @@ impl StreamFile {
     ) -> Result<StreamFile, SaveFault>
         requires writable { IsWritable shape.now }
         requires room { 1 ≤ room }
-        requires within { length_of shape.now room ≤ longest }
+        requires within { length_of shape.now room ≤ longest_of shape.now.form }
         requires numrecs { ForSome numrecs (λ n. n ≤ room) }
         ensures value { IfOk result (λ f. f ≡ record { name = name.now; shape = shape.now; numrecs = numrecs; room = room; count = 0 }) }
         ensures ok { OnOk result (K.held shelf.new ≡ with_file (K.held shelf.old) name.now (header shape.now numrecs)) }

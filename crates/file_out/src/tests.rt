@@ -5,12 +5,9 @@ ghost use Rattle.std.specs.Option.{ForSome};
 ghost use Rattle.file_out.specs.Examples.{two_by_two};
 ghost use Rattle.file_out.specs.Streams.{IsRow};
 
-mod part_shelf;
-
 use crate::{Row, SaveFault, StreamFile, save_group};
 use edge_traits::{MemShelf, Shelf};
 use nd_base::{Attrs, Bytes, Dim, FileShape, Form, Head, SampleType, Seq};
-use part_shelf::PartShelf;
 use std::alloc::{AllocError, Global};
 use std::test::Fail;
 
@@ -119,15 +116,15 @@ fn stream<K: Shelf>(alloc: Global, shelf: &mut K, numrecs: Option<u32>) -> Resul
     file.end(shelf)
 }
 
-/// A shelf with room enough, whose calls with these numbers fail.
-fn shelf(alloc: Global, fails: &[u64]) -> Result<MemShelf, AllocError> {
-    Ok(MemShelf::new(alloc, 1_000, 2, fails.to_vec(alloc)?)?)
+/// A shelf with room enough.
+fn shelf(alloc: Global) -> Result<MemShelf, AllocError> {
+    Ok(MemShelf::new(alloc, 1_000, 2, Vec::new(alloc))?)
 }
 
 #[test]
 fn a_group_of_two_has_588_bytes(rt: HostRuntime) -> Result<(), Fail> {
     let alloc = rt.alloc();
-    let mut shelf = shelf(alloc, &[])?;
+    let mut shelf = shelf(alloc)?;
     assert_eq!(rt; save(alloc, &mut shelf), Ok(()));
     assert_eq!(rt; shelf.calls(), 5);
     let written = shelf.bytes("a.nc").ok_or("no file")?;
@@ -139,95 +136,11 @@ fn a_group_of_two_has_588_bytes(rt: HostRuntime) -> Result<(), Fail> {
 fn a_stream_ends_as_the_group_does(rt: HostRuntime) -> Result<(), Fail> {
     let alloc = rt.alloc();
     for (numrecs, calls) in [(None, 6), (Some(2), 5)] {
-        let mut shelf = shelf(alloc, &[])?;
+        let mut shelf = shelf(alloc)?;
         assert_eq!(rt; stream(alloc, &mut shelf, numrecs), Ok(2));
         assert_eq!(rt; shelf.calls(), calls);
         let written = shelf.bytes("a.nc").ok_or("no file")?;
         assert_eq!(rt; written, two_frames(alloc, 2)?.as_slice());
-    }
-    Ok(())
-}
-
-#[test]
-fn a_failed_call_leaves_a_front_of_the_group(rt: HostRuntime) -> Result<(), Fail> {
-    let alloc = rt.alloc();
-    let whole = two_frames(alloc, 2)?;
-    let rows = [
-        (0, None),
-        (1, Some(0)),
-        (2, Some(540)),
-        (3, Some(564)),
-        (4, Some(588)),
-    ];
-    for (call, length) in rows {
-        let mut shelf = shelf(alloc, &[call])?;
-        assert_eq!(rt; save(alloc, &mut shelf), Err(SaveFault::Failed), "{call}");
-        assert_eq!(rt; shelf.faults(), 1);
-        assert_eq!(rt; shelf.calls(), call + 1);
-        let left = shelf.bytes("a.nc");
-        assert_eq!(rt; left.map(|bytes| bytes.len()), length, "{call}");
-        assert!(rt; left.is_none_or(|bytes| whole.starts_with(bytes)));
-    }
-    Ok(())
-}
-
-#[test]
-fn a_stream_has_no_count_until_the_patch(rt: HostRuntime) -> Result<(), Fail> {
-    let alloc = rt.alloc();
-    let open = two_frames(alloc, u32::MAX)?;
-    let rows = [
-        (0, None),
-        (1, Some(0)),
-        (2, Some(540)),
-        (3, Some(564)),
-        (4, Some(588)),
-    ];
-    for (call, length) in rows {
-        let mut shelf = shelf(alloc, &[call])?;
-        assert_eq!(rt;
-            stream(alloc, &mut shelf, None),
-            Err(SaveFault::Failed),
-            "{call}"
-        );
-        assert_eq!(rt; shelf.faults(), 1);
-        assert_eq!(rt; shelf.calls(), call + 1);
-        let left = shelf.bytes("a.nc");
-        assert_eq!(rt; left.map(|bytes| bytes.len()), length, "{call}");
-        assert!(rt; left.is_none_or(|bytes| open.starts_with(bytes)));
-    }
-    let mut last = shelf(alloc, &[5])?;
-    assert_eq!(rt; stream(alloc, &mut last, None), Err(SaveFault::Failed));
-    let left = last.bytes("a.nc").ok_or("no file")?;
-    assert_eq!(rt; left, two_frames(alloc, 2)?.as_slice());
-    Ok(())
-}
-
-#[test]
-fn a_failed_append_leaves_a_part_of_its_piece(rt: HostRuntime) -> Result<(), Fail> {
-    let alloc = rt.alloc();
-    let rows = [
-        (1, 0, 0),
-        (1, 100, 100),
-        (2, 10, 550),
-        (3, 23, 587),
-        (3, 24, 588),
-    ];
-    for (failing, added, length) in rows {
-        for numrecs in [None, Some(2)] {
-            let mut part = PartShelf {
-                shelf: shelf(alloc, &[])?,
-                failing,
-                added,
-                faults: 0,
-            };
-            let fault = stream(alloc, &mut part, numrecs);
-            assert_eq!(rt; fault, Err(SaveFault::Failed), "{failing}");
-            assert_eq!(rt; (part.faults, part.shelf.calls()), (1, failing + 1));
-            let whole = two_frames(alloc, numrecs.unwrap_or(u32::MAX))?;
-            let left = part.shelf.bytes("a.nc").ok_or("no file")?;
-            assert_eq!(rt; left.len(), length, "{failing}");
-            assert!(rt; whole.starts_with(left));
-        }
     }
     Ok(())
 }

@@ -18,9 +18,8 @@ use Rattle.nd_base.specs.declared.graph.NodeRule.{NodeRule}
 use Rattle.chain_plain.specs.Nodes.{is_region, regions, maker_within, maker_at}
 use Rattle.chain_plain.specs.PassingLaws.{rule_within, out_of-maker, IsMaker}
 use Rattle.chain_plain.specs.ContentLaws.{IsArrayShape, plans-sound, maker_at-makes}
-use Rattle.graph_conf.specs.Loads.{kept_by, kept_from, file_bytes, file_bytes_at, first_too_long}
+use Rattle.graph_conf.specs.Loads.{kept_by, kept_from, file_bytes, file_bytes_at, most_bytes, most_bytes_at, first_too_long}
 use Rattle.graph_conf.specs.declared.load.LimitFault.TheVariants.{FileTooLarge}
-use Rattle.cdf_write.specs.Lengths.{longest}
 use Rattle.chain_plain.specs.Plans.{region_shape, stack_shape, shape_at, maker_of, plan_of}
 
 found_map : {X Y : Type 0} (f : X → Y) (here : Bool) (x : X) (later : Option Y) (rest : Option X) → later ≡ option_map f rest → cond here (Some (f x)) later ≡ option_map f (cond here (Some x) rest)
@@ -139,13 +138,17 @@ bytes_at g s k node is =
     let shape = record s.shape { kind = (shape_at g.nodes s.shape (k + 1)).kind; dims = (shape_at g.nodes s.shape (k + 1)).dims } in
     ap (λ o. option_map_or (λ m. file_bytes m.kind shape (length s.arrays)) o 0) (rule_after g.nodes k ∙ is)
 
-pub too_long_next : (g : Graph) (s : StackValue) (k n bytes : ℕ) (b : Bool) → k < n → bytes ≡ file_bytes_at g s (k + 1) → nat_lt longest bytes ≡ b →
+pub most_at : (g : Graph) (k : ℕ) (node : NodeRule) → slice_get g.nodes k ≡ Some node → most_bytes_at g (k + 1) ≡ most_bytes node.kind
+most_at g k node is = ap (λ o. option_map_or (λ m. most_bytes m.kind) o 0) (rule_after g.nodes k ∙ is)
+
+pub too_long_next : (g : Graph) (s : StackValue) (k n bytes most : ℕ) (b : Bool) → k < n → bytes ≡ file_bytes_at g s (k + 1) → most ≡ most_bytes_at g (k + 1) → nat_lt most bytes ≡ b →
     first_too_long g s (k + 1) (n - k) ≡ cond b (Some (FileTooLarge (k + 1) bytes)) (first_too_long g s (k + 1 + 1) (n - (k + 1)))
-too_long_next g s k n bytes b within is long =
+too_long_next g s k n bytes most b within is limit long =
     let e : n - k ≡ suc (n - (k + 1)) = omega arith in
     let later = first_too_long g s (k + 1 + 1) (n - (k + 1)) in
     ap (first_too_long g s (k + 1)) e
-    ∙ ap (λ size. cond (nat_lt longest size) (Some (FileTooLarge (k + 1) size)) later) (sym is)
+    ∙ ap (λ size. cond (nat_lt (most_bytes_at g (k + 1)) size) (Some (FileTooLarge (k + 1) size)) later) (sym is)
+    ∙ ap (λ m. cond (nat_lt m bytes) (Some (FileTooLarge (k + 1) bytes)) later) (sym limit)
     ∙ ap (λ c. cond c (Some (FileTooLarge (k + 1) bytes)) later) long
 
 pub too_long_none : (g : Graph) (s : StackValue) (v n : ℕ) → first_too_long g s v (n - n) ≡ None

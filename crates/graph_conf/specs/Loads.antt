@@ -2,13 +2,14 @@
 use Rattle.std.specs.Prelude.{ℕ, zero, suc, ◌+◌, ◌*◌, nat_lt, min, List, [], ◌∷◌, length, Option, Some, None, Result, Ok, Err, if◌then◌else◌}
 use Rattle.std.specs.Option.{option_map_or}
 use Rattle.nd_base.specs.Array.{StackValue}
+use Rattle.nd_base.specs.Forms.{longest_of}
 use Rattle.nd_base.specs.GraphRules.{rule_at}
 use Rattle.nd_base.specs.declared.array.Dim.{Dim}
 use Rattle.nd_base.specs.declared.attribute.FileShape.{FileShape}
 use Rattle.nd_base.specs.declared.graph.Graph.{Graph}
 use Rattle.nd_base.specs.declared.graph.Kind.{Kind}
 use Rattle.nd_base.specs.declared.graph.Kind.TheVariants.{Roi, Stats, Circular, File, Scatter}
-use Rattle.cdf_write.specs.Lengths.{length_of, longest}
+use Rattle.cdf_write.specs.Lengths.{length_of}
 use Rattle.chain_plain.specs.Plans.{shape_at}
 use Rattle.graph_conf.specs.declared.load.LimitFault.{LimitFault}
 use Rattle.graph_conf.specs.declared.load.LimitFault.TheVariants.{Load, Kept, FileTooLarge}
@@ -44,7 +45,7 @@ kept g s = kept_from g s 1 (length g.nodes)
 
 -- the bytes of the longest file that a node writes of arrays of this shape; 0 at other kinds
 abbrev pub file_bytes : Kind → FileShape → (frames : ℕ) → ℕ
-file_bytes (File r) shape frames = length_of shape (min r.count frames)
+file_bytes (File r) shape frames = length_of (record shape { form = r.form }) (min r.count frames)
 file_bytes (Roi r) shape frames = 0
 file_bytes (Stats r) shape frames = 0
 file_bytes (Circular r) shape frames = 0
@@ -54,11 +55,22 @@ abbrev pub file_bytes_at : Graph → StackValue → ℕ → ℕ
 file_bytes_at g s v =
     option_map_or (λ n. file_bytes n.kind (record s.shape { kind = (shape_at g.nodes s.shape v).kind; dims = (shape_at g.nodes s.shape v).dims }) (length s.arrays)) (rule_at g.nodes v) 0
 
+-- the most bytes that a file of a node may have; 0 at other kinds, which write none
+abbrev pub most_bytes : Kind → ℕ
+most_bytes (File r) = longest_of r.form
+most_bytes (Roi r) = 0
+most_bytes (Stats r) = 0
+most_bytes (Circular r) = 0
+most_bytes Scatter = 0
+
+abbrev pub most_bytes_at : Graph → ℕ → ℕ
+most_bytes_at g v = option_map_or (λ n. most_bytes n.kind) (rule_at g.nodes v) 0
+
 -- of so many nodes from v on, the fault of the first that writes too long a file
 abbrev pub first_too_long : Graph → StackValue → (v n : ℕ) → Option LimitFault
 first_too_long g s v zero = None
 first_too_long g s v (suc n) =
-    if nat_lt longest (file_bytes_at g s v) then Some (FileTooLarge v (file_bytes_at g s v)) else first_too_long g s (v + 1) n
+    if nat_lt (most_bytes_at g v) (file_bytes_at g s v) then Some (FileTooLarge v (file_bytes_at g s v)) else first_too_long g s (v + 1) n
 
 -- the first limit that is passed
 abbrev pub limit_fault : Graph → StackValue → Option LimitFault

@@ -1,6 +1,7 @@
 -- The keys of a node's table: names, ranges and defaults.
 use Rattle.std.specs.Prelude.{ℕ, ℤ, pos, negsuc, int_lt, Bool, true, false, not, ◌&&◌, ◌||◌, ◌==◌, nat_lt, List, [], ◌∷◌, ◌++◌, codes, Option, Some, None, Result, Ok, Err, if◌then◌else◌}
-use Rattle.nd_base.specs.declared.form.Form.TheVariants.{Classic}
+use Rattle.nd_base.specs.declared.form.Form.{Form}
+use Rattle.nd_base.specs.declared.form.Form.TheVariants.{Classic, Wide}
 use Rattle.nd_base.specs.declared.array.SampleType.{SampleType}
 use Rattle.nd_base.specs.declared.array.SampleType.TheVariants.{Int8, UInt8, Int16, UInt16, Int32, UInt32}
 use Rattle.nd_base.specs.declared.graph.RoiRule.{RoiRule}
@@ -48,7 +49,7 @@ keys_of kind.Stats =
     shared_keys ++ codes "sort" ∷ codes "sort_time" ∷ codes "threshold" ∷ codes "border" ∷ codes "hist_size" ∷ codes "hist_lo"
     ∷ codes "hist_hi" ∷ codes "profiles" ∷ []
 keys_of kind.Circular = shared_keys ++ codes "pre" ∷ codes "post" ∷ codes "preset" ∷ codes "trigger" ∷ codes "a" ∷ codes "b" ∷ []
-keys_of kind.File = shared_keys ++ codes "mode" ∷ codes "count" ∷ []
+keys_of kind.File = shared_keys ++ codes "mode" ∷ codes "count" ∷ codes "cdf" ∷ []
 
 -- several threads, and sorting, are for region and statistics nodes, as the rules of graphs say of their kinds
 abbrev pub is_parallel : KindName → Bool
@@ -156,12 +157,19 @@ group_size Stream n = Ok n
 abbrev pub mode_key : Members → Result Mode GraphFault
 mode_key table = required (codes "mode") (word_in (codes "mode") modes) table
 
+-- CDF-1 or CDF-2
+abbrev pub form_key : Members → Result Form GraphFault
+form_key table = do
+  n ← count (codes "cdf") 1 2 1 table
+  Ok (if n == 2 then Wide else Classic)
+
 unfoldable pub file_rule : Members → Result FileRule GraphFault
 file_rule table = do
   mode ← mode_key table
   n ← count (codes "count") 1 65536 1 table
   count ← group_size mode n
-  Ok (record { mode = mode; count = count; form = Classic })
+  form ← form_key table
+  Ok (record { mode = mode; count = count; form = form })
 
 abbrev pub kind_rule : KindName → Members → Result Kind GraphFault
 kind_rule kind.Roi table = roi_rule table >>= λ r. Ok (Roi r)

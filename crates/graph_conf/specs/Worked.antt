@@ -1,6 +1,6 @@
 -- The rules on small texts.
 use Rattle.std.specs.Prelude.{◌≡◌, ℕ, List, [], ◌∷◌, ◌++◌, pos, true, false, Some, None, Result, Ok, Err, codes, refl}
-use Rattle.nd_base.specs.declared.form.Form.TheVariants.{Classic}
+use Rattle.nd_base.specs.declared.form.Form.TheVariants.{Classic, Wide}
 use Rattle.nd_base.specs.declared.array.SampleType.TheVariants.{UInt16}
 use Rattle.nd_base.specs.declared.graph.Mode.TheVariants.{Capture}
 use Rattle.trig_window.specs.declared.expression.CalcFault.TheVariants.{Unexpected}
@@ -29,6 +29,19 @@ stats_node lines = codes "[[node]]\nname = 'st'\nkind = 'stats'\ninput = 'driver
 one_file_node : of_text (file_node (codes "count = 5\n")) ≡ Ok (record { wait = false; limit = 0; nodes = record { name = codes "cap"; kind = File (record { mode = Capture; count = 5; form = Classic }); input = 0; queue = 20; threads = 1; sort = 0; sort_time = 100 } ∷ [] })
 unfolding toml_on_literals graph_of run_table node_key linked node_of roi_rule stats_rule circular_rule file_rule
 one_file_node = refl
+
+wide_file_node : of_text (file_node (codes "cdf = 2\n")) ≡ Ok (record { wait = false; limit = 0; nodes = record { name = codes "cap"; kind = File (record { mode = Capture; count = 1; form = Wide }); input = 0; queue = 20; threads = 1; sort = 0; sort_time = 100 } ∷ [] })
+unfolding toml_on_literals graph_of run_table node_key linked node_of roi_rule stats_rule circular_rule file_rule
+wide_file_node = refl
+
+file_node_of_no_form : of_text (file_node (codes "cdf = 3\n")) ≡ Err (Range (codes "cdf") (pos 3))
+unfolding toml_on_literals graph_of run_table node_key linked node_of roi_rule stats_rule circular_rule file_rule
+file_node_of_no_form = refl
+
+-- the count comes before the form
+file_node_of_no_count_and_no_form : of_text (file_node (codes "cdf = 'x'\ncount = 0\n")) ≡ Err (Range (codes "count") (pos 0))
+unfolding toml_on_literals graph_of run_table node_key linked node_of roi_rule stats_rule circular_rule file_rule
+file_node_of_no_count_and_no_form = refl
 
 empty_text : of_text ([]) ≡ Ok (record { wait = false; limit = 0; nodes = [] })
 unfolding toml_on_literals graph_of run_table node_key linked node_of roi_rule stats_rule circular_rule file_rule

@@ -3,11 +3,11 @@ ghost use Rattle.std.specs.Prelude.{◌≡◌, ◌≤◌, ◌<◌, ◌^◌, ◌*
 ghost use Rattle.nd_base.specs.GraphRules.{IsGraph};
 ghost use Rattle.cdf_write.specs.Writable.{IsWritable};
 ghost use Rattle.chain_plain.specs.Plans.{plan_of, shape_at};
-ghost use Rattle.graph_conf.specs.Loads.{profile_lengths, kept_by, kept, file_bytes, first_too_long, limit_fault, answer};
+ghost use Rattle.graph_conf.specs.Loads.{profile_lengths, kept_by, kept, file_bytes, most_bytes, first_too_long, limit_fault, answer};
 
 use cdf_write::length_with;
 use chain_plain::maker_for;
-use nd_base::{Dim, FileShape, Graph, Kind, LONGEST_CLASSIC, Maker, Plan, Stack};
+use nd_base::{Dim, FileShape, Graph, Kind, Maker, Plan, Stack};
 use thiserror::Error;
 
 /// The most frames times nodes.
@@ -15,9 +15,6 @@ const MOST_ARRIVALS: u64 = 1_048_576;
 
 /// The most numbers that statistics nodes keep.
 const MOST_KEPT: u64 = 67_108_864;
-
-/// The longest file that is written, in bytes.
-const LONGEST: u128 = LONGEST_CLASSIC as u128;
 
 /// A limit that is passed, and the number that passes it. `node` is the number of a node from 1.
 #[derive(Clone, Copy, Debug, PartialEq, Eq, Error)]
@@ -34,7 +31,7 @@ pub enum LimitFault {
     /// More than 67,108,864 numbers that statistics nodes keep.
     #[error("{numbers} numbers are kept")]
     Kept { numbers: u64 },
-    /// A file of more than 2,147,483,647 bytes.
+    /// A file of more than 2,147,483,647 bytes in form `Classic` or 8,589,934,592 in form `Wide`.
     #[error("a file of node {node} has {bytes} bytes")]
     FileTooLarge { node: u32, bytes: u128 },
 }
@@ -98,8 +95,18 @@ fn file_bytes(kind: &Kind, shape: &FileShape, frames: u32, made: &Maker) -> u128
     match kind {
         Kind::File(rule) => {
             let count = u64::from(rule.count.min(frames));
-            length_with(shape, made.kind, made.dims.as_slice(), count)
+            length_with(shape, rule.form, made.kind, made.dims.as_slice(), count)
         }
+        Kind::Roi(_) | Kind::Stats(_) | Kind::Circular(_) | Kind::Scatter => 0,
+    }
+}
+
+// The most bytes that a file of a node may have; 0 at other kinds, which write none.
+fn most_bytes(kind: &Kind) -> u64
+    ensures { result ≡ most_bytes kind.now }
+{
+    match kind {
+        Kind::File(rule) => rule.form.longest(),
         Kind::Roi(_) | Kind::Stats(_) | Kind::Circular(_) | Kind::Scatter => 0,
     }
 }
@@ -116,8 +123,10 @@ fn first_too_long(graph: &Graph, stack: &Stack, plan: &Plan) -> Option<LimitFaul
     for place in 0..nodes.len() {
         let node = place as u32 + 1;
         let made = made_at(graph, stack, plan, node);
-        let bytes = file_bytes(&nodes[place].kind, shape, frames, made);
-        if bytes > LONGEST {
+        let kind = &nodes[place].kind;
+        let bytes = file_bytes(kind, shape, frames, made);
+        let most = u128::from(most_bytes(kind));
+        if bytes > most {
             return Some(LimitFault::FileTooLarge { node, bytes });
         }
     }
@@ -130,7 +139,7 @@ fn first_too_long(graph: &Graph, stack: &Stack, plan: &Plan) -> Option<LimitFaul
 ///
 /// The first limit that is passed: `Load` for more than 1,048,576 frames times nodes, `Kept` for more than
 /// 67,108,864 numbers that statistics nodes keep (the bins and the profiles of each frame), `FileTooLarge` for
-/// the first file node whose longest file would have more than 2,147,483,647 bytes.
+/// the first file node whose longest file would have more bytes than its form may have.
 pub fn check_load(graph: &Graph, stack: &Stack, plan: &Plan) -> Result<(), LimitFault>
     requires graph { IsGraph graph.now }
     requires plan { plan.now ≡ plan_of graph.now stack.now }

@@ -5,7 +5,7 @@ ghost use Rattle.nd_base.specs.GraphRules.{IsRoi, IsStats, IsCircular, IsFile, I
 ghost use Rattle.nd_base.specs.GraphRules as graph_rules;
 ghost use Rattle.graph_conf.specs.Answers.{Gives};
 ghost use Rattle.graph_conf.specs.Keys.{word_in};
-ghost use Rattle.graph_conf.specs.Nodes.{is_parallel, sample_types, type_key, sample_bound, attribute_key, mode_key, roi_rule, stats_rule, circular_rule, file_rule, kind_rule};
+ghost use Rattle.graph_conf.specs.Nodes.{is_parallel, sample_types, type_key, sample_bound, attribute_key, mode_key, form_key, roi_rule, stats_rule, circular_rule, file_rule, kind_rule};
 
 use crate::GraphFault;
 use crate::keys::{
@@ -145,6 +145,16 @@ fn mode_key(alloc: Global, table: &Table) -> Result<Mode, GraphFault>
     }
 }
 
+// The form of its files.
+fn form_key(alloc: Global, table: &Table) -> Result<Form, GraphFault>
+    ensures { Gives (λ form. form) result (form_key (table_view table.now)) }
+{
+    match count(alloc, table, "cdf", 1, 2, 1)? {
+        2 => Ok(Form::Wide),
+        _ => Ok(Form::Classic),
+    }
+}
+
 #[tactic(auto, unfolding(crate::specs::Nodes::file_rule))]
 fn file_rule(alloc: Global, table: &Table) -> Result<FileRule, GraphFault>
     ensures gives { Gives (λ r. r) result (file_rule (table_view table.now)) }
@@ -155,11 +165,8 @@ fn file_rule(alloc: Global, table: &Table) -> Result<FileRule, GraphFault>
     if matches!(mode, Mode::Single) && count != 1 {
         return Err(out_of_range(alloc, "count", i64::from(count))?);
     }
-    Ok(FileRule {
-        mode,
-        count,
-        form: Form::Classic,
-    })
+    let form = form_key(alloc, table)?;
+    Ok(FileRule { mode, count, form })
 }
 
 /// What a node of this kind does.

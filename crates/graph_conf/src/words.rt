@@ -100,7 +100,9 @@ pub(crate) fn keys_of(kind: KindName) -> &'static [&'static str]
             "name", "kind", "input", "queue", "threads", "pre", "post", "preset", "trigger", "a",
             "b",
         ],
-        KindName::File => &["name", "kind", "input", "queue", "threads", "mode", "count"],
+        KindName::File => &[
+            "name", "kind", "input", "queue", "threads", "mode", "count", "cdf",
+        ],
     }
 }
 

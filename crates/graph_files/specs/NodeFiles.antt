@@ -2,12 +2,13 @@
 use Rattle.std.specs.Prelude.{◌≡◌, ◌≢◌, ℕ, ◌+◌, ◌*◌, ◌/◌, ◌%◌, ◌<◌, ◌≤◌, ◌==◌, Bool, true, false, List, ◌∷◌, ◌++◌, [], length, min, Option, Some, None, codes, if◌then◌else◌}
 use Rattle.std.specs.Option.{ForSome}
 use Rattle.nd_base.specs.Array.{Array, StackValue}
+use Rattle.nd_base.specs.Forms.{longest_of}
 use Rattle.nd_base.specs.declared.attribute.FileShape.{FileShape}
 use Rattle.nd_base.specs.declared.graph.Graph.{Graph}
 use Rattle.nd_base.specs.declared.graph.FileRule.{FileRule}
 use Rattle.edge_traits.specs.Files.{Files, HasFile, file_at, overwritten, with_file}
 use Rattle.cdf_write.specs.Layout.{layout}
-use Rattle.cdf_write.specs.Lengths.{length_of, longest}
+use Rattle.cdf_write.specs.Lengths.{length_of}
 use Rattle.cdf_write.specs.Writable.{IsWritable}
 use Rattle.file_out.specs.declared.fault.SaveFault.{SaveFault}
 use Rattle.file_out.specs.declared.fault.SaveFault.TheVariants.{Failed, OutOfMemory}
@@ -50,7 +51,7 @@ pub record IsNodeFile (x : NodeFile) : Type 0 where
   pub writable : IsWritable x.shape
   pub some : 1 ≤ x.count
   pub few : x.room ≤ x.count
-  pub within : length_of x.shape x.room ≤ longest
+  pub within : length_of x.shape x.room ≤ longest_of x.shape.form
 
 abbrev pub name_of : NodeFile → ℕ → List ℕ
 name_of x i = x.stem ++ group_number i ++ codes ".nc"

@@ -5,11 +5,14 @@ use Rattle.std.specs.List.{flat_map, range_with_len}
 use Rattle.std.specs.Option.{option_map_or}
 use Rattle.nd_base.specs.Array.{Array, StackValue}
 use Rattle.nd_base.specs.declared.attribute.FileShape.{FileShape}
+use Rattle.nd_base.specs.declared.form.Form.{Form}
+use Rattle.nd_base.specs.declared.form.Form.TheVariants.{Classic}
 use Rattle.nd_base.specs.declared.graph.Graph.{Graph}
 use Rattle.nd_base.specs.declared.graph.Kind.{Kind}
 use Rattle.nd_base.specs.declared.graph.Kind.TheVariants.{Roi, Stats, Circular, File, Scatter}
 use Rattle.nd_base.specs.declared.graph.Mode.{Mode}
 use Rattle.nd_base.specs.declared.graph.Mode.TheVariants.{Stream}
+use Rattle.nd_base.specs.declared.graph.NodeRule.{NodeRule}
 use Rattle.nd_base.specs.GraphRules.{rule_at}
 use Rattle.edge_traits.specs.Files.{Files, with_file}
 use Rattle.cdf_write.specs.Layout.{layout}
@@ -38,9 +41,20 @@ abbrev pub is_stream : Mode → Bool
 is_stream Stream = true
 is_stream _ = false
 
+-- the form of the files of a node of this kind; only file nodes choose one
+abbrev pub kind_form : Kind → Form
+kind_form (File r) = r.form
+kind_form (Roi r) = Classic
+kind_form (Stats r) = Classic
+kind_form (Circular r) = Classic
+kind_form Scatter = Classic
+
+abbrev pub form_at : List NodeRule → ℕ → Form
+form_at nodes v = option_map_or (λ n. kind_form n.kind) (rule_at nodes v) Classic
+
 -- the shape of the arrays that go out of a node, as their file has it
 abbrev pub file_shape : Graph → StackValue → ℕ → FileShape
-file_shape g s v = record s.shape { kind = (shape_at g.nodes s.shape v).kind; dims = (shape_at g.nodes s.shape v).dims }
+file_shape g s v = record s.shape { form = form_at g.nodes v; kind = (shape_at g.nodes s.shape v).kind; dims = (shape_at g.nodes s.shape v).dims }
 
 -- the files of these groups of a node, numbered from g on
 abbrev pub group_files : Mode → FileShape → (prefix node : List ℕ) → ℕ → List (List Array) → List OutFile

@@ -3,24 +3,25 @@
 ghost use Rattle.std.specs.Prelude.{◌≡◌, ◌≢◌, ◌+◌, ◌<◌, ◌≤◌, ◌^◌, ◌/◌, ◌++◌, ◌∷◌, [], ℕ, List, None, Some, nat_lt, min, codes, length, string_bytes, IfOk, IfErr, OnOk, OnErr};
 ghost use Rattle.std.specs.Option.{ForSome};
 ghost use Rattle.nd_base.specs.Array.{Array};
+ghost use Rattle.nd_base.specs.Forms.{longest_of};
 ghost use Rattle.nd_base.specs.Shapes.{array_of};
 ghost use Rattle.nd_base.specs.GraphRules.{IsGraph, IsFile};
 ghost use Rattle.edge_traits.specs.Files.{file_at, with_file};
 ghost use Rattle.cdf_write.specs.Layout.{header};
-ghost use Rattle.cdf_write.specs.Lengths.{length_of, longest};
+ghost use Rattle.cdf_write.specs.Lengths.{length_of};
 ghost use Rattle.nd_stack.specs.KeptStacks.{IsKeptStack};
 ghost use Rattle.chain_plain.specs.Plans.{plan_of};
 ghost use Rattle.file_out.specs.Streams.{IsRow, HasRows};
 ghost use Rattle.file_out.specs.Saving.{BeginStops, IsSaveCause};
 ghost use Rattle.file_out.specs.declared.fault.SaveFault.TheVariants as faults;
-ghost use Rattle.graph_files.specs.OutFiles.{file_shape, group_number, is_stream};
+ghost use Rattle.graph_files.specs.OutFiles.{form_at, file_shape, group_number, is_stream};
 ghost use Rattle.graph_files.specs.Groups.{group_of};
 ghost use Rattle.graph_files.specs.NodeFiles.{node_file, name_of, first_count, stream_of, IsPlaceAfter, AreWritten, AreEnded, IsFilled, IsSized, HasNumrecs, IsChangedAt, WriteStops, EndStops, RowGoes, RowStops};
 
 use chain_plain::maker_for;
 use edge_traits::Shelf;
 use file_out::{SaveFault, StreamFile};
-use nd_base::{FileRule, FileShape, Head, Mode, Name, OutOfMemory, Plan, Stack};
+use nd_base::{FileRule, FileShape, Form, Head, Mode, Name, OutOfMemory, Plan, Stack};
 use nd_stack::shape_for;
 use std::alloc::{AllocError, Global};
 use std::marker::Model;
@@ -65,14 +66,23 @@ fn first_count(late: bool, of: Option<u32>) -> Option<u32>
     if late { None } else { of }
 }
 
-/// The shape of the arrays that go out of a node, as their files have it.
-fn shape_of(alloc: Global, plan: &Plan, stack: &Stack, node: u32) -> Result<FileShape, OutOfMemory>
+/// The shape of the arrays that go out of a node, as its files have it, which are of this form.
+fn shape_of(
+    alloc: Global,
+    plan: &Plan,
+    stack: &Stack,
+    node: u32,
+    form: Form,
+) -> Result<FileShape, OutOfMemory>
     requires graph { IsGraph plan.now.graph }
     requires plan { plan.now ≡ plan_of plan.now.graph stack.now }
+    requires form { form ≡ form_at plan.now.graph.nodes node }
     ensures { IfOk result (λ shape. shape ≡ file_shape plan.now.graph stack.now node) }
 {
     let maker = maker_for(plan, stack, node);
-    shape_for(alloc, stack, maker.kind, maker.dims.as_slice())
+    let mut shape = shape_for(alloc, stack, maker.kind, maker.dims.as_slice())?;
+    shape.form = form;
+    Ok(shape)
 }
 
 /// The name of a group's file: what its node's names begin with, and its number, which has at least three digits.
@@ -101,11 +111,12 @@ impl NodeFiles {
         requires plan { plan.now ≡ plan_of plan.now.graph stack.now }
         requires kept { IsKeptStack stack.now }
         requires rule { IsFile rule.now }
-        requires within { length_of (file_shape plan.now.graph stack.now node) (min rule.now.count (length stack.now.arrays)) ≤ longest }
+        requires form { rule.now.form ≡ form_at plan.now.graph.nodes node }
+        requires within { length_of (file_shape plan.now.graph stack.now node) (min rule.now.count (length stack.now.arrays)) ≤ longest_of (form_at plan.now.graph.nodes node) }
         ensures { IfOk result (λ x. x ≡ node_file plan.now.graph stack.now prefix.now node rule.now name.now) }
     {
         let stem = format!(in alloc; "{prefix}{name}_")?;
-        let shape = shape_of(alloc, plan, stack, node)?;
+        let shape = shape_of(alloc, plan, stack, node, rule.form)?;
         Ok(NodeFiles {
             node,
             stem: Name::new(stem),

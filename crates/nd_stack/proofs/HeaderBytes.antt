@@ -55,7 +55,7 @@ list_passes tag Is P each xs before after h bytes =
 pub Reads-values : (bytes : List ℕ) (h : Header) → Reads bytes h → AreBytes bytes → All (λ a. AreBytes a.values) h.gatts
 Reads-values bytes h reads are =
     let head = reads.header in
-    let at_numrecs = back magic head.at_numrecs bytes head.magic_text are in
+    let at_numrecs = back (magic reads.form) head.at_numrecs bytes head.magic_text are in
     let at_dims = word reads.numrecs head.at_numrecs head.at_dims head.numrecs_word.word at_numrecs in
     let at_gatts = (list_passes 10 IsDim (λ d. Unit {0}) dim h.dims head.at_dims head.at_gatts head.dims at_dims).1 in
     (list_passes 12 (λ earlier. IsAttr) (λ (a : HeadAttr). AreBytes a.values) attr h.gatts head.at_gatts head.at_vars head.gatts at_gatts).0

@@ -51,7 +51,7 @@ attr_vars-IsUtf8 h all =
 
 pub shape_of-HasTextNames : (bytes : List ℕ) (h : Header) (v : HeadVar) (kind : SampleType) → Reads bytes h → HasTextNames (shape_of h v kind)
 shape_of-HasTextNames bytes h v kind reads =
-    let vars = AreMany-All (λ (earlier : List HeadVar). IsVar h.dims) (λ x. IsUtf8 x.name) (λ earlier x before after is. is.name.utf8) [] h.vars reads.header.vars.0 reads.after reads.header.vars.2 in
+    let vars = AreMany-All (λ (earlier : List HeadVar). IsVar reads.form h.dims) (λ x. IsUtf8 x.name) (λ earlier x before after is. is.name.utf8) [] h.vars reads.header.vars.0 reads.after reads.header.vars.2 in
     let gatts = AreMany-All (λ (earlier : List HeadAttr). IsAttr) (λ x. IsUtf8 x.name) (λ earlier x before after is. is.name.utf8) [] h.gatts reads.header.gatts.0 reads.header.at_vars reads.header.gatts.2 in
     let named = λ (a : HeadAttr). is_attr_name a.name in
     record {

@@ -1,16 +1,15 @@
 -- Numbers and texts of bytes are within their types.
-use Rattle.std.proofs.Common.{◌≡◌, ◌≢◌, ◌<◌, ◌^◌, ◌/◌, ℕ, zero, suc, Bool, true, false, List, [], ◌∷◌, length, take, drop, get_or, refl, sym, subst, arith, cond}
+use Rattle.std.proofs.Common.{◌≡◌, ◌≢◌, ℕ, Bool, true, false, List, [], ◌∷◌, refl, sym, subst, arith, cond}
 use Rattle.std.specs.Prelude.{ℤ, All, FitsSigned, not, ◌==◌, if◌then◌else◌}
-use Rattle.std.specs.Int.{w8, w16, w32, w64, cast_signed, from_be_bytes}
+use Rattle.std.specs.Int.{w8, w16, w32, w64, from_be_bytes}
 use Rattle.std.specs.List.{take_while}
 use Rattle.std.proofs.lemmas.Bool.{eqb-false}
 use Rattle.std.proofs.lemmas.Int.{ints}
-use Rattle.std.proofs.lemmas.List.Elements.{All-nil, All-cons, All-take, All-drop}
+use Rattle.std.proofs.lemmas.List.Elements.{All-nil, All-cons}
 use Rattle.std.proofs.lemmas.List.Sums.{take_while-cons}
-use Rattle.nd_base.specs.declared.array.SampleType.{SampleType}
-use Rattle.nd_base.specs.declared.array.SampleType.TheVariants.{Int8, UInt8, Int16, UInt16, Int32, UInt32}
+use Rattle.nd_base.specs.declared.array.SampleType.TheVariants.{Int8, Int16, Int32}
 use Rattle.nd_base.specs.declared.attribute.AttrValue.TheVariants.{Whole, Text, Bits64, Bits32}
-use Rattle.nd_base.specs.Samples.{width, number, numbers, samples_of}
+use Rattle.nd_base.specs.Samples.{number}
 use Rattle.nd_base.specs.SampleLaws.{AreBytes, number-IsSample, below_32, below_64}
 use Rattle.nd_stack.specs.AttrVars.{attr_value}
 use Rattle.nd_stack.specs.LayoutHeads.{IsKeptValue}

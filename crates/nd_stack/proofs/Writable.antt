@@ -8,6 +8,7 @@ use Rattle.std.proofs.lemmas.List.{length-map, length-drop}
 use Rattle.std.proofs.lemmas.List.Elements.{All-map, All-filter, filter_passes}
 use Rattle.std.proofs.lemmas.List.Filters.{length-filter_both}
 use Rattle.nd_base.specs.declared.array.Dim.{Dim}
+use Rattle.nd_base.specs.declared.form.Form.{Form}
 use Rattle.nd_base.specs.declared.array.SampleType.{SampleType}
 use Rattle.nd_base.specs.declared.attribute.AttrColumn.{AttrColumn}
 use Rattle.nd_base.specs.declared.attribute.Extra.{Extra}
@@ -107,7 +108,7 @@ accepted-IsWritable : (bytes : List ℕ) (h : Header) (v : HeadVar) (kind : Samp
 accepted-IsWritable bytes h v kind reads accepted =
     let sound = Reads-IsSound bytes h reads in
     let this : IsSoundVar (length bytes) h v = All-find (IsSoundVar (length bytes) h) _ h.vars v sound.vars accepted.found in
-    let named = AreMany-All (λ (earlier : List HeadVar). IsVar h.dims) (λ x. length x.name ≤ 1024) (λ earlier x before after is. is.name.most) [] h.vars reads.header.vars.0 reads.after reads.header.vars.2 in
+    let named = AreMany-All (λ (earlier : List HeadVar). IsVar reads.form h.dims) (λ x. length x.name ≤ 1024) (λ earlier x before after is. is.name.most) [] h.vars reads.header.vars.0 reads.after reads.header.vars.2 in
     let whole = AreMany-All (λ (earlier : List HeadAttr). IsAttr) IsWhole (λ earlier x before after is. attr-IsWhole x before after is) [] h.gatts reads.header.gatts.0 reads.header.at_vars reads.header.gatts.2 in
     let few = reads.header.gatts.1.number.positive in
     let least = leb-true 2 (length v.dims) accepted.least in
@@ -141,7 +142,8 @@ stack_of-IsWritable bytes s e =
     let same : shape_of a.0 b.0.0 b.0.1 ≡ s.shape = ap (shape_or s.shape) b.2 in
     subst IsWritable same (accepted-IsWritable bytes a.0 b.0.0 b.0.1 reads (frames_of-IsAccepted a.0 b.0.0 b.0.1 b.1))
 
--- and so has each shape that is made of it for a kind and dimensions of an array
-pub shape_for-IsWritable : (shape : FileShape) (kind : SampleType) (dims : List Dim) → IsWritable shape → has_dimensions dims ≡ true → sample_count dims ≤ most_samples → IsWritable (record shape { kind = kind; dims = dims })
-shape_for-IsWritable shape kind dims h dimensions samples =
+-- and so has each shape that is made of it for a form, and for a kind and dimensions of an array
+pub shape_for-IsWritable : (shape : FileShape) (form : Form) (kind : SampleType) (dims : List Dim) → IsWritable shape → has_dimensions dims ≡ true →
+    sample_count dims ≤ most_samples → IsWritable (record shape { form = form; kind = kind; dims = dims })
+shape_for-IsWritable shape form kind dims h dimensions samples =
     record { dimensions = dimensions; samples = samples; width = h.width; attrs = h.attrs; names = h.names; extras = h.extras; each_extra = h.each_extra }

@@ -4,16 +4,31 @@ use Rattle.std.specs.Str.{IsUtf8}
 use Rattle.std.specs.List.{concat}
 use Rattle.std.proofs.Common.{sym, subst, ◌∙◌, append_assoc, append-nil, arith}
 use Rattle.std.proofs.lemmas.List.{length-replicate}
-use Rattle.std.proofs.lemmas.Nat.{from_be_bytes-to_be_bytes_4}
+use Rattle.std.proofs.lemmas.Nat.{from_be_bytes-to_be_bytes_4, from_be_bytes-to_be_bytes_8}
+use Rattle.nd_base.specs.declared.form.Form.{Form}
+use Rattle.nd_base.specs.declared.form.Form.TheVariants.{Classic, Wide}
 use Rattle.cdf_read.specs.Fields.{IsWord, padding}
-use Rattle.cdf_read.specs.Grammar.{greatest, IsNumber, IsKind, IsPadded, IsName, AreMany, IsListHead, IsList}
-use Rattle.cdf_write.specs.Spelling.{word, gap, padded, name_field, element_list}
+use Rattle.cdf_read.specs.Grammar.{greatest, greatest_wide, IsNumber, IsBegin, IsKind, IsPadded, IsName, AreMany, IsListHead, IsList}
+use Rattle.cdf_write.specs.Spelling.{word, double_word, gap, padded, name_field, element_list}
+use Rattle.cdf_write.specs.Layout.{offset}
 
 pub word-IsWord : (n : ℕ) (after : List ℕ) → n < 2 ^ 32 → IsWord n (word n ++ after) after
 word-IsWord n after h = record { text = word n; whole = refl; size = refl; spells = sym (from_be_bytes-to_be_bytes_4 n h) }
 
 pub word-IsNumber : (n : ℕ) (after : List ℕ) → n ≤ greatest → IsNumber n (word n ++ after) after
 word-IsNumber n after h = record { word = word-IsWord n after (omega (arith, h)); positive = h }
+
+-- the greatest begin in a file of this form
+abbrev pub greatest_begin : Form → ℕ
+greatest_begin Classic = greatest
+greatest_begin Wide = greatest_wide
+
+pub offset-IsBegin : (form : Form) (n : ℕ) (after : List ℕ) → n ≤ greatest_begin form → IsBegin form n (offset form n ++ after) after
+offset-IsBegin Classic n after h = word-IsNumber n after h
+offset-IsBegin Wide n after h = record {
+  word = record { text = double_word n; whole = refl; size = refl; spells = sym (from_be_bytes-to_be_bytes_8 n (omega (arith, h))) };
+  positive = h;
+}
 
 pub word-IsKind : (kind : ℕ) (after : List ℕ) → 1 ≤ kind → kind ≤ 6 → IsKind kind (word kind ++ after) after
 word-IsKind kind after least most = record { word = word-IsWord kind after (omega (arith, most)); least = least; most = most }

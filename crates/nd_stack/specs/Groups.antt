@@ -3,7 +3,8 @@ use Rattle.std.specs.Prelude.{◌≤◌, List, length, All}
 use Rattle.std.specs.Str.{IsUtf8}
 use Rattle.nd_base.specs.declared.attribute.FileShape.{FileShape}
 use Rattle.nd_base.specs.Array.{Array}
-use Rattle.cdf_write.specs.Lengths.{length_of, longest}
+use Rattle.nd_base.specs.Forms.{longest_of}
+use Rattle.cdf_write.specs.Lengths.{length_of}
 use Rattle.cdf_write.specs.Writable.{IsWritable, HasShape}
 
 -- the names of attributes and extras are texts
@@ -17,4 +18,4 @@ pub record IsGroup (shape : FileShape) (arrays : List Array) : Type 0 where
   pub names : HasTextNames shape
   pub some : 1 ≤ length arrays
   pub each : All (HasShape shape) arrays
-  pub within : length_of shape (length arrays) ≤ longest
+  pub within : length_of shape (length arrays) ≤ longest_of shape.form

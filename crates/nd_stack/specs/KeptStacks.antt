@@ -1,7 +1,8 @@
 -- What every stack that was read keeps to: it can be written, and its file is read back as the same arrays.
 use Rattle.std.specs.Prelude.{◌≤◌, length, All}
 use Rattle.nd_base.specs.Array.{StackValue}
-use Rattle.cdf_write.specs.Lengths.{length_of, longest}
+use Rattle.nd_base.specs.Forms.{longest_of}
+use Rattle.cdf_write.specs.Lengths.{length_of}
 use Rattle.cdf_write.specs.Writable.{IsWritable, HasShape}
 use Rattle.nd_stack.specs.Groups.{HasTextNames}
 use Rattle.nd_stack.specs.LayoutShape.{HasSmallDims}
@@ -17,7 +18,8 @@ pub record IsKeptStack (s : StackValue) : Type 0 where
   pub few : length s.arrays ≤ 65536
 
 -- the file of its arrays is read back, where there is one and the file isn't too long
-pub IsKeptStack-ReadsBack : (s : StackValue) → IsKeptStack s → 1 ≤ length s.arrays → length_of s.shape (length s.arrays) ≤ longest → ReadsBack s.shape s.arrays
+pub IsKeptStack-ReadsBack : (s : StackValue) → IsKeptStack s → 1 ≤ length s.arrays → length_of s.shape (length s.arrays) ≤ longest_of s.shape.form →
+    ReadsBack s.shape s.arrays
 IsKeptStack-ReadsBack s h some within =
     layout_reads_back s.shape s.arrays (record {
       group = record { writable = h.writable; names = h.names; some = some; each = h.each; within = within };

@@ -1,15 +1,16 @@
 -- A file whose number of records was left open is read as a stack of the arrays whose rows it has whole.
-use Rattle.std.specs.Prelude.{◌≡◌, ◌⊎◌, ℕ, zero, suc, ◌+◌, ◌-◌, ◌*◌, ◌/◌, ◌<◌, ◌≤◌, min, List, [], ◌∷◌, ◌++◌, length, take, drop, fold, Some, None, Ok, codes, All, refl}
+use Rattle.std.specs.Prelude.{◌≡◌, ℕ, zero, suc, ◌+◌, ◌-◌, ◌*◌, ◌/◌, ◌<◌, ◌≤◌, min, List, [], ◌∷◌, ◌++◌, length, take, drop, fold, Some, None, Ok, codes, All, nat_lt, if◌then◌else◌, refl}
 use Rattle.std.specs.List.{flat_map}
 use Rattle.std.proofs.Common.{ap, sym, subst, ◌∙◌, append_assoc, append-nil, arith, get_or, inl, inr, length-append}
 use Rattle.std.proofs.Math.Nat.{mul-le-mul_right}
-use Rattle.std.proofs.lemmas.Bool.{cases_lt}
+use Rattle.std.proofs.lemmas.Bool.{cases_lt, lt-ltb, le-ltb}
 use Rattle.std.proofs.lemmas.List.{drop_at, drop-append-le, drop-drop, length-take, take_all, take_at}
 use Rattle.std.proofs.lemmas.List.Concat.{flat_map-append}
 use Rattle.std.proofs.lemmas.List.Elements.{All-nil, All-cons, All-head, All-tail, All-take, All-drop}
 use Rattle.std.proofs.lemmas.Nat.{div-mul-add}
 use Rattle.nd_base.specs.declared.attribute.FileShape.{FileShape}
 use Rattle.nd_base.specs.Array.{Array, StackValue}
+use Rattle.nd_base.specs.Forms.{longest_of}
 use Rattle.cdf_read.specs.declared.head.HeadVar.{HeadVar}
 use Rattle.cdf_read.specs.Places.{streaming, first_record, record_vars, record_size, record_count, values_end}
 use Rattle.cdf_read.specs.Grammar.{IsNumrecs, Reads}
@@ -17,7 +18,7 @@ use Rattle.cdf_read.specs.HeaderLaws.{header_of-again}
 use Rattle.cdf_write.specs.Spelling.{word, padded_length}
 use Rattle.cdf_write.specs.Columns.{Column, columns, scalar}
 use Rattle.cdf_write.specs.Layout.{header_length, header, row}
-use Rattle.cdf_write.specs.Lengths.{columns_length, row_length, length_of, longest}
+use Rattle.cdf_write.specs.Lengths.{columns_length, row_length, length_of}
 use Rattle.cdf_write.specs.LengthLaws.{row_length_is, length-header, length-row, length-layout}
 use Rattle.cdf_write.specs.Writable.{IsWritable, HasShape}
 use Rattle.nd_stack.specs.FieldSpelling.{word-IsWord}
@@ -40,7 +41,7 @@ pub record IsOpenGroup (shape : FileShape) (room : ℕ) (arrays : List Array) : 
   pub names : HasTextNames shape
   pub dims : HasSmallDims shape
   pub some : 1 ≤ room
-  pub within : length_of shape room ≤ longest
+  pub within : length_of shape room ≤ longest_of shape.form
   pub each : All (HasShape shape) arrays
   pub kept : All IsKept arrays
   pub few : length arrays ≤ 65536
@@ -101,6 +102,7 @@ open_reads shape room arrays rest h less =
     let n : ℕ = length arrays in
     let total = length-open_file shape arrays rest h.each in
     record {
+      form = shape.form;
       numrecs = streaming;
       after = flat_map (row shape) arrays ++ rest;
       header = header_spells shape None streaming n room (flat_map (row shape) arrays ++ rest) h.writable h.names h.some h.within streaming-IsNumrecs;
@@ -158,18 +160,19 @@ one_more shape arrays a =
 -- a front of a row after some arrays: they are read, and the array of the row where all of it is there
 abbrev pub OpenReadsBack : FileShape → List Array → Array → ℕ → Type 0
 OpenReadsBack shape arrays a count =
-    (s : StackValue) × (stack_of (open_file shape arrays (take count (row shape a))) ≡ Ok s) × ((s.arrays ≡ arrays) ⊎ (s.arrays ≡ arrays ++ a ∷ []))
+    (s : StackValue) × (stack_of (open_file shape arrays (take count (row shape a))) ≡ Ok s)
+    × (s.arrays ≡ (if nat_lt count (row_length shape) then arrays else arrays ++ a ∷ []))
 
 pub open_front_reads_back : (shape : FileShape) (room : ℕ) (arrays : List Array) (a : Array) (count : ℕ) → IsOpenGroup shape room (arrays ++ a ∷ []) → OpenReadsBack shape arrays a count
 open_front_reads_back shape room arrays a count h =
     elim (cases_lt count (row_length shape)) [
       | inl less ↦
           let some = open_reads_back shape room arrays (take count (row shape a)) (without_last shape room arrays a h) (omega (arith, less, length-take count (row shape a))) in
-          (some.0, some.1, inl some.2)
+          (some.0, some.1, rw (lt-ltb count (row_length shape) less) some.2)
       | inr more ↦
           let size : length (row shape a) ≡ row_length shape = length-row shape a (last_of (HasShape shape) arrays a h.each) in
           let whole : open_file shape arrays (take count (row shape a)) ≡ open_file shape (arrays ++ a ∷ []) [] =
           ap (open_file shape arrays) (take_all count (row shape a) (omega (arith, more, size))) ∙ one_more shape arrays a in
           let all = open_reads_back shape room (arrays ++ a ∷ []) [] h (omega (arith, row_length_is shape)) in
-          (all.0, ap stack_of whole ∙ all.1, inr all.2)
+          (all.0, ap stack_of whole ∙ all.1, rw (le-ltb count (row_length shape) more) all.2)
     ]

@@ -1,11 +1,12 @@
--- A frame that has all that the round trip asks for, and its file read back.
+-- A frame that has all that the round trip asks for, and its file of either form read back.
 use Rattle.std.specs.Prelude.{◌≢◌, ◌≤◌, pos, false, [], ◌∷◌, length, codes, FitsSigned, All, refl}
 use Rattle.std.specs.Int.{w32}
 use Rattle.std.specs.Str.{IsUtf8}
 use Rattle.std.proofs.Common.{arith}
 use Rattle.std.proofs.lemmas.Int.{ints}
 use Rattle.std.proofs.lemmas.List.Elements.{All-nil, All-cons}
-use Rattle.nd_base.specs.declared.form.Form.TheVariants.{Classic}
+use Rattle.nd_base.specs.declared.form.Form.{Form}
+use Rattle.nd_base.specs.declared.form.Form.TheVariants.{Classic, Wide}
 use Rattle.nd_base.specs.declared.array.Dim.{Dim}
 use Rattle.nd_base.specs.declared.array.SampleType.TheVariants.{UInt8}
 use Rattle.nd_base.specs.declared.attribute.Attr.{Attr}
@@ -15,10 +16,11 @@ use Rattle.nd_base.specs.declared.attribute.AttrValue.TheVariants.{Text}
 use Rattle.nd_base.specs.declared.attribute.Extra.{Extra}
 use Rattle.nd_base.specs.declared.attribute.FileShape.{FileShape}
 use Rattle.nd_base.specs.Array.{Array}
+use Rattle.nd_base.specs.Forms.{longest_of}
 use Rattle.nd_base.specs.GraphRules.{IsBetween}
 use Rattle.nd_base.specs.SampleLaws.{IsSample}
 use Rattle.cdf_write.specs.Layout.{header_length}
-use Rattle.cdf_write.specs.Lengths.{row_length, length_of, longest}
+use Rattle.cdf_write.specs.Lengths.{row_length, length_of}
 use Rattle.cdf_write.specs.Writable.{IsExtra, IsWritable, FitsIn, HasShape}
 use Rattle.nd_stack.specs.Groups.{HasTextNames, IsGroup}
 use Rattle.nd_stack.specs.DimLaws.{ascii-IsUtf8}
@@ -32,9 +34,9 @@ dim = record { size = 2; offset = pos 0; binning = pos 1; reverse = false }
 colour : AttrColumn
 colour = record { name = codes "Colour"; kind = TextKind }
 
-shape : FileShape
+shape : Form → FileShape
 unfolding dim colour
-shape = record { form = Classic; kind = UInt8; dims = dim ∷ []; attrs = colour ∷ []; width = 8; extras = [] }
+shape form = record { form = form; kind = UInt8; dims = dim ∷ []; attrs = colour ∷ []; width = 8; extras = [] }
 
 red : Attr
 red = record { name = codes "Colour"; value = Text (codes "red") }
@@ -43,9 +45,9 @@ frame : Array
 unfolding dim red
 frame = record { id = pos 1; stamp = 0; sec = pos 0; nsec = pos 0; kind = UInt8; dims = dim ∷ []; samples = pos 7 ∷ pos 255 ∷ []; attrs = red ∷ [] }
 
-writable : IsWritable shape
+writable : (form : Form) → IsWritable (shape form)
 unfolding shape dim colour
-writable = record {
+writable form = record {
   dimensions = refl;
   samples = omega arith;
   width = (omega arith, omega arith);
@@ -55,24 +57,40 @@ writable = record {
   each_extra = All-nil IsExtra;
 }
 
-names : HasTextNames shape
+names : (form : Form) → HasTextNames (shape form)
 unfolding shape dim colour
-names = record { attrs = All-cons (λ a. IsUtf8 a.name) colour [] (ascii-IsUtf8 (codes "Colour") refl) (All-nil (λ a. IsUtf8 a.name)); extras = All-nil (λ (e : Extra). IsUtf8 e.name) }
+names form = record {
+  attrs = All-cons (λ a. IsUtf8 a.name) colour [] (ascii-IsUtf8 (codes "Colour") refl) (All-nil (λ a. IsUtf8 a.name));
+  extras = All-nil (λ (e : Extra). IsUtf8 e.name);
+}
 
-frame_has : HasShape shape frame
+frame_has : (form : Form) → HasShape (shape form) frame
 unfolding shape frame dim colour red
-frame_has = record { kind = refl; dims = refl; count = refl; attrs = record { same = refl; texts = All-cons (λ t. FitsIn 8 t.value) red [] (omega arith) (All-nil (λ t. FitsIn 8 t.value)) } }
+frame_has form = record {
+  kind = refl;
+  dims = refl;
+  count = refl;
+  attrs = record { same = refl; texts = All-cons (λ t. FitsIn 8 t.value) red [] (omega arith) (All-nil (λ t. FitsIn 8 t.value)) };
+}
 
-small : length_of shape 1 ≤ longest
+small : (form : Form) → length_of (shape form) 1 ≤ longest_of form
 unfolding shape dim colour header_length row_length
-small = omega arith
+small Classic = omega arith
+small Wide = omega arith
 
-group : IsGroup shape (frame ∷ [])
-group = record { writable = writable; names = names; some = omega arith; each = All-cons (HasShape shape) frame [] frame_has (All-nil (HasShape shape)); within = small }
+group : (form : Form) → IsGroup (shape form) (frame ∷ [])
+unfolding shape
+group form = record {
+  writable = writable form;
+  names = names form;
+  some = omega arith;
+  each = All-cons (HasShape (shape form)) frame [] (frame_has form) (All-nil (HasShape (shape form)));
+  within = small form;
+}
 
-dims : HasSmallDims shape
+dims : (form : Form) → HasSmallDims (shape form)
 unfolding shape dim
-dims = record {
+dims form = record {
   offsets = All-cons (λ (d : Dim). FitsSigned w32 d.offset) dim [] (omega (arith, ints)) (All-nil (λ (d : Dim). FitsSigned w32 d.offset));
   binnings = All-cons (λ (d : Dim). FitsSigned w32 d.binning) dim [] (omega (arith, ints)) (All-nil (λ (d : Dim). FitsSigned w32 d.binning));
 }
@@ -91,5 +109,7 @@ kept = record {
   attrs = All-cons (λ t. IsKeptValue t.value) red [] no_zero (All-nil (λ t. IsKeptValue t.value));
 }
 
-it_reads_back : ReadsBack shape (frame ∷ [])
-it_reads_back = layout_reads_back shape (frame ∷ []) (record { group = group; dims = dims; each = All-cons IsKept frame [] kept (All-nil IsKept); few = omega arith })
+it_reads_back : (form : Form) → ReadsBack (shape form) (frame ∷ [])
+it_reads_back form =
+    layout_reads_back (shape form) (frame ∷ [])
+    (record { group = group form; dims = dims form; each = All-cons IsKept frame [] kept (All-nil IsKept); few = omega arith })

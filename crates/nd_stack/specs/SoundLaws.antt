@@ -5,6 +5,7 @@ use Rattle.std.proofs.Math.Nat.{mul-le-mul_right, one-mul, mul_assoc, suc-mul}
 use Rattle.std.proofs.lemmas.Bool.{eqb-true}
 use Rattle.std.proofs.lemmas.Bool.Decides.{nat_tests}
 use Rattle.std.proofs.lemmas.List.Elements.{All-nil, All-cons}
+use Rattle.nd_base.specs.declared.form.Form.{Form}
 use Rattle.cdf_read.specs.declared.head.HeadDim.{HeadDim}
 use Rattle.cdf_read.specs.declared.head.HeadVar.{HeadVar}
 use Rattle.cdf_read.specs.declared.head.Header.{Header}
@@ -48,8 +49,8 @@ record IsSpelled (dims : List HeadDim) (v : HeadVar) : Type 0 where
   pub least : 1 ≤ v.kind
   pub most : v.kind ≤ 6
 
-spelled : (dims : List HeadDim) (v : HeadVar) (before after : List ℕ) → IsVar dims v before after → IsSpelled dims v
-spelled dims v before after is = record {
+spelled : (form : Form) (dims : List HeadDim) (v : HeadVar) (before after : List ℕ) → IsVar form dims v before after → IsSpelled dims v
+spelled form dims v before after is = record {
   rank = is.rank.positive;
   small = is.within;
   fixed = others_fixed dims v.dims is.at_dims is.at_attrs is.numbers;
@@ -60,7 +61,8 @@ spelled dims v before after is = record {
 -- a header that was read is sound
 pub Reads-IsSound : (bytes : List ℕ) (h : Header) → Reads bytes h → IsSound (length bytes) h
 Reads-IsSound bytes h reads =
-    let vars = AreMany-All (λ (earlier : List HeadVar). IsVar h.dims) (IsSpelled h.dims) (λ earlier v before after. spelled h.dims v before after) [] h.vars reads.header.vars.0 reads.after reads.header.vars.2 in
+    let vars = AreMany-All (λ (earlier : List HeadVar). IsVar reads.form h.dims) (IsSpelled h.dims) (λ earlier v before after. spelled reads.form h.dims v before after) []
+    h.vars reads.header.vars.0 reads.after reads.header.vars.2 in
     record {
       few = reads.header.vars.1.number.positive;
       vars = λ i d within. record {

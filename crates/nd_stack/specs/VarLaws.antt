@@ -9,6 +9,7 @@ use Rattle.std.proofs.lemmas.List.Elements.{All-nil, All-cons, All-head, All-tai
 use Rattle.std.proofs.lemmas.List.FromFn.{length-range_with_len}
 use Rattle.std.proofs.lemmas.List.Sums.{sum_by-cons}
 use Rattle.std.proofs.lemmas.Str.{IsUtf8-append}
+use Rattle.nd_base.specs.declared.form.Form.{Form}
 use Rattle.nd_base.specs.declared.array.SampleType.{SampleType}
 use Rattle.nd_base.specs.declared.array.SampleType.TheVariants.{Int8, UInt8, Int16, UInt16, Int32, UInt32}
 use Rattle.nd_base.specs.declared.attribute.AttrColumn.{AttrColumn}
@@ -25,10 +26,10 @@ use Rattle.cdf_read.specs.Places.{dim_length, value_size, size_of, var_size, is_
 use Rattle.cdf_read.specs.Grammar.{greatest, IsAttr, IsDimNumber, IsListHead, AreMany, IsVar, IsList}
 use Rattle.cdf_write.specs.Spelling.{word, absent, name_field, padded_length, element_list}
 use Rattle.cdf_write.specs.Columns.{Column, scalar, sample_kind, sample_column, kind_column, attr_column, fixed_columns, columns}
-use Rattle.cdf_write.specs.Layout.{variable, variables, header_length}
+use Rattle.cdf_write.specs.Layout.{offset, variable, variables, header_length}
 use Rattle.cdf_write.specs.Lengths.{columns_length, row_length}
 use Rattle.cdf_write.specs.Writable.{IsWritable}
-use Rattle.nd_stack.specs.FieldSpelling.{word-IsWord, word-IsNumber, word-IsKind, name_field-IsName, AreSpelled, AreSpelled-count, element_list-IsList}
+use Rattle.nd_stack.specs.FieldSpelling.{greatest_begin, offset-IsBegin, word-IsWord, word-IsNumber, word-IsKind, name_field-IsName, AreSpelled, AreSpelled-count, element_list-IsList}
 use Rattle.nd_stack.specs.LayoutHeader.{layout_dims, column_var, column_vars, layout_vars, layout_header}
 use Rattle.nd_stack.specs.Groups.{HasTextNames}
 use Rattle.nd_stack.specs.DimLaws.{ascii-IsUtf8, few_dims, length-layout_dims, record_numbers_spelled, sample_lengths-positive, sample_values, room_lengths-positive, room_values}
@@ -53,21 +54,22 @@ absent-IsList after =
     record { first = 0; at_count = word 0 ++ after; tag_word = word-IsWord 0 (word 0 ++ after) (omega arith); number = word-IsNumber 0 after (omega arith); own = λ _. (refl, refl) } in
     (after, head, refl)
 
-variable-IsVar : (shape : FileShape) (c : Column) (begin : ℕ) (after : List ℕ) → IsWritable shape → IsColumn shape c → begin ≤ greatest → IsVar (layout_dims shape) (column_var c begin) (variable c begin ++ after) after
-variable-IsVar shape c begin after writable h small =
-    let at_begin : List ℕ = word begin ++ after in
+variable-IsVar : (form : Form) (shape : FileShape) (c : Column) (begin : ℕ) (after : List ℕ) → IsWritable shape → IsColumn shape c → begin ≤ greatest_begin form →
+    IsVar form (layout_dims shape) (column_var c begin) (variable form c begin ++ after) after
+variable-IsVar form shape c begin after writable h small =
+    let at_begin : List ℕ = offset form begin ++ after in
     let at_vsize : List ℕ = word (padded_length c.size) ++ at_begin in
     let at_kind : List ℕ = word c.kind ++ at_vsize in
     let at_attrs : List ℕ = absent ++ at_kind in
     let at_dims : List ℕ = flat_map word c.dims ++ at_attrs in
     let at_rank : List ℕ = word (length c.dims) ++ at_dims in
-    let whole : variable c begin ++ after ≡ name_field c.name ++ at_rank = simp append_assoc refl in
+    let whole : variable form c begin ++ after ≡ name_field c.name ++ at_rank = simp append_assoc refl in
     let rank : length c.dims ≡ suc (length h.others) = ap length h.numbers in
     let few : length (layout_dims shape) < 2 ^ 32 = omega (arith, length-layout_dims shape writable) in
     let within : size_of (layout_dims shape) c.dims c.kind ≤ 4294967296 = omega (arith, h.size, h.small) in
     let numbers : AreMany (IsDimNumber (layout_dims shape)) [] c.dims at_dims at_attrs =
     subst (λ numbers. AreMany (IsDimNumber (layout_dims shape)) [] numbers (flat_map word numbers ++ at_attrs) at_attrs) (sym h.numbers) (record_numbers_spelled shape h.others at_attrs few h.lengths) in
-    subst (λ before. IsVar (layout_dims shape) (column_var c begin) before after) (sym whole) (record {
+    subst (λ before. IsVar form (layout_dims shape) (column_var c begin) before after) (sym whole) (record {
       at_rank = at_rank;
       at_dims = at_dims;
       at_attrs = at_attrs;
@@ -81,7 +83,7 @@ variable-IsVar shape c begin after writable h small =
       kind = word-IsKind c.kind at_vsize h.kind.0 h.kind.1;
       within = within;
       vsize = record { text = word (padded_length c.size); whole = refl; size = refl };
-      begin_number = word-IsNumber begin after small;
+      begin_number = offset-IsBegin form begin after small;
     })
 
 -- THE COLUMNS
@@ -174,26 +176,27 @@ columns-IsColumn shape h texts =
 
 -- THE LIST
 
-vars_spelled : (shape : FileShape) (earlier : List HeadVar) (begin : ℕ) (cs : List Column) → IsWritable shape → All (IsColumn shape) cs → begin + columns_length cs ≤ greatest →
-    AreSpelled (λ earlier. IsVar (layout_dims shape)) earlier (variables begin cs) (column_vars begin cs)
-vars_spelled shape earlier begin [] writable h few = tt
-vars_spelled shape earlier begin (c ∷ cs) writable h few =
+vars_spelled : (form : Form) (shape : FileShape) (earlier : List HeadVar) (begin : ℕ) (cs : List Column) → IsWritable shape → All (IsColumn shape) cs → begin + columns_length cs ≤ greatest_begin form →
+    AreSpelled (λ earlier. IsVar form (layout_dims shape)) earlier (variables form begin cs) (column_vars begin cs)
+vars_spelled form shape earlier begin [] writable h few = tt
+vars_spelled form shape earlier begin (c ∷ cs) writable h few =
     let total = sum_by-cons (λ (d : Column). padded_length d.size) c cs in (
-      λ after. variable-IsVar shape c begin after writable (All-head (IsColumn shape) c cs h) (omega (arith, total, few)),
-      vars_spelled shape (earlier ++ column_var c begin ∷ []) (begin + padded_length c.size) cs writable (All-tail (IsColumn shape) c cs h) (omega (arith, total, few)),
+      λ after. variable-IsVar form shape c begin after writable (All-head (IsColumn shape) c cs h) (omega (arith, total, few)),
+      vars_spelled form shape (earlier ++ column_var c begin ∷ []) (begin + padded_length c.size) cs writable (All-tail (IsColumn shape) c cs h) (omega (arith, total, few)),
     )
 
 length-column_vars : (begin : ℕ) (cs : List Column) → length (column_vars begin cs) ≡ length cs
 length-column_vars begin [] = refl
 length-column_vars begin (c ∷ cs) = ap suc (length-column_vars (begin + padded_length c.size) cs)
 
-pub vars_IsList : (shape : FileShape) (begin : ℕ) (cs : List Column) (after : List ℕ) → IsWritable shape → All (IsColumn shape) cs → begin + columns_length cs ≤ greatest → length cs ≤ greatest →
-    IsList 11 (λ earlier. IsVar (layout_dims shape)) (column_vars begin cs) (element_list 11 (variables begin cs) ++ after) after
-vars_IsList shape begin cs after writable h few count =
-    let Is = (λ (earlier : List HeadVar). IsVar (layout_dims shape)) in
-    let spelled = vars_spelled shape [] begin cs writable h few in
-    element_list-IsList 11 Is (variables begin cs) (column_vars begin cs) after (omega arith)
-    (omega (arith, AreSpelled-count Is [] (variables begin cs) (column_vars begin cs) spelled, length-column_vars begin cs, count)) spelled
+pub vars_IsList : (form : Form) (shape : FileShape) (begin : ℕ) (cs : List Column) (after : List ℕ) → IsWritable shape → All (IsColumn shape) cs →
+    begin + columns_length cs ≤ greatest_begin form → length cs ≤ greatest →
+    IsList 11 (λ earlier. IsVar form (layout_dims shape)) (column_vars begin cs) (element_list 11 (variables form begin cs) ++ after) after
+vars_IsList form shape begin cs after writable h few count =
+    let Is = (λ (earlier : List HeadVar). IsVar form (layout_dims shape)) in
+    let spelled = vars_spelled form shape [] begin cs writable h few in
+    element_list-IsList 11 Is (variables form begin cs) (column_vars begin cs) after (omega arith)
+    (omega (arith, AreSpelled-count Is [] (variables form begin cs) (column_vars begin cs) spelled, length-column_vars begin cs, count)) spelled
 
 -- THE SIZE OF A RECORD
 

@@ -1,10 +1,10 @@
 //! Variables by name, and where a variable's values for each frame stand.
 
 ghost use Rattle.std.specs.Prelude.{◌≡◌, ◌+◌, ◌*◌, ◌≤◌, length, option_copied};
-ghost use Rattle.cdf_read.specs.Places.{dim_length, value_size, value_count, var_size, is_record_var};
+ghost use Rattle.cdf_read.specs.Places.{dim_length, value_count, var_size, is_record_var};
 ghost use Rattle.nd_stack.specs.Columns.{variable_of, extent, frame_count, frame_values, values_size, column_of, cell};
 
-use cdf_read::{HeadDim, HeadVar, Header};
+use cdf_read::{HeadDim, HeadVar, Header, size_of_value};
 
 /// Where a variable's values for the frames stand: those for frame k are `size` bytes from place
 /// `first + k * step` on.
@@ -24,19 +24,6 @@ pub(crate) fn variable_of<'a>(header: &'a Header, name: &str) -> Option<&'a Head
         .as_slice()
         .iter()
         .find(|var| var.name.text() == name)
-}
-
-/// The bytes of one value.
-fn size_of_value(kind: u32) -> u64
-    ensures value { result ≡ value_size kind }
-    ensures small { result ≤ 8 }
-{
-    match kind {
-        0..=2 => 1,
-        3 => 2,
-        6 => 8,
-        _ => 4,
-    }
 }
 
 /// The length of the dimension of this number, and 0 where there is none.
@@ -105,7 +92,7 @@ pub(crate) fn column_of(header: &Header, var: &HeadVar) -> Column
     requires { var_size header.now.dims var.now ≤ 4294967296 }
     ensures { result ≡ column_of header.now var.now }
 {
-    let size = frame_values(header, var) * size_of_value(var.kind);
+    let size = frame_values(header, var) * u64::from(size_of_value(var.kind));
     let step = if is_in_records(header.dims.as_slice(), var) {
         header.recsize
     } else {

@@ -4,10 +4,12 @@ ghost use Rattle.std.specs.Prelude.{◌≡◌, ◌≤◌, ◌++◌, ◌∷◌, [
 ghost use Rattle.nd_base.specs.declared.array.Dim.{Dim};
 ghost use Rattle.nd_base.specs.declared.array.SampleType.{SampleType};
 ghost use Rattle.nd_base.specs.declared.attribute.FileShape.{FileShape};
+ghost use Rattle.nd_base.specs.declared.form.Form.{Form};
 ghost use Rattle.nd_base.specs.Array.{Array, StackValue};
+ghost use Rattle.nd_base.specs.Forms.{longest_of};
 ghost use Rattle.nd_base.specs.SampleLaws.{AreBytes};
 ghost use Rattle.nd_base.specs.Shapes.{has_dimensions, sample_count, most_samples};
-ghost use Rattle.cdf_write.specs.Lengths.{length_of, longest};
+ghost use Rattle.cdf_write.specs.Lengths.{length_of};
 ghost use Rattle.cdf_write.specs.Writable.{IsWritable};
 ghost use Rattle.nd_stack.specs.KeptStacks.{IsKeptStack};
 ghost use Rattle.nd_stack.specs.OpenReads.{IsOpenGroup, OpenReadsBack};
@@ -20,18 +22,20 @@ pub fn layout_reads_back()
     ensures { (shape : FileShape) (arrays : List Array) → IsKeptGroup shape arrays → ReadsBack shape arrays }
 {}
 
-/// The shape of a stack that was read is writable, and so is each shape that is made of it for another
-/// sample type and other dimensions that an array can have.
+/// The shape of a stack that was read is writable, and so is each shape that is made of it for another form of
+/// file, another sample type and other dimensions that an array can have.
 pub fn stack_shape_is_writable()
     ensures read { (bytes : List ℕ) (s : StackValue) → stack_of bytes ≡ Ok s → IsWritable s.shape }
-    ensures made { (shape : FileShape) (kind : SampleType) (dims : List Dim) → IsWritable shape → has_dimensions dims ≡ true → sample_count dims ≤ most_samples → IsWritable (record shape { kind = kind; dims = dims }) }
+    ensures made { (shape : FileShape) (form : Form) (kind : SampleType) (dims : List Dim) → IsWritable shape → has_dimensions dims ≡ true →
+        sample_count dims ≤ most_samples → IsWritable (record shape { form = form; kind = kind; dims = dims }) }
 {}
 
 /// Every stack that was read can be written: its arrays have its shape. Where it has an array and the file of its
 /// arrays isn't too long, that file is read as a stack of the same arrays.
 pub fn stacks_read_back()
     ensures kept { (bytes : List ℕ) (s : StackValue) → AreBytes bytes → stack_of bytes ≡ Ok s → IsKeptStack s }
-    ensures back { (bytes : List ℕ) (s : StackValue) → AreBytes bytes → stack_of bytes ≡ Ok s → 1 ≤ length s.arrays → length_of s.shape (length s.arrays) ≤ longest → ReadsBack s.shape s.arrays }
+    ensures back { (bytes : List ℕ) (s : StackValue) → AreBytes bytes → stack_of bytes ≡ Ok s → 1 ≤ length s.arrays →
+        length_of s.shape (length s.arrays) ≤ longest_of s.shape.form → ReadsBack s.shape s.arrays }
 {}
 
 /// A file whose number of records was left open, with the rows of some arrays and a front of one row more, is read as a stack

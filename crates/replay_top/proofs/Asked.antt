@@ -6,7 +6,8 @@ use Rattle.std.proofs.lemmas.Bool.Decides.{nat_tests}
 use Rattle.nd_base.specs.Array.{StackValue}
 use Rattle.nd_base.specs.declared.graph.Graph.{Graph}
 use Rattle.edge_traits.specs.Files.{Files, IsTold, HasFile}
-use Rattle.cdf_write.specs.Lengths.{longest}
+use Rattle.nd_base.specs.Forms.{longest_of}
+use Rattle.nd_base.specs.declared.form.Form.TheVariants.{Classic}
 use Rattle.nd_stack.specs.declared.fault.StackFault.{StackFault}
 use Rattle.nd_stack.specs.declared.fault.StackFault.TheVariants as refusal
 use Rattle.nd_stack.specs.Answers as stacks
@@ -18,7 +19,7 @@ use Rattle.graph_conf.specs.declared.load.LimitFault.TheVariants.{GraphBytes, St
 use Rattle.graph_conf.specs.Answers as graphs
 use Rattle.graph_conf.specs.Graphs.{graph_of_bytes}
 use Rattle.graph_conf.specs.Loads as loads
-use Rattle.graph_conf.specs.Loads.{file_bytes_at, first_too_long, limit_fault, answer}
+use Rattle.graph_conf.specs.Loads.{file_bytes_at, most_bytes_at, first_too_long, limit_fault, answer}
 use Rattle.replay_top.specs.declared.status.Status.{Status}
 use Rattle.replay_top.specs.declared.status.Status.TheVariants.{Done, StackBytes, Limit}
 use Rattle.replay_top.specs.Answers.{HasGraphRefusal, HasStackRefusal, PassesLimit}
@@ -150,7 +151,7 @@ module _ (P : LimitFault → Type 0) (load : (n : ℕ) → P (Load n)) (kept : (
 
   first_long : (g : Graph) (s : StackValue) (v n : ℕ) (fault : LimitFault) → first_too_long g s v n ≡ Some fault → P fault
   first_long g s v zero fault e = absurd (cc)
-  first_long g s v (suc n) fault e = long_by (nat_lt longest (file_bytes_at g s v)) v (file_bytes_at g s v) (first_too_long g s (v + 1) n) fault (first_long g s (v + 1) n fault) e
+  first_long g s v (suc n) fault e = long_by (nat_lt (most_bytes_at g v) (file_bytes_at g s v)) v (file_bytes_at g s v) (first_too_long g s (v + 1) n) fault (first_long g s (v + 1) n fault) e
 
   kept_by : (b : Bool) (n : ℕ) (rest : Option LimitFault) (fault : LimitFault) → (rest ≡ Some fault → P fault) → (if b then Some (Kept n) else rest) ≡ Some fault → P fault
   kept_by true n rest fault later e = let same : Kept n ≡ fault = cc in subst P same (kept n)
@@ -179,12 +180,12 @@ passed-copy told stack prefix source fault read is =
     (λ n e. record { source = source; read = read; passed = is ∙ ap Some (sym e) })
     (λ n e. record { source = source; read = read; passed = is ∙ ap Some (sym e) })
     (λ v n e. record { source = source; read = read; passed = is ∙ ap Some (sym e) })
-    (nat_lt longest (copy_length source.stack)) 1 (copy_length source.stack) None fault (λ e. absurd (cc)) is refl
+    (nat_lt (longest_of Classic) (copy_length source.stack)) 1 (copy_length source.stack) None fault (λ e. absurd (cc)) is refl
 
 -- a copy that passes no limit is short enough
-pub copy_limit-none : (s : StackValue) → copy_limit s ≡ None → copy_length s ≤ longest
-copy_limit-none s is = by_test (nat_lt longest (copy_length s)) refl is
+pub copy_limit-none : (s : StackValue) → copy_limit s ≡ None → copy_length s ≤ longest_of Classic
+copy_limit-none s is = by_test (nat_lt (longest_of Classic) (copy_length s)) refl is
   where
-    by_test : (b : Bool) → nat_lt longest (copy_length s) ≡ b → (if b then Some (FileTooLarge 1 (copy_length s)) else None) ≡ None → copy_length s ≤ longest
+    by_test : (b : Bool) → nat_lt (longest_of Classic) (copy_length s) ≡ b → (if b then Some (FileTooLarge 1 (copy_length s)) else None) ≡ None → copy_length s ≤ longest_of Classic
     by_test true e none = absurd (cc)
     by_test false e none = grind (arith, nat_tests)

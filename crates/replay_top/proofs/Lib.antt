@@ -19,4 +19,5 @@ pub mod RunClaims
 pub mod RunReading
 pub mod SmoothFiles
 pub mod KeptStacks
+pub mod CopyKept
 mod Sends

@@ -20,7 +20,7 @@ use Rattle.nd_roi.specs.Region.{region}
 use Rattle.chain_plain.specs.OneThread.{listed, arrays_out, groups}
 use Rattle.chain_plain.specs.Passing.{out_of}
 use Rattle.graph_conf.specs.Loads.{arrivals, kept, file_bytes_at, limit_fault}
-use Rattle.replay_top.specs.Copy.{copy_name, copy_file, copy_files, copy_length}
+use Rattle.replay_top.specs.Copy.{copy_name, copy_shape, copy_file, copy_files, copy_length}
 use Rattle.replay_top.specs.Limits.{copy_limit}
 use Rattle.graph_files.specs.OutFiles.{group_name, group_number, group_files, plain_files}
 
@@ -89,13 +89,13 @@ name_of prefix =
     ∙ append_assoc prefix (codes "copy") (codes "_" ++ (group_number 0 ++ codes ".nc"))
     ∙ ap (λ digits. prefix ++ (codes "copy" ++ (codes "_" ++ (digits ++ codes ".nc")))) number
 
-named : (s : StackValue) (prefix : List ℕ) (none : Bool) → group_files Capture s.shape prefix (codes "copy") 0 (if none then [] else s.arrays ∷ []) ≡ (if none then [] else record { name = copy_name prefix; bytes = copy_file s; late = false } ∷ [])
+named : (s : StackValue) (prefix : List ℕ) (none : Bool) → group_files Capture (copy_shape s) prefix (codes "copy") 0 (if none then [] else s.arrays ∷ []) ≡ (if none then [] else record { name = copy_name prefix; bytes = copy_file s; late = false } ∷ [])
 named s prefix true = refl
 named s prefix false = ap (λ name. record { name = name; bytes = copy_file s; late = false } ∷ []) (name_of prefix)
 
 pub same_files : SameFiles
 same_files s prefix few =
-    append-nil _ ∙ ap (λ list. group_files Capture s.shape prefix (codes "copy") 0 list) (ap (groups 65536) (all_out s.arrays) ∙ group_by s.arrays few) ∙ named s prefix (length s.arrays == 0)
+    append-nil _ ∙ ap (λ list. group_files Capture (copy_shape s) prefix (codes "copy") 0 list) (ap (groups 65536) (all_out s.arrays) ∙ group_by s.arrays few) ∙ named s prefix (length s.arrays == 0)
 
 -- THE LIMIT
 
@@ -104,5 +104,5 @@ same_limit s few =
     let few_arrivals : nat_lt 1048576 (arrivals copy_graph s) ≡ false = le-ltb 1048576 (length s.arrays * 1) (omega (arith, few)) in
     let nothing_kept : nat_lt 67108864 (kept copy_graph s) ≡ false = le-ltb 67108864 (length s.arrays * 0 + 0) (omega arith) in
     let all : min 65536 (length s.arrays) ≡ length s.arrays = omega (arith, min-le_right 65536 (length s.arrays), le-min {k = length s.arrays} {a = 65536} {b = length s.arrays} few (omega arith)) in
-    let bytes : file_bytes_at copy_graph s 1 ≡ copy_length s = ap (length_of s.shape) all in
+    let bytes : file_bytes_at copy_graph s 1 ≡ copy_length s = ap (length_of (copy_shape s)) all in
     rw (few_arrivals, nothing_kept, bytes) refl

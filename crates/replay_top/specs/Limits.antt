@@ -3,7 +3,8 @@ use Rattle.std.specs.Prelude.{◌≡◌, ℕ, nat_le, nat_lt, List, length, Opti
 use Rattle.nd_base.specs.Array.{StackValue}
 use Rattle.nd_base.specs.declared.graph.Graph.{Graph}
 use Rattle.edge_traits.specs.Files.{Files, IsTold, HasFile}
-use Rattle.cdf_write.specs.Lengths.{longest}
+use Rattle.nd_base.specs.Forms.{longest_of}
+use Rattle.nd_base.specs.declared.form.Form.TheVariants.{Classic}
 use Rattle.nd_stack.specs.declared.fault.StackFault.{StackFault}
 use Rattle.nd_stack.specs.StackRules.{stack_of}
 use Rattle.graph_conf.specs.declared.fault.GraphFault.{GraphFault}
@@ -54,7 +55,7 @@ with_stack next (Err refusal) = refusal
 
 -- the copy's file would be too long
 abbrev pub copy_limit : StackValue → Option LimitFault
-copy_limit s = if nat_lt longest (copy_length s) then Some (FileTooLarge 1 (copy_length s)) else None
+copy_limit s = if nat_lt (longest_of Classic) (copy_length s) then Some (FileTooLarge 1 (copy_length s)) else None
 
 -- Done, where no limit is passed
 abbrev pub load_status : Option LimitFault → Status

@@ -1,6 +1,6 @@
 -- The netCDF files of a plain run read back as their arrays.
-use Rattle.std.specs.Prelude.{◌≡◌, ℕ, suc, ◌+◌, ◌-◌, ◌*◌, ◌/◌, ◌^◌, ◌<◌, ◌≤◌, min, ℤ, pos, negsuc, ◌+ℤ◌, ◌*ℤ◌, List, [], ◌∷◌, length, take, drop, Option, Some, None, All, FitsSigned, refl}
-use Rattle.std.specs.Int.{w8, w16, w32, cast_signed, int_min}
+use Rattle.std.specs.Prelude.{◌≡◌, ℕ, suc, ◌+◌, ◌-◌, ◌*◌, ◌/◌, ◌<◌, ◌≤◌, min, ℤ, pos, negsuc, ◌+ℤ◌, ◌*ℤ◌, List, [], ◌∷◌, length, take, drop, Option, Some, None, All, FitsSigned, refl}
+use Rattle.std.specs.Int.{w32, int_min}
 use Rattle.std.specs.List.{range_with_len}
 use Rattle.std.proofs.Common.{get_or, subst, arith}
 use Rattle.std.proofs.Math.Nat.{div-mul-le_self, mul-le-mul_right, suc-mul}
@@ -10,8 +10,6 @@ use Rattle.std.proofs.lemmas.List.Elements.{All-nil, All-cons, All-take, All-dro
 use Rattle.std.proofs.lemmas.List.FromFn.{length-range_with_len, get_or-range_with_len}
 use Rattle.nd_base.specs.Array.{Array, StackValue}
 use Rattle.nd_base.specs.declared.array.Dim.{Dim}
-use Rattle.nd_base.specs.declared.array.SampleType.{SampleType}
-use Rattle.nd_base.specs.declared.array.SampleType.TheVariants.{Int8, UInt8, Int16, UInt16, Int32, UInt32}
 use Rattle.nd_base.specs.declared.attribute.FileShape.{FileShape}
 use Rattle.nd_base.specs.declared.graph.Graph.{Graph}
 use Rattle.nd_base.specs.declared.graph.Kind.{Kind}
@@ -24,7 +22,8 @@ use Rattle.nd_roi.specs.Cut.{clamped_i32, cut, cut_dim, dims_from, region_dims}
 use Rattle.nd_base.specs.Places.{indices, sizes_of}
 use Rattle.nd_roi.specs.Region.{out_type, region}
 use Rattle.nd_roi.specs.RegionLaws.{reduced-IsSample}
-use Rattle.cdf_write.specs.Lengths.{length_of, longest}
+use Rattle.nd_base.specs.Forms.{longest_of}
+use Rattle.cdf_write.specs.Lengths.{length_of}
 use Rattle.cdf_write.specs.Writable.{HasShape}
 use Rattle.nd_stack.specs.KeptStacks.{IsKeptStack, IsKeptStack-ReadsBack}
 use Rattle.nd_stack.specs.RoundTrip.{IsKept, ReadsBack}
@@ -103,7 +102,7 @@ begins_within n count g some within =
     omega (arith, whole, rows, one, some)
 
 -- each group of arrays that keep to what a stack keeps to reads back, where the longest file isn't too long
-groups_back : (shape : FileShape) (count : ℕ) (arrays : List Array) → IsKeptStack (stack_with shape arrays) → 1 ≤ count → length_of shape (min count (length arrays)) ≤ longest → All (ReadsBack shape) (groups count arrays)
+groups_back : (shape : FileShape) (count : ℕ) (arrays : List Array) → IsKeptStack (stack_with shape arrays) → 1 ≤ count → length_of shape (min count (length arrays)) ≤ longest_of shape.form → All (ReadsBack shape) (groups count arrays)
 groups_back shape count arrays kept some within =
     let piece = λ (g : ℕ). take count (drop (g * count) arrays) in
     let n : ℕ = (length arrays + (count - 1)) / count in

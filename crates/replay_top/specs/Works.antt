@@ -7,7 +7,7 @@ use Rattle.nd_stack.specs.RoundTrip.{ReadsBack}
 use Rattle.graph_conf.specs.Loads.{limit_fault}
 use Rattle.graph_conf.specs.declared.load.LimitFault.{LimitFault}
 use Rattle.replay_top.specs.Command.{Command, Copy, Plain, Info}
-use Rattle.replay_top.specs.Copy.{copy_files}
+use Rattle.replay_top.specs.Copy.{copy_shape, copy_files}
 use Rattle.replay_top.specs.Info.{info_text}
 use Rattle.replay_top.specs.Limits.{copy_limit}
 use Rattle.graph_files.specs.OutFiles.{OutFile, file_shape, plain_files}
@@ -48,6 +48,6 @@ IsWithin command source = limit_of command source ≡ None
 
 -- a copy's file reads back as the stack's arrays, and each netCDF file of a plain run as the arrays of its group
 abbrev pub IsReadBack : Command → Source → Type 0
-IsReadBack (Copy stack prefix) source = 1 ≤ length source.stack.arrays → ReadsBack source.stack.shape source.stack.arrays
+IsReadBack (Copy stack prefix) source = 1 ≤ length source.stack.arrays → ReadsBack (copy_shape source.stack) source.stack.arrays
 IsReadBack (Plain graph stack prefix) source = (v : ℕ) → All (ReadsBack (file_shape source.graph source.stack v)) (result_of source.graph source.stack v).files
 IsReadBack (Info stack) source = Unit {0}

@@ -16,15 +16,12 @@ use crate::printing::print;
 use crate::saving::write_frames;
 use crate::sources::load_stack;
 use crate::status::Status;
-use cdf_write::file_length;
+use cdf_write::length_with;
 use edge_traits::{Library, Shelf, Sink};
 use file_out::SaveFault;
 use graph_conf::LimitFault;
-use nd_base::Stack;
+use nd_base::{Form, Stack};
 use std::alloc::Global;
-
-/// The most bytes of a file that is written.
-const FILE_LIMIT: u128 = 2_147_483_647;
 
 /// The number of the node `copy`.
 const COPY_NODE: u32 = 1;
@@ -34,8 +31,16 @@ fn copy_limit(stack: &Stack) -> Option<LimitFault>
     requires { IsKeptStack stack.now }
     ensures { result ≡ copy_limit stack.now }
 {
-    let bytes = file_length(stack.shape(), u64::from(stack.frames()));
-    if bytes > FILE_LIMIT {
+    let shape = stack.shape();
+    let frames = u64::from(stack.frames());
+    let bytes = length_with(
+        shape,
+        Form::Classic,
+        shape.kind,
+        shape.dims.as_slice(),
+        frames,
+    );
+    if bytes > u128::from(Form::Classic.longest()) {
         return Some(LimitFault::FileTooLarge {
             node: COPY_NODE,
             bytes,

@@ -2,20 +2,21 @@
 
 ghost use Rattle.std.specs.Prelude.{◌≡◌, ◌<◌, ◌≤◌, min, length, All, Some, None, string_bytes, if◌then◌else◌, IfOk, OnOk, OnErr};
 ghost use Rattle.nd_base.specs.GraphRules.{IsGraph, IsFile};
+ghost use Rattle.nd_base.specs.Forms.{longest_of};
 ghost use Rattle.edge_traits.specs.Files.{with_file};
 ghost use Rattle.cdf_write.specs.Layout.{layout};
-ghost use Rattle.cdf_write.specs.Lengths.{length_of, longest};
+ghost use Rattle.cdf_write.specs.Lengths.{length_of};
 ghost use Rattle.file_out.specs.Saving.{IsSaveCause};
 ghost use Rattle.nd_stack.specs.KeptStacks.{IsKeptStack};
 ghost use Rattle.chain_plain.specs.OneThread.{arrays_out, groups};
 ghost use Rattle.chain_plain.specs.Plans.{plan_of};
 ghost use Rattle.graph_files.specs.BegunFiles.{IsFileBegun, AreBegun};
-ghost use Rattle.graph_files.specs.OutFiles.{file_shape, group_files, group_name, is_stream, with_files};
+ghost use Rattle.graph_files.specs.OutFiles.{form_at, file_shape, group_files, group_name, is_stream, with_files};
 
 use chain_plain::{content, maker_for};
 use edge_traits::Shelf;
 use file_out::{SaveFault, StreamFile};
-use nd_base::{FileRule, FileShape, FrameName, Mode, OutOfMemory, Plan, Stack};
+use nd_base::{FileRule, FileShape, Form, FrameName, Mode, OutOfMemory, Plan, Stack};
 use nd_stack::shape_for;
 use std::alloc::{AllocError, Global};
 
@@ -36,14 +37,23 @@ fn is_stream(mode: Mode) -> bool
     }
 }
 
-/// The shape of the arrays that go out of a node, as their files have it.
-fn shape_of(alloc: Global, plan: &Plan, stack: &Stack, node: u32) -> Result<FileShape, OutOfMemory>
+/// The shape of the arrays that go out of a node, as its files have it, which are of this form.
+fn shape_of(
+    alloc: Global,
+    plan: &Plan,
+    stack: &Stack,
+    node: u32,
+    form: Form,
+) -> Result<FileShape, OutOfMemory>
     requires graph { IsGraph plan.now.graph }
     requires plan { plan.now ≡ plan_of plan.now.graph stack.now }
+    requires form { form ≡ form_at plan.now.graph.nodes node }
     ensures { IfOk result (λ shape. shape ≡ file_shape plan.now.graph stack.now node) }
 {
     let maker = maker_for(plan, stack, node);
-    shape_for(alloc, stack, maker.kind, maker.dims.as_slice())
+    let mut shape = shape_for(alloc, stack, maker.kind, maker.dims.as_slice())?;
+    shape.form = form;
+    Ok(shape)
 }
 
 /// The name of a file of a node: its number has at least three digits.
@@ -71,7 +81,7 @@ fn save_group<K: Shelf>(
     requires shape { shape.now ≡ file_shape plan.now.graph stack.now node }
     requires frames { All (λ k. k < length stack.now.arrays) group.now }
     requires some { 1 ≤ length group.now }
-    requires within { length_of shape.now (length group.now) ≤ longest }
+    requires within { length_of shape.now (length group.now) ≤ longest_of shape.now.form }
     ensures ok { OnOk result (K.held shelf.new ≡ with_file (K.held shelf.old) name.now (layout shape.now (arrays_out plan.now.graph.nodes stack.now.arrays node group.now))) }
     ensures err { OnErr result (IsFileBegun (K.held shelf.old)
         (record { name = name.now; bytes = layout shape.now (arrays_out plan.now.graph.nodes stack.now.arrays node group.now); late = late }) (K.held shelf.new)) }
@@ -111,7 +121,8 @@ pub(crate) fn save_groups<K: Shelf>(
     requires rule { IsFile rule.now }
     requires frames { All (λ k. k < length stack.now.arrays) passed.now }
     requires few { length passed.now ≤ length stack.now.arrays }
-    requires within { length_of (file_shape plan.now.graph stack.now node) (min rule.now.count (length stack.now.arrays)) ≤ longest }
+    requires form { rule.now.form ≡ form_at plan.now.graph.nodes node }
+    requires within { length_of (file_shape plan.now.graph stack.now node) (min rule.now.count (length stack.now.arrays)) ≤ longest_of (form_at plan.now.graph.nodes node) }
     ensures ok { OnOk result (K.held shelf.new ≡ with_files (K.held shelf.old)
         (group_files rule.now.mode (file_shape plan.now.graph stack.now node) prefix.now name.now 0
         (groups rule.now.count (arrays_out plan.now.graph.nodes stack.now.arrays node passed.now)))) }
@@ -120,7 +131,7 @@ pub(crate) fn save_groups<K: Shelf>(
         (groups rule.now.count (arrays_out plan.now.graph.nodes stack.now.arrays node passed.now))) (K.held shelf.new)) }
     ensures cause { IsSaveCause result (K.faults shelf.old) (K.faults shelf.new) }
 {
-    let shape = shape_of(alloc, plan, stack, node)?;
+    let shape = shape_of(alloc, plan, stack, node, rule.form)?;
     let late = is_stream(rule.mode);
     for (g, group) in passed.chunks(rule.count as usize).enumerate() {
         let file = group_name(alloc, prefix, name, g)?;

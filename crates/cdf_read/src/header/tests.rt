@@ -6,7 +6,7 @@ ghost use Rattle.cdf_read.specs.Grammar.{IsOfFile};
 
 use crate::place::value_place;
 use crate::size::size_within;
-use crate::{CdfFault, Header, header_or_fault, read_header};
+use crate::{CdfFault, Header, faults_are_first, header_or_fault, read_header};
 use std::alloc::{AllocError, Global};
 use std::process::Abort;
 use std::test::Fail;
@@ -57,6 +57,7 @@ fn assert_fronts(rt: &impl Abort, alloc: Global, file: &[u8]) {
 fn each_front_of_a_file_has_its_fault(rt: HostRuntime) {
     assert_fronts(&rt, rt.alloc(), &FILE);
     header_or_fault();
+    faults_are_first();
 }
 
 /// The file with words at these places.
@@ -74,7 +75,15 @@ fn with_words(alloc: Global, file: &[u8], words: &[(usize, u32)]) -> Result<Vec<
 fn each_fault_comes_at_its_place(rt: HostRuntime) -> Result<(), Fail> {
     let large = 0x8000_0000;
     let cases = [
-        ([(0, 0x4344_4602), (4, large)], Some(CdfFault::Magic)),
+        ([(0, 0x4344_4603), (4, large)], Some(CdfFault::Magic)),
+        (
+            [(0, 0x4344_4602), (4, 1)],
+            Some(CdfFault::NameLength { at: 360 }),
+        ),
+        (
+            [(0, 0x4344_4602), (352, large)],
+            Some(CdfFault::Negative { at: 352 }),
+        ),
         ([(4, large), (8, 11)], Some(CdfFault::Negative { at: 4 })),
         ([(8, 11), (12, large)], Some(CdfFault::Tag { at: 8 })),
         ([(8, 0), (12, 1)], Some(CdfFault::Tag { at: 8 })),

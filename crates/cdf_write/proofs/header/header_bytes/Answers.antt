@@ -8,7 +8,7 @@ unfolding header
 returns-clause-bytes c =
     let shape = c.args.shape.now in
     let begin : c.header_size-begin.result ≡ header_length shape = rw c.as_slice.ensures at c.header_size-begin.ensures.value in
-    let magic = gains _ _ _ c.in_ok-extend_from_slice.ensures.items in
+    let magic = gains _ _ _ (rw c.version_of.ensures at c.in_ok-extend_from_slice.ensures.items) in
     let count = then magic (gains _ _ _ c.in_ok-push_record_count.ensures) in
     let dims = then count (gains _ _ _ c.in_ok-push_dimensions.ensures) in
     let attrs = then dims (gains _ _ _ c.in_ok-push_attributes.ensures) in

@@ -5,6 +5,6 @@ use Rattle.cdf_write.proofs.lengths.attrs_header_size.Given as goal
 
 abbrev pub invariant-loop-attr : goal.invariant-loop-attr
 invariant-loop-attr l = record {
-  total : l.total ≡ sum_by attr_header_length (take l.attr-index l.attrs);
+  total : l.total ≡ sum_by (attr_header_length l.form) (take l.attr-index l.attrs);
   small : l.total ≤ l.attr-index * 2048;
 }

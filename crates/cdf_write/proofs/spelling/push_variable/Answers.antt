@@ -6,4 +6,4 @@ returns-clause-bytes c =
     let front = then (then (gains _ _ _ c.in_ok-push_name.ensures) (gains _ _ _ c.in_ok-push_word.ensures)) (gains _ _ _ c.in_ok-push_words.ensures) in
     let kind = then (then front (gains _ _ _ c.in_ok-extend_from_slice.ensures.items)) (gains _ _ _ c.in_ok-push_word-2.ensures) in
     let size = then kind (gains _ _ _ (rw c.missing.ensures.value at c.in_ok-push_word-3.ensures)) in
-    (then size (gains _ _ _ c.in_ok-push_word-4.ensures)).is
+    (then size (gains _ _ _ c.in_ok-push_offset.ensures)).is

@@ -16,6 +16,13 @@ returns c =
     (λ attrs. (then (then (then tag count) fixed) (gains _ _ _ attrs)).is ∙ ap (λ bytes. c.args.out.now.items ++ bytes) (sym (variables_spelled c.args.shape.now c.args.begin)))
     (rw c.in_ok-begin.ensures.next at c.push_attrs.ensures)
 
+pub push_fixed-requires-clause-end : goal.push_fixed-requires-clause-end
+unfolding row_length
+push_fixed-requires-clause-end c =
+    let shape = c.args.shape.now in
+    let parts = sum_by-append (λ (e : Column). padded_length e.size) (fixed_columns shape) (map (attr_column shape) shape.attrs) in
+    omega (arith, parts, c.requires.end)
+
 pub push_attrs-requires-clause-end : goal.push_attrs-requires-clause-end
 unfolding row_length
 push_attrs-requires-clause-end c =

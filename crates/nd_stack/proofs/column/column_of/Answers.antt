@@ -5,4 +5,4 @@ use Rattle.nd_stack.proofs.column.column_of.Goals as goal
 pub overflow_mul-size : goal.overflow_mul-size
 overflow_mul-size c =
     let whole = values_size-most c.args.header.now c.args.var.now in
-    rw (c.frame_values.ensures, c.size_of_value.ensures.value) (omega (arith, whole, c.requires))
+    rw (c.frame_values.ensures, c.from.ensures, c.size_of_value.ensures.value) (omega (arith, whole, c.requires))

@@ -1,5 +1,7 @@
 use Rattle.std.proofs.Common.{refl, sym}
 use Rattle.nd_stack.specs.KeptStacks.{IsKeptStack-ReadsBack}
+use Rattle.replay_top.specs.Copy.{copy_shape}
+use Rattle.replay_top.proofs.CopyKept.{copy-IsKeptStack}
 use Rattle.replay_top.specs.Command.{Copy}
 use Rattle.replay_top.specs.CopyLaw.{copy_graph}
 use Rattle.replay_top.proofs.Asked.{passed-copy, copy_limit-none}
@@ -22,7 +24,7 @@ returns-in-Ok-print_frames-clause-ends g c =
       read = c.in-Ok.ensures.ok.source;
       within = sym c.in_default.ensures;
       files = c.in_default-save_copy.ensures.ok;
-      back = λ some. IsKeptStack-ReadsBack c.in-Ok.stack c.in-Ok.ensures.ok.kept some (copy_limit-none c.in-Ok.stack (sym c.in_default.ensures));
+      back = λ some. IsKeptStack-ReadsBack (record { shape = copy_shape c.in-Ok.stack; arrays = c.in-Ok.stack.arrays }) (copy-IsKeptStack c.in-Ok.stack c.in-Ok.ensures.ok.kept) some (copy_limit-none c.in-Ok.stack (sym c.in_default.ensures));
       printed = (rw c.frames.ensures at c.in-Ok-print_frames.ensures.ok);
     }
 

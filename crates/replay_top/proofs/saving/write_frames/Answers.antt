@@ -5,6 +5,8 @@ use Rattle.std.proofs.lemmas.Option.{get_or_from_slice_get}
 use Rattle.std.proofs.lemmas.Result.{err_from_is_err_and}
 use Rattle.nd_base.specs.Array.{Array}
 use Rattle.nd_base.specs.Shapes.{array_of}
+use Rattle.nd_base.specs.declared.attribute.FileShape.{FileShape}
+use Rattle.nd_base.specs.declared.form.Form.TheVariants.{Classic}
 use Rattle.edge_traits.specs.Files.{with_file, with_more}
 use Rattle.edge_traits.specs.FileLaws.{Stands-with_file, with_more-with_file}
 use Rattle.cdf_write.specs.Layout.{header, row}
@@ -13,16 +15,17 @@ use Rattle.file_out.specs.Streams.{Stream}
 use Rattle.file_out.specs.StreamLaws.{HasRange-begun_file}
 use Rattle.file_out.specs.BegunLaws.{IsBegun-whole, IsBegun-BeginStops, IsBegun-AddStops}
 use Rattle.nd_base.specs.Rebuilt.{frame-rebuilt}
-use Rattle.replay_top.specs.Copy.{copy_file}
+use Rattle.replay_top.specs.Copy.{copy_shape, copy_file}
 use Rattle.replay_top.proofs.Frames.{begun_copy, begun_copy-more, begun_copy-whole, copy_file-front}
 use Rattle.replay_top.proofs.saving.write_frames.Goals as goal
 
 pub returns-in_err-file-clause-err : goal.returns-in_err-file-clause-err
 returns-in_err-file-clause-err g c =
-    let p = err_from_is_err_and c.from_residual.result c.from_residual.ensures.1 in
+    let p = err_from_is_err_and c.from_residual-in_err-file.result c.from_residual-in_err-file.ensures.1 in
     let s = c.args.stack.now in
-    let stops = (rw (c.shape-shape.ensures.value, c.frames-frames.ensures) at c.in_err-file.ensures.err) in
-    rw p.1 (IsBegun-BeginStops c.in_err-file.field-0.0 _ _ c.args.name.now (header s.shape (Some (length s.arrays))) (flat_map (row s.shape) s.arrays) (copy_file s) refl stops)
+    let shape_is : c.in_ok-shape.shape ≡ copy_shape s = c.in_ok-shape.ensures ∙ ap (λ (sh : FileShape). record sh { form = Classic }) c.shape.ensures.value in
+    let stops = (rw (shape_is, c.frames-frames.ensures) at c.in_err-file.ensures.err) in
+    rw p.1 (IsBegun-BeginStops c.in_err-file.field-0.0 _ _ c.args.name.now (header (copy_shape s) (Some (length s.arrays))) (flat_map (row (copy_shape s)) s.arrays) (copy_file s) refl stops)
 
 pub add-requires-clause-row : goal.add-requires-clause-row
 add-requires-clause-row g c =
@@ -32,9 +35,9 @@ add-requires-clause-row g c =
     let head = c.head.result.now in
     let within : k < length s.arrays = omega (arith, c.loop-k-test.true, c.frames-frames.ensures) in
     let array = array_of head s.shape.kind s.shape.dims out in
-    let found : slice_get s.arrays k ≡ Some array = frame-rebuilt s.arrays s.shape k head out within c.shape-shape.ensures.sound.frames c.head.ensures c.frame.ensures.samples in
+    let found : slice_get s.arrays k ≡ Some array = frame-rebuilt s.arrays s.shape k head out within c.shape.ensures.sound.frames c.head.ensures c.frame.ensures.samples in
     let columns : HasColumns s.shape head.attrs = subst (λ (a : Array). HasColumns s.shape a.attrs) (get_or_from_slice_get s.arrays k array array found) (c.requires.kept.each k array within).attrs in
-    rw c.loop-k.invariant.stream (record { columns = columns; samples = c.frame.ensures.size })
+    rw c.loop-k.invariant.stream (record { columns = record { same = columns.same; texts = columns.texts }; samples = c.frame.ensures.size })
 
 pub add-requires-clause-stands : goal.add-requires-clause-stands
 add-requires-clause-stands g c =
@@ -49,10 +52,10 @@ returns-in_err-add-clause-err g c =
     let head = c.head.result.now in
     let within : k < length s.arrays = omega (arith, c.loop-k-test.true, c.frames-frames.ensures) in
     let array = array_of head s.shape.kind s.shape.dims out in
-    let found : slice_get s.arrays k ≡ Some array = frame-rebuilt s.arrays s.shape k head out within c.shape-shape.ensures.sound.frames c.head.ensures c.frame.ensures.samples in
+    let found : slice_get s.arrays k ≡ Some array = frame-rebuilt s.arrays s.shape k head out within c.shape.ensures.sound.frames c.head.ensures c.frame.ensures.samples in
     let others = copy_file-front s (k + 1) in
     let stops = (rw c.loop-k.invariant.stream at c.in_err-add.ensures.err) in
-    rw p.1 (IsBegun-AddStops c.in_err-add.field-0.0 _ (g.K.Shelf.held c.loop-k.shelf) _ c.args.name.now (begun_copy s k) (row s.shape array) others.0 (copy_file s)
+    rw p.1 (IsBegun-AddStops c.in_err-add.field-0.0 _ (g.K.Shelf.held c.loop-k.shelf) _ c.args.name.now (begun_copy s k) (row (copy_shape s) array) others.0 (copy_file s)
     (others.1 ∙ ap (λ bytes. bytes ++ others.0) (begun_copy-more s k array within found)) c.loop-k.invariant.files stops)
 
 pub loop-k-preserved : goal.loop-k-preserved
@@ -65,12 +68,12 @@ loop-k-preserved g c =
     let head = c.head.result.now in
     let within : k < length s.arrays = omega (arith, c.loop-k-test.true, c.frames-frames.ensures) in
     let array = array_of head s.shape.kind s.shape.dims out in
-    let found : slice_get s.arrays k ≡ Some array = frame-rebuilt s.arrays s.shape k head out within c.shape-shape.ensures.sound.frames c.head.ensures c.frame.ensures.samples in
+    let found : slice_get s.arrays k ≡ Some array = frame-rebuilt s.arrays s.shape k head out within c.shape.ensures.sound.frames c.head.ensures c.frame.ensures.samples in
     let added = (rw c.loop-k.invariant.stream at c.in_ok-add.ensures.ok) in
     record {
       files =
-          added ∙ ap (λ w. with_more w name (row s.shape array)) c.loop-k.invariant.files
-          ∙ with_more-with_file (held c.args.shelf.now) name (begun_copy s k) (row s.shape array)
+          added ∙ ap (λ w. with_more w name (row (copy_shape s) array)) c.loop-k.invariant.files
+          ∙ with_more-with_file (held c.args.shelf.now) name (begun_copy s k) (row (copy_shape s) array)
           ∙ ap (with_file (held c.args.shelf.now) name) (sym (begun_copy-more s k array within found));
       stream = c.in_ok-add.ensures.counted ∙ ap (λ (f : Stream). (record f { count = f.count + 1 })) c.loop-k.invariant.stream;
       none = c.in_ok-add.ensures.cause ∙ c.loop-k.invariant.none;
@@ -79,7 +82,7 @@ loop-k-preserved g c =
 pub end-requires-clause-stands : goal.end-requires-clause-stands
 end-requires-clause-stands g c =
     let s = c.args.stack.now in
-    rw (c.loop-k.invariant.stream, c.loop-k.invariant.files) (HasRange-begun_file (g.K.Shelf.held c.args.shelf.now) c.args.name.now s.shape (Some (length s.arrays)) (take c.loop-k.k s.arrays))
+    rw (c.loop-k.invariant.stream, c.loop-k.invariant.files) (HasRange-begun_file (g.K.Shelf.held c.args.shelf.now) c.args.name.now (copy_shape s) (Some (length s.arrays)) (take c.loop-k.k s.arrays))
 
 pub returns-in_err-end-clause-err : goal.returns-in_err-end-clause-err
 returns-in_err-end-clause-err g c =

@@ -1,8 +1,9 @@
 use Rattle.std.proofs.Common.{sym, ap, subst, ◌≤◌, ◌≡◌, ◌∙◌, length, arith}
 use Rattle.std.specs.Prelude.{min}
 use Rattle.std.proofs.Math.Nat.{min-le_left}
+use Rattle.nd_base.specs.Forms.{longest_of}
 use Rattle.nd_base.specs.declared.attribute.FileShape.{FileShape}
-use Rattle.cdf_write.specs.Lengths.{length_of, longest}
+use Rattle.cdf_write.specs.Lengths.{length_of}
 use Rattle.cdf_write.specs.Writable.{IsWritable}
 use Rattle.graph_files.specs.NodeShapes.{file_shape-IsWritable}
 use Rattle.graph_files.specs.OutFiles.{file_shape}
@@ -16,5 +17,7 @@ invariant_of-result c =
       writable = subst IsWritable (sym shape) (file_shape-IsWritable c.args.plan.now.graph c.args.stack.now c.args.node c.requires.kept.writable);
       some = c.requires.rule.count.0;
       few = omega (arith, room, min-le_left c.args.rule.now.count (length c.args.stack.now.arrays));
-      within = subst (λ (n : _). length_of c.in_ok-shape.shape n ≤ longest) (sym room) (subst (λ (sh : FileShape). length_of sh (min c.args.rule.now.count (length c.args.stack.now.arrays)) ≤ longest) (sym shape) c.requires.within);
+      within =
+          subst (λ (n : _). length_of c.in_ok-shape.shape n ≤ longest_of c.in_ok-shape.shape.form) (sym room)
+          (subst (λ (sh : FileShape). length_of sh (min c.args.rule.now.count (length c.args.stack.now.arrays)) ≤ longest_of sh.form) (sym shape) c.requires.within);
     }
