@@ -7,13 +7,30 @@ ghost use Rattle.chain_plain.specs.OneThread.{fires_at, outputs};
 
 use nd_base::{CircularRule, Kind, OutOfMemory, Plan, Stack, rule_at};
 use std::alloc::Global;
-use trig_window::{Window, push_into, trigger_fires};
+use trig_window::{passed_positions, trigger_fires};
 
 /// All of the positions.
 fn all_of(alloc: Global, accepted: &[u32]) -> Result<Vec<u32>, OutOfMemory>
     ensures { IfOk result (λ v. v.items ≡ accepted.now) }
 {
     Ok(accepted.to_vec(alloc)?)
+}
+
+/// Which of the positions fire.
+fn firing(
+    alloc: Global,
+    rule: &CircularRule,
+    stack: &Stack,
+    accepted: &[u32],
+) -> Result<Vec<bool>, OutOfMemory>
+    requires accepted { All (λ k. k < length stack.now.arrays) accepted.now }
+    ensures { IfOk result (λ v. v.items ≡ map (fires_at rule.now stack.now.arrays) accepted.now) }
+{
+    let mut fired = Vec::with_capacity(alloc, accepted.len())?;
+    for &position in accepted {
+        fired.push(trigger_fires(rule, &stack.head(position).attrs))?;
+    }
+    Ok(fired)
 }
 
 /// Those of the positions that lie in the rule's trigger windows.
@@ -27,13 +44,8 @@ fn windowed(
     requires accepted { All (λ k. k < length stack.now.arrays) accepted.now }
     ensures { IfOk result (λ v. v.items ≡ passed_items rule.now.pre rule.now.post rule.now.preset (map (fires_at rule.now stack.now.arrays) accepted.now) accepted.now) }
 {
-    let mut window = Window::new(alloc, rule.pre, rule.post, rule.preset)?;
-    let mut passed = Vec::new(alloc);
-    for &position in accepted {
-        let fired = trigger_fires(rule, &stack.head(position).attrs);
-        push_into(&mut window, position, fired, &mut passed)?;
-    }
-    Ok(passed)
+    let fired = firing(alloc, rule, stack, accepted)?;
+    passed_positions(alloc, rule.pre, rule.post, rule.preset, &fired, accepted)
 }
 
 /// The positions that a node passes on, where it accepted these in this order: at a circular node those in its

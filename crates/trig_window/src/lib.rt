@@ -12,6 +12,6 @@ mod window;
 
 pub use expression::{CalcFault, parse_calc};
 pub use firing::fires;
-pub use passing::{passed_positions, push_into};
+pub use passing::passed_positions;
 pub use trigger::trigger_fires;
 pub use window::{Passed, Window};

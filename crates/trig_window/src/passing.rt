@@ -1,39 +1,40 @@
 //! What a circular node passes on of a whole list.
-ghost use Rattle.std.specs.Prelude.{◌≡◌, ◌≤◌, ◌^◌, List, [], ◌∷◌, ◌++◌, Bool, length, IfOk, OnOk};
-ghost use Rattle.trig_window.specs.Windows.{kept, goes_out, passed};
-ghost use Rattle.trig_window.specs.Watching.{IsAfter, SameRule, StandsAt};
+ghost use Rattle.std.specs.Prelude.{◌≡◌, ◌≤◌, List, [], ◌∷◌, ◌++◌, Bool, length, IfOk, OnOk};
+ghost use Rattle.trig_window.specs.Windows.{goes_out, passed_items};
+ghost use Rattle.trig_window.specs.Watching.{SameRule, StandsAt};
 
 use crate::window::{Passed, Window};
 use nd_base::OutOfMemory;
 use std::alloc::Global;
 
-/// The positions that pass, of items that fire or don't. Each item is pushed, and what is pending goes out before the
-/// item that was passed on.
+/// Those of the positions that pass, where each position fires or doesn't. Each is pushed, and what is pending goes out
+/// before the one that was passed on.
+///
+/// # Errors
+///
+/// Only for want of memory.
 pub fn passed_positions(
     alloc: Global,
     pre: u32,
     post: u32,
     preset: u32,
     fired: &[bool],
+    positions: &[u32],
 ) -> Result<Vec<u32>, OutOfMemory>
     requires positive { 1 ≤ post }
-    requires few { length fired.now ≤ 2 ^ 32 }
-    ensures { IfOk result (λ v. v.items ≡ passed pre post preset fired.now) }
+    requires flags { length fired.now ≡ length positions.now }
+    ensures { IfOk result (λ v. v.items ≡ passed_items pre post preset fired.now positions.now) }
 {
     let mut window = Window::new(alloc, pre, post, preset)?;
     let mut passed = Vec::new(alloc);
-    for (position, fires) in fired.iter().enumerate() {
-        push_into(&mut window, position as u32, *fires, &mut passed)?;
+    for (place, fires) in fired.iter().enumerate() {
+        push_into(&mut window, positions[place], *fires, &mut passed)?;
     }
     Ok(passed)
 }
 
 /// Pushes an item and adds what goes out at it to a list: what is pending, and then the item where it is passed on.
-///
-/// # Errors
-///
-/// Only for want of memory.
-pub fn push_into<T: Drop>(
+fn push_into<T: Drop>(
     window: &mut Window<T>,
     item: T,
     fired: bool,
@@ -57,7 +58,7 @@ pub fn push_into<T: Drop>(
     }
 }
 
-// Moves what is pending to the end of a list.
+/// Moves what is pending to the end of a list.
 fn drain_ring<T: Drop>(window: &mut Window<T>, out: &mut Vec<T>) -> Result<(), OutOfMemory>
     ensures window { OnOk result (window.new ≡ record window.old { pending = [] }) }
     ensures out { OnOk result (out.new.items ≡ out.old.items ++ window.old.pending) }

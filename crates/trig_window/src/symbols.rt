@@ -28,7 +28,7 @@ pub struct Token {
     pub at: u32,
 }
 
-// Two bytes that are one sign.
+/// Two bytes that are one sign.
 fn pair_of(first: u8, second: u8) -> Option<Sign>
     ensures { result ≡ pair_of first second }
 {
@@ -43,7 +43,7 @@ fn pair_of(first: u8, second: u8) -> Option<Sign>
     }
 }
 
-// A byte by itself.
+/// A byte by itself.
 fn single_of(byte: u8) -> Symbol
     ensures { result ≡ single_of byte }
 {
@@ -62,7 +62,7 @@ fn single_of(byte: u8) -> Symbol
     }
 }
 
-// The longest symbol of a text that doesn't begin with a digit, and how many bytes it has.
+/// The longest symbol of a text that doesn't begin with a digit, and how many bytes it has.
 fn mark_at(text: &[u8]) -> (Symbol, usize)
     ensures mark { result ≡ mark_at text.now }
     ensures positive { 1 ≤ result.1 }
@@ -78,7 +78,7 @@ fn mark_at(text: &[u8]) -> (Symbol, usize)
     }
 }
 
-// The number that digits spell, or the greatest one of its type.
+/// The number that digits spell, or the greatest one of its type.
 fn capped_number(digits: &[u8]) -> u64
     requires { All (λ d. IsTrue (is_ascii_digit d)) digits.now }
     ensures { result ≡ min (number_of digits.now) (2 ^ 64 - 1) }
@@ -104,7 +104,7 @@ fn digits_symbol(digits: &[u8]) -> Symbol
     }
 }
 
-// How many digits a text begins with.
+/// How many digits a text begins with.
 fn digit_count(text: &[u8]) -> usize
     ensures count { result ≡ prefix_len is_ascii_digit text.now }
     ensures within { result ≤ length text.now }
@@ -113,7 +113,7 @@ fn digit_count(text: &[u8]) -> usize
     text.iter().take_while(|byte| byte.is_ascii_digit()).count()
 }
 
-// The longest symbol that a text begins with, and how many bytes it has.
+/// The longest symbol that a text begins with, and how many bytes it has.
 #[tactic(auto, unfolding(crate::specs::Symbols::symbol_at))]
 fn symbol_at(text: &[u8]) -> (Symbol, usize)
     ensures symbol { result ≡ symbol_at text.now }

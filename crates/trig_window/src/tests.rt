@@ -7,7 +7,7 @@ use nd_base::AttrValue;
 use std::alloc::{AllocError, Global};
 use std::test::Fail;
 
-// Whether the text's expression fires where A is 5 and B is 1.
+/// Whether the text's expression fires where A is 5 and B is 1.
 fn fires_at_five_and_one(alloc: Global, text: &str) -> Result<bool, CalcFault> {
     let calc = parse_calc(alloc, text)?;
     let five = AttrValue::Whole(5);
@@ -220,7 +220,7 @@ fn a_text_has_at_most_256_bytes(rt: HostRuntime) -> Result<(), Fail> {
     Ok(())
 }
 
-// The positions that pass of ten items, of which those at these positions fire.
+/// The positions that pass of ten items, of which those at these positions fire.
 fn passed_of_ten(
     alloc: Global,
     pre: u32,
@@ -236,7 +236,14 @@ fn passed_of_ten(
             fired[*trigger] = true;
         }
     }
-    Ok(passed_positions(alloc, pre, post, preset, &fired)?)
+    Ok(passed_positions(
+        alloc,
+        pre,
+        post,
+        preset,
+        &fired,
+        &[0, 1, 2, 3, 4, 5, 6, 7, 8, 9],
+    )?)
 }
 
 #[test]
@@ -259,7 +266,7 @@ fn windows_pass_what_stands_round_their_triggers(rt: HostRuntime) -> Result<(), 
     Ok(())
 }
 
-// A push where nothing is pending.
+/// A push where nothing is pending.
 fn pushed(window: &mut Window<u32>, item: u32, fired: bool) -> Option<Passed<u32>> {
     if window.pending() != 0 {
         return None;

@@ -1,11 +1,6 @@
-use Rattle.std.proofs.Common.{◌≡◌, take}
-use Rattle.trig_window.specs.Windows.{passed, positions_from}
-use Rattle.trig_window.specs.Watch.{new_watch}
-use Rattle.trig_window.specs.Watching.{SameRule, StandsAt}
+use Rattle.std.proofs.Common.{take}
+use Rattle.trig_window.proofs.Positions.{Passes}
 use Rattle.trig_window.proofs.passing.passed_positions.Given as goal
 
-abbrev pub invariant-loop-position : goal.invariant-loop-position
-invariant-loop-position l =
-    SameRule (new_watch l.pre l.post l.preset) l.window
-    × StandsAt l.window (take l.position l.fired) (positions_from 0 (take l.position l.fired))
-    × (l.passed.items ≡ passed l.pre l.post l.preset (take l.position l.fired))
+abbrev pub invariant-loop-place : goal.invariant-loop-place
+invariant-loop-place l = Passes l.pre l.post l.preset l.window (take l.place l.fired) (take l.place l.positions) l.passed.items
