@@ -9,37 +9,24 @@ use Rattle.nd_base.specs.declared.graph.Graph.{Graph}
 use Rattle.nd_base.specs.declared.graph.Kind.{Kind}
 use Rattle.nd_base.specs.declared.graph.Kind.TheVariants.{Roi, Stats, Circular, File, Scatter}
 use Rattle.nd_base.specs.declared.graph.NodeRule.{NodeRule}
-use Rattle.nd_base.specs.GraphRules.{IsGraph, input_of, source_of, rule_at}
+use Rattle.nd_base.specs.GraphRules.{IsGraph, input_of, rule_at}
 use Rattle.trig_window.specs.Windows.{at_positions, is_passed}
 use Rattle.chain_plain.specs.OneThread.{fires_at, kind_outputs, rule_outputs, outputs}
-use Rattle.chain_plain.specs.PassingLaws.{rule_within, input_none, input_some}
+use Rattle.chain_plain.specs.PassingLaws.{rule_within, input_some, walked-more, walked-none}
 use Rattle.chain_plain.specs.PlainRun.{passed_within, passed}
 
 -- A NODE ACTS ON WHAT GOES OUT OF ITS INPUT
 
--- where so many steps lead to the driver, one more changes nothing
-passed_within-more : (nodes : List NodeRule) (arrays : List Array) (steps v : ℕ) → source_of nodes steps v ≡ 0 → passed_within nodes arrays (suc steps) v ≡ passed_within nodes arrays steps v
-passed_within-more nodes arrays zero zero h = refl
-passed_within-more nodes arrays zero (suc k) h = let e : suc k ≡ 0 = h in absurd (omega (arith, e))
-passed_within-more nodes arrays (suc steps) v h = ap (outputs nodes arrays v) (passed_within-more nodes arrays steps (input_of nodes v) h)
-
 -- what goes out of a node is what it makes of what goes out of its input
 pub passed-step : (g : Graph) (s : StackValue) (v : ℕ) → IsGraph g → v ≤ length g.nodes → passed g s v ≡ outputs g.nodes s.arrays v (passed g s (input_of g.nodes v))
-passed-step g s v sound within = sym (passed_within-more g.nodes s.arrays (length g.nodes) v (sound.acyclic v within))
-
-passed_within-driver : (nodes : List NodeRule) (arrays : List Array) (steps : ℕ) → passed_within nodes arrays steps 0 ≡ range_with_len 0 (length arrays)
-passed_within-driver nodes arrays zero = refl
-passed_within-driver nodes arrays (suc steps) = passed_within-driver nodes arrays steps
-
-passed_within-none : (nodes : List NodeRule) (arrays : List Array) (steps v : ℕ) → None ≡ rule_at nodes v → passed_within nodes arrays steps v ≡ range_with_len 0 (length arrays)
-passed_within-none nodes arrays zero v none = refl
-passed_within-none nodes arrays (suc steps) v none =
-    ap (λ o. rule_outputs o arrays (passed_within nodes arrays steps (input_of nodes v))) (sym none)
-    ∙ ap (passed_within nodes arrays steps) (input_none nodes v none) ∙ passed_within-driver nodes arrays steps
+passed-step g s v sound within =
+    sym (walked-more (outputs g.nodes s.arrays) g.nodes (λ ks. refl) (length g.nodes) v (range_with_len 0 (length s.arrays)) (sound.acyclic v within))
 
 -- all frames go out of the driver, which has no rule
 pub passed-none : (g : Graph) (s : StackValue) (v : ℕ) → None ≡ rule_at g.nodes v → passed g s v ≡ range_with_len 0 (length s.arrays)
-passed-none g s v none = passed_within-none g.nodes s.arrays (length g.nodes) v none
+passed-none g s v none =
+    walked-none (outputs g.nodes s.arrays) g.nodes (λ ks. refl) (length g.nodes) v (range_with_len 0 (length s.arrays)) none
+    (λ ks. ap (λ o. rule_outputs o s.arrays ks) (sym none))
 
 -- and what a node's rule makes of what goes out of its input goes out of the node
 pub passed-rule : (g : Graph) (s : StackValue) (v : ℕ) (n : NodeRule) → IsGraph g → Some n ≡ rule_at g.nodes v → passed g s v ≡ outputs g.nodes s.arrays v (passed g s n.input)

@@ -1,10 +1,11 @@
 -- What goes out of a node, as it is made of what goes out of the driver by the nodes on the way.
-use Rattle.std.specs.Prelude.{ℕ, zero, suc, List, length, Option, Some, None}
+use Rattle.std.specs.Prelude.{ℕ, List, length, Option, Some, None}
 use Rattle.nd_base.specs.declared.graph.NodeRule.{NodeRule}
 use Rattle.nd_base.specs.declared.graph.Kind.{Kind}
 use Rattle.nd_base.specs.declared.graph.Kind.TheVariants.{Roi, Stats, Circular, File, Scatter}
 use Rattle.nd_base.specs.declared.graph.RoiRule.{RoiRule}
-use Rattle.nd_base.specs.GraphRules.{input_of, rule_at}
+use Rattle.nd_base.specs.GraphRules.{rule_at}
+use Rattle.chain_plain.specs.Nodes.{walked}
 
 -- a region node cuts what comes to it, and every other passes it on as it is
 abbrev pub by_kind : {X : Type 0} → (RoiRule → X → X) → Kind → X → X
@@ -20,8 +21,7 @@ by_node cut (Some n) x = by_kind cut n.kind x
 
 -- what goes out of node v where x goes out of the driver, over so many nodes at most
 abbrev pub passed_on : {X : Type 0} → (RoiRule → X → X) → List NodeRule → (steps v : ℕ) → X → X
-passed_on cut nodes zero v x = x
-passed_on cut nodes (suc steps) v x = by_node cut (rule_at nodes v) (passed_on cut nodes steps (input_of nodes v) x)
+passed_on cut nodes steps v x = walked (λ w y. by_node cut (rule_at nodes w) y) nodes steps v x
 
 -- what goes out of node v: in a graph no way from the driver has more nodes than there are
 abbrev pub out_of : {X : Type 0} → (RoiRule → X → X) → List NodeRule → ℕ → X → X

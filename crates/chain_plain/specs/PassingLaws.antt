@@ -9,7 +9,7 @@ use Rattle.nd_base.specs.declared.graph.Kind.TheVariants.{Roi, Stats, Circular, 
 use Rattle.nd_base.specs.declared.graph.NodeRule.{NodeRule}
 use Rattle.nd_base.specs.declared.graph.RoiRule.{RoiRule}
 use Rattle.nd_base.specs.GraphRules.{IsGraph, makes_arrays, input_of, source_of, rule_at}
-use Rattle.chain_plain.specs.Nodes.{is_region, maker_within, maker_at}
+use Rattle.chain_plain.specs.Nodes.{is_region, walked, maker_after, maker_within, maker_at}
 use Rattle.chain_plain.specs.Passing.{by_kind, by_node, passed_on, out_of}
 
 -- a node that has a rule is one of the graph's
@@ -26,30 +26,38 @@ pub input_some : (nodes : List NodeRule) (v : ℕ) (n : NodeRule) → Some n ≡
 input_some nodes zero n h = let e : Some n ≡ None = h in absurd (cc)
 input_some nodes (suc k) n h = ap (λ o. option_map_or (λ (r : NodeRule). r.input) o 0) (sym h)
 
-module _ {X : Type 0} (cut : RoiRule → X → X) (nodes : List NodeRule) where
+-- Laws of a walk whose step leaves as it is what comes out of the driver.
+module _ {X : Type 0} (step : ℕ → X → X) (nodes : List NodeRule) (driver : (x : X) → step 0 x ≡ x) where
   -- where so many steps lead to the driver, one more changes nothing
-  passed_on-more : (steps v : ℕ) (x : X) → source_of nodes steps v ≡ 0 → passed_on cut nodes (suc steps) v x ≡ passed_on cut nodes steps v x
-  passed_on-more zero zero x h = refl
-  passed_on-more zero (suc k) x h = let e : suc k ≡ 0 = h in absurd (omega (arith, e))
-  passed_on-more (suc steps) v x h = ap (by_node cut (rule_at nodes v)) (passed_on-more steps (input_of nodes v) x h)
+  pub walked-more : (steps v : ℕ) (x : X) → source_of nodes steps v ≡ 0 → walked step nodes (suc steps) v x ≡ walked step nodes steps v x
+  walked-more zero zero x h = driver x
+  walked-more zero (suc k) x h = let e : suc k ≡ 0 = h in absurd (omega (arith, e))
+  walked-more (suc steps) v x h = ap (step v) (walked-more steps (input_of nodes v) x h)
 
+  pub walked-driver : (steps : ℕ) (x : X) → walked step nodes steps 0 x ≡ x
+  walked-driver zero x = refl
+  walked-driver (suc steps) x = driver (walked step nodes steps 0 x) ∙ walked-driver steps x
+
+  -- a number that has no rule is as the driver
+  pub walked-none : (steps v : ℕ) (x : X) → None ≡ rule_at nodes v → ((y : X) → step v y ≡ y) → walked step nodes steps v x ≡ x
+  walked-none zero v x none still = refl
+  walked-none (suc steps) v x none still =
+      still (walked step nodes steps (input_of nodes v) x)
+      ∙ ap (λ w. walked step nodes steps w x) (input_none nodes v none)
+      ∙ walked-driver steps x
+
+module _ {X : Type 0} (cut : RoiRule → X → X) (nodes : List NodeRule) where
   pub passed_on-step : (steps v : ℕ) (x : X) → source_of nodes steps v ≡ 0 → passed_on cut nodes steps v x ≡ by_node cut (rule_at nodes v) (passed_on cut nodes steps (input_of nodes v) x)
-  passed_on-step zero zero x h = refl
-  passed_on-step zero (suc k) x h = let e : suc k ≡ 0 = h in absurd (omega (arith, e))
-  passed_on-step (suc steps) v x h = ap (by_node cut (rule_at nodes v)) (sym (passed_on-more steps (input_of nodes v) x h))
+  passed_on-step steps v x h = sym (walked-more (λ w y. by_node cut (rule_at nodes w) y) nodes (λ y. refl) steps v x h)
 
   -- nothing but the driver's own goes out of the driver
   pub out_of-driver : (steps : ℕ) (x : X) → passed_on cut nodes steps 0 x ≡ x
-  out_of-driver zero x = refl
-  out_of-driver (suc steps) x = out_of-driver steps x
+  out_of-driver steps x = walked-driver (λ w y. by_node cut (rule_at nodes w) y) nodes (λ y. refl) steps x
 
   -- and out of a number that has no rule
   pub out_of-none : (steps v : ℕ) (x : X) → None ≡ rule_at nodes v → passed_on cut nodes steps v x ≡ x
-  out_of-none zero v x h = refl
-  out_of-none (suc steps) v x h =
-      ap (λ n. by_node cut n (passed_on cut nodes steps (input_of nodes v) x)) (sym h)
-      ∙ ap (λ w. passed_on cut nodes steps w x) (input_none nodes v h)
-      ∙ out_of-driver steps x
+  out_of-none steps v x h =
+      walked-none (λ w y. by_node cut (rule_at nodes w) y) nodes (λ y. refl) steps v x h (λ y. ap (λ n. by_node cut n y) (sym h))
 
 step_by : {X : Type 0} (cut : RoiRule → X → X) (g : Graph) (v : ℕ) (x : X) → IsGraph g → (o : Option NodeRule) → o ≡ rule_at g.nodes v → out_of cut g.nodes v x ≡ by_node cut o (out_of cut g.nodes (input_of g.nodes v) x)
 step_by cut g v x sound None h =
@@ -87,16 +95,10 @@ out_of-maker_within cut g (suc steps) v x sound h =
 pub is_region-none : (nodes : List NodeRule) (v : ℕ) → None ≡ rule_at nodes v → is_region nodes v ≡ false
 is_region-none nodes v h = ap (λ o. option_map_or (λ (n : NodeRule). makes_arrays n.kind) o false) (sym h)
 
-maker_within-driver : (nodes : List NodeRule) (steps : ℕ) → maker_within nodes steps 0 ≡ 0
-maker_within-driver nodes zero = refl
-maker_within-driver nodes (suc steps) = maker_within-driver nodes steps
-
 -- the maker of a number that has no rule is the driver
 pub maker_within-none : (nodes : List NodeRule) (steps v : ℕ) → None ≡ rule_at nodes v → maker_within nodes steps v ≡ 0
-maker_within-none nodes zero v h = refl
-maker_within-none nodes (suc steps) v h =
-    ap (λ b. if b then v else maker_within nodes steps (input_of nodes v)) (is_region-none nodes v h)
-    ∙ ap (maker_within nodes steps) (input_none nodes v h) ∙ maker_within-driver nodes steps
+maker_within-none nodes steps v h =
+    walked-none (maker_after nodes) nodes (λ m. refl) steps v 0 h (λ m. ap (λ b. if b then v else m) (is_region-none nodes v h))
 
 maker_by : {X : Type 0} (cut : RoiRule → X → X) (g : Graph) (v : ℕ) (x : X) → IsGraph g → (o : Option NodeRule) → o ≡ rule_at g.nodes v → out_of cut g.nodes v x ≡ out_of cut g.nodes (maker_at g.nodes v) x
 maker_by cut g v x sound None h =
@@ -120,11 +122,6 @@ pub maker_makes : (nodes : List NodeRule) (steps v : ℕ) → IsMaker nodes (mak
 maker_makes nodes zero v = inl refl
 maker_makes nodes (suc steps) v = maker_if nodes v _ (is_region nodes v) refl (maker_makes nodes steps (input_of nodes v))
 
-maker_within-more : (nodes : List NodeRule) (steps v : ℕ) → source_of nodes steps v ≡ 0 → maker_within nodes (suc steps) v ≡ maker_within nodes steps v
-maker_within-more nodes zero zero h = refl
-maker_within-more nodes zero (suc k) h = let e : suc k ≡ 0 = h in absurd (omega (arith, e))
-maker_within-more nodes (suc steps) v h = ap (λ w. if is_region nodes v then v else w) (maker_within-more nodes steps (input_of nodes v) h)
-
 -- a region node is its own maker, and another node has the maker of its input
 pub maker_at-step : (g : Graph) (v : ℕ) → IsGraph g → v ≤ length g.nodes → maker_at g.nodes v ≡ (if is_region g.nodes v then v else maker_at g.nodes (input_of g.nodes v))
-maker_at-step g v sound within = sym (maker_within-more g.nodes (length g.nodes) v (sound.acyclic v within))
+maker_at-step g v sound within = sym (walked-more (maker_after g.nodes) g.nodes (λ m. refl) (length g.nodes) v 0 (sound.acyclic v within))

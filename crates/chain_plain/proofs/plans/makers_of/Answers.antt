@@ -1,6 +1,5 @@
 use Rattle.std.proofs.Common.{◌≡◌, ◌∷◌, [], ◌++◌, ◌+◌, ◌<◌, length, map, filter, get_or, ap, sym, ◌∙◌, arith, ℕ}
 use Rattle.std.specs.List.{range_with_len}
-use Rattle.nd_base.specs.GraphRules.{makes_arrays}
 use Rattle.nd_base.specs.declared.plan.Maker.{Maker}
 use Rattle.chain_plain.specs.Nodes.{is_region}
 use Rattle.chain_plain.specs.Plans.{maker_of, shape_at}
