@@ -11,23 +11,46 @@ use std::sync::Wait;
 use std::thread::Threads;
 use std::{env, io, time};
 
-const HELP: &str = "nd_replay: replays a stack of detector frames
+const HELP: &str = "nd_replay: replays a stack of detector frames through a graph of plugins
 
-    nd_replay copy STACK PREFIX            writes the frames of STACK to <PREFIX>copy_000.nc
-    nd_replay plain GRAPH STACK PREFIX     runs the plugins of GRAPH over the frames of STACK in
-                                           one thread, and writes their files
-    nd_replay run GRAPH STACK PREFIX       runs them in threads of their own, with queues and a
-                                           pool; writes their files, and prints what was kept,
-                                           what was dropped and what came out of order
+    nd_replay run GRAPH STACK PREFIX       runs the plugins in threads of their own, with queues
+                                           and a pool; writes their files, and prints what was
+                                           kept, what was dropped and what came out of order
     nd_replay run-log GRAPH STACK PREFIX   does the same, and writes the run's log to
                                            <PREFIX>log.txt
+    nd_replay plain GRAPH STACK PREFIX     runs them in one thread; nothing is dropped
+    nd_replay copy STACK PREFIX            writes the frames of STACK to <PREFIX>copy_000.nc
     nd_replay info STACK                   prints the sample type, the dimensions, the number of
                                            frames, the ids and the attributes of STACK
     nd_replay --help                       prints this text
     nd_replay --version                    prints the version
 
-STACK is a netCDF classic file, and GRAPH a TOML text. The status is 0 where the command
-did its work; else one line on standard error says why.
+STACK is a netCDF file in the classic or the 64-bit offset format, of at most 1 GiB. Its variable
+array_data holds the frames, and the first dimension of that counts them: whole numbers of 8, 16
+or 32 bits, at most 65,536 frames, of 1 to 10 dimensions and at most 67,108,864 samples each. The
+variables uniqueId, timeStamp, epicsTSSec, epicsTSNsec and Attr_NAME are used where they are there.
+'nccopy -k classic OLD NEW' makes one of other netCDF files. docs/formats.md has the rules.
+
+GRAPH is a TOML text of at most 1 MiB with up to 32 plugins. docs/graph.md lists its keys.
+
+A file node writes <PREFIX>NODE_000.nc, <PREFIX>NODE_001.nc and so on, and a statistics node
+<PREFIX>NODE.txt. What stands under such a name is replaced without a question, the inputs too
+where they are named so. No folder is made.
+
+The status, which one line on standard error tells where it isn't 0:
+
+    0  Done         the command did its work
+    1  Usage        there is no such command, or it takes another number of words
+    2  GraphText    GRAPH is no TOML: mend its text
+    3  GraphRule    GRAPH breaks a rule, which is named: see docs/graph.md
+    4  StackBytes   STACK isn't such a file; the fault is named: see docs/formats.md
+    5  Limit        a file is too large, or a run or a file would be: cut the stack, or write
+                    smaller groups of arrays
+    6  ReadFault    GRAPH or STACK isn't there or can't be read
+    7  ShelfFault   a file can't be made or written, as where its folder isn't there or is full:
+                    delete what wasn't finished, and run again
+    8  OutFault     the files stand, but standard output failed
+    9  OutOfMemory  memory was wanting: free some, or cut the stack
 ";
 
 const VERSION: &str = "nd_replay 0.1.0
