@@ -99,6 +99,7 @@ fn short_number(word: &str) -> Result<u32> {
 }
 
 impl<'a> Line<'a> {
+    /// What a line says.
     pub fn read(alloc: Global, line: &'a str) -> Result<Line<'a>> {
         let words: Vec<&'a str> = line.split_whitespace().collect(alloc)?;
         let line = match words.as_slice() {
@@ -123,6 +124,7 @@ fn worker_call(role: &str, call: WorkCall) -> Result<Call> {
 }
 
 impl Call {
+    /// The call that the words of a line make.
     fn read(words: &[&str]) -> Result<Call> {
         match words {
             ["load", "0", tick] => Ok(Call::Feed(FeedCall::Load {

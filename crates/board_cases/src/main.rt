@@ -18,6 +18,7 @@ use anyhow::{Context, Result};
 use std::io::{BufRead, BufReader};
 use table::Player;
 
+/// Plays the table on standard input.
 fn main(rt: HostRuntime) -> Result<()> {
     let alloc = rt.alloc();
     let mut player = Player::new(alloc);

@@ -25,6 +25,7 @@ pub struct Player {
 }
 
 impl Player {
+    /// A player without a board.
     pub fn new(alloc: Global) -> Player {
         Player { alloc, game: None }
     }
@@ -58,6 +59,7 @@ impl Player {
         Ok(())
     }
 
+    /// Begins a board over these files.
     fn begin(&mut self, graph: &str, stack: &str) -> Result<()> {
         self.game = Some(Game {
             graph: String::from_str(self.alloc, graph)?,
@@ -67,6 +69,7 @@ impl Player {
         Ok(())
     }
 
+    /// Adds a call with its line to those of the board.
     fn add(&mut self, line: &str, call: Call) -> Result<()> {
         let line = String::from_str(self.alloc, line)?;
         let game = self.game.as_mut().context("a call has no board")?;
@@ -74,6 +77,7 @@ impl Player {
         Ok(())
     }
 
+    /// Ends the board: makes its calls and this end, or prints why its files give no run.
     fn end<W: Files + Print + Wait + AllocGlobal>(
         &mut self,
         rt: &W,

@@ -84,6 +84,7 @@ enum Worked {
 }
 
 impl Worked {
+    /// The graph that it stands for.
     fn graph(self, alloc: Global) -> Result<Graph, AllocError>
         ensures { IfOk result IsGraph }
     {

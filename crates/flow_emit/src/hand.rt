@@ -44,6 +44,7 @@ pub struct RoleState {
 }
 
 impl Hand {
+    /// Whether there is nothing in hand.
     pub fn is_free(self) -> bool
         ensures { result ≡ has_nothing self }
     {

@@ -48,18 +48,21 @@ const KINDS: [Kind; 18] = [
     Kind::Reclaim,
 ];
 
+/// The number at this place; 0 where there is none.
 fn number_at(numbers: &[u64], place: usize) -> u64
     ensures { result ≡ number_at numbers.now place }
 {
     numbers.get(place).copied().unwrap_or(0)
 }
 
+/// The same in 32 bits, and their greatest number where it is greater.
 fn small_at(numbers: &[u64], place: usize) -> u32
     ensures { result ≡ small_at numbers.now place }
 {
     number_at(numbers, place).min(u64::from(u32::MAX)) as u32
 }
 
+/// Whether the number at this place is 1.
 fn flag_at(numbers: &[u64], place: usize) -> bool
     ensures { result ≡ flag_at numbers.now place }
 {
@@ -67,7 +70,7 @@ fn flag_at(numbers: &[u64], place: usize) -> bool
 }
 
 impl Kind {
-    // The word at the front of a line, with the space behind it.
+    /// The word at the front of a line, with the space behind it.
     fn word(self) -> &'static str
         ensures { result.now ≡ kind_word self }
     {

@@ -34,7 +34,7 @@ impl Log {
         Ok(Log { entries, room })
     }
 
-    // The log of these entries, with no room for more.
+    /// The log of these entries, with no room for more.
     pub(crate) fn from_entries(entries: Vec<Entry>) -> Log
         requires { vec_len entries < 2 ^ 32 }
         ensures { result ≡ record { past = reverse entries.items; room = vec_len entries } }

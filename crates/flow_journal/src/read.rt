@@ -42,7 +42,7 @@ impl<T: Drop> From<AllocFailed<T>> for LogFault {
     }
 }
 
-// The decimal numbers in a line, in order, each up to the greatest of 64 bits.
+/// The decimal numbers in a line, in order, each up to the greatest of 64 bits.
 fn read_numbers(line: &[u8], numbers: &mut Vec<u64>) -> Result<(), AllocError>
     ensures { OnOk result (numbers.new.items ≡ numbers_in line.now) }
 {
@@ -63,7 +63,7 @@ fn read_numbers(line: &[u8], numbers: &mut Vec<u64>) -> Result<(), AllocError>
     Ok(())
 }
 
-// The reason at the end of a line; Plain where there is none.
+/// The reason at the end of a line; Plain where there is none.
 fn why_at_end(line: &[u8]) -> Why
     ensures { result ≡ why_in line.now }
 {
@@ -77,14 +77,14 @@ fn why_at_end(line: &[u8]) -> Why
     }
 }
 
-// The place of the first newline.
+/// The place of the first newline.
 fn line_end(text: &[u8]) -> Option<usize>
     ensures { result ≡ position (λ c. c == 10) text.now }
 {
     text.iter().position(|byte| *byte == b'\n')
 }
 
-// Room for what is kept of one line.
+/// Room for what is kept of one line.
 #[derive(Drop)]
 struct Lines {
     numbers: Vec<u64>,
@@ -92,7 +92,7 @@ struct Lines {
 }
 
 impl Lines {
-    // The entry that is spelled so, if there is one.
+    /// The entry that is spelled so, if there is one.
     fn entry(&mut self, line: &[u8]) -> Result<Option<Entry>, AllocError>
         ensures { IfOk result (IsReading line.now) }
     {
@@ -110,7 +110,7 @@ impl Lines {
         }
     }
 
-    // The entry whose line the text begins with, and the text behind it, if there is one.
+    /// The entry whose line the text begins with, and the text behind it, if there is one.
     fn first_entry<'a>(&mut self, text: &'a [u8]) -> Result<Option<(Entry, &'a [u8])>, AllocError>
         ensures { IfOk result (λ read. IsLineRead text.now (option_map (λ p. record { entry = p.0; rest = p.1.now }) read)) }
     {

@@ -6,6 +6,7 @@ ghost use Rattle.flow_journal.specs.Spelling.{flag, why_word, grant_words, group
 use crate::{Entry, Why};
 use std::fmt;
 
+/// A truth value as an entry tells it.
 fn flag_text(value: bool) -> &'static str
     ensures { result.now ≡ flag value }
 {
@@ -27,7 +28,7 @@ impl fmt::Display for Why {
     }
 }
 
-// A grant, as an entry tells it.
+/// A grant, as an entry tells it.
 #[derive(Clone, Copy)]
 struct Grant {
     block: u32,
@@ -50,7 +51,7 @@ impl fmt::Display for Grant {
     }
 }
 
-// The group of a piece, as an entry tells it.
+/// The group of a piece, as an entry tells it.
 #[derive(Clone, Copy)]
 struct Group {
     number: u32,

@@ -250,6 +250,7 @@ const NO_LOGS: [(&str, u32); 24] = [
     ("load 0 0 size 4 block 0 fresh 1 given 0 regrown 0\n", 1),
 ];
 
+/// The log of these entries, of which there are at most 23.
 fn log_of(alloc: Global, entries: &[Entry]) -> Result<Log, OutOfMemory>
     requires { length entries.now ≤ 23 }
 {

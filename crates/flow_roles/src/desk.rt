@@ -32,6 +32,7 @@ pub trait Desk<F: Held> {
 
     ghost knows: { Self.Pass → Pass };
 
+    /// The next frame, with storage for it, or why there is none. `tick` is the moment of the call: late results go out by it.
     fn load<W: Wait>(
         &self,
         rt: &W,
@@ -48,6 +49,7 @@ pub trait Desk<F: Held> {
             (last_load result) (knows pass.old) (knows pass.new) }
         ensures room { HasRoom F.bytes_of (run_setting F.Of.graph F.Of.stack) role result (knows pass.new).made };
 
+    /// Offers the loaded frame to the children of the driver.
     fn issue<W: Wait>(
         &self,
         rt: &W,
@@ -64,6 +66,7 @@ pub trait Desk<F: Held> {
             (λ old new. IssueGives F.name_of (run_setting F.Of.graph F.Of.stack) old role frame result new)
             (last_given result) (knows pass.old) (knows pass.new) };
 
+    /// The next array of the node's queue as a job, at a maker with storage for what it makes.
     fn take<W: Wait>(
         &self,
         rt: &W,
@@ -81,6 +84,7 @@ pub trait Desk<F: Held> {
             (last_take result) (knows pass.old) (knows pass.new) }
         ensures lent { LendsJob F.parts F.bytes_of (run_setting F.Of.graph F.Of.stack) role node result (knows pass.new).made };
 
+    /// Takes the result of a job, and lets go out what then goes out of the node.
     fn put<W: Wait>(
         &self,
         rt: &W,
@@ -99,6 +103,7 @@ pub trait Desk<F: Held> {
             (λ old new. PutGives F.name_of (run_setting F.Of.graph F.Of.stack) old role done result new)
             (last_given result) (knows pass.old) (knows pass.new) };
 
+    /// Ends the node where nothing can come to it any more, and flushes what waits there.
     fn settle<W: Wait>(
         &self,
         rt: &W,
@@ -115,6 +120,7 @@ pub trait Desk<F: Held> {
             (λ old new. SettleGives (run_setting F.Of.graph F.Of.stack) old role node result new)
             Other (knows pass.old) (knows pass.new) };
 
+    /// Ends the feed where every frame was offered.
     fn close<W: Wait>(&self, rt: &W, alloc: Global, pass: &mut Self::Pass, role: u32) -> Settled
         requires pass { ours self.now pass.old × ((knows pass.old).role ≡ role) }
         requires role { role < last_role (run_setting F.Of.graph F.Of.stack) }
@@ -123,6 +129,7 @@ pub trait Desk<F: Held> {
             (λ old new. CloseGives (run_setting F.Of.graph F.Of.stack) old role result new)
             (last_close result) (knows pass.old) (knows pass.new) };
 
+    /// The role ends for want of memory. From then on nobody but the drain gets a frame or a job.
     fn leave<W: Wait>(&self, rt: &W, alloc: Global, pass: &mut Self::Pass, role: u32)
         requires pass { ours self.now pass.old × ((knows pass.old).role ≡ role) }
         requires role { role < last_role (run_setting F.Of.graph F.Of.stack) }
@@ -131,6 +138,7 @@ pub trait Desk<F: Held> {
             (λ old new. LeaveGives (run_setting F.Of.graph F.Of.stack) old role new)
             Gone (knows pass.old) (knows pass.new) };
 
+    /// The next array of a file node that is due, as a piece of its group. Only the last role asks for it.
     fn save<W: Wait>(
         &self,
         rt: &W,
@@ -148,6 +156,7 @@ pub trait Desk<F: Held> {
             Other (knows pass.old) (knows pass.new) }
         ensures lent { LendsPiece F.parts role result (knows pass.new).made };
 
+    /// Takes a piece back once it is saved.
     fn saved<W: Wait>(
         &self,
         rt: &W,
@@ -164,6 +173,7 @@ pub trait Desk<F: Held> {
             (λ old new. SavedGives F.name_of (run_setting F.Of.graph F.Of.stack) old role frame result new)
             (last_given result) (knows pass.old) (knows pass.new) };
 
+    /// How far the run has come.
     fn progress<W: Wait>(&self, rt: &W, alloc: Global, pass: &mut Self::Pass, role: u32) -> Progress
         requires pass { ours self.now pass.old × ((knows pass.old).role ≡ role) }
         requires role { role ≤ last_role (run_setting F.Of.graph F.Of.stack) }

@@ -27,6 +27,7 @@ const FEEDER: u32 = 0;
 /// The driver's number.
 const DRIVER: u32 = 0;
 
+/// Writes bytes over others, which are as many.
 fn write_all(from: &[u8], to: &mut [u8])
     requires { length from.now ≡ length to.old }
     ensures { to.new ≡ from.now }
@@ -34,6 +35,7 @@ fn write_all(from: &[u8], to: &mut [u8])
     to.copy_from_slice(from);
 }
 
+/// Writes bytes over the front of others, which are no fewer.
 fn write_front(from: &[u8], to: &mut [u8])
     requires { length from.now ≤ length to.old }
     ensures { to.new ≡ from.now ++ drop (length from.now) to.old }

@@ -26,6 +26,7 @@ pub enum Last {
     Other,
 }
 
+/// After `load`.
 pub fn after_load<B>(answer: &Load<B>) -> Last
     ensures { result ≡ last_load answer.now }
 {
@@ -46,6 +47,7 @@ pub fn after_issue<F>(answer: &Result<(), NotYours<F>>) -> Last
     }
 }
 
+/// After `take`.
 pub fn after_take<F: Held>(answer: &Take<F>) -> Last
     ensures { result ≡ last_take answer.now }
 {
@@ -56,6 +58,7 @@ pub fn after_take<F: Held>(answer: &Take<F>) -> Last
     }
 }
 
+/// After `close`.
 pub fn after_close(answer: Settled) -> Last
     ensures { result ≡ last_close answer }
 {
@@ -65,6 +68,7 @@ pub fn after_close(answer: Settled) -> Last
     }
 }
 
+/// After `progress`.
 pub fn after_progress(answer: Progress) -> Last
     ensures { result ≡ last_progress answer }
 {

@@ -34,6 +34,7 @@ pub struct LeftPass {
 }
 
 impl LeftPass {
+    /// Notes what a call answered. After its first call a role knows that another has left.
     fn answered(&mut self, last: Last)
         ensures { self.new ≡ after_call self.old last }
     {
@@ -44,7 +45,7 @@ impl LeftPass {
     }
 }
 
-// How many roles have left, once the role was told.
+/// How many roles have left, once the role was told.
 fn leaves(stage: Stage) -> u32
     ensures { result ≡ leaves_at stage }
 {

@@ -31,7 +31,7 @@ pub struct TurnPass<F: Held, B: BoardCalls<F>> {
     pub last: Last,
 }
 
-// One call of the board, in the role's turn.
+/// One call of the board, in the role's turn.
 fn make<F: Held, B: BoardCalls<F>, W: Wait>(
     desk: &TurnLock<Played<F, B>>,
     rt: &W,
@@ -265,7 +265,7 @@ impl<F: Held, B: BoardCalls<F>> Desk<F> for TurnLock<Played<F, B>> {
     }
 }
 
-// Passes with which no call was made.
+/// Passes with which no call was made.
 fn fresh_passes<F: Held, B: BoardCalls<F>>(
     alloc: Global,
     inners: Vec<Pass<Played<F, B>>>,
@@ -301,7 +301,7 @@ pub fn share_board<F: Held, B: BoardCalls<F>>(
     Ok((desk, passes))
 }
 
-// The passes of all roles as one.
+/// The passes of all roles as one.
 fn join_all<F: Held, B: BoardCalls<F>>(
     desk: &TurnLock<Played<F, B>>,
     mut passes: Vec<TurnPass<F, B>>,

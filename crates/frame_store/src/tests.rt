@@ -15,6 +15,7 @@ use std::thread::{Threads, join};
 /// The first frame of the driver.
 const FIRST: FrameName = FrameName { maker: 0, index: 0 };
 
+/// Writes bytes over others, which are as many.
 fn write_all(from: &[u8], to: &mut [u8])
     requires { length from.now ≡ length to.old }
     ensures { to.new ≡ from.now }
@@ -22,6 +23,7 @@ fn write_all(from: &[u8], to: &mut [u8])
     to.copy_from_slice(from);
 }
 
+/// Writes bytes over the front of others, which are no fewer.
 fn write_front(from: &[u8], to: &mut [u8])
     requires { length from.now ≤ length to.old }
     ensures { to.new ≡ from.now ++ drop (length from.now) to.old }
@@ -96,6 +98,7 @@ fn ones_seen_twice<R: Run + Send + Sync>(
     (here, there)
 }
 
+/// What two threads count in a frame of these bytes, which is the same by parts of their own and by samples that are lent to both.
 fn read_in_threads<R: Run + Send + Sync>(
     rt: &(impl Threads + Abort + Sync),
     alloc: Global,

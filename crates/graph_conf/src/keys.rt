@@ -135,7 +135,7 @@ pub(crate) fn text_in<'a>(alloc: Global, key: &str, value: &'a Value) -> Result<
     }
 }
 
-// The values of the items, where each is a whole number.
+/// The values of the items, where each is a whole number.
 fn integers_of(alloc: Global, items: &Array) -> Result<Option<Vec<i64>>, AllocError>
     ensures { IfOk result (λ found. option_map (λ list. list.items) found ≡ all_of as_integer (array_view items.now)) }
 {
@@ -149,7 +149,7 @@ fn integers_of(alloc: Global, items: &Array) -> Result<Option<Vec<i64>>, AllocEr
     Ok(Some(list))
 }
 
-// The values of the items, where each is a truth value.
+/// The values of the items, where each is a truth value.
 fn truths_of(alloc: Global, items: &Array) -> Result<Option<Vec<bool>>, AllocError>
     ensures { IfOk result (λ found. option_map (λ list. list.items) found ≡ all_of as_bool (array_view items.now)) }
 {
@@ -163,7 +163,7 @@ fn truths_of(alloc: Global, items: &Array) -> Result<Option<Vec<bool>>, AllocErr
     Ok(Some(list))
 }
 
-// At most so many items.
+/// At most so many items.
 fn at_most<T: Drop>(
     alloc: Global,
     key: &str,
@@ -179,7 +179,7 @@ fn at_most<T: Drop>(
     Ok(list)
 }
 
-// Each number in 32 bits; else the first that has more is out of range.
+/// Each number in 32 bits; else the first that has more is out of range.
 #[tactic(auto, using(crate::proofs::Lists::find_past))]
 fn in_32_bits(alloc: Global, key: &str, list: &[i64]) -> Result<Vec<i32>, GraphFault>
     ensures gives { Gives (λ kept. kept.items) result (each_within key.now (negsuc 2147483647) (pos 2147483647) list.now) }
@@ -195,7 +195,7 @@ fn in_32_bits(alloc: Global, key: &str, list: &[i64]) -> Result<Vec<i32>, GraphF
     Ok(kept)
 }
 
-// A value that is a list of whole numbers.
+/// A value that is a list of whole numbers.
 fn integers_in(alloc: Global, key: &str, value: &Value) -> Result<Vec<i64>, GraphFault>
     ensures { Gives (λ list. list.items) result (list_in key.now as_integer (view value.now)) }
 {
@@ -208,7 +208,7 @@ fn integers_in(alloc: Global, key: &str, value: &Value) -> Result<Vec<i64>, Grap
     }
 }
 
-// A value that is a list of truth values.
+/// A value that is a list of truth values.
 fn truths_in(alloc: Global, key: &str, value: &Value) -> Result<Vec<bool>, GraphFault>
     ensures { Gives (λ list. list.items) result (list_in key.now as_bool (view value.now)) }
 {

@@ -17,14 +17,14 @@ use std::alloc::{AllocError, Global};
 /// The most threads of all nodes together.
 const MOST_THREADS: u64 = 64;
 
-// One of the nodes has this name.
+/// One of the nodes has this name.
 fn is_named(nodes: &[NamedNode], name: &str) -> bool
     ensures { result ≡ list_any (λ n. bytes_eq n.rule.name name.now) nodes.now }
 {
     nodes.iter().any(|node| node.rule.name.text() == name)
 }
 
-// An earlier node has the name of the node at this place.
+/// An earlier node has the name of the node at this place.
 fn is_double(nodes: &[NamedNode], place: usize) -> bool
     requires { place < length nodes.now }
     ensures { result ≡ is_double nodes.now place }
@@ -32,7 +32,7 @@ fn is_double(nodes: &[NamedNode], place: usize) -> bool
     is_named(&nodes[..place], nodes[place].rule.name.text())
 }
 
-// No two nodes have one name.
+/// No two nodes have one name.
 fn distinct(nodes: &[NamedNode]) -> Result<(), GraphFault>
     requires few { length nodes.now ≤ 32 }
     ensures { Gives (λ _. tt) result (refused_node DoubleName (first_place (is_double nodes.now) 0 (length nodes.now))) }
@@ -47,7 +47,7 @@ fn distinct(nodes: &[NamedNode]) -> Result<(), GraphFault>
     Ok(())
 }
 
-// The place of the first node with this name that may have children.
+/// The place of the first node with this name that may have children.
 fn place_of(nodes: &[NamedNode], name: &str) -> Option<usize>
     ensures within { IfSome result (λ k. k < length nodes.now) }
     ensures place { result ≡ position_from (λ n. bytes_eq n.rule.name name.now && may_feed n.rule.kind) 0 nodes.now }
@@ -55,7 +55,7 @@ fn place_of(nodes: &[NamedNode], name: &str) -> Option<usize>
     nodes.iter().position(|node| node.rule.name.text() == name && node.rule.kind.may_feed())
 }
 
-// The number of the node that an input names.
+/// The number of the node that an input names.
 fn input_number(nodes: &[NamedNode], input: &str) -> Option<u32>
     requires few { length nodes.now ≤ 32 }
     ensures { result ≡ input_number nodes.now input.now }
@@ -69,7 +69,7 @@ fn input_number(nodes: &[NamedNode], input: &str) -> Option<u32>
     }
 }
 
-// The numbers of the inputs.
+/// The numbers of the inputs.
 fn input_numbers(alloc: Global, nodes: &[NamedNode]) -> Result<Vec<u32>, GraphFault>
     requires few { length nodes.now ≤ 32 }
     ensures gives { Gives (λ list. list.items) result (input_numbers nodes.now 1 nodes.now) }
@@ -86,7 +86,7 @@ fn input_numbers(alloc: Global, nodes: &[NamedNode]) -> Result<Vec<u32>, GraphFa
     Ok(inputs)
 }
 
-// The nodes with these inputs.
+/// The nodes with these inputs.
 fn with_inputs(
     alloc: Global,
     nodes: Vec<NamedNode>,
@@ -105,6 +105,7 @@ fn with_inputs(
     Ok(rules)
 }
 
+/// The number of a node's input; 0 at the driver, and where there is no such node.
 fn input_of(inputs: &[u32], node: u32) -> u32
     ensures { result ≡ input_of inputs.now node }
 {
@@ -114,7 +115,7 @@ fn input_of(inputs: &[u32], node: u32) -> u32
     }
 }
 
-// As many steps up as there are nodes don't lead from the node at this place to the driver.
+/// As many steps up as there are nodes don't lead from the node at this place to the driver.
 fn is_circular(inputs: &[u32], place: u32) -> bool
     requires place { place < length inputs.now }
     requires few { length inputs.now ≤ 32 }
@@ -127,7 +128,7 @@ fn is_circular(inputs: &[u32], place: u32) -> bool
     node != 0
 }
 
-// The inputs of each node lead to the driver.
+/// The inputs of each node lead to the driver.
 fn acyclic(inputs: &[u32]) -> Result<(), GraphFault>
     requires few { length inputs.now ≤ 32 }
     ensures { Gives (λ _. tt) result (refused_node Cycle (first_place (is_circular inputs.now) 0 (length inputs.now))) }
@@ -142,7 +143,7 @@ fn acyclic(inputs: &[u32]) -> Result<(), GraphFault>
     Ok(())
 }
 
-// The threads of all nodes together.
+/// The threads of all nodes together.
 fn thread_count(rules: &[NodeRule]) -> u64
     requires few { length rules.now ≤ 32 }
     ensures total { result ≡ thread_count rules.now }
@@ -155,7 +156,7 @@ fn thread_count(rules: &[NodeRule]) -> u64
     total
 }
 
-// The nodes, where their threads are few enough.
+/// The nodes, where their threads are few enough.
 fn few_threads(alloc: Global, rules: Vec<NodeRule>) -> Result<Vec<NodeRule>, GraphFault>
     requires few { length rules.items ≤ 32 }
     ensures gives { Gives (λ kept. kept.items) result (few_threads rules.items) }

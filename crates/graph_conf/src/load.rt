@@ -36,7 +36,7 @@ pub enum LimitFault {
     FileTooLarge { node: u32, bytes: u128 },
 }
 
-// The arrays that go out of a node.
+/// The arrays that go out of a node.
 fn made_at<'a>(graph: &Graph, stack: &Stack, plan: &'a Plan, node: u32) -> &'a Maker
     requires graph { IsGraph graph.now }
     requires plan { plan.now ≡ plan_of graph.now stack.now }
@@ -46,7 +46,7 @@ fn made_at<'a>(graph: &Graph, stack: &Stack, plan: &'a Plan, node: u32) -> &'a M
     maker_for(plan, stack, node)
 }
 
-// A sum for each place of dimension 0 and for each of dimension 1.
+/// A sum for each place of dimension 0 and for each of dimension 1.
 fn profile_lengths(dims: &[Dim]) -> u64
     ensures lengths { result ≡ profile_lengths dims.now }
     ensures small { result < 2 ^ 34 }
@@ -58,7 +58,7 @@ fn profile_lengths(dims: &[Dim]) -> u64
     }
 }
 
-// The numbers that a node keeps of an array of these dimensions.
+/// The numbers that a node keeps of an array of these dimensions.
 fn kept_by(kind: &Kind, dims: &[Dim]) -> u64
     ensures numbers { result ≡ kept_by kind.now dims.now }
     ensures small { result < 2 ^ 35 }
@@ -70,7 +70,7 @@ fn kept_by(kind: &Kind, dims: &[Dim]) -> u64
     }
 }
 
-// The numbers that all nodes keep of all frames.
+/// The numbers that all nodes keep of all frames.
 fn kept(graph: &Graph, stack: &Stack, plan: &Plan) -> u64
     requires graph { IsGraph graph.now }
     requires load { length stack.now.arrays * length graph.now.nodes ≤ 1048576 }
@@ -87,7 +87,7 @@ fn kept(graph: &Graph, stack: &Stack, plan: &Plan) -> u64
     total
 }
 
-// The bytes of the longest file that a node writes of arrays like these; 0 at other kinds.
+/// The bytes of the longest file that a node writes of arrays like these; 0 at other kinds.
 fn file_bytes(kind: &Kind, shape: &FileShape, frames: u32, made: &Maker) -> u128
     requires { IsWritable (record shape.now { kind = made.now.kind; dims = made.now.dims }) }
     ensures { result ≡ file_bytes kind.now (record shape.now { kind = made.now.kind; dims = made.now.dims }) frames }
@@ -101,7 +101,7 @@ fn file_bytes(kind: &Kind, shape: &FileShape, frames: u32, made: &Maker) -> u128
     }
 }
 
-// The most bytes that a file of a node may have; 0 at other kinds, which write none.
+/// The most bytes that a file of a node may have; 0 at other kinds, which write none.
 fn most_bytes(kind: &Kind) -> u64
     ensures { result ≡ most_bytes kind.now }
 {
@@ -111,7 +111,7 @@ fn most_bytes(kind: &Kind) -> u64
     }
 }
 
-// The first file node's file that is too long.
+/// The first file node's file that is too long.
 fn first_too_long(graph: &Graph, stack: &Stack, plan: &Plan) -> Option<LimitFault>
     requires graph { IsGraph graph.now }
     requires plan { plan.now ≡ plan_of graph.now stack.now }

@@ -21,7 +21,7 @@ pub(crate) struct NamedNode {
     pub(crate) rule: NodeRule,
 }
 
-// The node's name.
+/// The node's name.
 fn name_key(alloc: Global, table: &Table) -> Result<Name, GraphFault>
     ensures gives { Gives (λ name. name) result (name_key (table_view table.now)) }
     ensures sound { IfOk result (λ name. IsTrue (is_node_name name)) }
@@ -33,7 +33,7 @@ fn name_key(alloc: Global, table: &Table) -> Result<Name, GraphFault>
     Ok(name_of(alloc, text)?)
 }
 
-// The kind of node `node`.
+/// The kind of node `node`.
 fn kind_key(alloc: Global, table: &Table, node: u32) -> Result<KindName, GraphFault>
     ensures { Gives (λ kind. kind) result (kind_key node (table_view table.now)) }
 {
@@ -44,7 +44,7 @@ fn kind_key(alloc: Global, table: &Table, node: u32) -> Result<KindName, GraphFa
     }
 }
 
-// The name of the node's input.
+/// The name of the node's input.
 fn input_key(alloc: Global, table: &Table) -> Result<Name, GraphFault>
     ensures { Gives (λ name. name) result (input_key (table_view table.now)) }
 {
@@ -59,7 +59,7 @@ fn is_parallel(kind: KindName) -> bool
     matches!(kind, KindName::Roi | KindName::Stats)
 }
 
-// The threads of node `node`.
+/// The threads of node `node`.
 fn threads_key(alloc: Global, table: &Table, node: u32, kind: KindName) -> Result<u32, GraphFault>
     ensures gives { Gives (λ n. n) result (threads_key node kind (table_view table.now)) }
     ensures bound { IfOk result (IsBetween 1 16) }
@@ -72,7 +72,7 @@ fn threads_key(alloc: Global, table: &Table, node: u32, kind: KindName) -> Resul
     Ok(threads)
 }
 
-// The size of the node's sort list.
+/// The size of the node's sort list.
 fn sort_key(alloc: Global, table: &Table, kind: KindName) -> Result<u32, GraphFault>
     ensures gives { Gives (λ n. n) result (sort_key kind (table_view table.now)) }
     ensures bound { IfOk result (λ n. n ≤ 65535) }
@@ -84,7 +84,7 @@ fn sort_key(alloc: Global, table: &Table, kind: KindName) -> Result<u32, GraphFa
     Ok(count(alloc, table, "sort", 0, 65_535, 0)? as u32)
 }
 
-// How many ticks a result waits for those before it.
+/// How many ticks a result waits for those before it.
 fn sort_time_key(alloc: Global, table: &Table, kind: KindName) -> Result<u64, GraphFault>
     ensures gives { Gives (λ n. n) result (sort_time_key kind (table_view table.now)) }
     ensures bound { IfOk result (λ n. n ≤ 2147483647) }

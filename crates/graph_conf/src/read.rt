@@ -21,7 +21,7 @@ use toml::{Table, Value};
 /// The most nodes of a graph.
 const MOST_NODES: usize = 32;
 
-// Whether the feed waits.
+/// Whether the feed waits.
 fn feed_key(alloc: Global, table: &Table) -> Result<bool, GraphFault>
     ensures { Gives (λ wait. wait) result (feed_key (table_view table.now)) }
 {
@@ -34,7 +34,7 @@ fn feed_key(alloc: Global, table: &Table) -> Result<bool, GraphFault>
     }
 }
 
-// Whether the feed waits, and the pool's limit, where the table `run` is given.
+/// Whether the feed waits, and the pool's limit, where the table `run` is given.
 #[tactic(auto, unfolding(crate::specs::Graphs::run_table))]
 fn run_table(alloc: Global, value: &Value) -> Result<(bool, u64), GraphFault>
     ensures gives { Gives (λ run. run) result (run_table (view value.now)) }
@@ -49,6 +49,7 @@ fn run_table(alloc: Global, value: &Value) -> Result<(bool, u64), GraphFault>
     Ok((wait, limit))
 }
 
+/// Whether the feed waits, and the pool's limit; without a table `run` the feed is free, and there is no limit.
 fn run_key(alloc: Global, table: &Table) -> Result<(bool, u64), GraphFault>
     ensures gives { Gives (λ run. run) result (run_key (table_view table.now)) }
     ensures limit { IfOk result (λ run. run.1 ≤ 1099511627776) }
@@ -59,7 +60,7 @@ fn run_key(alloc: Global, table: &Table) -> Result<(bool, u64), GraphFault>
     }
 }
 
-// The items, where each is a table.
+/// The items, where each is a table.
 fn tables_of<'a>(alloc: Global, items: &'a Array) -> Result<Option<Vec<&'a Table>>, AllocError>
     ensures { IfOk result (λ found. option_map (λ list. map (λ t. table_view t.now) list.items) found ≡ all_of as_table (array_view items.now)) }
 {
@@ -73,7 +74,7 @@ fn tables_of<'a>(alloc: Global, items: &'a Array) -> Result<Option<Vec<&'a Table
     Ok(Some(list))
 }
 
-// The tables of a value that is a list of at most 32 of them.
+/// The tables of a value that is a list of at most 32 of them.
 fn node_tables<'a>(alloc: Global, value: &'a Value) -> Result<Vec<&'a Table>, GraphFault>
     ensures gives { Gives (λ list. map (λ t. table_view t.now) list.items) result (node_tables (view value.now)) }
     ensures few { IfOk result (λ list. length list.items ≤ 32) }
@@ -90,7 +91,7 @@ fn node_tables<'a>(alloc: Global, value: &'a Value) -> Result<Vec<&'a Table>, Gr
     Ok(tables)
 }
 
-// The nodes of these tables.
+/// The nodes of these tables.
 fn nodes_of(alloc: Global, tables: &[&Table]) -> Result<Vec<NamedNode>, GraphFault>
     requires few { length tables.now ≤ 32 }
     ensures gives { Gives (λ list. list.items) result (nodes_from 1 (map (λ t. table_view t.now) tables.now)) }
@@ -105,6 +106,7 @@ fn nodes_of(alloc: Global, tables: &[&Table]) -> Result<Vec<NamedNode>, GraphFau
     Ok(nodes)
 }
 
+/// The nodes of the list `node`; none where it is not given.
 #[tactic(auto, unfolding(crate::specs::Graphs::node_key))]
 fn node_key(alloc: Global, table: &Table) -> Result<Vec<NamedNode>, GraphFault>
     ensures gives { Gives (λ list. list.items) result (node_key (table_view table.now)) }
@@ -118,7 +120,7 @@ fn node_key(alloc: Global, table: &Table) -> Result<Vec<NamedNode>, GraphFault>
     nodes_of(alloc, &tables)
 }
 
-// The graph of a document.
+/// The graph of a document.
 #[tactic(auto, unfolding(crate::specs::Graphs::graph_of))]
 fn graph_of(alloc: Global, table: &Table) -> Result<Graph, GraphFault>
     ensures gives { Gives (λ x. x) result (graph_of (table_view table.now)) }

@@ -19,7 +19,7 @@ use std::alloc::Global;
 use toml::{Table, Value};
 use trig_window::parse_calc;
 
-// The sample type that a value names.
+/// The sample type that a value names.
 fn sample_type(alloc: Global, value: &Value) -> Result<SampleType, GraphFault>
     ensures { Gives (λ t. t) result (word_in (codes "type") sample_types (view value.now)) }
 {
@@ -29,7 +29,7 @@ fn sample_type(alloc: Global, value: &Value) -> Result<SampleType, GraphFault>
     }
 }
 
-// The output's sample type.
+/// The output's sample type.
 fn type_key(alloc: Global, table: &Table) -> Result<Option<SampleType>, GraphFault>
     ensures { Gives (λ out. out) result (type_key (table_view table.now)) }
 {
@@ -39,6 +39,7 @@ fn type_key(alloc: Global, table: &Table) -> Result<Option<SampleType>, GraphFau
     }
 }
 
+/// The rule of a region node.
 #[tactic(auto, unfolding(crate::specs::Nodes::roi_rule))]
 fn roi_rule(alloc: Global, table: &Table) -> Result<RoiRule, GraphFault>
     ensures gives { Gives (λ r. r) result (roi_rule (table_view table.now)) }
@@ -62,7 +63,7 @@ fn roi_rule(alloc: Global, table: &Table) -> Result<RoiRule, GraphFault>
     })
 }
 
-// A bound of a sample.
+/// A bound of a sample.
 fn sample_bound(alloc: Global, table: &Table, key: &str, default: u8) -> Result<i64, GraphFault>
     ensures gives { Gives (λ v. v) result (sample_bound key.now (pos default) (table_view table.now)) }
     ensures bound { IfOk result IsSampleBound }
@@ -77,6 +78,7 @@ fn sample_bound(alloc: Global, table: &Table, key: &str, default: u8) -> Result<
     )
 }
 
+/// The rule of a statistics node.
 #[tactic(auto, unfolding(crate::specs::Nodes::stats_rule))]
 fn stats_rule(alloc: Global, table: &Table) -> Result<StatsRule, GraphFault>
     ensures gives { Gives (λ r. r) result (stats_rule (table_view table.now)) }
@@ -101,7 +103,7 @@ fn stats_rule(alloc: Global, table: &Table) -> Result<StatsRule, GraphFault>
     })
 }
 
-// The name of an attribute.
+/// The name of an attribute.
 fn attribute_key(alloc: Global, table: &Table, key: &str) -> Result<Name, GraphFault>
     ensures { Gives (λ name. name) result (attribute_key key.now (table_view table.now)) }
 {
@@ -112,6 +114,7 @@ fn attribute_key(alloc: Global, table: &Table, key: &str) -> Result<Name, GraphF
     Ok(name_of(alloc, text)?)
 }
 
+/// The rule of a circular node.
 #[tactic(auto, unfolding(crate::specs::Nodes::circular_rule))]
 fn circular_rule(alloc: Global, table: &Table) -> Result<CircularRule, GraphFault>
     ensures gives { Gives (λ x. x) result (circular_rule (table_view table.now)) }
@@ -134,7 +137,7 @@ fn circular_rule(alloc: Global, table: &Table) -> Result<CircularRule, GraphFaul
     })
 }
 
-// How a file node groups its arrays.
+/// How a file node groups its arrays.
 fn mode_key(alloc: Global, table: &Table) -> Result<Mode, GraphFault>
     ensures { Gives (λ mode. mode) result (mode_key (table_view table.now)) }
 {
@@ -145,7 +148,7 @@ fn mode_key(alloc: Global, table: &Table) -> Result<Mode, GraphFault>
     }
 }
 
-// The form of its files.
+/// The form of its files.
 fn form_key(alloc: Global, table: &Table) -> Result<Form, GraphFault>
     ensures { Gives (λ form. form) result (form_key (table_view table.now)) }
 {
@@ -155,6 +158,7 @@ fn form_key(alloc: Global, table: &Table) -> Result<Form, GraphFault>
     }
 }
 
+/// The rule of a file node.
 #[tactic(auto, unfolding(crate::specs::Nodes::file_rule))]
 fn file_rule(alloc: Global, table: &Table) -> Result<FileRule, GraphFault>
     ensures gives { Gives (λ r. r) result (file_rule (table_view table.now)) }

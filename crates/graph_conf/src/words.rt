@@ -13,6 +13,7 @@ use crate::kind::KindName;
 use nd_base::{Mode, SampleType};
 use toml::Table;
 
+/// The kind of node that a word names.
 pub(crate) fn kind_named(word: &str) -> Option<KindName>
     ensures { result ≡ meaning_in kinds word.now }
 {
@@ -25,6 +26,7 @@ pub(crate) fn kind_named(word: &str) -> Option<KindName>
     }
 }
 
+/// The sample type that a word names.
 pub(crate) fn sample_type_named(word: &str) -> Option<SampleType>
     ensures { result ≡ meaning_in sample_types word.now }
 {
@@ -39,6 +41,7 @@ pub(crate) fn sample_type_named(word: &str) -> Option<SampleType>
     }
 }
 
+/// The way of grouping arrays into files that a word names.
 pub(crate) fn mode_named(word: &str) -> Option<Mode>
     ensures { result ≡ meaning_in modes word.now }
 {
@@ -61,6 +64,7 @@ pub(crate) fn feed_named(word: &str) -> Option<bool>
     }
 }
 
+/// The keys that the table of a node of this kind may have.
 pub(crate) fn keys_of(kind: KindName) -> &'static [&'static str]
     ensures { map (λ k. k.now) result.now ≡ keys_of kind }
 {
@@ -117,19 +121,21 @@ pub(crate) fn is_node_name(text: &str) -> bool
     first.is_ascii_alphabetic() && letters && rest.len() <= 31 && text != "driver"
 }
 
+/// Whether each of the bytes may stand in a name.
 fn are_name_bytes(bytes: &[u8]) -> bool
     ensures { result ≡ list_all is_name_byte bytes.now }
 {
     bytes.iter().all(|byte| is_name_byte(*byte))
 }
 
+/// Whether a byte may stand in a name: a letter, a digit or an underscore.
 fn is_name_byte(byte: u8) -> bool
     ensures { result ≡ is_name_byte byte }
 {
     byte.is_ascii_alphabetic() || byte.is_ascii_digit() || byte == b'_'
 }
 
-// The key is one of these.
+/// The key is one of these.
 fn is_known(known: &[&str], key: &str) -> bool
     ensures { result ≡ list_any (λ k. bytes_eq key.now k.now) known.now }
 {

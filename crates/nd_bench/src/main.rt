@@ -134,6 +134,7 @@ fn run_line(
     }
 }
 
+/// Runs what the command line names, and says on standard error why it was refused.
 fn main(rt: HostRuntime) -> ExitCode {
     match run_line(&rt) {
         Ok(Ok(())) => ExitCode::SUCCESS,

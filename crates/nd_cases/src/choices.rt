@@ -14,6 +14,7 @@ pub enum Object {
 }
 
 impl Object {
+    /// The object that a word names.
     fn read(word: &str) -> Result<Object> {
         match word {
             "library" => Ok(Object::Library),
@@ -67,6 +68,7 @@ pub enum Choice<'a> {
     Show(Question),
 }
 
+/// The rule that the words after `gate` spell.
 fn gate_rule(rest: &str) -> Result<GateRule> {
     let (kind, rest) = first_word(rest)?;
     let (node, rest) = first_word(rest)?;
@@ -88,6 +90,7 @@ fn gate_rule(rest: &str) -> Result<GateRule> {
     }
 }
 
+/// The call that the words after `fail` name.
 fn failing_call(rest: &str) -> Result<FailingCall> {
     let (object, call) = first_word(rest)?;
     Ok(FailingCall {
@@ -97,6 +100,7 @@ fn failing_call(rest: &str) -> Result<FailingCall> {
 }
 
 impl<'a> Choice<'a> {
+    /// The choice that a line with this first word and this rest makes.
     pub fn read(word: &str, rest: &'a str) -> Result<Choice<'a>> {
         match word {
             "fail" => Ok(Choice::Fail(failing_call(rest)?)),

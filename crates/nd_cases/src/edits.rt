@@ -37,6 +37,7 @@ pub enum Edit<'a> {
     },
 }
 
+/// The edit that the words after `change` ask for.
 fn change<'a>(alloc: Global, rest: &'a str) -> Result<Edit<'a>> {
     let (name, rest) = first_word(rest)?;
     let (place, bytes) = first_word(rest)?;

@@ -20,6 +20,7 @@ pub struct Files {
 }
 
 impl Files {
+    /// No files.
     pub fn new(alloc: Global) -> Files {
         Files {
             alloc,
@@ -27,14 +28,17 @@ impl Files {
         }
     }
 
+    /// The files, in the order in which they were put.
     pub fn list(&self) -> &[CaseFile] {
         &self.list
     }
 
+    /// Whether there is a file of this name.
     pub fn holds(&self, name: &str) -> bool {
         self.list.iter().any(|file| file.name.as_str() == name)
     }
 
+    /// The file of this name.
     fn find(&mut self, name: &str) -> Result<&mut CaseFile> {
         self.list
             .iter_mut()
@@ -42,6 +46,7 @@ impl Files {
             .context(format_args!("there is no {name}"))
     }
 
+    /// Adds a file as the last one, in place of one that has its name.
     fn add(&mut self, name: &str, bytes: Vec<u8>, long: Option<u64>) -> Result<(), AllocError> {
         let name = String::from_str(self.alloc, name)?;
         self.list.retain(|file| file.name.as_str() != name.as_str());

@@ -130,10 +130,12 @@ struct Spelling {
 }
 
 impl Spelling {
+    /// Adds a word.
     fn word(&mut self, word: u32) -> Result<(), AllocError> {
         self.bytes.extend_from_slice(&word.to_be_bytes())
     }
 
+    /// Adds a text: its length, and its bytes up to whole words.
     fn text(&mut self, text: &str) -> Result<(), AllocError> {
         let length = text.len().min(1_024) as u32;
         self.word(length)?;
@@ -141,16 +143,19 @@ impl Spelling {
         fill_up(&mut self.bytes)
     }
 
+    /// Adds what a list begins with: its tag, and how many items it has.
     fn list(&mut self, tag: u32, count: usize) -> Result<(), AllocError> {
         self.word(tag)?;
         self.word(count.min(65_536) as u32)
     }
 
+    /// Adds a dimension of this length.
     fn dimension(&mut self, name: &str, length: u32) -> Result<(), AllocError> {
         self.text(name)?;
         self.word(length)
     }
 
+    /// Adds the list of the dimensions: the record dimension, and those of these lengths.
     fn dimensions(&mut self, lengths: &[u32]) -> Result<(), AllocError> {
         self.list(DIMENSIONS, lengths.len().saturating_add(1))?;
         self.dimension("n", 0)?;
@@ -160,6 +165,7 @@ impl Spelling {
         Ok(())
     }
 
+    /// Adds the list of the global attributes: `dataType`, and those that are texts.
     fn attributes(&mut self, data_type: u32, extras: &[Extra]) -> Result<(), AllocError> {
         self.list(ATTRIBUTES, extras.len().saturating_add(1))?;
         self.text("dataType")?;
@@ -174,6 +180,7 @@ impl Spelling {
         Ok(())
     }
 
+    /// Adds a variable whose values begin at this place of the file.
     fn variable(&mut self, variable: &Variable, begin: u32) -> Result<(), AllocError> {
         self.text(variable.name.as_str())?;
         self.word(variable.dims.len().min(1_024) as u32 + 1)?;
@@ -187,6 +194,7 @@ impl Spelling {
         self.word(begin)
     }
 
+    /// Adds the list of the variables, whose values in the first record begin at this place and follow each other.
     fn variables(&mut self, variables: &[Variable], first: u32) -> Result<(), AllocError> {
         self.list(VARIABLES, variables.len())?;
         let mut begin = first;

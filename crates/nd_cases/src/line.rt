@@ -23,6 +23,7 @@ pub enum Line<'a> {
 }
 
 impl<'a> Line<'a> {
+    /// What a line says.
     pub fn read(alloc: Global, line: &'a str) -> Result<Line<'a>> {
         let (word, rest) = line.split_once(' ').unwrap_or((line, ""));
         match word {

@@ -22,6 +22,7 @@ use anyhow::{Context, Result};
 use play::Player;
 use std::io::{BufRead, BufReader};
 
+/// Plays the table on standard input.
 fn main(rt: HostRuntime) -> Result<()> {
     let alloc = rt.alloc();
     let mut player = Player::new(alloc);

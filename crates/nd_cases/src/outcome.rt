@@ -53,10 +53,12 @@ pub fn left_files(alloc: Global, shelf: &NotedShelf<'_>) -> Result<Vec<LeftFile>
 }
 
 impl Outcome {
+    /// The text of the status.
     pub fn status_text(&self, alloc: Global) -> Result<String> {
         Ok(status_text(alloc, &self.status)?)
     }
 
+    /// Whether the command did its work.
     pub fn is_done(&self) -> bool {
         matches!(self.status, Status::Done)
     }

@@ -39,6 +39,7 @@ pub struct Player {
 }
 
 impl Player {
+    /// A player with no file and no choice.
     pub fn new(alloc: Global) -> Player {
         Player {
             files: Files::new(alloc),
@@ -82,6 +83,7 @@ impl Player {
         Ok(())
     }
 
+    /// Calls a command as the lines before it say, prints what it leaves, and hands its files on; with `each` none are handed on.
     fn command<W: RealFiles + Print + Threads + Wait + Sync + AllocGlobal>(
         &mut self,
         rt: &W,

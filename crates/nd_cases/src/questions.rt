@@ -21,6 +21,7 @@ pub enum Question {
 }
 
 impl Question {
+    /// The question that a word names.
     pub fn read(word: &str) -> Result<Question> {
         match word {
             "calls" => Ok(Question::Calls),
@@ -43,6 +44,7 @@ impl Question {
     }
 }
 
+/// The log that the command left.
 fn log_of(outcome: &Outcome) -> Result<&Log> {
     outcome.log.as_ref().context("there is no log")
 }
@@ -64,6 +66,7 @@ fn role_words(alloc: Global, roles: &BTreeSet<u32>) -> Result<String, AllocError
     Ok(words)
 }
 
+/// Prints which roles took an array as a job, and whether one left.
 fn print_roles(rt: &(impl Print + AllocGlobal), log: &Log) -> Result<()> {
     let mut roles = BTreeSet::new(rt.alloc());
     for role in log.entries().iter().filter_map(taker) {
@@ -83,6 +86,7 @@ fn lines(text: &[u8]) -> usize {
     text.iter().filter(|byte| **byte == b'\n').count()
 }
 
+/// Prints how many arrays were accepted or found a queue full, and whether there are as many rows as were accepted.
 fn print_accepted(rt: &impl Print, log: &Log, outcome: &Outcome) -> io::Result<()> {
     let entries = log.entries();
     let accepted = entries
@@ -103,6 +107,7 @@ fn print_accepted(rt: &impl Print, log: &Log, outcome: &Outcome) -> io::Result<(
     println!(rt; "accepted or full: {sum}; a row for each that was accepted: {all}")
 }
 
+/// Prints which frames the pool refused, and how much was held then.
 fn print_refused(rt: &impl Print, log: &Log) -> io::Result<()> {
     for entry in log.entries() {
         if let Entry::LoadRefused {

@@ -75,6 +75,7 @@ impl Setting {
         Ok(())
     }
 
+    /// The ticks that the words of a text spell.
     fn ticks_of(&self, text: &str) -> Result<Vec<u64>> {
         let mut ticks = Vec::new(self.alloc);
         for word in text.split_whitespace() {

@@ -15,6 +15,7 @@ pub struct NotedShelf<'a> {
 }
 
 impl<'a> NotedShelf<'a> {
+    /// This shelf, with no name noted.
     pub fn new(alloc: Global, shelf: ToldShelf<'a>) -> NotedShelf<'a> {
         NotedShelf {
             alloc,
@@ -42,6 +43,7 @@ impl<'a> NotedShelf<'a> {
             .context("the shelf has no room")
     }
 
+    /// Notes a name that isn't noted yet.
     fn note(&mut self, name: &str) -> Result<(), AllocError>
         ensures { self.new.shelf ≡ self.old.shelf }
     {

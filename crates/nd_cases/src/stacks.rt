@@ -82,6 +82,7 @@ fn numbers(alloc: Global, text: &str) -> Result<Vec<u32>> {
     Ok(list)
 }
 
+/// Ids between commas.
 fn ids(alloc: Global, text: &str) -> Result<Vec<i32>> {
     let mut list = Vec::new(alloc);
     for word in text.split(',') {
@@ -109,6 +110,7 @@ fn sample_type(word: &str) -> Result<(u32, ValueType)> {
 }
 
 impl<'a> StackFile<'a> {
+    /// The stack that the rest of a line describes.
     pub fn read(alloc: Global, rest: &'a str) -> Result<StackFile<'a>> {
         let mut words = rest.split_whitespace();
         let mut stack = StackFile {
@@ -130,6 +132,7 @@ impl<'a> StackFile<'a> {
         Ok(stack)
     }
 
+    /// Takes up what a key says.
     fn set(&mut self, alloc: Global, key: &str, value: &'a str) -> Result<()> {
         match key {
             "frames" => self.frames = short_number(value)?,
@@ -155,6 +158,7 @@ impl<'a> StackFile<'a> {
         Ok(())
     }
 
+    /// Adds an attribute of this name.
     fn add(
         &mut self,
         alloc: Global,
@@ -167,6 +171,7 @@ impl<'a> StackFile<'a> {
         Ok(())
     }
 
+    /// Adds so many attributes that are texts, of which the first has room for so many bytes, and each other for one.
     fn add_texts(&mut self, alloc: Global, count: u32, length: u32) -> Result<(), AllocError> {
         for index in 0..count {
             let name = format!(in alloc; "{index}")?;
@@ -176,6 +181,7 @@ impl<'a> StackFile<'a> {
         Ok(())
     }
 
+    /// The file's name.
     pub fn name(&self) -> &'a str {
         self.name
     }
@@ -187,6 +193,7 @@ impl<'a> StackFile<'a> {
             .fold(1u32, |product, size| product.saturating_mul(*size))
     }
 
+    /// The file's header.
     fn header(&self, alloc: Global) -> Result<Header, AllocError> {
         let mut header = Header::new(alloc, self.frames, self.data_type);
         for (name, text) in &self.extras {
@@ -201,6 +208,7 @@ impl<'a> StackFile<'a> {
         Ok(header)
     }
 
+    /// Adds a variable for each attribute.
     fn add_attributes(&self, header: &mut Header) -> Result<(), AllocError> {
         for attribute in &self.attributes {
             let name = attribute.name.as_str();
@@ -263,6 +271,7 @@ impl<'a> StackFile<'a> {
         add_again(alloc, bytes, &[0], self.attributes_size())
     }
 
+    /// The values of all frames.
     fn add_frames(&self, alloc: Global, bytes: &mut Vec<u8>) -> Result<(), AllocError> {
         for index in 0..self.frames {
             self.add_frame(alloc, bytes, index)?;

@@ -126,6 +126,7 @@ fn report(rt: &(impl Eprint + AllocGlobal), status: &Status) {
     };
 }
 
+/// Does what the command line asks for, and ends with the number of its status, which is reported unless it is `Done`.
 fn main(rt: HostRuntime) -> ExitCode {
     let status = match command_words(&rt) {
         Ok(words) => run(&rt, &words),

@@ -16,6 +16,7 @@ use nd_base::{AttrColumn, AttrKind, Dim, OutOfMemory, SampleType, Stack};
 use std::alloc::{AllocError, Global};
 use std::fmt::Write;
 
+/// The word for a sample type.
 fn type_word(kind: SampleType) -> &'static str
     ensures { result.now ≡ type_word kind }
 {
@@ -29,6 +30,7 @@ fn type_word(kind: SampleType) -> &'static str
     }
 }
 
+/// The word for a kind of attribute.
 fn attr_word(kind: AttrKind) -> &'static str
     ensures { result.now ≡ attr_word kind }
 {

@@ -40,6 +40,7 @@ pub(crate) struct NodeTally {
 }
 
 impl NodeTally {
+    /// The tally of a node of which nothing is counted yet.
     pub(crate) fn new(saves: bool) -> NodeTally
         ensures { result ≡ fresh saves }
     {

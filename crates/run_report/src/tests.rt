@@ -6,6 +6,7 @@ use nd_base::{FileRule, Form, Graph, Kind, Mode, Name, NodeRule, Plan, Seq, Stat
 use std::alloc::{AllocError, Global};
 use std::test::Fail;
 
+/// A node below the driver with room for one array in its queue, of one thread and without sorting.
 fn node(alloc: Global, name: &str, kind: Kind) -> Result<NodeRule, AllocError> {
     Ok(NodeRule {
         name: Name::new(String::from_str(alloc, name)?),
@@ -18,6 +19,7 @@ fn node(alloc: Global, name: &str, kind: Kind) -> Result<NodeRule, AllocError> {
     })
 }
 
+/// The kind of a node that measures.
 fn measures() -> Kind {
     Kind::Stats(StatsRule {
         threshold: 0,
@@ -29,6 +31,7 @@ fn measures() -> Kind {
     })
 }
 
+/// The kind of a file node that captures five arrays.
 fn saves() -> Kind {
     Kind::File(FileRule {
         mode: Mode::Capture,

@@ -23,6 +23,7 @@ impl Model for LostBlocks {
 }
 
 impl LostBlocks {
+    /// The granted block and the array's, where something of them stayed away.
     pub fn new(granted: Option<u32>, array: Option<u32>) -> LostBlocks
         ensures { result ≡ option_to_list granted ++ option_to_list array }
     {
