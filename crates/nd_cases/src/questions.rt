@@ -12,7 +12,7 @@ use std::io;
 pub enum Question {
     /// How many calls each object got.
     Calls,
-    /// Which roles took an array as a job, and which left.
+    /// Which roles took an array as a job, and whether one left.
     Roles,
     /// How many arrays were accepted or found a queue full, and whether there are as many rows as were accepted.
     Accepted,

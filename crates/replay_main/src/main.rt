@@ -68,7 +68,7 @@ fn command_words(rt: &(impl Env + AllocGlobal)) -> Result<Vec<String>, Status> {
     }
 }
 
-/// Prints a text that isn't the work of a command.
+/// What became of a print that is no command's work.
 fn printed(done: io::Result<()>) -> Status {
     match done {
         Ok(()) => Status::Done,
