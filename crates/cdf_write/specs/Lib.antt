@@ -7,3 +7,4 @@ pub mod Writable
 pub mod LayoutTests
 pub mod SpellingLaws
 pub mod LengthLaws
+pub mod WritableLaws

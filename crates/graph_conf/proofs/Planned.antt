@@ -12,6 +12,7 @@ use Rattle.nd_base.specs.Stacks.{IsStack}
 use Rattle.nd_base.specs.declared.array.Dim.{Dim}
 use Rattle.nd_base.specs.declared.array.SampleType.{SampleType}
 use Rattle.cdf_write.specs.Writable.{IsWritable}
+use Rattle.cdf_write.specs.WritableLaws.{shape_for-IsWritable}
 use Rattle.nd_base.specs.GraphRules.{makes_arrays, IsGraph, rule_at, input_of}
 use Rattle.nd_base.specs.declared.graph.Graph.{Graph}
 use Rattle.nd_base.specs.declared.graph.NodeRule.{NodeRule}
@@ -101,15 +102,7 @@ node_dims g s v sound stack =
 pub node_writable : (g : Graph) (s : StackValue) (v : ℕ) (kind : SampleType) (dims : List Dim) → IsGraph g → IsStack s → IsWritable s.shape → dims ≡ (shape_at g.nodes s.shape v).dims → IsWritable (record s.shape { kind = kind; dims = dims })
 node_writable g s v kind dims sound stack shape same =
     let array = subst IsArrayShape (sym same) (node_dims g s v sound stack) in
-    record {
-      dimensions = array.dimensions;
-      samples = array.few;
-      width = shape.width;
-      attrs = shape.attrs;
-      names = shape.names;
-      extras = shape.extras;
-      each_extra = shape.each_extra;
-    }
+    shape_for-IsWritable s.shape s.shape.form kind dims shape array.dimensions array.few
 
 -- the rule of the node at a place
 rule_after : (nodes : List NodeRule) (k : ℕ) → rule_at nodes (k + 1) ≡ slice_get nodes k

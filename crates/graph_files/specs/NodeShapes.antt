@@ -11,6 +11,7 @@ use Rattle.nd_base.specs.declared.graph.RoiRule.{RoiRule}
 use Rattle.nd_roi.specs.CutLaws.{region_dims-count, region_dims-has_dimensions}
 use Rattle.cdf_write.specs.Lengths.{row_length, length_of}
 use Rattle.cdf_write.specs.Writable.{IsWritable}
+use Rattle.cdf_write.specs.WritableLaws.{shape_for-IsWritable}
 use Rattle.chain_plain.specs.declared.shape.Shape.{Shape}
 use Rattle.chain_plain.specs.ContentLaws.{IsArrayShape, passed_on-both}
 use Rattle.chain_plain.specs.Plans.{region_shape, stack_shape, shape_at}
@@ -43,15 +44,7 @@ node_sound g s v h =
 pub file_shape-IsWritable : (g : Graph) (s : StackValue) (v : ℕ) → IsWritable s.shape → IsWritable (file_shape g s v)
 file_shape-IsWritable g s v h =
     let made = node_sound g s v h in
-    record {
-      dimensions = made.dimensions;
-      samples = made.few;
-      width = h.width;
-      attrs = h.attrs;
-      names = h.names;
-      extras = h.extras;
-      each_extra = h.each_extra;
-    }
+    shape_for-IsWritable s.shape (form_at g.nodes v) _ _ h made.dimensions made.few
 
 -- a file of fewer arrays is no longer
 pub length_of-le : (shape : FileShape) (m n : ℕ) → m ≤ n → length_of shape m ≤ length_of shape n

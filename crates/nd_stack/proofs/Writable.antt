@@ -141,9 +141,3 @@ stack_of-IsWritable bytes s e =
     let reads = header_of-found bytes a.0 (header_read (header_of bytes) a.0 a.1) in
     let same : shape_of a.0 b.0.0 b.0.1 ≡ s.shape = ap (shape_or s.shape) b.2 in
     subst IsWritable same (accepted-IsWritable bytes a.0 b.0.0 b.0.1 reads (frames_of-IsAccepted a.0 b.0.0 b.0.1 b.1))
-
--- and so has each shape that is made of it for a form, and for a kind and dimensions of an array
-pub shape_for-IsWritable : (shape : FileShape) (form : Form) (kind : SampleType) (dims : List Dim) → IsWritable shape → has_dimensions dims ≡ true →
-    sample_count dims ≤ most_samples → IsWritable (record shape { form = form; kind = kind; dims = dims })
-shape_for-IsWritable shape form kind dims h dimensions samples =
-    record { dimensions = dimensions; samples = samples; width = h.width; attrs = h.attrs; names = h.names; extras = h.extras; each_extra = h.each_extra }

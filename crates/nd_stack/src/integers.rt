@@ -9,6 +9,7 @@ ghost use Rattle.nd_base.specs.Samples.{number, samples_of};
 ghost use Rattle.nd_stack.specs.SampleTypes.{int_bytes, ints, dim_value};
 
 use cdf_read::{HeadAttr, Header};
+use nd_base::{pair_at, word_at};
 
 /// The number of one byte.
 pub(crate) fn byte_of(bytes: &[u8]) -> i32
@@ -23,7 +24,7 @@ pub(crate) fn short_of(bytes: &[u8]) -> i32
     requires { length bytes.now ≡ 2 }
     ensures { result ≡ number Int16 bytes.now }
 {
-    i32::from(u16::from_be_bytes([bytes[0], bytes[1]]).cast_signed())
+    i32::from(pair_at(bytes, 0).cast_signed())
 }
 
 /// Four bytes as an unsigned number.
@@ -31,7 +32,7 @@ pub(crate) fn word_of(bytes: &[u8]) -> u32
     requires { length bytes.now ≡ 4 }
     ensures { result ≡ from_be_bytes w32 bytes.now }
 {
-    u32::from_be_bytes([bytes[0], bytes[1], bytes[2], bytes[3]])
+    word_at(bytes, 0)
 }
 
 /// The number of four bytes.

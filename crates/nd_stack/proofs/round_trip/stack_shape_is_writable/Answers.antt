@@ -1,4 +1,5 @@
-use Rattle.nd_stack.proofs.Writable.{stack_of-IsWritable, shape_for-IsWritable}
+use Rattle.cdf_write.specs.WritableLaws.{shape_for-IsWritable}
+use Rattle.nd_stack.proofs.Writable.{stack_of-IsWritable}
 use Rattle.nd_stack.proofs.round_trip.stack_shape_is_writable.Goals as goal
 
 pub returns-clause-read : goal.returns-clause-read
