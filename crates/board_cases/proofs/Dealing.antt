@@ -27,7 +27,8 @@ use Rattle.flow_roles.proofs.Workers.{worker-node, workers-many}
 abbrev pub Seating : {F P : Type 0} → (nodes : List ℕ) → (all rest : List P) → (made : ℕ) → List (Worker F P) → Type 0
 Seating nodes all rest made ws = ws ++ workers_of (drop made nodes) rest ≡ workers_of nodes all
 
-pub seating-next : {F P : Type 0} (nodes : List ℕ) (all rest more : List P) (made : ℕ) (ws : List (Worker F P)) (p : P) (v : ℕ) → rest ≡ p ∷ more → made < length nodes → v ≡ get_or nodes made v
+pub seating-next : {F P : Type 0} (nodes : List ℕ) (all rest more : List P) (made : ℕ) (ws : List (Worker F P)) (p : P) (v : ℕ) → rest ≡ p ∷ more
+    → made < length nodes → v ≡ get_or nodes made v
     → Seating nodes all rest made ws → Seating nodes all more (made + 1) (ws ++ record { node = v; pass = p; job = None } ∷ [])
 seating-next {F} {P} nodes all rest more made ws p v is low node h =
     let one : suc made ≡ made + 1 = omega arith in
@@ -42,10 +43,12 @@ none-from : {F P : Type 0} (nodes : List ℕ) → workers_of {F = F} {P = P} nod
 none-from [] = refl
 none-from (v ∷ vs) = refl
 
-pub seating-all : {F P : Type 0} (nodes : List ℕ) (all rest : List P) (made : ℕ) (ws : List (Worker F P)) → rest ≡ [] → Seating nodes all rest made ws → ws ≡ workers_of nodes all
+pub seating-all : {F P : Type 0} (nodes : List ℕ) (all rest : List P) (made : ℕ) (ws : List (Worker F P)) → rest ≡ []
+    → Seating nodes all rest made ws → ws ≡ workers_of nodes all
 seating-all {F} {P} nodes all rest made ws none h =
     sym (append-nil ws)
-    ∙ (sym (ap (λ (xs : List (Worker F P)). ws ++ xs) (ap (λ (ps : List P). workers_of {F = F} {P = P} (drop made nodes) ps) none ∙ none-from (drop made nodes))) ∙ h)
+    ∙ (sym
+    (ap (λ (xs : List (Worker F P)). ws ++ xs) (ap (λ (ps : List P). workers_of {F = F} {P = P} (drop made nodes) ps) none ∙ none-from (drop made nodes))) ∙ h)
 
 -- THE SEATS
 
@@ -64,7 +67,8 @@ workers-length F P [] ps many = refl
 workers-length F P (v ∷ nodes) [] many = absurd (omega (arith, many))
 workers-length F P (v ∷ nodes) (p ∷ ps) many = ap suc (workers-length F P nodes ps (omega (arith, many)))
 
-module _ {P : Type 0} (ours : P → Type 0) (knows : P → Pass) (g : Graph) (stack : StackValue) (all front rest : List P) (first last : P) (whole : all ≡ front ++ last ∷ []) (begins : front ≡ first ∷ rest)
+module _ {P : Type 0} (ours : P → Type 0) (knows : P → Pass) (g : Graph) (stack : StackValue) (all front rest : List P)
+    (first last : P) (whole : all ≡ front ++ last ∷ []) (begins : front ≡ first ∷ rest)
     (many : length rest ≡ length (workers (run_setting g stack))) (fresh : (k : ℕ) (p : P) → slice_get all k ≡ Some p → ours p × IsFresh k (knows p)) where
   abbrev s : Setting
   s = run_setting g stack
@@ -91,18 +95,25 @@ module _ {P : Type 0} (ours : P → Type 0) (knows : P → Pass) (g : Graph) (st
       record {
         ours_ = f.0;
         node = worker-node s k w.node i.0;
-        holds = subst (λ (o : Option (Job Sealed)). HoldsJob g stack (suc k) w.node (knows w.pass) o) (sym i.2) (fresh-nothing (worker_logs w.node) (suc k) (knows w.pass) f.1);
+        holds =
+            subst (λ (o : Option (Job Sealed)). HoldsJob g stack (suc k) w.node (knows w.pass) o) (sym i.2)
+            (fresh-nothing (worker_logs w.node) (suc k) (knows w.pass) f.1);
       }
 
-  pub seated : (x : Seats Sealed P) → x.feeder ≡ record { pass = first; frame = None } → x.workers.items ≡ workers_of (workers s) rest → x.saver ≡ record { pass = last; piece = None }
+  pub seated : (x : Seats Sealed P) → x.feeder ≡ record { pass = first; frame = None } → x.workers.items ≡ workers_of (workers s) rest
+      → x.saver ≡ record { pass = last; piece = None }
       → AreSeated ours knows g stack x
   seated x feeder ws saver =
       let n : length x.workers.items ≡ length (workers s) = ap length ws ∙ workers-length Sealed P (workers s) rest many in
       record {
-        feeder = subst (λ (y : Feeder P). IsFeeding ours knows g stack y) (sym feeder) (record { ours_ = first-fresh.0; holds = fresh-nothing feeder_logs 0 (knows first) first-fresh.1 });
+        feeder =
+            subst (λ (y : Feeder P). IsFeeding ours knows g stack y) (sym feeder)
+            (record { ours_ = first-fresh.0; holds = fresh-nothing feeder_logs 0 (knows first) first-fresh.1 });
         many = omega (arith, n, workers-many s);
         workers = λ k w at. worker-seated k w (sym (ap (λ (vs : List (Worker Sealed P)). slice_get vs k) ws) ∙ at);
-        saver = subst (λ (y : Saver Sealed P). IsSaving ours knows g stack y) (sym saver) (record { ours_ = last-fresh.0; holds = fresh-nothing saver_logs (last_role s) (knows last) last-fresh.1 });
+        saver =
+            subst (λ (y : Saver Sealed P). IsSaving ours knows g stack y) (sym saver)
+            (record { ours_ = last-fresh.0; holds = fresh-nothing saver_logs (last_role s) (knows last) last-fresh.1 });
       }
 
 -- GATHERING
@@ -111,10 +122,12 @@ module _ {P : Type 0} (ours : P → Type 0) (knows : P → Pass) (g : Graph) (st
 abbrev pub Gathering : {X Y : Type 0} → (f : X → Y) → (all rest : List X) → (first : Y) → List Y → Type 0
 Gathering f all rest first ys = ys ++ map f rest ≡ first ∷ map f all
 
-pub gathering-next : {X Y : Type 0} (f : X → Y) (all rest more : List X) (first : Y) (ys : List Y) (x : X) (y : Y) → rest ≡ x ∷ more → y ≡ f x → Gathering f all rest first ys → Gathering f all more first (ys ++ y ∷ [])
+pub gathering-next : {X Y : Type 0} (f : X → Y) (all rest more : List X) (first : Y) (ys : List Y) (x : X) (y : Y) → rest ≡ x ∷ more → y ≡ f x
+    → Gathering f all rest first ys → Gathering f all more first (ys ++ y ∷ [])
 gathering-next {X} {Y} f all rest more first ys x y is made h =
     append_assoc ys (y ∷ []) (map f more)
     ∙ (ap (λ (z : Y). ys ++ z ∷ map f more) made ∙ (sym (ap (λ (xs : List X). ys ++ map f xs) is) ∙ h))
 
-pub gathering-all : {X Y : Type 0} (f : X → Y) (all rest : List X) (first : Y) (ys : List Y) → rest ≡ [] → Gathering f all rest first ys → ys ≡ first ∷ map f all
+pub gathering-all : {X Y : Type 0} (f : X → Y) (all rest : List X) (first : Y) (ys : List Y) → rest ≡ []
+    → Gathering f all rest first ys → ys ≡ first ∷ map f all
 gathering-all {X} {Y} f all rest first ys none h = sym (append-nil ys) ∙ (sym (ap (λ (xs : List X). ys ++ map f xs) none) ∙ h)

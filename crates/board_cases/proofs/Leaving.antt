@@ -47,15 +47,18 @@ loaded-of-hand lent (Some (Load r j b n f g x)) k blank h size = (refl, sym size
 loaded-of-hand lent (Some _) k blank h size = absurd (false≢true h)
 
 nothing-of-hand : (lent : Option Parts) (e : Option Entry) → e ≡ None → IsOfHand {F = Sealed} {B = List ℕ} name_of parts_of length lent e None None None
-nothing-of-hand lent e is = subst (λ (o : Option Entry). IsOfHand {F = Sealed} {B = List ℕ} name_of parts_of length lent o None None None) (sym is) (refl, refl, refl)
+nothing-of-hand lent e is =
+    subst (λ (o : Option Entry). IsOfHand {F = Sealed} {B = List ℕ} name_of parts_of length lent o None None None) (sym is) (refl, refl, refl)
 
 frame-of-hand : (O : Type 0) (g : Graph) (stack : StackValue) (p : Pass) (o : Option LoadedFrame) → HoldsFrame g stack p o
-    → IsOfHand name_of parts_of length (lent_to 0 p.made) (hand 0 (past p.made)) (left_of_frame {O = O} o).input (left_of_frame {O = O} o).made (left_of_frame {O = O} o).blank
+    → IsOfHand name_of parts_of length (lent_to 0 p.made) (hand 0 (past p.made)) (left_of_frame {O = O} o).input
+    (left_of_frame {O = O} o).made (left_of_frame {O = O} o).blank
 frame-of-hand O g stack p None h = nothing-of-hand (lent_to 0 p.made) (hand 0 (past p.made)) h.free
 frame-of-hand O g stack p (Some loaded) h = loaded-of-hand (lent_to 0 p.made) (hand 0 (past p.made)) loaded.index loaded.blank h.loaded h.granted
 
 job-of-hand : (O : Type 0) (g : Graph) (stack : StackValue) (r v : ℕ) (p : Pass) (o : Option (Job Sealed)) → HoldsJob g stack r v p o
-    → IsOfHand name_of parts_of length (lent_to r p.made) (hand r (past p.made)) (left_of_job {O = O} o).input (left_of_job {O = O} o).made (left_of_job {O = O} o).blank
+    → IsOfHand name_of parts_of length (lent_to r p.made) (hand r (past p.made)) (left_of_job {O = O} o).input
+    (left_of_job {O = O} o).made (left_of_job {O = O} o).blank
 job-of-hand O g stack r v p None h = nothing-of-hand (lent_to r p.made) (hand r (past p.made)) h.free
 job-of-hand O g stack r v p (Some job) h = h.held
 
@@ -68,7 +71,8 @@ module _ {P : Type 0} (ours : P → Type 0) (knows : P → Pass) (g : Graph) (st
   abbrev pass_of : Worker Sealed P → P
   pass_of w = w.pass
 
-  ours-at : (ws : List (Worker Sealed P)) → ((k : ℕ) (w : Worker Sealed P) → slice_get ws k ≡ Some w → ours w.pass) → (k : ℕ) (p : P) → slice_get (map pass_of ws ++ x.saver.pass ∷ []) k ≡ Some p → ours p
+  ours-at : (ws : List (Worker Sealed P)) → ((k : ℕ) (w : Worker Sealed P) → slice_get ws k ≡ Some w → ours w.pass) → (k : ℕ) (p : P)
+      → slice_get (map pass_of ws ++ x.saver.pass ∷ []) k ≡ Some p → ours p
   ours-at [] each zero p at = let is : x.saver.pass ≡ p = cc in subst ours is a.saver.ours_
   ours-at [] each (suc k) p at = cc
   ours-at (w ∷ ws) each zero p at = let is : w.pass ≡ p = cc in subst ours is (each 0 w refl)
@@ -149,7 +153,8 @@ module _ {P : Type 0} (ours : P → Type 0) (knows : P → Pass) (g : Graph) (st
       left O zero l at =
           let is : left_of_frame {O = O} x.feeder.frame ≡ l = cc in
           subst (λ (m : Left Sealed (List ℕ) O). MayReclaim name_of parts_of length s b 0 m) is
-          (comes-back name_of parts_of length s 0 (knows x.feeder.pass).made (left_of_frame {O = O} x.feeder.frame) (frame-of-hand O g stack (knows x.feeder.pass) x.feeder.frame a.feeder.holds) b first-by)
+          (comes-back name_of parts_of length s 0 (knows x.feeder.pass).made (left_of_frame {O = O} x.feeder.frame)
+          (frame-of-hand O g stack (knows x.feeder.pass) x.feeder.frame a.feeder.holds) b first-by)
       left O (suc k) l at =
           let w = at-map (λ (w : Worker Sealed P). left_of_job {O = O} w.job) x.workers.items k l at in
           subst (λ (m : Left Sealed (List ℕ) O). MayReclaim name_of parts_of length s b (suc k) m) w.2
@@ -165,7 +170,8 @@ module _ {P : Type 0} (ours : P → Type 0) (knows : P → Pass) (g : Graph) (st
       may-drain O none = record { many = lefts-many O; free = free none; once = once; left = left O }
 
   -- the drain may begin once all passes are back
-  pub drain-from : {O : Type 0} (b : BoardState) (ps : List P) (ls : List (Left Sealed (List ℕ) O)) → ps ≡ passes_of x → ls ≡ lefts_of {O = O} x → All (λ (p : P). HasMade b (knows p)) ps
+  pub drain-from : {O : Type 0} (b : BoardState) (ps : List P) (ls : List (Left Sealed (List ℕ) O)) → ps ≡ passes_of x → ls ≡ lefts_of {O = O} x
+      → All (λ (p : P). HasMade b (knows p)) ps
       → ((r : ℕ) → last_role s + 1 ≤ r → moves_by r b ≡ []) → x.saver.piece ≡ None → MayDrain {O = O} s b ls
   drain-from {O} b ps ls passes lefts made others none =
       subst (λ (l : List (Left Sealed (List ℕ) O)). MayDrain {O = O} s b l) (sym lefts)

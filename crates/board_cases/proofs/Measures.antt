@@ -17,7 +17,8 @@ numbers-many v [] = refl
 numbers-many v (n ∷ ns) = ap suc (numbers-many (v + 1) ns)
 
 -- each node has its measures
-pub measures-many : (g : Graph) (stack : StackValue) (p : Plan) (P : Past) (m : List (List Measure)) → p ≡ plan_of g stack → m ≡ measured (run_measure g stack) (run_setting g stack) P → length m ≡ length p.graph.nodes
+pub measures-many : (g : Graph) (stack : StackValue) (p : Plan) (P : Past) (m : List (List Measure)) → p ≡ plan_of g stack
+    → m ≡ measured (run_measure g stack) (run_setting g stack) P → length m ≡ length p.graph.nodes
 measures-many g stack p P m plan_ is =
     ap length is ∙ (length-map (numbers_from 1 (run_setting g stack).nodes) (measured_at (run_measure g stack) P)
     ∙ (numbers-many 1 (run_setting g stack).nodes ∙ (length-map g.nodes node_of ∙ sym (ap (λ (q : Plan). length q.graph.nodes) plan_))))

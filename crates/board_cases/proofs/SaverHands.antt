@@ -39,7 +39,8 @@ saver-quiet (Leave q) h = cc
 saver-quiet (Reclaim q) h = cc
 saver-quiet _ h = refl
 
-save-still : {F : Type 0} (s : Setting) (name_of : F → _) (parts : F → _) (old new : BoardState) (r v : ℕ) (o : Option (save_answer F)) (a : save_answer F) → is_still_save a ≡ true
+save-still : {F : Type 0} (s : Setting) (name_of : F → _) (parts : F → _) (old new : BoardState) (r v : ℕ) (o : Option (save_answer F)) (a : save_answer F)
+    → is_still_save a ≡ true
     → SaveAnswers name_of parts s old r v o a new → new ≡ old
 save-still s name_of parts old new r v (Some x) a still c = c.1
 save-still s name_of parts old new r v None save.OutOfMemory still c = c.1
@@ -55,8 +56,10 @@ no-piece false true input group place of x is same = cc
 no-piece false false input group place of x is same = cc
 
 -- the move that hands a piece out
-save-moves : (s : Setting) (old new : BoardState) (r v : ℕ) (o : Option (save_answer Sealed)) (input : Sealed) (group place : ℕ) (of : Option ℕ) → save_refusal s r v (past old) ≡ o
-    → SaveAnswers name_of parts_of s old r v o (save.Piece input group place of) new → new ≡ moved_at s 0 (lends (Save r v input.name.maker input.name.index group) (parts_of input)) old
+save-moves : (s : Setting) (old new : BoardState) (r v : ℕ) (o : Option (save_answer Sealed)) (input : Sealed) (group place : ℕ) (of : Option ℕ)
+    → save_refusal s r v (past old) ≡ o
+    → SaveAnswers name_of parts_of s old r v o (save.Piece input group place of) new
+    → new ≡ moved_at s 0 (lends (Save r v input.name.maker input.name.index group) (parts_of input)) old
 save-moves s old new r v (Some x) input group place of is c =
     absurd (no-piece (not (is_free r (past old))) (not (has_due s v (past old)) || list_any (is_piece v) (hands (past old))) input group place of x is c.0)
 save-moves s old new r v None input group place of is c = c.5
@@ -66,13 +69,15 @@ none-free r p None is h = h
 none-free r p (Some piece) is h = absurd (true≢false is)
 
 module _ (s : Setting) (r : ℕ) (old new : Pass) where
-  pub save-stays : (v : ℕ) (a : save_answer Sealed) (o : Option Sealed) → is_still_save a ≡ true → Called s (λ x y. SaveGives name_of parts_of s x r v a y) last.Other old new → HoldsPiece r old o → HoldsPiece r new o
+  pub save-stays : (v : ℕ) (a : save_answer Sealed) (o : Option Sealed) → is_still_save a ≡ true
+      → Called s (λ x y. SaveGives name_of parts_of s x r v a y) last.Other old new → HoldsPiece r old o → HoldsPiece r new o
   save-stays v a o still c h =
       let f = λ (x y : BoardState). SaveGives name_of parts_of s x r v a y in
       let b = here s f last.Other old new old.role refl c in
       piece-still s f last.Other old new r o c (save-still s name_of parts_of b new.seen r v (save_refusal s r v (past b)) a still c.answer) h
 
-  pub save-holds : (v : ℕ) (a : save_answer Sealed) → HasNothing saver_logs r old → Called s (λ x y. SaveGives name_of parts_of s x r v a y) last.Other old new → LendsPiece parts_of r a new.made
+  pub save-holds : (v : ℕ) (a : save_answer Sealed) → HasNothing saver_logs r old
+      → Called s (λ x y. SaveGives name_of parts_of s x r v a y) last.Other old new → LendsPiece parts_of r a new.made
       → HoldsPiece r new (piece_of a)
   save-holds v save.Busy n c lent_ = save-stays v save.Busy None refl c n
   save-holds v save.NotYet n c lent_ = save-stays v save.NotYet None refl c n
@@ -82,7 +87,9 @@ module _ (s : Setting) (r : ℕ) (old new : Pass) where
       let f = λ (x y : BoardState). SaveGives name_of parts_of s x r v a y in
       let b = here s f last.Other old new r n.role c in
       let e = Save r v input.name.maker input.name.index group in
-      let m = moved s f last.Other old new r n.role c saver_logs 0 (lends e (parts_of input)) (save-moves s b new.seen r v (save_refusal s r v (past b)) input group place of refl c.answer) refl saver-quiet refl n.moves in
+      let m =
+      moved s f last.Other old new r n.role c saver_logs 0 (lends e (parts_of input))
+      (save-moves s b new.seen r v (save_refusal s r v (past b)) input group place of refl c.answer) refl saver-quiet refl n.moves in
       record {
         role = role-after s f last.Other old new r n.role c;
         moves = m.moves;
@@ -93,7 +100,8 @@ module _ (s : Setting) (r : ℕ) (old new : Pass) where
   pub saved-may : (piece : Sealed) → HasPiece r piece old → MaySaved name_of parts_of old.made r piece
   saved-may piece h is = h.lent
 
-  pub saved-holds : {E : Type 0} (piece : Sealed) (done : E) → HasPiece r piece old → Called s (λ x y. SavedGives {E = E} name_of s x r piece (Ok done) y) last.Other old new → HasNothing saver_logs r new
+  pub saved-holds : {E : Type 0} (piece : Sealed) (done : E) → HasPiece r piece old
+      → Called s (λ x y. SavedGives {E = E} name_of s x r piece (Ok done) y) last.Other old new → HasNothing saver_logs r new
   saved-holds {E} piece done h c =
       let f = λ (x y : BoardState). SavedGives {E = E} name_of s x r piece (Ok done) y in
       let b = here s f last.Other old new r h.role c in

@@ -26,12 +26,14 @@ at-set (y ∷ ys) (suc k) a (suc j) x h =
     ]
 
 module _ {P : Type 0} (ours : P → Type 0) (knows : P → Pass) (g : Graph) (stack : StackValue) (x : Seats Sealed P) (a : AreSeated ours knows g stack x) where
-  pub working-at : (r k : ℕ) (w : Worker Sealed P) → r ≡ suc k → k < length x.workers.items → w ≡ slice_index_or x.workers.items k w → IsWorking ours knows g stack r w
+  pub working-at : (r k : ℕ) (w : Worker Sealed P) → r ≡ suc k → k < length x.workers.items
+      → w ≡ slice_index_or x.workers.items k w → IsWorking ours knows g stack r w
   working-at r k w is low here =
       subst (λ (q : ℕ). IsWorking ours knows g stack q w) (sym is)
       (a.workers k w (slice_get-get_or x.workers.items k w low ∙ ap (λ (v : Worker Sealed P). Some v) (sym here)))
 
-  pub seated-set : (y : Seats Sealed P) (r k : ℕ) (w : Worker Sealed P) → r ≡ suc k → y.feeder ≡ x.feeder → y.saver ≡ x.saver → y.workers.items ≡ slice_set x.workers.items k w
+  pub seated-set : (y : Seats Sealed P) (r k : ℕ) (w : Worker Sealed P) → r ≡ suc k → y.feeder ≡ x.feeder → y.saver ≡ x.saver
+      → y.workers.items ≡ slice_set x.workers.items k w
       → IsWorking ours knows g stack r w → AreSeated ours knows g stack y
   seated-set y r k w is feeder saver items h =
       record {

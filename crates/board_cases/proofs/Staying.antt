@@ -45,7 +45,8 @@ stays-still s gives answered logs r old new is moves c same =
       lent = ap (λ (b : BoardState). lent_to r b) made_;
     }
 
-pub stays-leave : (s : Setting) (logs : Entry → Bool) (r : ℕ) (old new : Pass) → old.role ≡ r → ((e : Entry) → begins e ≡ None → logs e ≡ true) → logs (Leave r) ≡ true
+pub stays-leave : (s : Setting) (logs : Entry → Bool) (r : ℕ) (old new : Pass) → old.role ≡ r
+    → ((e : Entry) → begins e ≡ None → logs e ≡ true) → logs (Leave r) ≡ true
     → list_all logs (past old.made) ≡ true → Called s (λ x y. LeaveGives s x r y) Gone old new → Stays logs r old new
 stays-leave s logs r old new is quiet_ leaves_ moves c =
     let f = λ (x y : BoardState). LeaveGives s x r y in
@@ -62,11 +63,13 @@ nothing-stays logs r old new st n = record { role = st.role; moves = st.moves; f
 
 -- WHAT EACH ROLE HOLDS
 
-pub frame-moves : (g : Graph) (stack : StackValue) (p : Pass) (o : Option LoadedFrame) → HoldsFrame g stack p o → (p.role ≡ 0) × (list_all feeder_logs (past p.made) ≡ true)
+pub frame-moves : (g : Graph) (stack : StackValue) (p : Pass) (o : Option LoadedFrame) → HoldsFrame g stack p o
+    → (p.role ≡ 0) × (list_all feeder_logs (past p.made) ≡ true)
 frame-moves g stack p None h = (h.role, h.moves)
 frame-moves g stack p (Some loaded) h = (h.role, h.moves)
 
-pub job-moves : (g : Graph) (stack : StackValue) (r v : ℕ) (p : Pass) (o : Option (Job Sealed)) → HoldsJob g stack r v p o → (p.role ≡ r) × (list_all (worker_logs v) (past p.made) ≡ true)
+pub job-moves : (g : Graph) (stack : StackValue) (r v : ℕ) (p : Pass) (o : Option (Job Sealed)) → HoldsJob g stack r v p o
+    → (p.role ≡ r) × (list_all (worker_logs v) (past p.made) ≡ true)
 job-moves g stack r v p None h = (h.role, h.moves)
 job-moves g stack r v p (Some job) h = (h.role, h.moves)
 
@@ -74,7 +77,8 @@ pub piece-moves : (r : ℕ) (p : Pass) (o : Option Sealed) → HoldsPiece r p o 
 piece-moves r p None h = (h.role, h.moves)
 piece-moves r p (Some piece) h = (h.role, h.moves)
 
-frame-stays : (g : Graph) (stack : StackValue) (old new : Pass) (o : Option LoadedFrame) → Stays feeder_logs 0 old new → HoldsFrame g stack old o → HoldsFrame g stack new o
+frame-stays : (g : Graph) (stack : StackValue) (old new : Pass) (o : Option LoadedFrame) → Stays feeder_logs 0 old new
+    → HoldsFrame g stack old o → HoldsFrame g stack new o
 frame-stays g stack old new None st h = nothing-stays feeder_logs 0 old new st h
 frame-stays g stack old new (Some loaded) st h = record {
   role = st.role;
@@ -85,13 +89,16 @@ frame-stays g stack old new (Some loaded) st h = record {
   room = h.room;
 }
 
-job-stays : (g : Graph) (stack : StackValue) (r v : ℕ) (old new : Pass) (o : Option (Job Sealed)) → Stays (worker_logs v) r old new → HoldsJob g stack r v old o → HoldsJob g stack r v new o
+job-stays : (g : Graph) (stack : StackValue) (r v : ℕ) (old new : Pass) (o : Option (Job Sealed)) → Stays (worker_logs v) r old new
+    → HoldsJob g stack r v old o → HoldsJob g stack r v new o
 job-stays g stack r v old new None st h = nothing-stays (worker_logs v) r old new st h
 job-stays g stack r v old new (Some job) st h = record {
   role = st.role;
   moves = st.moves;
   job = ap (λ (e : Option Entry). is_job_on v job.input.name e) st.hand_ ∙ h.job;
-  held = subst₂ (λ (l : Option Parts) (e : Option Entry). IsOfHand name_of parts_of length l e (Some job.input) None job.blank) (sym st.lent) (sym st.hand_) h.held;
+  held =
+      subst₂ (λ (l : Option Parts) (e : Option Entry). IsOfHand name_of parts_of length l e (Some job.input) None job.blank)
+      (sym st.lent) (sym st.hand_) h.held;
   comes = h.comes;
   fits = h.fits;
 }
@@ -108,28 +115,33 @@ piece-stays r old new (Some piece) st h = record {
 -- A CALL THAT CHANGED NOTHING, AND A LEAVE
 
 module _ (s : Setting) (gives : BoardState → BoardState → Type 0) (answered : Last) (old new : Pass) where
-  pub frame-still : (g : Graph) (stack : StackValue) (o : Option LoadedFrame) → (c : Called s gives answered old new) → new.seen ≡ c.between ++ old.seen → HoldsFrame g stack old o → HoldsFrame g stack new o
+  pub frame-still : (g : Graph) (stack : StackValue) (o : Option LoadedFrame) → (c : Called s gives answered old new) → new.seen ≡ c.between ++ old.seen
+      → HoldsFrame g stack old o → HoldsFrame g stack new o
   frame-still g stack o c same h =
       let m = frame-moves g stack old o h in
       frame-stays g stack old new o (stays-still s gives answered feeder_logs 0 old new m.0 m.1 c same) h
 
-  pub job-still : (g : Graph) (stack : StackValue) (r v : ℕ) (o : Option (Job Sealed)) → (c : Called s gives answered old new) → new.seen ≡ c.between ++ old.seen → HoldsJob g stack r v old o → HoldsJob g stack r v new o
+  pub job-still : (g : Graph) (stack : StackValue) (r v : ℕ) (o : Option (Job Sealed)) → (c : Called s gives answered old new)
+      → new.seen ≡ c.between ++ old.seen → HoldsJob g stack r v old o → HoldsJob g stack r v new o
   job-still g stack r v o c same h =
       let m = job-moves g stack r v old o h in
       job-stays g stack r v old new o (stays-still s gives answered (worker_logs v) r old new m.0 m.1 c same) h
 
-  pub piece-still : (r : ℕ) (o : Option Sealed) → (c : Called s gives answered old new) → new.seen ≡ c.between ++ old.seen → HoldsPiece r old o → HoldsPiece r new o
+  pub piece-still : (r : ℕ) (o : Option Sealed) → (c : Called s gives answered old new) → new.seen ≡ c.between ++ old.seen
+      → HoldsPiece r old o → HoldsPiece r new o
   piece-still r o c same h =
       let m = piece-moves r old o h in
       piece-stays r old new o (stays-still s gives answered saver_logs r old new m.0 m.1 c same) h
 
-pub frame-left : (g : Graph) (stack : StackValue) (s : Setting) (old new : Pass) (o : Option LoadedFrame) → ((e : Entry) → begins e ≡ None → feeder_logs e ≡ true)
+pub frame-left : (g : Graph) (stack : StackValue) (s : Setting) (old new : Pass) (o : Option LoadedFrame)
+    → ((e : Entry) → begins e ≡ None → feeder_logs e ≡ true)
     → Called s (λ x y. LeaveGives s x 0 y) Gone old new → HoldsFrame g stack old o → HoldsFrame g stack new o
 frame-left g stack s old new o quiet_ c h =
     let m = frame-moves g stack old o h in
     frame-stays g stack old new o (stays-leave s feeder_logs 0 old new m.0 quiet_ refl m.1 c) h
 
-pub job-left : (g : Graph) (stack : StackValue) (s : Setting) (r v : ℕ) (old new : Pass) (o : Option (Job Sealed)) → ((e : Entry) → begins e ≡ None → worker_logs v e ≡ true)
+pub job-left : (g : Graph) (stack : StackValue) (s : Setting) (r v : ℕ) (old new : Pass) (o : Option (Job Sealed))
+    → ((e : Entry) → begins e ≡ None → worker_logs v e ≡ true)
     → Called s (λ x y. LeaveGives s x r y) Gone old new → HoldsJob g stack r v old o → HoldsJob g stack r v new o
 job-left g stack s r v old new o quiet_ c h =
     let m = job-moves g stack r v old o h in

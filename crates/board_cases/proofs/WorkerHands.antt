@@ -34,11 +34,13 @@ still-take take.OutOfMemory h = refl
 still-take (take.PoolDrop k z) h = absurd (false≢true h)
 still-take (take.Job w input blank) h = absurd (false≢true h)
 
-pub none-free : (g : Graph) (stack : StackValue) (r v : ℕ) (p : Pass) (o : Option (Job Sealed)) → is_some o ≡ false → HoldsJob g stack r v p o → HasNothing (worker_logs v) r p
+pub none-free : (g : Graph) (stack : StackValue) (r v : ℕ) (p : Pass) (o : Option (Job Sealed)) → is_some o ≡ false
+    → HoldsJob g stack r v p o → HasNothing (worker_logs v) r p
 none-free g stack r v p None is h = h
 none-free g stack r v p (Some job) is h = absurd (true≢false is)
 
-pub none-holds : (g : Graph) (stack : StackValue) (r v : ℕ) (p : Pass) (o : Option (Job Sealed)) → is_some o ≡ false → HasNothing (worker_logs v) r p → HoldsJob g stack r v p o
+pub none-holds : (g : Graph) (stack : StackValue) (r v : ℕ) (p : Pass) (o : Option (Job Sealed)) → is_some o ≡ false
+    → HasNothing (worker_logs v) r p → HoldsJob g stack r v p o
 none-holds g stack r v p None is n = n
 none-holds g stack r v p (Some job) is n = absurd (true≢false is)
 
@@ -46,13 +48,15 @@ module _ (g : Graph) (stack : StackValue) (r v : ℕ) (old new : Pass) where
   abbrev s : Setting
   s = run_setting g stack
 
-  pub take-stays : {O : Type 0} (a : Take Sealed (List ℕ) O) (o : Option (Job Sealed)) → is_still_take a ≡ true → Called s (λ x y. TakeGives {F = Sealed} {B = List ℕ} {O = O} name_of parts_of length s x r v a y) (last_take a) old new
+  pub take-stays : {O : Type 0} (a : Take Sealed (List ℕ) O) (o : Option (Job Sealed)) → is_still_take a ≡ true
+      → Called s (λ x y. TakeGives {F = Sealed} {B = List ℕ} {O = O} name_of parts_of length s x r v a y) (last_take a) old new
       → HoldsJob g stack r v old o → HoldsJob g stack r v new o
   take-stays {O} a o still c h =
       let f = λ (x y : BoardState). TakeGives {F = Sealed} {B = List ℕ} {O = O} name_of parts_of length s x r v a y in
       let b = here s f (last_take a) old new old.role refl c in
       job-still s f (last_take a) old new g stack r v o c
-      (take-still {F = Sealed} {B = List ℕ} {O = O} name_of parts_of length s b new.seen r v (take_refusal s r v (past b)) (asked s v (past b)) a (still-take a still) c.answer) h
+      (take-still {F = Sealed} {B = List ℕ} {O = O} name_of parts_of length s b new.seen r v (take_refusal s r v (past b))
+      (asked s v (past b)) a (still-take a still) c.answer) h
 
   pub take-holds : {O : Type 0} (a : Take Sealed (List ℕ) O) → IsGraph g → is_node s v ≡ true → HasNothing (worker_logs v) r old
       → Called s (λ x y. TakeGives {F = Sealed} {B = List ℕ} {O = O} name_of parts_of length s x r v a y) (last_take a) old new
@@ -61,11 +65,13 @@ module _ (g : Graph) (stack : StackValue) (r v : ℕ) (old new : Pass) where
   take-holds {O} take.Busy sound node_ n c lent_ = take-goes {F = Sealed} {B = List ℕ} {O = O} name_of parts_of length s r v old new n take.Busy refl c
   take-holds {O} take.Ended sound node_ n c lent_ = take-goes {F = Sealed} {B = List ℕ} {O = O} name_of parts_of length s r v old new n take.Ended refl c
   take-holds {O} take.Idle sound node_ n c lent_ = take-goes {F = Sealed} {B = List ℕ} {O = O} name_of parts_of length s r v old new n take.Idle refl c
-  take-holds {O} take.OutOfMemory sound node_ n c lent_ = take-goes {F = Sealed} {B = List ℕ} {O = O} name_of parts_of length s r v old new n take.OutOfMemory refl c
+  take-holds {O} take.OutOfMemory sound node_ n c lent_ =
+      take-goes {F = Sealed} {B = List ℕ} {O = O} name_of parts_of length s r v old new n take.OutOfMemory refl c
   take-holds {O} (take.PoolDrop k z) sound node_ n c lent_ = take-drops {F = Sealed} {B = List ℕ} {O = O} name_of parts_of length s r v old new n k z c
   take-holds {O} (take.Job w input blank) sound node_ n c lent_ = take-works {O = O} g stack r v w input old new sound node_ n blank c lent_
 
 pub settle-stays : (g : Graph) (stack : StackValue) (r v : ℕ) (old new : Pass) (o : Option (Job Sealed))
-    → Called (run_setting g stack) (λ x y. SettleGives (run_setting g stack) x r v settled.NotYet y) last.Other old new → HoldsJob g stack r v old o → HoldsJob g stack r v new o
+    → Called (run_setting g stack) (λ x y. SettleGives (run_setting g stack) x r v settled.NotYet y) last.Other old new
+    → HoldsJob g stack r v old o → HoldsJob g stack r v new o
 settle-stays g stack r v old new o c h =
     job-still (run_setting g stack) (λ x y. SettleGives (run_setting g stack) x r v settled.NotYet y) last.Other old new g stack r v o c c.answer.1 h

@@ -129,7 +129,9 @@ put-has : {F : Type 0} (name_of : F → FrameName) (s : Setting) (old : BoardSta
     → (a : Result (Unit {0}) (NotYours F)) × (new : BoardState) × PutGives name_of s old r done a new
 put-has name_of s old r done =
     elim (cases_Bool (is_job_on done.node (name_of done.input) (hand r (past old)))) [
-      | inl yes_ ↦ (Ok tt, moved s (plain (Put r done.node (result_name s done.node (name_of done.input)).maker (name_of done.input).index done.fired)) old, (yes_, refl))
+      | inl yes_ ↦
+          (Ok tt, moved s (plain (Put r done.node (result_name s done.node (name_of done.input)).maker (name_of done.input).index done.fired)) old,
+          (yes_, refl))
       | inr no_ ↦ (Err (record { kept = hand_name (hand r (past old)); given = at done.node (name_of done.input); back = done }), old, (no_, refl, refl))
     ]
 
@@ -167,10 +169,14 @@ answers-exist {F} {B} {O} fs s old supply =
     record {
       load = λ r tick. load-has fs.parts fs.bytes_of s old r tick supply.blank (load_refusal s r (past old)) (grant s (past old) (s.need 0));
       issue = λ r f. issue-has fs.name_of s old r f;
-      take = λ r v. take-has {F = F} {B = B} {O = O} fs.name_of fs.parts fs.bytes_of s old r v supply.part supply.blank (take_refusal s r v (past old)) (asked s v (past old)) (λ e. first-there (queued v (past old)) (may_take {F = F} {B = B} {O = O} s r v (past old) e).some);
+      take =
+          λ r v. take-has {F = F} {B = B} {O = O} fs.name_of fs.parts fs.bytes_of s old r v supply.part supply.blank (take_refusal s r v (past old))
+          (asked s v (past old)) (λ e. first-there (queued v (past old)) (may_take {F = F} {B = B} {O = O} s r v (past old) e).some);
       put = λ r done. put-has fs.name_of s old r done;
       settle = λ r v. settle-has s old r v;
-      save = λ r v. save-has fs.name_of fs.parts s old r v supply.part (save_refusal s r v (past old)) (λ e. first-there (unsaved s v (past old)) (may_save {F = F} s r v (past old) e).some);
+      save =
+          λ r v. save-has fs.name_of fs.parts s old r v supply.part (save_refusal s r v (past old))
+          (λ e. first-there (unsaved s v (past old)) (may_save {F = F} s r v (past old) e).some);
       saved = λ r f. saved-has fs.name_of s old r f;
       close = λ r. close-has s old r;
       leave = λ r. (tt, if has_left r (past old) then old else moved s (plain (Leave r)) old, refl);

@@ -58,8 +58,10 @@ adds-load : {F B : Type 0} (parts : F → Option Parts) (bytes_of : B
     → ℕ) (s : Setting) (old new : BoardState) (r tick : ℕ) (o : Option (load_answer B)) (g : Answer) (a : load_answer B)
     → LoadAnswers parts bytes_of s old r tick o g a new → Adds (Some r) None old new
 adds-load parts bytes_of s old new r tick (Some x) g a c = adds-nothing r None old new c.1
-adds-load parts bytes_of s old new r tick None pool.Refused (load.Refused k z) c = adds-move s r None old new tick (plain (LoadRefused r k (s.need 0) z)) refl refl c.2
-adds-load parts bytes_of s old new r tick None (Granted b n f g) (load.Loaded k blank) c = adds-move s r None old new tick (plain (Load r k b n f g c.2.0)) refl refl c.2.2
+adds-load parts bytes_of s old new r tick None pool.Refused (load.Refused k z) c =
+    adds-move s r None old new tick (plain (LoadRefused r k (s.need 0) z)) refl refl c.2
+adds-load parts bytes_of s old new r tick None (Granted b n f g) (load.Loaded k blank) c =
+    adds-move s r None old new tick (plain (Load r k b n f g c.2.0)) refl refl c.2.2
 adds-load parts bytes_of s old new r tick None (Granted b n f g) load.OutOfMemory c = adds-nothing r None old new c.1
 adds-load parts bytes_of s old new r tick None g _ c = absurd c
 
@@ -67,7 +69,8 @@ adds-take : {F B O : Type 0} (name_of : F → FrameName) (parts : F → Option P
     → ℕ) (s : Setting) (old new : BoardState) (r v : ℕ) (o : Option (take_answer F B O)) (g : Option Answer) (a : take_answer F B O)
     → TakeAnswers name_of parts bytes_of s old r v o g a new → Adds (Some r) None old new
 adds-take name_of parts bytes_of s old new r v (Some x) g a c = adds-nothing r None old new c.1
-adds-take name_of parts bytes_of s old new r v None (Some pool.Refused) (take.PoolDrop k z) c = adds-move s r None old new 0 (plain (PoolDrop r v c.1.0.maker c.1.0.index (s.need v) z)) refl refl c.1.3
+adds-take name_of parts bytes_of s old new r v None (Some pool.Refused) (take.PoolDrop k z) c =
+    adds-move s r None old new 0 (plain (PoolDrop r v c.1.0.maker c.1.0.index (s.need v) z)) refl refl c.1.3
 adds-take name_of parts bytes_of s old new r v None (Some (Granted b n f g)) (take.Job w input (Some blank)) c =
     adds-move s r None old new 0 (lends (take_block r v (name_of input) b n f g c.3.0) (parts input)) refl refl c.3.2
 adds-take name_of parts bytes_of s old new r v None (Some (Granted b n f g)) take.OutOfMemory c = adds-nothing r None old new c.1
@@ -80,7 +83,8 @@ adds-save : {F : Type 0} (name_of : F → FrameName) (parts : F
     → Option Parts) (s : Setting) (old new : BoardState) (r v : ℕ) (o : Option (save_answer F)) (a : save_answer F)
     → SaveAnswers name_of parts s old r v o a new → Adds (Some r) (Some r) old new
 adds-save name_of parts s old new r v (Some x) a c = adds-nothing r (Some r) old new c.1
-adds-save name_of parts s old new r v None (save.Piece input group place of) c = adds-move s r (Some r) old new 0 (lends (Save r v (name_of input).maker (name_of input).index group) (parts input)) refl (eq-eqb r r refl) c.5
+adds-save name_of parts s old new r v None (save.Piece input group place of) c =
+    adds-move s r (Some r) old new 0 (lends (Save r v (name_of input).maker (name_of input).index group) (parts input)) refl (eq-eqb r r refl) c.5
 adds-save name_of parts s old new r v None save.OutOfMemory c = adds-nothing r (Some r) old new c.1
 adds-save name_of parts s old new r v None _ c = absurd c
 
@@ -90,17 +94,21 @@ adds-call fs s old new (Loads r tick answer) c = adds-load fs.parts fs.bytes_of 
 adds-call fs s old new (Issues r frame_ (Ok _)) c = adds-move s r None old new 0 (plain (Issue r (fs.name_of frame_).index)) refl refl c.1
 adds-call fs s old new (Issues r frame_ (Err e)) c = adds-nothing r None old new c.2
 adds-call {F} {B} {O} fs s old new (Takes r v answer) c = adds-take {F = F} {B = B} {O = O} fs.name_of fs.parts fs.bytes_of s old new r v _ _ answer c
-adds-call fs s old new (Puts r done (Ok _)) c = adds-move s r None old new 0 (plain (Put r done.node (result_name s done.node (fs.name_of done.input)).maker (fs.name_of done.input).index done.fired)) refl refl c.1
+adds-call fs s old new (Puts r done (Ok _)) c =
+    adds-move s r None old new 0
+    (plain (Put r done.node (result_name s done.node (fs.name_of done.input)).maker (fs.name_of done.input).index done.fired)) refl refl c.1
 adds-call fs s old new (Puts r done (Err e)) c = adds-nothing r None old new c.2
 adds-call fs s old new (Settles r v settled.NotYet) c = adds-nothing r None old new c.1
 adds-call fs s old new (Settles r v settled.Done) c = adds-if s r old new (is_settled v (past old)) (plain (Settle r v)) refl refl c.1
 adds-call fs s old new (SavesOne r v answer) c = adds-save fs.name_of fs.parts s old new r v _ answer c
-adds-call fs s old new (Saveds r frame_ (Ok _)) c = adds-move s r None old new 0 (plain (Saved r (hand_node (hand r (past old))) (fs.name_of frame_).maker (fs.name_of frame_).index)) refl refl c.1
+adds-call fs s old new (Saveds r frame_ (Ok _)) c =
+    adds-move s r None old new 0 (plain (Saved r (hand_node (hand r (past old))) (fs.name_of frame_).maker (fs.name_of frame_).index)) refl refl c.1
 adds-call fs s old new (Saveds r frame_ (Err e)) c = adds-nothing r None old new c.2
 adds-call fs s old new (Closes r settled.NotYet) c = adds-nothing r None old new c.1
 adds-call fs s old new (Closes r settled.Done) c = adds-if s r old new (is_closed (past old)) (plain (Close r)) refl refl c.1
 adds-call fs s old new (Leaves r) c = adds-if s r old new (has_left r (past old)) (plain (Leave r)) refl refl c
-adds-call fs s old new (Reclaims r left (Ok _)) c = adds-move s r None old new 0 (loses r (lost_of fs.name_of (past old) (hand r (past old)) left)) refl refl c.1
+adds-call fs s old new (Reclaims r left (Ok _)) c =
+    adds-move s r None old new 0 (loses r (lost_of fs.name_of (past old) (hand r (past old)) left)) refl refl c.1
 adds-call fs s old new (Reclaims r left (Err e)) c = adds-nothing r None old new c.2
 adds-call fs s old new (Asks answer) c = adds-none old new c.1
 adds-call fs s old new (Finishes answer) c = adds-none old new c.1

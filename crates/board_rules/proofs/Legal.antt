@@ -85,7 +85,9 @@ may_load_by false false false false h = (refl, refl, refl, refl)
 
 pub may_load : {B : Type 0} (s : Setting) (r : ℕ) (P : Past) → load_refusal {B = B} s r P ≡ None → MayLoad s r P
 may_load {B} s r P h =
-    let p = may_load_by {B = B} (is_sent_away s r P) (has_loaded P || not (is_free r P)) (leb (length s.ids) (next_index P)) (s.wait && not (list_all (has_room s P) (children s 0))) h in
+    let p =
+    may_load_by {B = B} (is_sent_away s r P) (has_loaded P || not (is_free r P)) (leb (length s.ids) (next_index P))
+    (s.wait && not (list_all (has_room s P) (children s 0))) h in
     let q = or_parts (has_loaded P) (not (is_free r P)) p.1 in
     record { stays = p.0; unloaded = q.0; free = not-false (is_free r P) q.1; more = p.2; room = p.3 }
 
@@ -96,7 +98,9 @@ acts-from s r P role stays free =
       role = role;
       free = none-is (hand r P) free;
       stays = λ ne. elim (cases_Bool (has_left_any P)) [
-        | inl left ↦ absurd (true≢false (sym (and_from (has_left_any P) (not (eqb r (last_role s))) left (not_from_false (eqb r (last_role s)) (ne_eqb r (last_role s) ne))) ∙ stays))
+        | inl left ↦
+            absurd (true≢false
+            (sym (and_from (has_left_any P) (not (eqb r (last_role s))) left (not_from_false (eqb r (last_role s)) (ne_eqb r (last_role s) ne))) ∙ stays))
         | inr nobody ↦ nobody
       ];
     }
@@ -110,7 +114,8 @@ LoadIn r a o = (k b n : ℕ) × (f : Bool) × (g : ℕ) × (x : Bool) × (o ≡ 
 
 pub load_in : (r : ℕ) (a : FrameName) (o : Option Entry) → ((e : Entry) → o ≡ Some e → takes_up r e ≡ true) → is_load_of a o ≡ true → LoadIn r a o
 load_in r a None up h = absurd (false≢true h)
-load_in r a (Some (Load q k b n f g x)) up h = (k, b, n, f, g, x, ap (λ (i : ℕ). Some (Load i k b n f g x)) (eqb-true q r (up (Load q k b n f g x) refl)), same-true a (frame 0 k) h)
+load_in r a (Some (Load q k b n f g x)) up h =
+    (k, b, n, f, g, x, ap (λ (i : ℕ). Some (Load i k b n f g x)) (eqb-true q r (up (Load q k b n f g x) refl)), same-true a (frame 0 k) h)
 load_in r a (Some _) up h = absurd (false≢true h)
 
 -- where nothing stands against a take
@@ -135,7 +140,9 @@ may_take_by false false false false h = (refl, refl, refl, refl)
 
 pub may_take : {F B O : Type 0} (s : Setting) (r v : ℕ) (P : Past) → take_refusal {F = F} {B = B} {O = O} s r v P ≡ None → MayTake s r v P
 may_take {F} {B} {O} s r v P h =
-    let p = may_take_by {F = F} {B = B} {O = O} (is_sent_away s r P) (not (is_free r P)) (is_settled v P) (none_left (queued v P) || leb (node s v).threads (jobs v P)) h in
+    let p =
+    may_take_by {F = F} {B = B} {O = O} (is_sent_away s r P) (not (is_free r P)) (is_settled v P)
+    (none_left (queued v P) || leb (node s v).threads (jobs v P)) h in
     let q = or_parts (none_left (queued v P)) (leb (node s v).threads (jobs v P)) p.3 in
     record { stays = p.0; free = not-false (is_free r P) p.1; unsettled = p.2; some = q.0; idle = q.1 }
 
@@ -211,8 +218,10 @@ load-facts : {B : Type 0} (s : Setting) (r k : ℕ) (P : Past) → r ≤ last_ro
 load-facts {B} s r k P role none turn =
     let m = may_load {B = B} s r P none in
     let more : next_index P < length s.ids = leb-false (length s.ids) (next_index P) m.more in
-    let room : s.wait ≡ true → list_all (has_room s P) (children s 0) ≡ true = λ w. not-false _ (and_right s.wait (not (list_all (has_room s P) (children s 0))) w m.room) in
-    record { acts = acts-from s r P role m.stays m.free; unloaded = m.unloaded; in_turn = turn; some = subst (λ (i : ℕ). i < length s.ids) (sym turn) more; room = room }
+    let room : s.wait ≡ true → list_all (has_room s P) (children s 0) ≡ true =
+    λ w. not-false _ (and_right s.wait (not (list_all (has_room s P) (children s 0))) w m.room) in
+    record { acts = acts-from s r P role m.stays m.free; unloaded = m.unloaded; in_turn = turn;
+    some = subst (λ (i : ℕ). i < length s.ids) (sym turn) more; room = room }
 
 -- a block that isn't fresh alone is regrown
 stale-from : (x f : Bool) → (x && f) ≡ false → x ≡ true → f ≡ false
@@ -225,13 +234,17 @@ pub load-by : {F B : Type 0} (parts : F → Option Parts) (bytes_of : B
 load-by parts bytes_of s old new r tick (Some x) g a pooled h role is given c = same-board s old new c.1 h
 load-by {F} {B} parts bytes_of s old new r tick None pool.Refused (load.Refused k z) pooled h role is given c =
     let facts = load-facts {B = B} s r (next_index (past old)) (past old) role is refl in
-    let row = (row_laws.load_refused s (past old) r (next_index (past old)) (s.need 0) (held s (past old))).1 (facts, record { answer = given; need = refl; holds = refl }) in
+    let row =
+    (row_laws.load_refused s (past old) r (next_index (past old)) (s.need 0) (held s (past old))).1
+    (facts, record { answer = given; need = refl; holds = refl }) in
     by-move s old new tick (plain (LoadRefused r (next_index (past old)) (s.need 0) (held s (past old)))) h row
     (subst₂ (λ (i y : ℕ). new ≡ moved_at s tick (plain (LoadRefused r i (s.need 0) y)) old) c.0 c.1 c.2)
 load-by {F} {B} parts bytes_of s old new r tick None (Granted b n f g) (load.Loaded k blank) pooled h role is given c =
     let facts = load-facts {B = B} s r (next_index (past old)) (past old) role is refl in
     let x = c.2.0 in
-    let row = (row_laws.load s (past old) r (next_index (past old)) b n f g x).1 (facts, record { answer = given; accounted = λ e. pooled; stale = stale-from x f c.2.1.0 }) in
+    let row =
+    (row_laws.load s (past old) r (next_index (past old)) b n f g x).1
+    (facts, record { answer = given; accounted = λ e. pooled; stale = stale-from x f c.2.1.0 }) in
     by-move s old new tick (plain (Load r (next_index (past old)) b n f g x)) h row
     (subst (λ (i : ℕ). new ≡ moved_at s tick (plain (Load r i b n f g x)) old) c.0 c.2.2)
 load-by parts bytes_of s old new r tick None (Granted b n f g) load.OutOfMemory pooled h role is given c = same-board s old new c.1 h
@@ -255,7 +268,8 @@ close-by s old new r settled.Done h role c =
       | inl closed ↦ same-board s old new (c.1 ∙ rw closed refl) h
       | inr open_ ↦
           let p = or_parts (not (eqb (next_index P) (length s.ids))) (has_loaded P) c.0 in
-          let facts : CloseFacts s P = record { open_ = open_; offered = eqb-true (next_index P) (length s.ids) (not-false (eqb (next_index P) (length s.ids)) p.0); unloaded = p.1 } in
+          let facts : CloseFacts s P =
+          record { open_ = open_; offered = eqb-true (next_index P) (length s.ids) (not-false (eqb (next_index P) (length s.ids)) p.0); unloaded = p.1 } in
           by-move s old new 0 (plain (Close r)) h ((row_laws.close s P r).1 (role, facts)) (c.1 ∙ rw open_ refl)
     ]
 
@@ -276,7 +290,8 @@ settle-by s old new r v settled.Done h role here c =
       | inl done ↦ same-board s old new (c.1 ∙ rw done refl) h
       | inr unsettled ↦
           let p = and_parts (ltb 0 v) (leb v (length s.nodes)) here in
-          let more : (not (has_ended (node s v).input P) || not (none_left (queued v P)) || ltb 0 (jobs v P)) ≡ false = and_right (not (is_settled v P)) _ (not_from_false (is_settled v P) unsettled) c.0 in
+          let more : (not (has_ended (node s v).input P) || not (none_left (queued v P)) || ltb 0 (jobs v P)) ≡ false =
+          and_right (not (is_settled v P)) _ (not_from_false (is_settled v P) unsettled) c.0 in
           let q = or_parts (not (has_ended (node s v).input P) || not (none_left (queued v P))) (ltb 0 (jobs v P)) more in
           let o = or_parts (not (has_ended (node s v).input P)) (not (none_left (queued v P))) q.0 in
           let idle : jobs v P ≤ 0 = ltb-false 0 (jobs v P) q.1 in
@@ -295,7 +310,8 @@ take-facts : {F B O : Type 0} (s : Setting) (r v : ℕ) (a : FrameName) (P : Pas
     → is_next a (queued v P) ≡ true → TakeFacts s r v a P
 take-facts {F} {B} {O} s r v a P role none next =
     let m = may_take {F = F} {B = B} {O = O} s r v P none in
-    record { acts = acts-from s r P role m.stays m.free; unsettled = m.unsettled; front = first_of a (queued v P) next; room = leb-false (node s v).threads (jobs v P) m.idle }
+    record { acts = acts-from s r P role m.stays m.free; unsettled = m.unsettled; front = first_of a (queued v P) next;
+    room = leb-false (node s v).threads (jobs v P) m.idle }
 
 -- what the pool was asked for a take
 asked-by : (maker : Bool) (x : Answer) (o : Option Answer) → (if maker then Some x else None) ≡ o → ((g : Answer) → o ≡ Some g
@@ -345,7 +361,8 @@ save-by {F} name_of parts s old new r v None (save.Piece input group place of) h
     let P = past old in
     let a = name_of input in
     let m = may_save {F = F} s r v P is in
-    let piece : PieceFacts s v a P = record { file = due-file (node s v).work v P m.due; front = first_of a (unsaved s v P) c.0; due = m.due; none = m.alone } in
+    let piece : PieceFacts s v a P =
+    record { file = due-file (node s v).work v P m.due; front = first_of a (unsaved s v P) c.0; due = m.due; none = m.alone } in
     let facts : SaveFacts s r v a group P = record { role = role; free = none-is (hand r P) m.free; piece = piece; group = c.2 } in
     by-move s old new 0 (lends (Save r v a.maker a.index group) (parts input)) h ((row_laws.save s P r v a.maker a.index group).1 facts) c.5
 save-by name_of parts s old new r v None save.OutOfMemory h role is c = same-board s old new c.1 h
@@ -356,7 +373,8 @@ pub saved-by : {F E : Type 0} (name_of : F → FrameName) (s : Setting) (old new
 saved-by name_of s old new r f (Ok _) h c =
     let P = past old in
     let a = name_of f in
-    by-move s old new 0 (plain (Saved r (hand_node (hand r P)) a.maker a.index)) h ((row_laws.saved s P r (hand_node (hand r P)) a.maker a.index).1 (piece_in r a (hand r P) (names_role r P) c.0)) c.1
+    by-move s old new 0 (plain (Saved r (hand_node (hand r P)) a.maker a.index)) h
+    ((row_laws.saved s P r (hand_node (hand r P)) a.maker a.index).1 (piece_in r a (hand r P) (names_role r P) c.0)) c.1
 saved-by name_of s old new r f (Err e) h c = same-board s old new c.2 h
 
 held-by : (o : Option Entry) → is_none o ≡ false → (e : Entry) × (o ≡ Some e)
@@ -376,7 +394,9 @@ reclaim-by name_of s old new r left (Err e) h c = same-board s old new c.2 h
 
 -- the hand is a job of the node on this array, by what the node makes
 abbrev ResultIn : Setting → ℕ → ℕ → FrameName → Option Entry → Type 0
-ResultIn s r v a o = ((is_maker s v ≡ false) × (o ≡ Some (Take r v a.maker a.index))) ⊎ ((is_maker s v ≡ true) × ((m b n : ℕ) × (f : Bool) × (g : ℕ) × (x : Bool) × (o ≡ Some (TakeBlock f x r v m a.index b n g))))
+ResultIn s r v a o =
+    ((is_maker s v ≡ false) × (o ≡ Some (Take r v a.maker a.index)))
+    ⊎ ((is_maker s v ≡ true) × ((m b n : ℕ) × (f : Bool) × (g : ℕ) × (x : Bool) × (o ≡ Some (TakeBlock f x r v m a.index b n g))))
 
 result_in : (s : Setting) (r v : ℕ) (a : FrameName) (o : Option Entry) → ((e : Entry) → o ≡ Some e → takes_up r e ≡ true) → ((e : Entry) → o ≡ Some e
     → suits s e ≡ true) → is_job_on v a o ≡ true → ResultIn s r v a o
@@ -387,7 +407,8 @@ result_in s r v a (Some (Take q w m k)) up fit h =
     let f : ℕ → ℕ → FrameName → Option Entry = λ i j b. Some (Take i j b.maker b.index) in
     inl (
       subst (λ (j : ℕ). is_maker s j ≡ false) here (not-true (is_maker s w) (fit (Take q w m k) refl)),
-      ap (λ (i : ℕ). f i w (frame m k)) (eqb-true q r (up (Take q w m k) refl)) ∙ (ap (λ (j : ℕ). f r j (frame m k)) here ∙ ap (λ (b : FrameName). f r v b) (sym (same-true a (frame m k) p.1))),
+      ap (λ (i : ℕ). f i w (frame m k)) (eqb-true q r (up (Take q w m k) refl))
+      ∙ (ap (λ (j : ℕ). f r j (frame m k)) here ∙ ap (λ (b : FrameName). f r v b) (sym (same-true a (frame m k) p.1))),
     )
 result_in s r v a (Some (TakeBlock f x q w m k b n g)) up fit h =
     let p = and_parts (eqb w v) (same a (frame m k)) h in
@@ -396,7 +417,8 @@ result_in s r v a (Some (TakeBlock f x q w m k b n g)) up fit h =
     let t : ℕ → ℕ → ℕ → Option Entry = λ i j l. Some (TakeBlock f x i j m l b n g) in
     inr (
       subst (λ (j : ℕ). is_maker s j ≡ true) here (fit (TakeBlock f x q w m k b n g) refl),
-      (m, b, n, f, g, x, ap (λ (i : ℕ). t i w k) (eqb-true q r (up (TakeBlock f x q w m k b n g) refl)) ∙ (ap (λ (j : ℕ). t r j k) here ∙ ap (λ (l : ℕ). t r v l) index)),
+      (m, b, n, f, g, x,
+      ap (λ (i : ℕ). t i w k) (eqb-true q r (up (TakeBlock f x q w m k b n g) refl)) ∙ (ap (λ (j : ℕ). t r j k) here ∙ ap (λ (l : ℕ). t r v l) index)),
     )
 result_in s r v a (Some _) up fit h = absurd (false≢true h)
 
@@ -428,7 +450,8 @@ gives-legal : {F B O : Type 0} (fs : Frames F B) (s : Setting) (old new : BoardS
     → is_history s (past old) ≡ true → May fs s old call → Gives fs s old call new → is_history s (past new) ≡ true
 gives-legal fs s old new (Loads r tick answer) pooled h may c = load-by fs.parts fs.bytes_of s old new r tick _ _ answer pooled h may refl refl c
 gives-legal fs s old new (Issues r frame_ answer) pooled h may c = issue-by fs.name_of s old new r frame_ answer h c
-gives-legal {F} {B} {O} fs s old new (Takes r v answer) pooled h may c = take-by {F = F} {B = B} {O = O} fs.name_of fs.parts fs.bytes_of s old new r v _ _ answer pooled h may.0 refl refl c
+gives-legal {F} {B} {O} fs s old new (Takes r v answer) pooled h may c =
+    take-by {F = F} {B = B} {O = O} fs.name_of fs.parts fs.bytes_of s old new r v _ _ answer pooled h may.0 refl refl c
 gives-legal fs s old new (Puts r done answer) pooled h may c = put-by fs.name_of fs.measure_at s old new r done answer h (λ here. (may.2 here).0) c
 gives-legal fs s old new (Settles r v answer) pooled h may c = settle-by s old new r v answer h may.0 may.1 c
 gives-legal fs s old new (SavesOne r v answer) pooled h may c = save-by fs.name_of fs.parts s old new r v _ answer h may.0 refl c

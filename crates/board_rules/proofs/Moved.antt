@@ -214,4 +214,5 @@ all-made s tick (suc n) (d ∷ ds) rest b h o =
 pub moved-legal : MovedIsLegal
 moved-legal s b tick t h f =
     let o = push-first t.entry (history-owes h) f in
-    history-from (all-made s tick 3 (calls_for s (past b) t.entry) [] (t ∷ b) (fit-first s (past b) t.entry) (subst (λ (ds : List Entry). Owes s (t.entry ∷ past b) ds) (sym (append-nil (calls_for s (past b) t.entry))) o))
+    history-from (all-made s tick 3 (calls_for s (past b) t.entry) [] (t ∷ b) (fit-first s (past b) t.entry)
+    (subst (λ (ds : List Entry). Owes s (t.entry ∷ past b) ds) (sym (append-nil (calls_for s (past b) t.entry))) o))

@@ -61,7 +61,10 @@ followed s tick (suc n) (d ∷ ds) b h =
     let here : GoOn (plain e ∷ []) = (made-begins s tick (suc n) (past b) d p.0, tt) in
     record {
       more = outer.more ++ (inner.more ++ plain e ∷ []);
-      whole = outer.whole ∙ (ap (λ (xs : BoardState). outer.more ++ xs) (inner.whole ∙ sym (append_assoc inner.more (plain e ∷ []) b)) ∙ sym (append_assoc outer.more (inner.more ++ plain e ∷ []) b));
+      whole =
+          outer.whole
+          ∙ (ap (λ (xs : BoardState). outer.more ++ xs) (inner.whole ∙ sym (append_assoc inner.more (plain e ∷ []) b))
+          ∙ sym (append_assoc outer.more (inner.more ++ plain e ∷ []) b));
       go = go-append outer.more (inner.more ++ plain e ∷ []) outer.go (go-append inner.more (plain e ∷ []) inner.go here);
     }
 

@@ -46,8 +46,10 @@ same-past s tick (suc n) (d ∷ ds) b c h =
     let calls : Past → List Entry = λ P. calls_for s P (e P) in
     let here : e (past b) ∷ past b ≡ e (past c) ∷ past c = ap (λ (P : Past). e P ∷ P) h in
     let inner : past (with_all s tick n (calls (past b)) (plain (e (past b)) ∷ b)) ≡ past (with_all s tick n (calls (past c)) (plain (e (past c)) ∷ c)) =
-    same-past s tick n (calls (past b)) (plain (e (past b)) ∷ b) (plain (e (past c)) ∷ c) here ∙ ap (λ (P : Past). past (with_all s tick n (calls P) (plain (e (past c)) ∷ c))) h in
-    same-past s tick (suc n) ds (with_all s tick n (calls (past b)) (plain (e (past b)) ∷ b)) (with_all s tick n (calls (past c)) (plain (e (past c)) ∷ c)) inner
+    same-past s tick n (calls (past b)) (plain (e (past b)) ∷ b) (plain (e (past c)) ∷ c) here
+    ∙ ap (λ (P : Past). past (with_all s tick n (calls P) (plain (e (past c)) ∷ c))) h in
+    same-past s tick (suc n) ds
+    (with_all s tick n (calls (past b)) (plain (e (past b)) ∷ b)) (with_all s tick n (calls (past c)) (plain (e (past c)) ∷ c)) inner
 
 same-moved : (s : Setting) (tick : ℕ) (t u : Told) (b : BoardState) → t.entry ≡ u.entry → past (moved_at s tick t b) ≡ past (moved_at s tick u b)
 same-moved s tick t u b h =
@@ -89,7 +91,8 @@ one-load parts bytes_of s old new other r tick None pool.Refused (load.Refused k
 one-load parts bytes_of s old new other r tick None (Granted n m f g) (load.Loaded k blank) (load.Loaded j storage) tell v w c d =
     let p : k ≡ j = c.0 ∙ sym d.0 in
     let q : c.2.0 ≡ d.2.0 = same-regrown parts old n f c.2.0 d.2.0 tell c.2.1 d.2.1 in
-    moves s tick old new other (plain (Load r k n m f g c.2.0)) (plain (Load r j n m f g d.2.0)) c.2.2 d.2.2 (ap (λ (i : ℕ). Load r i n m f g c.2.0) p ∙ ap (λ (x : Bool). Load r j n m f g x) q)
+    moves s tick old new other (plain (Load r k n m f g c.2.0)) (plain (Load r j n m f g d.2.0)) c.2.2 d.2.2
+    (ap (λ (i : ℕ). Load r i n m f g c.2.0) p ∙ ap (λ (x : Bool). Load r j n m f g x) q)
 one-load parts bytes_of s old new other r tick None (Granted n m f g) load.OutOfMemory b tell v w c d = absurd (true≢false v)
 one-load parts bytes_of s old new other r tick None (Granted n m f g) (load.Loaded k blank) load.OutOfMemory tell v w c d = absurd (true≢false w)
 one-load parts bytes_of s old new other r tick None (Granted n m f g) (load.Loaded k blank) _ tell v w c d = absurd d
@@ -109,11 +112,13 @@ one-take name_of parts bytes_of s old new other r v None (Some pool.Refused) (ta
 one-take name_of parts bytes_of s old new other r v None (Some (Granted n m f g)) (take.Job x input (Some blank)) (take.Job y part (Some storage)) tell z w c d =
     let p : name_of input ≡ name_of part = same-next (name_of input) (name_of part) _ c.1.0 d.1.0 in
     let q : c.3.0 ≡ d.3.0 = same-regrown parts old n f c.3.0 d.3.0 tell c.3.1 d.3.1 in
-    moves s 0 old new other (lends (take_block r v (name_of input) n m f g c.3.0) (parts input)) (lends (take_block r v (name_of part) n m f g d.3.0) (parts part)) c.3.2 d.3.2
+    moves s 0 old new other (lends (take_block r v (name_of input) n m f g c.3.0) (parts input))
+    (lends (take_block r v (name_of part) n m f g d.3.0) (parts part)) c.3.2 d.3.2
     (ap (λ (i : FrameName). take_block r v i n m f g c.3.0) p ∙ ap (λ (x : Bool). take_block r v (name_of part) n m f g x) q)
 one-take name_of parts bytes_of s old new other r v None None (take.Job x input None) (take.Job y part None) tell z w c d =
     let p : name_of input ≡ name_of part = same-next (name_of input) (name_of part) _ c.1.0 d.1.0 in
-    moves s 0 old new other (lends (Take r v (name_of input).maker (name_of input).index) (parts input)) (lends (Take r v (name_of part).maker (name_of part).index) (parts part)) c.2 d.2
+    moves s 0 old new other (lends (Take r v (name_of input).maker (name_of input).index) (parts input))
+    (lends (Take r v (name_of part).maker (name_of part).index) (parts part)) c.2 d.2
     (ap (λ (i : FrameName). Take r v i.maker i.index) p)
 one-take name_of parts bytes_of s old new other r v None g take.OutOfMemory b tell z w c d = absurd (true≢false z)
 one-take name_of parts bytes_of s old new other r v None g (take.Job x input (Some blank)) take.OutOfMemory tell z w c d = absurd (true≢false w)
@@ -130,7 +135,8 @@ one-save name_of parts s old new other r v (Some x) a b z w c d = stays old new 
 one-save name_of parts s old new other r v None (save.Piece input g k of) (save.Piece part h l count) z w c d =
     let p : name_of input ≡ name_of part = same-next (name_of input) (name_of part) _ c.0 d.0 in
     let q : g ≡ h = c.2 ∙ sym d.2 in
-    moves s 0 old new other (lends (Save r v (name_of input).maker (name_of input).index g) (parts input)) (lends (Save r v (name_of part).maker (name_of part).index h) (parts part)) c.5 d.5
+    moves s 0 old new other (lends (Save r v (name_of input).maker (name_of input).index g) (parts input))
+    (lends (Save r v (name_of part).maker (name_of part).index h) (parts part)) c.5 d.5
     (ap (λ (i : FrameName). Save r v i.maker i.index g) p ∙ ap (λ (j : ℕ). Save r v (name_of part).maker (name_of part).index j) q)
 one-save name_of parts s old new other r v None save.OutOfMemory b z w c d = absurd (true≢false z)
 one-save name_of parts s old new other r v None (save.Piece input g k of) save.OutOfMemory z w c d = absurd (true≢false w)

@@ -219,10 +219,13 @@ follows-made s tick (suc n) (d ∷ ds) rest (x ∷ es) b h t o f =
     let is : x ≡ e = made-is s tick (suc n) (past b) x d p.0 (not-true _ q.0) a.0 in
     let o' : Owes s (e ∷ past b) (calls_for s (past b) e ++ (ds ++ rest)) = push-owed e o (subst (λ (y : Entry). answers s (past b) y d ≡ true) is a.0) in
     let f' : follow s (e ∷ past b) es ≡ true = subst (λ (y : Entry). follow s (y ∷ past b) es ≡ true) is a.1 in
-    let m = follows-made s tick n (calls_for s (past b) e) (ds ++ rest) es (plain e ∷ b) (fit-next s tick n (past b) d p.0) (ticks-next s tick (suc n) (past b) d p.0 (not-true _ q.0)) o' f' in
+    let m =
+    follows-made s tick n (calls_for s (past b) e) (ds ++ rest) es (plain e ∷ b) (fit-next s tick n (past b) d p.0)
+    (ticks-next s tick (suc n) (past b) d p.0 (not-true _ q.0)) o' f' in
     let k = follows-made s tick (suc n) ds rest m.back (with_all s tick n (calls_for s (past b) e) (plain e ∷ b)) p.1 q.1 m.owes m.goes in
     subst (λ (y : Entry). Made s (past b) (y ∷ es) (past (with_all s tick (suc n) (d ∷ ds) b)) rest) (sym is)
-    (both-made s (past b) e es (past (with_all s tick n (calls_for s (past b) e) (plain e ∷ b))) (past (with_all s tick (suc n) (d ∷ ds) b)) (ds ++ rest) rest m k)
+    (both-made s (past b) e es
+    (past (with_all s tick n (calls_for s (past b) e) (plain e ∷ b))) (past (with_all s tick (suc n) (d ∷ ds) b)) (ds ++ rest) rest m k)
 
 -- THE MOVE
 
@@ -236,7 +239,8 @@ without-tick : (s : Setting) (b : BoardState) (t : Told) (m : List Entry) → no
     → Owes s (t.entry ∷ past b) (calls_for s (past b) t.entry) → follow s (t.entry ∷ past b) m ≡ true → past (moved_at s 0 t b) ≡ onto m (t.entry ∷ past b)
 without-tick s b t m no_ o f =
     all-there s (t.entry ∷ past b) m (past (moved_at s 0 t b))
-    (follows-made s 0 3 (calls_for s (past b) t.entry) [] m (t ∷ b) (fit-first s (past b) t.entry) no_ (subst (λ (ds : List Entry). Owes s (t.entry ∷ past b) ds) (sym (append-nil (calls_for s (past b) t.entry))) o) f)
+    (follows-made s 0 3 (calls_for s (past b) t.entry) [] m (t ∷ b) (fit-first s (past b) t.entry) no_
+    (subst (λ (ds : List Entry). Owes s (t.entry ∷ past b) ds) (sym (append-nil (calls_for s (past b) t.entry))) o) f)
 
 max-right : (a b : ℕ) → a ≤ b → max a b ≡ b
 max-right a b h = omega arith
@@ -248,14 +252,17 @@ ticked s tick u b = past (with_all s tick 2 (calls_for s (past b) (Tick u)) (pla
 after-tick : (s : Setting) (b : BoardState) (u : ℕ) (es : List Entry) → Owes s (Tick u ∷ past b) (calls_for s (past b) (Tick u))
     → follow s (Tick u ∷ past b) es ≡ true → ticked s u u b ≡ onto es (Tick u ∷ past b)
 after-tick s b u es o f =
-    let fit : all_fit 2 (calls_for s (past b) (Tick u)) ≡ true = subst (λ (w : ℕ). all_fit 2 (calls_for s (past b) (Tick w)) ≡ true) (max-right u u (omega arith)) (fit-next s u 2 (past b) (Tick u) refl) in
+    let fit : all_fit 2 (calls_for s (past b) (Tick u)) ≡ true =
+    subst (λ (w : ℕ). all_fit 2 (calls_for s (past b) (Tick w)) ≡ true) (max-right u u (omega arith)) (fit-next s u 2 (past b) (Tick u) refl) in
     all-there s (Tick u ∷ past b) es (ticked s u u b)
-    (follows-made s u 2 (calls_for s (past b) (Tick u)) [] es (plain (Tick u) ∷ b) fit (shallow (calls_for s (past b) (Tick u)) fit) (subst (λ (ds : List Entry). Owes s (Tick u ∷ past b) ds) (sym (append-nil (calls_for s (past b) (Tick u)))) o) f)
+    (follows-made s u 2 (calls_for s (past b) (Tick u)) [] es (plain (Tick u) ∷ b) fit (shallow (calls_for s (past b) (Tick u)) fit)
+    (subst (λ (ds : List Entry). Owes s (Tick u ∷ past b) ds) (sym (append-nil (calls_for s (past b) (Tick u)))) o) f)
 
 with-tick : (s : Setting) (b : BoardState) (t : Told) (m : List Entry) → OneTick s (past b) t.entry
     → Owes s (t.entry ∷ past b) (calls_for s (past b) t.entry) → follow s (t.entry ∷ past b) m ≡ true
     → (tick : ℕ) × (past (moved_at s tick t b) ≡ onto m (t.entry ∷ past b))
-with-tick s b t [] one o f = absurd (follow-some s (t.entry ∷ past b) (Tick (now (past b))) [] (subst (λ (ds : List Entry). Owes s (t.entry ∷ past b) ds) one o) f)
+with-tick s b t [] one o f =
+    absurd (follow-some s (t.entry ∷ past b) (Tick (now (past b))) [] (subst (λ (ds : List Entry). Owes s (t.entry ∷ past b) ds) one o) f)
 with-tick s b t (x ∷ es) one o f =
     let P : Past = t.entry ∷ past b in
     let kept : ℕ = now (past b) in
@@ -265,7 +272,9 @@ with-tick s b t (x ∷ es) one o f =
     let u : ℕ = w.0 in
     let is : x ≡ Tick u = w.1 in
     let later : Owes s (Tick u ∷ P) (calls_for s P (Tick u) ++ []) = push-owed (Tick u) o' (subst (λ (y : Entry). answers s P y (Tick kept) ≡ true) is a.0) in
-    let there = after-tick s (t ∷ b) u es (subst (λ (ds : List Entry). Owes s (Tick u ∷ P) ds) (append-nil (calls_for s P (Tick u))) later) (subst (λ (y : Entry). follow s (y ∷ P) es ≡ true) is a.1) in (
+    let there =
+    after-tick s (t ∷ b) u es (subst (λ (ds : List Entry). Owes s (Tick u ∷ P) ds) (append-nil (calls_for s P (Tick u))) later)
+    (subst (λ (y : Entry). follow s (y ∷ P) es ≡ true) is a.1) in (
       u,
       ap (λ (ds : List Entry). past (with_all s u 3 ds (t ∷ b))) one
           ∙ (ap (λ (v : ℕ). ticked s u v (t ∷ b)) (max-right kept u w.2)

@@ -132,7 +132,8 @@ keeps-load : {F B : Type 0} (parts : F → Option Parts) (bytes_of : B
     → ℕ) (s : Setting) (old new : BoardState) (r tick : ℕ) (o : Option (load_answer B)) (g : Answer) (a : load_answer B) → TellParts parts
     → LoadAnswers parts bytes_of s old r tick o g a new → Keeps old new
 keeps-load parts bytes_of s old new r tick (Some x) g a tell c = keeps-same old new c.1
-keeps-load parts bytes_of s old new r tick None pool.Refused (load.Refused k z) tell c = keeps-move s old new tick (plain (LoadRefused r k (s.need 0) z)) (λ h. refl) c.2
+keeps-load parts bytes_of s old new r tick None pool.Refused (load.Refused k z) tell c =
+    keeps-move s old new tick (plain (LoadRefused r k (s.need 0) z)) (λ h. refl) c.2
 keeps-load parts bytes_of s old new r tick None (Granted b n f g) (load.Loaded k blank) tell c =
     keeps-move s old new tick (plain (Load r k b n f g c.2.0)) (λ h. isnt-away parts old b f c.2.0 tell c.2.1 h) c.2.2
 keeps-load parts bytes_of s old new r tick None (Granted b n f g) load.OutOfMemory tell c = keeps-same old new c.1
@@ -142,7 +143,8 @@ keeps-take : {F B O : Type 0} (name_of : F → FrameName) (parts : F → Option 
     → ℕ) (s : Setting) (old new : BoardState) (r v : ℕ) (o : Option (take_answer F B O)) (g : Option Answer) (a : take_answer F B O) → TellParts parts
     → TakeAnswers name_of parts bytes_of s old r v o g a new → Keeps old new
 keeps-take name_of parts bytes_of s old new r v (Some x) g a tell c = keeps-same old new c.1
-keeps-take name_of parts bytes_of s old new r v None (Some pool.Refused) (take.PoolDrop k z) tell c = keeps-move s old new 0 (plain (PoolDrop r v c.1.0.maker c.1.0.index (s.need v) z)) (λ h. refl) c.1.3
+keeps-take name_of parts bytes_of s old new r v None (Some pool.Refused) (take.PoolDrop k z) tell c =
+    keeps-move s old new 0 (plain (PoolDrop r v c.1.0.maker c.1.0.index (s.need v) z)) (λ h. refl) c.1.3
 keeps-take name_of parts bytes_of s old new r v None (Some (Granted b n f g)) (take.Job w input (Some blank)) tell c =
     keeps-move s old new 0 (lends (take_block r v (name_of input) b n f g c.3.0) (parts input)) (λ h. isnt-away parts old b f c.3.0 tell c.3.1 h) c.3.2
 keeps-take name_of parts bytes_of s old new r v None (Some (Granted b n f g)) take.OutOfMemory tell c = keeps-same old new c.1
@@ -155,7 +157,8 @@ keeps-save : {F : Type 0} (name_of : F → FrameName) (parts : F
     → Option Parts) (s : Setting) (old new : BoardState) (r v : ℕ) (o : Option (save_answer F)) (a : save_answer F)
     → SaveAnswers name_of parts s old r v o a new → Keeps old new
 keeps-save name_of parts s old new r v (Some x) a c = keeps-same old new c.1
-keeps-save name_of parts s old new r v None (save.Piece input group place of) c = keeps-move s old new 0 (lends (Save r v (name_of input).maker (name_of input).index group) (parts input)) (λ h. refl) c.5
+keeps-save name_of parts s old new r v None (save.Piece input group place of) c =
+    keeps-move s old new 0 (lends (Save r v (name_of input).maker (name_of input).index group) (parts input)) (λ h. refl) c.5
 keeps-save name_of parts s old new r v None save.OutOfMemory c = keeps-same old new c.1
 keeps-save name_of parts s old new r v None _ c = absurd c
 
@@ -164,18 +167,23 @@ keeps-call : {F B O : Type 0} (fs : Frames F B) (s : Setting) (old new : BoardSt
 keeps-call fs s old new (Loads r tick answer) tell c = keeps-load fs.parts fs.bytes_of s old new r tick _ _ answer tell c
 keeps-call fs s old new (Issues r frame_ (Ok _)) tell c = keeps-move s old new 0 (plain (Issue r (fs.name_of frame_).index)) (λ h. refl) c.1
 keeps-call fs s old new (Issues r frame_ (Err e)) tell c = keeps-same old new c.2
-keeps-call {F} {B} {O} fs s old new (Takes r v answer) tell c = keeps-take {F = F} {B = B} {O = O} fs.name_of fs.parts fs.bytes_of s old new r v _ _ answer tell c
-keeps-call fs s old new (Puts r done (Ok _)) tell c = keeps-move s old new 0 (plain (Put r done.node (result_name s done.node (fs.name_of done.input)).maker (fs.name_of done.input).index done.fired)) (λ h. refl) c.1
+keeps-call {F} {B} {O} fs s old new (Takes r v answer) tell c =
+    keeps-take {F = F} {B = B} {O = O} fs.name_of fs.parts fs.bytes_of s old new r v _ _ answer tell c
+keeps-call fs s old new (Puts r done (Ok _)) tell c =
+    keeps-move s old new 0
+    (plain (Put r done.node (result_name s done.node (fs.name_of done.input)).maker (fs.name_of done.input).index done.fired)) (λ h. refl) c.1
 keeps-call fs s old new (Puts r done (Err e)) tell c = keeps-same old new c.2
 keeps-call fs s old new (Settles r v settled.NotYet) tell c = keeps-same old new c.1
 keeps-call fs s old new (Settles r v settled.Done) tell c = keeps-if s old new (is_settled v (past old)) (plain (Settle r v)) refl c.1
 keeps-call fs s old new (SavesOne r v answer) tell c = keeps-save fs.name_of fs.parts s old new r v _ answer c
-keeps-call fs s old new (Saveds r frame_ (Ok _)) tell c = keeps-move s old new 0 (plain (Saved r (hand_node (hand r (past old))) (fs.name_of frame_).maker (fs.name_of frame_).index)) (λ h. refl) c.1
+keeps-call fs s old new (Saveds r frame_ (Ok _)) tell c =
+    keeps-move s old new 0 (plain (Saved r (hand_node (hand r (past old))) (fs.name_of frame_).maker (fs.name_of frame_).index)) (λ h. refl) c.1
 keeps-call fs s old new (Saveds r frame_ (Err e)) tell c = keeps-same old new c.2
 keeps-call fs s old new (Closes r settled.NotYet) tell c = keeps-same old new c.1
 keeps-call fs s old new (Closes r settled.Done) tell c = keeps-if s old new (is_closed (past old)) (plain (Close r)) refl c.1
 keeps-call fs s old new (Leaves r) tell c = keeps-if s old new (has_left r (past old)) (plain (Leave r)) refl c
-keeps-call fs s old new (Reclaims r left (Ok _)) tell c = keeps-move s old new 0 (loses r (lost_of fs.name_of (past old) (hand r (past old)) left)) (λ h. refl) c.1
+keeps-call fs s old new (Reclaims r left (Ok _)) tell c =
+    keeps-move s old new 0 (loses r (lost_of fs.name_of (past old) (hand r (past old)) left)) (λ h. refl) c.1
 keeps-call fs s old new (Reclaims r left (Err e)) tell c = keeps-same old new c.2
 keeps-call fs s old new (Asks answer) tell c = keeps-same old new c.1
 keeps-call fs s old new (Finishes answer) tell c = keeps-same old new c.1

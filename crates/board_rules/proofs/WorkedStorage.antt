@@ -19,7 +19,8 @@ abbrev second : BoardState → Bool
 second (t ∷ u ∷ b) = says_regrown u.entry
 second _ = false
 
-pub isnt-regrown : LoadGives {F = Sample} parts_of size_of limit_of_four one_dropped 0 0 (load.Loaded 1 4) (moved limit_of_four (plain (entry.Load 0 1 0 4 false 0 true)) one_dropped) → ⊥
+pub isnt-regrown : LoadGives {F = Sample} parts_of size_of limit_of_four one_dropped 0 0 (load.Loaded 1 4)
+    (moved limit_of_four (plain (entry.Load 0 1 0 4 false 0 true)) one_dropped) → ⊥
 isnt-regrown (a, b, (regrown, (c, d), e)) = false≢true (sym (d (λ f. refl)) ∙ subst (λ (b : BoardState). second b ≡ true) e refl)
 
 pub isnt-wanting : LoadGives {F = Sample} parts_of size_of limit_of_four one_dropped 0 0 load.OutOfMemory one_dropped → ⊥

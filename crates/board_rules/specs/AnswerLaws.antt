@@ -42,7 +42,8 @@ HasAnswer fs s old A call = (answer : A) × (new : BoardState) × Gives fs s old
 -- all answers but want of memory leave the same log
 abbrev pub HasOneLog : {F B O : Type 0} → Frames F B → Setting → BoardState → (A : Type 0) → (A → Call F B O) → Type 0
 HasOneLog fs s old A call =
-    (a b : A) (new other : BoardState) → wants_memory (call a) ≡ false → wants_memory (call b) ≡ false → Gives fs s old (call a) new → Gives fs s old (call b) other → past new ≡ past other
+    (a b : A) (new other : BoardState) → wants_memory (call a) ≡ false → wants_memory (call b) ≡ false → Gives fs s old (call a) new
+    → Gives fs s old (call b) other → past new ≡ past other
 
 -- no contract asks for what can't be
 abbrev pub AnswersExist : (F B O : Type 0) → Type 0

@@ -38,7 +38,8 @@ two_fed = fed queue_of_one 1 (fed queue_of_one 0 [])
 abbrev pub three_fed : BoardState
 three_fed = issued queue_of_one 2 (moved queue_of_one (plain (entry.Load 0 2 1 4 false 0 false)) two_fed)
 
-the_third_has_the_free_block : LoadGives {F = Sample} parts_of size_of queue_of_one two_fed 0 0 (load.Loaded 2 4) (moved queue_of_one (plain (entry.Load 0 2 1 4 false 0 false)) two_fed)
+the_third_has_the_free_block : LoadGives {F = Sample} parts_of size_of queue_of_one two_fed 0 0 (load.Loaded 2 4)
+    (moved queue_of_one (plain (entry.Load 0 2 1 4 false 0 false)) two_fed)
 the_third_has_the_free_block = (refl, refl, (false, (refl, λ told. refl), refl))
 
 one_is_queued : queued 1 (past three_fed) ≡ frame 0 0 ∷ []
@@ -112,7 +113,8 @@ short_list = one_node (Passes false) 20 4 1 5 0 false (pos 1 ∷ pos 2 ∷ pos 3
 
 abbrev pub four_taken : BoardState
 four_taken =
-    taken short_list 4 3 (taken short_list 3 2 (taken short_list 2 1 (taken short_list 1 0 (fed short_list 3 (fed short_list 2 (fed short_list 1 (fed short_list 0 [])))))))
+    taken short_list 4 3
+    (taken short_list 3 2 (taken short_list 2 1 (taken short_list 1 0 (fed short_list 3 (fed short_list 2 (fed short_list 1 (fed short_list 0 [])))))))
 
 what_a_full_list_logs :
     past (put short_list 2 1 (put short_list 1 0 (put short_list 4 3 (put short_list 3 2 four_taken))))
@@ -136,7 +138,8 @@ the_take_drops_it : TakeGives {F = Sample} {O = Unit {0}} (λ f. f.name) parts_o
 the_take_drops_it = (refl, (frame 0 0, refl, refl, refl))
 
 its_block_is_granted_again :
-    LoadGives {F = Sample} parts_of size_of limit_of_four one_dropped 0 0 (load.Loaded 1 4) (moved limit_of_four (plain (entry.Load 0 1 0 4 false 0 false)) one_dropped)
+    LoadGives {F = Sample} parts_of size_of limit_of_four one_dropped 0 0 (load.Loaded 1 4)
+    (moved limit_of_four (plain (entry.Load 0 1 0 4 false 0 false)) one_dropped)
 its_block_is_granted_again = (refl, refl, (false, (refl, λ told. refl), refl))
 
 -- RECLAIMED: a worker leaves with a job, whose part comes back. Then another has the same frame again.
@@ -164,7 +167,8 @@ its_storage_isnt_away = refl
 the_others_are_sent_away : take_refusal {F = Sample} {B = Bytes} {O = Unit {0}} one_worker 1 1 (past taken_back) ≡ Some take.Left
 the_others_are_sent_away = refl
 
-the_drain_has_it : TakeGives {F = Sample} {O = Unit {0}} (λ f. f.name) parts_of size_of one_worker taken_back 3 1 (take.Job 1 (part 0) None) (taken one_worker 3 0 taken_back)
+the_drain_has_it : TakeGives {F = Sample} {O = Unit {0}} (λ f. f.name) parts_of size_of one_worker taken_back 3 1
+    (take.Job 1 (part 0) None) (taken one_worker 3 0 taken_back)
 the_drain_has_it = (refl, (refl, refl), refl)
 
 no_hand_is_left : reclaim_refusal one_worker 1 (past taken_back) ≡ Some NoHand
@@ -186,7 +190,8 @@ without_storage = moved one_worker (loses 0 (0 ∷ [])) feeder_has_left
 nothing_comes_back : ReclaimGives {E = Unit {0}} (λ (f : Sample). f.name) one_worker feeder_has_left 0 with_nothing (Ok tt) without_storage
 nothing_comes_back = (refl, refl)
 
-it_is_regrown : LoadGives {F = Sample} parts_of size_of one_worker without_storage 3 0 (load.Loaded 0 4) (moved one_worker (plain (entry.Load 3 0 0 4 false 0 true)) without_storage)
+it_is_regrown : LoadGives {F = Sample} parts_of size_of one_worker without_storage 3 0 (load.Loaded 0 4)
+    (moved one_worker (plain (entry.Load 3 0 0 4 false 0 true)) without_storage)
 it_is_regrown = (refl, refl, (true, (refl, λ told. refl), refl))
 
 memory_may_be_wanting : LoadGives {F = Sample} parts_of size_of one_worker without_storage 3 0 load.OutOfMemory without_storage
@@ -228,7 +233,8 @@ halves = record (one_node Makes 20 1 0 100 8 false (pos 1 ∷ pos 2 ∷ [])) { n
 abbrev pub block_taken : BoardState
 block_taken = moved halves (lends (entry.TakeBlock true false 1 1 0 0 1 2 0) (parts_of (part 0))) (fed halves 0 [])
 
-a_block_comes_with_it : TakeGives {F = Sample} {O = Unit {0}} (λ f. f.name) parts_of size_of halves (fed halves 0 []) 1 1 (take.Job 1 (part 0) (Some 2)) block_taken
+a_block_comes_with_it : TakeGives {F = Sample} {O = Unit {0}} (λ f. f.name) parts_of size_of halves (fed halves 0 []) 1 1
+    (take.Job 1 (part 0) (Some 2)) block_taken
 a_block_comes_with_it = (refl, (refl, refl), refl, (false, (refl, λ told. refl), refl))
 
 abbrev pub half : Sample
@@ -238,7 +244,8 @@ abbrev pub made_and_put : BoardState
 made_and_put = moved halves (plain (entry.Put 1 1 1 0 false)) block_taken
 
 it_has_the_nodes_name :
-    PutGives {E = Unit {0}} (λ (f : Sample). f.name) halves block_taken 1 (record { node = 1; input = part 0; made = Some half; measured = None; fired = false }) (Ok tt) made_and_put
+    PutGives {E = Unit {0}} (λ (f : Sample). f.name) halves block_taken 1
+    (record { node = 1; input = part 0; made = Some half; measured = None; fired = false }) (Ok tt) made_and_put
 it_has_the_nodes_name = (refl, refl)
 
 it_is_emitted : emitted 1 (past made_and_put) ≡ frame 1 0 ∷ []

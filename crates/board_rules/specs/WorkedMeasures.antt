@@ -18,17 +18,21 @@ use Rattle.board_rules.specs.WorkedCalls.{sorting, all_at_once}
 
 -- a measure that tells its id alone
 abbrev pub of_id : ℤ → Measure
-of_id id = record { id = id; n = 0; min = pos 0; min_at = 0; max = pos 0; max_at = 0; total = pos 0; squares = 0; border = pos 0; border_n = 0; over = 0; m0 = pos 0; mx = pos 0; my = pos 0; below = 0; bins = []; above = 0; x = []; y = [] }
+of_id id =
+    record { id = id; n = 0; min = pos 0; min_at = 0; max = pos 0; max_at = 0; total = pos 0; squares = 0; border = pos 0; border_n = 0; over = 0; m0 = pos 0;
+    mx = pos 0; my = pos 0; below = 0; bins = []; above = 0; x = []; y = [] }
 
 -- of the arrays put in the order 3, 1, 2
-in_the_order_of_emission : measured (λ v a. Some (of_id (id_at sorting a.index))) sorting (past all_at_once) ≡ (of_id (pos 1) ∷ of_id (pos 2) ∷ of_id (pos 3) ∷ []) ∷ []
+in_the_order_of_emission : measured (λ v a. Some (of_id (id_at sorting a.index))) sorting (past all_at_once)
+    ≡ (of_id (pos 1) ∷ of_id (pos 2) ∷ of_id (pos 3) ∷ []) ∷ []
 in_the_order_of_emission = refl
 
 abbrev pub side : Dim
 side = record { size = 2; offset = pos 0; binning = pos 1; reverse = false }
 
 abbrev pub one_to_four : Array
-one_to_four = record { id = pos 1; stamp = 0; sec = pos 0; nsec = pos 0; kind = UInt8; dims = side ∷ side ∷ []; samples = pos 1 ∷ pos 2 ∷ pos 3 ∷ pos 4 ∷ []; attrs = [] }
+one_to_four =
+    record { id = pos 1; stamp = 0; sec = pos 0; nsec = pos 0; kind = UInt8; dims = side ∷ side ∷ []; samples = pos 1 ∷ pos 2 ∷ pos 3 ∷ pos 4 ∷ []; attrs = [] }
 
 abbrev pub one_array : StackValue
 one_array = record { shape = record { form = Classic; kind = UInt8; dims = side ∷ side ∷ []; attrs = []; width = 0; extras = [] }; arrays = one_to_four ∷ [] }

@@ -19,7 +19,8 @@ array_of_none nodes v None h = refl
 array_of_none nodes v (Some a) h = ap Some (out_of-none region nodes (length nodes) v a h)
 
 -- at a region node it is the region of what goes out of the input
-pub array_of_roi : (g : Graph) (v : ℕ) (n : NodeRule) (r : RoiRule) (o : Option Array) (input : Array) → IsGraph g → Some n ≡ rule_at g.nodes v → n.kind ≡ Roi r → option_map (out_of region g.nodes n.input) o ≡ Some input → option_map (out_of region g.nodes v) o ≡ Some (region r input)
+pub array_of_roi : (g : Graph) (v : ℕ) (n : NodeRule) (r : RoiRule) (o : Option Array) (input : Array) → IsGraph g → Some n ≡ rule_at g.nodes v → n.kind ≡ Roi r
+    → option_map (out_of region g.nodes n.input) o ≡ Some input → option_map (out_of region g.nodes v) o ≡ Some (region r input)
 array_of_roi g v n r None input sound is kind h = let e : None ≡ Some input = h in absurd (cc)
 array_of_roi g v n r (Some a) input sound is kind h =
     let e : Some (out_of region g.nodes n.input a) ≡ Some input = h in
@@ -27,7 +28,8 @@ array_of_roi g v n r (Some a) input sound is kind h =
     ap Some (out_of-roi region g v n r a sound is kind ∙ ap (region r) same)
 
 -- and at another node what goes out of the input
-pub array_of_other : (g : Graph) (v : ℕ) (n : NodeRule) (o : Option Array) (input : Array) → IsGraph g → Some n ≡ rule_at g.nodes v → ((r : RoiRule) → n.kind ≢ Roi r) → option_map (out_of region g.nodes n.input) o ≡ Some input → option_map (out_of region g.nodes v) o ≡ Some input
+pub array_of_other : (g : Graph) (v : ℕ) (n : NodeRule) (o : Option Array) (input : Array) → IsGraph g → Some n ≡ rule_at g.nodes v
+    → ((r : RoiRule) → n.kind ≢ Roi r) → option_map (out_of region g.nodes n.input) o ≡ Some input → option_map (out_of region g.nodes v) o ≡ Some input
 array_of_other g v n None input sound is other h = let e : None ≡ Some input = h in absurd (cc)
 array_of_other g v n (Some a) input sound is other h =
     let e : Some (out_of region g.nodes n.input a) ≡ Some input = h in

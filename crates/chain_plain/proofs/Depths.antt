@@ -17,8 +17,10 @@ depth-more nodes (suc steps) zero h = refl
 depth-more nodes (suc steps) (suc k) h = ap suc (depth-more nodes steps (input_of nodes (suc k)) h)
 
 -- a node's input is nearer to the driver
-pub depth-input : (nodes : List NodeRule) (steps k : ℕ) → source_of nodes steps (suc k) ≡ 0 → depth nodes steps (input_of nodes (suc k)) < depth nodes steps (suc k)
+pub depth-input : (nodes : List NodeRule) (steps k : ℕ) → source_of nodes steps (suc k) ≡ 0
+    → depth nodes steps (input_of nodes (suc k)) < depth nodes steps (suc k)
 depth-input nodes zero k h = let e : suc k ≡ 0 = h in absurd (omega (arith, e))
 depth-input nodes (suc steps) k h =
-    let same : depth nodes (suc steps) (input_of nodes (suc k)) ≡ depth nodes steps (input_of nodes (suc k)) = depth-more nodes steps (input_of nodes (suc k)) h in
+    let same : depth nodes (suc steps) (input_of nodes (suc k)) ≡ depth nodes steps (input_of nodes (suc k)) =
+    depth-more nodes steps (input_of nodes (suc k)) h in
     omega (arith, same)

@@ -24,7 +24,8 @@ maker_of_region g v n sound is makes =
     maker_at-step g v sound (rule_within g.nodes v n is)
     ∙ ap (λ b. if b then v else maker_at g.nodes (input_of g.nodes v)) (region_rule g.nodes v n is ∙ makes)
 
-pub maker_of_other : (g : Graph) (v : ℕ) (n : NodeRule) → IsGraph g → Some n ≡ rule_at g.nodes v → makes_arrays n.kind ≡ false → maker_at g.nodes v ≡ maker_at g.nodes n.input
+pub maker_of_other : (g : Graph) (v : ℕ) (n : NodeRule) → IsGraph g → Some n ≡ rule_at g.nodes v → makes_arrays n.kind ≡ false
+    → maker_at g.nodes v ≡ maker_at g.nodes n.input
 maker_of_other g v n sound is other =
     maker_at-step g v sound (rule_within g.nodes v n is)
     ∙ ap (λ b. if b then v else maker_at g.nodes (input_of g.nodes v)) (region_rule g.nodes v n is ∙ other)
@@ -32,12 +33,14 @@ maker_of_other g v n sound is other =
 
 -- a maker is found under its number
 module _ (f : ℕ → Maker) (named : (v : ℕ) → (f v).node ≡ v) (p : ℕ → Bool) (w : ℕ) where
-  found_later : (a : ℕ) (b : Bool) (rest : List ℕ) → (a == w) ≡ false → find (λ (m : Maker). m.node == w) (map f rest) ≡ Some (f w) → find (λ (m : Maker). m.node == w) (map f (if b then a ∷ rest else rest)) ≡ Some (f w)
+  found_later : (a : ℕ) (b : Bool) (rest : List ℕ) → (a == w) ≡ false → find (λ (m : Maker). m.node == w) (map f rest) ≡ Some (f w)
+      → find (λ (m : Maker). m.node == w) (map f (if b then a ∷ rest else rest)) ≡ Some (f w)
   found_later a true rest differs h = ap (λ t. cond t (Some (f a)) (find (λ (m : Maker). m.node == w) (map f rest))) (ap (λ n. n == w) (named a) ∙ differs) ∙ h
   found_later a false rest differs h = h
 
   found_here : (a : ℕ) (b : Bool) (rest : List ℕ) → a ≡ w → b ≡ true → find (λ (m : Maker). m.node == w) (map f (if b then a ∷ rest else rest)) ≡ Some (f w)
-  found_here a true rest same h = ap (λ t. cond t (Some (f a)) (find (λ (m : Maker). m.node == w) (map f rest))) (ap (λ n. n == w) (named a) ∙ eq-eqb a w same) ∙ ap (λ v. Some (f v)) same
+  found_here a true rest same h =
+      ap (λ t. cond t (Some (f a)) (find (λ (m : Maker). m.node == w) (map f rest))) (ap (λ n. n == w) (named a) ∙ eq-eqb a w same) ∙ ap (λ v. Some (f v)) same
   found_here a false rest same h = absurd (cc)
 
   found_among : (n a : ℕ) → a ≤ w → w < a + n → p w ≡ true → find (λ (m : Maker). m.node == w) (map f (filter p (range_with_len a n))) ≡ Some (f w)
@@ -56,26 +59,31 @@ region_within : (nodes : List NodeRule) (v : ℕ) (o : Option NodeRule) → o �
 region_within nodes v None h is = absurd (false≢true (sym (is_region-none nodes v h) ∙ is))
 region_within nodes v (Some n) h is = rule_within nodes v n h
 
-pub found : (f : ℕ → Maker) (nodes : List NodeRule) (w : ℕ) → ((v : ℕ) → (f v).node ≡ v) → IsMaker nodes w → find (λ (m : Maker). m.node == w) (map f (0 ∷ regions nodes)) ≡ Some (f w)
+pub found : (f : ℕ → Maker) (nodes : List NodeRule) (w : ℕ) → ((v : ℕ) → (f v).node ≡ v) → IsMaker nodes w
+    → find (λ (m : Maker). m.node == w) (map f (0 ∷ regions nodes)) ≡ Some (f w)
 found f nodes w named (inl e) = found_first f named (is_region nodes) w (regions nodes) (sym e)
 found f nodes zero named (inr is) = found_first f named (is_region nodes) 0 (regions nodes) refl
 found f nodes (suc k) named (inr is) =
     let within = region_within nodes (suc k) (rule_at nodes (suc k)) refl is in
-    found_later f named (is_region nodes) (suc k) 0 true (regions nodes) (eqb-zero-suc k) (found_among f named (is_region nodes) (suc k) (length nodes) 1 (omega arith) (omega (arith, within)) is)
+    found_later f named (is_region nodes) (suc k) 0 true (regions nodes) (eqb-zero-suc k)
+    (found_among f named (is_region nodes) (suc k) (length nodes) 1 (omega arith) (omega (arith, within)) is)
 
-found_in : (g : Graph) (s : StackValue) (p : Plan) (makers : List Maker) (v w : ℕ) → makers ≡ p.makers → p ≡ plan_of g s → w ≡ maker_at g.nodes v → find (λ (m : Maker). m.node == w) makers ≡ Some (maker_of w (shape_at g.nodes s.shape w))
+found_in : (g : Graph) (s : StackValue) (p : Plan) (makers : List Maker) (v w : ℕ) → makers ≡ p.makers → p ≡ plan_of g s → w ≡ maker_at g.nodes v
+    → find (λ (m : Maker). m.node == w) makers ≡ Some (maker_of w (shape_at g.nodes s.shape w))
 found_in g s p makers v w are planned is =
     ap (find (λ (m : Maker). m.node == w)) (are ∙ ap (λ (q : Plan). q.makers) planned)
     ∙ found (λ u. maker_of u (shape_at g.nodes s.shape u)) g.nodes w (λ u. refl) (subst (IsMaker g.nodes) (sym is) (maker_makes g.nodes (length g.nodes) v))
 
 -- there is one
-pub found_some : (g : Graph) (s : StackValue) (p : Plan) (makers : List Maker) (v w : ℕ) → makers ≡ p.makers → p ≡ plan_of g s → w ≡ maker_at g.nodes v → None ≡ find (λ (m : Maker). m.node == w) makers → ⊥
+pub found_some : (g : Graph) (s : StackValue) (p : Plan) (makers : List Maker) (v w : ℕ) → makers ≡ p.makers → p ≡ plan_of g s → w ≡ maker_at g.nodes v
+    → None ≡ find (λ (m : Maker). m.node == w) makers → ⊥
 found_some g s p makers v w are planned is none =
     let clash : None ≡ Some (maker_of w (shape_at g.nodes s.shape w)) = none ∙ found_in g s p makers v w are planned is in
     absurd (cc)
 
 -- and it has the shape of what the node passes on
-pub found_maker : (g : Graph) (s : StackValue) (p : Plan) (makers : List Maker) (v w : ℕ) (m : Maker) → IsGraph g → makers ≡ p.makers → p ≡ plan_of g s → w ≡ maker_at g.nodes v → Some m ≡ find (λ (k : Maker). k.node == w) makers → m ≡ maker_of w (shape_at g.nodes s.shape v)
+pub found_maker : (g : Graph) (s : StackValue) (p : Plan) (makers : List Maker) (v w : ℕ) (m : Maker) → IsGraph g → makers ≡ p.makers → p ≡ plan_of g s
+    → w ≡ maker_at g.nodes v → Some m ≡ find (λ (k : Maker). k.node == w) makers → m ≡ maker_of w (shape_at g.nodes s.shape v)
 found_maker g s p makers v w m sound are planned is some =
     let both : Some m ≡ Some (maker_of w (shape_at g.nodes s.shape w)) = some ∙ found_in g s p makers v w are planned is in
     let same : m ≡ maker_of w (shape_at g.nodes s.shape w) = cc in

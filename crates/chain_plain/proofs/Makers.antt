@@ -15,7 +15,8 @@ use Rattle.nd_base.specs.PlaceLaws.{range-split}
 use Rattle.chain_plain.specs.Nodes.{is_region}
 
 -- one id more
-pub ids_more : (arrays : List Array) (k : ℕ) (h : Head) → k < length arrays → IfSome (slice_get arrays k) (λ a. head_of a ≡ h) → map (λ (a : Array). a.id) (take k arrays) ++ h.id ∷ [] ≡ map (λ (a : Array). a.id) (take (suc k) arrays)
+pub ids_more : (arrays : List Array) (k : ℕ) (h : Head) → k < length arrays → IfSome (slice_get arrays k) (λ a. head_of a ≡ h)
+    → map (λ (a : Array). a.id) (take k arrays) ++ h.id ∷ [] ≡ map (λ (a : Array). a.id) (take (suc k) arrays)
 ids_more [] k h within some = absurd (omega arith)
 ids_more (a ∷ arrays) zero h within some = ap (λ (g : Head). g.id ∷ []) (sym some)
 ids_more (a ∷ arrays) (suc k) h within some = ap (λ ids. a.id ∷ ids) (ids_more arrays k h (omega (arith, within)) some)
@@ -39,7 +40,8 @@ module _ {X : Type 0} (f : ℕ → X) (p : ℕ → Bool) (k : ℕ) where
   -- and another node none
   pub maker_none : p (1 + k) ≡ false → map f (0 ∷ filter p (range_with_len 1 (k + 1))) ≡ map f (0 ∷ filter p (range_with_len 1 k))
   maker_none h =
-      ap (λ vs. map f (0 ∷ vs)) (filter_one p k ∙ ap (λ vs. filter p (range_with_len 1 k) ++ vs) (one_skipped p (1 + k) h) ∙ append-nil (filter p (range_with_len 1 k)))
+      ap (λ vs. map f (0 ∷ vs)) (filter_one p k ∙ ap (λ vs. filter p (range_with_len 1 k) ++ vs) (one_skipped p (1 + k) h)
+      ∙ append-nil (filter p (range_with_len 1 k)))
 
 -- the node at a place
 pub is_region-at : (nodes : List NodeRule) (k : ℕ) (n : NodeRule) → k < length nodes → get_or nodes k n ≡ n → is_region nodes (1 + k) ≡ makes_arrays n.kind

@@ -9,7 +9,8 @@ use Rattle.nd_base.specs.declared.array.SampleType.{SampleType}
 use Rattle.nd_base.specs.declared.array.ShapeFault.{ShapeFault}
 
 -- no refusal holds of them
-pub no_fault : (kind : SampleType) (dims : List Dim) (bytes : ℕ) (fault : ShapeFault) → IsTrue (has_dimensions dims) → sample_count dims ≤ most_samples → bytes ≡ sample_count dims * width kind → shape_fault kind dims bytes ≡ Some fault → ⊥
+pub no_fault : (kind : SampleType) (dims : List Dim) (bytes : ℕ) (fault : ShapeFault) → IsTrue (has_dimensions dims) → sample_count dims ≤ most_samples
+    → bytes ≡ sample_count dims * width kind → shape_fault kind dims bytes ≡ Some fault → ⊥
 no_fault kind dims bytes fault dimensions few count refused =
     let shaped : has_dimensions dims ≡ true = dimensions in
     let within : nat_lt most_samples (sample_count dims) ≡ false = le-ltb most_samples (sample_count dims) few in

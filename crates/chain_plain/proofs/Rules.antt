@@ -43,7 +43,8 @@ stands g (suc k) r sound is =
     }
 
 -- what goes out of it
-pub out_of-rule : {X : Type 0} (cut : RoiRule → X → X) (g : Graph) (v : ℕ) (r : NodeRule) (x : X) → IsGraph g → Some r ≡ rule_at g.nodes v → out_of cut g.nodes v x ≡ by_node cut (Some r) (out_of cut g.nodes r.input x)
+pub out_of-rule : {X : Type 0} (cut : RoiRule → X → X) (g : Graph) (v : ℕ) (r : NodeRule) (x : X) → IsGraph g → Some r ≡ rule_at g.nodes v
+    → out_of cut g.nodes v x ≡ by_node cut (Some r) (out_of cut g.nodes r.input x)
 out_of-rule cut g v r x sound is =
     let s = stands g v r sound is in
     out_of-step cut g v x sound
@@ -71,17 +72,20 @@ pub roi_sound : (k : Kind) (r : RoiRule) → IsKind k → k ≡ Roi r → IsRoi 
 roi_sound k r sound is = subst IsKind is sound
 
 -- what goes out of a region node
-pub out_of-roi : {X : Type 0} (cut : RoiRule → X → X) (g : Graph) (v : ℕ) (n : NodeRule) (r : RoiRule) (x : X) → IsGraph g → Some n ≡ rule_at g.nodes v → n.kind ≡ Roi r → out_of cut g.nodes v x ≡ cut r (out_of cut g.nodes n.input x)
+pub out_of-roi : {X : Type 0} (cut : RoiRule → X → X) (g : Graph) (v : ℕ) (n : NodeRule) (r : RoiRule) (x : X) → IsGraph g → Some n ≡ rule_at g.nodes v
+    → n.kind ≡ Roi r → out_of cut g.nodes v x ≡ cut r (out_of cut g.nodes n.input x)
 out_of-roi cut g v n r x sound is kind =
     out_of-rule cut g v n x sound is ∙ ap (λ k. by_kind cut k (out_of cut g.nodes n.input x)) kind
 
 -- and of one of another kind
-pub out_of-other : {X : Type 0} (cut : RoiRule → X → X) (g : Graph) (v : ℕ) (n : NodeRule) (x : X) → IsGraph g → Some n ≡ rule_at g.nodes v → ((r : RoiRule) → n.kind ≢ Roi r) → out_of cut g.nodes v x ≡ out_of cut g.nodes n.input x
+pub out_of-other : {X : Type 0} (cut : RoiRule → X → X) (g : Graph) (v : ℕ) (n : NodeRule) (x : X) → IsGraph g → Some n ≡ rule_at g.nodes v
+    → ((r : RoiRule) → n.kind ≢ Roi r) → out_of cut g.nodes v x ≡ out_of cut g.nodes n.input x
 out_of-other cut g v n x sound is other =
     out_of-rule cut g v n x sound is ∙ by_kind-other cut n.kind (out_of cut g.nodes n.input x) other
 
 -- a region has no more samples than an array may have
-pub region_few : (rule : RoiRule) (dims : List Dim) → IsTrue (has_dimensions dims) → sample_count dims ≤ most_samples → sample_count (region_dims rule dims) ≤ most_samples
+pub region_few : (rule : RoiRule) (dims : List Dim) → IsTrue (has_dimensions dims) → sample_count dims ≤ most_samples
+    → sample_count (region_dims rule dims) ≤ most_samples
 region_few rule dims sound few = let less = region_dims-count rule dims sound in omega (arith, less, few)
 
 -- and the dimensions of an array

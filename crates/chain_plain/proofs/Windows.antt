@@ -10,7 +10,8 @@ use Rattle.trig_window.specs.Triggers.{trigger_fires}
 use Rattle.chain_plain.specs.OneThread.{fires_at}
 
 -- the trigger at a frame of the stack is that at its attributes
-pub fired_is : (r : CircularRule) (arrays : List Array) (k : ℕ) (h : Head) → k < length arrays → IfSome (slice_get arrays k) (λ a. head_of a ≡ h) → trigger_fires r h.attrs ≡ fires_at r arrays k
+pub fired_is : (r : CircularRule) (arrays : List Array) (k : ℕ) (h : Head) → k < length arrays → IfSome (slice_get arrays k) (λ a. head_of a ≡ h)
+    → trigger_fires r h.attrs ≡ fires_at r arrays k
 fired_is r [] k h within some = absurd (omega arith)
 fired_is r (a ∷ arrays) zero h within some = ap (λ (g : Head). trigger_fires r g.attrs) (sym some)
 fired_is r (a ∷ arrays) (suc k) h within some = fired_is r arrays k h (omega (arith, within)) some

@@ -59,21 +59,27 @@ pub content-driver : DriverHasTheStack
 content-driver nodes arrays k = map-same (out_of region nodes 0) (slice_get arrays k) (λ a. out_of-driver region nodes (length nodes) a)
 
 -- at a node it is what the node makes of the content at its input
-pub content-step : (g : Graph) (arrays : List Array) (v k : ℕ) → IsGraph g → content g.nodes arrays (frame v k) ≡ option_map (by_node region (rule_at g.nodes v)) (content g.nodes arrays (frame (input_of g.nodes v) k))
+pub content-step : (g : Graph) (arrays : List Array) (v k : ℕ) → IsGraph g
+    → content g.nodes arrays (frame v k) ≡ option_map (by_node region (rule_at g.nodes v)) (content g.nodes arrays (frame (input_of g.nodes v) k))
 content-step g arrays v k sound =
-    map-both (out_of region g.nodes v) (λ a. by_node region (rule_at g.nodes v) (out_of region g.nodes (input_of g.nodes v) a)) (slice_get arrays k) (λ a. out_of-step region g v a sound)
+    map-both (out_of region g.nodes v) (λ a. by_node region (rule_at g.nodes v) (out_of region g.nodes (input_of g.nodes v) a)) (slice_get arrays k)
+    (λ a. out_of-step region g v a sound)
     ∙ map-twice (by_node region (rule_at g.nodes v)) (out_of region g.nodes (input_of g.nodes v)) (slice_get arrays k)
 
 -- a number stands for the maker of what that node passes on
 abbrev pub NodesPassOnTheirMakers : Type 0
-NodesPassOnTheirMakers = (g : Graph) (arrays : List Array) (v k : ℕ) → IsGraph g → content g.nodes arrays (frame v k) ≡ content g.nodes arrays (frame (maker_at g.nodes v) k)
+NodesPassOnTheirMakers =
+    (g : Graph) (arrays : List Array) (v k : ℕ) → IsGraph g → content g.nodes arrays (frame v k) ≡ content g.nodes arrays (frame (maker_at g.nodes v) k)
 
 pub content-maker : NodesPassOnTheirMakers
-content-maker g arrays v k sound = map-both (out_of region g.nodes v) (out_of region g.nodes (maker_at g.nodes v)) (slice_get arrays k) (λ a. out_of-maker region g v a sound)
+content-maker g arrays v k sound =
+    map-both (out_of region g.nodes v) (out_of region g.nodes (maker_at g.nodes v)) (slice_get arrays k) (λ a. out_of-maker region g v a sound)
 
 -- at a region node it is the region of the content at the maker that the node's input passes on
 abbrev pub RegionsCutTheirInputs : Type 0
-RegionsCutTheirInputs = (g : Graph) (arrays : List Array) (v k : ℕ) (n : NodeRule) (r : RoiRule) → IsGraph g → rule_at g.nodes v ≡ Some n → n.kind ≡ Roi r → content g.nodes arrays (frame v k) ≡ option_map (region r) (content g.nodes arrays (frame (maker_at g.nodes n.input) k))
+RegionsCutTheirInputs =
+    (g : Graph) (arrays : List Array) (v k : ℕ) (n : NodeRule) (r : RoiRule) → IsGraph g → rule_at g.nodes v ≡ Some n → n.kind ≡ Roi r
+    → content g.nodes arrays (frame v k) ≡ option_map (region r) (content g.nodes arrays (frame (maker_at g.nodes n.input) k))
 
 pub content-region : RegionsCutTheirInputs
 content-region g arrays v k n r sound is kind =
@@ -91,7 +97,8 @@ pub maker_at-makes : MakersMake
 maker_at-makes nodes v = maker_makes nodes (length nodes) v
 
 -- what holds of what goes out of the driver, and stays at each region, holds of what goes out of a node
-module _ {X Y : Type 0} (R : X → Y → Type 0) (f : RoiRule → X → X) (g : RoiRule → Y → Y) (both : (r : RoiRule) (x : X) (y : Y) → R x y → R (f r x) (g r y)) where
+module _ {X Y : Type 0} (R : X → Y → Type 0)
+    (f : RoiRule → X → X) (g : RoiRule → Y → Y) (both : (r : RoiRule) (x : X) (y : Y) → R x y → R (f r x) (g r y)) where
   by_kind-both : (kind : Kind) (x : X) (y : Y) → R x y → R (by_kind f kind x) (by_kind g kind y)
   by_kind-both (Roi r) x y h = both r x y h
   by_kind-both (Stats r) x y h = h
@@ -122,9 +129,11 @@ region-shape r a s h =
     }
 
 -- what goes out of a node has the shape that the plan says
-pub out_of-shape : (nodes : List NodeRule) (shape : FileShape) (v : ℕ) (a : Array) → HasShape shape a → IsOfShape (out_of region nodes v a) (shape_at nodes shape v)
+pub out_of-shape : (nodes : List NodeRule) (shape : FileShape) (v : ℕ) (a : Array) → HasShape shape a
+    → IsOfShape (out_of region nodes v a) (shape_at nodes shape v)
 out_of-shape nodes shape v a h =
-    passed_on-both IsOfShape region region_shape region-shape nodes (length nodes) v a (stack_shape shape) (record { kind = h.kind; dims = h.dims; count = h.count })
+    passed_on-both IsOfShape region region_shape region-shape nodes (length nodes) v a (stack_shape shape)
+    (record { kind = h.kind; dims = h.dims; count = h.count })
 
 -- the array has the type, the dimensions and the bytes that a maker's arrays have
 pub record IsMadeBy (m : Maker) (a : Array) : Type 0 where
@@ -144,21 +153,24 @@ made_as_planned v a s h =
 
 -- a content has the type, the dimensions and the bytes that the plan says
 abbrev pub ContentsAreAsPlanned : Type 0
-ContentsAreAsPlanned = (g : Graph) (s : StackValue) (k : ℕ) → IsStack s → All (λ m. IfSome (content g.nodes s.arrays (frame m.node k)) (IsMadeBy m)) (plan_of g s).makers
+ContentsAreAsPlanned =
+    (g : Graph) (s : StackValue) (k : ℕ) → IsStack s → All (λ m. IfSome (content g.nodes s.arrays (frame m.node k)) (IsMadeBy m)) (plan_of g s).makers
 
 stack_frame : (arrays : List Array) (P : Array → Type 0) (k : ℕ) (o : Option Array) → All P arrays → o ≡ slice_get arrays k → IfSome o P
 stack_frame arrays P k None all h = tt
 stack_frame arrays P k (Some a) all h =
     subst P (get_or_from_slice_get arrays k a a (sym h)) (all k a (slice_get_within arrays k a (sym h)))
 
-planned_at : (nodes : List NodeRule) (shape : FileShape) (v : ℕ) (o : Option Array) → IfSome o (HasShape shape) → IfSome (option_map (out_of region nodes v) o) (IsMadeBy (maker_of v (shape_at nodes shape v)))
+planned_at : (nodes : List NodeRule) (shape : FileShape) (v : ℕ) (o : Option Array) → IfSome o (HasShape shape)
+    → IfSome (option_map (out_of region nodes v) o) (IsMadeBy (maker_of v (shape_at nodes shape v)))
 planned_at nodes shape v None h = tt
 planned_at nodes shape v (Some a) h = made_as_planned v (out_of region nodes v a) (shape_at nodes shape v) (out_of-shape nodes shape v a h)
 
 pub contents-planned : ContentsAreAsPlanned
 contents-planned g s k stack =
     All-map (λ m. IfSome (content g.nodes s.arrays (frame m.node k)) (IsMadeBy m)) (λ v. maker_of v (shape_at g.nodes s.shape v)) (0 ∷ regions g.nodes)
-    (always _ (0 ∷ regions g.nodes) (λ v. planned_at g.nodes s.shape v (slice_get s.arrays k) (stack_frame s.arrays (HasShape s.shape) k (slice_get s.arrays k) stack.frames refl)))
+    (always _ (0 ∷ regions g.nodes)
+    (λ v. planned_at g.nodes s.shape v (slice_get s.arrays k) (stack_frame s.arrays (HasShape s.shape) k (slice_get s.arrays k) stack.frames refl)))
 
 -- the dimensions are those of an array
 pub record IsArrayShape (dims : List Dim) : Type 0 where
@@ -177,7 +189,8 @@ PlansAreSound = (g : Graph) (s : StackValue) → IsStack s → All (λ m. IsArra
 pub plans-sound : PlansAreSound
 plans-sound g s stack =
     All-map (λ m. IsArrayShape m.dims) (λ v. maker_of v (shape_at g.nodes s.shape v)) (0 ∷ regions g.nodes)
-    (always _ (0 ∷ regions g.nodes) (λ v. passed_on-both (λ t u. IsArrayShape t.dims) region_shape region_shape region-sound g.nodes (length g.nodes) v (stack_shape s.shape) (stack_shape s.shape) (record { dimensions = stack.dimensions; few = stack.few_samples })))
+    (always _ (0 ∷ regions g.nodes) (λ v. passed_on-both (λ t u. IsArrayShape t.dims) region_shape region_shape region-sound g.nodes (length g.nodes) v
+    (stack_shape s.shape) (stack_shape s.shape) (record { dimensions = stack.dimensions; few = stack.few_samples })))
 
 still_kind : (kind : Kind) (h : Head) → by_kind (λ r x. x) kind h ≡ h
 still_kind (Roi r) h = refl
@@ -196,11 +209,14 @@ unmoved nodes (suc steps) v h = still (rule_at nodes v) (passed_on (λ r x. x) n
 
 -- id, times and attributes are those of the stack's array
 pub out_of-head : (nodes : List NodeRule) (steps v : ℕ) (a : Array) → head_of (passed_on region nodes steps v a) ≡ head_of a
-out_of-head nodes steps v a = passed_on-both (λ b (h : Head). head_of b ≡ h) region (λ r h. h) (λ r b h e. e) nodes steps v a (head_of a) refl ∙ unmoved nodes steps v (head_of a)
+out_of-head nodes steps v a =
+    passed_on-both (λ b (h : Head). head_of b ≡ h) region (λ r h. h) (λ r b h e. e) nodes steps v a (head_of a) refl ∙ unmoved nodes steps v (head_of a)
 
 -- a content has the id, the times and the attributes of the stack's array, and there is one exactly where the stack has that array
 abbrev pub ContentsKeepHeads : Type 0
-ContentsKeepHeads = (nodes : List NodeRule) (arrays : List Array) (name : FrameName) → option_map head_of (content nodes arrays name) ≡ option_map head_of (slice_get arrays name.index)
+ContentsKeepHeads =
+    (nodes : List NodeRule) (arrays : List Array) (name : FrameName)
+    → option_map head_of (content nodes arrays name) ≡ option_map head_of (slice_get arrays name.index)
 
 heads_at : (nodes : List NodeRule) (v : ℕ) (o : Option Array) → option_map head_of (option_map (out_of region nodes v) o) ≡ option_map head_of o
 heads_at nodes v None = refl
@@ -211,9 +227,12 @@ content-head nodes arrays name = heads_at nodes name.maker (slice_get arrays nam
 
 -- a trigger fires at what a node passes on where it fires at the stack's array
 abbrev pub TriggersFireAtContents : Type 0
-TriggersFireAtContents = (nodes : List NodeRule) (arrays : List Array) (v k : ℕ) (r : CircularRule) → option_map_or (λ a. trigger_fires r a.attrs) (content nodes arrays (frame v k)) false ≡ fires_at r arrays k
+TriggersFireAtContents =
+    (nodes : List NodeRule) (arrays : List Array) (v k : ℕ) (r : CircularRule)
+    → option_map_or (λ a. trigger_fires r a.attrs) (content nodes arrays (frame v k)) false ≡ fires_at r arrays k
 
-fires_alike : (nodes : List NodeRule) (v : ℕ) (r : CircularRule) (o : Option Array) → option_map_or (λ a. trigger_fires r a.attrs) (option_map (out_of region nodes v) o) false ≡ option_map_or (λ a. trigger_fires r a.attrs) o false
+fires_alike : (nodes : List NodeRule) (v : ℕ) (r : CircularRule) (o : Option Array)
+    → option_map_or (λ a. trigger_fires r a.attrs) (option_map (out_of region nodes v) o) false ≡ option_map_or (λ a. trigger_fires r a.attrs) o false
 fires_alike nodes v r None = refl
 fires_alike nodes v r (Some a) = ap (λ (h : Head). trigger_fires r h.attrs) (out_of-head nodes (length nodes) v a)
 

@@ -29,7 +29,8 @@ passed-none g s v none =
     (λ ks. ap (λ o. rule_outputs o s.arrays ks) (sym none))
 
 -- and what a node's rule makes of what goes out of its input goes out of the node
-pub passed-rule : (g : Graph) (s : StackValue) (v : ℕ) (n : NodeRule) → IsGraph g → Some n ≡ rule_at g.nodes v → passed g s v ≡ outputs g.nodes s.arrays v (passed g s n.input)
+pub passed-rule : (g : Graph) (s : StackValue) (v : ℕ) (n : NodeRule) → IsGraph g → Some n ≡ rule_at g.nodes v
+    → passed g s v ≡ outputs g.nodes s.arrays v (passed g s n.input)
 passed-rule g s v n sound is =
     passed-step g s v sound (rule_within g.nodes v n is) ∙ ap (λ w. outputs g.nodes s.arrays v (passed g s w)) (input_some g.nodes v n is)
 
@@ -42,7 +43,8 @@ one-all P false k h = All-nil P
 at_positions-all : (P : ℕ → Type 0) (test : ℕ → Bool) (at : ℕ) (ks : List ℕ) → All P ks → All P (at_positions test at ks)
 at_positions-all P test at [] all = All-nil P
 at_positions-all P test at (k ∷ ks) all =
-    All-append P (if test at then k ∷ [] else []) (at_positions test (at + 1) ks) (one-all P (test at) k (All-head P k ks all)) (at_positions-all P test (at + 1) ks (All-tail P k ks all))
+    All-append P (if test at then k ∷ [] else []) (at_positions test (at + 1) ks) (one-all P (test at) k (All-head P k ks all))
+    (at_positions-all P test (at + 1) ks (All-tail P k ks all))
 
 kind_outputs-all : (P : ℕ → Type 0) (kind : Kind) (arrays : List Array) (ks : List ℕ) → All P ks → All P (kind_outputs kind arrays ks)
 kind_outputs-all P (Circular r) arrays ks all = at_positions-all P (is_passed r.pre r.post r.preset (map (fires_at r arrays) ks)) 0 ks all
@@ -62,7 +64,8 @@ passed_within-frames nodes arrays zero v =
     let inside : i < length arrays = omega (arith, length-range_with_len 0 (length arrays), within) in
     omega (arith, get_or-range_with_len 0 (length arrays) i 0 inside, inside))
 passed_within-frames nodes arrays (suc steps) v =
-    rule_outputs-all (λ k. k < length arrays) (rule_at nodes v) arrays (passed_within nodes arrays steps (input_of nodes v)) (passed_within-frames nodes arrays steps (input_of nodes v))
+    rule_outputs-all (λ k. k < length arrays) (rule_at nodes v) arrays (passed_within nodes arrays steps (input_of nodes v))
+    (passed_within-frames nodes arrays steps (input_of nodes v))
 
 -- what goes out of a node are frames of the stack
 pub passed-frames : (g : Graph) (s : StackValue) (v : ℕ) → All (λ k. k < length s.arrays) (passed g s v)
@@ -93,7 +96,8 @@ rule_outputs-few (Some n) arrays ks = kind_outputs-few n.kind arrays ks
 passed_within-few : (nodes : List NodeRule) (arrays : List Array) (steps v : ℕ) → length (passed_within nodes arrays steps v) ≤ length arrays
 passed_within-few nodes arrays zero v = omega (arith, length-range_with_len 0 (length arrays))
 passed_within-few nodes arrays (suc steps) v =
-    omega (arith, rule_outputs-few (rule_at nodes v) arrays (passed_within nodes arrays steps (input_of nodes v)), passed_within-few nodes arrays steps (input_of nodes v))
+    omega (arith, rule_outputs-few (rule_at nodes v) arrays (passed_within nodes arrays steps (input_of nodes v)),
+    passed_within-few nodes arrays steps (input_of nodes v))
 
 -- what goes out of a node are at most as many as the stack has
 pub passed-few : (g : Graph) (s : StackValue) (v : ℕ) → length (passed g s v) ≤ length s.arrays

@@ -59,7 +59,8 @@ module _ {X : Type 0} (cut : RoiRule → X → X) (nodes : List NodeRule) where
   out_of-none steps v x h =
       walked-none (λ w y. by_node cut (rule_at nodes w) y) nodes (λ y. refl) steps v x h (λ y. ap (λ n. by_node cut n y) (sym h))
 
-step_by : {X : Type 0} (cut : RoiRule → X → X) (g : Graph) (v : ℕ) (x : X) → IsGraph g → (o : Option NodeRule) → o ≡ rule_at g.nodes v → out_of cut g.nodes v x ≡ by_node cut o (out_of cut g.nodes (input_of g.nodes v) x)
+step_by : {X : Type 0} (cut : RoiRule → X → X) (g : Graph) (v : ℕ) (x : X) → IsGraph g → (o : Option NodeRule) → o ≡ rule_at g.nodes v
+    → out_of cut g.nodes v x ≡ by_node cut o (out_of cut g.nodes (input_of g.nodes v) x)
 step_by cut g v x sound None h =
     out_of-none cut g.nodes (length g.nodes) v x h
     ∙ sym (ap (λ w. out_of cut g.nodes w x) (input_none g.nodes v h) ∙ out_of-driver cut g.nodes (length g.nodes) x)
@@ -68,7 +69,8 @@ step_by cut g v x sound (Some n) h =
     ∙ ap (λ o. by_node cut o (out_of cut g.nodes (input_of g.nodes v) x)) (sym h)
 
 -- in a graph a node acts on what goes out of its input
-pub out_of-step : {X : Type 0} (cut : RoiRule → X → X) (g : Graph) (v : ℕ) (x : X) → IsGraph g → out_of cut g.nodes v x ≡ by_node cut (rule_at g.nodes v) (out_of cut g.nodes (input_of g.nodes v) x)
+pub out_of-step : {X : Type 0} (cut : RoiRule → X → X) (g : Graph) (v : ℕ) (x : X) → IsGraph g
+    → out_of cut g.nodes v x ≡ by_node cut (rule_at g.nodes v) (out_of cut g.nodes (input_of g.nodes v) x)
 out_of-step cut g v x sound = step_by cut g v x sound (rule_at g.nodes v) refl
 
 -- a node that is no region node passes on what comes to it
@@ -83,14 +85,17 @@ node_still : {X : Type 0} (cut : RoiRule → X → X) (o : Option NodeRule) (x :
 node_still cut None x h = refl
 node_still cut (Some n) x h = kind_still cut n.kind x h
 
-out_of-maker_if : {X : Type 0} (cut : RoiRule → X → X) (g : Graph) (v w : ℕ) (x : X) (b : Bool) → IsGraph g → is_region g.nodes v ≡ b → out_of cut g.nodes (input_of g.nodes v) x ≡ out_of cut g.nodes w x → out_of cut g.nodes v x ≡ out_of cut g.nodes (if b then v else w) x
+out_of-maker_if : {X : Type 0} (cut : RoiRule → X → X) (g : Graph) (v w : ℕ) (x : X) (b : Bool) → IsGraph g → is_region g.nodes v ≡ b
+    → out_of cut g.nodes (input_of g.nodes v) x ≡ out_of cut g.nodes w x → out_of cut g.nodes v x ≡ out_of cut g.nodes (if b then v else w) x
 out_of-maker_if cut g v w x true sound is above = refl
 out_of-maker_if cut g v w x false sound is above = out_of-step cut g v x sound ∙ node_still cut (rule_at g.nodes v) _ is ∙ above
 
-out_of-maker_within : {X : Type 0} (cut : RoiRule → X → X) (g : Graph) (steps v : ℕ) (x : X) → IsGraph g → source_of g.nodes steps v ≡ 0 → out_of cut g.nodes v x ≡ out_of cut g.nodes (maker_within g.nodes steps v) x
+out_of-maker_within : {X : Type 0} (cut : RoiRule → X → X) (g : Graph) (steps v : ℕ) (x : X) → IsGraph g → source_of g.nodes steps v ≡ 0
+    → out_of cut g.nodes v x ≡ out_of cut g.nodes (maker_within g.nodes steps v) x
 out_of-maker_within cut g zero v x sound h = ap (λ w. out_of cut g.nodes w x) h
 out_of-maker_within cut g (suc steps) v x sound h =
-    out_of-maker_if cut g v (maker_within g.nodes steps (input_of g.nodes v)) x (is_region g.nodes v) sound refl (out_of-maker_within cut g steps (input_of g.nodes v) x sound h)
+    out_of-maker_if cut g v (maker_within g.nodes steps (input_of g.nodes v)) x (is_region g.nodes v) sound refl
+    (out_of-maker_within cut g steps (input_of g.nodes v) x sound h)
 
 pub is_region-none : (nodes : List NodeRule) (v : ℕ) → None ≡ rule_at nodes v → is_region nodes v ≡ false
 is_region-none nodes v h = ap (λ o. option_map_or (λ (n : NodeRule). makes_arrays n.kind) o false) (sym h)
@@ -100,14 +105,16 @@ pub maker_within-none : (nodes : List NodeRule) (steps v : ℕ) → None ≡ rul
 maker_within-none nodes steps v h =
     walked-none (maker_after nodes) nodes (λ m. refl) steps v 0 h (λ m. ap (λ b. if b then v else m) (is_region-none nodes v h))
 
-maker_by : {X : Type 0} (cut : RoiRule → X → X) (g : Graph) (v : ℕ) (x : X) → IsGraph g → (o : Option NodeRule) → o ≡ rule_at g.nodes v → out_of cut g.nodes v x ≡ out_of cut g.nodes (maker_at g.nodes v) x
+maker_by : {X : Type 0} (cut : RoiRule → X → X) (g : Graph) (v : ℕ) (x : X) → IsGraph g → (o : Option NodeRule) → o ≡ rule_at g.nodes v
+    → out_of cut g.nodes v x ≡ out_of cut g.nodes (maker_at g.nodes v) x
 maker_by cut g v x sound None h =
     out_of-none cut g.nodes (length g.nodes) v x h
     ∙ sym (ap (λ w. out_of cut g.nodes w x) (maker_within-none g.nodes (length g.nodes) v h) ∙ out_of-driver cut g.nodes (length g.nodes) x)
 maker_by cut g v x sound (Some n) h = out_of-maker_within cut g (length g.nodes) v x sound (sound.acyclic v (rule_within g.nodes v n h))
 
 -- what goes out of a node is what goes out of its maker
-pub out_of-maker : {X : Type 0} (cut : RoiRule → X → X) (g : Graph) (v : ℕ) (x : X) → IsGraph g → out_of cut g.nodes v x ≡ out_of cut g.nodes (maker_at g.nodes v) x
+pub out_of-maker : {X : Type 0} (cut : RoiRule → X → X) (g : Graph) (v : ℕ) (x : X) → IsGraph g
+    → out_of cut g.nodes v x ≡ out_of cut g.nodes (maker_at g.nodes v) x
 out_of-maker cut g v x sound = maker_by cut g v x sound (rule_at g.nodes v) refl
 
 -- the driver, or a region node

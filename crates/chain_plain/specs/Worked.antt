@@ -50,7 +50,9 @@ the_makers_of_the_worked_graph : makers_of halved detector.shape ≡
     ∷ record {
       node = 1;
       kind = UInt16;
-      dims = record { size = 100; offset = pos 100; binning = pos 2; reverse = false } ∷ record { size = 50; offset = pos 50; binning = pos 2; reverse = false } ∷ [];
+      dims =
+          record { size = 100; offset = pos 100; binning = pos 2; reverse = false }
+          ∷ record { size = 50; offset = pos 50; binning = pos 2; reverse = false } ∷ [];
       need = 10000;
     }
     ∷ []
@@ -82,13 +84,16 @@ frame m k = record { maker = m; index = k }
 the_driver_has_the_stacks_array : content three two_lines (frame 0 1) ≡ Some (line (pos 10 ∷ pos 20 ∷ pos 30 ∷ pos 40 ∷ pos 50 ∷ pos 60 ∷ pos 70 ∷ pos 80 ∷ []))
 the_driver_has_the_stacks_array = refl
 
-the_first_region : content three two_lines (frame 3 0) ≡ Some (record (line (pos 2 ∷ pos 3 ∷ pos 4 ∷ pos 5 ∷ pos 6 ∷ pos 7 ∷ [])) { dims = record { size = 6; offset = pos 1; binning = pos 1; reverse = false } ∷ [] })
+the_first_region : content three two_lines (frame 3 0) ≡ Some
+    (record (line (pos 2 ∷ pos 3 ∷ pos 4 ∷ pos 5 ∷ pos 6 ∷ pos 7 ∷ [])) { dims = record { size = 6; offset = pos 1; binning = pos 1; reverse = false } ∷ [] })
 the_first_region = refl
 
-the_second_cuts_the_first : content three two_lines (frame 2 0) ≡ Some (record (line (pos 5 ∷ pos 9 ∷ pos 13 ∷ [])) { dims = record { size = 3; offset = pos 1; binning = pos 2; reverse = false } ∷ [] })
+the_second_cuts_the_first : content three two_lines (frame 2 0)
+    ≡ Some (record (line (pos 5 ∷ pos 9 ∷ pos 13 ∷ [])) { dims = record { size = 3; offset = pos 1; binning = pos 2; reverse = false } ∷ [] })
 the_second_cuts_the_first = refl
 
-the_last_reverses_what_is_left : content three two_lines (frame 1 0) ≡ Some (record (line (pos 13 ∷ pos 9 ∷ [])) { dims = record { size = 2; offset = pos 2; binning = pos 2; reverse = true } ∷ [] })
+the_last_reverses_what_is_left : content three two_lines (frame 1 0)
+    ≡ Some (record (line (pos 13 ∷ pos 9 ∷ [])) { dims = record { size = 2; offset = pos 2; binning = pos 2; reverse = true } ∷ [] })
 the_last_reverses_what_is_left = refl
 
 no_frame_of_a_greater_index : content three two_lines (frame 1 2) ≡ None
@@ -131,5 +136,6 @@ no_arrays_no_groups : groups {X = ℕ} 2 [] ≡ []
 no_arrays_no_groups = refl
 
 a_file_of_two_arrays : (one_thread (node (codes "f") (File (record { mode = Capture; count = 5; form = Classic })) 0 ∷ []) two_lines 1 (1 ∷ 0 ∷ [])).files
-    ≡ (line (pos 10 ∷ pos 20 ∷ pos 30 ∷ pos 40 ∷ pos 50 ∷ pos 60 ∷ pos 70 ∷ pos 80 ∷ []) ∷ line (pos 1 ∷ pos 2 ∷ pos 3 ∷ pos 4 ∷ pos 5 ∷ pos 6 ∷ pos 7 ∷ pos 8 ∷ []) ∷ []) ∷ []
+    ≡ (line (pos 10 ∷ pos 20 ∷ pos 30 ∷ pos 40 ∷ pos 50 ∷ pos 60 ∷ pos 70 ∷ pos 80 ∷ [])
+    ∷ line (pos 1 ∷ pos 2 ∷ pos 3 ∷ pos 4 ∷ pos 5 ∷ pos 6 ∷ pos 7 ∷ pos 8 ∷ []) ∷ []) ∷ []
 a_file_of_two_arrays = refl

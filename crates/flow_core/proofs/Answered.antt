@@ -26,7 +26,8 @@ passes-found p (y ∷ ys) x h = elim (cases_Bool (p y)) [
   | inr no_ ↦ passes-found p ys x (rw no_ at h)
 ]
 
-fit-enough : (limit n b z : ℕ) (f : Bool) (g : ℕ) (is_free : ℕ → Bool) (bs : List Block) (o : Option Block) → smallest_fit n is_free bs ≡ o → fit_or_fresh limit n is_free bs o ≡ Granted b z f g → n ≤ z
+fit-enough : (limit n b z : ℕ) (f : Bool) (g : ℕ) (is_free : ℕ → Bool) (bs : List Block) (o : Option Block) → smallest_fit n is_free bs ≡ o
+    → fit_or_fresh limit n is_free bs o ≡ Granted b z f g → n ≤ z
 fit-enough limit n b z f g is_free bs (Some c) found h =
     let fits = passes-found (λ (d : Block). nat_le n d.size) (free_in_order is_free bs) c found in
     let size : c.size ≡ z = cc in

@@ -66,14 +66,16 @@ not-suits s v w same_ not_ makes =
     let off : not (is_maker s w) ≡ false = rw here refl in
     true≢false (sym not_ ∙ off)
 
-job-granted_by : (s : Setting) (v : ℕ) (a : FrameName) (o : Option Entry) → ((e : Entry) → o ≡ Some e → suits s e ≡ true) → is_maker s v ≡ true → is_job_on v a o ≡ true → has_grant o ≡ true
+job-granted_by : (s : Setting) (v : ℕ) (a : FrameName) (o : Option Entry) → ((e : Entry) → o ≡ Some e → suits s e ≡ true) → is_maker s v ≡ true
+    → is_job_on v a o ≡ true → has_grant o ≡ true
 job-granted_by s v a None fit makes h = absurd (false≢true h)
 job-granted_by s v a (Some (Take r w m k)) fit makes h = absurd (not-suits s v w (and_parts (eqb w v) (same a (frame m k)) h).0 (fit (Take r w m k) refl) makes)
 job-granted_by s v a (Some (TakeBlock f x r w m k b n g)) fit makes h = refl
 job-granted_by s v a (Some _) fit makes h = absurd (false≢true h)
 
 -- a job at a maker has a block
-pub job-granted : (s : Setting) (P : Past) (r v : ℕ) (a : FrameName) → is_legal s P ≡ true → is_maker s v ≡ true → is_job_on v a (hand r P) ≡ true → has_grant (hand r P) ≡ true
+pub job-granted : (s : Setting) (P : Past) (r v : ℕ) (a : FrameName) → is_legal s P ≡ true → is_maker s v ≡ true
+    → is_job_on v a (hand r P) ≡ true → has_grant (hand r P) ≡ true
 job-granted s P r v a legal makes h = job-granted_by s v a (hand r P) (λ e is. hand-suits s P r e legal is) makes h
 
 pub made-maker : {F : Type 0} (name_of : F → FrameName) (b : Bool) (a : FrameName) (f : F) → IsMadeAs name_of b a (Some f) → b ≡ true
@@ -81,14 +83,19 @@ made-maker name_of true a f h = refl
 made-maker name_of false a f h = absurd h
 
 -- ISSUE
-pub issued-gives : {F E : Type 0} (name_of : F → FrameName) (s : Setting) (old new : BoardState) (r : ℕ) (f : F) (e : E) → is_load_of (name_of f) (hand r (past old)) ≡ true → new ≡ moved s (plain (Issue r (name_of f).index)) old → IssueGives {F = F} {E = E} name_of s old r f (Ok e) new
+pub issued-gives : {F E : Type 0} (name_of : F → FrameName) (s : Setting) (old new : BoardState) (r : ℕ) (f : F) (e : E)
+    → is_load_of (name_of f) (hand r (past old)) ≡ true → new ≡ moved s (plain (Issue r (name_of f).index)) old
+    → IssueGives {F = F} {E = E} name_of s old r f (Ok e) new
 issued-gives name_of s old new r f e loaded is = (loaded, is)
 
 abbrev pub issued_after : Setting → Coursed → ℕ → FrameName → Coursed
 issued_after s w r a = record w { told = moved s (plain (Issue r a.index)) w.told }
 
-pub issued-board : {F B O : Type 0} (name_of : F → FrameName) (parts : F → Option Parts) (bytes_of : B → ℕ) (moves : MoveLaws O name_of parts bytes_of) (s : Setting) (w w' : Coursed) (t t' : List Kept) (r b : ℕ) (f : F) → IsBoard parts s w t → is_load_of (name_of f) (hand r (past w.told)) ≡ true → granted_block (hand r (past w.told)) ≡ b ∷ []
-    → IsWholeOf (granted_size (hand r (past w.told))) (parts f) → w' ≡ record w { told = moved s (plain (Issue r (name_of f).index)) w.told } → t' ≡ with_kept t b (Frame (name_of f) (parts f)) → IsBoard parts s w' t'
+pub issued-board : {F B O : Type 0} (name_of : F → FrameName) (parts : F → Option Parts) (bytes_of : B → ℕ) (moves : MoveLaws O name_of parts bytes_of)
+    (s : Setting) (w w' : Coursed) (t t' : List Kept) (r b : ℕ) (f : F) → IsBoard parts s w t → is_load_of (name_of f) (hand r (past w.told)) ≡ true
+    → granted_block (hand r (past w.told)) ≡ b ∷ []
+    → IsWholeOf (granted_size (hand r (past w.told))) (parts f) → w' ≡ record w { told = moved s (plain (Issue r (name_of f).index)) w.told }
+    → t' ≡ with_kept t b (Frame (name_of f) (parts f)) → IsBoard parts s w' t'
 issued-board {F} name_of parts bytes_of moves s w w' t t' r b f i loaded grant whole is kept =
     let new = moved s (plain (Issue r (name_of f).index)) w.told in
     let history : is_history s (past new) ≡ true = issue-by {F = F} {E = Unit {0}} name_of s w.told new r f (Ok tt) i.run.history (loaded, refl) in
@@ -96,7 +103,8 @@ issued-board {F} name_of parts bytes_of moves s w w' t t' r b f i loaded grant w
     (subst (λ (u : List Kept). HoldsBlocks parts s new u) (sym kept) (moves.issue s w.told t r b f i.run i.holds loaded grant whole (legal-of s new history)))
 
 -- PUT
-pub record Brings {F : Type 0} (name_of : F → FrameName) (parts : F → Option Parts) (measure : ℕ → FrameName → Option Measure) (s : Setting) (w : Coursed) (t : List Kept) (r v : ℕ) (input : F) (made : Option F) (measured : Option Measure) (fired : Bool) : Type 0 where
+pub record Brings {F : Type 0} (name_of : F → FrameName) (parts : F → Option Parts) (measure : ℕ → FrameName → Option Measure)
+    (s : Setting) (w : Coursed) (t : List Kept) (r v : ℕ) (input : F) (made : Option F) (measured : Option Measure) (fired : Bool) : Type 0 where
   pub board : IsBoard parts s w t
   pub job : is_job_on v (name_of input) (hand r (past w.told)) ≡ true
   pub kind : IsMadeAs name_of (is_maker s v) (result_name s v (name_of input)) made
@@ -107,14 +115,19 @@ pub record Brings {F : Type 0} (name_of : F → FrameName) (parts : F → Option
 abbrev pub put_after : {F : Type 0} → (F → FrameName) → Setting → (r v : ℕ) → F → Bool → BoardState → BoardState
 put_after name_of s r v input fired told = moved s (plain (put_of s r v (name_of input) fired)) told
 
-put-history : {F : Type 0} (name_of : F → FrameName) (parts : F → Option Parts) (measure : ℕ → FrameName → Option Measure) (s : Setting) (w : Coursed) (t : List Kept) (r v : ℕ) (input : F) (made : Option F) (measured : Option Measure) (fired : Bool) → Brings name_of parts measure s w t r v input made measured fired
+put-history : {F : Type 0} (name_of : F → FrameName) (parts : F → Option Parts) (measure : ℕ → FrameName → Option Measure)
+    (s : Setting) (w : Coursed) (t : List Kept) (r v : ℕ) (input : F) (made : Option F) (measured : Option Measure) (fired : Bool)
+    → Brings name_of parts measure s w t r v input made measured fired
     → is_history s (past (put_after name_of s r v input fired w.told)) ≡ true
 put-history {F} name_of parts measure s w t r v input made measured fired i =
     let done : Done F = record { node = v; input = input; made = made; measured = measured; fired = fired } in
     let right : IsResult name_of measure s done = record { made = i.kind; measured = i.own_measure; fired = i.own_fired } in
-    put-by {F = F} {E = Unit {0}} name_of measure s w.told (put_after name_of s r v input fired w.told) r done (Ok tt) i.board.run.history (λ h. right) (i.job, refl)
+    put-by {F = F} {E = Unit {0}} name_of measure s w.told (put_after name_of s r v input fired w.told) r done
+    (Ok tt) i.board.run.history (λ h. right) (i.job, refl)
 
-pub put-board : {F B O : Type 0} (name_of : F → FrameName) (parts : F → Option Parts) (bytes_of : B → ℕ) (measure : ℕ → FrameName → Option Measure) (moves : MoveLaws O name_of parts bytes_of) (s : Setting) (w w' : Coursed) (t t' : List Kept) (r v c : ℕ) (input : F) (measured : Option Measure) (fired : Bool) → Brings name_of parts measure s w t r v input None measured fired → block_of (past w.told) (name_of input) ≡ c ∷ []
+pub put-board : {F B O : Type 0} (name_of : F → FrameName) (parts : F → Option Parts) (bytes_of : B → ℕ) (measure : ℕ → FrameName → Option Measure)
+    (moves : MoveLaws O name_of parts bytes_of) (s : Setting) (w w' : Coursed) (t t' : List Kept) (r v c : ℕ) (input : F) (measured : Option Measure)
+    (fired : Bool) → Brings name_of parts measure s w t r v input None measured fired → block_of (past w.told) (name_of input) ≡ c ∷ []
     → w' ≡ record w { told = put_after name_of s r v input fired w.told } → t' ≡ with_kept t c (united (kept_at t c) (parts input)) → IsBoard parts s w' t'
 put-board name_of parts bytes_of measure moves s w w' t t' r v c input measured fired i has is kept =
     let new = put_after name_of s r v input fired w.told in
@@ -123,24 +136,31 @@ put-board name_of parts bytes_of measure moves s w w' t t' r v c input measured 
     (subst (λ (u : List Kept). HoldsBlocks parts s new u) (sym kept)
     (moves.put s w.told t r v (result_name s v (name_of input)).maker c input fired i.board.run i.board.holds i.job has i.own i.kind (legal-of s new history)))
 
-pub put_made-board : {F B O : Type 0} (name_of : F → FrameName) (parts : F → Option Parts) (bytes_of : B → ℕ) (measure : ℕ → FrameName → Option Measure) (moves : MoveLaws O name_of parts bytes_of) (s : Setting) (w w' : Coursed) (t t' : List Kept) (r v b c : ℕ) (input made : F) (measured : Option Measure) (fired : Bool) → Brings name_of parts measure s w t r v input (Some made) measured fired
-    → block_of (past w.told) (name_of input) ≡ c ∷ [] → granted_block (hand r (past w.told)) ≡ b ∷ [] → IsWholeOf (granted_size (hand r (past w.told))) (parts made)
-    → w' ≡ record w { told = put_after name_of s r v input fired w.told } → t' ≡ with_kept (with_kept t c (united (kept_at t c) (parts input))) b (Frame (name_of made) (parts made)) → IsBoard parts s w' t'
+pub put_made-board : {F B O : Type 0} (name_of : F → FrameName) (parts : F → Option Parts) (bytes_of : B → ℕ) (measure : ℕ → FrameName → Option Measure)
+    (moves : MoveLaws O name_of parts bytes_of) (s : Setting) (w w' : Coursed) (t t' : List Kept) (r v b c : ℕ) (input made : F) (measured : Option Measure)
+    (fired : Bool) → Brings name_of parts measure s w t r v input (Some made) measured fired
+    → block_of (past w.told) (name_of input) ≡ c ∷ [] → granted_block (hand r (past w.told)) ≡ b ∷ []
+    → IsWholeOf (granted_size (hand r (past w.told))) (parts made)
+    → w' ≡ record w { told = put_after name_of s r v input fired w.told }
+    → t' ≡ with_kept (with_kept t c (united (kept_at t c) (parts input))) b (Frame (name_of made) (parts made)) → IsBoard parts s w' t'
 put_made-board name_of parts bytes_of measure moves s w w' t t' r v b c input made measured fired i has grant whole is kept =
     let new = put_after name_of s r v input fired w.told in
     let history = put-history name_of parts measure s w t r v input (Some made) measured fired i in
     board-moved parts s w w' new t t' i.board is history
     (subst (λ (u : List Kept). HoldsBlocks parts s new u) (sym kept)
-    (moves.put_made s w.told t r v (result_name s v (name_of input)).maker b c input made fired i.board.run i.board.holds i.job has i.own grant i.kind whole (legal-of s new history)))
+    (moves.put_made s w.told t r v
+    (result_name s v (name_of input)).maker b c input made fired i.board.run i.board.holds i.job has i.own grant i.kind whole (legal-of s new history)))
 
 -- SAVE
-pub save-gives : {F : Type 0} (name_of : F → FrameName) (parts : F → Option Parts) (s : Setting) (old new : BoardState) (r v : ℕ) (o : Option (save_answer F)) (a : save_answer F) → save_refusal {F = F} s r v (past old) ≡ o → SaveAnswers name_of parts s old r v o a new → SaveGives name_of parts s old r v a new
+pub save-gives : {F : Type 0} (name_of : F → FrameName) (parts : F → Option Parts) (s : Setting) (old new : BoardState) (r v : ℕ) (o : Option (save_answer F))
+    (a : save_answer F) → save_refusal {F = F} s r v (past old) ≡ o → SaveAnswers name_of parts s old r v o a new → SaveGives name_of parts s old r v a new
 save-gives {F} name_of parts s old new r v o a none c = subst (λ (o' : Option (save_answer F)). SaveAnswers name_of parts s old r v o' a new) (sym none) c
 
 pub unsaved-some : {F : Type 0} (s : Setting) (r v : ℕ) (b : BoardState) → save_refusal {F = F} s r v (past b) ≡ None → none_left (unsaved s v (past b)) ≡ false
 unsaved-some {F} s r v b none = (may_save {F = F} s r v (past b) none).some
 
-pub record SavesPiece {F : Type 0} (name_of : F → FrameName) (parts : F → Option Parts) (s : Setting) (w : Coursed) (t : List Kept) (r v c : ℕ) (input : F) (group place : ℕ) (of : Option ℕ) : Type 0 where
+pub record SavesPiece {F : Type 0} (name_of : F → FrameName) (parts : F → Option Parts) (s : Setting) (w : Coursed) (t : List Kept)
+    (r v c : ℕ) (input : F) (group place : ℕ) (of : Option ℕ) : Type 0 where
   pub board : IsBoard parts s w t
   pub role : r ≤ last_role s
   pub allowed : save_refusal {F = F} s r v (past w.told) ≡ None
@@ -154,29 +174,42 @@ pub record SavesPiece {F : Type 0} (name_of : F → FrameName) (parts : F → Op
 abbrev pub save_after : {F : Type 0} → (F → FrameName) → (F → Option Parts) → Setting → (r v : ℕ) → F → ℕ → BoardState → BoardState
 save_after name_of parts s r v input group told = moved s (lends (Save r v (name_of input).maker (name_of input).index group) (parts input)) told
 
-pub piece-gives : {F : Type 0} (name_of : F → FrameName) (parts : F → Option Parts) (look : LookLaws parts) (s : Setting) (w : Coursed) (t : List Kept) (r v c : ℕ) (input : F) (group place : ℕ) (of : Option ℕ) (new : BoardState) → SavesPiece name_of parts s w t r v c input group place of → new ≡ save_after name_of parts s r v input group w.told
+pub piece-gives : {F : Type 0} (name_of : F → FrameName) (parts : F → Option Parts) (look : LookLaws parts) (s : Setting) (w : Coursed) (t : List Kept)
+    (r v c : ℕ) (input : F) (group place : ℕ) (of : Option ℕ) (new : BoardState) → SavesPiece name_of parts s w t r v c input group place of
+    → new ≡ save_after name_of parts s r v input group w.told
     → SaveGives name_of parts s w.told r v (save.Piece input group place of) new
 piece-gives name_of parts look s w t r v c input group place of new i is =
-    save-gives name_of parts s w.told new r v None (save.Piece input group place of) i.allowed (i.next, look.one (kept_at t c) (name_of input) (parts input) i.part, i.grouped, i.placed, i.sized, is)
+    save-gives name_of parts s w.told new r v None (save.Piece input group place of) i.allowed
+    (i.next, look.one (kept_at t c) (name_of input) (parts input) i.part, i.grouped, i.placed, i.sized, is)
 
-pub piece-board : {F B O : Type 0} (name_of : F → FrameName) (parts : F → Option Parts) (bytes_of : B → ℕ) (look : LookLaws parts) (moves : MoveLaws O name_of parts bytes_of) (s : Setting) (w w' : Coursed) (t t' : List Kept) (r v c : ℕ) (input : F) (group place : ℕ) (of : Option ℕ) → SavesPiece name_of parts s w t r v c input group place of
+pub piece-board : {F B O : Type 0} (name_of : F → FrameName) (parts : F → Option Parts) (bytes_of : B → ℕ) (look : LookLaws parts)
+    (moves : MoveLaws O name_of parts bytes_of) (s : Setting) (w w' : Coursed) (t t' : List Kept) (r v c : ℕ) (input : F) (group place : ℕ) (of : Option ℕ)
+    → SavesPiece name_of parts s w t r v c input group place of
     → w' ≡ record w { told = save_after name_of parts s r v input group w.told } → t' ≡ with_kept t c (less_one (kept_at t c)) → IsBoard parts s w' t'
 piece-board {F} name_of parts bytes_of look moves s w w' t t' r v c input group place of i is kept =
     let new = save_after name_of parts s r v input group w.told in
     let history : is_history s (past new) ≡ true =
-    save-by {F = F} name_of parts s w.told new r v None (save.Piece input group place of) i.board.run.history i.role i.allowed (i.next, look.one (kept_at t c) (name_of input) (parts input) i.part, i.grouped, i.placed, i.sized, refl) in
+    save-by {F = F} name_of parts s w.told new r v None (save.Piece input group place of) i.board.run.history i.role i.allowed
+    (i.next, look.one (kept_at t c) (name_of input) (parts input) i.part, i.grouped, i.placed, i.sized, refl) in
     board-moved parts s w w' new t t' i.board is history
-    (subst (λ (u : List Kept). HoldsBlocks parts s new u) (sym kept) (moves.save s w.told t r v group c (name_of input) (parts input) i.board.run i.board.holds i.has i.part (legal-of s new history)))
+    (subst (λ (u : List Kept). HoldsBlocks parts s new u) (sym kept)
+    (moves.save s w.told t r v group c (name_of input) (parts input) i.board.run i.board.holds i.has i.part (legal-of s new history)))
 
-pub piece-lends : {F : Type 0} (name_of : F → FrameName) (parts : F → Option Parts) (look : LookLaws parts) (s : Setting) (told new : BoardState) (r v : ℕ) (input : F) (group place : ℕ) (of : Option ℕ) → new ≡ save_after name_of parts s r v input group told → LendsPiece parts r (save.Piece input group place of) new
+pub piece-lends : {F : Type 0} (name_of : F → FrameName) (parts : F → Option Parts) (look : LookLaws parts)
+    (s : Setting) (told new : BoardState) (r v : ℕ) (input : F) (group place : ℕ) (of : Option ℕ) → new ≡ save_after name_of parts s r v input group told
+    → LendsPiece parts r (save.Piece input group place of) new
 piece-lends name_of parts look s told new r v input group place of is =
     ap (lent_to r) is ∙ (look.handed s told 0 r (lends (Save r v (name_of input).maker (name_of input).index group) (parts input)) (eq-eqb r r refl)).1
 
 -- SAVED
-pub saved-board : {F B O : Type 0} (name_of : F → FrameName) (parts : F → Option Parts) (bytes_of : B → ℕ) (moves : MoveLaws O name_of parts bytes_of) (s : Setting) (w w' : Coursed) (t t' : List Kept) (r c : ℕ) (f : F) → IsBoard parts s w t → is_piece_on (name_of f) (hand r (past w.told)) ≡ true → block_of (past w.told) (name_of f) ≡ c ∷ [] → parts f ≡ lent_to r w.told
-    → w' ≡ record w { told = moved s (plain (Saved r (hand_node (hand r (past w.told))) (name_of f).maker (name_of f).index)) w.told } → t' ≡ with_kept t c (united (kept_at t c) (parts f)) → IsBoard parts s w' t'
+pub saved-board : {F B O : Type 0} (name_of : F → FrameName) (parts : F → Option Parts) (bytes_of : B → ℕ) (moves : MoveLaws O name_of parts bytes_of)
+    (s : Setting) (w w' : Coursed) (t t' : List Kept) (r c : ℕ) (f : F) → IsBoard parts s w t → is_piece_on (name_of f) (hand r (past w.told)) ≡ true
+    → block_of (past w.told) (name_of f) ≡ c ∷ [] → parts f ≡ lent_to r w.told
+    → w' ≡ record w { told = moved s (plain (Saved r (hand_node (hand r (past w.told))) (name_of f).maker (name_of f).index)) w.told }
+    → t' ≡ with_kept t c (united (kept_at t c) (parts f)) → IsBoard parts s w' t'
 saved-board {F} name_of parts bytes_of moves s w w' t t' r c f i piece has own is kept =
     let new = moved s (plain (Saved r (hand_node (hand r (past w.told))) (name_of f).maker (name_of f).index)) w.told in
     let history : is_history s (past new) ≡ true = saved-by {F = F} {E = Unit {0}} name_of s w.told new r f (Ok tt) i.run.history (piece, refl) in
     board-moved parts s w w' new t t' i is history
-    (subst (λ (u : List Kept). HoldsBlocks parts s new u) (sym kept) (moves.saved s w.told t r (hand_node (hand r (past w.told))) c f i.run i.holds piece has own (legal-of s new history)))
+    (subst (λ (u : List Kept). HoldsBlocks parts s new u) (sym kept)
+    (moves.saved s w.told t r (hand_node (hand r (past w.told))) c f i.run i.holds piece has own (legal-of s new history)))

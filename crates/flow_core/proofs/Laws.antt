@@ -43,7 +43,9 @@ move_laws O name_of parts bytes_of =
       issue = issue-law name_of parts;
       saved = saved-law name_of parts;
       put = λ s B t r v m c f fired run h job on own made legal. put-plain name_of parts s B t r v m c f fired run h on own legal job made;
-      put_made = λ s B t r v m b c f made fired run h job on own grant kind whole legal. put-made name_of parts s B t r v m c f fired run h on own legal b made job grant kind whole;
+      put_made =
+          λ s B t r v m b c f made fired run h job on own grant kind whole legal.
+          put-made name_of parts s B t r v m c f fired run h on own legal b made job grant kind whole;
       reclaim_load = λ s B t r left q k b n f g x may held. back-load name_of parts bytes_of s B t r left may q k b n f g x held;
       reclaim_take = λ s B t r left q v m k c may held on. back-take name_of parts bytes_of s B t r left may q v m k c held on;
       reclaim_block = λ s B t r left q v m k b n c f g x may held on. back-block name_of parts bytes_of s B t r left may q v m k b n c f g x held on;

@@ -33,13 +33,16 @@ use Rattle.flow_core.proofs.Places.{room-there}
 use Rattle.flow_core.proofs.Stored.{remade-regrown, roomy, emptied}
 
 -- where this stands against a load, and the pool answers so
-pub load-gives : {F B : Type 0} (parts : F → Option Parts) (bytes_of : B → ℕ) (s : Setting) (old new : BoardState) (r tick : ℕ) (o : Option (load_answer B)) (g : Answer) (a : load_answer B) → load_refusal {B = B} s r (past old) ≡ o → grant s (past old) (s.need 0) ≡ g
+pub load-gives : {F B : Type 0} (parts : F → Option Parts) (bytes_of : B → ℕ) (s : Setting) (old new : BoardState) (r tick : ℕ) (o : Option (load_answer B))
+    (g : Answer) (a : load_answer B) → load_refusal {B = B} s r (past old) ≡ o → grant s (past old) (s.need 0) ≡ g
     → LoadAnswers parts bytes_of s old r tick o g a new → LoadGives parts bytes_of s old r tick a new
 load-gives {F} {B} parts bytes_of s old new r tick o g a none given c =
-    subst (λ (o' : Option (load_answer B)). LoadAnswers parts bytes_of s old r tick o' (grant s (past old) (s.need 0)) a new) (sym none) (subst (λ (g' : Answer). LoadAnswers parts bytes_of s old r tick o g' a new) (sym given) c)
+    subst (λ (o' : Option (load_answer B)). LoadAnswers parts bytes_of s old r tick o' (grant s (past old) (s.need 0)) a new) (sym none)
+    (subst (λ (g' : Answer). LoadAnswers parts bytes_of s old r tick o g' a new) (sym given) c)
 
 -- a frame that is loaded
-pub record LoadsOn {F B : Type 0} (parts : F → Option Parts) (bytes_of : B → ℕ) (s : Setting) (w : Coursed) (t : List Kept) (r b z : ℕ) (f : Bool) (g : ℕ) (x : Bool) (blank : B) : Type 0 where
+pub record LoadsOn {F B : Type 0} (parts : F → Option Parts) (bytes_of : B → ℕ) (s : Setting) (w : Coursed) (t : List Kept)
+    (r b z : ℕ) (f : Bool) (g : ℕ) (x : Bool) (blank : B) : Type 0 where
   pub board : IsBoard parts s w t
   pub role : r ≤ last_role s
   pub allowed : load_refusal {B = B} s r (past w.told) ≡ None
@@ -47,11 +50,14 @@ pub record LoadsOn {F B : Type 0} (parts : F → Option Parts) (bytes_of : B →
   pub size : bytes_of blank ≡ z
   pub remade : IsRemade z b f t x
 
-abbrev pub granting : {F B : Type 0} (parts : F → Option Parts) (bytes_of : B → ℕ) (s : Setting) (w : Coursed) (t : List Kept) (r b z : ℕ) (f : Bool) (g : ℕ) (x : Bool) (blank : B) → LoadsOn parts bytes_of s w t r b z f g x blank → IsGranted parts s w.told t (s.need 0) b z f g
+abbrev pub granting : {F B : Type 0} (parts : F → Option Parts) (bytes_of : B → ℕ) (s : Setting) (w : Coursed) (t : List Kept)
+    (r b z : ℕ) (f : Bool) (g : ℕ) (x : Bool) (blank : B) → LoadsOn parts bytes_of s w t r b z f g x blank → IsGranted parts s w.told t (s.need 0) b z f g
 granting parts bytes_of s w t r b z f g x blank l = record { run = l.board.run; holds = l.board.holds; granted = l.granted }
 
-pub loaded-gives : {F B : Type 0} (parts : F → Option Parts) (bytes_of : B → ℕ) (laws : GrantLaws parts) (s : Setting) (w : Coursed) (t : List Kept) (r tick b z : ℕ) (f : Bool) (g : ℕ) (x : Bool) (blank : B) (k : ℕ) (new : BoardState) → LoadsOn parts bytes_of s w t r b z f g x blank
-    → k ≡ next_index (past w.told) → new ≡ moved_at s tick (plain (Load r (next_index (past w.told)) b z f g x)) w.told → LoadGives parts bytes_of s w.told r tick (load.Loaded k blank) new
+pub loaded-gives : {F B : Type 0} (parts : F → Option Parts) (bytes_of : B → ℕ) (laws : GrantLaws parts) (s : Setting) (w : Coursed) (t : List Kept)
+    (r tick b z : ℕ) (f : Bool) (g : ℕ) (x : Bool) (blank : B) (k : ℕ) (new : BoardState) → LoadsOn parts bytes_of s w t r b z f g x blank
+    → k ≡ next_index (past w.told) → new ≡ moved_at s tick (plain (Load r (next_index (past w.told)) b z f g x)) w.told
+    → LoadGives parts bytes_of s w.told r tick (load.Loaded k blank) new
 loaded-gives parts bytes_of laws s w t r tick b z f g x blank k new l turn is =
     load-gives parts bytes_of s w.told new r tick None (Granted b z f g) (load.Loaded k blank) l.allowed l.granted (
       turn,
@@ -63,23 +69,29 @@ loaded-gives parts bytes_of laws s w t r tick b z f g x blank k new l turn is =
       ),
     )
 
-pub loaded-history : {F B : Type 0} (parts : F → Option Parts) (bytes_of : B → ℕ) (laws : GrantLaws parts) (s : Setting) (w : Coursed) (t : List Kept) (r tick b z : ℕ) (f : Bool) (g : ℕ) (x : Bool) (blank : B) → LoadsOn parts bytes_of s w t r b z f g x blank
+pub loaded-history : {F B : Type 0} (parts : F → Option Parts) (bytes_of : B → ℕ) (laws : GrantLaws parts) (s : Setting) (w : Coursed) (t : List Kept)
+    (r tick b z : ℕ) (f : Bool) (g : ℕ) (x : Bool) (blank : B) → LoadsOn parts bytes_of s w t r b z f g x blank
     → is_history s (past (moved_at s tick (plain (Load r (next_index (past w.told)) b z f g x)) w.told)) ≡ true
 loaded-history {F} {B} parts bytes_of laws s w t r tick b z f g x blank l =
-    load-by {F = F} {B = B} parts bytes_of s w.told (moved_at s tick (plain (Load r (next_index (past w.told)) b z f g x)) w.told) r tick None (Granted b z f g) (load.Loaded (next_index (past w.told)) blank) l.board.run.pooled l.board.run.history l.role l.allowed l.granted
+    load-by {F = F} {B = B} parts bytes_of s w.told (moved_at s tick (plain (Load r (next_index (past w.told)) b z f g x)) w.told) r tick None (Granted b z f g)
+    (load.Loaded (next_index (past w.told)) blank) l.board.run.pooled l.board.run.history l.role l.allowed l.granted
     (refl, l.size, (x, remade-regrown parts laws s w.told t (s.need 0) b z f g x (granting parts bytes_of s w t r b z f g x blank l) l.remade, refl))
 
-pub loaded-board : {F B : Type 0} (parts : F → Option Parts) (bytes_of : B → ℕ) (laws : GrantLaws parts) (s : Setting) (w w' : Coursed) (t t' : List Kept) (r tick b z : ℕ) (f : Bool) (g : ℕ) (x : Bool) (blank : B) → LoadsOn parts bytes_of s w t r b z f g x blank
-    → w' ≡ record w { told = moved_at s tick (plain (Load r (next_index (past w.told)) b z f g x)) w.told } → t' ≡ with_kept (with_storage b f t) b Empty → IsBoard parts s w' t'
+pub loaded-board : {F B : Type 0} (parts : F → Option Parts) (bytes_of : B → ℕ) (laws : GrantLaws parts) (s : Setting) (w w' : Coursed) (t t' : List Kept)
+    (r tick b z : ℕ) (f : Bool) (g : ℕ) (x : Bool) (blank : B) → LoadsOn parts bytes_of s w t r b z f g x blank
+    → w' ≡ record w { told = moved_at s tick (plain (Load r (next_index (past w.told)) b z f g x)) w.told }
+    → t' ≡ with_kept (with_storage b f t) b Empty → IsBoard parts s w' t'
 loaded-board parts bytes_of laws s w w' t t' r tick b z f g x blank l is kept =
     let i = granting parts bytes_of s w t r b z f g x blank l in
     let new = moved_at s tick (plain (Load r (next_index (past w.told)) b z f g x)) w.told in
     let history = loaded-history parts bytes_of laws s w t r tick b z f g x blank l in
     board-moved parts s w w' new t t' l.board is history
     (subst (λ (u : List Kept). HoldsBlocks parts s new u) (sym (kept ∙ emptied b f t))
-    (laws.load s w.told (with_room t b) tick r (next_index (past w.told)) (s.need 0) b z f g x (roomy parts laws s w.told t (s.need 0) b z f g i) (room-there t b (laws.next s w.told t (s.need 0) b z f g i)) (legal-of s new history)))
+    (laws.load s w.told (with_room t b) tick r (next_index (past w.told)) (s.need 0) b z f g x (roomy parts laws s w.told t (s.need 0) b z f g i)
+    (room-there t b (laws.next s w.told t (s.need 0) b z f g i)) (legal-of s new history)))
 
-pub loaded-room : {F B : Type 0} (parts : F → Option Parts) (bytes_of : B → ℕ) (look : LookLaws parts) (s : Setting) (w : Coursed) (t : List Kept) (r tick b z : ℕ) (f : Bool) (g : ℕ) (x : Bool) (blank : B) (k : ℕ) (new : BoardState) → LoadsOn parts bytes_of s w t r b z f g x blank
+pub loaded-room : {F B : Type 0} (parts : F → Option Parts) (bytes_of : B → ℕ) (look : LookLaws parts) (s : Setting) (w : Coursed) (t : List Kept)
+    (r tick b z : ℕ) (f : Bool) (g : ℕ) (x : Bool) (blank : B) (k : ℕ) (new : BoardState) → LoadsOn parts bytes_of s w t r b z f g x blank
     → new ≡ moved_at s tick (plain (Load r (next_index (past w.told)) b z f g x)) w.told → HasRoom bytes_of s r (load.Loaded k blank) new
 loaded-room parts bytes_of look s w t r tick b z f g x blank k new l is =
     let e = plain (Load r (next_index (past w.told)) b z f g x) in
@@ -88,22 +100,33 @@ loaded-room parts bytes_of look s w t r tick b z f g x blank k new l is =
     (subst (λ n. s.need 0 ≤ n) (sym l.size) (enough s (past w.told) (s.need 0) b z f g l.board.run.pooled l.granted), l.size ∙ sym (ap granted_size hold))
 
 -- A FRAME THAT THE POOL REFUSES
-pub refused-gives : {F B : Type 0} (parts : F → Option Parts) (bytes_of : B → ℕ) (s : Setting) (old new : BoardState) (r tick k h : ℕ) → load_refusal {B = B} s r (past old) ≡ None → grant s (past old) (s.need 0) ≡ pool.Refused → k ≡ next_index (past old) → h ≡ held s (past old)
-    → new ≡ moved_at s tick (plain (LoadRefused r (next_index (past old)) (s.need 0) (held s (past old)))) old → LoadGives parts bytes_of s old r tick (load.Refused k h) new
+pub refused-gives : {F B : Type 0} (parts : F → Option Parts) (bytes_of : B → ℕ) (s : Setting) (old new : BoardState) (r tick k h : ℕ)
+    → load_refusal {B = B} s r (past old) ≡ None → grant s (past old) (s.need 0) ≡ pool.Refused → k ≡ next_index (past old) → h ≡ held s (past old)
+    → new ≡ moved_at s tick (plain (LoadRefused r (next_index (past old)) (s.need 0) (held s (past old)))) old
+    → LoadGives parts bytes_of s old r tick (load.Refused k h) new
 refused-gives parts bytes_of s old new r tick k h none given turn holds is =
     load-gives parts bytes_of s old new r tick None pool.Refused (load.Refused k h) none given
-    (turn, holds, is ∙ (ap (λ (i : ℕ). moved_at s tick (plain (LoadRefused r i (s.need 0) (held s (past old)))) old) (sym turn) ∙ ap (λ (i : ℕ). moved_at s tick (plain (LoadRefused r k (s.need 0) i)) old) (sym holds)))
+    (turn, holds,
+    is ∙ (ap (λ (i : ℕ). moved_at s tick (plain (LoadRefused r i (s.need 0) (held s (past old)))) old) (sym turn)
+    ∙ ap (λ (i : ℕ). moved_at s tick (plain (LoadRefused r k (s.need 0) i)) old) (sym holds)))
 
-pub refused-board : {F B : Type 0} (O : Type 0) (name_of : F → FrameName) (parts : F → Option Parts) (bytes_of : B → ℕ) (moves : MoveLaws O name_of parts bytes_of) (s : Setting) (w w' : Coursed) (t : List Kept) (r tick : ℕ) → IsBoard parts s w t → r ≤ last_role s → load_refusal {B = B} s r (past w.told) ≡ None → grant s (past w.told) (s.need 0) ≡ pool.Refused
-    → w' ≡ record w { told = moved_at s tick (plain (LoadRefused r (next_index (past w.told)) (s.need 0) (held s (past w.told)))) w.told } → IsBoard parts s w' t
+pub refused-board : {F B : Type 0} (O : Type 0) (name_of : F → FrameName) (parts : F → Option Parts)
+    (bytes_of : B → ℕ) (moves : MoveLaws O name_of parts bytes_of) (s : Setting) (w w' : Coursed) (t : List Kept) (r tick : ℕ) → IsBoard parts s w t
+    → r ≤ last_role s → load_refusal {B = B} s r (past w.told) ≡ None → grant s (past w.told) (s.need 0) ≡ pool.Refused
+    → w' ≡ record w { told = moved_at s tick (plain (LoadRefused r (next_index (past w.told)) (s.need 0) (held s (past w.told)))) w.told }
+    → IsBoard parts s w' t
 refused-board {F} {B} O name_of parts bytes_of moves s w w' t r tick i role none given is =
     let e = LoadRefused r (next_index (past w.told)) (s.need 0) (held s (past w.told)) in
     let new = moved_at s tick (plain e) w.told in
     let history : is_history s (past new) ≡ true =
-    load-by {F = F} {B = B} parts bytes_of s w.told new r tick None pool.Refused (load.Refused (next_index (past w.told)) (held s (past w.told))) i.run.pooled i.run.history role none given (refl, refl, refl) in
+    load-by {F = F} {B = B} parts bytes_of s w.told new r tick None pool.Refused
+    (load.Refused (next_index (past w.told)) (held s (past w.told))) i.run.pooled i.run.history role none given (refl, refl, refl) in
     board-moved parts s w w' new t t i is history (moves.still s w.told t tick e i.run i.holds refl (legal-of s new history))
 
 -- NO MEMORY
-pub no_memory-gives : {F B : Type 0} (parts : F → Option Parts) (bytes_of : B → ℕ) (s : Setting) (old new : BoardState) (r tick b z : ℕ) (f : Bool) (g : ℕ) → load_refusal {B = B} s r (past old) ≡ None → grant s (past old) (s.need 0) ≡ Granted b z f g → (TellParts parts → IsTrue (wants_storage old (Granted b z f g))) → new ≡ old
+pub no_memory-gives : {F B : Type 0} (parts : F → Option Parts) (bytes_of : B → ℕ) (s : Setting) (old new : BoardState) (r tick b z : ℕ) (f : Bool) (g : ℕ)
+    → load_refusal {B = B} s r (past old) ≡ None → grant s (past old) (s.need 0) ≡ Granted b z f g
+    → (TellParts parts → IsTrue (wants_storage old (Granted b z f g))) → new ≡ old
     → LoadGives parts bytes_of s old r tick load.OutOfMemory new
-no_memory-gives parts bytes_of s old new r tick b z f g none given wants same_ = load-gives parts bytes_of s old new r tick None (Granted b z f g) load.OutOfMemory none given (wants, same_)
+no_memory-gives parts bytes_of s old new r tick b z f g none given wants same_ =
+    load-gives parts bytes_of s old new r tick None (Granted b z f g) load.OutOfMemory none given (wants, same_)

@@ -24,24 +24,29 @@ remade-stale z b true x t r = ap (λ y. y && true) r
 remade-stale z b false true t r = refl
 remade-stale z b false false t r = refl
 
-pub remade-regrown : {F : Type 0} (parts : F → Option Parts) (laws : GrantLaws parts) (s : Setting) (told : BoardState) (t : List Kept) (need b z : ℕ) (f : Bool) (g : ℕ) (x : Bool)
+pub remade-regrown : {F : Type 0} (parts : F → Option Parts) (laws : GrantLaws parts) (s : Setting) (told : BoardState) (t : List Kept)
+    (need b z : ℕ) (f : Bool) (g : ℕ) (x : Bool)
     → IsGranted parts s told t need b z f g → IsRemade z b f t x → IsRegrown parts told b f x
 remade-regrown parts laws s told t need b z true g x i r = subst (λ (y : Bool). IsRegrown parts told b true y) (sym r) (laws.fresh_anew told b)
 remade-regrown parts laws s told t need b z false g x i r = laws.anew s told (with_room t b) need b z g x (roomy parts laws s told t need b z false g i) r
 
 -- no memory for it: then it is wanted, and the table holds the blocks as before
-pub not-stored-wants : {F : Type 0} (parts : F → Option Parts) (laws : GrantLaws parts) (s : Setting) (told : BoardState) (t new : List Kept) (need b z : ℕ) (f : Bool) (g : ℕ)
+pub not-stored-wants : {F : Type 0} (parts : F → Option Parts) (laws : GrantLaws parts)
+    (s : Setting) (told : BoardState) (t new : List Kept) (need b z : ℕ) (f : Bool) (g : ℕ)
     → IsGranted parts s told t need b z f g → IsNotStored z b f t new → TellParts parts → IsTrue (wants_storage told (Granted b z f g))
 not-stored-wants parts laws s told t new need b z true g i r tell = refl
 not-stored-wants parts laws s told t new need b z false g i (inl next) tell = absurd (omega (arith, laws.old s told t need b z g i, next.0))
-not-stored-wants parts laws s told t new need b z false g i (inr away) tell = laws.wants s told (with_room t b) need b z g (roomy parts laws s told t need b z false g i) tell away.0
+not-stored-wants parts laws s told t new need b z false g i (inr away) tell =
+    laws.wants s told (with_room t b) need b z g (roomy parts laws s told t need b z false g i) tell away.0
 
-pub not-stored-holds : {F : Type 0} (parts : F → Option Parts) (laws : GrantLaws parts) (s : Setting) (told : BoardState) (t new : List Kept) (need b z : ℕ) (f : Bool) (g : ℕ)
+pub not-stored-holds : {F : Type 0} (parts : F → Option Parts) (laws : GrantLaws parts)
+    (s : Setting) (told : BoardState) (t new : List Kept) (need b z : ℕ) (f : Bool) (g : ℕ)
     → IsGranted parts s told t need b z f g → IsNotStored z b f t new → HoldsBlocks parts s told new
 not-stored-holds parts laws s told t new need b z true g i (inl same_) = subst (λ u. HoldsBlocks parts s told u) (sym same_) i.holds
 not-stored-holds parts laws s told t new need b z true g i (inr room) = subst (λ u. HoldsBlocks parts s told u) (sym room) (laws.room s told t b i.holds)
 not-stored-holds parts laws s told t new need b z false g i (inl next) = subst (λ u. HoldsBlocks parts s told u) (sym next.1) i.holds
-not-stored-holds parts laws s told t new need b z false g i (inr away) = laws.refused s told (with_room t b) new need b z g (roomy parts laws s told t need b z false g i) away.1
+not-stored-holds parts laws s told t new need b z false g i (inr away) =
+    laws.refused s told (with_room t b) new need b z g (roomy parts laws s told t need b z false g i) away.1
 
 -- its place is there, and once it is emptied nothing else has changed
 pub storage-there : (b : ℕ) (f : Bool) (t : List Kept) → b ≤ length t → b < length (with_storage b f t)
@@ -53,6 +58,7 @@ emptied b true t = refl
 emptied b false t = kept-again (with_room t b) b Empty Empty
 
 -- the pool had no memory for a new block
-pub fresh-holds : {F : Type 0} (parts : F → Option Parts) (laws : GrantLaws parts) (s : Setting) (told : BoardState) (t new : List Kept) (b : ℕ) (f : Bool) → HoldsBlocks parts s told t → f ≡ true → new ≡ with_storage b f t → HoldsBlocks parts s told new
+pub fresh-holds : {F : Type 0} (parts : F → Option Parts) (laws : GrantLaws parts) (s : Setting) (told : BoardState) (t new : List Kept) (b : ℕ) (f : Bool)
+    → HoldsBlocks parts s told t → f ≡ true → new ≡ with_storage b f t → HoldsBlocks parts s told new
 fresh-holds parts laws s told t new b f holds fresh is =
     subst (λ u. HoldsBlocks parts s told u) (sym (is ∙ ap (λ (y : Bool). with_storage b y t) fresh)) (laws.room s told t b holds)

@@ -52,13 +52,15 @@ in-hands p (e ∷ P) h = in-hands p P (and_parts (p e) (list_all p P) h).1
 -- NONE IS LEFT
 
 -- the first of these hands is no job of a node
-no-job : (s : Setting) (v : ℕ) (e : Entry) (hs : Past) → is_job v e ≡ true → is_node s v ≡ true → ((w : ℕ) → is_node s w ≡ true → length (filter (is_job w) (e ∷ hs)) ≡ 0) → ⊥
+no-job : (s : Setting) (v : ℕ) (e : Entry) (hs : Past) → is_job v e ≡ true → is_node s v ≡ true
+    → ((w : ℕ) → is_node s w ≡ true → length (filter (is_job w) (e ∷ hs)) ≡ 0) → ⊥
 no-job s v e hs job here none = omega (arith, none v here, count-cons (is_job v) e hs, ap bit job)
 
 free-first : (r : ℕ) (e : Entry) (hs : Past) → takes_up r e ≡ true → is_none (find (takes_up r) (e ∷ hs)) ≡ true → ⊥
 free-first r e hs up free = let some : false ≡ true = rw up at free in false≢true some
 
-none-in-hand : (s : Setting) (hs : Past) → list_all (of_run s) hs ≡ true → list_any is_loaded hs ≡ false → ((v : ℕ) → is_node s v ≡ true → length (filter (is_job v) hs) ≡ 0)
+none-in-hand : (s : Setting) (hs : Past) → list_all (of_run s) hs ≡ true → list_any is_loaded hs ≡ false
+    → ((v : ℕ) → is_node s v ≡ true → length (filter (is_job v) hs) ≡ 0)
     → list_all (saved_by_drain s) hs ≡ true → is_none (find (takes_up (last_role s)) hs) ≡ true → hs ≡ []
 none-in-hand s [] ours loaded jobs saves free = refl
 none-in-hand s (Load r k b n f g x ∷ hs) ours loaded jobs saves free = absurd (true≢false loaded)
@@ -77,5 +79,6 @@ pub all-ended-drained : (s : Setting) (P : Past) → is_history s P ≡ true →
 all-ended-drained s P legal closed settled saves free =
     let front = (and_parts (is_legal s P) _ legal).0 in
     let o = all-offered s P front closed in
-    let none = none-in-hand s (hands P) (hands-of-run s P front) o.none (λ v here. settled-idle s P v front (settled v here)) (in-hands (saved_by_drain s) P saves) free in
+    let none =
+    none-in-hand s (hands P) (hands-of-run s P front) o.none (λ v here. settled-idle s P v front (settled v here)) (in-hands (saved_by_drain s) P saves) free in
     drained-by s P legal none closed o.all settled

@@ -87,8 +87,10 @@ all-offered s (e ∷ P) h c =
 pub ended-on : (u : ℕ) (e : Entry) (P : Past) → has_ended u P ≡ true → has_ended u (e ∷ P) ≡ true
 ended-on u e P h =
     elim (cases_Bool (eqb u 0)) [
-      | inl driver ↦ let was : is_closed P ≡ true = rw driver at h in rw driver (elim (cases_Bool (closes e)) [ inl now_ ↦ rw now_ refl | inr not_ ↦ rw not_ was ])
-      | inr other ↦ let was : is_settled u P ≡ true = rw other at h in rw other (elim (cases_Bool (settles u e)) [ inl now_ ↦ rw now_ refl | inr not_ ↦ rw not_ was ])
+      | inl driver ↦
+          let was : is_closed P ≡ true = rw driver at h in rw driver (elim (cases_Bool (closes e)) [ inl now_ ↦ rw now_ refl | inr not_ ↦ rw not_ was ])
+      | inr other ↦
+          let was : is_settled u P ≡ true = rw other at h in rw other (elim (cases_Bool (settles u e)) [ inl now_ ↦ rw now_ refl | inr not_ ↦ rw not_ was ])
     ]
 
 pub input-ended : (s : Setting) (P : Past) (v : ℕ) → is_legal s P ≡ true → is_settled v P ≡ true → has_ended (node s v).input P ≡ true
@@ -106,7 +108,8 @@ input-ended s (e ∷ P) v h c = ended-on (node s v).input e P (input-ended s P v
 next-back : (s : Setting) (r : ℕ) (e : Entry) (P : Past) → is_legal s (Reclaim r ∷ P) ≡ true → hand r P ≡ Some e → next_index (Reclaim r ∷ P) ≤ next_index P
 next-back s r (Load q k b n f g x) P h held = omega (arith, index_laws.reclaim s r q k b n f g x P h held)
 next-back s r (Take q v m k) P h held = omega (arith, index_laws.reclaim_other s r (Take q v m k) P (and_parts (is_legal s P) _ h).0 held refl)
-next-back s r (TakeBlock f x q v m k b n g) P h held = omega (arith, index_laws.reclaim_other s r (TakeBlock f x q v m k b n g) P (and_parts (is_legal s P) _ h).0 held refl)
+next-back s r (TakeBlock f x q v m k b n g) P h held =
+    omega (arith, index_laws.reclaim_other s r (TakeBlock f x q v m k b n g) P (and_parts (is_legal s P) _ h).0 held refl)
 next-back s r e P h held = omega (arith, index_laws.reclaim_other s r e P (and_parts (is_legal s P) _ h).0 held refl)
 
 -- no frame beyond the stack is offered

@@ -56,7 +56,8 @@ waits-owed s (Settle r w ∷ P) v t nz sorted h c =
       | inl here ↦
           let is : w ≡ v = eqb-true w v here in
           let calls : count (out_of v t) (calls_for s P (Settle r w)) ≡ count (waits t) (waiting s v P) =
-          subst (λ (u : ℕ). count (out_of v t) (calls_for s P (Settle r u)) ≡ count (waits t) (waiting s v P)) (sym is) (count-flush v t (least_first s (waiting s v P)) ∙ count-least_first s (waits t) (waiting s v P)) in
+          subst (λ (u : ℕ). count (out_of v t) (calls_for s P (Settle r u)) ≡ count (waits t) (waiting s v P)) (sym is)
+          (count-flush v t (least_first s (waiting s v P)) ∙ count-least_first s (waits t) (waiting s v P)) in
           omega (arith, calls, count-append (out_of v t) (calls_for s P (Settle r w)) (drop 1 (owed s P)))
       | inr away ↦
           let none = after-first s (Settle r w) P v t _ (λ d. refl) h (waits-owed s P v t nz sorted (and_parts (is_legal s P) _ h).0 (rw away at c)) in
@@ -81,7 +82,8 @@ waits-owed s (Emit w m k why ∷ P) v t nz sorted h c =
     elim (cases_Bool (eqb w v)) [
       | inl here ↦
           let there = owed-Emit_out s w m k why P v (λ x. same x (frame m k)) h in
-          let some : 1 ≤ count (waits (λ x. same x (frame m k))) (waiting s v P) = omega (arith, owed-waits s P v (λ x. same x (frame m k)) nz sorted legal, there, ap bit (and_from _ _ here (same_refl (frame m k)))) in
+          let some : 1 ≤ count (waits (λ x. same x (frame m k))) (waiting s v P) =
+          omega (arith, owed-waits s P v (λ x. same x (frame m k)) nz sorted legal, there, ap bit (and_from _ _ here (same_refl (frame m k)))) in
           let hit : (eqb w v && t (frame m k)) ≡ t (frame m k) = ap (λ (x : Bool). x && t (frame m k)) here in
           let goes : waiting s v (Emit w m k why ∷ P) ≡ not_waiting (frame m k) (waiting s v P) = rw here refl in
           omega (arith, before, was, whole, ap bit hit, removed (frame m k) t (waiting s v P) some, ap (count (waits t)) goes)
@@ -97,7 +99,8 @@ waits-owed s (SortDrop w m k ∷ P) v t nz sorted h c =
     elim (cases_Bool (eqb w v)) [
       | inl here ↦
           let there = owed-SortDrop_out s w m k P v (λ x. same x (frame m k)) h in
-          let some : 1 ≤ count (waits (λ x. same x (frame m k))) (waiting s v P) = omega (arith, owed-waits s P v (λ x. same x (frame m k)) nz sorted legal, there, ap bit (and_from _ _ here (same_refl (frame m k)))) in
+          let some : 1 ≤ count (waits (λ x. same x (frame m k))) (waiting s v P) =
+          omega (arith, owed-waits s P v (λ x. same x (frame m k)) nz sorted legal, there, ap bit (and_from _ _ here (same_refl (frame m k)))) in
           let hit : (eqb w v && t (frame m k)) ≡ t (frame m k) = ap (λ (x : Bool). x && t (frame m k)) here in
           let goes : waiting s v (SortDrop w m k ∷ P) ≡ not_waiting (frame m k) (waiting s v P) = rw here refl in
           omega (arith, before, was, ap bit hit, removed (frame m k) t (waiting s v P) some, ap (count (waits t)) goes)
@@ -109,14 +112,16 @@ waits-owed s (SortDrop w m k ∷ P) v t nz sorted h c =
 waits-owed s (Tick u ∷ P) v t nz sorted h c =
     let a = owed-answered s (Tick u) P refl h in
     let other : out_of v t a.head ≡ false = ap (out_of v t) (answers-by_Tick s P u a.head a.answer).1 in
-    omega (arith, waits-owed s P v t nz sorted (and_parts _ _ h).0 c, head-other (out_of v t) (owed s P) a.head a.rest a.is other, count-append (out_of v t) (calls_for s P (Tick u)) (drop 1 (owed s P)))
+    omega (arith, waits-owed s P v t nz sorted (and_parts _ _ h).0 c, head-other (out_of v t) (owed s P) a.head a.rest a.is other,
+    count-append (out_of v t) (calls_for s P (Tick u)) (drop 1 (owed s P)))
 waits-owed s (Accept w m k ∷ P) v t nz sorted h c =
     let a = owed-answered s (Accept w m k) P refl h in
     let other : out_of v t a.head ≡ false = ap (out_of v t) (answers-by_Accept s P w m k a.head a.answer) in
     omega (arith, waits-owed s P v t nz sorted (and_parts _ _ h).0 c, head-other (out_of v t) (owed s P) a.head a.rest a.is other)
 waits-owed s (Full w m k ∷ P) v t nz sorted h c =
     let a = owed-answered s (Full w m k) P refl h in
-    omega (arith, waits-owed s P v t nz sorted (and_parts _ _ h).0 c, head-other (out_of v t) (owed s P) a.head a.rest a.is (full-head s P w m k v t a.head a.answer))
+    omega (arith, waits-owed s P v t nz sorted (and_parts _ _ h).0 c,
+    head-other (out_of v t) (owed s P) a.head a.rest a.is (full-head s P w m k v t a.head a.answer))
 waits-owed s (Load r k b n f g x ∷ P) v t nz sorted h c =
     omega (arith, after-first s (Load r k b n f g x) P v t _ (λ d. refl) h (waits-owed s P v t nz sorted (and_parts _ _ h).0 c))
 waits-owed s (LoadRefused r k n z ∷ P) v t nz sorted h c =
@@ -195,7 +200,8 @@ looks-come : (s : Setting) (P : Past) (v : ℕ) (us : List ℕ) → count (comes
 looks-come s P v [] = refl
 looks-come s P v (u ∷ us) =
     let one : count (comes_to v) (cond (is_sorted s u) (look s u P) []) ≡ 0 =
-    elim (is_sorted s u) as (λ b. count (comes_to v) (cond b (look s u P) []) ≡ 0) [ true ↦ none-come u v (look s u P) (goes_out-at s u _ _ _) | false ↦ refl ] in
+    elim (is_sorted s u) as (λ b. count (comes_to v) (cond b (look s u P) []) ≡ 0) [ true ↦ none-come u v (look s u P) (goes_out-at s u _ _ _)
+    | false ↦ refl ] in
     omega (arith, count-append (comes_to v) (cond (is_sorted s u) (look s u P) []) (looks s P us), one, looks-come s P v us)
 
 offers-come : (v : ℕ) (a : FrameName) (cs : List ℕ) → count (comes_to v) (map (offer a) cs) ≡ count (is_number v) cs
@@ -203,11 +209,14 @@ offers-come v a [] = refl
 offers-come v a (c ∷ cs) = omega (arith, offers-come v a cs, count-cons (comes_to v) (offer a c) (map (offer a) cs), count-cons (is_number v) c cs)
 
 -- what an entry calls for, and the rest of what was owed
-over-with : (s : Setting) (e : Entry) (P : Past) (u v : ℕ) → IsOver s P u v → count (out_of u (λ a. true)) (calls_for s P e) ≡ 0 → count (comes_to v) (calls_for s P e) ≡ 0
+over-with : (s : Setting) (e : Entry) (P : Past) (u v : ℕ) → IsOver s P u v → count (out_of u (λ a. true)) (calls_for s P e) ≡ 0
+    → count (comes_to v) (calls_for s P e) ≡ 0
     → IsOver s (e ∷ P) u v
 over-with s e P u v i out come =
     record {
-      emissions = omega (arith, i.emissions, out, count-append (out_of u (λ a. true)) (calls_for s P e) (drop 1 (owed s P)), count-drop (out_of u (λ a. true)) (owed s P));
+      emissions =
+          omega (arith, i.emissions, out, count-append (out_of u (λ a. true)) (calls_for s P e) (drop 1 (owed s P)),
+          count-drop (out_of u (λ a. true)) (owed s P));
       offers = omega (arith, i.offers, come, count-append (comes_to v) (calls_for s P e) (drop 1 (owed s P)), count-drop (comes_to v) (owed s P));
     }
 
@@ -222,14 +231,17 @@ looks-over : (s : Setting) (t : ℕ) (P : Past) (u v : ℕ) → is_legal s P ≡
     → count (out_of u (λ a. true)) (looks s (Tick t ∷ P) (node_numbers s)) ≡ 0
 looks-over s t P u v legal ended i =
     elim (cases_Bool (eqb u 0)) [
-      | inl driver ↦ looks-none s (Tick t ∷ P) u (λ a. true) (node_numbers s) (subst (λ (w : ℕ). count (is_number w) (node_numbers s) ≡ 0) (sym (eqb-true u 0 driver)) (none_numbered_0 s))
+      | inl driver ↦
+          looks-none s (Tick t ∷ P) u (λ a. true) (node_numbers s)
+          (subst (λ (w : ℕ). count (is_number w) (node_numbers s) ≡ 0) (sym (eqb-true u 0 driver)) (none_numbered_0 s))
       | inr other ↦
           let nz : u ≢ 0 = λ e. true≢false (sym (eq-eqb u 0 e) ∙ other) in
           let settled_ : is_settled u P ≡ true = rw other at ended in
           let most = looks-le s (Tick t ∷ P) u (λ a. true) (node_numbers s) (once_numbered s u) in
           elim (cases_Bool (is_sorted s u)) [
             | inl sorted ↦
-                let few : count (out_of u (λ a. true)) (looks s (Tick t ∷ P) (node_numbers s)) ≤ count (waits (λ a. true)) (waiting s u P) = rw sorted at most in
+                let few : count (out_of u (λ a. true)) (looks s (Tick t ∷ P) (node_numbers s)) ≤ count (waits (λ a. true)) (waiting s u P) =
+                rw sorted at most in
                 omega (arith, few, waits-owed s P u (λ a. true) nz sorted legal settled_, i.emissions)
             | inr plain ↦ let few : count (out_of u (λ a. true)) (looks s (Tick t ∷ P) (node_numbers s)) ≤ 0 = rw plain at most in omega (arith, few)
           ]
@@ -249,7 +261,8 @@ over-on s (Issue r k) P v h ended i =
           absurd (true≢false (found-not is_loaded (takes_up r) (hands P) (Load r k l.0 l.1 l.2 l.3 l.4) (all-offered s P (and_parts _ _ h).0 closed).none l.5))
       | inr other ↦
           let miss : out_of (node s v).input (λ a. true) (Emit 0 0 k Plain) ≡ false = ap (λ (b : Bool). b && true) other in
-          over-with s (Issue r k) P (node s v).input v i (omega (arith, count-cons (out_of (node s v).input (λ a. true)) (Emit 0 0 k Plain) [], ap bit miss)) refl
+          over-with s (Issue r k) P (node s v).input v i
+          (omega (arith, count-cons (out_of (node s v).input (λ a. true)) (Emit 0 0 k Plain) [], ap bit miss)) refl
     ]
 over-on s (Emit w m k why) P v h ended i =
     let was = owed-Emit_out s w m k why P (node s v).input (λ a. true) h in
@@ -265,12 +278,14 @@ over-on s (Put r w m k f) P v h ended i =
     let open_ = put-unsettled s r w m k f P (and_parts _ _ h).0 (row_of s (Put r w m k f) P (λ d. refl) h) in
     let ne = ended-other (node s v).input w P (puts_at_node s r w m k f P h) ended open_ in
     let at_w = result-at s w (frame m k) f P (node s w).work in
-    over-with s (Put r w m k f) P (node s v).input v i (none_elsewhere w (node s v).input (λ a. true) (calls_for s P (Put r w m k f)) ne at_w) (none-come w v (calls_for s P (Put r w m k f)) at_w)
+    over-with s (Put r w m k f) P (node s v).input v i (none_elsewhere w (node s v).input (λ a. true) (calls_for s P (Put r w m k f)) ne at_w)
+    (none-come w v (calls_for s P (Put r w m k f)) at_w)
 over-on s (Settle r w) P v h ended i =
     let f = ((row_laws.settle s P r w).0 (row_of s (Settle r w) P (λ d. refl) h)).1 in
     let ne = ended-other (node s v).input w P (settles_node s r w P h) ended f.unsettled in
     let at_w = flush-at w (least_first s (waiting s w P)) in
-    over-with s (Settle r w) P (node s v).input v i (none_elsewhere w (node s v).input (λ a. true) (calls_for s P (Settle r w)) ne at_w) (none-come w v (calls_for s P (Settle r w)) at_w)
+    over-with s (Settle r w) P (node s v).input v i (none_elsewhere w (node s v).input (λ a. true) (calls_for s P (Settle r w)) ne at_w)
+    (none-come w v (calls_for s P (Settle r w)) at_w)
 over-on s e P v h ended i = over-with s e P (node s v).input v i refl refl
 
 -- the settle itself: nothing else was owed, and what is flushed goes out of the node

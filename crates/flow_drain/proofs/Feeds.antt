@@ -71,7 +71,8 @@ module _ {B : Type 0} where
   Tells _ ended full = (ended ≡ false) × (full ≡ false)
 
 module _ {F B : Type 0} (parts : F → Option Parts) (bytes_of : B → ℕ) (s : Setting) (old new : BoardState) (r tick : ℕ) where
-  tells-by : (ended full : Bool) (g : Answer) (a : load_answer B) → LoadAnswers parts bytes_of s old r tick (fed_refusal {B = B} ended full) g a new → Tells a ended full
+  tells-by : (ended full : Bool) (g : Answer) (a : load_answer B)
+      → LoadAnswers parts bytes_of s old r tick (fed_refusal {B = B} ended full) g a new → Tells a ended full
   tells-by true full g a c = subst (λ (x : load_answer B). Tells x true full) (sym c.0) refl
   tells-by false true g a c = subst (λ (x : load_answer B). Tells x false true) (sym c.0) (refl, refl)
   tells-by false false pool.Refused (load.Refused k z) c = (refl, refl)
@@ -80,8 +81,11 @@ module _ {F B : Type 0} (parts : F → Option Parts) (bytes_of : B → ℕ) (s :
   tells-by false false g _ c = absurd c
 
   answers-so : r ≡ last_role s → hands (past old) ≡ [] → (a : load_answer B) → LoadGives parts bytes_of s old r tick a new
-      → LoadAnswers parts bytes_of s old r tick (fed_refusal {B = B} (leb (length s.ids) (next_index (past old))) (s.wait && not (list_all (has_room s (past old)) (children s 0)))) (grant s (past old) (s.need 0)) a new
-  answers-so is idle a c = subst (λ (o : Option (load_answer B)). LoadAnswers parts bytes_of s old r tick o (grant s (past old) (s.need 0)) a new) (refusal-is {B = B} s r (past old) is idle) c
+      → LoadAnswers parts bytes_of s old r tick (fed_refusal {B = B} (leb (length s.ids) (next_index (past old)))
+      (s.wait && not (list_all (has_room s (past old)) (children s 0)))) (grant s (past old) (s.need 0)) a new
+  answers-so is idle a c =
+      subst (λ (o : Option (load_answer B)). LoadAnswers parts bytes_of s old r tick o (grant s (past old) (s.need 0)) a new)
+      (refusal-is {B = B} s r (past old) is idle) c
 
   pub tells : r ≡ last_role s → hands (past old) ≡ [] → (a : load_answer B) → LoadGives parts bytes_of s old r tick a new
       → Tells a (leb (length s.ids) (next_index (past old))) (s.wait && not (list_all (has_room s (past old)) (children s 0)))
@@ -89,7 +93,8 @@ module _ {F B : Type 0} (parts : F → Option Parts) (bytes_of : B → ℕ) (s :
 
   -- a refused frame is a move
   refused-by : (ended full : Bool) (g : Answer) (k z : ℕ) → ended ≡ false → full ≡ false
-      → LoadAnswers parts bytes_of s old r tick (fed_refusal {B = B} ended full) g (load.Refused k z) new → new ≡ moved_at s tick (plain (LoadRefused r k (s.need 0) z)) old
+      → LoadAnswers parts bytes_of s old r tick (fed_refusal {B = B} ended full) g (load.Refused k z) new
+      → new ≡ moved_at s tick (plain (LoadRefused r k (s.need 0) z)) old
   refused-by true full g k z e f c = cc
   refused-by false true g k z e f c = cc
   refused-by false false pool.Refused k z e f c = c.2
@@ -103,7 +108,8 @@ module _ {F B : Type 0} (parts : F → Option Parts) (bytes_of : B → ℕ) (s :
   pub load-same : (a : load_answer B) → feeder.is_still a ≡ true → LoadGives parts bytes_of s old r tick a new → new ≡ old
   load-same a still c = load-still parts bytes_of s old new r tick (load_refusal s r (past old)) (grant s (past old) (s.need 0)) a still c
 
-  pub load-legal : s.pooled ≡ true → r ≡ last_role s → is_history s (past old) ≡ true → (a : load_answer B) → LoadGives parts bytes_of s old r tick a new → is_history s (past new) ≡ true
+  pub load-legal : s.pooled ≡ true → r ≡ last_role s → is_history s (past old) ≡ true → (a : load_answer B)
+      → LoadGives parts bytes_of s old r tick a new → is_history s (past new) ≡ true
   load-legal pooled is h a c = load-by parts bytes_of s old new r tick _ _ a pooled h (omega (arith, is)) refl refl c
 
   pub loaded-moves : r ≡ last_role s → (k : ℕ) (blank : B) → LoadGives parts bytes_of s old r tick (load.Loaded k blank) new → DrainMoves s tick old new
@@ -131,11 +137,13 @@ module _ {F B : Type 0} (parts : F → Option Parts) (bytes_of : B → ℕ) (s :
       }
 
   -- once the feed has ended there is but one answer
-  ended-by : (ended full : Bool) (g : Answer) (a : load_answer B) → ended ≡ true → LoadAnswers parts bytes_of s old r tick (fed_refusal {B = B} ended full) g a new → a ≡ load.Ended
+  ended-by : (ended full : Bool) (g : Answer) (a : load_answer B) → ended ≡ true
+      → LoadAnswers parts bytes_of s old r tick (fed_refusal {B = B} ended full) g a new → a ≡ load.Ended
   ended-by true full g a e c = c.0
   ended-by false full g a e c = cc
 
-  pub fed-ends : r ≡ last_role s → hands (past old) ≡ [] → IsFed s (past old) → (a : load_answer B) → LoadGives parts bytes_of s old r tick a new → a ≡ load.Ended
+  pub fed-ends : r ≡ last_role s → hands (past old) ≡ [] → IsFed s (past old) → (a : load_answer B)
+      → LoadGives parts bytes_of s old r tick a new → a ≡ load.Ended
   fed-ends is idle fed a c =
       let most : length s.ids ≤ next_index (past old) = omega (arith, fed.offered) in
       ended-by _ _ _ a (le-leb (length s.ids) (next_index (past old)) most) (answers-so is idle a c)
@@ -155,19 +163,24 @@ module _ (s : Setting) (old : BoardState) (r k size : ℕ) (is : r ≡ last_role
   pub held-frame : hand r (past old) ≡ Some l.hand
   held-frame = hand-one r l.hand (past old) l.holds.only up
 
-  pub issue-taken : {F : Type 0} (E : Type 0) (name_of : F → FrameName) (f : F) (new : BoardState) (e : NotYours F) → name_of f ≡ frame 0 k → IssueGives {E = E} name_of s old r f (Err e) new → ⊥
+  pub issue-taken : {F : Type 0} (E : Type 0) (name_of : F → FrameName) (f : F) (new : BoardState) (e : NotYours F) → name_of f ≡ frame 0 k
+      → IssueGives {E = E} name_of s old r f (Err e) new → ⊥
   issue-taken E name_of f new e name c =
-      false≢true (sym c.0 ∙ (ap (λ (o : Option Entry). is_load_of (name_of f) o) held-frame ∙ (ap (λ (a : FrameName). is_load_of a (Some l.hand)) name ∙ l.loaded)))
+      false≢true (sym c.0
+      ∙ (ap (λ (o : Option Entry). is_load_of (name_of f) o) held-frame ∙ (ap (λ (a : FrameName). is_load_of a (Some l.hand)) name ∙ l.loaded)))
 
-  pub issue-idle : {F E : Type 0} (name_of : F → FrameName) (f : F) (new : BoardState) (done : E) → IssueGives {E = E} name_of s old r f (Ok done) new → IsIdle s new
+  pub issue-idle : {F E : Type 0} (name_of : F → FrameName) (f : F) (new : BoardState) (done : E)
+      → IssueGives {E = E} name_of s old r f (Ok done) new → IsIdle s new
   issue-idle {F} {E} name_of f new done c =
       record {
         legal = issue-by {E = E} name_of s old new r f (Ok done) l.holds.legal c;
         free = hands-moved s 0 r (plain (Issue r (name_of f).index)) old new refl c.1 ∙ let-one r l.hand (hands (past old)) l.holds.only up;
       }
 
-  pub issue-moves : {F E : Type 0} (name_of : F → FrameName) (f : F) (new : BoardState) (done : E) (tick : ℕ) → IssueGives {E = E} name_of s old r f (Ok done) new → DrainMoves s tick old new
-  issue-moves name_of f new done tick c = one-of s tick 0 (plain (Issue r (name_of f).index)) old new (eq-eqb r (last_role s) is) (λ e. absurd (false≢true e)) c.1
+  pub issue-moves : {F E : Type 0} (name_of : F → FrameName) (f : F) (new : BoardState) (done : E) (tick : ℕ)
+      → IssueGives {E = E} name_of s old r f (Ok done) new → DrainMoves s tick old new
+  issue-moves name_of f new done tick c =
+      one-of s tick 0 (plain (Issue r (name_of f).index)) old new (eq-eqb r (last_role s) is) (λ e. absurd (false≢true e)) c.1
 
 -- CLOSE
 
@@ -201,7 +214,8 @@ close-still s r old new settled.NotYet closed c = c.1
 close-still s r old new settled.Done closed c = c.1 ∙ rw closed refl
 
 -- once every frame was offered, a close that changes nothing was made before
-pub close-fed : (s : Setting) (r : ℕ) (old new : BoardState) (a : Settled) → IsIdle s old → length s.ids ≤ next_index (past old) → CloseGives s old r a new → new ≡ old → IsFed s (past old)
+pub close-fed : (s : Setting) (r : ℕ) (old new : BoardState) (a : Settled) → IsIdle s old → length s.ids ≤ next_index (past old)
+    → CloseGives s old r a new → new ≡ old → IsFed s (past old)
 close-fed s r old new settled.NotYet idle all c same_ =
     let most = next-most s (past old) (and_parts (is_legal s (past old)) _ idle.legal).0 in
     let whole : next_index (past old) ≡ length s.ids = omega (arith, most, all) in
@@ -215,7 +229,8 @@ close-fed s r old new settled.Done idle all c same_ =
     ]
 
 -- a frame on the storage that was granted may be issued
-pub whole-frame : (s : Setting) (old : BoardState) (r k size : ℕ) → r ≡ last_role s → HasFrame s k size old → (f : Sealed) → (f.parts.size ≡ size) × (f.parts.here ≡ 2 ^ 32)
+pub whole-frame : (s : Setting) (old : BoardState) (r k size : ℕ) → r ≡ last_role s → HasFrame s k size old → (f : Sealed)
+    → (f.parts.size ≡ size) × (f.parts.here ≡ 2 ^ 32)
     → MayIssue name_of parts_of old r f
 whole-frame s old r k size is l f parts_ = λ loaded.
     issue-whole (granted_size (hand r (past old))) size f (ap (λ (o : Option Entry). granted_size o) (held-frame s old r k size is l) ∙ l.granted) parts_
@@ -225,40 +240,52 @@ whole-frame s old r k size is l f parts_ = λ loaded.
 pub same-idle : (s : Setting) (old new : BoardState) → new ≡ old → IsIdle s old → IsIdle s new
 same-idle s old new is idle = subst (λ (b : BoardState). IsIdle s b) (sym is) idle
 
-module _ {F B : Type 0} (parts : F → Option Parts) (bytes_of : B → ℕ) (s : Setting) (old mid : BoardState) (r tick : ℕ) (is : r ≡ last_role s) (idle : IsIdle s old) where
+module _ {F B : Type 0} (parts : F → Option Parts)
+    (bytes_of : B → ℕ) (s : Setting) (old mid : BoardState) (r tick : ℕ) (is : r ≡ last_role s) (idle : IsIdle s old) where
   -- a loaded frame
-  pub loaded-on : (k : ℕ) (blank : B) (new : BoardState) → LoadGives parts bytes_of s old r tick (load.Loaded k blank) mid → DrainMoves s tick mid new → DrainMoves s tick old new
+  pub loaded-on : (k : ℕ) (blank : B) (new : BoardState) → LoadGives parts bytes_of s old r tick (load.Loaded k blank) mid
+      → DrainMoves s tick mid new → DrainMoves s tick old new
   loaded-on k blank new c m = moves-on s tick old mid new (loaded-moves parts bytes_of s old mid r tick is k blank c) m
 
-  pub loaded-other : (k : ℕ) (blank : B) (new : BoardState) → LoadGives parts bytes_of s old r tick (load.Loaded k blank) mid → DrainMoves s tick mid new → new ≡ old → ⊥
+  pub loaded-other : (k : ℕ) (blank : B) (new : BoardState) → LoadGives parts bytes_of s old r tick (load.Loaded k blank) mid
+      → DrainMoves s tick mid new → new ≡ old → ⊥
   loaded-other k blank new c m same_ =
       let l = load-loaded parts bytes_of s old mid r tick k blank (load_refusal s r (past old)) (grant s (past old) (s.need 0)) refl c in
-      other-board s tick (plain (Load r k l.b l.n l.f l.g l.x)) old mid old refl l.move (squeezed s tick old mid new (loaded-moves parts bytes_of s old mid r tick is k blank c) m same_)
+      other-board s tick (plain (Load r k l.b l.n l.f l.g l.x)) old mid old refl l.move
+      (squeezed s tick old mid new (loaded-moves parts bytes_of s old mid r tick is k blank c) m same_)
 
   pub loaded-unfed : (k : ℕ) (blank : B) → LoadGives parts bytes_of s old r tick (load.Loaded k blank) mid → IsFed s (past old) → ⊥
-  loaded-unfed k blank c fed = let a : load.Loaded k blank ≡ load.Ended = fed-ends parts bytes_of s old mid r tick is idle.free fed (load.Loaded k blank) c in absurd (cc)
+  loaded-unfed k blank c fed =
+      let a : load.Loaded k blank ≡ load.Ended = fed-ends parts bytes_of s old mid r tick is idle.free fed (load.Loaded k blank) c in absurd (cc)
 
   -- a frame that the pool refused
   pub refused-idle : s.pooled ≡ true → (k z : ℕ) → LoadGives parts bytes_of s old r tick (load.Refused k z) mid → IsIdle s mid
   refused-idle pooled k z c =
       record {
         legal = load-legal parts bytes_of s old mid r tick pooled is idle.legal (load.Refused k z) c;
-        free = hands-moved s tick r (plain (LoadRefused r k (s.need 0) z)) old mid refl (refused-moves parts bytes_of s old mid r tick is idle.free k z c) ∙ idle.free;
+        free =
+            hands-moved s tick r (plain (LoadRefused r k (s.need 0) z)) old mid refl (refused-moves parts bytes_of s old mid r tick is idle.free k z c)
+            ∙ idle.free;
       }
 
   pub refused-on : (k z : ℕ) → LoadGives parts bytes_of s old r tick (load.Refused k z) mid → DrainMoves s tick old mid
   refused-on k z c =
-      one-of s tick tick (plain (LoadRefused r k (s.need 0) z)) old mid (eq-eqb r (last_role s) is) (λ e. refl) (refused-moves parts bytes_of s old mid r tick is idle.free k z c)
+      one-of s tick tick (plain (LoadRefused r k (s.need 0) z)) old mid (eq-eqb r (last_role s) is)
+      (λ e. refl) (refused-moves parts bytes_of s old mid r tick is idle.free k z c)
 
   pub refused-other : (k z : ℕ) → LoadGives parts bytes_of s old r tick (load.Refused k z) mid → mid ≡ old → ⊥
-  refused-other k z c = other-board s tick (plain (LoadRefused r k (s.need 0) z)) old mid old refl (refused-moves parts bytes_of s old mid r tick is idle.free k z c)
+  refused-other k z c =
+      other-board s tick (plain (LoadRefused r k (s.need 0) z)) old mid old refl (refused-moves parts bytes_of s old mid r tick is idle.free k z c)
 
   pub refused-unfed : (k z : ℕ) → LoadGives parts bytes_of s old r tick (load.Refused k z) mid → IsFed s (past old) → ⊥
-  refused-unfed k z c fed = let a : load.Refused k z ≡ load.Ended = fed-ends parts bytes_of s old mid r tick is idle.free fed (load.Refused k z) c in absurd (cc)
+  refused-unfed k z c fed =
+      let a : load.Refused k z ≡ load.Ended = fed-ends parts bytes_of s old mid r tick is idle.free fed (load.Refused k z) c in absurd (cc)
 
   -- a feed that waits
   pub waits-by : LoadGives parts bytes_of s old r tick load.NotYet mid → Waits s (past old)
-  waits-by c = not-true _ (and_parts s.wait (not (list_all (has_room s (past old)) (children s 0))) (tells parts bytes_of s old mid r tick is idle.free load.NotYet c).1).1
+  waits-by c =
+      not-true _
+      (and_parts s.wait (not (list_all (has_room s (past old)) (children s 0))) (tells parts bytes_of s old mid r tick is idle.free load.NotYet c).1).1
 
   -- the end of the feed
   ended-same : LoadGives parts bytes_of s old r tick load.Ended mid → mid ≡ old
@@ -270,14 +297,17 @@ module _ {F B : Type 0} (parts : F → Option Parts) (bytes_of : B → ℕ) (s :
   pub ended-on : (new : BoardState) (a : Settled) → LoadGives parts bytes_of s old r tick load.Ended mid → CloseGives s mid r a new → DrainMoves s tick old new
   ended-on new a c d = moves-on s tick old mid new (no-move s tick old mid (ended-same c)) (close-moves s r tick mid new a is d)
 
-  pub ended-fed : (new : BoardState) (a : Settled) → LoadGives parts bytes_of s old r tick load.Ended mid → CloseGives s mid r a new → new ≡ old → IsFed s (past old)
+  pub ended-fed : (new : BoardState) (a : Settled) → LoadGives parts bytes_of s old r tick load.Ended mid
+      → CloseGives s mid r a new → new ≡ old → IsFed s (past old)
   ended-fed new a c d same_ =
       let here : mid ≡ old = ended-same c in
-      let all : length s.ids ≤ next_index (past old) = leb-true (length s.ids) (next_index (past old)) (tells parts bytes_of s old mid r tick is idle.free load.Ended c) in
+      let all : length s.ids ≤ next_index (past old) =
+      leb-true (length s.ids) (next_index (past old)) (tells parts bytes_of s old mid r tick is idle.free load.Ended c) in
       let all_mid : length s.ids ≤ next_index (past mid) = subst (λ (b : BoardState). length s.ids ≤ next_index (past b)) (sym here) all in
       subst (λ (b : BoardState). IsFed s (past b)) here (close-fed s r mid new a (same-idle s old mid here idle) all_mid d (same_ ∙ sym here))
 
-  pub ended-still : (new : BoardState) (a : Settled) → LoadGives parts bytes_of s old r tick load.Ended mid → CloseGives s mid r a new → IsFed s (past old) → new ≡ old
+  pub ended-still : (new : BoardState) (a : Settled) → LoadGives parts bytes_of s old r tick load.Ended mid
+      → CloseGives s mid r a new → IsFed s (past old) → new ≡ old
   ended-still new a c d fed =
       let here : mid ≡ old = ended-same c in
       close-still s r mid new a (subst (λ (b : BoardState). is_closed (past b) ≡ true) (sym here) fed.closed) d ∙ here

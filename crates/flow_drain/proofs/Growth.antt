@@ -65,7 +65,8 @@ begins-on a b c p q = (q.0 ++ p.0, q.1 ∙ (ap (λ (x : BoardState). q.0 ++ x) p
 pub no-move : (s : Setting) (tick : ℕ) (old new : BoardState) → new ≡ old → DrainMoves s tick old new
 no-move s tick old new is = DrainMoves.none new is
 
-pub one-of : (s : Setting) (tick at : ℕ) (t : Told) (old new : BoardState) → is_drains s t.entry ≡ true → (is_load t.entry ≡ true → at ≡ tick) → new ≡ moved_at s at t old
+pub one-of : (s : Setting) (tick at : ℕ) (t : Told) (old new : BoardState) → is_drains s t.entry ≡ true
+    → (is_load t.entry ≡ true → at ≡ tick) → new ≡ moved_at s at t old
     → DrainMoves s tick old new
 one-of s tick at t old new d l is = DrainMoves.more old new t at (DrainMoves.none old refl) d l is
 
@@ -93,7 +94,8 @@ hands-after [] b g = refl
 hands-after (u ∷ more) b g = job_laws.others u.entry (past (more ++ b)) (still-hands u.entry g.0) ∙ hands-after more b g.1
 
 -- the hands after a move are those after its first entry
-pub hands-moved : (s : Setting) (at r : ℕ) (t : Told) (b new : BoardState) → begins t.entry ≡ Some r → new ≡ moved_at s at t b → hands (past new) ≡ hands (t.entry ∷ past b)
+pub hands-moved : (s : Setting) (at r : ℕ) (t : Told) (b new : BoardState) → begins t.entry ≡ Some r → new ≡ moved_at s at t b
+    → hands (past new) ≡ hands (t.entry ∷ past b)
 hands-moved s at r t b new first is =
     let f = followers s at t b in
     ap (λ (x : BoardState). hands (past x)) (is ∙ f.whole) ∙ hands-after f.more (t ∷ b) (from-move r f.more t (one-move r f.more t f.go first))

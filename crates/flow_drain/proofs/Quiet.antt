@@ -76,7 +76,8 @@ source-rule : (nodes : List NodeRule) (v : ℕ) → eqb v 0 ≡ false → is_sou
 source-rule nodes zero ne h = absurd (true≢false ne)
 source-rule nodes (suc k) ne h = some-of (slice_get nodes k) h
 
-input-node : (g : Graph) (stack : StackValue) (v : ℕ) (n : NodeRule) → IsGraph g → rule_at g.nodes v ≡ Some n → eqb n.input 0 ≡ false → is_node (run_setting g stack) n.input ≡ true
+input-node : (g : Graph) (stack : StackValue) (v : ℕ) (n : NodeRule) → IsGraph g → rule_at g.nodes v ≡ Some n → eqb n.input 0 ≡ false
+    → is_node (run_setting g stack) n.input ≡ true
 input-node g stack v n sound rule ne =
     let r = source-rule g.nodes n.input ne (input-source g sound v n rule) in
     number-is g (makers_of g.nodes stack.shape) stack.arrays n.input r.0 r.1
@@ -84,13 +85,15 @@ input-node g stack v n sound rule ne =
 -- ALL NODES ARE SETTLED
 
 -- on the way from the driver down, each node's input has ended, and so the node is settled
-all-ended : (g : Graph) (stack : StackValue) (P : Past) → IsGraph g → is_closed P ≡ true → ((v : ℕ) → is_node (run_setting g stack) v ≡ true → IsQuiet (run_setting g stack) P v)
+all-ended : (g : Graph) (stack : StackValue) (P : Past) → IsGraph g → is_closed P ≡ true
+    → ((v : ℕ) → is_node (run_setting g stack) v ≡ true → IsQuiet (run_setting g stack) P v)
     → (steps v : ℕ) → depth g.nodes (length g.nodes) v < steps → is_node (run_setting g stack) v ≡ true → is_settled v P ≡ true
 all-ended g stack P sound closed quiet zero v low here = absurd (omega (arith, low))
 all-ended g stack P sound closed quiet (suc steps) v low here =
     let n = node-rule g stack v here in
     let st = stands g v n.0 sound (sym n.1) in
-    let input_ : (node (run_setting g stack) v).input ≡ n.0.input = ap (λ (x : Node). x.input) (node-is g (makers_of g.nodes stack.shape) stack.arrays v n.0 n.1) in
+    let input_ : (node (run_setting g stack) v).input ≡ n.0.input =
+    ap (λ (x : Node). x.input) (node-is g (makers_of g.nodes stack.shape) stack.arrays v n.0 n.1) in
     let ended : has_ended n.0.input P ≡ true = elim (cases_Bool (eqb n.0.input 0)) [
       | inl driver ↦ rw driver closed
       | inr other ↦ rw other (all-ended g stack P sound closed quiet steps n.0.input (omega (arith, low, st.nearer)) (input-node g stack v n.0 sound n.1 other))
@@ -129,7 +132,8 @@ drained-by s P legal free closed offered settled =
 
 -- a round in which the feed and no node made a move
 pub quiet-drained : (g : Graph) (stack : StackValue) (b : BoardState) → IsGraph g → IsIdle (run_setting g stack) b
-    → IsFed (run_setting g stack) (past b) ⊎ Waits (run_setting g stack) (past b) → ((v : ℕ) → is_node (run_setting g stack) v ≡ true → IsQuiet (run_setting g stack) (past b) v)
+    → IsFed (run_setting g stack) (past b) ⊎ Waits (run_setting g stack) (past b)
+    → ((v : ℕ) → is_node (run_setting g stack) v ≡ true → IsQuiet (run_setting g stack) (past b) v)
     → IsDrained (run_setting g stack) (past b)
 quiet-drained g stack b sound idle (inl fed) quiet =
     drained-by (run_setting g stack) (past b) idle.legal idle.free fed.closed fed.offered
@@ -164,7 +168,8 @@ pub record Drains (s : Setting) (tick : ℕ) (start now : BoardState) : Type 0 w
 pub drains-first : (s : Setting) (tick : ℕ) (start now : BoardState) → now ≡ start → IsIdle s now → Drains s tick start now
 drains-first s tick start now is idle = record { idle = idle; moves = no-move s tick start now is; still = λ d. is }
 
-module _ (s : Setting) (tick : ℕ) (start now fed : BoardState) (d : Drains s tick start now) (m : DrainMoves s tick now fed) (still : IsFed s (past now) → fed ≡ now) where
+module _ (s : Setting) (tick : ℕ) (start now fed : BoardState) (d : Drains s tick start now) (m : DrainMoves s tick now fed)
+    (still : IsFed s (past now) → fed ≡ now) where
   pub fed-moves : DrainMoves s tick start fed
   fed-moves = moves-on s tick start now fed d.moves m
 
@@ -173,7 +178,8 @@ module _ (s : Setting) (tick : ℕ) (start now fed : BoardState) (d : Drains s t
       let same_ = d.still drained in
       still (subst (λ (b : BoardState). IsFed s (past b)) (sym same_) (fed-of s (past start) drained)) ∙ same_
 
-  module _ (new : BoardState) (n : (tick : ℕ) → DrainMoves s tick fed new) (rest : ((v : ℕ) → is_node s v ≡ true → is_settled v (past fed) ≡ true) → new ≡ fed) where
+  module _ (new : BoardState) (n : (tick : ℕ) → DrainMoves s tick fed new)
+      (rest : ((v : ℕ) → is_node s v ≡ true → is_settled v (past fed) ≡ true) → new ≡ fed) where
     pub round-moves : DrainMoves s tick start new
     round-moves = moves-on s tick start fed new fed-moves (n tick)
 
@@ -208,7 +214,8 @@ round-drained g stack now fed new sound idle mid back feed quiet =
     (λ v here. subst (λ (b : BoardState). IsQuiet (run_setting g stack) (past b) v) mid (quiet back v here)))
 
 -- where nothing was left at the start, nothing was taken back either
-pub still-from : {F B O : Type 0} (name_of : F → FrameName) (s : Setting) (ends : List (Left F B O)) (start : BoardState) → IsDrained s (past start) → (new : BoardState)
+pub still-from : {F B O : Type 0} (name_of : F → FrameName) (s : Setting) (ends : List (Left F B O)) (start : BoardState)
+    → IsDrained s (past start) → (new : BoardState)
     → (IsDrained s (past (taken_back name_of s 0 ends start)) → new ≡ taken_back name_of s 0 ends start) → new ≡ start
 still-from name_of s ends start drained new still =
     let same_ = taken-none name_of s 0 ends start drained.free in

@@ -49,14 +49,16 @@ module _ (s : Setting) (v : ℕ) (start now : BoardState) (w : WorksOff s v star
   pub off-still : (next : BoardState) → (queued v (past now) ≡ [] → next ≡ now) → queued v (past start) ≡ [] → next ≡ start
   off-still next still none = let same_ = w.still none in still (ap (λ (b : BoardState). queued v (past b)) same_ ∙ none) ∙ same_
 
-  pub off-on : (next : BoardState) → IsIdle s next → ((tick : ℕ) → DrainMoves s tick now next) → (queued v (past now) ≡ [] → next ≡ now) → WorksOff s v start next
+  pub off-on : (next : BoardState) → IsIdle s next → ((tick : ℕ) → DrainMoves s tick now next)
+      → (queued v (past now) ≡ [] → next ≡ now) → WorksOff s v start next
   off-on next idle m still = record { idle = idle; moves = off-moves next m; still = off-still next still }
 
 pub off-first : (s : Setting) (v : ℕ) (start : BoardState) → IsIdle s start → WorksOff s v start start
 off-first s v start idle = record { idle = idle; moves = λ tick. no-move s tick start start refl; still = λ none. refl }
 
 -- the last of the queue was taken, and then the node was tried to be settled
-module _ (s : Setting) (v r : ℕ) (start mid new : BoardState) (a : Settled) (first : IsIdle s start) (w : WorksOff s v start mid) (is : r ≡ last_role s) (none : queued v (past mid) ≡ []) (c : SettleGives s mid r v a new) where
+module _ (s : Setting) (v r : ℕ) (start mid new : BoardState) (a : Settled) (first : IsIdle s start) (w : WorksOff s v start mid) (is : r ≡ last_role s)
+    (none : queued v (past mid) ≡ []) (c : SettleGives s mid r v a new) where
   pub node-moves : (tick : ℕ) → DrainMoves s tick start new
   node-moves tick = moves-on s tick start mid new (w.moves tick) (settle-moves s r v tick mid new a is c)
 
@@ -85,7 +87,8 @@ module _ (s : Setting) (v : ℕ) (start now next : BoardState) (w : WorksBelow s
   pub below-moves : (tick : ℕ) → DrainMoves s tick start next
   below-moves tick = moves-on s tick start now next (w.moves tick) (m tick)
 
-  pub below-still : is_node s v ≡ true → (is_settled v (past now) ≡ true → next ≡ now) → ((u : ℕ) → is_node s u ≡ true → is_settled u (past start) ≡ true) → next ≡ start
+  pub below-still : is_node s v ≡ true → (is_settled v (past now) ≡ true → next ≡ now)
+      → ((u : ℕ) → is_node s u ≡ true → is_settled u (past start) ≡ true) → next ≡ start
   below-still here still all = let same_ = w.still all in still (ap (λ (b : BoardState). is_settled v (past b)) same_ ∙ all v here) ∙ same_
 
   quiet-here : (next ≡ now → IsQuiet s (past now) v) → next ≡ start → (u : ℕ) → 0 < u → u < v + 1 → IsQuiet s (past start) u
@@ -93,13 +96,15 @@ module _ (s : Setting) (v : ℕ) (start now next : BoardState) (w : WorksBelow s
       let same_ : now ≡ start = squeezed s 0 start now next (w.moves 0) (m 0) back in
       elim (cases_Bool (eqb u v)) [
         | inl here ↦
-            subst (λ (x : ℕ). IsQuiet s (past start) x) (sym (eqb-true u v here)) (subst (λ (b : BoardState). IsQuiet s (past b) v) same_ (quiet (back ∙ sym same_)))
+            subst (λ (x : ℕ). IsQuiet s (past start) x) (sym (eqb-true u v here))
+            (subst (λ (b : BoardState). IsQuiet s (past b) v) same_ (quiet (back ∙ sym same_)))
         | inr other ↦
             let ne : u ≢ v = λ e. true≢false (sym (eq-eqb u v e) ∙ other) in
             w.quiet same_ u low (omega (arith, high, ne))
       ]
 
-  pub below-on : IsIdle s next → is_node s v ≡ true → (next ≡ now → IsQuiet s (past now) v) → (is_settled v (past now) ≡ true → next ≡ now) → WorksBelow s (v + 1) start next
+  pub below-on : IsIdle s next → is_node s v ≡ true → (next ≡ now → IsQuiet s (past now) v)
+      → (is_settled v (past now) ≡ true → next ≡ now) → WorksBelow s (v + 1) start next
   below-on idle here quiet still = record { idle = idle; moves = below-moves; quiet = quiet-here quiet; still = below-still here still }
 
 pub node-above : (s : Setting) (v : ℕ) → is_node s v ≡ true → (0 < v) × (v ≤ length s.nodes)
@@ -109,7 +114,8 @@ pub off-empty : (s : Setting) (v : ℕ) (start : BoardState) → IsIdle s start 
 off-empty s v start idle done = queue-empty s (past start) v (and_parts (is_legal s (past start)) _ idle.legal).0 done
 
 -- a number up to that of the nodes is a node
-pub counted-node : (g : Graph) (stack : StackValue) (p : Plan) (nodes : List NodeRule) (v : ℕ) → p ≡ plan_of g stack → nodes ≡ p.graph.nodes → 1 ≤ v → v < length nodes + 1
+pub counted-node : (g : Graph) (stack : StackValue) (p : Plan) (nodes : List NodeRule) (v : ℕ) → p ≡ plan_of g stack
+    → nodes ≡ p.graph.nodes → 1 ≤ v → v < length nodes + 1
     → is_node (run_setting g stack) v ≡ true
 counted-node g stack p nodes v planned is low high =
     let all : length nodes ≡ length g.nodes = ap (λ (ns : List NodeRule). length ns) (is ∙ ap (λ (q : Plan). q.graph.nodes) planned) in

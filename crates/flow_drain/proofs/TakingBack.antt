@@ -59,7 +59,8 @@ refused-by s r o before = cond (is_none o) (Some NoHand) (cond (before || eqb r 
 
 module _ {F B O : Type 0} (name_of : F → FrameName) (parts : F → Option Parts) (bytes_of : B → ℕ) (s : Setting) (start now : BoardState) (role : ℕ) where
   -- what may be taken back at the start may be taken back now
-  pub may-take-back : (left : Left F B O) → HasTaken s role start now → was_reclaimed role (past start) ≡ false → MayReclaim name_of parts bytes_of s start role left
+  pub may-take-back : (left : Left F B O) → HasTaken s role start now → was_reclaimed role (past start) ≡ false
+      → MayReclaim name_of parts bytes_of s start role left
       → MayReclaim name_of parts bytes_of s now role left
   may-take-back left t once may =
       let same_hand = t.keeps role (omega arith) in
@@ -83,7 +84,8 @@ none-by None h = refl
 none-by (Some e) h = absurd (false≢true h)
 
 -- this role has no hand, and those below it have none
-gone-by : (s : Setting) (role r : ℕ) (start now : BoardState) → r < role + 1 → hand role (past now) ≡ None → HasTaken s role start now → hand r (past now) ≡ None
+gone-by : (s : Setting) (role r : ℕ) (start now : BoardState) → r < role + 1 → hand role (past now) ≡ None
+    → HasTaken s role start now → hand r (past now) ≡ None
 gone-by s role r start now below none t =
     elim (cases_Bool (eqb r role)) [
       | inl here ↦ subst (λ (q : ℕ). hand q (past now) ≡ None) (sym (eqb-true r role here)) none
@@ -94,7 +96,8 @@ gone-by s role r start now below none t =
 
 module _ {F B O E : Type 0} (name_of : F → FrameName) (s : Setting) (now next : BoardState) (role : ℕ) (left : Left F B O) where
   -- a reclaim takes back the hand, where there is one
-  pub reclaim-takes : (a : Result E (NoReclaim F B O)) → role < last_role s → was_reclaimed role (past now) ≡ false → ReclaimGives {E = E} name_of s now role left a next
+  pub reclaim-takes : (a : Result E (NoReclaim F B O)) → role < last_role s → was_reclaimed role (past now) ≡ false
+      → ReclaimGives {E = E} name_of s now role left a next
       → next ≡ taken name_of s role left now
   reclaim-takes (Ok x) low once c =
       elim (cases_Bool (is_free role (past now))) [
@@ -110,7 +113,8 @@ module _ {F B O E : Type 0} (name_of : F → FrameName) (s : Setting) (now next 
             absurd (cc)
       ]
 
-  pub takes-on : (start : BoardState) (a : Result E (NoReclaim F B O)) → role < last_role s → HasTaken s role start now → ReclaimGives {E = E} name_of s now role left a next
+  pub takes-on : (start : BoardState) (a : Result E (NoReclaim F B O)) → role < last_role s → HasTaken s role start now
+      → ReclaimGives {E = E} name_of s now role left a next
       → HasTaken s (role + 1) start next
   takes-on start a low t c =
       let legal_ : is_history s (past next) ≡ true = reclaim-by {E = E} name_of s now next role left a t.legal c in
@@ -127,7 +131,8 @@ module _ {F B O E : Type 0} (name_of : F → FrameName) (s : Setting) (now next 
             }
         | inr held ↦
             let move : next ≡ loses role (lost_of name_of (past now) (hand role (past now)) left) ∷ now = takes ∙ rw held refl in
-            let legal_now : is_legal s (Reclaim role ∷ past now) ≡ true = (and_parts (is_legal s (Reclaim role ∷ past now)) _ (subst (λ (b : BoardState). is_history s (past b) ≡ true) move legal_)).0 in
+            let legal_now : is_legal s (Reclaim role ∷ past now) ≡ true =
+            (and_parts (is_legal s (Reclaim role ∷ past now)) _ (subst (λ (b : BoardState). is_history s (past b) ≡ true) move legal_)).0 in
             let other : (r : ℕ) → r ≢ role → hand r (past next) ≡ hand r (past now) =
             λ r ne. ap (λ (b : BoardState). hand r (past b)) move ∙ hand_laws.others r (Reclaim role) (past now) refl (ne_eqb role r (λ is. ne (sym is))) in
             record {
@@ -149,7 +154,8 @@ module _ {F B O E : Type 0} (name_of : F → FrameName) (s : Setting) (now next 
 
 -- ALL ROLES
 
-pub taken-first : (s : Setting) (start : BoardState) → is_history s (past start) ≡ true → ((r : ℕ) → was_reclaimed r (past start) ≡ false) → HasTaken s 0 start start
+pub taken-first : (s : Setting) (start : BoardState) → is_history s (past start) ≡ true
+    → ((r : ℕ) → was_reclaimed r (past start) ≡ false) → HasTaken s 0 start start
 taken-first s start legal once =
     record { legal = legal; keeps = λ r high. refl; lent = λ r high. refl; once = λ r high. once r; gone = λ r below. absurd (omega (arith, below)) }
 
@@ -157,7 +163,8 @@ none-above : (s : Setting) (P : Past) (r : ℕ) (o : Option Entry) → hand r P 
 none-above s P r None is h high = refl
 none-above s P r (Some e) is h high = absurd (omega (arith, role-of-hand s P r e h is, high))
 
-nobody : (s : Setting) (start now : BoardState) → HasTaken s (last_role s) start now → is_free (last_role s) (past start) ≡ true → (r : ℕ) → hand r (past now) ≡ None
+nobody : (s : Setting) (start now : BoardState) → HasTaken s (last_role s) start now → is_free (last_role s) (past start) ≡ true
+    → (r : ℕ) → hand r (past now) ≡ None
 nobody s start now t free r =
     elim (cases_Bool (ltb r (last_role s))) [
       | inl below ↦ t.gone r (ltb-true r (last_role s) below)
@@ -167,7 +174,8 @@ nobody s start now t free r =
             (t.keeps (last_role s) (omega arith) ∙ none-by (hand (last_role s) (past start)) free)
         | inr other ↦
             let ne : r ≢ last_role s = λ is. true≢false (sym (eq-eqb r (last_role s) is) ∙ other) in
-            none-above s (past now) r (hand r (past now)) refl (and_parts (is_legal s (past now)) _ t.legal).0 (omega (arith, ltb-false r (last_role s) above, ne))
+            none-above s (past now) r (hand r (past now)) refl (and_parts (is_legal s (past now)) _ t.legal).0
+            (omega (arith, ltb-false r (last_role s) above, ne))
       ]
     ]
 
@@ -178,16 +186,19 @@ taken-idle s start now t free =
     record { legal = t.legal; free = no-hands s (past now) legal_ (λ r. nobody s start now t free r) }
 
 -- the roles that are left, with what they left
-pub record HasLeft {F B O : Type 0} (name_of : F → FrameName) (parts : F → Option Parts) (bytes_of : B → ℕ) (s : Setting) (ends rest : List (Left F B O)) (role : ℕ)
+pub record HasLeft {F B O : Type 0} (name_of : F → FrameName) (parts : F → Option Parts)
+    (bytes_of : B → ℕ) (s : Setting) (ends rest : List (Left F B O)) (role : ℕ)
     (start now : BoardState) : Type 0 where
   pub taken : HasTaken s role start now
   pub many : role + length rest ≡ last_role s
   pub board : taken_back name_of s role rest now ≡ taken_back name_of s 0 ends start
   pub may : (k : ℕ) (left : Left F B O) → slice_get rest k ≡ Some left → MayReclaim name_of parts bytes_of s start (role + k) left
 
-module _ {F B O : Type 0} (name_of : F → FrameName) (parts : F → Option Parts) (bytes_of : B → ℕ) (s : Setting) (ends : List (Left F B O)) (start : BoardState) where
+module _ {F B O : Type 0} (name_of : F → FrameName) (parts : F → Option Parts)
+    (bytes_of : B → ℕ) (s : Setting) (ends : List (Left F B O)) (start : BoardState) where
   pub left-first : length ends ≡ last_role s → is_history s (past start) ≡ true → ((r : ℕ) → was_reclaimed r (past start) ≡ false)
-      → ((k : ℕ) (left : Left F B O) → slice_get ends k ≡ Some left → MayReclaim name_of parts bytes_of s start k left) → HasLeft name_of parts bytes_of s ends ends 0 start start
+      → ((k : ℕ) (left : Left F B O) → slice_get ends k ≡ Some left → MayReclaim name_of parts bytes_of s start k left)
+      → HasLeft name_of parts bytes_of s ends ends 0 start start
   left-first many legal once may =
       record {
         taken = taken-first s start legal once;
@@ -196,14 +207,16 @@ module _ {F B O : Type 0} (name_of : F → FrameName) (parts : F → Option Part
         may = λ k left at. subst (λ (r : ℕ). MayReclaim name_of parts bytes_of s start r left) (let e : k ≡ 0 + k = omega arith in e) (may k left at);
       }
 
-  module _ (rest more : List (Left F B O)) (role : ℕ) (now : BoardState) (left : Left F B O) (h : HasLeft name_of parts bytes_of s ends rest role start now) (is : rest ≡ left ∷ more) where
+  module _ (rest more : List (Left F B O)) (role : ℕ) (now : BoardState) (left : Left F B O)
+      (h : HasLeft name_of parts bytes_of s ends rest role start now) (is : rest ≡ left ∷ more) where
     pub left-low : role < last_role s
     left-low = omega (arith, h.many, ap (λ (xs : List (Left F B O)). length xs) is)
 
     pub left-may : ((r : ℕ) → was_reclaimed r (past start) ≡ false) → MayReclaim name_of parts bytes_of s now role left
     left-may once =
         let first_ : slice_get rest 0 ≡ Some left = ap (λ (xs : List (Left F B O)). slice_get xs 0) is in
-        let may_ : MayReclaim name_of parts bytes_of s start role left = subst (λ (r : ℕ). MayReclaim name_of parts bytes_of s start r left) (let e : role + 0 ≡ role = omega arith in e) (h.may 0 left first_) in
+        let may_ : MayReclaim name_of parts bytes_of s start role left =
+        subst (λ (r : ℕ). MayReclaim name_of parts bytes_of s start r left) (let e : role + 0 ≡ role = omega arith in e) (h.may 0 left first_) in
         may-take-back name_of parts bytes_of s start now role left h.taken (once role) may_
 
     pub left-on : {E : Type 0} (next : BoardState) (a : Result E (NoReclaim F B O)) → ReclaimGives {E = E} name_of s now role left a next
@@ -223,19 +236,22 @@ module _ {F B O : Type 0} (name_of : F → FrameName) (parts : F → Option Part
               (h.may (suc k) l (ap (λ (xs : List (Left F B O)). slice_get xs (suc k)) is ∙ at));
         }
 
-  pub left-all : (rest : List (Left F B O)) (role : ℕ) (now : BoardState) → HasLeft name_of parts bytes_of s ends rest role start now → rest ≡ [] → role ≡ last_role s
+  pub left-all : (rest : List (Left F B O)) (role : ℕ) (now : BoardState)
+      → HasLeft name_of parts bytes_of s ends rest role start now → rest ≡ [] → role ≡ last_role s
   left-all rest role now h none = omega (arith, h.many, ap (λ (xs : List (Left F B O)). length xs) none)
 
   pub left-board : (rest : List (Left F B O)) (role : ℕ) (now : BoardState) → HasLeft name_of parts bytes_of s ends rest role start now → rest ≡ []
       → now ≡ taken_back name_of s 0 ends start
   left-board rest role now h none = sym (ap (λ (xs : List (Left F B O)). taken_back name_of s role xs now) none) ∙ h.board
 
-  pub left-idle : (rest : List (Left F B O)) (role : ℕ) (now : BoardState) → HasLeft name_of parts bytes_of s ends rest role start now → rest ≡ [] → is_free (last_role s) (past start) ≡ true → IsIdle s now
+  pub left-idle : (rest : List (Left F B O)) (role : ℕ) (now : BoardState) → HasLeft name_of parts bytes_of s ends rest role start now → rest ≡ []
+      → is_free (last_role s) (past start) ≡ true → IsIdle s now
   left-idle rest role now h none free =
       taken-idle s start now (subst (λ (r : ℕ). HasTaken s r start now) (left-all rest role now h none) h.taken) free
 
 -- where nobody has a hand, nothing is taken back
-pub taken-none : {F B O : Type 0} (name_of : F → FrameName) (s : Setting) (r : ℕ) (ends : List (Left F B O)) (b : BoardState) → hands (past b) ≡ [] → taken_back name_of s r ends b ≡ b
+pub taken-none : {F B O : Type 0} (name_of : F → FrameName) (s : Setting) (r : ℕ) (ends : List (Left F B O)) (b : BoardState) → hands (past b) ≡ []
+    → taken_back name_of s r ends b ≡ b
 taken-none name_of s r [] b none = refl
 taken-none {F} {B} {O} name_of s r (left ∷ ends) b none =
     let same_ : taken name_of s r left b ≡ b = rw (free-of r (past b) none) refl in
@@ -248,8 +264,10 @@ taken-begins name_of s r left b =
       | inr held ↦ (loses r (lost_of name_of (past b) (hand r (past b)) left) ∷ [], rw held refl)
     ]
 
-pub back-begins : {F B O : Type 0} (name_of : F → FrameName) (s : Setting) (r : ℕ) (ends : List (Left F B O)) (b : BoardState) → BeginsWith (taken_back name_of s r ends b) b
+pub back-begins : {F B O : Type 0} (name_of : F → FrameName) (s : Setting) (r : ℕ) (ends : List (Left F B O)) (b : BoardState)
+    → BeginsWith (taken_back name_of s r ends b) b
 back-begins name_of s r [] b = ([], refl)
 back-begins {F} {B} {O} name_of s r (left ∷ ends) b =
-    begins-on b (taken name_of s r left b) (taken_back {F = F} {B = B} {O = O} name_of s (suc r) ends (taken name_of s r left b)) (taken-begins name_of s r left b)
+    begins-on b (taken name_of s r left b)
+    (taken_back {F = F} {B = B} {O = O} name_of s (suc r) ends (taken name_of s r left b)) (taken-begins name_of s r left b)
     (back-begins name_of s (suc r) ends (taken name_of s r left b))

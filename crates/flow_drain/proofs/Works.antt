@@ -61,20 +61,24 @@ pub node-sound : (g : Graph) (stack : StackValue) (v : ℕ) → IsGraph g → is
 node-sound g stack v sound here =
     let n = node-rule g stack v here in
     let r = (stands g v n.0 sound (sym n.1)).sound in
-    subst (λ (x : Node). IsSound x) (sym (node-is g (makers_of g.nodes stack.shape) stack.arrays v n.0 n.1)) (record { thread = r.threads.0; place = r.queue.0 })
+    subst (λ (x : Node). IsSound x) (sym (node-is g (makers_of g.nodes stack.shape) stack.arrays v n.0 n.1))
+    (record { thread = r.threads.0; place = r.queue.0 })
 
 no-jobs : (v : ℕ) (P : Past) → hands P ≡ [] → jobs v P ≡ 0
 no-jobs v P is = ap (λ (hs : Past). length (filter (is_job v) hs)) is
 
 -- TAKE
 
-module _ {F B : Type 0} (O : Type 0) (name_of_ : F → FrameName) (parts : F → Option Parts) (bytes_of : B → ℕ) (s : Setting) (old new : BoardState) (r v : ℕ) (is : r ≡ last_role s) (idle : IsIdle s old) where
+module _ {F B : Type 0} (O : Type 0) (name_of_ : F → FrameName) (parts : F → Option Parts)
+    (bytes_of : B → ℕ) (s : Setting) (old new : BoardState) (r v : ℕ) (is : r ≡ last_role s) (idle : IsIdle s old) where
   says : (a : take_answer F B O) → worker.is_told a ≡ true → TakeGives {F = F} {B = B} {O = O} name_of_ parts bytes_of s old r v a new
-      → Says a (is_sent_away s r (past old)) (not (is_free r (past old))) (is_settled v (past old)) (none_left (queued v (past old)) || leb (node s v).threads (jobs v (past old)))
+      → Says a (is_sent_away s r (past old)) (not (is_free r (past old))) (is_settled v (past old))
+      (none_left (queued v (past old)) || leb (node s v).threads (jobs v (past old)))
   says a told c = take-says {F = F} {B = B} {O = O} name_of_ parts bytes_of s old new r v (take_refusal s r v (past old)) (asked s v (past old)) a told refl c
 
   pub take-same : (a : take_answer F B O) → worker.is_still a ≡ true → TakeGives {F = F} {B = B} {O = O} name_of_ parts bytes_of s old r v a new → new ≡ old
-  take-same a still c = take-still {F = F} {B = B} {O = O} name_of_ parts bytes_of s old new r v (take_refusal s r v (past old)) (asked s v (past old)) a still c
+  take-same a still c =
+      take-still {F = F} {B = B} {O = O} name_of_ parts bytes_of s old new r v (take_refusal s r v (past old)) (asked s v (past old)) a still c
 
   pub take-left : TakeGives {F = F} {B = B} {O = O} name_of_ parts bytes_of s old r v take.Left new → ⊥
   take-left c = true≢false (sym (says take.Left refl c) ∙ never-away s r (past old) is)
@@ -85,13 +89,15 @@ module _ {F B : Type 0} (O : Type 0) (name_of_ : F → FrameName) (parts : F →
   pub take-ended : TakeGives {F = F} {B = B} {O = O} name_of_ parts bytes_of s old r v take.Ended new → queued v (past old) ≡ []
   take-ended c = queue-empty s (past old) v (and_parts (is_legal s (past old)) _ idle.legal).0 (says take.Ended refl c)
 
-  pub take-legal : s.pooled ≡ true → is_node s v ≡ true → (a : take_answer F B O) → TakeGives {F = F} {B = B} {O = O} name_of_ parts bytes_of s old r v a new → is_history s (past new) ≡ true
+  pub take-legal : s.pooled ≡ true → is_node s v ≡ true → (a : take_answer F B O)
+      → TakeGives {F = F} {B = B} {O = O} name_of_ parts bytes_of s old r v a new → is_history s (past new) ≡ true
   take-legal pooled here a c = take-by {F = F} {B = B} {O = O} name_of_ parts bytes_of s old new r v _ _ a pooled idle.legal (omega (arith, is)) refl refl c
 
   idle-by : (o : Option (take_answer F B O)) (g : Option Answer) → take_refusal {F = F} {B = B} {O = O} s r v (past old) ≡ o
       → TakeAnswers name_of_ parts bytes_of s old r v o g take.Idle new → (none_left (queued v (past old)) || leb (node s v).threads (jobs v (past old))) ≡ true
   idle-by (Some x) g told c =
-      said-by {F = F} {B = B} {O = O} take.Idle (is_sent_away s r (past old)) (not (is_free r (past old))) (is_settled v (past old)) (none_left (queued v (past old)) || leb (node s v).threads (jobs v (past old)))
+      said-by {F = F} {B = B} {O = O} take.Idle (is_sent_away s r (past old)) (not (is_free r (past old))) (is_settled v (past old))
+      (none_left (queued v (past old)) || leb (node s v).threads (jobs v (past old)))
       (told ∙ ap Some (sym c.0))
   idle-by None (Some (Granted b n f g)) told c = absurd c
   idle-by None (Some pool.Refused) told c = absurd c
@@ -115,7 +121,8 @@ module _ {F B : Type 0} (O : Type 0) (name_of_ : F → FrameName) (parts : F →
       → TakeAnswers name_of_ parts bytes_of s old r v o g (take.PoolDrop k z) new
       → (a : FrameName) × (is_next a (queued v (past old)) ≡ true) × (new ≡ moved_at s 0 (plain (PoolDrop r v a.maker a.index (s.need v) z)) old)
   drop-by k z (Some x) g told c =
-      absurd (said-by {F = F} {B = B} {O = O} (take.PoolDrop k z) (is_sent_away s r (past old)) (not (is_free r (past old))) (is_settled v (past old)) (none_left (queued v (past old)) || leb (node s v).threads (jobs v (past old)))
+      absurd (said-by {F = F} {B = B} {O = O} (take.PoolDrop k z) (is_sent_away s r (past old)) (not (is_free r (past old))) (is_settled v (past old))
+      (none_left (queued v (past old)) || leb (node s v).threads (jobs v (past old)))
       (told ∙ ap Some (sym c.0)))
   drop-by k z None (Some pool.Refused) told c = (c.1.0, c.1.1, c.1.3)
   drop-by k z None (Some (Granted b n f g)) told c = absurd c
@@ -126,10 +133,12 @@ module _ {F B : Type 0} (O : Type 0) (name_of_ : F → FrameName) (parts : F →
   take-drops k z c = drop-by k z (take_refusal s r v (past old)) (asked s v (past old)) refl c
 
   -- a job is on the next array of the queue
-  job-by : (w : ℕ) (input : F) (blank : Option B) (o : Option (take_answer F B O)) (g : Option Answer) → take_refusal {F = F} {B = B} {O = O} s r v (past old) ≡ o
+  job-by : (w : ℕ) (input : F) (blank : Option B) (o : Option (take_answer F B O)) (g : Option Answer)
+      → take_refusal {F = F} {B = B} {O = O} s r v (past old) ≡ o
       → TakeAnswers name_of_ parts bytes_of s old r v o g (take.Job w input blank) new → is_next (name_of_ input) (queued v (past old)) ≡ true
   job-by w input blank (Some x) g told c =
-      absurd (said-by {F = F} {B = B} {O = O} (take.Job w input blank) (is_sent_away s r (past old)) (not (is_free r (past old))) (is_settled v (past old)) (none_left (queued v (past old)) || leb (node s v).threads (jobs v (past old)))
+      absurd (said-by {F = F} {B = B} {O = O} (take.Job w input blank) (is_sent_away s r (past old)) (not (is_free r (past old))) (is_settled v (past old))
+      (none_left (queued v (past old)) || leb (node s v).threads (jobs v (past old)))
       (told ∙ ap Some (sym c.0)))
   job-by w input (Some blank) None (Some (Granted b n f g)) told c = c.1.0
   job-by w input None None None told c = c.1.0
@@ -168,7 +177,8 @@ module _ (O : Type 0) (g : Graph) (stack : StackValue) (old mid : BoardState) (r
         drain = subst (λ (i : ℕ). takes_up i e ≡ true) is taken;
       }
 
-  work-by : (e : Entry) → Holds (run_setting g stack) e mid → takes_up r e ≡ true → is_job_on v input.name (Some e) ≡ true → is_some blank ≡ is_maker (run_setting g stack) v
+  work-by : (e : Entry) → Holds (run_setting g stack) e mid → takes_up r e ≡ true → is_job_on v input.name (Some e) ≡ true
+      → is_some blank ≡ is_maker (run_setting g stack) v
       → ((lent : Option Parts) → parts_of input ≡ lent → IsOfHand name_of parts_of length lent (Some e) (Some input) None blank)
       → LendsJob {F = Sealed} {B = List ℕ} {O = O} parts_of length (run_setting g stack) r v (take.Job w input blank) mid → HasWork g stack v input blank mid
   work-by e holds up job maker held lent =
@@ -181,26 +191,35 @@ module _ (O : Type 0) (g : Graph) (stack : StackValue) (old mid : BoardState) (r
         fits = record { maker = maker; room = room-of ((run_setting g stack).need v) (granted_size (hand r (past mid))) blank lent.1 };
       }
 
-  pub has-work : LendsJob {F = Sealed} {B = List ℕ} {O = O} parts_of length (run_setting g stack) r v (take.Job w input blank) mid → HasWork g stack v input blank mid
+  pub has-work : LendsJob {F = Sealed} {B = List ℕ} {O = O} parts_of length (run_setting g stack) r v (take.Job w input blank) mid
+      → HasWork g stack v input blank mid
   has-work lent =
       let up : eqb r r ≡ true = eq-eqb r r refl in
       elim (take-job O name_of parts_of length (run_setting g stack) old mid r v is idle w input blank c) [
         | inl t ↦
             let e = take_block r v input.name t.b t.n t.f t.g t.x in
-            work-by e (job-held e (parts_of input) refl refl up t.move) up (and_from _ _ (eq-eqb v v refl) (same-self input.name)) (ap is_some t.is ∙ sym t.maker)
-            (λ lent here_. subst (λ (o : Option (List ℕ)). IsOfHand name_of parts_of length lent (Some e) (Some input) None o) (sym t.is) ((refl, here_), t.sized)) lent
+            work-by e (job-held e (parts_of input) refl refl up t.move) up
+            (and_from _ _ (eq-eqb v v refl) (same-self input.name)) (ap is_some t.is ∙ sym t.maker)
+            (λ lent here_. subst (λ (o : Option (List ℕ)). IsOfHand name_of parts_of length lent (Some e) (Some input) None o)
+            (sym t.is) ((refl, here_), t.sized)) lent
         | inr t ↦
             let e = Take r v input.name.maker input.name.index in
-            work-by e (job-held e (parts_of input) refl refl up t.move) up (and_from _ _ (eq-eqb v v refl) (same-self input.name)) (ap is_some t.is ∙ sym t.maker)
-            (λ lent here_. subst (λ (o : Option (List ℕ)). IsOfHand name_of parts_of length lent (Some e) (Some input) None o) (sym t.is) ((refl, here_), refl, refl)) lent
+            work-by e (job-held e (parts_of input) refl refl up t.move) up
+            (and_from _ _ (eq-eqb v v refl) (same-self input.name)) (ap is_some t.is ∙ sym t.maker)
+            (λ lent here_. subst (λ (o : Option (List ℕ)). IsOfHand name_of parts_of length lent (Some e) (Some input) None o)
+            (sym t.is) ((refl, here_), refl, refl)) lent
       ]
 
   pub job-moves : (tick : ℕ) → DrainMoves (run_setting g stack) tick old mid
   job-moves tick =
       let mine : eqb r (last_role (run_setting g stack)) ≡ true = eq-eqb r (last_role (run_setting g stack)) is in
       elim (take-job O name_of parts_of length (run_setting g stack) old mid r v is idle w input blank c) [
-        | inl t ↦ one-of (run_setting g stack) tick 0 (lends (take_block r v input.name t.b t.n t.f t.g t.x) (parts_of input)) old mid mine (λ e. absurd (false≢true e)) t.move
-        | inr t ↦ one-of (run_setting g stack) tick 0 (lends (Take r v input.name.maker input.name.index) (parts_of input)) old mid mine (λ e. absurd (false≢true e)) t.move
+        | inl t ↦
+            one-of (run_setting g stack) tick 0 (lends (take_block r v input.name t.b t.n t.f t.g t.x) (parts_of input)) old mid mine
+            (λ e. absurd (false≢true e)) t.move
+        | inr t ↦
+            one-of (run_setting g stack) tick 0 (lends (Take r v input.name.maker input.name.index) (parts_of input)) old mid mine
+            (λ e. absurd (false≢true e)) t.move
       ]
 
   pub job-longer : length (past old) < length (past mid)
@@ -225,7 +244,8 @@ module _ (O : Type 0) (g : Graph) (stack : StackValue) (old mid : BoardState) (r
   pub drop-moves : (tick : ℕ) → DrainMoves (run_setting g stack) tick old mid
   drop-moves tick =
       let d = take-drops O name_of parts_of length (run_setting g stack) old mid r v is idle k z c in
-      one-of (run_setting g stack) tick 0 (plain (PoolDrop r v d.0.maker d.0.index ((run_setting g stack).need v) z)) old mid (eq-eqb r (last_role (run_setting g stack)) is)
+      one-of (run_setting g stack) tick 0 (plain (PoolDrop r v d.0.maker d.0.index ((run_setting g stack).need v) z)) old mid
+      (eq-eqb r (last_role (run_setting g stack)) is)
       (λ e. absurd (false≢true e)) d.2
 
   pub drop-longer : length (past old) < length (past mid)
@@ -249,7 +269,8 @@ module _ (g : Graph) (stack : StackValue) (old : BoardState) (r v : ℕ) (is : r
   pub may-put : MayPut name_of parts_of (run_measure g stack) (run_setting g stack) old r done
   may-put = λ this. (
     d.result,
-    ap parts_of d.given ∙ (lent-by (lent_to (last_role (run_setting g stack)) old) (Some job.hand) input blank job.held ∙ ap (λ (i : ℕ). lent_to i old) (sym is)),
+    ap parts_of d.given
+    ∙ (lent-by (lent_to (last_role (run_setting g stack)) old) (Some job.hand) input blank job.held ∙ ap (λ (i : ℕ). lent_to i old) (sym is)),
     subst (λ (o : Option Entry). OfSome (λ (f : Sealed). IsWholeOf (granted_size o) (parts_of f)) done.made) (sym job-hand)
         (granted-by (lent_to (last_role (run_setting g stack)) old) (Some job.hand) input blank done.made job.held d.whole),
   )
@@ -261,7 +282,8 @@ module _ (g : Graph) (stack : StackValue) (old : BoardState) (r v : ℕ) (is : r
       ∙ (ap (λ (i : Sealed). is_job_on v (name_of i) (hand r (past old))) d.given ∙ (ap (λ (o : Option Entry). is_job_on v input.name o) job-hand ∙ job.job)) in
       false≢true (sym c.0 ∙ on)
 
-  pub put-idle : {E : Type 0} (new : BoardState) (x : E) → PutGives {E = E} name_of (run_setting g stack) old r done (Ok x) new → IsIdle (run_setting g stack) new
+  pub put-idle : {E : Type 0} (new : BoardState) (x : E)
+      → PutGives {E = E} name_of (run_setting g stack) old r done (Ok x) new → IsIdle (run_setting g stack) new
   put-idle {E} new x c =
       let e = Put r done.node (result_name (run_setting g stack) done.node (name_of done.input)).maker (name_of done.input).index done.fired in
       record {
@@ -269,9 +291,11 @@ module _ (g : Graph) (stack : StackValue) (old : BoardState) (r v : ℕ) (is : r
         free = hands-moved (run_setting g stack) 0 r (plain e) old new refl c.1 ∙ let-one r job.hand (hands (past old)) job.holds.only job-up;
       }
 
-  pub put-moves : {E : Type 0} (new : BoardState) (x : E) (tick : ℕ) → PutGives {E = E} name_of (run_setting g stack) old r done (Ok x) new → DrainMoves (run_setting g stack) tick old new
+  pub put-moves : {E : Type 0} (new : BoardState) (x : E) (tick : ℕ) → PutGives {E = E} name_of (run_setting g stack) old r done (Ok x) new
+      → DrainMoves (run_setting g stack) tick old new
   put-moves new x tick c =
-      one-of (run_setting g stack) tick 0 (plain (Put r done.node (result_name (run_setting g stack) done.node (name_of done.input)).maker (name_of done.input).index done.fired)) old new
+      one-of (run_setting g stack) tick 0
+      (plain (Put r done.node (result_name (run_setting g stack) done.node (name_of done.input)).maker (name_of done.input).index done.fired)) old new
       (eq-eqb r (last_role (run_setting g stack)) is) (λ e. absurd (false≢true e)) c.1
 
 -- SETTLE
@@ -281,9 +305,11 @@ settled-by : (s : Setting) (r v : ℕ) (old new : BoardState) (b : Bool) → new
 settled-by s r v old new true c = inl (refl, c)
 settled-by s r v old new false c = inr c
 
-pub settle-idle : (s : Setting) (r v : ℕ) (old new : BoardState) (a : Settled) → r ≡ last_role s → is_node s v ≡ true → IsIdle s old → SettleGives s old r v a new → IsIdle s new
+pub settle-idle : (s : Setting) (r v : ℕ) (old new : BoardState) (a : Settled) → r ≡ last_role s → is_node s v ≡ true → IsIdle s old
+    → SettleGives s old r v a new → IsIdle s new
 settle-idle s r v old new settled.NotYet is here idle c =
-    record { legal = settle-by s old new r v settled.NotYet idle.legal (omega (arith, is)) here c; free = ap (λ (b : BoardState). hands (past b)) c.1 ∙ idle.free }
+    record { legal = settle-by s old new r v settled.NotYet idle.legal (omega (arith, is)) here c;
+    free = ap (λ (b : BoardState). hands (past b)) c.1 ∙ idle.free }
 settle-idle s r v old new settled.Done is here idle c =
     record {
       legal = settle-by s old new r v settled.Done idle.legal (omega (arith, is)) here c;
@@ -306,7 +332,8 @@ settle-still s r v old new settled.NotYet done c = c.1
 settle-still s r v old new settled.Done done c = c.1 ∙ rw done refl
 
 -- a settle that changes nothing: the node is settled, or its input hasn't ended
-pub settle-quiet : (s : Setting) (r v : ℕ) (old new : BoardState) (a : Settled) → IsIdle s old → queued v (past old) ≡ [] → SettleGives s old r v a new → new ≡ old
+pub settle-quiet : (s : Setting) (r v : ℕ) (old new : BoardState) (a : Settled) → IsIdle s old → queued v (past old) ≡ []
+    → SettleGives s old r v a new → new ≡ old
     → has_ended (node s v).input (past old) ≡ true → is_settled v (past old) ≡ true
 settle-quiet s r v old new settled.NotYet idle none c same_ ended =
     elim (cases_Bool (is_settled v (past old))) [

@@ -52,16 +52,20 @@ any-some p (x ∷ xs) = elim (cases_Bool (p x)) [
 pub queue-items : (measure : Measuring) (s : Setting) (v : ℕ) (P : Past) (n : NodeState) → IsNode measure s v P n → n.inbox.items ≡ queued v P
 queue-items measure s v P n i = ap (λ (b : InboxState FrameName). b.items) i.inbox
 
-pub queue-fits : (measure : Measuring) (s : Setting) (v : ℕ) (P : Past) (n : NodeState) → IsNode measure s v P n → length n.inbox.items ≤ n.inbox.size + n.inbox.extra
+pub queue-fits : (measure : Measuring) (s : Setting) (v : ℕ) (P : Past) (n : NodeState) → IsNode measure s v P n
+    → length n.inbox.items ≤ n.inbox.size + n.inbox.extra
 queue-fits measure s v P n i =
     let size : n.inbox.size ≡ (node s v).queue = ap (λ (b : InboxState FrameName). b.size) i.inbox in
     let extra : n.inbox.extra ≡ (node s v).threads = ap (λ (b : InboxState FrameName). b.extra) i.inbox in
     omega (arith, i.fits, size, extra, ap length (queue-items measure s v P n i))
 
-pub queue-empty-read : (measure : Measuring) (s : Setting) (v : ℕ) (P : Past) (n : NodeState) (count : ℕ) → IsNode measure s v P n → count ≡ length n.inbox.items → eqb count 0 ≡ none_left (queued v P)
-queue-empty-read measure s v P n count i is = ap (λ k. eqb k 0) is ∙ (empty-is n.inbox.items ∙ ap (λ (xs : List FrameName). none_left xs) (queue-items measure s v P n i))
+pub queue-empty-read : (measure : Measuring) (s : Setting) (v : ℕ) (P : Past) (n : NodeState) (count : ℕ) → IsNode measure s v P n
+    → count ≡ length n.inbox.items → eqb count 0 ≡ none_left (queued v P)
+queue-empty-read measure s v P n count i is =
+    ap (λ k. eqb k 0) is ∙ (empty-is n.inbox.items ∙ ap (λ (xs : List FrameName). none_left xs) (queue-items measure s v P n i))
 
-pub busy-read : (measure : Measuring) (s : Setting) (v : ℕ) (P : Past) (n : NodeState) (r : NodeRules) → IsNode measure s v P n → as_node r ≡ node s v → leb r.threads n.jobs ≡ leb (node s v).threads (jobs v P)
+pub busy-read : (measure : Measuring) (s : Setting) (v : ℕ) (P : Past) (n : NodeState) (r : NodeRules) → IsNode measure s v P n → as_node r ≡ node s v
+    → leb r.threads n.jobs ≡ leb (node s v).threads (jobs v P)
 busy-read measure s v P n r i is = ap (λ k. leb r.threads k) i.working ∙ ap (λ (o : Node). leb o.threads (jobs v P)) is
 
 -- PIECES
@@ -91,7 +95,8 @@ other-place w x n is other = subst (λ (y : Work). 0 ≡ place_of y n) (sym is) 
   by (work.Watches pre post preset) h = refl
   by (work.Saves whole count) h = absurd (h whole count refl)
 
-pub other-size : (w : Work) (x : NodeWork) (n : ℕ) (b : Bool) (put : ℕ) → w ≡ as_work x → ((a : Bool) (b : ℕ) → x ≡ work.Saves a b → ⊥) → None ≡ group_size w n b put
+pub other-size : (w : Work) (x : NodeWork) (n : ℕ) (b : Bool) (put : ℕ) → w ≡ as_work x
+    → ((a : Bool) (b : ℕ) → x ≡ work.Saves a b → ⊥) → None ≡ group_size w n b put
 other-size w x n b put is other = subst (λ (y : Work). None ≡ group_size y n b put) (sym is) (by x other) where
   by : (x : NodeWork) → ((a : Bool) (b : ℕ) → x ≡ work.Saves a b → ⊥) → None ≡ group_size (as_work x) n b put
   by work.Makes h = refl
@@ -100,27 +105,32 @@ other-size w x n b put is other = subst (λ (y : Work). None ≡ group_size y n 
   by (work.Watches pre post preset) h = refl
   by (work.Saves whole count) h = absurd (h whole count refl)
 
-pub other-due : (s : Setting) (v : ℕ) (P : Past) (x : NodeWork) → (node s v).work ≡ as_work x → ((a : Bool) (b : ℕ) → x ≡ work.Saves a b → ⊥) → false ≡ has_due s v P
+pub other-due : (s : Setting) (v : ℕ) (P : Past) (x : NodeWork) → (node s v).work ≡ as_work x
+    → ((a : Bool) (b : ℕ) → x ≡ work.Saves a b → ⊥) → false ≡ has_due s v P
 other-due s v P x is other =
     let none : unsaved s v P ≡ [] = rw (is, other-file x other) refl in
     rw none refl
 
-pub size-saves : (measure : Measuring) (s : Setting) (v : ℕ) (P : Past) (n : NodeState) (whole : Bool) (count : ℕ) → IsNode measure s v P n → (node s v).work ≡ as_work (work.Saves whole count)
+pub size-saves : (measure : Measuring) (s : Setting) (v : ℕ) (P : Past) (n : NodeState) (whole : Bool) (count : ℕ) → IsNode measure s v P n
+    → (node s v).work ≡ as_work (work.Saves whole count)
     → size_of_group count n.saves n.settled n.puts ≡ group_size (node s v).work (length (standing_saves v P)) (is_settled v P) (length (puts v P))
 size-saves measure s v P n whole count i is = rw (is, i.pieces, i.ended, i.results) refl
 
 -- the next one to save is there, and due
-pub due-saves : (measure : Measuring) (s : Setting) (v : ℕ) (P : Past) (n : NodeState) (whole : Bool) (count : ℕ) → IsNode measure s v P n → (node s v).work ≡ as_work (work.Saves whole count)
+pub due-saves : (measure : Measuring) (s : Setting) (v : ℕ) (P : Past) (n : NodeState) (whole : Bool) (count : ℕ) → IsNode measure s v P n
+    → (node s v).work ≡ as_work (work.Saves whole count)
     → (not (eqb (length n.unsaved.items) 0) && (not whole || n.settled || is_whole_group count n.saves n.puts)) ≡ has_due s v P
 due-saves measure s v P n whole count i is =
-    ap (λ (b : Bool). not b && (not whole || n.settled || is_whole_group count n.saves n.puts)) (empty-is n.unsaved.items ∙ ap (λ (xs : List FrameName). none_left xs) i.kept)
+    ap (λ (b : Bool). not b && (not whole || n.settled || is_whole_group count n.saves n.puts))
+    (empty-is n.unsaved.items ∙ ap (λ (xs : List FrameName). none_left xs) i.kept)
     ∙ (ap (λ (b : Bool). not (none_left (unsaved s v P)) && (not whole || b || is_whole_group count n.saves n.puts)) i.ended
     ∙ (ap (λ k. not (none_left (unsaved s v P)) && (not whole || is_settled v P || is_whole_group count k n.puts)) i.pieces
     ∙ (ap (λ k. not (none_left (unsaved s v P)) && (not whole || is_settled v P || is_whole_group count (length (standing_saves v P)) k)) i.results
     ∙ ap (λ (w : Work). not (none_left (unsaved s v P)) && is_due w v P) (sym is))))
 
 -- SETTLING
-pub settle-read : (measure : Measuring) (s : Setting) (v : ℕ) (P : Past) (n : NodeState) (r : NodeRules) (count : ℕ) (ended : Bool) → IsNode measure s v P n → as_node r ≡ node s v → count ≡ length n.inbox.items → ended ≡ has_ended r.input P
+pub settle-read : (measure : Measuring) (s : Setting) (v : ℕ) (P : Past) (n : NodeState) (r : NodeRules) (count : ℕ) (ended : Bool) → IsNode measure s v P n
+    → as_node r ≡ node s v → count ≡ length n.inbox.items → ended ≡ has_ended r.input P
     → (not n.settled && (not ended || not (eqb count 0) || ltb 0 n.jobs)) ≡ waits_to_settle s v P
 settle-read measure s v P n r count ended i is many end =
     ap (λ (b : Bool). not b && (not ended || not (eqb count 0) || ltb 0 n.jobs)) i.ended

@@ -74,24 +74,31 @@ abbrev pub Measuring : Type 0
 Measuring = ℕ → FrameName → Option Measure
 
 -- the block that is found for a frame
-pub found-is : (measure : Measuring) (s : Setting) (k : Parts) (a : FrameName) (b : ℕ) → IsCourse measure s k → block_of (log_of k) a ≡ b ∷ [] → slice_index_or k.blocks (a.maker * length k.rules.ids + a.index) 0 ≡ b
+pub found-is : (measure : Measuring) (s : Setting) (k : Parts) (a : FrameName) (b : ℕ) → IsCourse measure s k → block_of (log_of k) a ≡ b ∷ []
+    → slice_index_or k.blocks (a.maker * length k.rules.ids + a.index) 0 ≡ b
 found-is measure s k a b i has =
     ap (λ ids. slice_index_or k.blocks (a.maker * length ids + a.index) 0) i.ruled.ids ∙ found-block s (log_of k) k.blocks a b i.blocks has
 
 -- the array on its way has a block, with a hold
-pub next-block : (measure : Measuring) (s : Setting) (k : Parts) (a : FrameName) (xs : List FrameName) → IsCourse measure s k → k.transit ≡ a ∷ xs → HasBlock (log_of k) a
+pub next-block : (measure : Measuring) (s : Setting) (k : Parts) (a : FrameName) (xs : List FrameName) → IsCourse measure s k
+    → k.transit ≡ a ∷ xs → HasBlock (log_of k) a
 next-block measure s k a xs i is = All-head (HasBlock (log_of k)) a xs (subst (All (HasBlock (log_of k))) is i.standing)
 
-carrying : (measure : Measuring) (s : Setting) (k : Parts) (a : FrameName) (xs : List FrameName) (b : ℕ) → IsCourse measure s k → k.transit ≡ a ∷ xs → block_of (log_of k) a ≡ b ∷ [] → IsAccount s (log_of k) (b ∷ flat_map (block_of (log_of k)) xs) (all_named k.pool)
+carrying : (measure : Measuring) (s : Setting) (k : Parts) (a : FrameName) (xs : List FrameName) (b : ℕ) → IsCourse measure s k → k.transit ≡ a ∷ xs
+    → block_of (log_of k) a ≡ b ∷ [] → IsAccount s (log_of k) (b ∷ flat_map (block_of (log_of k)) xs) (all_named k.pool)
 carrying measure s k a xs b i is has =
-    subst (λ ys. IsAccount s (log_of k) (ys ++ flat_map (block_of (log_of k)) xs) (all_named k.pool)) has (subst (λ (ts : List FrameName). IsAccount s (log_of k) (flat_map (block_of (log_of k)) ts) (all_named k.pool)) is i.account)
+    subst (λ ys. IsAccount s (log_of k) (ys ++ flat_map (block_of (log_of k)) xs) (all_named k.pool)) has
+    (subst (λ (ts : List FrameName). IsAccount s (log_of k) (flat_map (block_of (log_of k)) ts) (all_named k.pool)) is i.account)
 
-pub next-held : (measure : Measuring) (s : Setting) (k : Parts) (a : FrameName) (xs : List FrameName) (b : ℕ) → IsCourse measure s k → k.transit ≡ a ∷ xs → block_of (log_of k) a ≡ b ∷ [] → 0 < ledger.refs k.pool b
+pub next-held : (measure : Measuring) (s : Setting) (k : Parts) (a : FrameName) (xs : List FrameName) (b : ℕ) → IsCourse measure s k → k.transit ≡ a ∷ xs
+    → block_of (log_of k) a ≡ b ∷ [] → 0 < ledger.refs k.pool b
 next-held measure s k a xs b i is has =
-    tell_laws.carried s (log_of k) b (all_named k.pool) (b ∷ flat_map (block_of (log_of k)) xs) (rw (eq-eqb b b refl) (omega arith)) (carrying measure s k a xs b i is has)
+    tell_laws.carried s (log_of k) b (all_named k.pool) (b ∷ flat_map (block_of (log_of k)) xs) (rw (eq-eqb b b refl) (omega arith))
+    (carrying measure s k a xs b i is has)
 
 -- it lets its hold go
-pub released : (measure : Measuring) (s : Setting) (k : Parts) (a : FrameName) (xs : List FrameName) (b : ℕ) → IsCourse measure s k → k.transit ≡ a ∷ xs → block_of (log_of k) a ≡ b ∷ []
+pub released : (measure : Measuring) (s : Setting) (k : Parts) (a : FrameName) (xs : List FrameName) (b : ℕ) → IsCourse measure s k
+    → k.transit ≡ a ∷ xs → block_of (log_of k) a ≡ b ∷ []
     → IsCourse measure s (record k { pool = with_refs b (ledger.refs k.pool b - 1) k.pool; transit = xs })
 released measure s k a xs b i is has =
     record {
@@ -117,7 +124,8 @@ pub past-length : (b : BoardState) → length (past b) ≡ length b
 past-length [] = refl
 past-length (t ∷ b) = ap suc (past-length b)
 
-pub room-for : (measure : Measuring) (s : Setting) (k : Parts) (e : Entry) → IsCourse measure s k → is_legal s (e ∷ log_of k) ≡ true → length k.log.told < k.log.room
+pub room-for : (measure : Measuring) (s : Setting) (k : Parts) (e : Entry) → IsCourse measure s k
+    → is_legal s (e ∷ log_of k) ≡ true → length k.log.told < k.log.room
 room-for measure s k e i legal = omega (arith, length_laws.entries s (e ∷ log_of k) legal, i.log_room, past-length k.log.told)
 
 pub most-small : (ru : Rules) (s : Setting) → AreRules ru s → most_entries s ≤ 10748224
@@ -138,26 +146,33 @@ few-blocks P (x ∷ xs) = omega (arith, length-append (block_of P x) (flat_map (
 -- no block has so many holds that one more couldn't be counted
 pub holds-below : (measure : Measuring) (s : Setting) (k : Parts) (b : ℕ) → IsCourse measure s k → ledger.refs k.pool b < 4294967295
 holds-below measure s k b i =
-    tell_laws.holds_fit s (log_of k) b (all_named k.pool) (flat_map (block_of (log_of k)) k.transit) (subst (λ (ids : List ℤ). length ids ≤ 65536) i.ruled.ids i.ruled.few_frames) (omega (arith, i.ruled.few_nodes, ap length i.ruled.nodes, length-map k.rules.nodes as_node)) i.ruled.few_threads (omega (arith, i.moving, few-blocks (log_of k) k.transit)) i.legal i.account
+    tell_laws.holds_fit s (log_of k) b (all_named k.pool) (flat_map (block_of (log_of k)) k.transit) (subst (λ (ids : List ℤ). length ids ≤ 65536) i.ruled.ids
+    i.ruled.few_frames) (omega (arith, i.ruled.few_nodes, ap length i.ruled.nodes, length-map k.rules.nodes as_node)) i.ruled.few_threads
+    (omega (arith, i.moving, few-blocks (log_of k) k.transit)) i.legal i.account
 
 -- what is kept of a node, by its number
-pub node-is : (measure : Measuring) (s : Setting) (k : Parts) (v c : ℕ) (n : NodeState) → suc c ≡ v → IsCourse measure s k → slice_get k.nodes c ≡ Some n → IsNode measure s v (log_of k) n
+pub node-is : (measure : Measuring) (s : Setting) (k : Parts) (v c : ℕ) (n : NodeState) → suc c ≡ v → IsCourse measure s k
+    → slice_get k.nodes c ≡ Some n → IsNode measure s v (log_of k) n
 node-is measure s k v c n is i at = subst (λ u. IsNode measure s u (log_of k) n) is (i.nodes.each c n at)
 
 pub listed-some : (v : ℕ) (measure : Measuring) (x : Measure) (xs : List FrameName) → length (flat_map (λ a. listed_one (measure v a)) xs) ≤ length xs
 listed-some v measure x [] = omega arith
-listed-some v measure x (a ∷ xs) = omega (arith, length-append (listed_one (measure v a)) (flat_map (λ b. listed_one (measure v b)) xs), one-listed (measure v a), listed-some v measure x xs) where
+listed-some v measure x (a ∷ xs) =
+    omega (arith, length-append (listed_one (measure v a)) (flat_map (λ b. listed_one (measure v b)) xs),
+    one-listed (measure v a), listed-some v measure x xs) where
   one-listed : (o : Option Measure) → length (listed_one o) ≤ 1
   one-listed None = omega arith
   one-listed (Some y) = omega arith
 
 -- a node that measures has room for one more
-pub room-to-measure : (measure : Measuring) (s : Setting) (k : Parts) (v c m j : ℕ) (why : Why) (n : NodeState) (x : Measure) → suc c ≡ v → IsCourse measure s k → slice_get k.nodes c ≡ Some n → is_legal s (Emit v m j why ∷ log_of k) ≡ true
+pub room-to-measure : (measure : Measuring) (s : Setting) (k : Parts) (v c m j : ℕ) (why : Why) (n : NodeState) (x : Measure) → suc c ≡ v → IsCourse measure s k
+    → slice_get k.nodes c ≡ Some n → is_legal s (Emit v m j why ∷ log_of k) ≡ true
     → measure v (frame m j) ≡ Some x → vec_len n.measures < vec_capacity n.measures
 room-to-measure measure s k v c m j why n x is i at legal some =
     let node_is = node-is measure s k v c n is i at in
     let short = emits-short s (Emit v m j why ∷ log_of k) v legal in
-    let longer : length (emitted v (Emit v m j why ∷ log_of k)) ≡ length (emitted v (log_of k)) + 1 = ap length (comes_here v (frame m j) (emitted v (log_of k))) ∙ length-append (emitted v (log_of k)) (frame m j ∷ []) in
+    let longer : length (emitted v (Emit v m j why ∷ log_of k)) ≡ length (emitted v (log_of k)) + 1 =
+    ap length (comes_here v (frame m j) (emitted v (log_of k))) ∙ length-append (emitted v (log_of k)) (frame m j ∷ []) in
     let few = listed-some v measure x (emitted v (log_of k)) in
     omega (arith, short, longer, few, ap length node_is.measures, node_is.measures_room (frame m j) x some)
 
@@ -205,7 +220,8 @@ ticked measure s k t i legal le =
     }
 
 pub refused : (measure : Measuring) (s : Setting) (k : Parts) (r j n h : ℕ) → IsCourse measure s k → is_legal s (LoadRefused r j n h ∷ log_of k) ≡ true
-    → IsCourse measure s (record k { log = record k.log { told = plain (LoadRefused r j n h) ∷ k.log.told }; facts = record k.facts { offered = k.facts.offered + 1 } })
+    → IsCourse measure s
+    (record k { log = record k.log { told = plain (LoadRefused r j n h) ∷ k.log.told }; facts = record k.facts { offered = k.facts.offered + 1 } })
 refused measure s k r j n h i legal =
     let P = log_of k in
     record {
@@ -242,16 +258,24 @@ closed measure s k r i legal =
       transit_room = i.transit_room;
     }
 
-pub accepted : (measure : Measuring) (s : Setting) (k : Parts) (c m j b : ℕ) (n : NodeState) → IsCourse measure s k → is_legal s (Accept (suc c) m j ∷ log_of k) ≡ true → slice_get k.nodes c ≡ Some n → has_room s (log_of k) (suc c) ≡ true → ((v : ℕ) → deals s v ≡ true → has_just_emitted v (log_of k) ≡ false) → block_of (log_of k) (frame m j) ≡ b ∷ [] → 0 < ledger.refs k.pool b
-    → IsCourse measure s (record k { log = record k.log { told = plain (Accept (suc c) m j) ∷ k.log.told }; nodes = set k.nodes c (record n { inbox = with_last n.inbox (frame m j) }); pool = with_refs b (ledger.refs k.pool b + 1) k.pool; facts = record k.facts { came = k.facts.came + 1 } })
+pub accepted : (measure : Measuring) (s : Setting) (k : Parts) (c m j b : ℕ) (n : NodeState) → IsCourse measure s k
+    → is_legal s (Accept (suc c) m j ∷ log_of k) ≡ true → slice_get k.nodes c ≡ Some n → has_room s (log_of k) (suc c) ≡ true
+    → ((v : ℕ) → deals s v ≡ true → has_just_emitted v (log_of k) ≡ false) → block_of (log_of k) (frame m j) ≡ b ∷ [] → 0 < ledger.refs k.pool b
+    → IsCourse measure s (record k { log = record k.log { told = plain (Accept (suc c) m j) ∷ k.log.told };
+    nodes = set k.nodes c (record n { inbox = with_last n.inbox (frame m j) }); pool = with_refs b (ledger.refs k.pool b + 1) k.pool;
+    facts = record k.facts { came = k.facts.came + 1 } })
 accepted measure s k c m j b n i legal at room together has some =
     let P = log_of k in
     record {
       ruled = i.ruled;
       legal = legal;
-      nodes = nodes-set measure s P (Accept (suc c) m j ∷ P) k.nodes c _ i.nodes (here-accept measure s (suc c) m j P n (i.nodes.each c n at) room (together (suc c))) (λ v ne. same-accept s (suc v) (suc c) m j P legal (apart-more ne) (together (suc v)));
+      nodes =
+          nodes-set measure s P (Accept (suc c) m j ∷ P) k.nodes c _ i.nodes (here-accept measure s (suc c) m j P n (i.nodes.each c n at) room
+          (together (suc c))) (λ v ne. same-accept s (suc v) (suc c) m j P legal (apart-more ne) (together (suc v)));
       roles = roles-kept s P _ k.roles i.roles (λ r. refl);
-      account = array_laws.accept s P (suc c) m j (with_refs b (ledger.refs k.pool b + 1) (all_named k.pool)) (b ∷ []) (flat_map (block_of P) k.transit) has legal (hold_laws.hold s P b (all_named k.pool) (flat_map (block_of P) k.transit) some i.account);
+      account =
+          array_laws.accept s P (suc c) m j (with_refs b (ledger.refs k.pool b + 1) (all_named k.pool)) (b ∷ []) (flat_map (block_of P) k.transit) has legal
+          (hold_laws.hold s P b (all_named k.pool) (flat_map (block_of P) k.transit) some i.account);
       standing = i.standing;
       blocks = blocks-kept s P _ k.blocks i.blocks (λ a. refl);
       facts = ap (λ (f : Facts). record f { came = f.came + 1 }) i.facts ∙ sym (facts-accept s (suc c) m j P legal);
@@ -261,8 +285,10 @@ accepted measure s k c m j b n i legal at room together has some =
       transit_room = i.transit_room;
     }
 
-pub filled : (measure : Measuring) (s : Setting) (k : Parts) (v m j : ℕ) → IsCourse measure s k → is_legal s (Full v m j ∷ log_of k) ≡ true → ((u : ℕ) → deals s u ≡ true → has_just_emitted u (log_of k) ≡ false)
-    → IsCourse measure s (record k { log = record k.log { told = plain (Full v m j) ∷ k.log.told }; facts = record k.facts { came = k.facts.came + 1; dropped = k.facts.dropped + 1 } })
+pub filled : (measure : Measuring) (s : Setting) (k : Parts) (v m j : ℕ) → IsCourse measure s k → is_legal s (Full v m j ∷ log_of k) ≡ true
+    → ((u : ℕ) → deals s u ≡ true → has_just_emitted u (log_of k) ≡ false)
+    → IsCourse measure s (record k { log = record k.log { told = plain (Full v m j) ∷ k.log.told };
+    facts = record k.facts { came = k.facts.came + 1; dropped = k.facts.dropped + 1 } })
 filled measure s k v m j i legal together =
     let P = log_of k in
     record {
@@ -280,8 +306,10 @@ filled measure s k v m j i legal together =
       transit_room = i.transit_room;
     }
 
-pub left_by : (measure : Measuring) (s : Setting) (k : Parts) (r : ℕ) (x : RoleState) → IsCourse measure s k → is_legal s (Leave r ∷ log_of k) ≡ true → slice_get k.roles r ≡ Some x
-    → IsCourse measure s (record k { log = record k.log { told = plain (Leave r) ∷ k.log.told }; roles = set k.roles r (record x { has_left = true }); facts = record k.facts { left = true } })
+pub left_by : (measure : Measuring) (s : Setting) (k : Parts) (r : ℕ) (x : RoleState) → IsCourse measure s k
+    → is_legal s (Leave r ∷ log_of k) ≡ true → slice_get k.roles r ≡ Some x
+    → IsCourse measure s (record k { log = record k.log { told = plain (Leave r) ∷ k.log.told }; roles = set k.roles r (record x { has_left = true });
+    facts = record k.facts { left = true } })
 left_by measure s k r x i legal at =
     let P = log_of k in
     record {
@@ -299,8 +327,10 @@ left_by measure s k r x i legal at =
       transit_room = i.transit_room;
     }
 
-pub issued : (measure : Measuring) (s : Setting) (k : Parts) (r j : ℕ) (x : RoleState) (q b n : ℕ) (f : Bool) (g : ℕ) (w : Bool) → IsCourse measure s k → is_legal s (Issue r j ∷ log_of k) ≡ true → slice_get k.roles r ≡ Some x → k.transit ≡ [] → hand r (log_of k) ≡ Some (Load q j b n f g w)
-    → IsCourse measure s (record k { log = record k.log { told = plain (Issue r j) ∷ k.log.told }; roles = set k.roles r (record x { hand = Free }); facts = record k.facts { loaded = false }; transit = frame 0 j ∷ [] })
+pub issued : (measure : Measuring) (s : Setting) (k : Parts) (r j : ℕ) (x : RoleState) (q b n : ℕ) (f : Bool) (g : ℕ) (w : Bool) → IsCourse measure s k
+    → is_legal s (Issue r j ∷ log_of k) ≡ true → slice_get k.roles r ≡ Some x → k.transit ≡ [] → hand r (log_of k) ≡ Some (Load q j b n f g w)
+    → IsCourse measure s (record k { log = record k.log { told = plain (Issue r j) ∷ k.log.told }; roles = set k.roles r (record x { hand = Free });
+    facts = record k.facts { loaded = false }; transit = frame 0 j ∷ [] })
 issued measure s k r j x q b n f g w i legal at empty held =
     let P = log_of k in
     record {
@@ -308,7 +338,9 @@ issued measure s k r j x q b n f g w i legal at empty held =
       legal = legal;
       nodes = nodes-kept measure s P _ k.nodes i.nodes (λ v. same-issue s (suc v) r j (Load q j b n f g w) P legal held refl refl);
       roles = role-down s r (Issue r j) P k.roles x i.roles at (issue-of r j) legal (eq-eqb r r refl) refl refl;
-      account = array_laws.issue s P r j (all_named k.pool) (block_of P (frame 0 j)) [] refl legal (subst (λ (ts : List FrameName). IsAccount s P (flat_map (block_of P) ts) (all_named k.pool)) empty i.account);
+      account =
+          array_laws.issue s P r j (all_named k.pool) (block_of P (frame 0 j)) [] refl legal
+          (subst (λ (ts : List FrameName). IsAccount s P (flat_map (block_of P) ts) (all_named k.pool)) empty i.account);
       standing = All-cons (HasBlock P) (frame 0 j) [] (b, block_laws.in_hand_load s r q j b n f g w P i.legal held) (All-nil (HasBlock P));
       blocks = blocks-kept s P _ k.blocks i.blocks (λ a. refl);
       facts = ap (λ (f : Facts). record f { loaded = false }) i.facts ∙ sym (facts-issue s r j (Load q j b n f g w) P legal i.legal held refl);
@@ -318,7 +350,8 @@ issued measure s k r j x q b n f g w i legal at empty held =
       transit_room = i.transit_room;
     }
 
-pub emitted_by_driver : (measure : Measuring) (s : Setting) (k : Parts) (m j : ℕ) (why : Why) → IsCourse measure s k → is_legal s (Emit 0 m j why ∷ log_of k) ≡ true
+pub emitted_by_driver : (measure : Measuring) (s : Setting) (k : Parts) (m j : ℕ) (why : Why) → IsCourse measure s k
+    → is_legal s (Emit 0 m j why ∷ log_of k) ≡ true
     → IsCourse measure s (record k { log = record k.log { told = plain (Emit 0 m j why) ∷ k.log.told } })
 emitted_by_driver measure s k m j why i legal =
     let P = log_of k in
@@ -337,14 +370,22 @@ emitted_by_driver measure s k m j why i legal =
       transit_room = i.transit_room;
     }
 
-pub emitted_at_once : (measure : Measuring) (s : Setting) (k : Parts) (c m j : ℕ) (why : Why) (n y : NodeState) → IsCourse measure s k → is_legal s (Emit (suc c) m j why ∷ log_of k) ≡ true → slice_get k.nodes c ≡ Some n → is_sorted s (suc c) ≡ false → y.list ≡ n.list → y.measures.items ≡ n.measures.items ++ listed_one (measure (suc c) (frame m j)) → HasRoomToMeasure measure s (suc c) y
-    → IsCourse measure s (record k { log = record k.log { told = plain (Emit (suc c) m j why) ∷ k.log.told }; nodes = set k.nodes c (record n { list = y.list; measures = y.measures }) })
+pub emitted_at_once : (measure : Measuring) (s : Setting) (k : Parts) (c m j : ℕ) (why : Why) (n y : NodeState) → IsCourse measure s k
+    → is_legal s (Emit (suc c) m j why ∷ log_of k) ≡ true → slice_get k.nodes c ≡ Some n → is_sorted s (suc c) ≡ false → y.list ≡ n.list
+    → y.measures.items ≡ n.measures.items ++ listed_one (measure (suc c) (frame m j)) → HasRoomToMeasure measure s (suc c) y
+    → IsCourse measure s (record k { log = record k.log { told = plain (Emit (suc c) m j why) ∷ k.log.told };
+    nodes = set k.nodes c (record n { list = y.list; measures = y.measures }) })
 emitted_at_once measure s k c m j why n y i legal at plain_one same items room =
     let P = log_of k in
     record {
       ruled = i.ruled;
       legal = legal;
-      nodes = nodes-set measure s P (Emit (suc c) m j why ∷ P) k.nodes c _ i.nodes (here-emit measure s (suc c) m j why P n y (i.nodes.each c n at) legal (ap (λ (l : SortState Kept). l.size) same ∙ (i.nodes.each c n at).list_size) (λ h. absurd (true≢false (sym h ∙ plain_one))) (ap (λ (l : SortState Kept). l.waiting) same ∙ ((i.nodes.each c n at).waits ∙ (none-listed measure s (suc c) P plain_one ∙ sym (none-listed measure s (suc c) (Emit (suc c) m j why ∷ P) plain_one)))) items room) (λ v ne. same-emit s (suc v) (suc c) m j why P legal (apart-more ne));
+      nodes =
+          nodes-set measure s P (Emit (suc c) m j why ∷ P) k.nodes c _ i.nodes
+          (here-emit measure s (suc c) m j why P n y (i.nodes.each c n at) legal (ap (λ (l : SortState Kept). l.size) same ∙ (i.nodes.each c n at).list_size)
+          (λ h. absurd (true≢false (sym h ∙ plain_one))) (ap (λ (l : SortState Kept). l.waiting) same ∙ ((i.nodes.each c n at).waits
+          ∙ (none-listed measure s (suc c) P plain_one ∙ sym (none-listed measure s (suc c) (Emit (suc c) m j why ∷ P) plain_one)))) items room)
+          (λ v ne. same-emit s (suc v) (suc c) m j why P legal (apart-more ne));
       roles = roles-kept s P _ k.roles i.roles (λ r. refl);
       account = array_laws.emit_unsorted s P (suc c) m j why (all_named k.pool) (flat_map (block_of P) k.transit) plain_one legal i.account;
       standing = i.standing;
@@ -357,15 +398,24 @@ emitted_at_once measure s k c m j why n y i legal at plain_one same items room =
     }
 
 -- an array goes out of the list while others are on their way
-pub emitted_more : (measure : Measuring) (s : Setting) (k : Parts) (c m j : ℕ) (why : Why) (n y : NodeState) → IsCourse measure s k → is_legal s (Emit (suc c) m j why ∷ log_of k) ≡ true → slice_get k.nodes c ≡ Some n → is_sorted s (suc c) ≡ true → length k.transit ≤ 4096 → HasBlock (log_of k) (frame m j) → y.list.size ≡ n.list.size → y.list.last ≡ id_at s j → y.list.waiting ≡ list_of measure s (suc c) (Emit (suc c) m j why ∷ log_of k) → y.measures.items ≡ n.measures.items ++ listed_one (measure (suc c) (frame m j)) → HasRoomToMeasure measure s (suc c) y → IsCourse measure s (record k { log = record k.log { told = plain (Emit (suc c) m j why) ∷ k.log.told }; nodes = set k.nodes c (record n { list = y.list; measures = y.measures }); transit = frame m j ∷ k.transit })
+pub emitted_more : (measure : Measuring) (s : Setting) (k : Parts) (c m j : ℕ) (why : Why) (n y : NodeState) → IsCourse measure s k
+    → is_legal s (Emit (suc c) m j why ∷ log_of k) ≡ true → slice_get k.nodes c ≡ Some n → is_sorted s (suc c) ≡ true → length k.transit ≤ 4096
+    → HasBlock (log_of k) (frame m j) → y.list.size ≡ n.list.size → y.list.last ≡ id_at s j
+    → y.list.waiting ≡ list_of measure s (suc c) (Emit (suc c) m j why ∷ log_of k)
+    → y.measures.items ≡ n.measures.items ++ listed_one (measure (suc c) (frame m j)) → HasRoomToMeasure measure s (suc c) y
+    → IsCourse measure s (record k { log = record k.log { told = plain (Emit (suc c) m j why) ∷ k.log.told };
+    nodes = set k.nodes c (record n { list = y.list; measures = y.measures }); transit = frame m j ∷ k.transit })
 emitted_more measure s k c m j why n y i legal at sorted few has size last waits items room =
     let P = log_of k in
     record {
       ruled = i.ruled;
       legal = legal;
-      nodes = nodes-set measure s P (Emit (suc c) m j why ∷ P) k.nodes c _ i.nodes (here-emit measure s (suc c) m j why P n y (i.nodes.each c n at) legal (size ∙ (i.nodes.each c n at).list_size) (λ h. last) waits items room) (λ v ne. same-emit s (suc v) (suc c) m j why P legal (apart-more ne));
+      nodes =
+          nodes-set measure s P (Emit (suc c) m j why ∷ P) k.nodes c _ i.nodes (here-emit measure s (suc c) m j why P n y (i.nodes.each c n at) legal
+          (size ∙ (i.nodes.each c n at).list_size) (λ h. last) waits items room) (λ v ne. same-emit s (suc v) (suc c) m j why P legal (apart-more ne));
       roles = roles-kept s P _ k.roles i.roles (λ r. refl);
-      account = array_laws.emit_sorted s P (suc c) m j why (all_named k.pool) (block_of P (frame m j)) (flat_map (block_of P) k.transit) sorted refl legal i.account;
+      account =
+          array_laws.emit_sorted s P (suc c) m j why (all_named k.pool) (block_of P (frame m j)) (flat_map (block_of P) k.transit) sorted refl legal i.account;
       standing = All-cons (HasBlock P) (frame m j) k.transit has i.standing;
       blocks = blocks-kept s P _ k.blocks i.blocks (λ a. refl);
       facts = i.facts ∙ sym (facts-emit s (suc c) m j why P legal);
@@ -376,20 +426,30 @@ emitted_more measure s k c m j why n y i legal at sorted few has size last waits
     }
 
 -- and where none are
-pub emitted_from_list : (measure : Measuring) (s : Setting) (k : Parts) (c m j : ℕ) (why : Why) (n y : NodeState) → IsCourse measure s k → is_legal s (Emit (suc c) m j why ∷ log_of k) ≡ true → slice_get k.nodes c ≡ Some n → is_sorted s (suc c) ≡ true → k.transit ≡ [] → HasBlock (log_of k) (frame m j) → y.list.size ≡ n.list.size → y.list.last ≡ id_at s j → y.list.waiting ≡ list_of measure s (suc c) (Emit (suc c) m j why ∷ log_of k) → y.measures.items ≡ n.measures.items ++ listed_one (measure (suc c) (frame m j)) → HasRoomToMeasure measure s (suc c) y
-    → IsCourse measure s (record k { log = record k.log { told = plain (Emit (suc c) m j why) ∷ k.log.told }; nodes = set k.nodes c (record n { list = y.list; measures = y.measures }); transit = frame m j ∷ [] })
+pub emitted_from_list : (measure : Measuring) (s : Setting) (k : Parts) (c m j : ℕ) (why : Why) (n y : NodeState) → IsCourse measure s k
+    → is_legal s (Emit (suc c) m j why ∷ log_of k) ≡ true → slice_get k.nodes c ≡ Some n → is_sorted s (suc c) ≡ true → k.transit ≡ []
+    → HasBlock (log_of k) (frame m j) → y.list.size ≡ n.list.size → y.list.last ≡ id_at s j
+    → y.list.waiting ≡ list_of measure s (suc c) (Emit (suc c) m j why ∷ log_of k)
+    → y.measures.items ≡ n.measures.items ++ listed_one (measure (suc c) (frame m j)) → HasRoomToMeasure measure s (suc c) y
+    → IsCourse measure s (record k { log = record k.log { told = plain (Emit (suc c) m j why) ∷ k.log.told };
+    nodes = set k.nodes c (record n { list = y.list; measures = y.measures }); transit = frame m j ∷ [] })
 emitted_from_list measure s k c m j why n y i legal at sorted empty has size last waits items room =
-    subst (λ (ts : List FrameName). IsCourse measure s (record k { log = record k.log { told = plain (Emit (suc c) m j why) ∷ k.log.told }; nodes = set k.nodes c (record n { list = y.list; measures = y.measures }); transit = frame m j ∷ ts })) empty
+    subst (λ (ts : List FrameName). IsCourse measure s (record k { log = record k.log { told = plain (Emit (suc c) m j why) ∷ k.log.told };
+    nodes = set k.nodes c (record n { list = y.list; measures = y.measures }); transit = frame m j ∷ ts })) empty
     (emitted_more measure s k c m j why n y i legal at sorted (omega (arith, ap length empty)) has size last waits items room)
 
-pub took : (measure : Measuring) (s : Setting) (k : Parts) (r c m j : ℕ) (x : RoleState) (n : NodeState) (part : Option Parts_of) → IsCourse measure s k → is_legal s (Take r (suc c) m j ∷ log_of k) ≡ true → slice_get k.roles r ≡ Some x → slice_get k.nodes c ≡ Some n
-    → IsCourse measure s (record k { log = record k.log { told = lends (Take r (suc c) m j) part ∷ k.log.told }; nodes = set k.nodes c (record n { inbox = without_front n.inbox; jobs = n.jobs + 1 }); roles = set k.roles r (record x { hand = Job (suc c) (frame m j) None }) })
+pub took : (measure : Measuring) (s : Setting) (k : Parts) (r c m j : ℕ) (x : RoleState) (n : NodeState) (part : Option Parts_of) → IsCourse measure s k
+    → is_legal s (Take r (suc c) m j ∷ log_of k) ≡ true → slice_get k.roles r ≡ Some x → slice_get k.nodes c ≡ Some n
+    → IsCourse measure s (record k { log = record k.log { told = lends (Take r (suc c) m j) part ∷ k.log.told }; nodes = set k.nodes c
+    (record n { inbox = without_front n.inbox; jobs = n.jobs + 1 }); roles = set k.roles r (record x { hand = Job (suc c) (frame m j) None }) })
 took measure s k r c m j x n part i legal at here =
     let P = log_of k in
     record {
       ruled = i.ruled;
       legal = legal;
-      nodes = nodes-set measure s P (Take r (suc c) m j ∷ P) k.nodes c _ i.nodes (here-take measure s r (suc c) m j P n (i.nodes.each c n here) legal) (λ v ne. same-take s (suc v) r (suc c) m j P legal (apart-more ne));
+      nodes =
+          nodes-set measure s P (Take r (suc c) m j ∷ P) k.nodes c _ i.nodes (here-take measure s r (suc c) m j P n (i.nodes.each c n here) legal)
+          (λ v ne. same-take s (suc v) r (suc c) m j P legal (apart-more ne));
       roles = role-up s r (Take r (suc c) m j) P k.roles x i.roles at (take-of r (suc c) m j) (eq-eqb r r refl) refl refl;
       account = array_laws.others s P (Take r (suc c) m j) (all_named k.pool) (flat_map (block_of P) k.transit) refl legal i.account;
       standing = i.standing;
@@ -401,17 +461,25 @@ took measure s k r c m j x n part i legal at here =
       transit_room = i.transit_room;
     }
 
-pub dropped_by_pool : (measure : Measuring) (s : Setting) (k : Parts) (r c m j need held : ℕ) (n : NodeState) → IsCourse measure s k → is_legal s (PoolDrop r (suc c) m j need held ∷ log_of k) ≡ true → slice_get k.nodes c ≡ Some n → k.transit ≡ []
-    → IsCourse measure s (record k { log = record k.log { told = plain (PoolDrop r (suc c) m j need held) ∷ k.log.told }; nodes = set k.nodes c (record n { inbox = without_front n.inbox }); facts = record k.facts { dropped = k.facts.dropped + 1 }; transit = frame m j ∷ [] })
+pub dropped_by_pool : (measure : Measuring) (s : Setting) (k : Parts) (r c m j need held : ℕ) (n : NodeState) → IsCourse measure s k
+    → is_legal s (PoolDrop r (suc c) m j need held ∷ log_of k) ≡ true → slice_get k.nodes c ≡ Some n → k.transit ≡ []
+    → IsCourse measure s (record k { log = record k.log { told = plain (PoolDrop r (suc c) m j need held) ∷ k.log.told };
+    nodes = set k.nodes c (record n { inbox = without_front n.inbox }); facts = record k.facts { dropped = k.facts.dropped + 1 }; transit = frame m j ∷ [] })
 dropped_by_pool measure s k r c m j need held n i legal here empty =
     let P = log_of k in
     record {
       ruled = i.ruled;
       legal = legal;
-      nodes = nodes-set measure s P (PoolDrop r (suc c) m j need held ∷ P) k.nodes c _ i.nodes (here-pool_drop measure s r (suc c) m j need held P n (i.nodes.each c n here) legal) (λ v ne. same-pool_drop s (suc v) r (suc c) m j need held P legal (apart-more ne));
+      nodes =
+          nodes-set measure s P (PoolDrop r (suc c) m j need held ∷ P) k.nodes c _ i.nodes (here-pool_drop measure s r (suc c) m j need held P n
+          (i.nodes.each c n here) legal) (λ v ne. same-pool_drop s (suc v) r (suc c) m j need held P legal (apart-more ne));
       roles = roles-kept s P _ k.roles i.roles (λ r. refl);
-      account = array_laws.pool_drop s P r (suc c) m j need held (all_named k.pool) (block_of P (frame m j)) [] refl legal (subst (λ (ts : List FrameName). IsAccount s P (flat_map (block_of P) ts) (all_named k.pool)) empty i.account);
-      standing = All-cons (HasBlock P) (frame m j) [] (queued-block s (suc c) P (frame m j) _ i.legal (queue_laws.pool_drop s r (suc c) m j need held P (row_of s (PoolDrop r (suc c) m j need held) P (λ d. refl) legal))) (All-nil (HasBlock P));
+      account =
+          array_laws.pool_drop s P r (suc c) m j need held (all_named k.pool) (block_of P (frame m j)) [] refl legal
+          (subst (λ (ts : List FrameName). IsAccount s P (flat_map (block_of P) ts) (all_named k.pool)) empty i.account);
+      standing =
+          All-cons (HasBlock P) (frame m j) [] (queued-block s (suc c) P (frame m j) _ i.legal
+          (queue_laws.pool_drop s r (suc c) m j need held P (row_of s (PoolDrop r (suc c) m j need held) P (λ d. refl) legal))) (All-nil (HasBlock P));
       blocks = blocks-kept s P _ k.blocks i.blocks (λ a. refl);
       facts = ap (λ (f : Facts). record f { dropped = f.dropped + 1 }) i.facts ∙ sym (facts-pool_drop s r (suc c) m j need held P legal);
       log_room = i.log_room;
@@ -420,14 +488,20 @@ dropped_by_pool measure s k r c m j need held n i legal here empty =
       transit_room = i.transit_room;
     }
 
-pub dropped_by_list : (measure : Measuring) (s : Setting) (k : Parts) (c m j : ℕ) (n y : NodeState) → IsCourse measure s k → is_legal s (SortDrop (suc c) m j ∷ log_of k) ≡ true → slice_get k.nodes c ≡ Some n → is_sorted s (suc c) ≡ true → HasBlock (log_of k) (frame m j) → y.list.size ≡ n.list.size → y.list.last ≡ prev s (suc c) (log_of k) → y.list.waiting ≡ list_of measure s (suc c) (SortDrop (suc c) m j ∷ log_of k) → length k.transit ≤ 4096
-    → IsCourse measure s (record k { log = record k.log { told = plain (SortDrop (suc c) m j) ∷ k.log.told }; nodes = set k.nodes c (record n { list = y.list }); facts = record k.facts { dropped = k.facts.dropped + 1 }; transit = frame m j ∷ k.transit })
+pub dropped_by_list : (measure : Measuring) (s : Setting) (k : Parts) (c m j : ℕ) (n y : NodeState) → IsCourse measure s k
+    → is_legal s (SortDrop (suc c) m j ∷ log_of k) ≡ true → slice_get k.nodes c ≡ Some n → is_sorted s (suc c) ≡ true → HasBlock (log_of k) (frame m j)
+    → y.list.size ≡ n.list.size → y.list.last ≡ prev s (suc c) (log_of k)
+    → y.list.waiting ≡ list_of measure s (suc c) (SortDrop (suc c) m j ∷ log_of k) → length k.transit ≤ 4096
+    → IsCourse measure s (record k { log = record k.log { told = plain (SortDrop (suc c) m j) ∷ k.log.told };
+    nodes = set k.nodes c (record n { list = y.list }); facts = record k.facts { dropped = k.facts.dropped + 1 }; transit = frame m j ∷ k.transit })
 dropped_by_list measure s k c m j n y i legal here sorted has size last waits few =
     let P = log_of k in
     record {
       ruled = i.ruled;
       legal = legal;
-      nodes = nodes-set measure s P (SortDrop (suc c) m j ∷ P) k.nodes c _ i.nodes (here-sort_drop measure s (suc c) m j P n y (i.nodes.each c n here) legal (size ∙ (i.nodes.each c n here).list_size) (λ h. last) waits) (λ v ne. same-sort_drop s (suc v) (suc c) m j P legal (apart-more ne));
+      nodes =
+          nodes-set measure s P (SortDrop (suc c) m j ∷ P) k.nodes c _ i.nodes (here-sort_drop measure s (suc c) m j P n y (i.nodes.each c n here) legal
+          (size ∙ (i.nodes.each c n here).list_size) (λ h. last) waits) (λ v ne. same-sort_drop s (suc v) (suc c) m j P legal (apart-more ne));
       roles = roles-kept s P _ k.roles i.roles (λ r. refl);
       account = array_laws.sort_drop s P (suc c) m j (all_named k.pool) (block_of P (frame m j)) (flat_map (block_of P) k.transit) sorted refl legal i.account;
       standing = All-cons (HasBlock P) (frame m j) k.transit has i.standing;
@@ -439,16 +513,23 @@ dropped_by_list measure s k c m j n y i legal here sorted has size last waits fe
       transit_room = i.transit_room;
     }
 
-pub settled_with : (measure : Measuring) (s : Setting) (k : Parts) (r c : ℕ) (n y : NodeState) → IsCourse measure s k → is_legal s (Settle r (suc c) ∷ log_of k) ≡ true → slice_get k.nodes c ≡ Some n → k.transit ≡ [] → y.window.ring ≡ [] → y.window.pending ≡ [] → length (ring s (suc c) (log_of k)) ≤ 4097
-    → IsCourse measure s (record k { log = record k.log { told = plain (Settle r (suc c)) ∷ k.log.told }; nodes = set k.nodes c (record n { settled = true; window = y.window }); transit = ring s (suc c) (log_of k) })
+pub settled_with : (measure : Measuring) (s : Setting) (k : Parts) (r c : ℕ) (n y : NodeState) → IsCourse measure s k
+    → is_legal s (Settle r (suc c) ∷ log_of k) ≡ true → slice_get k.nodes c ≡ Some n → k.transit ≡ [] → y.window.ring ≡ [] → y.window.pending ≡ []
+    → length (ring s (suc c) (log_of k)) ≤ 4097
+    → IsCourse measure s (record k { log = record k.log { told = plain (Settle r (suc c)) ∷ k.log.told };
+    nodes = set k.nodes c (record n { settled = true; window = y.window }); transit = ring s (suc c) (log_of k) })
 settled_with measure s k r c n y i legal here empty none pending few =
     let P = log_of k in
     record {
       ruled = i.ruled;
       legal = legal;
-      nodes = nodes-set measure s P (Settle r (suc c) ∷ P) k.nodes c _ i.nodes (here-settle measure s r (suc c) P n y (i.nodes.each c n here) legal none pending) (λ v ne. same-settle s (suc v) r (suc c) P legal (apart-more ne));
+      nodes =
+          nodes-set measure s P (Settle r (suc c) ∷ P) k.nodes c _ i.nodes (here-settle measure s r (suc c) P n y (i.nodes.each c n here) legal none pending)
+          (λ v ne. same-settle s (suc v) r (suc c) P legal (apart-more ne));
       roles = roles-kept s P _ k.roles i.roles (λ r. refl);
-      account = subst (λ xs. IsAccount s (Settle r (suc c) ∷ P) xs (all_named k.pool)) (append-nil (flat_map (block_of P) (ring s (suc c) P))) (array_laws.settle s P r (suc c) (all_named k.pool) [] legal (subst (λ (ts : List FrameName). IsAccount s P (flat_map (block_of P) ts) (all_named k.pool)) empty i.account));
+      account =
+          subst (λ xs. IsAccount s (Settle r (suc c) ∷ P) xs (all_named k.pool)) (append-nil (flat_map (block_of P) (ring s (suc c) P))) (array_laws.settle s P
+          r (suc c) (all_named k.pool) [] legal (subst (λ (ts : List FrameName). IsAccount s P (flat_map (block_of P) ts) (all_named k.pool)) empty i.account));
       standing = ring-blocks s (suc c) P i.legal;
       blocks = blocks-kept s P _ k.blocks i.blocks (λ a. refl);
       facts = i.facts ∙ sym (facts-settle s r (suc c) P legal);
@@ -458,14 +539,19 @@ settled_with measure s k r c n y i legal here empty none pending few =
       transit_room = i.transit_room;
     }
 
-pub saving_one : (measure : Measuring) (s : Setting) (k : Parts) (r c m j g : ℕ) (x : RoleState) (n y : NodeState) (part : Option Parts_of) → IsCourse measure s k → is_legal s (Save r (suc c) m j g ∷ log_of k) ≡ true → slice_get k.roles r ≡ Some x → slice_get k.nodes c ≡ Some n → y.unsaved.items ≡ drop 1 n.unsaved.items → HasRoomToSave s (suc c) y
-    → IsCourse measure s (record k { log = record k.log { told = lends (Save r (suc c) m j g) part ∷ k.log.told }; nodes = set k.nodes c (record n { unsaved = y.unsaved; saves = n.saves + 1; saving = true }); roles = set k.roles r (record x { hand = Piece (suc c) (frame m j) }) })
+pub saving_one : (measure : Measuring) (s : Setting) (k : Parts) (r c m j g : ℕ) (x : RoleState) (n y : NodeState) (part : Option Parts_of)
+    → IsCourse measure s k → is_legal s (Save r (suc c) m j g ∷ log_of k) ≡ true → slice_get k.roles r ≡ Some x → slice_get k.nodes c ≡ Some n
+    → y.unsaved.items ≡ drop 1 n.unsaved.items → HasRoomToSave s (suc c) y
+    → IsCourse measure s (record k { log = record k.log { told = lends (Save r (suc c) m j g) part ∷ k.log.told }; nodes = set k.nodes c
+    (record n { unsaved = y.unsaved; saves = n.saves + 1; saving = true }); roles = set k.roles r (record x { hand = Piece (suc c) (frame m j) }) })
 saving_one measure s k r c m j g x n y part i legal at here items room =
     let P = log_of k in
     record {
       ruled = i.ruled;
       legal = legal;
-      nodes = nodes-set measure s P (Save r (suc c) m j g ∷ P) k.nodes c _ i.nodes (here-save measure s r (suc c) m j g P n y (i.nodes.each c n here) i.legal legal items room) (λ v ne. same-save s (suc v) r (suc c) m j g P legal (apart-more ne));
+      nodes =
+          nodes-set measure s P (Save r (suc c) m j g ∷ P) k.nodes c _ i.nodes (here-save measure s r (suc c) m j g P n y
+          (i.nodes.each c n here) i.legal legal items room) (λ v ne. same-save s (suc v) r (suc c) m j g P legal (apart-more ne));
       roles = role-up s r (Save r (suc c) m j g) P k.roles x i.roles at (save-of r (suc c) m j g) (eq-eqb r r refl) refl refl;
       account = array_laws.others s P (Save r (suc c) m j g) (all_named k.pool) (flat_map (block_of P) k.transit) refl legal i.account;
       standing = i.standing;
@@ -477,16 +563,24 @@ saving_one measure s k r c m j g x n y part i legal at here items room =
       transit_room = i.transit_room;
     }
 
-pub saved_one : (measure : Measuring) (s : Setting) (k : Parts) (r c m j q g : ℕ) (x : RoleState) (n : NodeState) → IsCourse measure s k → is_legal s (Saved r (suc c) m j ∷ log_of k) ≡ true → slice_get k.roles r ≡ Some x → slice_get k.nodes c ≡ Some n → k.transit ≡ [] → hand r (log_of k) ≡ Some (Save q (suc c) m j g)
-    → IsCourse measure s (record k { log = record k.log { told = plain (Saved r (suc c) m j) ∷ k.log.told }; nodes = set k.nodes c (record n { saving = false }); roles = set k.roles r (record x { hand = Free }); facts = record k.facts { saved = k.facts.saved + 1 }; transit = frame m j ∷ [] })
+pub saved_one : (measure : Measuring) (s : Setting) (k : Parts) (r c m j q g : ℕ) (x : RoleState) (n : NodeState) → IsCourse measure s k
+    → is_legal s (Saved r (suc c) m j ∷ log_of k) ≡ true → slice_get k.roles r ≡ Some x → slice_get k.nodes c ≡ Some n → k.transit ≡ []
+    → hand r (log_of k) ≡ Some (Save q (suc c) m j g)
+    → IsCourse measure s
+    (record k { log = record k.log { told = plain (Saved r (suc c) m j) ∷ k.log.told }; nodes = set k.nodes c (record n { saving = false });
+    roles = set k.roles r (record x { hand = Free }); facts = record k.facts { saved = k.facts.saved + 1 }; transit = frame m j ∷ [] })
 saved_one measure s k r c m j q g x n i legal at here empty held =
     let P = log_of k in
     record {
       ruled = i.ruled;
       legal = legal;
-      nodes = nodes-set measure s P (Saved r (suc c) m j ∷ P) k.nodes c _ i.nodes (here-saved measure s r (suc c) m j q m j g P n (i.nodes.each c n here) i.legal legal held) (λ v ne. same-saved s (suc v) r (suc c) m j (Save q (suc c) m j g) P legal held refl (ne_eqb (suc c) (suc v) (apart-more ne)));
+      nodes =
+          nodes-set measure s P (Saved r (suc c) m j ∷ P) k.nodes c _ i.nodes (here-saved measure s r (suc c) m j q m j g P n (i.nodes.each c n here) i.legal
+          legal held) (λ v ne. same-saved s (suc v) r (suc c) m j (Save q (suc c) m j g) P legal held refl (ne_eqb (suc c) (suc v) (apart-more ne)));
       roles = role-down s r (Saved r (suc c) m j) P k.roles x i.roles at (saved-of r (suc c) m j) legal (eq-eqb r r refl) refl refl;
-      account = array_laws.saved s P r (suc c) m j (all_named k.pool) (block_of P (frame m j)) [] refl legal (subst (λ (ts : List FrameName). IsAccount s P (flat_map (block_of P) ts) (all_named k.pool)) empty i.account);
+      account =
+          array_laws.saved s P r (suc c) m j (all_named k.pool) (block_of P (frame m j)) [] refl legal
+          (subst (λ (ts : List FrameName). IsAccount s P (flat_map (block_of P) ts) (all_named k.pool)) empty i.account);
       standing = All-cons (HasBlock P) (frame m j) [] (hand-block s r (Save q (suc c) m j g) (frame m j) P i.legal held (λ h. h)) (All-nil (HasBlock P));
       blocks = blocks-kept s P _ k.blocks i.blocks (λ a. refl);
       facts = ap (λ (f : Facts). record f { saved = f.saved + 1 }) i.facts ∙ sym (facts-saved s r (suc c) m j (Save q (suc c) m j g) P legal held refl);
@@ -498,29 +592,102 @@ saved_one measure s k r c m j q g x n i legal at here empty held =
 
 -- AT A NODE
 -- The same of a node by its number, where its state stands at the place before.
-pub accepted_at : (measure : Measuring) (s : Setting) (k : Parts) (v : ℕ) (c m j b : ℕ) (n : NodeState) → suc c ≡ v → IsCourse measure s k → is_legal s (Accept v m j ∷ log_of k) ≡ true → slice_get k.nodes c ≡ Some n → has_room s (log_of k) v ≡ true → ((v : ℕ) → deals s v ≡ true → has_just_emitted v (log_of k) ≡ false) → block_of (log_of k) (frame m j) ≡ b ∷ [] → 0 < ledger.refs k.pool b → IsCourse measure s (record k { log = record k.log { told = plain (Accept v m j) ∷ k.log.told }; nodes = set k.nodes c (record n { inbox = with_last n.inbox (frame m j) }); pool = with_refs b (ledger.refs k.pool b + 1) k.pool; facts = record k.facts { came = k.facts.came + 1 } })
-accepted_at measure s k v c m j b n is i = subst (λ u. is_legal s (Accept u m j ∷ log_of k) ≡ true → slice_get k.nodes c ≡ Some n → has_room s (log_of k) u ≡ true → ((v : ℕ) → deals s v ≡ true → has_just_emitted v (log_of k) ≡ false) → block_of (log_of k) (frame m j) ≡ b ∷ [] → 0 < ledger.refs k.pool b → IsCourse measure s (record k { log = record k.log { told = plain (Accept u m j) ∷ k.log.told }; nodes = set k.nodes c (record n { inbox = with_last n.inbox (frame m j) }); pool = with_refs b (ledger.refs k.pool b + 1) k.pool; facts = record k.facts { came = k.facts.came + 1 } })) is (accepted measure s k c m j b n i)
+pub accepted_at : (measure : Measuring) (s : Setting) (k : Parts) (v : ℕ) (c m j b : ℕ) (n : NodeState) → suc c ≡ v → IsCourse measure s k
+    → is_legal s (Accept v m j ∷ log_of k) ≡ true → slice_get k.nodes c ≡ Some n → has_room s (log_of k) v ≡ true
+    → ((v : ℕ) → deals s v ≡ true → has_just_emitted v (log_of k) ≡ false) → block_of (log_of k) (frame m j) ≡ b ∷ [] → 0 < ledger.refs k.pool b
+    → IsCourse measure s
+    (record k { log = record k.log { told = plain (Accept v m j) ∷ k.log.told }; nodes = set k.nodes c (record n { inbox = with_last n.inbox (frame m j) });
+    pool = with_refs b (ledger.refs k.pool b + 1) k.pool; facts = record k.facts { came = k.facts.came + 1 } })
+accepted_at measure s k v c m j b n is i =
+    subst (λ u. is_legal s (Accept u m j ∷ log_of k) ≡ true → slice_get k.nodes c ≡ Some n → has_room s (log_of k) u ≡ true → ((v : ℕ) → deals s v ≡ true
+    → has_just_emitted v (log_of k) ≡ false) → block_of (log_of k) (frame m j) ≡ b ∷ [] → 0 < ledger.refs k.pool b → IsCourse measure s
+    (record k { log = record k.log { told = plain (Accept u m j) ∷ k.log.told }; nodes = set k.nodes c (record n { inbox = with_last n.inbox (frame m j) });
+    pool = with_refs b (ledger.refs k.pool b + 1) k.pool; facts = record k.facts { came = k.facts.came + 1 } })) is (accepted measure s k c m j b n i)
 
-pub emitted_at_once_at : (measure : Measuring) (s : Setting) (k : Parts) (v : ℕ) (c m j : ℕ) (why : Why) (n y : NodeState) → suc c ≡ v → IsCourse measure s k → is_legal s (Emit v m j why ∷ log_of k) ≡ true → slice_get k.nodes c ≡ Some n → is_sorted s v ≡ false → y.list ≡ n.list → y.measures.items ≡ n.measures.items ++ listed_one (measure v (frame m j)) → HasRoomToMeasure measure s v y → IsCourse measure s (record k { log = record k.log { told = plain (Emit v m j why) ∷ k.log.told }; nodes = set k.nodes c (record n { list = y.list; measures = y.measures }) })
-emitted_at_once_at measure s k v c m j why n y is i = subst (λ u. is_legal s (Emit u m j why ∷ log_of k) ≡ true → slice_get k.nodes c ≡ Some n → is_sorted s u ≡ false → y.list ≡ n.list → y.measures.items ≡ n.measures.items ++ listed_one (measure u (frame m j)) → HasRoomToMeasure measure s u y → IsCourse measure s (record k { log = record k.log { told = plain (Emit u m j why) ∷ k.log.told }; nodes = set k.nodes c (record n { list = y.list; measures = y.measures }) })) is (emitted_at_once measure s k c m j why n y i)
+pub emitted_at_once_at : (measure : Measuring) (s : Setting) (k : Parts) (v : ℕ) (c m j : ℕ) (why : Why) (n y : NodeState) → suc c ≡ v → IsCourse measure s k
+    → is_legal s (Emit v m j why ∷ log_of k) ≡ true → slice_get k.nodes c ≡ Some n → is_sorted s v ≡ false → y.list ≡ n.list
+    → y.measures.items ≡ n.measures.items ++ listed_one (measure v (frame m j)) → HasRoomToMeasure measure s v y
+    → IsCourse measure s
+    (record k { log = record k.log { told = plain (Emit v m j why) ∷ k.log.told }; nodes = set k.nodes c (record n { list = y.list; measures = y.measures }) })
+emitted_at_once_at measure s k v c m j why n y is i =
+    subst (λ u. is_legal s (Emit u m j why ∷ log_of k) ≡ true → slice_get k.nodes c ≡ Some n → is_sorted s u ≡ false → y.list ≡ n.list
+    → y.measures.items ≡ n.measures.items ++ listed_one (measure u (frame m j)) → HasRoomToMeasure measure s u y → IsCourse measure s
+    (record k { log = record k.log { told = plain (Emit u m j why) ∷ k.log.told }; nodes = set k.nodes c (record n { list = y.list; measures = y.measures }) }))
+    is (emitted_at_once measure s k c m j why n y i)
 
-pub emitted_from_list_at : (measure : Measuring) (s : Setting) (k : Parts) (v : ℕ) (c m j : ℕ) (why : Why) (n y : NodeState) → suc c ≡ v → IsCourse measure s k → is_legal s (Emit v m j why ∷ log_of k) ≡ true → slice_get k.nodes c ≡ Some n → is_sorted s v ≡ true → k.transit ≡ [] → HasBlock (log_of k) (frame m j) → y.list.size ≡ n.list.size → y.list.last ≡ id_at s j → y.list.waiting ≡ list_of measure s v (Emit v m j why ∷ log_of k) → y.measures.items ≡ n.measures.items ++ listed_one (measure v (frame m j)) → HasRoomToMeasure measure s v y → IsCourse measure s (record k { log = record k.log { told = plain (Emit v m j why) ∷ k.log.told }; nodes = set k.nodes c (record n { list = y.list; measures = y.measures }); transit = frame m j ∷ [] })
-emitted_from_list_at measure s k v c m j why n y is i = subst (λ u. is_legal s (Emit u m j why ∷ log_of k) ≡ true → slice_get k.nodes c ≡ Some n → is_sorted s u ≡ true → k.transit ≡ [] → HasBlock (log_of k) (frame m j) → y.list.size ≡ n.list.size → y.list.last ≡ id_at s j → y.list.waiting ≡ list_of measure s u (Emit u m j why ∷ log_of k) → y.measures.items ≡ n.measures.items ++ listed_one (measure u (frame m j)) → HasRoomToMeasure measure s u y → IsCourse measure s (record k { log = record k.log { told = plain (Emit u m j why) ∷ k.log.told }; nodes = set k.nodes c (record n { list = y.list; measures = y.measures }); transit = frame m j ∷ [] })) is (emitted_from_list measure s k c m j why n y i)
+pub emitted_from_list_at : (measure : Measuring) (s : Setting) (k : Parts) (v : ℕ) (c m j : ℕ) (why : Why) (n y : NodeState) → suc c ≡ v → IsCourse measure s k
+    → is_legal s (Emit v m j why ∷ log_of k) ≡ true → slice_get k.nodes c ≡ Some n → is_sorted s v ≡ true → k.transit ≡ [] → HasBlock (log_of k) (frame m j)
+    → y.list.size ≡ n.list.size → y.list.last ≡ id_at s j → y.list.waiting ≡ list_of measure s v (Emit v m j why ∷ log_of k)
+    → y.measures.items ≡ n.measures.items ++ listed_one (measure v (frame m j)) → HasRoomToMeasure measure s v y
+    → IsCourse measure s (record k { log = record k.log { told = plain (Emit v m j why) ∷ k.log.told };
+    nodes = set k.nodes c (record n { list = y.list; measures = y.measures }); transit = frame m j ∷ [] })
+emitted_from_list_at measure s k v c m j why n y is i =
+    subst (λ u. is_legal s (Emit u m j why ∷ log_of k) ≡ true → slice_get k.nodes c ≡ Some n → is_sorted s u ≡ true → k.transit ≡ []
+    → HasBlock (log_of k) (frame m j) → y.list.size ≡ n.list.size → y.list.last ≡ id_at s j → y.list.waiting ≡ list_of measure s u (Emit u m j why ∷ log_of k)
+    → y.measures.items ≡ n.measures.items ++ listed_one (measure u (frame m j)) → HasRoomToMeasure measure s u y
+    → IsCourse measure s (record k { log = record k.log { told = plain (Emit u m j why) ∷ k.log.told };
+    nodes = set k.nodes c (record n { list = y.list; measures = y.measures }); transit = frame m j ∷ [] })) is (emitted_from_list measure s k c m j why n y i)
 
-pub took_at : (measure : Measuring) (s : Setting) (k : Parts) (v : ℕ) (r c m j : ℕ) (x : RoleState) (n : NodeState) (part : Option Parts_of) → suc c ≡ v → IsCourse measure s k → is_legal s (Take r v m j ∷ log_of k) ≡ true → slice_get k.roles r ≡ Some x → slice_get k.nodes c ≡ Some n → IsCourse measure s (record k { log = record k.log { told = lends (Take r v m j) part ∷ k.log.told }; nodes = set k.nodes c (record n { inbox = without_front n.inbox; jobs = n.jobs + 1 }); roles = set k.roles r (record x { hand = Job v (frame m j) None }) })
-took_at measure s k v r c m j x n part is i = subst (λ u. is_legal s (Take r u m j ∷ log_of k) ≡ true → slice_get k.roles r ≡ Some x → slice_get k.nodes c ≡ Some n → IsCourse measure s (record k { log = record k.log { told = lends (Take r u m j) part ∷ k.log.told }; nodes = set k.nodes c (record n { inbox = without_front n.inbox; jobs = n.jobs + 1 }); roles = set k.roles r (record x { hand = Job u (frame m j) None }) })) is (took measure s k r c m j x n part i)
+pub took_at : (measure : Measuring) (s : Setting) (k : Parts) (v : ℕ) (r c m j : ℕ) (x : RoleState) (n : NodeState) (part : Option Parts_of) → suc c ≡ v
+    → IsCourse measure s k → is_legal s (Take r v m j ∷ log_of k) ≡ true → slice_get k.roles r ≡ Some x → slice_get k.nodes c ≡ Some n
+    → IsCourse measure s (record k { log = record k.log { told = lends (Take r v m j) part ∷ k.log.told };
+    nodes = set k.nodes c (record n { inbox = without_front n.inbox; jobs = n.jobs + 1 }); roles = set k.roles r (record x { hand = Job v (frame m j) None }) })
+took_at measure s k v r c m j x n part is i =
+    subst (λ u. is_legal s (Take r u m j ∷ log_of k) ≡ true → slice_get k.roles r ≡ Some x → slice_get k.nodes c ≡ Some n
+    → IsCourse measure s (record k { log = record k.log { told = lends (Take r u m j) part ∷ k.log.told }; nodes = set k.nodes c
+    (record n { inbox = without_front n.inbox; jobs = n.jobs + 1 }); roles = set k.roles r (record x { hand = Job u (frame m j) None }) })) is
+    (took measure s k r c m j x n part i)
 
-pub dropped_by_pool_at : (measure : Measuring) (s : Setting) (k : Parts) (v : ℕ) (r c m j need held : ℕ) (n : NodeState) → suc c ≡ v → IsCourse measure s k → is_legal s (PoolDrop r v m j need held ∷ log_of k) ≡ true → slice_get k.nodes c ≡ Some n → k.transit ≡ [] → IsCourse measure s (record k { log = record k.log { told = plain (PoolDrop r v m j need held) ∷ k.log.told }; nodes = set k.nodes c (record n { inbox = without_front n.inbox }); facts = record k.facts { dropped = k.facts.dropped + 1 }; transit = frame m j ∷ [] })
-dropped_by_pool_at measure s k v r c m j need held n is i = subst (λ u. is_legal s (PoolDrop r u m j need held ∷ log_of k) ≡ true → slice_get k.nodes c ≡ Some n → k.transit ≡ [] → IsCourse measure s (record k { log = record k.log { told = plain (PoolDrop r u m j need held) ∷ k.log.told }; nodes = set k.nodes c (record n { inbox = without_front n.inbox }); facts = record k.facts { dropped = k.facts.dropped + 1 }; transit = frame m j ∷ [] })) is (dropped_by_pool measure s k r c m j need held n i)
+pub dropped_by_pool_at : (measure : Measuring) (s : Setting) (k : Parts) (v : ℕ) (r c m j need held : ℕ) (n : NodeState) → suc c ≡ v → IsCourse measure s k
+    → is_legal s (PoolDrop r v m j need held ∷ log_of k) ≡ true → slice_get k.nodes c ≡ Some n → k.transit ≡ []
+    → IsCourse measure s (record k { log = record k.log { told = plain (PoolDrop r v m j need held) ∷ k.log.told };
+    nodes = set k.nodes c (record n { inbox = without_front n.inbox }); facts = record k.facts { dropped = k.facts.dropped + 1 }; transit = frame m j ∷ [] })
+dropped_by_pool_at measure s k v r c m j need held n is i =
+    subst (λ u. is_legal s (PoolDrop r u m j need held ∷ log_of k) ≡ true → slice_get k.nodes c ≡ Some n → k.transit ≡ []
+    → IsCourse measure s (record k { log = record k.log { told = plain (PoolDrop r u m j need held) ∷ k.log.told };
+    nodes = set k.nodes c (record n { inbox = without_front n.inbox }); facts = record k.facts { dropped = k.facts.dropped + 1 }; transit = frame m j ∷ [] }))
+    is (dropped_by_pool measure s k r c m j need held n i)
 
-pub dropped_by_list_at : (measure : Measuring) (s : Setting) (k : Parts) (v : ℕ) (c m j : ℕ) (n y : NodeState) → suc c ≡ v → IsCourse measure s k → is_legal s (SortDrop v m j ∷ log_of k) ≡ true → slice_get k.nodes c ≡ Some n → is_sorted s v ≡ true → HasBlock (log_of k) (frame m j) → y.list.size ≡ n.list.size → y.list.last ≡ prev s v (log_of k) → y.list.waiting ≡ list_of measure s v (SortDrop v m j ∷ log_of k) → length k.transit ≤ 4096 → IsCourse measure s (record k { log = record k.log { told = plain (SortDrop v m j) ∷ k.log.told }; nodes = set k.nodes c (record n { list = y.list }); facts = record k.facts { dropped = k.facts.dropped + 1 }; transit = frame m j ∷ k.transit })
-dropped_by_list_at measure s k v c m j n y is i = subst (λ u. is_legal s (SortDrop u m j ∷ log_of k) ≡ true → slice_get k.nodes c ≡ Some n → is_sorted s u ≡ true → HasBlock (log_of k) (frame m j) → y.list.size ≡ n.list.size → y.list.last ≡ prev s u (log_of k) → y.list.waiting ≡ list_of measure s u (SortDrop u m j ∷ log_of k) → length k.transit ≤ 4096 → IsCourse measure s (record k { log = record k.log { told = plain (SortDrop u m j) ∷ k.log.told }; nodes = set k.nodes c (record n { list = y.list }); facts = record k.facts { dropped = k.facts.dropped + 1 }; transit = frame m j ∷ k.transit })) is (dropped_by_list measure s k c m j n y i)
+pub dropped_by_list_at : (measure : Measuring) (s : Setting) (k : Parts) (v : ℕ) (c m j : ℕ) (n y : NodeState) → suc c ≡ v → IsCourse measure s k
+    → is_legal s (SortDrop v m j ∷ log_of k) ≡ true → slice_get k.nodes c ≡ Some n → is_sorted s v ≡ true → HasBlock (log_of k) (frame m j)
+    → y.list.size ≡ n.list.size → y.list.last ≡ prev s v (log_of k) → y.list.waiting ≡ list_of measure s v (SortDrop v m j ∷ log_of k) → length k.transit ≤ 4096
+    → IsCourse measure s (record k { log = record k.log { told = plain (SortDrop v m j) ∷ k.log.told }; nodes = set k.nodes c (record n { list = y.list });
+    facts = record k.facts { dropped = k.facts.dropped + 1 }; transit = frame m j ∷ k.transit })
+dropped_by_list_at measure s k v c m j n y is i =
+    subst (λ u. is_legal s (SortDrop u m j ∷ log_of k) ≡ true → slice_get k.nodes c ≡ Some n → is_sorted s u ≡ true → HasBlock (log_of k) (frame m j)
+    → y.list.size ≡ n.list.size → y.list.last ≡ prev s u (log_of k) → y.list.waiting ≡ list_of measure s u (SortDrop u m j ∷ log_of k) → length k.transit ≤ 4096
+    → IsCourse measure s (record k { log = record k.log { told = plain (SortDrop u m j) ∷ k.log.told }; nodes = set k.nodes c (record n { list = y.list });
+    facts = record k.facts { dropped = k.facts.dropped + 1 }; transit = frame m j ∷ k.transit })) is (dropped_by_list measure s k c m j n y i)
 
-pub settled_with_at : (measure : Measuring) (s : Setting) (k : Parts) (v : ℕ) (r c : ℕ) (n y : NodeState) → suc c ≡ v → IsCourse measure s k → is_legal s (Settle r v ∷ log_of k) ≡ true → slice_get k.nodes c ≡ Some n → k.transit ≡ [] → y.window.ring ≡ [] → y.window.pending ≡ [] → length (ring s v (log_of k)) ≤ 4097 → IsCourse measure s (record k { log = record k.log { told = plain (Settle r v) ∷ k.log.told }; nodes = set k.nodes c (record n { settled = true; window = y.window }); transit = ring s v (log_of k) })
-settled_with_at measure s k v r c n y is i = subst (λ u. is_legal s (Settle r u ∷ log_of k) ≡ true → slice_get k.nodes c ≡ Some n → k.transit ≡ [] → y.window.ring ≡ [] → y.window.pending ≡ [] → length (ring s u (log_of k)) ≤ 4097 → IsCourse measure s (record k { log = record k.log { told = plain (Settle r u) ∷ k.log.told }; nodes = set k.nodes c (record n { settled = true; window = y.window }); transit = ring s u (log_of k) })) is (settled_with measure s k r c n y i)
+pub settled_with_at : (measure : Measuring) (s : Setting) (k : Parts) (v : ℕ) (r c : ℕ) (n y : NodeState) → suc c ≡ v → IsCourse measure s k
+    → is_legal s (Settle r v ∷ log_of k) ≡ true → slice_get k.nodes c ≡ Some n → k.transit ≡ [] → y.window.ring ≡ [] → y.window.pending ≡ []
+    → length (ring s v (log_of k)) ≤ 4097
+    → IsCourse measure s (record k { log = record k.log { told = plain (Settle r v) ∷ k.log.told };
+    nodes = set k.nodes c (record n { settled = true; window = y.window }); transit = ring s v (log_of k) })
+settled_with_at measure s k v r c n y is i =
+    subst (λ u. is_legal s (Settle r u ∷ log_of k) ≡ true → slice_get k.nodes c ≡ Some n → k.transit ≡ [] → y.window.ring ≡ [] → y.window.pending ≡ []
+    → length (ring s u (log_of k)) ≤ 4097 → IsCourse measure s (record k { log = record k.log { told = plain (Settle r u) ∷ k.log.told };
+    nodes = set k.nodes c (record n { settled = true; window = y.window }); transit = ring s u (log_of k) })) is (settled_with measure s k r c n y i)
 
-pub saving_one_at : (measure : Measuring) (s : Setting) (k : Parts) (v : ℕ) (r c m j g : ℕ) (x : RoleState) (n y : NodeState) (part : Option Parts_of) → suc c ≡ v → IsCourse measure s k → is_legal s (Save r v m j g ∷ log_of k) ≡ true → slice_get k.roles r ≡ Some x → slice_get k.nodes c ≡ Some n → y.unsaved.items ≡ drop 1 n.unsaved.items → HasRoomToSave s v y → IsCourse measure s (record k { log = record k.log { told = lends (Save r v m j g) part ∷ k.log.told }; nodes = set k.nodes c (record n { unsaved = y.unsaved; saves = n.saves + 1; saving = true }); roles = set k.roles r (record x { hand = Piece v (frame m j) }) })
-saving_one_at measure s k v r c m j g x n y part is i = subst (λ u. is_legal s (Save r u m j g ∷ log_of k) ≡ true → slice_get k.roles r ≡ Some x → slice_get k.nodes c ≡ Some n → y.unsaved.items ≡ drop 1 n.unsaved.items → HasRoomToSave s u y → IsCourse measure s (record k { log = record k.log { told = lends (Save r u m j g) part ∷ k.log.told }; nodes = set k.nodes c (record n { unsaved = y.unsaved; saves = n.saves + 1; saving = true }); roles = set k.roles r (record x { hand = Piece u (frame m j) }) })) is (saving_one measure s k r c m j g x n y part i)
+pub saving_one_at : (measure : Measuring) (s : Setting) (k : Parts) (v : ℕ) (r c m j g : ℕ) (x : RoleState) (n y : NodeState) (part : Option Parts_of)
+    → suc c ≡ v → IsCourse measure s k → is_legal s (Save r v m j g ∷ log_of k) ≡ true → slice_get k.roles r ≡ Some x → slice_get k.nodes c ≡ Some n
+    → y.unsaved.items ≡ drop 1 n.unsaved.items → HasRoomToSave s v y
+    → IsCourse measure s (record k { log = record k.log { told = lends (Save r v m j g) part ∷ k.log.told }; nodes = set k.nodes c
+    (record n { unsaved = y.unsaved; saves = n.saves + 1; saving = true }); roles = set k.roles r (record x { hand = Piece v (frame m j) }) })
+saving_one_at measure s k v r c m j g x n y part is i =
+    subst (λ u. is_legal s (Save r u m j g ∷ log_of k) ≡ true → slice_get k.roles r ≡ Some x → slice_get k.nodes c ≡ Some n → y.unsaved.items
+    ≡ drop 1 n.unsaved.items → HasRoomToSave s u y → IsCourse measure s (record k { log = record k.log { told = lends (Save r u m j g) part ∷ k.log.told };
+    nodes = set k.nodes c (record n { unsaved = y.unsaved; saves = n.saves + 1; saving = true });
+    roles = set k.roles r (record x { hand = Piece u (frame m j) }) })) is (saving_one measure s k r c m j g x n y part i)
 
-pub saved_one_at : (measure : Measuring) (s : Setting) (k : Parts) (v : ℕ) (r c m j q g : ℕ) (x : RoleState) (n : NodeState) → suc c ≡ v → IsCourse measure s k → is_legal s (Saved r v m j ∷ log_of k) ≡ true → slice_get k.roles r ≡ Some x → slice_get k.nodes c ≡ Some n → k.transit ≡ [] → hand r (log_of k) ≡ Some (Save q v m j g) → IsCourse measure s (record k { log = record k.log { told = plain (Saved r v m j) ∷ k.log.told }; nodes = set k.nodes c (record n { saving = false }); roles = set k.roles r (record x { hand = Free }); facts = record k.facts { saved = k.facts.saved + 1 }; transit = frame m j ∷ [] })
-saved_one_at measure s k v r c m j q g x n is i = subst (λ u. is_legal s (Saved r u m j ∷ log_of k) ≡ true → slice_get k.roles r ≡ Some x → slice_get k.nodes c ≡ Some n → k.transit ≡ [] → hand r (log_of k) ≡ Some (Save q u m j g) → IsCourse measure s (record k { log = record k.log { told = plain (Saved r u m j) ∷ k.log.told }; nodes = set k.nodes c (record n { saving = false }); roles = set k.roles r (record x { hand = Free }); facts = record k.facts { saved = k.facts.saved + 1 }; transit = frame m j ∷ [] })) is (saved_one measure s k r c m j q g x n i)
+pub saved_one_at : (measure : Measuring) (s : Setting) (k : Parts) (v : ℕ) (r c m j q g : ℕ) (x : RoleState) (n : NodeState) → suc c ≡ v → IsCourse measure s k
+    → is_legal s (Saved r v m j ∷ log_of k) ≡ true → slice_get k.roles r ≡ Some x → slice_get k.nodes c ≡ Some n → k.transit ≡ []
+    → hand r (log_of k) ≡ Some (Save q v m j g)
+    → IsCourse measure s (record k { log = record k.log { told = plain (Saved r v m j) ∷ k.log.told }; nodes = set k.nodes c (record n { saving = false });
+    roles = set k.roles r (record x { hand = Free }); facts = record k.facts { saved = k.facts.saved + 1 }; transit = frame m j ∷ [] })
+saved_one_at measure s k v r c m j q g x n is i =
+    subst (λ u. is_legal s (Saved r u m j ∷ log_of k) ≡ true → slice_get k.roles r ≡ Some x → slice_get k.nodes c ≡ Some n → k.transit ≡ []
+    → hand r (log_of k) ≡ Some (Save q u m j g)
+    → IsCourse measure s (record k { log = record k.log { told = plain (Saved r u m j) ∷ k.log.told }; nodes = set k.nodes c (record n { saving = false });
+    roles = set k.roles r (record x { hand = Free }); facts = record k.facts { saved = k.facts.saved + 1 }; transit = frame m j ∷ [] })) is
+    (saved_one measure s k r c m j q g x n i)

@@ -25,13 +25,18 @@ nothing_more s t zero b = refl
 nothing_more s t (suc n) b = refl
 
 -- an offer calls for nothing
-one-offer : (s : Setting) (t n : ℕ) (a : FrameName) (c : ℕ) (b : BoardState) (ds : List Entry) → with_all s t (suc n) (offer a c ∷ ds) b ≡ with_all s t (suc n) ds (plain (wanted s (past b) (offer a c)) ∷ b)
+one-offer : (s : Setting) (t n : ℕ) (a : FrameName) (c : ℕ) (b : BoardState) (ds : List Entry)
+    → with_all s t (suc n) (offer a c ∷ ds) b ≡ with_all s t (suc n) ds (plain (wanted s (past b) (offer a c)) ∷ b)
 one-offer s t n a c b ds = split (has_room s (past b) c) where
-  split : (r : Bool) → with_all s t (suc n) ds (with_all s t n (calls_for s (past b) (if r then Accept c a.maker a.index else Full c a.maker a.index)) (plain (if r then Accept c a.maker a.index else Full c a.maker a.index) ∷ b)) ≡ with_all s t (suc n) ds (plain (if r then Accept c a.maker a.index else Full c a.maker a.index) ∷ b)
+  split : (r : Bool)
+      → with_all s t (suc n) ds (with_all s t n (calls_for s (past b) (if r then Accept c a.maker a.index else Full c a.maker a.index))
+      (plain (if r then Accept c a.maker a.index else Full c a.maker a.index) ∷ b))
+      ≡ with_all s t (suc n) ds (plain (if r then Accept c a.maker a.index else Full c a.maker a.index) ∷ b)
   split true = ap (with_all s t (suc n) ds) (nothing_more s t n (plain (Accept c a.maker a.index) ∷ b))
   split false = ap (with_all s t (suc n) ds) (nothing_more s t n (plain (Full c a.maker a.index) ∷ b))
 
-pub offers-flat : (s : Setting) (t n : ℕ) (a : FrameName) (cs : List ℕ) (b : BoardState) → with_all s t (suc n) (map (offer a) cs) b ≡ with_all s 0 1 (map (offer a) cs) b
+pub offers-flat : (s : Setting) (t n : ℕ) (a : FrameName) (cs : List ℕ) (b : BoardState)
+    → with_all s t (suc n) (map (offer a) cs) b ≡ with_all s 0 1 (map (offer a) cs) b
 offers-flat s t n a [] b = refl
 offers-flat s t n a (c ∷ cs) b =
     one-offer s t n a c b (map (offer a) cs)
@@ -39,7 +44,8 @@ offers-flat s t n a (c ∷ cs) b =
     ∙ sym (one-offer s 0 0 a c b (map (offer a) cs)))
 
 -- one more offer
-pub offers-first : (s : Setting) (a : FrameName) (c : ℕ) (cs : List ℕ) (b : BoardState) → with_all s 0 1 (map (offer a) (c ∷ cs)) b ≡ with_all s 0 1 (map (offer a) cs) (plain (wanted s (past b) (offer a c)) ∷ b)
+pub offers-first : (s : Setting) (a : FrameName) (c : ℕ) (cs : List ℕ) (b : BoardState)
+    → with_all s 0 1 (map (offer a) (c ∷ cs)) b ≡ with_all s 0 1 (map (offer a) cs) (plain (wanted s (past b) (offer a c)) ∷ b)
 offers-first s a c cs b = one-offer s 0 0 a c b (map (offer a) cs)
 
 pub outs-flat : (s : Setting) (t n : ℕ) (ds : List Entry) (b : BoardState) → list_all is_out ds ≡ true → with_all s t (suc (suc n)) ds b ≡ with_all s 0 2 ds b

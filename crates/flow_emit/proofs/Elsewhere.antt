@@ -31,7 +31,8 @@ use Rattle.flow_journal.specs.Hands.{standing}
 use Rattle.flow_journal.specs.Unsaved.{saves}
 
 -- HANDS
-pub hands-up : (s : Setting) (v r : ℕ) (e : Entry) (P : Past) → is_legal s (e ∷ P) ≡ true → takes_up r e ≡ true → is_job v e ≡ false → is_piece v e ≡ false → SameHands v P (e ∷ P)
+pub hands-up : (s : Setting) (v r : ℕ) (e : Entry) (P : Past) → is_legal s (e ∷ P) ≡ true → takes_up r e ≡ true → is_job v e ≡ false
+    → is_piece v e ≡ false → SameHands v P (e ∷ P)
 hands-up s v r e P legal up job piece =
     let free = was_free s r e P up legal in
     record { working = job_laws.up_other (is_job v) r e P up free job; saving = job_laws.up_other (is_piece v) r e P up free piece }
@@ -64,7 +65,8 @@ dealt-some s v P d some =
     (f.0, rw d f.1)
 
 -- right after its emission a node that deals makes its offer
-pub dealt-next : (s : Setting) (v : ℕ) (e : Entry) (P : Past) → is_legal s (e ∷ P) ≡ true → NoOffer e → deals s v ≡ true → 0 < length (children s v) → has_just_emitted v P ≡ false
+pub dealt-next : (s : Setting) (v : ℕ) (e : Entry) (P : Past) → is_legal s (e ∷ P) ≡ true → NoOffer e → deals s v ≡ true
+    → 0 < length (children s v) → has_just_emitted v P ≡ false
 dealt-next s v e (Emit w m k why ∷ P) legal offerless d some = split (eqb w v) refl where
   split : (b : Bool) → eqb w v ≡ b → eqb w v ≡ false
   split false h = h
@@ -72,7 +74,8 @@ dealt-next s v e (Emit w m k why ∷ P) legal offerless d some = split (eqb w v)
       let same : w ≡ v = eqb-true w v h in
       let f = dealt-some s v P d some in
       let in_place = (and_parts (is_legal s (Emit w m k why ∷ P)) (next s (Emit w m k why ∷ P) e (owed s (Emit w m k why ∷ P))) legal).1 in
-      let owes : owed s (Emit w m k why ∷ P) ≡ offer (frame m k) f.0 ∷ drop 1 (owed s P) = ap (λ u. map (offer (frame m k)) (offered_to s P u) ++ drop 1 (owed s P)) same ∙ ap (λ cs. map (offer (frame m k)) cs ++ drop 1 (owed s P)) f.1 in
+      let owes : owed s (Emit w m k why ∷ P) ≡ offer (frame m k) f.0 ∷ drop 1 (owed s P) =
+      ap (λ u. map (offer (frame m k)) (offered_to s P u) ++ drop 1 (owed s P)) same ∙ ap (λ cs. map (offer (frame m k)) cs ++ drop 1 (owed s P)) f.1 in
       let answered : answers s (Emit w m k why ∷ P) e (offer (frame m k) f.0) ≡ true = rw owes at in_place in
       absurd (false≢true (sym (offerless f.0 m k (has_room s (Emit w m k why ∷ P) f.0)) ∙ answered))
 dealt-next s v e [] legal _ d some = refl
@@ -103,7 +106,8 @@ waits-put s r v w m k f P ne = split (is_sorted s v) refl where
   split true h = put_laws.waits_elsewhere s r v w m k f P h ne
   split false h = put_laws.unsorted s v (Put r w m k f ∷ P) h ∙ sym (put_laws.unsorted s v P h)
 
-pub same-load : (s : Setting) (v : ℕ) (r k b n : ℕ) (f : Bool) (g : ℕ) (x : Bool) (P : Past) → is_legal s (Load r k b n f g x ∷ P) ≡ true → SameNode s v P (Load r k b n f g x ∷ P)
+pub same-load : (s : Setting) (v : ℕ) (r k b n : ℕ) (f : Bool) (g : ℕ) (x : Bool) (P : Past) → is_legal s (Load r k b n f g x ∷ P) ≡ true
+    → SameNode s v P (Load r k b n f g x ∷ P)
 same-load s v r k b n f g x P legal =
     record {
       facts = record {
@@ -160,7 +164,8 @@ same-tick s v t P legal le =
       next_child = turn-same s v (Tick t) P legal (no-tick t);
     }
 
-pub same-issue : (s : Setting) (v : ℕ) (r k : ℕ) (h : Entry) (P : Past) → is_legal s (Issue r k ∷ P) ≡ true → hand r P ≡ Some h → is_job v h ≡ false → is_piece v h ≡ false → SameNode s v P (Issue r k ∷ P)
+pub same-issue : (s : Setting) (v : ℕ) (r k : ℕ) (h : Entry) (P : Past) → is_legal s (Issue r k ∷ P) ≡ true → hand r P ≡ Some h → is_job v h ≡ false
+    → is_piece v h ≡ false → SameNode s v P (Issue r k ∷ P)
 same-issue s v r k h P legal held job piece =
     record {
       facts = record {
@@ -214,7 +219,8 @@ facts-of-accept s v w m k P ne =
       gone = refl;
     }
 
-pub same-accept : (s : Setting) (v : ℕ) (w m k : ℕ) (P : Past) → is_legal s (Accept w m k ∷ P) ≡ true → w ≢ v → (deals s v ≡ true → has_just_emitted v P ≡ false) → SameNode s v P (Accept w m k ∷ P)
+pub same-accept : (s : Setting) (v : ℕ) (w m k : ℕ) (P : Past) → is_legal s (Accept w m k ∷ P) ≡ true → w ≢ v
+    → (deals s v ≡ true → has_just_emitted v P ≡ false) → SameNode s v P (Accept w m k ∷ P)
 same-accept s v w m k P legal ne none =
     record { facts = facts-of-accept s v w m k P ne; next_child = λ d some. turn-kept s v (Accept w m k) P (none d) }
 
@@ -234,7 +240,8 @@ facts-of-full s v w m k P =
       gone = refl;
     }
 
-pub same-full : (s : Setting) (v : ℕ) (w m k : ℕ) (P : Past) → is_legal s (Full w m k ∷ P) ≡ true → (deals s v ≡ true → has_just_emitted v P ≡ false) → SameNode s v P (Full w m k ∷ P)
+pub same-full : (s : Setting) (v : ℕ) (w m k : ℕ) (P : Past) → is_legal s (Full w m k ∷ P) ≡ true
+    → (deals s v ≡ true → has_just_emitted v P ≡ false) → SameNode s v P (Full w m k ∷ P)
 same-full s v w m k P legal none =
     record { facts = facts-of-full s v w m k P; next_child = λ d some. turn-kept s v (Full w m k) P (none d) }
 
@@ -257,7 +264,8 @@ same-take s v r w m k P legal ne =
       next_child = turn-same s v (Take r w m k) P legal (λ c m k b. refl);
     }
 
-pub same-take_block : (s : Setting) (v : ℕ) (r w m k b n : ℕ) (f : Bool) (g : ℕ) (x : Bool) (P : Past) → is_legal s (TakeBlock f x r w m k b n g ∷ P) ≡ true → w ≢ v → SameNode s v P (TakeBlock f x r w m k b n g ∷ P)
+pub same-take_block : (s : Setting) (v : ℕ) (r w m k b n : ℕ) (f : Bool) (g : ℕ) (x : Bool) (P : Past) → is_legal s (TakeBlock f x r w m k b n g ∷ P) ≡ true
+    → w ≢ v → SameNode s v P (TakeBlock f x r w m k b n g ∷ P)
 same-take_block s v r w m k b n f g x P legal ne =
     record {
       facts = record {
@@ -276,7 +284,8 @@ same-take_block s v r w m k b n f g x P legal ne =
       next_child = turn-same s v (TakeBlock f x r w m k b n g) P legal (λ c m k b. refl);
     }
 
-pub same-pool_drop : (s : Setting) (v : ℕ) (r w m k n h : ℕ) (P : Past) → is_legal s (PoolDrop r w m k n h ∷ P) ≡ true → w ≢ v → SameNode s v P (PoolDrop r w m k n h ∷ P)
+pub same-pool_drop : (s : Setting) (v : ℕ) (r w m k n h : ℕ) (P : Past) → is_legal s (PoolDrop r w m k n h ∷ P) ≡ true → w ≢ v
+    → SameNode s v P (PoolDrop r w m k n h ∷ P)
 same-pool_drop s v r w m k n h P legal ne =
     record {
       facts = record {
@@ -295,7 +304,8 @@ same-pool_drop s v r w m k n h P legal ne =
       next_child = turn-same s v (PoolDrop r w m k n h) P legal (λ c m k b. refl);
     }
 
-pub same-put : (s : Setting) (v : ℕ) (r w m k : ℕ) (f : Bool) (h : Entry) (P : Past) → is_legal s (Put r w m k f ∷ P) ≡ true → w ≢ v → hand r P ≡ Some h → is_job v h ≡ false → is_piece v h ≡ false → SameNode s v P (Put r w m k f ∷ P)
+pub same-put : (s : Setting) (v : ℕ) (r w m k : ℕ) (f : Bool) (h : Entry) (P : Past) → is_legal s (Put r w m k f ∷ P) ≡ true → w ≢ v → hand r P ≡ Some h
+    → is_job v h ≡ false → is_piece v h ≡ false → SameNode s v P (Put r w m k f ∷ P)
 same-put s v r w m k f h P legal ne held job piece =
     record {
       facts = record {
@@ -371,7 +381,8 @@ same-save s v r w m k g P legal ne =
       next_child = turn-same s v (Save r w m k g) P legal (λ c m k b. refl);
     }
 
-pub same-saved : (s : Setting) (v : ℕ) (r w m k : ℕ) (h : Entry) (P : Past) → is_legal s (Saved r w m k ∷ P) ≡ true → hand r P ≡ Some h → is_job v h ≡ false → is_piece v h ≡ false → SameNode s v P (Saved r w m k ∷ P)
+pub same-saved : (s : Setting) (v : ℕ) (r w m k : ℕ) (h : Entry) (P : Past) → is_legal s (Saved r w m k ∷ P) ≡ true → hand r P ≡ Some h → is_job v h ≡ false
+    → is_piece v h ≡ false → SameNode s v P (Saved r w m k ∷ P)
 same-saved s v r w m k h P legal held job piece =
     record {
       facts = record {
@@ -428,7 +439,8 @@ same-leave s v r P legal =
       next_child = turn-same s v (Leave r) P legal (λ c m k b. refl);
     }
 
-pub same-reclaim : (s : Setting) (v : ℕ) (r : ℕ) (h : Entry) (P : Past) → is_legal s (Reclaim r ∷ P) ≡ true → is_legal s P ≡ true → hand r P ≡ Some h → is_job v h ≡ false → is_piece v h ≡ false → SameNode s v P (Reclaim r ∷ P)
+pub same-reclaim : (s : Setting) (v : ℕ) (r : ℕ) (h : Entry) (P : Past) → is_legal s (Reclaim r ∷ P) ≡ true → is_legal s P ≡ true → hand r P ≡ Some h
+    → is_job v h ≡ false → is_piece v h ≡ false → SameNode s v P (Reclaim r ∷ P)
 same-reclaim s v r h P legal was held job piece =
     record {
       facts = record {
@@ -450,8 +462,10 @@ same-reclaim s v r h P legal was held job piece =
 -- an offer changes nothing of another node but its turn
 pub facts-accept : (s : Setting) (v w m k : ℕ) (P : Past) → w ≢ v → SameFacts s v P (Accept w m k ∷ P)
 facts-accept s v w m k P ne =
-    record { inbox = queue_laws.accept_elsewhere v w m k P ne; in_hand = hands-none v (Accept w m k) P refl; ended = refl; last = refl; waits = refl; time = omega arith; results = refl; flags = refl; kept = refl; pieces = refl; gone = refl }
+    record { inbox = queue_laws.accept_elsewhere v w m k P ne; in_hand = hands-none v (Accept w m k) P refl; ended = refl; last = refl; waits = refl;
+    time = omega arith; results = refl; flags = refl; kept = refl; pieces = refl; gone = refl }
 
 pub facts-full : (s : Setting) (v w m k : ℕ) (P : Past) → SameFacts s v P (Full w m k ∷ P)
 facts-full s v w m k P =
-    record { inbox = refl; in_hand = hands-none v (Full w m k) P refl; ended = refl; last = refl; waits = refl; time = omega arith; results = refl; flags = refl; kept = refl; pieces = refl; gone = refl }
+    record { inbox = refl; in_hand = hands-none v (Full w m k) P refl; ended = refl; last = refl; waits = refl; time = omega arith; results = refl;
+    flags = refl; kept = refl; pieces = refl; gone = refl }

@@ -46,7 +46,8 @@ all-pass p [] each = refl
 all-pass p (x ∷ xs) each = and_from (p x) (list_all p xs) (each 0 x refl) (all-pass p xs (λ i y at. each (suc i) y at))
 
 -- a test of each item, and of its number
-lists-agree : {X : Type 0} (p : X → Bool) (q : ℕ → Bool) (xs : List X) (ns : List Node) (v : ℕ) → length xs ≡ length ns → ((i : ℕ) (x : X) → slice_get xs i ≡ Some x → p x ≡ q (v + i)) → list_all p xs ≡ list_all q (numbers_from v ns)
+lists-agree : {X : Type 0} (p : X → Bool) (q : ℕ → Bool) (xs : List X) (ns : List Node) (v : ℕ) → length xs ≡ length ns
+    → ((i : ℕ) (x : X) → slice_get xs i ≡ Some x → p x ≡ q (v + i)) → list_all p xs ≡ list_all q (numbers_from v ns)
 lists-agree p q [] [] v h each = refl
 lists-agree p q [] (n ∷ ns) v h each = absurd (omega (arith, h))
 lists-agree p q (x ∷ xs) [] v h each = absurd (omega (arith, h))
@@ -54,10 +55,12 @@ lists-agree p q (x ∷ xs) (n ∷ ns) v h each =
     let first : v + 0 ≡ v = omega arith in
     let here : p x ≡ q v = each 0 x refl ∙ ap q first in
     let step : (i : ℕ) → v + suc i ≡ (v + 1) + i = λ i. omega arith in
-    let rest : list_all p xs ≡ list_all q (numbers_from (v + 1) ns) = lists-agree p q xs ns (v + 1) (omega (arith, h)) (λ i y at. each (suc i) y at ∙ ap q (step i)) in
+    let rest : list_all p xs ≡ list_all q (numbers_from (v + 1) ns) =
+    lists-agree p q xs ns (v + 1) (omega (arith, h)) (λ i y at. each (suc i) y at ∙ ap q (step i)) in
     ap (λ (b : Bool). b && list_all p xs) here ∙ ap (λ (b : Bool). q v && b) rest
 
-maps-agree : {X Y : Type 0} (f : X → Y) (g : ℕ → Y) (xs : List X) (ns : List Node) (v : ℕ) → length xs ≡ length ns → ((i : ℕ) (x : X) → slice_get xs i ≡ Some x → f x ≡ g (v + i)) → map f xs ≡ map g (numbers_from v ns)
+maps-agree : {X Y : Type 0} (f : X → Y) (g : ℕ → Y) (xs : List X) (ns : List Node) (v : ℕ) → length xs ≡ length ns
+    → ((i : ℕ) (x : X) → slice_get xs i ≡ Some x → f x ≡ g (v + i)) → map f xs ≡ map g (numbers_from v ns)
 maps-agree f g [] [] v h each = refl
 maps-agree f g [] (n ∷ ns) v h each = absurd (omega (arith, h))
 maps-agree f g (x ∷ xs) [] v h each = absurd (omega (arith, h))
@@ -73,7 +76,8 @@ none-is : {X : Type 0} (o : Option X) → is_none o ≡ true → o ≡ None
 none-is None h = refl
 none-is (Some x) h = absurd (true≢false (sym h))
 
-hand-none : (s : Setting) (P : Past) (rs : List RoleState) → AreRoles s P rs → is_legal s P ≡ true → list_all has_free_hand rs ≡ true → (r : ℕ) → hand r P ≡ None
+hand-none : (s : Setting) (P : Past) (rs : List RoleState) → AreRoles s P rs → is_legal s P ≡ true
+    → list_all has_free_hand rs ≡ true → (r : ℕ) → hand r P ≡ None
 hand-none s P rs are legal all r = by (hand r P) refl where
   by : (o : Option Entry) → hand r P ≡ o → hand r P ≡ None
   by None is = is
@@ -93,7 +97,8 @@ hands-free s P rs are legal = elim (cases_Bool (list_all has_free_hand rs)) [
 ] where
   by : (H : Past) → hands P ≡ H → list_all has_free_hand rs ≡ false → none_left (hands P) ≡ false
   by [] none some =
-      let free : (i : ℕ) (x : RoleState) → slice_get rs i ≡ Some x → has_free_hand x ≡ true = λ i x at. ap has_free_hand (are.each i x at) ∙ (free-is i P ∙ gone i none) in
+      let free : (i : ℕ) (x : RoleState) → slice_get rs i ≡ Some x → has_free_hand x ≡ true =
+      λ i x at. ap has_free_hand (are.each i x at) ∙ (free-is i P ∙ gone i none) in
       absurd (true≢false (sym (all-pass has_free_hand rs free) ∙ some)) where
         gone : (i : ℕ) → hands P ≡ [] → is_free i P ≡ true
         gone i none = rw none refl
@@ -111,7 +116,8 @@ left-more (x ∷ xs) ys = refl
 left-three : {X : Type 0} (xs ys : List X) → none_left (((xs ++ []) ++ []) ++ ys) ≡ (none_left xs && none_left ys)
 left-three xs ys = rw (append-nil xs, append-nil xs) (left-more xs ys)
 
-over-is : (measure : ℕ → FrameName → Option Measure) (s : Setting) (P : Past) (v : ℕ) (n : NodeState) → is_history s P ≡ true → IsNode measure s v P n → is_over n ≡ is_done s P v
+over-is : (measure : ℕ → FrameName → Option Measure) (s : Setting) (P : Past) (v : ℕ) (n : NodeState) → is_history s P ≡ true
+    → IsNode measure s v P n → is_over n ≡ is_done s P v
 over-is measure s P v n h i =
     let queue : eqb (length n.inbox.items) 0 ≡ none_left (queued v P) = empty-is n.inbox.items ∙ ap (λ (b : InboxState FrameName). none_left b.items) i.inbox in
     let file : eqb (length n.unsaved.items) 0 ≡ none_left (unsaved s v P) = empty-is n.unsaved.items ∙ ap (λ (xs : List FrameName). none_left xs) i.kept in
@@ -124,15 +130,18 @@ over-is measure s P v n h i =
           rw (list-empty s P v h done, no_ring, done) (sym (left-three (queued v P) (unsaved s v P)))
       by (inr not_) = rw not_ refl
 
-pub nodes-over : (measure : ℕ → FrameName → Option Measure) (s : Setting) (P : Past) (ns : List NodeState) → is_history s P ≡ true → AreNodes measure s P ns → list_all is_over ns ≡ list_all (is_done s P) (node_numbers s)
+pub nodes-over : (measure : ℕ → FrameName → Option Measure) (s : Setting) (P : Past) (ns : List NodeState) → is_history s P ≡ true → AreNodes measure s P ns
+    → list_all is_over ns ≡ list_all (is_done s P) (node_numbers s)
 nodes-over measure s P ns h are =
     let step : (i : ℕ) → suc i ≡ 1 + i = λ i. omega arith in
     lists-agree is_over (is_done s P) ns s.nodes 1 are.all (λ i n at. over-is measure s P (suc i) n h (are.each i n at) ∙ ap (is_done s P) (step i))
 
-pub nodes-measured : (measure : ℕ → FrameName → Option Measure) (s : Setting) (P : Past) (ns : List NodeState) → AreNodes measure s P ns → map (λ (n : NodeState). n.measures.items) ns ≡ measured measure s P
+pub nodes-measured : (measure : ℕ → FrameName → Option Measure) (s : Setting) (P : Past) (ns : List NodeState) → AreNodes measure s P ns
+    → map (λ (n : NodeState). n.measures.items) ns ≡ measured measure s P
 nodes-measured measure s P ns are =
     let step : (i : ℕ) → suc i ≡ 1 + i = λ i. omega arith in
-    maps-agree (λ (n : NodeState). n.measures.items) (measured_at measure P) ns s.nodes 1 are.all (λ i n at. (are.each i n at).measures ∙ ap (measured_at measure P) (step i))
+    maps-agree (λ (n : NodeState). n.measures.items) (measured_at measure P) ns s.nodes 1 are.all
+    (λ i n at. (are.each i n at).measures ∙ ap (measured_at measure P) (step i))
 
 -- PROGRESS
 abbrev pub progress_with : ℕ → Facts → Bool → Progress

@@ -53,18 +53,22 @@ use Rattle.flow_journal.specs.Pasts.{minus}
 use Rattle.flow_journal.proofs.Pieces.{saves-front}
 use Rattle.flow_emit.proofs.Bounds.{puts-short}
 
-pub node-found : (measure : Measuring) (s : Setting) (k : Parts) (v : ℕ) (n : NodeState) → IsCourse measure s k → is_node s v ≡ true → n ≡ get_or k.nodes (v - 1) n → slice_get k.nodes (v - 1) ≡ Some n
+pub node-found : (measure : Measuring) (s : Setting) (k : Parts) (v : ℕ) (n : NodeState) → IsCourse measure s k → is_node s v ≡ true
+    → n ≡ get_or k.nodes (v - 1) n → slice_get k.nodes (v - 1) ≡ Some n
 node-found measure s k v n i h is =
     let p = place-of s v h in
     read-at k.nodes (v - 1) n (omega (arith, p.1, i.nodes.all)) is
 
-pub role-found : (measure : Measuring) (s : Setting) (k : Parts) (r : ℕ) (x : RoleState) → IsCourse measure s k → r ≤ last_role s → x ≡ get_or k.roles r x → slice_get k.roles r ≡ Some x
+pub role-found : (measure : Measuring) (s : Setting) (k : Parts) (r : ℕ) (x : RoleState) → IsCourse measure s k → r ≤ last_role s
+    → x ≡ get_or k.roles r x → slice_get k.roles r ≡ Some x
 role-found measure s k r x i h is = read-at k.roles r x (omega (arith, i.roles.all, h)) is
 
-pub node-is : (measure : Measuring) (s : Setting) (k : Parts) (v : ℕ) (n : NodeState) → IsCourse measure s k → is_node s v ≡ true → slice_get k.nodes (v - 1) ≡ Some n → IsNode measure s v (log_of k) n
+pub node-is : (measure : Measuring) (s : Setting) (k : Parts) (v : ℕ) (n : NodeState) → IsCourse measure s k → is_node s v ≡ true
+    → slice_get k.nodes (v - 1) ≡ Some n → IsNode measure s v (log_of k) n
 node-is measure s k v n i h at = subst (λ u. IsNode measure s u (log_of k) n) (place-of s v h).0 (i.nodes.each (v - 1) n at)
 
-pub few-jobs : (measure : Measuring) (s : Setting) (k : Parts) (v : ℕ) (n : NodeState) → IsCourse measure s k → is_node s v ≡ true → slice_get k.nodes (v - 1) ≡ Some n → n.jobs ≤ 64
+pub few-jobs : (measure : Measuring) (s : Setting) (k : Parts) (v : ℕ) (n : NodeState) → IsCourse measure s k → is_node s v ≡ true
+    → slice_get k.nodes (v - 1) ≡ Some n → n.jobs ≤ 64
 few-jobs measure s k v n i h at =
     let p = place-of s v h in
     let few : n.jobs ≤ (node s (suc (v - 1))).threads = (i.nodes.each (v - 1) n at).few in
@@ -96,18 +100,21 @@ rule-read [] i n lt is = absurd (omega (arith, lt))
 rule-read (x ∷ ns) zero n lt is = ap as_node (sym is)
 rule-read (x ∷ ns) (suc i) n lt is = rule-read ns i n (omega (arith, lt)) is
 
-pub rule-is : (measure : Measuring) (s : Setting) (k : Parts) (v : ℕ) (n : NodeRules) → IsCourse measure s k → is_node s v ≡ true → n ≡ get_or k.rules.nodes (v - 1) n → node s v ≡ as_node n
+pub rule-is : (measure : Measuring) (s : Setting) (k : Parts) (v : ℕ) (n : NodeRules) → IsCourse measure s k → is_node s v ≡ true
+    → n ≡ get_or k.rules.nodes (v - 1) n → node s v ≡ as_node n
 rule-is measure s k v n i h is =
     let p = place-of s v h in
     let there : v - 1 < length k.rules.nodes = omega (arith, p.1, ap length i.ruled.nodes, length-map k.rules.nodes as_node) in
     subst (λ u. node s u ≡ as_node n) p.0 (sym (ap (λ ms. slice_index_or ms (v - 1) no_node) i.ruled.nodes) ∙ rule-read k.rules.nodes (v - 1) n there is)
 
 -- a course whose parts are these
-pub course-as : (measure : Measuring) (s : Setting) (k : Parts) (l : ToldState) (ns : List NodeState) (rs : List RoleState) (p : Ledger) (bs : List ℕ) (f : Facts) (ts : List FrameName) (room : ℕ)
+pub course-as : (measure : Measuring) (s : Setting) (k : Parts) (l : ToldState) (ns : List NodeState) (rs : List RoleState) (p : Ledger) (bs : List ℕ)
+    (f : Facts) (ts : List FrameName) (room : ℕ)
     → k.log ≡ l → k.nodes ≡ ns → k.roles ≡ rs → k.pool ≡ p → k.blocks ≡ bs → k.facts ≡ f → k.transit ≡ ts → k.room ≡ room → IsCourse measure s k
     → IsCourse measure s (record { log = l; rules = k.rules; nodes = ns; roles = rs; pool = p; blocks = bs; facts = f; transit = ts; room = room })
 course-as measure s k l ns rs p bs f ts room el en er ep eb ef et eo i =
-    subst (λ l'. IsCourse measure s (record { log = l'; rules = k.rules; nodes = ns; roles = rs; pool = p; blocks = bs; facts = f; transit = ts; room = room })) el
+    subst (λ l'. IsCourse measure s (record { log = l'; rules = k.rules; nodes = ns; roles = rs; pool = p; blocks = bs; facts = f; transit = ts; room = room }))
+    el
     (subst (λ ns'. IsCourse measure s (record k { nodes = ns'; roles = rs; pool = p; blocks = bs; facts = f; transit = ts; room = room })) en
     (subst (λ rs'. IsCourse measure s (record k { roles = rs'; pool = p; blocks = bs; facts = f; transit = ts; room = room })) er
     (subst (λ p'. IsCourse measure s (record k { pool = p'; blocks = bs; facts = f; transit = ts; room = room })) ep
@@ -122,7 +129,8 @@ need-read (x ∷ ns) zero n lt is = ap (λ (m : NodeRules). m.need) (sym is)
 need-read (x ∷ ns) (suc i) n lt is = need-read ns i n (omega (arith, lt)) is
 
 -- the bytes of an array that a maker makes
-pub need-is : (measure : Measuring) (s : Setting) (k : Parts) (v : ℕ) (n : NodeRules) → IsCourse measure s k → is_node s v ≡ true → is_maker s v ≡ true → n ≡ get_or k.rules.nodes (v - 1) n → n.need ≡ s.need v
+pub need-is : (measure : Measuring) (s : Setting) (k : Parts) (v : ℕ) (n : NodeRules) → IsCourse measure s k → is_node s v ≡ true → is_maker s v ≡ true
+    → n ≡ get_or k.rules.nodes (v - 1) n → n.need ≡ s.need v
 need-is measure s k v n i h makes is =
     let p = place-of s v h in
     let there : v - 1 < length k.rules.nodes = omega (arith, p.1, ap length i.ruled.nodes, length-map k.rules.nodes as_node) in
@@ -130,20 +138,23 @@ need-is measure s k v n i h makes is =
 
 -- where nothing is on its way, the pool accounts for the log
 pub still-account : (measure : Measuring) (s : Setting) (k : Parts) → IsCourse measure s k → k.transit ≡ [] → IsAccount s (log_of k) [] (all_named k.pool)
-still-account measure s k i still = subst (λ (ts : List FrameName). IsAccount s (log_of k) (flat_map (block_of (log_of k)) ts) (all_named k.pool)) still i.account
+still-account measure s k i still =
+    subst (λ (ts : List FrameName). IsAccount s (log_of k) (flat_map (block_of (log_of k)) ts) (all_named k.pool)) still i.account
 
 -- and tells how much is held
 pub held-is : (measure : Measuring) (s : Setting) (k : Parts) → IsCourse measure s k → k.transit ≡ [] → ledger.held k.pool ≡ held s (log_of k)
 held-is measure s k i still = tell_laws.held s (log_of k) (all_named k.pool) i.legal (still-account measure s k i still)
 
 -- the first of an inbox is the next of the queue
-pub next-popped : (measure : Measuring) (s : Setting) (k : Parts) (v : ℕ) (n : NodeState) (a : FrameName) → IsCourse measure s k → is_node s v ≡ true → slice_get k.nodes (v - 1) ≡ Some n → slice_get n.inbox.items 0 ≡ Some a → is_next a (queued v (log_of k)) ≡ true
+pub next-popped : (measure : Measuring) (s : Setting) (k : Parts) (v : ℕ) (n : NodeState) (a : FrameName) → IsCourse measure s k → is_node s v ≡ true
+    → slice_get k.nodes (v - 1) ≡ Some n → slice_get n.inbox.items 0 ≡ Some a → is_next a (queued v (log_of k)) ≡ true
 next-popped measure s k v n a i h at front =
     let items : n.inbox.items ≡ queued v (log_of k) = ap (λ (b : InboxState FrameName). b.items) (node-is measure s k v n i h at).inbox in
     rw (first-of (queued v (log_of k)) a (subst (λ (xs : List FrameName). slice_get xs 0 ≡ Some a) items front)) (same_refl a)
 
 -- and an empty one is an empty queue
-pub none-popped : (measure : Measuring) (s : Setting) (k : Parts) (v : ℕ) (n : NodeState) → IsCourse measure s k → is_node s v ≡ true → slice_get k.nodes (v - 1) ≡ Some n → n.inbox.items ≡ [] → queued v (log_of k) ≡ []
+pub none-popped : (measure : Measuring) (s : Setting) (k : Parts) (v : ℕ) (n : NodeState) → IsCourse measure s k → is_node s v ≡ true
+    → slice_get k.nodes (v - 1) ≡ Some n → n.inbox.items ≡ [] → queued v (log_of k) ≡ []
 none-popped measure s k v n i h at empty =
     sym (ap (λ (b : InboxState FrameName). b.items) (node-is measure s k v n i h at).inbox) ∙ empty
 
@@ -154,16 +165,21 @@ pub coursed-as : {b c : BoardState} {ts us : List FrameName} → b ≡ c → ts 
 coursed-as {b} {c} {ts} {us} e f = ap (λ (x : BoardState). the_coursed x ts) e ∙ ap (λ (y : List FrameName). the_coursed c y) f
 
 -- the piece in a hand, and its node
-pub piece-held : (s : Setting) (k : Parts) (w : Coursed) (r v : ℕ) (a : FrameName) → seen k ≡ w → is_piece_on a (hand r (past w.told)) ≡ true → v ≡ hand_node (hand r (past w.told)) → (g : ℕ) × (hand r (log_of k) ≡ Some (Save r v a.maker a.index g))
+pub piece-held : (s : Setting) (k : Parts) (w : Coursed) (r v : ℕ) (a : FrameName) → seen k ≡ w → is_piece_on a (hand r (past w.told)) ≡ true
+    → v ≡ hand_node (hand r (past w.told)) → (g : ℕ) × (hand r (log_of k) ≡ Some (Save r v a.maker a.index g))
 piece-held s k w r v a is holds node_is =
     let p = piece_in r a (hand r (past w.told)) (names_role r (past w.told)) holds in
-    (p.0, subst (λ (x : Coursed). hand r (past x.told) ≡ Some (Save r v a.maker a.index p.0)) (sym is) (subst (λ u. hand r (past w.told) ≡ Some (Save r u a.maker a.index p.0)) (sym node_is) p.1))
+    (p.0,
+    subst (λ (x : Coursed). hand r (past x.told) ≡ Some (Save r v a.maker a.index p.0)) (sym is)
+    (subst (λ u. hand r (past w.told) ≡ Some (Save r u a.maker a.index p.0)) (sym node_is) p.1))
 
-pub piece-node : (measure : Measuring) (s : Setting) (k : Parts) (r v j l g : ℕ) → IsCourse measure s k → hand r (log_of k) ≡ Some (Save r v j l g) → is_node s v ≡ true
+pub piece-node : (measure : Measuring) (s : Setting) (k : Parts) (r v j l g : ℕ) → IsCourse measure s k
+    → hand r (log_of k) ≡ Some (Save r v j l g) → is_node s v ≡ true
 piece-node measure s k r v j l g i holds = file-node s v (piece-file s r r v j l g (log_of k) i.legal holds)
 
 -- the loaded frame in a hand
-pub load-held : (s : Setting) (k : Parts) (w : Coursed) (r j : ℕ) → seen k ≡ w → is_load_of j (hand r (past w.told)) ≡ true → (b n : ℕ) × (f : Bool) × (g : ℕ) × (x : Bool) × (hand r (log_of k) ≡ Some (Load r j b n f g x))
+pub load-held : (s : Setting) (k : Parts) (w : Coursed) (r j : ℕ) → seen k ≡ w → is_load_of j (hand r (past w.told)) ≡ true
+    → (b n : ℕ) × (f : Bool) × (g : ℕ) × (x : Bool) × (hand r (log_of k) ≡ Some (Load r j b n f g x))
 load-held s k w r j is holds =
     let p = (row_laws.issue s (past w.told) r j).0 holds in
     (p.0, p.1, p.2, p.3, p.4, subst (λ (x : Coursed). hand r (past x.told) ≡ Some (Load r j p.0 p.1 p.2 p.3 p.4)) (sym is) p.5)
@@ -174,12 +190,15 @@ rule-get (x ∷ ns) zero d lt = refl
 rule-get (x ∷ ns) (suc i) d lt = rule-get ns i d (omega (arith, lt))
 
 -- what a node does, as code reads it
-pub work-at : (measure : Measuring) (s : Setting) (k : Parts) (v : ℕ) (d : NodeRules) (x : NodeWork) (ns : List NodeRules) → IsCourse measure s k → is_node s v ≡ true → ns ≡ k.rules.nodes → (get_or ns (v - 1) d).work ≡ x → (node s v).work ≡ as_work x
+pub work-at : (measure : Measuring) (s : Setting) (k : Parts) (v : ℕ) (d : NodeRules) (x : NodeWork) (ns : List NodeRules) → IsCourse measure s k
+    → is_node s v ≡ true → ns ≡ k.rules.nodes → (get_or ns (v - 1) d).work ≡ x → (node s v).work ≡ as_work x
 work-at measure s k v d x ns i h same is =
     let p = place-of s v h in
     let there : v - 1 < length k.rules.nodes = omega (arith, p.1, ap length i.ruled.nodes, length-map k.rules.nodes as_node) in
-    let found : node s (suc (v - 1)) ≡ as_node (get_or k.rules.nodes (v - 1) d) = sym (ap (λ ms. slice_index_or ms (v - 1) no_node) i.ruled.nodes) ∙ rule-get k.rules.nodes (v - 1) d there in
-    ap (λ u. (node s u).work) (sym p.0) ∙ (ap (λ (n : Node). n.work) found ∙ ap as_work (subst (λ (ms : List NodeRules). (get_or ms (v - 1) d).work ≡ x) same is))
+    let found : node s (suc (v - 1)) ≡ as_node (get_or k.rules.nodes (v - 1) d) =
+    sym (ap (λ ms. slice_index_or ms (v - 1) no_node) i.ruled.nodes) ∙ rule-get k.rules.nodes (v - 1) d there in
+    ap (λ u. (node s u).work) (sym p.0)
+    ∙ (ap (λ (n : Node). n.work) found ∙ ap as_work (subst (λ (ms : List NodeRules). (get_or ms (v - 1) d).work ≡ x) same is))
 
 pub group-saves : (w : Work) (whole : Bool) (count n l : ℕ) → w ≡ as_work (work.Saves whole count) → n ≡ l → n / count ≡ group_of w l
 group-saves w whole count n l is same = rw is (ap (λ j. j / count) same)
@@ -194,10 +213,12 @@ group-none w x n is other = subst (λ (y : Work). 0 ≡ group_of y n) (sym is) (
   by (work.Saves whole count) h = absurd (h whole count refl)
 
 -- no more pieces of a node than frames
-pub few-saves : (measure : Measuring) (s : Setting) (k : Parts) (v : ℕ) (n : NodeState) → IsCourse measure s k → is_node s v ≡ true → slice_get k.nodes (v - 1) ≡ Some n → n.saves ≤ 65536
+pub few-saves : (measure : Measuring) (s : Setting) (k : Parts) (v : ℕ) (n : NodeState) → IsCourse measure s k → is_node s v ≡ true
+    → slice_get k.nodes (v - 1) ≡ Some n → n.saves ≤ 65536
 few-saves measure s k v n i h at =
     let frames : length s.ids ≤ 65536 = omega (arith, ap length i.ruled.ids, i.ruled.few_frames) in
-    omega (arith, (node-is measure s k v n i h at).pieces, ap length (saves-front s (log_of k) v i.legal), length-append (standing_saves v (log_of k)) (minus (puts v (log_of k)) (standing_saves v (log_of k))), puts-short s (log_of k) v i.legal, frames)
+    omega (arith, (node-is measure s k v n i h at).pieces, ap length (saves-front s (log_of k) v i.legal),
+    length-append (standing_saves v (log_of k)) (minus (puts v (log_of k)) (standing_saves v (log_of k))), puts-short s (log_of k) v i.legal, frames)
 
 -- a node with a thread is there
 pub threads-node : (s : Setting) (v j : ℕ) → j < (node s v).threads → is_node s v ≡ true
@@ -222,9 +243,11 @@ need-get [] j d lt = absurd (omega (arith, lt))
 need-get (x ∷ ns) zero d lt = refl
 need-get (x ∷ ns) (suc j) d lt = need-get ns j d (omega (arith, lt))
 
-pub need-at : (measure : Measuring) (s : Setting) (k : Parts) (v : ℕ) (d : NodeRules) (ns : List NodeRules) → IsCourse measure s k → v ≢ 0 → (v ≡ 0) ⊎ (is_maker s v ≡ true) → ns ≡ k.rules.nodes → (get_or ns (v - 1) d).need ≡ s.need v
+pub need-at : (measure : Measuring) (s : Setting) (k : Parts) (v : ℕ) (d : NodeRules) (ns : List NodeRules) → IsCourse measure s k → v ≢ 0
+    → (v ≡ 0) ⊎ (is_maker s v ≡ true) → ns ≡ k.rules.nodes → (get_or ns (v - 1) d).need ≡ s.need v
 need-at measure s k v d ns i some (inl none) same = absurd (some none)
 need-at measure s k v d ns i some (inr makes_) same =
     let p = place-of s v (maker-node s v makes_) in
     let there : v - 1 < length k.rules.nodes = omega (arith, p.1, ap length i.ruled.nodes, length-map k.rules.nodes as_node) in
-    ap (λ (ms : List NodeRules). (get_or ms (v - 1) d).need) same ∙ (need-get k.rules.nodes (v - 1) d there ∙ (ap (need_of k.rules) p.0 ∙ i.ruled.needs v (inr makes_)))
+    ap (λ (ms : List NodeRules). (get_or ms (v - 1) d).need) same
+    ∙ (need-get k.rules.nodes (v - 1) d there ∙ (ap (need_of k.rules) p.0 ∙ i.ruled.needs v (inr makes_)))

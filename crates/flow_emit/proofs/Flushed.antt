@@ -47,7 +47,8 @@ waits-owed s (Settle r w ∷ P) v t nz sorted h c =
       | inl here ↦
           let is : w ≡ v = eqb-true w v here in
           let calls : count (out_of v t) (calls_for s P (Settle r w)) ≡ count (waits t) (waiting s v P) =
-          subst (λ (u : ℕ). count (out_of v t) (calls_for s P (Settle r u)) ≡ count (waits t) (waiting s v P)) (sym is) (count-flush v t (least_first s (waiting s v P)) ∙ count-least_first s (waits t) (waiting s v P)) in
+          subst (λ (u : ℕ). count (out_of v t) (calls_for s P (Settle r u)) ≡ count (waits t) (waiting s v P)) (sym is)
+          (count-flush v t (least_first s (waiting s v P)) ∙ count-least_first s (waits t) (waiting s v P)) in
           omega (arith, calls, count-append (out_of v t) (calls_for s P (Settle r w)) (drop 1 (owed s P)))
       | inr away ↦
           let none = after-first s (Settle r w) P v t _ (λ d. refl) h (waits-owed s P v t nz sorted (and_parts (is_legal s P) _ h).0 (rw away at c)) in
@@ -72,7 +73,8 @@ waits-owed s (Emit w m k why ∷ P) v t nz sorted h c =
     elim (cases_Bool (eqb w v)) [
       | inl here ↦
           let there = owed-Emit_out s w m k why P v (λ x. same x (frame m k)) h in
-          let some : 1 ≤ count (waits (λ x. same x (frame m k))) (waiting s v P) = omega (arith, owed-waits s P v (λ x. same x (frame m k)) nz sorted legal, there, ap bit (and_from _ _ here (same_refl (frame m k)))) in
+          let some : 1 ≤ count (waits (λ x. same x (frame m k))) (waiting s v P) =
+          omega (arith, owed-waits s P v (λ x. same x (frame m k)) nz sorted legal, there, ap bit (and_from _ _ here (same_refl (frame m k)))) in
           let hit : (eqb w v && t (frame m k)) ≡ t (frame m k) = ap (λ (x : Bool). x && t (frame m k)) here in
           let goes : waiting s v (Emit w m k why ∷ P) ≡ not_waiting (frame m k) (waiting s v P) = rw here refl in
           omega (arith, before, was, whole, ap bit hit, removed (frame m k) t (waiting s v P) some, ap (count (waits t)) goes)
@@ -88,7 +90,8 @@ waits-owed s (SortDrop w m k ∷ P) v t nz sorted h c =
     elim (cases_Bool (eqb w v)) [
       | inl here ↦
           let there = owed-SortDrop_out s w m k P v (λ x. same x (frame m k)) h in
-          let some : 1 ≤ count (waits (λ x. same x (frame m k))) (waiting s v P) = omega (arith, owed-waits s P v (λ x. same x (frame m k)) nz sorted legal, there, ap bit (and_from _ _ here (same_refl (frame m k)))) in
+          let some : 1 ≤ count (waits (λ x. same x (frame m k))) (waiting s v P) =
+          omega (arith, owed-waits s P v (λ x. same x (frame m k)) nz sorted legal, there, ap bit (and_from _ _ here (same_refl (frame m k)))) in
           let hit : (eqb w v && t (frame m k)) ≡ t (frame m k) = ap (λ (x : Bool). x && t (frame m k)) here in
           let goes : waiting s v (SortDrop w m k ∷ P) ≡ not_waiting (frame m k) (waiting s v P) = rw here refl in
           omega (arith, before, was, ap bit hit, removed (frame m k) t (waiting s v P) some, ap (count (waits t)) goes)
@@ -100,14 +103,16 @@ waits-owed s (SortDrop w m k ∷ P) v t nz sorted h c =
 waits-owed s (Tick u ∷ P) v t nz sorted h c =
     let a = owed-answered s (Tick u) P refl h in
     let other : out_of v t a.head ≡ false = ap (out_of v t) (answers-by_Tick s P u a.head a.answer).1 in
-    omega (arith, waits-owed s P v t nz sorted (and_parts _ _ h).0 c, head-other (out_of v t) (owed s P) a.head a.rest a.is other, count-append (out_of v t) (calls_for s P (Tick u)) (drop 1 (owed s P)))
+    omega (arith, waits-owed s P v t nz sorted (and_parts _ _ h).0 c, head-other (out_of v t) (owed s P) a.head a.rest a.is other,
+    count-append (out_of v t) (calls_for s P (Tick u)) (drop 1 (owed s P)))
 waits-owed s (Accept w m k ∷ P) v t nz sorted h c =
     let a = owed-answered s (Accept w m k) P refl h in
     let other : out_of v t a.head ≡ false = ap (out_of v t) (answers-by_Accept s P w m k a.head a.answer) in
     omega (arith, waits-owed s P v t nz sorted (and_parts _ _ h).0 c, head-other (out_of v t) (owed s P) a.head a.rest a.is other)
 waits-owed s (Full w m k ∷ P) v t nz sorted h c =
     let a = owed-answered s (Full w m k) P refl h in
-    omega (arith, waits-owed s P v t nz sorted (and_parts _ _ h).0 c, head-other (out_of v t) (owed s P) a.head a.rest a.is (full-head s P w m k v t a.head a.answer))
+    omega (arith, waits-owed s P v t nz sorted (and_parts _ _ h).0 c,
+    head-other (out_of v t) (owed s P) a.head a.rest a.is (full-head s P w m k v t a.head a.answer))
 waits-owed s (Load r k b n f g x ∷ P) v t nz sorted h c =
     omega (arith, after-first s (Load r k b n f g x) P v t _ (λ d. refl) h (waits-owed s P v t nz sorted (and_parts _ _ h).0 c))
 waits-owed s (LoadRefused r k n z ∷ P) v t nz sorted h c =

@@ -48,12 +48,14 @@ blocks-granted s P Q bs a b are within maker is others =
       room : place_of s a < length bs
       room = omega (arith, are.all, within, mul-le-mul_right {m = a.maker} {n = length s.nodes} (length s.ids) maker)
 
-      by : (c : FrameName) (d : ℕ) → block_of Q c ≡ d ∷ [] → (same c a ≡ true) ⊎ (same c a ≡ false) → (c.index < length s.ids) × (slice_index_or (set bs (place_of s a) b) (place_of s c) 0 ≡ d)
+      by : (c : FrameName) (d : ℕ) → block_of Q c ≡ d ∷ [] → (same c a ≡ true) ⊎ (same c a ≡ false)
+          → (c.index < length s.ids) × (slice_index_or (set bs (place_of s a) b) (place_of s c) 0 ≡ d)
       by c d has (inl this) =
           let e : c ≡ a = same-true c a this in
           let f : b ∷ [] ≡ d ∷ [] = sym is ∙ (ap (block_of Q) (sym e) ∙ has) in
           let g : b ≡ d = cc in
-          (subst (λ (x : FrameName). x.index < length s.ids) (sym e) within, ap (λ x. slice_index_or (set bs (place_of s a) b) (place_of s x) 0) e ∙ (get_or-set_same bs (place_of s a) b 0 room ∙ g))
+          (subst (λ (x : FrameName). x.index < length s.ids) (sym e) within,
+          ap (λ x. slice_index_or (set bs (place_of s a) b) (place_of s x) 0) e ∙ (get_or-set_same bs (place_of s a) b 0 room ∙ g))
       by c d has (inr other) =
           let was = are.each c d (sym (others c other) ∙ has) in
           let ne : place_of s c ≢ place_of s a = λ e. true≢false (sym (ap (λ x. same x a) (one-place s c a was.0 within e) ∙ same_refl a) ∙ other) in
@@ -67,23 +69,27 @@ nothing-of (b ∷ bs) h = absurd (omega (arith, h))
 fewer-flat : (f : Entry → List ℕ) (r : ℕ) (es : List Entry) (b : ℕ) → length (flat_map f es) ≤ 1 → flat_map f (let_go r es) ≡ b ∷ [] → flat_map f es ≡ b ∷ []
 fewer-flat f r [] b few is = is
 fewer-flat f r (e ∷ es) b few is = by (takes_up r e) (f e) refl refl (fewer-flat f r es b) where
-  by : (t : Bool) (xs : List ℕ) → takes_up r e ≡ t → f e ≡ xs → (length (flat_map f es) ≤ 1 → flat_map f (let_go r es) ≡ b ∷ [] → flat_map f es ≡ b ∷ []) → f e ++ flat_map f es ≡ b ∷ []
+  by : (t : Bool) (xs : List ℕ) → takes_up r e ≡ t → f e ≡ xs
+      → (length (flat_map f es) ≤ 1 → flat_map f (let_go r es) ≡ b ∷ [] → flat_map f es ≡ b ∷ []) → f e ++ flat_map f es ≡ b ∷ []
   by true xs up one more =
       let rest : flat_map f es ≡ b ∷ [] = sym (ap (λ (t : Bool). flat_map f (if t then es else e ∷ let_go r es)) up) ∙ is in
       let none : f e ≡ [] = nothing-of (f e) (omega (arith, few, length-append (f e) (flat_map f es), ap length rest)) in
       ap (λ xs. xs ++ flat_map f es) none ∙ rest
   by false [] up one more =
-      let rest : flat_map f (let_go r es) ≡ b ∷ [] = sym (ap (λ xs. xs ++ flat_map f (let_go r es)) one) ∙ (sym (ap (λ (t : Bool). flat_map f (if t then es else e ∷ let_go r es)) up) ∙ is) in
+      let rest : flat_map f (let_go r es) ≡ b ∷ [] =
+      sym (ap (λ xs. xs ++ flat_map f (let_go r es)) one) ∙ (sym (ap (λ (t : Bool). flat_map f (if t then es else e ∷ let_go r es)) up) ∙ is) in
       ap (λ xs. xs ++ flat_map f es) one ∙ more (omega (arith, few, length-append (f e) (flat_map f es))) rest
   by false (x ∷ xs) up one more =
-      let whole : (x ∷ xs) ++ flat_map f (let_go r es) ≡ b ∷ [] = sym (ap (λ xs. xs ++ flat_map f (let_go r es)) one) ∙ (sym (ap (λ (t : Bool). flat_map f (if t then es else e ∷ let_go r es)) up) ∙ is) in
+      let whole : (x ∷ xs) ++ flat_map f (let_go r es) ≡ b ∷ [] =
+      sym (ap (λ xs. xs ++ flat_map f (let_go r es)) one) ∙ (sym (ap (λ (t : Bool). flat_map f (if t then es else e ∷ let_go r es)) up) ∙ is) in
       let first : x ≡ b = cc in
       let tail : xs ++ flat_map f (let_go r es) ≡ [] = cc in
       let none : xs ≡ [] = nothing-of xs (omega (arith, ap length tail, length-append xs (flat_map f (let_go r es)))) in
       let gone : flat_map f es ≡ [] = nothing-of (flat_map f es) (omega (arith, few, length-append (f e) (flat_map f es), ap length one)) in
       ap (λ ys. ys ++ flat_map f es) one ∙ (ap (λ ys. (x ∷ xs) ++ ys) gone ∙ (append-nil (x ∷ xs) ∙ (ap (λ ys. x ∷ ys) none ∙ ap (λ y. y ∷ []) first)))
 
-pub blocks-reclaimed : (s : Setting) (P : Past) (r : ℕ) (e : Entry) (bs : List ℕ) → AreBlocks s P bs → is_legal s P ≡ true → is_legal s (Reclaim r ∷ P) ≡ true → hand r P ≡ Some e → AreBlocks s (Reclaim r ∷ P) bs
+pub blocks-reclaimed : (s : Setting) (P : Past) (r : ℕ) (e : Entry) (bs : List ℕ) → AreBlocks s P bs → is_legal s P ≡ true → is_legal s (Reclaim r ∷ P) ≡ true
+    → hand r P ≡ Some e → AreBlocks s (Reclaim r ∷ P) bs
 blocks-reclaimed s P r e bs are was legal held =
     record {
       all = are.all;
@@ -96,7 +102,8 @@ blocks-reclaimed s P r e bs are was legal held =
           block-granted s P a was ∙ fewer-flat (granted_for a) r (standing P) b (grant-once s P a was) left
 
 -- of a frame that has a block
-pub found-block : (s : Setting) (P : Past) (bs : List ℕ) (a : FrameName) (b : ℕ) → AreBlocks s P bs → block_of P a ≡ b ∷ [] → slice_index_or bs (place_of s a) 0 ≡ b
+pub found-block : (s : Setting) (P : Past) (bs : List ℕ) (a : FrameName) (b : ℕ) → AreBlocks s P bs → block_of P a ≡ b ∷ []
+    → slice_index_or bs (place_of s a) 0 ≡ b
 found-block s P bs a b are has = (are.each a b has).1
 
 -- no frame's block changes

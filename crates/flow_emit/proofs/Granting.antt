@@ -53,15 +53,20 @@ pub load-short : (s : Setting) (k : Parts) (r j b z : ℕ) (f : Bool) (g : ℕ) 
 load-short s k r j b z f g w legal = ((row_laws.load s (log_of k) r j b z f g w).0 (row_of s (Load r j b z f g w) (log_of k) (λ d. refl) legal)).0.some
 
 -- and so is that of a take
-pub take-short : (measure : Measuring) (s : Setting) (k : Parts) (r v m j b z : ℕ) (f : Bool) (g : ℕ) (w : Bool) → IsCourse measure s k → is_legal s (TakeBlock f w r v m j b z g ∷ log_of k) ≡ true → (j < length s.ids) × (v ≤ length s.nodes)
+pub take-short : (measure : Measuring) (s : Setting) (k : Parts) (r v m j b z : ℕ) (f : Bool) (g : ℕ) (w : Bool) → IsCourse measure s k
+    → is_legal s (TakeBlock f w r v m j b z g ∷ log_of k) ≡ true → (j < length s.ids) × (v ≤ length s.nodes)
 take-short measure s k r v m j b z f g w i legal =
     let facts = ((row_laws.take_block s (log_of k) r v m j b z f g w).0 (row_of s (TakeBlock f w r v m j b z g) (log_of k) (λ d. refl) legal)).0 in
     let has = queued-block s v (log_of k) (frame m j) facts.front.0 i.legal facts.front.1 in
     let p = place-of s v (threads-node s v _ facts.room) in
     ((i.blocks.each (frame m j) has.0 has.1).0, omega (arith, p.0, p.1))
 
-pub loaded : (measure : Measuring) (s : Setting) (k : Parts) (r j b z : ℕ) (f : Bool) (g : ℕ) (w : Bool) (x : RoleState) (p : Ledger) → IsCourse measure s k → is_legal s (Load r j b z f g w ∷ log_of k) ≡ true → slice_get k.roles r ≡ Some x → k.transit ≡ [] → IsAccount s (Load r j b z f g w ∷ log_of k) [] (all_named p)
-    → IsCourse measure s (record k { log = record k.log { told = plain (Load r j b z f g w) ∷ k.log.told }; roles = set k.roles r (record x { hand = Loaded j (record { number = b; size = z }) }); pool = p; blocks = set k.blocks (place_of s (frame 0 j)) b; facts = record k.facts { offered = k.facts.offered + 1; loaded = true }; transit = [] })
+pub loaded : (measure : Measuring) (s : Setting) (k : Parts) (r j b z : ℕ) (f : Bool) (g : ℕ) (w : Bool) (x : RoleState) (p : Ledger) → IsCourse measure s k
+    → is_legal s (Load r j b z f g w ∷ log_of k) ≡ true → slice_get k.roles r ≡ Some x → k.transit ≡ []
+    → IsAccount s (Load r j b z f g w ∷ log_of k) [] (all_named p)
+    → IsCourse measure s (record k { log = record k.log { told = plain (Load r j b z f g w) ∷ k.log.told };
+    roles = set k.roles r (record x { hand = Loaded j (record { number = b; size = z }) }); pool = p; blocks = set k.blocks (place_of s (frame 0 j)) b;
+    facts = record k.facts { offered = k.facts.offered + 1; loaded = true }; transit = [] })
 loaded measure s k r j b z f g w x p i legal at still account =
     let P = log_of k in
     let e = Load r j b z f g w in
@@ -72,7 +77,9 @@ loaded measure s k r j b z f g w x p i legal at still account =
       roles = role-up s r e P k.roles x i.roles at (load-of r j b z f g w) (eq-eqb r r refl) refl refl;
       account = account;
       standing = All-nil (HasBlock (e ∷ P));
-      blocks = blocks-granted s P (e ∷ P) k.blocks (frame 0 j) b i.blocks (load-short s k r j b z f g w legal) (omega arith) (block_laws.load s r j b z f g w P legal) (λ a. block_laws.load_other r j b z f g w P a);
+      blocks =
+          blocks-granted s P (e ∷ P) k.blocks (frame 0 j) b i.blocks (load-short s k r j b z f g w legal) (omega arith)
+          (block_laws.load s r j b z f g w P legal) (λ a. block_laws.load_other r j b z f g w P a);
       facts = ap (λ (y : Facts). record y { offered = y.offered + 1; loaded = true }) i.facts ∙ sym (facts-load s r j b z f g w P legal);
       log_room = i.log_room;
       reclaims = i.reclaims;
@@ -80,8 +87,13 @@ loaded measure s k r j b z f g w x p i legal at still account =
       transit_room = i.transit_room;
     }
 
-pub took_block : (measure : Measuring) (s : Setting) (k : Parts) (r c m j b z : ℕ) (f : Bool) (g : ℕ) (w : Bool) (x : RoleState) (n : NodeState) (p : Ledger) (part : Option Parts_of) → IsCourse measure s k → is_legal s (TakeBlock f w r (suc c) m j b z g ∷ log_of k) ≡ true → slice_get k.roles r ≡ Some x → slice_get k.nodes c ≡ Some n → k.transit ≡ [] → IsAccount s (TakeBlock f w r (suc c) m j b z g ∷ log_of k) [] (all_named p)
-    → IsCourse measure s (record k { log = record k.log { told = lends (TakeBlock f w r (suc c) m j b z g) part ∷ k.log.told }; nodes = set k.nodes c (record n { inbox = without_front n.inbox; jobs = n.jobs + 1 }); roles = set k.roles r (record x { hand = Job (suc c) (frame m j) (Some (record { number = b; size = z })) }); pool = p; blocks = set k.blocks (place_of s (frame (suc c) j)) b; transit = [] })
+pub took_block : (measure : Measuring) (s : Setting) (k : Parts) (r c m j b z : ℕ) (f : Bool) (g : ℕ) (w : Bool) (x : RoleState) (n : NodeState) (p : Ledger)
+    (part : Option Parts_of) → IsCourse measure s k → is_legal s (TakeBlock f w r (suc c) m j b z g ∷ log_of k) ≡ true → slice_get k.roles r ≡ Some x
+    → slice_get k.nodes c ≡ Some n → k.transit ≡ [] → IsAccount s (TakeBlock f w r (suc c) m j b z g ∷ log_of k) [] (all_named p)
+    → IsCourse measure s (record k { log = record k.log { told = lends (TakeBlock f w r (suc c) m j b z g) part ∷ k.log.told };
+    nodes = set k.nodes c (record n { inbox = without_front n.inbox; jobs = n.jobs + 1 });
+    roles = set k.roles r (record x { hand = Job (suc c) (frame m j) (Some (record { number = b; size = z })) }); pool = p;
+    blocks = set k.blocks (place_of s (frame (suc c) j)) b; transit = [] })
 took_block measure s k r c m j b z f g w x n p part i legal at here still account =
     let P = log_of k in
     let e = TakeBlock f w r (suc c) m j b z g in
@@ -89,11 +101,15 @@ took_block measure s k r c m j b z f g w x n p part i legal at here still accoun
     record {
       ruled = i.ruled;
       legal = legal;
-      nodes = nodes-set measure s P (e ∷ P) k.nodes c _ i.nodes (here-take_block measure s r (suc c) m j b z f g w P n (i.nodes.each c n here) legal) (λ v ne. same-take_block s (suc v) r (suc c) m j b z f g w P legal (apart-more ne));
+      nodes =
+          nodes-set measure s P (e ∷ P) k.nodes c _ i.nodes (here-take_block measure s r (suc c) m j b z f g w P n (i.nodes.each c n here) legal)
+          (λ v ne. same-take_block s (suc v) r (suc c) m j b z f g w P legal (apart-more ne));
       roles = role-up s r e P k.roles x i.roles at (block-of r (suc c) m j b z f g w) (eq-eqb r r refl) refl refl;
       account = account;
       standing = All-nil (HasBlock (e ∷ P));
-      blocks = blocks-granted s P (e ∷ P) k.blocks (frame (suc c) j) b i.blocks short.0 short.1 (block_laws.take_block s r (suc c) m j b z f g w P legal) (λ a. block_laws.take_block_other r (suc c) m j b z f g w P a);
+      blocks =
+          blocks-granted s P (e ∷ P) k.blocks (frame (suc c) j) b i.blocks short.0 short.1 (block_laws.take_block s r (suc c) m j b z f g w P legal)
+          (λ a. block_laws.take_block_other r (suc c) m j b z f g w P a);
       facts = i.facts ∙ sym (facts-take_block s r (suc c) m j b z f g w P legal);
       log_room = i.log_room;
       reclaims = i.reclaims;
@@ -103,28 +119,51 @@ took_block measure s k r c m j b z f g w x n p part i legal at here still accoun
 
 -- AT A NODE
 -- The same of a node by its number, where its state stands at the place before.
-pub took_block_at : (measure : Measuring) (s : Setting) (k : Parts) (v : ℕ) (r c m j b z : ℕ) (f : Bool) (g : ℕ) (w : Bool) (x : RoleState) (n : NodeState) (p : Ledger) (part : Option Parts_of) → suc c ≡ v → IsCourse measure s k → is_legal s (TakeBlock f w r v m j b z g ∷ log_of k) ≡ true → slice_get k.roles r ≡ Some x → slice_get k.nodes c ≡ Some n → k.transit ≡ [] → IsAccount s (TakeBlock f w r v m j b z g ∷ log_of k) [] (all_named p) → IsCourse measure s (record k { log = record k.log { told = lends (TakeBlock f w r v m j b z g) part ∷ k.log.told }; nodes = set k.nodes c (record n { inbox = without_front n.inbox; jobs = n.jobs + 1 }); roles = set k.roles r (record x { hand = Job v (frame m j) (Some (record { number = b; size = z })) }); pool = p; blocks = set k.blocks (place_of s (frame v j)) b; transit = [] })
-took_block_at measure s k v r c m j b z f g w x n p part is i = subst (λ u. is_legal s (TakeBlock f w r u m j b z g ∷ log_of k) ≡ true → slice_get k.roles r ≡ Some x → slice_get k.nodes c ≡ Some n → k.transit ≡ [] → IsAccount s (TakeBlock f w r u m j b z g ∷ log_of k) [] (all_named p) → IsCourse measure s (record k { log = record k.log { told = lends (TakeBlock f w r u m j b z g) part ∷ k.log.told }; nodes = set k.nodes c (record n { inbox = without_front n.inbox; jobs = n.jobs + 1 }); roles = set k.roles r (record x { hand = Job u (frame m j) (Some (record { number = b; size = z })) }); pool = p; blocks = set k.blocks (place_of s (frame u j)) b; transit = [] })) is (took_block measure s k r c m j b z f g w x n p part i)
+pub took_block_at : (measure : Measuring) (s : Setting) (k : Parts) (v : ℕ) (r c m j b z : ℕ) (f : Bool) (g : ℕ) (w : Bool) (x : RoleState) (n : NodeState)
+    (p : Ledger) (part : Option Parts_of) → suc c ≡ v → IsCourse measure s k → is_legal s (TakeBlock f w r v m j b z g ∷ log_of k) ≡ true
+    → slice_get k.roles r ≡ Some x → slice_get k.nodes c ≡ Some n → k.transit ≡ [] → IsAccount s (TakeBlock f w r v m j b z g ∷ log_of k) [] (all_named p)
+    → IsCourse measure s (record k { log = record k.log { told = lends (TakeBlock f w r v m j b z g) part ∷ k.log.told };
+    nodes = set k.nodes c (record n { inbox = without_front n.inbox; jobs = n.jobs + 1 });
+    roles = set k.roles r (record x { hand = Job v (frame m j) (Some (record { number = b; size = z })) }); pool = p;
+    blocks = set k.blocks (place_of s (frame v j)) b; transit = [] })
+took_block_at measure s k v r c m j b z f g w x n p part is i =
+    subst (λ u. is_legal s (TakeBlock f w r u m j b z g ∷ log_of k) ≡ true → slice_get k.roles r ≡ Some x → slice_get k.nodes c ≡ Some n → k.transit ≡ []
+    → IsAccount s (TakeBlock f w r u m j b z g ∷ log_of k) [] (all_named p)
+    → IsCourse measure s (record k { log = record k.log { told = lends (TakeBlock f w r u m j b z g) part ∷ k.log.told };
+    nodes = set k.nodes c (record n { inbox = without_front n.inbox; jobs = n.jobs + 1 });
+    roles = set k.roles r (record x { hand = Job u (frame m j) (Some (record { number = b; size = z })) }); pool = p;
+    blocks = set k.blocks (place_of s (frame u j)) b; transit = [] })) is (took_block measure s k r c m j b z f g w x n p part i)
 
 -- THE POOL
 pub few-known : (measure : Measuring) (s : Setting) (k : Parts) → IsCourse measure s k → k.transit ≡ [] → length k.pool.known < 4294967295
 few-known measure s k i still =
-    tell_laws.known_fit s (log_of k) (all_named k.pool) [] (omega (arith, ap length i.ruled.ids, i.ruled.few_frames)) (omega (arith, i.ruled.few_nodes, ap length i.ruled.nodes, length-map k.rules.nodes as_node)) i.ruled.few_threads i.legal (still-account measure s k i still)
+    tell_laws.known_fit s (log_of k) (all_named k.pool) [] (omega (arith, ap length i.ruled.ids, i.ruled.few_frames)) (omega (arith, i.ruled.few_nodes,
+    ap length i.ruled.nodes, length-map k.rules.nodes as_node)) i.ruled.few_threads i.legal (still-account measure s k i still)
 
 -- room is no part of an answer
-pub after-room : (p : Ledger) (x b n : ℕ) (f : Bool) (g : ℕ) → all_named (after (record p { room = x }) (Granted b n f g)) ≡ record (all_named (after p (Granted b n f g))) { room = (after (record p { room = x }) (Granted b n f g)).room }
+pub after-room : (p : Ledger) (x b n : ℕ) (f : Bool) (g : ℕ)
+    → all_named (after (record p { room = x }) (Granted b n f g))
+    ≡ record (all_named (after p (Granted b n f g))) { room = (after (record p { room = x }) (Granted b n f g)).room }
 after-room p x b n true g = refl
 after-room p x b n false g = refl
 
-pub load-account : (measure : Measuring) (s : Setting) (k : Parts) (r j b z : ℕ) (f : Bool) (g : ℕ) (w : Bool) (p : Ledger) → IsCourse measure s k → k.transit ≡ [] → is_legal s (Load r j b z f g w ∷ log_of k) ≡ true → all_named p ≡ record (all_named (after (all_named k.pool) (Granted b z f g))) { room = p.room } → IsAccount s (Load r j b z f g w ∷ log_of k) [] (all_named p)
+pub load-account : (measure : Measuring) (s : Setting) (k : Parts) (r j b z : ℕ) (f : Bool) (g : ℕ) (w : Bool) (p : Ledger) → IsCourse measure s k
+    → k.transit ≡ [] → is_legal s (Load r j b z f g w ∷ log_of k) ≡ true
+    → all_named p ≡ record (all_named (after (all_named k.pool) (Granted b z f g))) { room = p.room }
+    → IsAccount s (Load r j b z f g w ∷ log_of k) [] (all_named p)
 load-account measure s k r j b z f g w p i still legal is =
     subst (IsAccount s (Load r j b z f g w ∷ log_of k) []) (sym is)
-    (hold_laws.room s (Load r j b z f g w ∷ log_of k) p.room (all_named (after (all_named k.pool) (Granted b z f g))) [] (grant_laws.load s (log_of k) r j b z f g w (all_named k.pool) i.ruled.pooled legal (still-account measure s k i still)))
+    (hold_laws.room s (Load r j b z f g w ∷ log_of k) p.room (all_named (after (all_named k.pool) (Granted b z f g))) []
+    (grant_laws.load s (log_of k) r j b z f g w (all_named k.pool) i.ruled.pooled legal (still-account measure s k i still)))
 
-pub block-account : (measure : Measuring) (s : Setting) (k : Parts) (r v m j b z : ℕ) (f : Bool) (g : ℕ) (w : Bool) (p : Ledger) → IsCourse measure s k → k.transit ≡ [] → is_legal s (TakeBlock f w r v m j b z g ∷ log_of k) ≡ true → all_named p ≡ record (all_named (after (all_named k.pool) (Granted b z f g))) { room = p.room } → IsAccount s (TakeBlock f w r v m j b z g ∷ log_of k) [] (all_named p)
+pub block-account : (measure : Measuring) (s : Setting) (k : Parts) (r v m j b z : ℕ) (f : Bool) (g : ℕ) (w : Bool) (p : Ledger) → IsCourse measure s k
+    → k.transit ≡ [] → is_legal s (TakeBlock f w r v m j b z g ∷ log_of k) ≡ true
+    → all_named p ≡ record (all_named (after (all_named k.pool) (Granted b z f g))) { room = p.room }
+    → IsAccount s (TakeBlock f w r v m j b z g ∷ log_of k) [] (all_named p)
 block-account measure s k r v m j b z f g w p i still legal is =
     subst (IsAccount s (TakeBlock f w r v m j b z g ∷ log_of k) []) (sym is)
-    (hold_laws.room s (TakeBlock f w r v m j b z g ∷ log_of k) p.room (all_named (after (all_named k.pool) (Granted b z f g))) [] (grant_laws.take_block s (log_of k) r v m j b z f g w (all_named k.pool) i.ruled.pooled legal (still-account measure s k i still)))
+    (hold_laws.room s (TakeBlock f w r v m j b z g ∷ log_of k) p.room (all_named (after (all_named k.pool) (Granted b z f g))) []
+    (grant_laws.take_block s (log_of k) r v m j b z f g w (all_named k.pool) i.ruled.pooled legal (still-account measure s k i still)))
 
 -- a place among rows
 pub place-in : (v j n l : ℕ) → v ≤ n → j < l → v * l + j < (n + 1) * l

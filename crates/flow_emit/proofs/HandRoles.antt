@@ -48,10 +48,12 @@ hands-of-run s (Load r k b n f g x ∷ P) h =
     and_from _ _ (le-leb r (last_role s) f.acts.role) (kept s r (hands P) (hands-of-run s P (and_parts (is_legal s P) _ h).0))
 hands-of-run s (Take r v m k ∷ P) h =
     let f = ((row_laws.take s P r v m k).0 (row_of s (Take r v m k) P (λ d. refl) h)).0 in
-    and_from _ _ (and_from _ _ (le-leb r (last_role s) f.acts.role) (threaded s v _ f.room)) (kept s r (hands P) (hands-of-run s P (and_parts (is_legal s P) _ h).0))
+    and_from _ _ (and_from _ _ (le-leb r (last_role s) f.acts.role) (threaded s v _ f.room))
+    (kept s r (hands P) (hands-of-run s P (and_parts (is_legal s P) _ h).0))
 hands-of-run s (TakeBlock f x r v m k b n g ∷ P) h =
     let f = ((row_laws.take_block s P r v m k b n f g x).0 (row_of s (TakeBlock f x r v m k b n g) P (λ d. refl) h)).0 in
-    and_from _ _ (and_from _ _ (le-leb r (last_role s) f.acts.role) (threaded s v _ f.room)) (kept s r (hands P) (hands-of-run s P (and_parts (is_legal s P) _ h).0))
+    and_from _ _ (and_from _ _ (le-leb r (last_role s) f.acts.role) (threaded s v _ f.room))
+    (kept s r (hands P) (hands-of-run s P (and_parts (is_legal s P) _ h).0))
 hands-of-run s (Save r v m k g ∷ P) h =
     let f = (row_laws.save s P r v m k g).0 (row_of s (Save r v m k g) P (λ d. refl) h) in
     and_from _ _ (le-leb r (last_role s) f.role) (kept s r (hands P) (hands-of-run s P (and_parts (is_legal s P) _ h).0))
@@ -63,8 +65,10 @@ hands-of-run s (e ∷ P) h = hands-of-run s P (and_parts (is_legal s P) _ h).0
 
 role-of-run : (s : Setting) (r : ℕ) (e : Entry) → takes_up r e ≡ true → of_run s e ≡ true → r ≤ last_role s
 role-of-run s r (Load q k b n f g x) up h = subst (λ (i : ℕ). i ≤ last_role s) (eqb-true q r up) (leb-true q (last_role s) h)
-role-of-run s r (Take q v m k) up h = subst (λ (i : ℕ). i ≤ last_role s) (eqb-true q r up) (leb-true q (last_role s) (and_parts (leb q (last_role s)) (is_node s v) h).0)
-role-of-run s r (TakeBlock f x q v m k b n g) up h = subst (λ (i : ℕ). i ≤ last_role s) (eqb-true q r up) (leb-true q (last_role s) (and_parts (leb q (last_role s)) (is_node s v) h).0)
+role-of-run s r (Take q v m k) up h =
+    subst (λ (i : ℕ). i ≤ last_role s) (eqb-true q r up) (leb-true q (last_role s) (and_parts (leb q (last_role s)) (is_node s v) h).0)
+role-of-run s r (TakeBlock f x q v m k b n g) up h =
+    subst (λ (i : ℕ). i ≤ last_role s) (eqb-true q r up) (leb-true q (last_role s) (and_parts (leb q (last_role s)) (is_node s v) h).0)
 role-of-run s r (Save q v m k g) up h = subst (λ (i : ℕ). i ≤ last_role s) (eqb-true q r up) (leb-true q (last_role s) h)
 role-of-run s r _ up h = absurd (false≢true up)
 

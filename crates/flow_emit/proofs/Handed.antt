@@ -52,27 +52,38 @@ job-on s v r a P legal h = by (hand r P) refl h where
   by (Some (Take q w m k)) is h =
       let p = and_parts (eqb w v) (same a (frame m k)) h in
       let here : w ≡ v = eqb-true w v p.0 in
-      on (Take q w m k) is p.0 (subst (λ u. is_maker s u ≡ false) here (not-true (is_maker s w) (hand-suits s P r (Take q w m k) legal is)), here, sym (same-true a (frame m k) p.1))
+      on (Take q w m k) is p.0 (subst (λ u. is_maker s u ≡ false) here (not-true (is_maker s w) (hand-suits s P r (Take q w m k) legal is)),
+      here, sym (same-true a (frame m k) p.1))
   by (Some (TakeBlock f x q w m k b n g)) is h =
       let p = and_parts (eqb w v) (same a (frame m k)) h in
       let here : w ≡ v = eqb-true w v p.0 in
-      on (TakeBlock f x q w m k b n g) is p.0 (subst (λ u. is_maker s u ≡ true) here (hand-suits s P r (TakeBlock f x q w m k b n g) legal is), here, sym (same-true a (frame m k) p.1))
+      on (TakeBlock f x q w m k b n g) is p.0
+      (subst (λ u. is_maker s u ≡ true) here (hand-suits s P r (TakeBlock f x q w m k b n g) legal is), here, sym (same-true a (frame m k) p.1))
   by (Some _) is h = absurd (false≢true h)
 
-pub has-arrays : (s : Setting) (v r : ℕ) (a : FrameName) (P : Past) (e : Entry) → is_legal s P ≡ true → hand r P ≡ Some e → IsGrantedFor s v a e → HasArrays s v a P e
+pub has-arrays : (s : Setting) (v r : ℕ) (a : FrameName) (P : Past) (e : Entry) → is_legal s P ≡ true → hand r P ≡ Some e
+    → IsGrantedFor s v a e → HasArrays s v a P e
 has-arrays s v r a P (Take q w m k) legal held kind =
     let alone : job_arrays s v a ≡ a ∷ [] = rw kind.0 refl in
     record {
       blocks = ap (flat_map (block_of P)) alone ∙ (append-nil (block_of P a) ∙ ap (block_of P) (sym kind.2));
-      standing = subst (All (HasBlock P)) (sym alone) (All-cons (HasBlock P) a [] (subst (HasBlock P) kind.2 (hand-block s r (Take q w m k) (frame m k) P legal held (λ h. h))) (All-nil (HasBlock P)));
+      standing =
+          subst (All (HasBlock P)) (sym alone)
+          (All-cons (HasBlock P) a [] (subst (HasBlock P) kind.2 (hand-block s r (Take q w m k) (frame m k) P legal held (λ h. h))) (All-nil (HasBlock P)));
     }
 has-arrays s v r a P (TakeBlock f x q w m k b n g) legal held kind =
     let pair : job_arrays s v a ≡ frame v a.index ∷ a ∷ [] = rw kind.0 refl in
     let index : k ≡ a.index = ap (λ (c : FrameName). c.index) kind.2 in
-    let own : block_of P (frame v a.index) ≡ b ∷ [] = subst (λ j. block_of P (frame v j) ≡ b ∷ []) index (subst (λ u. block_of P (frame u k) ≡ b ∷ []) kind.1 (block_laws.in_hand_block s r q w m k b n f g x P legal held)) in
+    let own : block_of P (frame v a.index) ≡ b ∷ [] =
+    subst (λ j. block_of P (frame v j) ≡ b ∷ []) index
+    (subst (λ u. block_of P (frame u k) ≡ b ∷ []) kind.1 (block_laws.in_hand_block s r q w m k b n f g x P legal held)) in
     record {
-      blocks = ap (flat_map (block_of P)) pair ∙ (ap (λ bs. bs ++ (block_of P a ++ [])) own ∙ ap (λ bs. b ∷ bs) (append-nil (block_of P a) ∙ ap (block_of P) (sym kind.2)));
-      standing = subst (All (HasBlock P)) (sym pair) (All-cons (HasBlock P) (frame v a.index) (a ∷ []) (b, own) (All-cons (HasBlock P) a [] (subst (HasBlock P) kind.2 (hand-block s r (TakeBlock f x q w m k b n g) (frame m k) P legal held (λ h. (or-parts _ _ h).1))) (All-nil (HasBlock P))));
+      blocks =
+          ap (flat_map (block_of P)) pair
+          ∙ (ap (λ bs. bs ++ (block_of P a ++ [])) own ∙ ap (λ bs. b ∷ bs) (append-nil (block_of P a) ∙ ap (block_of P) (sym kind.2)));
+      standing =
+          subst (All (HasBlock P)) (sym pair) (All-cons (HasBlock P) (frame v a.index) (a ∷ []) (b, own) (All-cons (HasBlock P) a [] (subst (HasBlock P) kind.2
+          (hand-block s r (TakeBlock f x q w m k b n g) (frame m k) P legal held (λ h. (or-parts _ _ h).1))) (All-nil (HasBlock P))));
     } where
       or-parts : (c d : Bool) → (c || d) ≡ false → (c ≡ false) × (d ≡ false)
       or-parts false d h = (refl, h)
@@ -80,7 +91,8 @@ has-arrays s v r a P (TakeBlock f x q w m k b n g) legal held kind =
 has-arrays s v r a P _ legal held kind = absurd kind
 
 -- the job as it was taken
-pub taken-as : (s : Setting) (v r : ℕ) (a : FrameName) (P : Past) → JobOn s v r a P → is_maker s v ≡ false → (q : ℕ) × (hand r P ≡ Some (Take q v a.maker a.index))
+pub taken-as : (s : Setting) (v r : ℕ) (a : FrameName) (P : Past) → JobOn s v r a P → is_maker s v ≡ false
+    → (q : ℕ) × (hand r P ≡ Some (Take q v a.maker a.index))
 taken-as s v r a P job passes = by job.entry job.has.held job.kind where
   by : (e : Entry) → hand r P ≡ Some e → IsGrantedFor s v a e → (q : ℕ) × (hand r P ≡ Some (Take q v a.maker a.index))
   by (Take q w m k) held kind = (q, held ∙ (ap (λ u. Some (Take q u m k)) kind.1 ∙ ap (λ (c : FrameName). Some (Take q v c.maker c.index)) kind.2))

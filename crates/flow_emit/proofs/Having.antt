@@ -34,7 +34,8 @@ is_empty (b ∷ bs) = false
 abbrev pub is_blockless : Past → FrameName → Bool
 is_blockless P a = is_empty (block_of P a)
 
-no_two : {X : Type 0} (t u w : X → Bool) → ((x : X) → t x ≡ false → u x ≡ false → w x ≡ false) → (xs : List X) → count t xs ≡ 0 → count u xs ≡ 0 → count w xs ≡ 0
+no_two : {X : Type 0} (t u w : X → Bool) → ((x : X) → t x ≡ false → u x ≡ false → w x ≡ false) → (xs : List X)
+    → count t xs ≡ 0 → count u xs ≡ 0 → count w xs ≡ 0
 no_two t u w both [] h k = refl
 no_two t u w both (x ∷ xs) h k =
     let a = count-cons t x xs in
@@ -47,7 +48,8 @@ or-false : (a b : Bool) → (a || b) ≡ false → (a ≡ false) × (b ≡ false
 or-false false b h = (refl, h)
 or-false true b h = absurd (true≢false h)
 
-holds-two : (t u w : FrameName → Bool) → ((a : FrameName) → t a ≡ false → u a ≡ false → w a ≡ false) → (e : Entry) → holds t e ≡ false → holds u e ≡ false → holds w e ≡ false
+holds-two : (t u w : FrameName → Bool) → ((a : FrameName) → t a ≡ false → u a ≡ false → w a ≡ false) → (e : Entry) → holds t e ≡ false
+    → holds u e ≡ false → holds w e ≡ false
 holds-two t u w both (Load r k b n f g x) h j = both (frame 0 k) h j
 holds-two t u w both (Take r v m k) h j = both (frame m k) h j
 holds-two t u w both (TakeBlock f x r v m k b n g) h j =
@@ -58,13 +60,15 @@ holds-two t u w both (TakeBlock f x r v m k b n g) h j =
 holds-two t u w both (Save r v m k g) h j = both (frame m k) h j
 holds-two t u w both _ h j = refl
 
-carries-two : (t u w : FrameName → Bool) → ((a : FrameName) → t a ≡ false → u a ≡ false → w a ≡ false) → (e : Entry) → carries t e ≡ false → carries u e ≡ false → carries w e ≡ false
+carries-two : (t u w : FrameName → Bool) → ((a : FrameName) → t a ≡ false → u a ≡ false → w a ≡ false) → (e : Entry) → carries t e ≡ false
+    → carries u e ≡ false → carries w e ≡ false
 carries-two t u w both (Emit v m k why) h j = both (frame m k) h j
 carries-two t u w both (Accept v m k) h j = both (frame m k) h j
 carries-two t u w both (SortDrop v m k) h j = both (frame m k) h j
 carries-two t u w both _ h j = refl
 
-clear-two : (t u w : FrameName → Bool) (s : Setting) (P : Past) → ((a : FrameName) → t a ≡ false → u a ≡ false → w a ≡ false) → Clear t s P → Clear u s P → Clear w s P
+clear-two : (t u w : FrameName → Bool) (s : Setting) (P : Past) → ((a : FrameName) → t a ≡ false → u a ≡ false → w a ≡ false)
+    → Clear t s P → Clear u s P → Clear w s P
 clear-two t u w s P both c d =
     record {
       queues = λ v. no_two t u w both (queued v P) (c.queues v) (d.queues v);
@@ -85,12 +89,14 @@ none_blockless s (Load r k b n f g x ∷ P) h =
     let e : Entry = Load r k b n f g x in
     let c = none_blockless s P legal in
     let t : FrameName → Bool = is_blockless (e ∷ P) in
-    let more : (a : FrameName) → is_blockless P a ≡ false → is_blockless P a ≡ false → t a ≡ false = λ a some _. kept-some a (cases_Bool (same a (frame 0 k))) some in
+    let more : (a : FrameName) → is_blockless P a ≡ false → is_blockless P a ≡ false → t a ≡ false =
+    λ a some _. kept-some a (cases_Bool (same a (frame 0 k))) some in
     clear-more t s e P h (one-less t (frame 0 k) made) (clear-two (is_blockless P) (is_blockless P) t s P more c c) where
       made : is_blockless (Load r k b n f g x ∷ P) (frame 0 k) ≡ false
       made = rw (same_refl (frame 0 k)) refl
 
-      kept-some : (a : FrameName) → (same a (frame 0 k) ≡ true) ⊎ (same a (frame 0 k) ≡ false) → is_blockless P a ≡ false → is_blockless (Load r k b n f g x ∷ P) a ≡ false
+      kept-some : (a : FrameName) → (same a (frame 0 k) ≡ true) ⊎ (same a (frame 0 k) ≡ false) → is_blockless P a ≡ false
+          → is_blockless (Load r k b n f g x ∷ P) a ≡ false
       kept-some a (inl this) some = rw this refl
       kept-some a (inr other) some = ap is_empty (block_laws.load_other r k b n f g x P a other) ∙ some
 none_blockless s (TakeBlock f x r v m k b n g ∷ P) h =
@@ -98,12 +104,14 @@ none_blockless s (TakeBlock f x r v m k b n g ∷ P) h =
     let e : Entry = TakeBlock f x r v m k b n g in
     let c = none_blockless s P legal in
     let t : FrameName → Bool = is_blockless (e ∷ P) in
-    let more : (a : FrameName) → is_blockless P a ≡ false → is_blockless P a ≡ false → t a ≡ false = λ a some _. kept-some a (cases_Bool (same a (frame v k))) some in
+    let more : (a : FrameName) → is_blockless P a ≡ false → is_blockless P a ≡ false → t a ≡ false =
+    λ a some _. kept-some a (cases_Bool (same a (frame v k))) some in
     clear-more t s e P h (one-less t (frame v k) made) (clear-two (is_blockless P) (is_blockless P) t s P more c c) where
       made : is_blockless (TakeBlock f x r v m k b n g ∷ P) (frame v k) ≡ false
       made = rw (same_refl (frame v k)) refl
 
-      kept-some : (a : FrameName) → (same a (frame v k) ≡ true) ⊎ (same a (frame v k) ≡ false) → is_blockless P a ≡ false → is_blockless (TakeBlock f x r v m k b n g ∷ P) a ≡ false
+      kept-some : (a : FrameName) → (same a (frame v k) ≡ true) ⊎ (same a (frame v k) ≡ false) → is_blockless P a ≡ false
+          → is_blockless (TakeBlock f x r v m k b n g ∷ P) a ≡ false
       kept-some a (inl this) some = rw this refl
       kept-some a (inr other) some = ap is_empty (block_laws.take_block_other r v m k b n f g x P a other) ∙ some
 none_blockless s (Reclaim r ∷ P) h =
@@ -115,14 +123,17 @@ none_blockless s (Reclaim r ∷ P) h =
       by : (d : Entry) → hand r P ≡ Some d → Clear (is_blockless P) s (Reclaim r ∷ P) → Clear (is_blockless (Reclaim r ∷ P)) s (Reclaim r ∷ P)
       by (Load q k b n f g x) held after =
           let legal : is_legal s P ≡ true = (and_parts _ _ h).0 in
-          clear-two (is_blockless P) (is_frame (frame 0 k)) (is_blockless (Reclaim r ∷ P)) s (Reclaim r ∷ P) (λ a some other. ap is_empty (block_laws.reclaim_load s r q k b n f g x P a legal held other) ∙ some) after (reclaimed-nowhere s r q k b n f g x P h held)
+          clear-two (is_blockless P) (is_frame (frame 0 k)) (is_blockless (Reclaim r ∷ P)) s (Reclaim r ∷ P) (λ a some other. ap is_empty
+          (block_laws.reclaim_load s r q k b n f g x P a legal held other) ∙ some) after (reclaimed-nowhere s r q k b n f g x P h held)
       by (TakeBlock f x q v m k b n g) held after =
           let legal : is_legal s P ≡ true = (and_parts _ _ h).0 in
-          clear-two (is_blockless P) (is_frame (frame v k)) (is_blockless (Reclaim r ∷ P)) s (Reclaim r ∷ P) (λ a some other. ap is_empty (block_laws.reclaim_block s r q v m k b n f g x P a legal held other) ∙ some) after (untaken-again s r q v m k b n f g x P h held)
+          clear-two (is_blockless P) (is_frame (frame v k)) (is_blockless (Reclaim r ∷ P)) s (Reclaim r ∷ P) (λ a some other. ap is_empty
+          (block_laws.reclaim_block s r q v m k b n f g x P a legal held other) ∙ some) after (untaken-again s r q v m k b n f g x P h held)
       by (Reclaim q) held after = absurd (false≢true (names_role r P (Reclaim q) held))
       by d held after =
           let legal : is_legal s P ≡ true = (and_parts _ _ h).0 in
-          clear-two (is_blockless P) (is_blockless P) (is_blockless (Reclaim r ∷ P)) s (Reclaim r ∷ P) (λ a some _. ap is_empty (block_laws.reclaim_other s r d P a legal held refl) ∙ some) after after
+          clear-two (is_blockless P) (is_blockless P) (is_blockless (Reclaim r ∷ P)) s
+          (Reclaim r ∷ P) (λ a some _. ap is_empty (block_laws.reclaim_other s r d P a legal held refl) ∙ some) after after
 none_blockless s (e ∷ P) h = clear-more (is_blockless P) s e P h refl (none_blockless s P (and_parts _ _ h).0)
 
 -- one block
@@ -148,7 +159,8 @@ queued-block s v P a rest legal is = one-block P a (first-clear (is_blockless P)
 pub unsaved-block : (s : Setting) (v : ℕ) (P : Past) (a : FrameName) (rest : List FrameName) → is_legal s P ≡ true → unsaved s v P ≡ a ∷ rest → HasBlock P a
 unsaved-block s v P a rest legal is = one-block P a (first-clear (is_blockless P) a rest (unsaved s v P) is ((none_blockless s P legal).files v))
 
-pub waiting-block : (s : Setting) (v : ℕ) (P : Past) (w : Waiting) (rest : List Waiting) → is_legal s P ≡ true → least_first s (waiting s v P) ≡ w ∷ rest → HasBlock P w.array
+pub waiting-block : (s : Setting) (v : ℕ) (P : Past) (w : Waiting) (rest : List Waiting) → is_legal s P ≡ true
+    → least_first s (waiting s v P) ≡ w ∷ rest → HasBlock P w.array
 waiting-block s v P w rest legal is =
     let t = waits (is_blockless P) in
     let none : count t (w ∷ rest) ≡ 0 = sym (ap (count t) is) ∙ (count-least_first s t (waiting s v P) ∙ (none_blockless s P legal).lists v) in
@@ -158,5 +170,6 @@ pub ring-blocks : (s : Setting) (v : ℕ) (P : Past) → is_legal s P ≡ true �
 ring-blocks s v P legal = all-blocks P (ring s v P) ((none_blockless s P legal).rings v)
 
 -- the array of a hand
-pub hand-block : (s : Setting) (r : ℕ) (e : Entry) (a : FrameName) (P : Past) → is_legal s P ≡ true → hand r P ≡ Some e → (holds (is_blockless P) e ≡ false → is_blockless P a ≡ false) → HasBlock P a
+pub hand-block : (s : Setting) (r : ℕ) (e : Entry) (a : FrameName) (P : Past) → is_legal s P ≡ true → hand r P ≡ Some e
+    → (holds (is_blockless P) e ≡ false → is_blockless P a ≡ false) → HasBlock P a
 hand-block s r e a P legal held of = one-block P a (of (hand-clear (holds (is_blockless P)) r e P held ((none_blockless s P legal).roles)))

@@ -74,7 +74,8 @@ abbrev box : Setting → ℕ → List FrameName → InboxState FrameName
 box s v q = record { size = (node s v).queue; extra = (node s v).threads; items = q }
 
 -- QUEUES
-pub here-accept-turned : (measure : Measuring) (s : Setting) (v m k : ℕ) (P : Past) (n : NodeState) (t : ℕ) → IsNode measure s v P n → has_room s P v ≡ true → (deals s v ≡ true → 0 < length (children s v) → t ≡ turn s v (Accept v m k ∷ P))
+pub here-accept-turned : (measure : Measuring) (s : Setting) (v m k : ℕ) (P : Past) (n : NodeState) (t : ℕ) → IsNode measure s v P n → has_room s P v ≡ true
+    → (deals s v ≡ true → 0 < length (children s v) → t ≡ turn s v (Accept v m k ∷ P))
     → IsNode measure s v (Accept v m k ∷ P) (record n { inbox = with_last n.inbox (frame m k); turn = t })
 here-accept-turned measure s v m k P n t i room turned =
     let more = queue_laws.accept v m k P in
@@ -99,13 +100,15 @@ here-accept-turned measure s v m k P n t i room turned =
       measures_room = i.measures_room;
     }
 
-pub here-accept : (measure : Measuring) (s : Setting) (v m k : ℕ) (P : Past) (n : NodeState) → IsNode measure s v P n → has_room s P v ≡ true → (deals s v ≡ true → has_just_emitted v P ≡ false)
+pub here-accept : (measure : Measuring) (s : Setting) (v m k : ℕ) (P : Past) (n : NodeState) → IsNode measure s v P n → has_room s P v ≡ true
+    → (deals s v ≡ true → has_just_emitted v P ≡ false)
     → IsNode measure s v (Accept v m k ∷ P) (record n { inbox = with_last n.inbox (frame m k) })
 here-accept measure s v m k P n i room none =
     here-accept-turned measure s v m k P n n.turn i room (λ d some. i.next_child d some ∙ sym (turn-kept s v (Accept v m k) P (none d)))
 
 -- the array of a job leaves the queue
-taken : (measure : Measuring) (s : Setting) (v r : ℕ) (e : Entry) (a : FrameName) (P : Past) (n : NodeState) → IsNode measure s v P n → is_legal s (e ∷ P) ≡ true → takes_up r e ≡ true → is_job v e ≡ true → is_piece v e ≡ false
+taken : (measure : Measuring) (s : Setting) (v r : ℕ) (e : Entry) (a : FrameName) (P : Past) (n : NodeState) → IsNode measure s v P n
+    → is_legal s (e ∷ P) ≡ true → takes_up r e ≡ true → is_job v e ≡ true → is_piece v e ≡ false
     → queued v P ≡ a ∷ queued v (e ∷ P) → jobs v P < (node s v).threads
     → (length (queued v (e ∷ P)) + (n.jobs + 1) ≤ (node s v).queue + (node s v).threads)
     × (n.jobs + 1 ≡ jobs v (e ∷ P)) × (n.jobs + 1 ≤ (node s v).threads) × (n.saving ≡ nat_lt 0 (length (filter (is_piece v) (hands (e ∷ P)))))
@@ -147,13 +150,15 @@ here-take measure s r v m k P n i legal =
       measures_room = i.measures_room;
     }
 
-pub here-take_block : (measure : Measuring) (s : Setting) (r v m k b z : ℕ) (f : Bool) (g : ℕ) (x : Bool) (P : Past) (n : NodeState) → IsNode measure s v P n → is_legal s (TakeBlock f x r v m k b z g ∷ P) ≡ true
+pub here-take_block : (measure : Measuring) (s : Setting) (r v m k b z : ℕ) (f : Bool) (g : ℕ) (x : Bool) (P : Past) (n : NodeState) → IsNode measure s v P n
+    → is_legal s (TakeBlock f x r v m k b z g ∷ P) ≡ true
     → IsNode measure s v (TakeBlock f x r v m k b z g ∷ P) (record n { inbox = without_front n.inbox; jobs = n.jobs + 1 })
 here-take_block measure s r v m k b z f g x P n i legal =
     let e = TakeBlock f x r v m k b z g in
     let row = row_of s e P (λ d. refl) legal in
     let facts = take-facts s r v (frame m k) P (may-TakeBlock s r v m k b z f g x P legal) in
-    let t = taken measure s v r e (frame m k) P n i legal (eq-eqb r r refl) (eq-eqb v v refl) refl (queue_laws.take_block s r v m k b z f g x P row) facts.room in
+    let t =
+    taken measure s v r e (frame m k) P n i legal (eq-eqb r r refl) (eq-eqb v v refl) refl (queue_laws.take_block s r v m k b z f g x P row) facts.room in
     record {
       inbox = t.4;
       working = t.1;
@@ -175,7 +180,8 @@ here-take_block measure s r v m k b z f g x P n i legal =
       measures_room = i.measures_room;
     }
 
-pub here-pool_drop : (measure : Measuring) (s : Setting) (r v m k need held : ℕ) (P : Past) (n : NodeState) → IsNode measure s v P n → is_legal s (PoolDrop r v m k need held ∷ P) ≡ true
+pub here-pool_drop : (measure : Measuring) (s : Setting) (r v m k need held : ℕ) (P : Past) (n : NodeState) → IsNode measure s v P n
+    → is_legal s (PoolDrop r v m k need held ∷ P) ≡ true
     → IsNode measure s v (PoolDrop r v m k need held ∷ P) (record n { inbox = without_front n.inbox })
 here-pool_drop measure s r v m k need held P n i legal =
     let e = PoolDrop r v m k need held in
@@ -215,14 +221,18 @@ goes-ticks t a (x ∷ xs) all = split (same x.array a) (goes-ticks t a xs (All-t
   split true rest = All-tail (λ (w : Waiting). w.tick ≤ t) x xs all
   split false rest = All-cons (λ (w : Waiting). w.tick ≤ t) x (not_waiting a xs) (All-head (λ (w : Waiting). w.tick ≤ t) x xs all) rest
 
-put-ticks : (s : Setting) (r v m k : ℕ) (f : Bool) (P : Past) → All (λ (w : Waiting). w.tick ≤ now P) (waiting s v P) → All (λ (w : Waiting). w.tick ≤ now P) (waiting s v (Put r v m k f ∷ P))
+put-ticks : (s : Setting) (r v m k : ℕ) (f : Bool) (P : Past) → All (λ (w : Waiting). w.tick ≤ now P) (waiting s v P)
+    → All (λ (w : Waiting). w.tick ≤ now P) (waiting s v (Put r v m k f ∷ P))
 put-ticks s r v m k f P all = elim (cases_Bool (is_sorted s v)) [
-  | inl sorted ↦ subst (All (λ (w : Waiting). w.tick ≤ now P)) (sym (put_laws.waits s r v m k f P sorted)) (all-push (λ (w : Waiting). w.tick ≤ now P) (waiting s v P) (record { array = frame m k; tick = now P }) all (omega arith))
+  | inl sorted ↦
+      subst (All (λ (w : Waiting). w.tick ≤ now P)) (sym (put_laws.waits s r v m k f P sorted))
+      (all-push (λ (w : Waiting). w.tick ≤ now P) (waiting s v P) (record { array = frame m k; tick = now P }) all (omega arith))
   | inr plain ↦ no-ticks (now P) (waiting s v (Put r v m k f ∷ P)) (put_laws.unsorted s v (Put r v m k f ∷ P) plain)
 ]
 
 -- PUTS
-pub here-put : (measure : Measuring) (s : Setting) (r v m k : ℕ) (f : Bool) (h : Entry) (P : Past) (n y : NodeState) → IsNode measure s v P n → is_legal s (Put r v m k f ∷ P) ≡ true
+pub here-put : (measure : Measuring) (s : Setting) (r v m k : ℕ) (f : Bool) (h : Entry) (P : Past) (n y : NodeState) → IsNode measure s v P n
+    → is_legal s (Put r v m k f ∷ P) ≡ true
     → hand r P ≡ Some h → is_job v h ≡ true → is_piece v h ≡ false
     → y.list.size ≡ (node s v).sort → (is_sorted s v ≡ true → y.list.last ≡ prev s v P) → y.list.waiting ≡ list_of measure s v (Put r v m k f ∷ P)
     → IsRing s v (Put r v m k f ∷ P) (node s v).work y.window → y.unsaved.items ≡ unsaved s v (Put r v m k f ∷ P) → HasRoomToSave s v y
@@ -252,15 +262,20 @@ here-put measure s r v m k f h P n y i legal held job piece size last waits ring
     }
 
 -- EMISSIONS
-pub measured-more : (measure : Measuring) (v m k : ℕ) (why : Why) (P : Past) → measured_at measure (Emit v m k why ∷ P) v ≡ measured_at measure P v ++ listed_one (measure v (frame m k))
+pub measured-more : (measure : Measuring) (v m k : ℕ) (why : Why) (P : Past)
+    → measured_at measure (Emit v m k why ∷ P) v ≡ measured_at measure P v ++ listed_one (measure v (frame m k))
 measured-more measure v m k why P =
     let f = λ (a : FrameName). listed_one (measure v a) in
-    ap (flat_map f) (comes_here v (frame m k) (emitted v P)) ∙ (flat_map-append f (emitted v P) (frame m k ∷ []) ∙ ap (λ ys. flat_map f (emitted v P) ++ ys) (append-nil (listed_one (measure v (frame m k)))))
+    ap (flat_map f) (comes_here v (frame m k) (emitted v P))
+    ∙ (flat_map-append f (emitted v P) (frame m k ∷ []) ∙ ap (λ ys. flat_map f (emitted v P) ++ ys) (append-nil (listed_one (measure v (frame m k)))))
 
-emit-ticks : (s : Setting) (v m k : ℕ) (why : Why) (P : Past) → All (λ (w : Waiting). w.tick ≤ now P) (waiting s v P) → All (λ (w : Waiting). w.tick ≤ now P) (waiting s v (Emit v m k why ∷ P))
-emit-ticks s v m k why P all = subst (All (λ (w : Waiting). w.tick ≤ now P)) (sym (put_laws.goes s v m k why P)) (goes-ticks (now P) (frame m k) (waiting s v P) all)
+emit-ticks : (s : Setting) (v m k : ℕ) (why : Why) (P : Past) → All (λ (w : Waiting). w.tick ≤ now P) (waiting s v P)
+    → All (λ (w : Waiting). w.tick ≤ now P) (waiting s v (Emit v m k why ∷ P))
+emit-ticks s v m k why P all =
+    subst (All (λ (w : Waiting). w.tick ≤ now P)) (sym (put_laws.goes s v m k why P)) (goes-ticks (now P) (frame m k) (waiting s v P) all)
 
-pub here-emit : (measure : Measuring) (s : Setting) (v m k : ℕ) (why : Why) (P : Past) (n y : NodeState) → IsNode measure s v P n → is_legal s (Emit v m k why ∷ P) ≡ true
+pub here-emit : (measure : Measuring) (s : Setting) (v m k : ℕ) (why : Why) (P : Past) (n y : NodeState) → IsNode measure s v P n
+    → is_legal s (Emit v m k why ∷ P) ≡ true
     → y.list.size ≡ (node s v).sort → (is_sorted s v ≡ true → y.list.last ≡ id_at s k) → y.list.waiting ≡ list_of measure s v (Emit v m k why ∷ P)
     → y.measures.items ≡ n.measures.items ++ listed_one (measure v (frame m k)) → HasRoomToMeasure measure s v y
     → IsNode measure s v (Emit v m k why ∷ P) (record n { list = y.list; measures = y.measures })
@@ -288,7 +303,8 @@ here-emit measure s v m k why P n y i legal size last waits measures room =
     }
 
 -- a result that is dropped, for want of a place in the list
-pub here-sort_drop : (measure : Measuring) (s : Setting) (v m k : ℕ) (P : Past) (n y : NodeState) → IsNode measure s v P n → is_legal s (SortDrop v m k ∷ P) ≡ true
+pub here-sort_drop : (measure : Measuring) (s : Setting) (v m k : ℕ) (P : Past) (n y : NodeState) → IsNode measure s v P n
+    → is_legal s (SortDrop v m k ∷ P) ≡ true
     → y.list.size ≡ (node s v).sort → (is_sorted s v ≡ true → y.list.last ≡ prev s v P) → y.list.waiting ≡ list_of measure s v (SortDrop v m k ∷ P)
     → IsNode measure s v (SortDrop v m k ∷ P) (record n { list = y.list })
 here-sort_drop measure s v m k P n y i legal size last waits =
@@ -321,7 +337,8 @@ settled-ring s r v P (Passes d) x empty none = tt
 settled-ring s r v P (Saves g c) x empty none = tt
 settled-ring s r v P (Watches pre post preset) x empty none = ((λ h. absurd (true≢false (sym (clock_laws.settle r v P) ∙ h))), (λ h. empty), none)
 
-pub here-settle : (measure : Measuring) (s : Setting) (r v : ℕ) (P : Past) (n y : NodeState) → IsNode measure s v P n → is_legal s (Settle r v ∷ P) ≡ true → y.window.ring ≡ [] → y.window.pending ≡ []
+pub here-settle : (measure : Measuring) (s : Setting) (r v : ℕ) (P : Past) (n y : NodeState) → IsNode measure s v P n → is_legal s (Settle r v ∷ P) ≡ true
+    → y.window.ring ≡ [] → y.window.pending ≡ []
     → IsNode measure s v (Settle r v ∷ P) (record n { settled = true; window = y.window })
 here-settle measure s r v P n y i legal empty none =
     let e = Settle r v in
@@ -350,12 +367,14 @@ here-settle measure s r v P n y i legal empty none =
 save-file : (s : Setting) (r v m k g : ℕ) (P : Past) → is_legal s (Save r v m k g ∷ P) ≡ true → is_file (node s v).work ≡ true
 save-file s r v m k g P legal =
     let row = row_of s (Save r v m k g) P (λ d. refl) legal in
-    (piece-facts s v (frame m k) P (and_parts _ _ (and_parts (is_role s r && is_free r P && may_save s v (frame m k) P) (eqb g (group_of (node s v).work (length (standing_saves v P)))) row).0).1).file
+    (piece-facts s v (frame m k) P (and_parts _ _
+    (and_parts (is_role s r && is_free r P && may_save s v (frame m k) P) (eqb g (group_of (node s v).work (length (standing_saves v P)))) row).0).1).file
 
 unsorted-file : (s : Setting) (v : ℕ) → is_file (node s v).work ≡ true → is_sorted s v ≡ true → ⊥
 unsorted-file s v file sorted = true≢false (sym file ∙ sorted_no_file s v sorted)
 
-pub here-save : (measure : Measuring) (s : Setting) (r v m k g : ℕ) (P : Past) (n y : NodeState) → IsNode measure s v P n → is_legal s P ≡ true → is_legal s (Save r v m k g ∷ P) ≡ true
+pub here-save : (measure : Measuring) (s : Setting) (r v m k g : ℕ) (P : Past) (n y : NodeState) → IsNode measure s v P n → is_legal s P ≡ true
+    → is_legal s (Save r v m k g ∷ P) ≡ true
     → y.unsaved.items ≡ drop 1 n.unsaved.items → HasRoomToSave s v y
     → IsNode measure s v (Save r v m k g ∷ P) (record n { unsaved = y.unsaved; saves = n.saves + 1; saving = true })
 here-save measure s r v m k g P n y i was legal items room =
@@ -377,7 +396,9 @@ here-save measure s r v m k g P n y i was legal items room =
       kept = items ∙ (ap (drop 1) i.kept ∙ ap (drop 1) (save_laws.save s r v m k g P was row));
       results = i.results;
       pieces = ap (λ x. x + 1) i.pieces ∙ (sym (length-append (standing_saves v P) (frame m k ∷ [])) ∙ ap length (sym (save_laws.saved r v m k g P)));
-      saving = sym (some-piece (length (filter (is_piece v) (hands P)))) ∙ ap (nat_lt 0) (sym (job_laws.up (is_piece v) r e P (eq-eqb r r refl) free (eq-eqb v v refl)));
+      saving =
+          sym (some-piece (length (filter (is_piece v) (hands P))))
+          ∙ ap (nat_lt 0) (sym (job_laws.up (is_piece v) r e P (eq-eqb r r refl) free (eq-eqb v v refl)));
       next_child = λ d some. i.next_child d some ∙ sym (turn-same s v e P legal (λ c m k b. refl) d some);
       measures = i.measures;
       unsaved_room = room;
@@ -386,7 +407,8 @@ here-save measure s r v m k g P n y i was legal items room =
       some-piece : (c : ℕ) → nat_lt 0 (c + 1) ≡ true
       some-piece c = lt-ltb 0 (c + 1) (omega arith)
 
-pub here-saved : (measure : Measuring) (s : Setting) (r v m k q j i g : ℕ) (P : Past) (n : NodeState) → IsNode measure s v P n → is_legal s P ≡ true → is_legal s (Saved r v m k ∷ P) ≡ true
+pub here-saved : (measure : Measuring) (s : Setting) (r v m k q j i g : ℕ) (P : Past) (n : NodeState) → IsNode measure s v P n → is_legal s P ≡ true
+    → is_legal s (Saved r v m k ∷ P) ≡ true
     → hand r P ≡ Some (Save q v j i g)
     → IsNode measure s v (Saved r v m k ∷ P) (record n { saving = false })
 here-saved measure s r v m k q j l g P n i was legal held =
@@ -417,7 +439,8 @@ here-saved measure s r v m k q j l g P n i was legal held =
 
 -- RECLAIMS
 -- a job's array is the next one of its queue again
-given_back : (measure : Measuring) (s : Setting) (r v : ℕ) (a : FrameName) (h : Entry) (P : Past) (n : NodeState) → IsNode measure s v P n → is_legal s P ≡ true → is_legal s (Reclaim r ∷ P) ≡ true
+given_back : (measure : Measuring) (s : Setting) (r v : ℕ) (a : FrameName) (h : Entry) (P : Past) (n : NodeState) → IsNode measure s v P n → is_legal s P ≡ true
+    → is_legal s (Reclaim r ∷ P) ≡ true
     → hand r P ≡ Some h → is_job v h ≡ true → is_piece v h ≡ false → queued v (Reclaim r ∷ P) ≡ a ∷ queued v P
     → IsNode measure s v (Reclaim r ∷ P) (record n { inbox = with_front n.inbox a; jobs = n.jobs - 1 })
 given_back measure s r v a h P n i was legal held job piece front =
@@ -444,18 +467,23 @@ given_back measure s r v a h P n i was legal held job piece front =
       measures_room = i.measures_room;
     }
 
-pub here-reclaim_take : (measure : Measuring) (s : Setting) (r q v m k : ℕ) (P : Past) (n : NodeState) → IsNode measure s v P n → is_legal s P ≡ true → is_legal s (Reclaim r ∷ P) ≡ true
+pub here-reclaim_take : (measure : Measuring) (s : Setting) (r q v m k : ℕ) (P : Past) (n : NodeState) → IsNode measure s v P n → is_legal s P ≡ true
+    → is_legal s (Reclaim r ∷ P) ≡ true
     → hand r P ≡ Some (Take q v m k) → IsNode measure s v (Reclaim r ∷ P) (record n { inbox = with_front n.inbox (frame m k); jobs = n.jobs - 1 })
 here-reclaim_take measure s r q v m k P n i was legal held =
     given_back measure s r v (frame m k) (Take q v m k) P n i was legal held (eq-eqb v v refl) refl (queue_laws.reclaim v r q m k P held)
 
-pub here-reclaim_block : (measure : Measuring) (s : Setting) (r q v m k b z : ℕ) (f : Bool) (g : ℕ) (x : Bool) (P : Past) (n : NodeState) → IsNode measure s v P n → is_legal s P ≡ true → is_legal s (Reclaim r ∷ P) ≡ true
-    → hand r P ≡ Some (TakeBlock f x q v m k b z g) → IsNode measure s v (Reclaim r ∷ P) (record n { inbox = with_front n.inbox (frame m k); jobs = n.jobs - 1 })
+pub here-reclaim_block : (measure : Measuring) (s : Setting) (r q v m k b z : ℕ) (f : Bool) (g : ℕ) (x : Bool) (P : Past) (n : NodeState)
+    → IsNode measure s v P n → is_legal s P ≡ true → is_legal s (Reclaim r ∷ P) ≡ true
+    → hand r P ≡ Some (TakeBlock f x q v m k b z g)
+    → IsNode measure s v (Reclaim r ∷ P) (record n { inbox = with_front n.inbox (frame m k); jobs = n.jobs - 1 })
 here-reclaim_block measure s r q v m k b z f g x P n i was legal held =
-    given_back measure s r v (frame m k) (TakeBlock f x q v m k b z g) P n i was legal held (eq-eqb v v refl) refl (queue_laws.reclaim_block v r q m k b z f g x P held)
+    given_back measure s r v (frame m k) (TakeBlock f x q v m k b z g) P n i was legal held (eq-eqb v v refl) refl
+    (queue_laws.reclaim_block v r q m k b z f g x P held)
 
 -- a piece is the first unsaved one again
-pub here-reclaim_piece : (measure : Measuring) (s : Setting) (r q v m k g : ℕ) (P : Past) (n y : NodeState) → IsNode measure s v P n → is_legal s P ≡ true → is_legal s (Reclaim r ∷ P) ≡ true
+pub here-reclaim_piece : (measure : Measuring) (s : Setting) (r q v m k g : ℕ) (P : Past) (n y : NodeState) → IsNode measure s v P n → is_legal s P ≡ true
+    → is_legal s (Reclaim r ∷ P) ≡ true
     → hand r P ≡ Some (Save q v m k g) → is_file (node s v).work ≡ true → y.unsaved.items ≡ frame m k ∷ n.unsaved.items → HasRoomToSave s v y
     → IsNode measure s v (Reclaim r ∷ P) (record n { unsaved = y.unsaved; saves = n.saves - 1; saving = false })
 here-reclaim_piece measure s r q v m k g P n y i was legal held file items room =

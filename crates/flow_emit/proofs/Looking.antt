@@ -50,7 +50,8 @@ pub record IsFirst (measure : Measuring) (s : Setting) (v : ℕ) (P : Past) (w :
   pub first : w ≡ listed measure s v least
   pub rest : ws ≡ map (listed measure s v) others
 
-pub first-waits : (measure : Measuring) (s : Setting) (v : ℕ) (P : Past) (n : NodeState) (w : Listed Kept) (ws : List (Listed Kept)) → IsNode measure s v P n → n.list.waiting ≡ w ∷ ws → IsFirst measure s v P w ws
+pub first-waits : (measure : Measuring) (s : Setting) (v : ℕ) (P : Past) (n : NodeState) (w : Listed Kept) (ws : List (Listed Kept)) → IsNode measure s v P n
+    → n.list.waiting ≡ w ∷ ws → IsFirst measure s v P w ws
 first-waits measure s v P n w ws i is = split (least_first s (waiting s v P)) refl where
   split : (us : List Waiting) → least_first s (waiting s v P) ≡ us → IsFirst measure s v P w ws
   split [] h =
@@ -60,7 +61,8 @@ first-waits measure s v P n w ws i is = split (least_first s (waiting s v P)) re
       record { least = u; others = us; order = h; first = cc; rest = cc }
 
 -- why it goes out
-due-cases : (a b : Bool) (why : Why) → (if a then Some Step else if b then Some Late else None) ≡ Some why → ((a ≡ true) × (why ≡ Step)) ⊎ ((a ≡ false) × (b ≡ true) × (why ≡ Late))
+due-cases : (a b : Bool) (why : Why) → (if a then Some Step else if b then Some Late else None) ≡ Some why
+    → ((a ≡ true) × (why ≡ Step)) ⊎ ((a ≡ false) × (b ≡ true) × (why ≡ Late))
 due-cases true b why h = inl (refl, cc)
 due-cases false true why h = inr (refl, refl, cc)
 due-cases false false why h = absurd (cc)
@@ -71,34 +73,44 @@ stay-cases false true h = absurd (cc)
 stay-cases false false h = (refl, refl)
 
 -- what is due is the first of the look, and the look goes on without it
-pub due-looks : (measure : Measuring) (s : Setting) (v : ℕ) (P : Past) (n : NodeState) (t st : ℕ) (w : Listed Kept) (ws : List (Listed Kept)) (why : Why) → IsNode measure s v P n → is_sorted s v ≡ true → t ≡ now P → st ≡ (node s v).sort_time → n.list.waiting ≡ w ∷ ws → why_due n.list.last t st w ≡ Some why
+pub due-looks : (measure : Measuring) (s : Setting) (v : ℕ) (P : Past) (n : NodeState) (t st : ℕ) (w : Listed Kept) (ws : List (Listed Kept)) (why : Why)
+    → IsNode measure s v P n → is_sorted s v ≡ true → t ≡ now P → st ≡ (node s v).sort_time → n.list.waiting ≡ w ∷ ws → why_due n.list.last t st w ≡ Some why
     → look s v P ≡ emit v why w.item.name ∷ look s v (emit v why w.item.name ∷ P)
 due-looks measure s v P n t st w ws why i sorted time wait is due =
     let f = first-waits measure s v P n w ws i is in
     let u = f.least in
     let a : FrameName = u.array in
     let name : w.item.name ≡ a = ap (λ (x : Listed Kept). x.item.name) f.first in
-    let step : keeps_step n.list.last w.id ≡ keeps_step (prev s v P) (id_at s a.index) = ap (λ (x : Listed Kept). keeps_step n.list.last x.id) f.first ∙ ap (λ l. keeps_step l (id_at s a.index)) (i.last sorted) in
-    let late : sorting.is_late t st w ≡ ltb (u.tick + (node s v).sort_time) (now P) = ap (λ (x : Listed Kept). ltb st (t - x.tick)) f.first ∙ (ap (λ (y : ℕ). ltb st (y - u.tick)) time ∙ (ap (λ (y : ℕ). ltb y (now P - u.tick)) wait ∙ sym (late-same u.tick (node s v).sort_time (now P)))) in
+    let step : keeps_step n.list.last w.id ≡ keeps_step (prev s v P) (id_at s a.index) =
+    ap (λ (x : Listed Kept). keeps_step n.list.last x.id) f.first ∙ ap (λ l. keeps_step l (id_at s a.index)) (i.last sorted) in
+    let late : sorting.is_late t st w ≡ ltb (u.tick + (node s v).sort_time) (now P) =
+    ap (λ (x : Listed Kept). ltb st (t - x.tick)) f.first
+    ∙ (ap (λ (y : ℕ). ltb st (y - u.tick)) time ∙ (ap (λ (y : ℕ). ltb y (now P - u.tick)) wait ∙ sym (late-same u.tick (node s v).sort_time (now P)))) in
     subst (λ (b : FrameName). look s v P ≡ emit v why b ∷ look s v (emit v why b ∷ P)) (sym name)
     (elim (due-cases (keeps_step n.list.last w.id) (sorting.is_late t st w) why due) [
       | inl h ↦ subst (λ (y : Why). look s v P ≡ emit v y a ∷ look s v (emit v y a ∷ P)) (sym h.1) (look_laws.step s v P u f.others f.order (sym step ∙ h.0))
-      | inr h ↦ subst (λ (y : Why). look s v P ≡ emit v y a ∷ look s v (emit v y a ∷ P)) (sym h.2) (look_laws.late s v P u f.others f.order (sym step ∙ h.0) (sym late ∙ h.1))
+      | inr h ↦
+          subst (λ (y : Why). look s v P ≡ emit v y a ∷ look s v (emit v y a ∷ P)) (sym h.2)
+          (look_laws.late s v P u f.others f.order (sym step ∙ h.0) (sym late ∙ h.1))
     ])
 
 -- where nothing is due a look lets nothing out
-pub stays-looks : (measure : Measuring) (s : Setting) (v : ℕ) (P : Past) (n : NodeState) (t st : ℕ) → IsNode measure s v P n → is_sorted s v ≡ true → t ≡ now P → st ≡ (node s v).sort_time → NothingDue t st n → look s v P ≡ []
+pub stays-looks : (measure : Measuring) (s : Setting) (v : ℕ) (P : Past) (n : NodeState) (t st : ℕ) → IsNode measure s v P n → is_sorted s v ≡ true → t ≡ now P
+    → st ≡ (node s v).sort_time → NothingDue t st n → look s v P ≡ []
 stays-looks measure s v P n t st i sorted time wait nothing = split (least_first s (waiting s v P)) refl where
   split : (us : List Waiting) → least_first s (waiting s v P) ≡ us → look s v P ≡ []
   split [] h = look_laws.none s v P (least_laws.none s (waiting s v P) h)
   split (u ∷ us) h =
       let w = listed measure s v u in
-      let none = stay-cases (keeps_step n.list.last w.id) (sorting.is_late t st w) (nothing w (map (listed measure s v) us) (i.waits ∙ ap (map (listed measure s v)) h)) in
+      let none =
+      stay-cases (keeps_step n.list.last w.id) (sorting.is_late t st w) (nothing w (map (listed measure s v) us) (i.waits ∙ ap (map (listed measure s v)) h)) in
       look_laws.stays s v P u us h (ap (λ l. keeps_step l (id_at s u.array.index)) (sym (i.last sorted)) ∙ none.0)
-      (late-same u.tick (node s v).sort_time (now P) ∙ (ap (λ (y : ℕ). ltb y (now P - u.tick)) (sym wait) ∙ (ap (λ (y : ℕ). ltb st (y - u.tick)) (sym time) ∙ none.1)))
+      (late-same u.tick (node s v).sort_time (now P)
+      ∙ (ap (λ (y : ℕ). ltb y (now P - u.tick)) (sym wait) ∙ (ap (λ (y : ℕ). ltb st (y - u.tick)) (sym time) ∙ none.1)))
 
 -- offers leave a look and what waits as they are
-pub look-offers : (s : Setting) (v : ℕ) (a : FrameName) (cs : List ℕ) (b : BoardState) → look s v (past (with_all s 0 1 (map (offer a) cs) b)) ≡ look s v (past b)
+pub look-offers : (s : Setting) (v : ℕ) (a : FrameName) (cs : List ℕ) (b : BoardState)
+    → look s v (past (with_all s 0 1 (map (offer a) cs) b)) ≡ look s v (past b)
 look-offers s v a [] b = refl
 look-offers s v a (c ∷ cs) b =
     ap (λ (d : BoardState). look s v (past d)) (offers-first s a c cs b)
@@ -107,7 +119,8 @@ look-offers s v a (c ∷ cs) b =
       split true = refl
       split false = refl
 
-pub waits-offers : (s : Setting) (v : ℕ) (a : FrameName) (cs : List ℕ) (b : BoardState) → waiting s v (past (with_all s 0 1 (map (offer a) cs) b)) ≡ waiting s v (past b)
+pub waits-offers : (s : Setting) (v : ℕ) (a : FrameName) (cs : List ℕ) (b : BoardState)
+    → waiting s v (past (with_all s 0 1 (map (offer a) cs) b)) ≡ waiting s v (past b)
 waits-offers s v a [] b = refl
 waits-offers s v a (c ∷ cs) b =
     ap (λ (d : BoardState). waiting s v (past d)) (offers-first s a c cs b)
@@ -125,7 +138,8 @@ pub record IsDueOf (l : SortState Kept) (t st : ℕ) (d : Due Kept) : Type 0 whe
   pub due : why_due l.last t st least ≡ Some (if d.late then Late else Step)
 
 due-first : (last : ℤ) (t st : ℕ) (w : Listed Kept) (d : Due Kept) (a b : Bool) → keeps_step last w.id ≡ a → sorting.is_late t st w ≡ b
-    → (if a then Some (let r : Due Kept = record { id = w.id; item = w.item; late = false } in r) else if b then Some (let r : Due Kept = record { id = w.id; item = w.item; late = true } in r) else None) ≡ Some d
+    → (if a then Some (let r : Due Kept = record { id = w.id; item = w.item; late = false } in r)
+    else if b then Some (let r : Due Kept = record { id = w.id; item = w.item; late = true } in r) else None) ≡ Some d
     → (d.item ≡ w.item) × (why_due last t st w ≡ Some (if d.late then Late else Step))
 due-first last t st w d true b x y h =
     let e : (let r : Due Kept = record { id = w.id; item = w.item; late = false } in r) ≡ d = cc in
@@ -146,34 +160,47 @@ due-of l t st d h = split l.waiting refl where
 
 pub nothing-due : (n : NodeState) (t st : ℕ) → due_answer n.list t st ≡ None → NothingDue t st n
 nothing-due n t st h w ws is = stay (keeps_step n.list.last w.id) (sorting.is_late t st w) (sym (ap (due_first n.list.last t st) is) ∙ h) where
-  stay : (a b : Bool) → (if a then Some (let r : Due Kept = record { id = w.id; item = w.item; late = false } in r) else if b then Some (let r : Due Kept = record { id = w.id; item = w.item; late = true } in r) else None) ≡ None → (if a then Some Step else if b then Some Late else None) ≡ None
+  stay : (a b : Bool)
+      → (if a then Some (let r : Due Kept = record { id = w.id; item = w.item; late = false } in r)
+      else if b then Some (let r : Due Kept = record { id = w.id; item = w.item; late = true } in r) else None) ≡ None
+      → (if a then Some Step else if b then Some Late else None) ≡ None
   stay true b e = absurd (cc)
   stay false true e = absurd (cc)
   stay false false e = refl
 
 -- A LOOK AT THE LIST OF A COURSE
-pub list-ticks : (measure : Measuring) (s : Setting) (v : ℕ) (P : Past) (n : NodeState) (t : ℕ) → IsNode measure s v P n → t ≡ now P → All (λ (w : Listed Kept). w.tick ≤ t) n.list.waiting
+pub list-ticks : (measure : Measuring) (s : Setting) (v : ℕ) (P : Past) (n : NodeState) (t : ℕ) → IsNode measure s v P n → t ≡ now P
+    → All (λ (w : Listed Kept). w.tick ≤ t) n.list.waiting
 list-ticks measure s v P n t i time =
-    rw (i.waits, time) (All-map (λ (w : Listed Kept). w.tick ≤ now P) (listed measure s v) (least_first s (waiting s v P)) (All-permutation (λ (w : Waiting). w.tick ≤ now P) (waiting s v P) (least_first s (waiting s v P)) (least_laws.same_ones s (waiting s v P)) i.ticks))
+    rw (i.waits, time) (All-map (λ (w : Listed Kept). w.tick ≤ now P) (listed measure s v) (least_first s (waiting s v P))
+    (All-permutation (λ (w : Waiting). w.tick ≤ now P) (waiting s v P) (least_first s (waiting s v P)) (least_laws.same_ones s (waiting s v P)) i.ticks))
 
 -- the first of a look, with its offers, is legal where the look is
-pub first-legal : (s : Setting) (v : ℕ) (a : FrameName) (why : Why) (ds : List Entry) (b : BoardState) → look s v (past b) ≡ emit v why a ∷ ds → is_legal s (past (with_all s 0 2 (look s v (past b)) b)) ≡ true
-    → (is_legal s (past (with_all s 0 1 (map (offer a) (offered_to s (past b) v)) (plain (emit v why a) ∷ b))) ≡ true) × (is_legal s (emit v why a ∷ past b) ≡ true)
+pub first-legal : (s : Setting) (v : ℕ) (a : FrameName) (why : Why) (ds : List Entry) (b : BoardState) → look s v (past b) ≡ emit v why a ∷ ds
+    → is_legal s (past (with_all s 0 2 (look s v (past b)) b)) ≡ true
+    → (is_legal s (past (with_all s 0 1 (map (offer a) (offered_to s (past b) v)) (plain (emit v why a) ∷ b))) ≡ true)
+    × (is_legal s (emit v why a ∷ past b) ≡ true)
 first-legal s v a why ds b is legal =
-    let whole : is_legal s (past (with_all s 0 2 (emit v why a ∷ ds) b)) ≡ true = subst (λ (xs : List Entry). is_legal s (past (with_all s 0 2 xs b)) ≡ true) is legal in
+    let whole : is_legal s (past (with_all s 0 2 (emit v why a ∷ ds) b)) ≡ true =
+    subst (λ (xs : List Entry). is_legal s (past (with_all s 0 2 xs b)) ≡ true) is legal in
     let out = legal-before s 0 2 ds (with_all s 0 1 (map (offer a) (offered_to s (past b) v)) (plain (emit v why a) ∷ b)) whole in
     (out, legal-before s 0 1 (map (offer a) (offered_to s (past b) v)) (plain (emit v why a) ∷ b) out)
 
 -- what waits once it is gone
-pub list-left : (measure : Measuring) (s : Setting) (v : ℕ) (P : Past) (w : Listed Kept) (ws : List (Listed Kept)) (why : Why) (f : IsFirst measure s v P w ws) → ws ≡ list_of measure s v (Emit v f.least.array.maker f.least.array.index why ∷ P)
+pub list-left : (measure : Measuring) (s : Setting) (v : ℕ) (P : Past) (w : Listed Kept) (ws : List (Listed Kept)) (why : Why) (f : IsFirst measure s v P w ws)
+    → ws ≡ list_of measure s v (Emit v f.least.array.maker f.least.array.index why ∷ P)
 list-left measure s v P w ws why f =
     let a = f.least.array in
-    f.rest ∙ ap (map (listed measure s v)) (sym (least_laws.left s (waiting s v P) f.least f.others f.order) ∙ ap (least_first s) (sym (put_laws.goes s v a.maker a.index why P)))
+    f.rest
+    ∙ ap (map (listed measure s v))
+    (sym (least_laws.left s (waiting s v P) f.least f.others f.order) ∙ ap (least_first s) (sym (put_laws.goes s v a.maker a.index why P)))
 
 -- and there are fewer
-pub fewer-wait : (measure : Measuring) (s : Setting) (v : ℕ) (P : Past) (w : Listed Kept) (ws : List (Listed Kept)) (why : Why) (f : IsFirst measure s v P w ws) → length (waiting s v (Emit v f.least.array.maker f.least.array.index why ∷ P)) < length (waiting s v P)
+pub fewer-wait : (measure : Measuring) (s : Setting) (v : ℕ) (P : Past) (w : Listed Kept) (ws : List (Listed Kept)) (why : Why) (f : IsFirst measure s v P w ws)
+    → length (waiting s v (Emit v f.least.array.maker f.least.array.index why ∷ P)) < length (waiting s v P)
 fewer-wait measure s v P w ws why f =
     let a = f.least.array in
     let Q : Past = Emit v a.maker a.index why ∷ P in
-    let rest : least_first s (waiting s v Q) ≡ f.others = ap (least_first s) (put_laws.goes s v a.maker a.index why P) ∙ least_laws.left s (waiting s v P) f.least f.others f.order in
+    let rest : least_first s (waiting s v Q) ≡ f.others =
+    ap (least_first s) (put_laws.goes s v a.maker a.index why P) ∙ least_laws.left s (waiting s v P) f.least f.others f.order in
     omega (arith, least_laws.count s (waiting s v Q), ap length rest, least_laws.count s (waiting s v P), ap length f.order)

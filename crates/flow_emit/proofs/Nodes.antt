@@ -51,7 +51,8 @@ pub record SameNode (s : Setting) (v : ℕ) (P Q : Past) : Type 0 where
   pub facts : SameFacts s v P Q
   pub next_child : SameTurn s v P Q
 
-pub ring-same : (s : Setting) (v : ℕ) (P Q : Past) (w : Work) (x : Watch FrameName) → puts v Q ≡ puts v P → firings v Q ≡ firings v P → is_settled v Q ≡ is_settled v P → IsRing s v P w x → IsRing s v Q w x
+pub ring-same : (s : Setting) (v : ℕ) (P Q : Past) (w : Work) (x : Watch FrameName) → puts v Q ≡ puts v P → firings v Q ≡ firings v P
+    → is_settled v Q ≡ is_settled v P → IsRing s v P w x → IsRing s v Q w x
 ring-same s v P Q Makes x ps fs ss h = tt
 ring-same s v P Q (Passes d) x ps fs ss h = tt
 ring-same s v P Q (Saves g c) x ps fs ss h = tt
@@ -88,12 +89,14 @@ node-turned measure s v P Q n t same turned i =
       measures_room = i.measures_room;
     }
 
-pub node-same : (measure : ℕ → FrameName → Option Measure) (s : Setting) (v : ℕ) (P Q : Past) (n : NodeState) → SameNode s v P Q → IsNode measure s v P n → IsNode measure s v Q n
+pub node-same : (measure : ℕ → FrameName → Option Measure) (s : Setting) (v : ℕ) (P Q : Past) (n : NodeState) → SameNode s v P Q
+    → IsNode measure s v P n → IsNode measure s v Q n
 node-same measure s v P Q n same i =
     node-turned measure s v P Q n n.turn same.facts (λ d some. i.next_child d some ∙ sym (same.next_child d some)) i
 
 -- every node stays as it is
-pub nodes-kept : (measure : ℕ → FrameName → Option Measure) (s : Setting) (P Q : Past) (ns : List NodeState) → AreNodes measure s P ns → ((i : ℕ) → SameNode s (suc i) P Q) → AreNodes measure s Q ns
+pub nodes-kept : (measure : ℕ → FrameName → Option Measure) (s : Setting) (P Q : Past) (ns : List NodeState) → AreNodes measure s P ns
+    → ((i : ℕ) → SameNode s (suc i) P Q) → AreNodes measure s Q ns
 nodes-kept measure s P Q ns are same =
     record {
       all = are.all;
@@ -101,10 +104,13 @@ nodes-kept measure s P Q ns are same =
     }
 
 -- all but one
-pub nodes-set : (measure : ℕ → FrameName → Option Measure) (s : Setting) (P Q : Past) (ns : List NodeState) (i : ℕ) (n : NodeState) → AreNodes measure s P ns → IsNode measure s (suc i) Q n → ((j : ℕ) → i ≢ j → SameNode s (suc j) P Q)
+pub nodes-set : (measure : ℕ → FrameName → Option Measure) (s : Setting) (P Q : Past) (ns : List NodeState) (i : ℕ) (n : NodeState) → AreNodes measure s P ns
+    → IsNode measure s (suc i) Q n → ((j : ℕ) → i ≢ j → SameNode s (suc j) P Q)
     → AreNodes measure s Q (set ns i n)
 nodes-set measure s P Q ns i n are here others =
     record {
       all = length-set ns i n ∙ are.all;
-      each = set_each (λ j x. IsNode measure s (suc j) P x) (λ j x. IsNode measure s (suc j) Q x) ns i n are.each (λ j x ne h. node-same measure s (suc j) P Q x (others j (λ e. ne (sym e))) h) here;
+      each =
+          set_each (λ j x. IsNode measure s (suc j) P x) (λ j x. IsNode measure s (suc j) Q x) ns i n are.each
+          (λ j x ne h. node-same measure s (suc j) P Q x (others j (λ e. ne (sym e))) h) here;
     }

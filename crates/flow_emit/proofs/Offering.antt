@@ -32,7 +32,9 @@ grown s t (suc n) (d ∷ ds) b =
     let inner = grown s t n (calls_for s (past b) e) (plain e ∷ b) in
     let outer = grown s t (suc n) ds (with_all s t n (calls_for s (past b) e) (plain e ∷ b)) in (
       outer.0 ++ (inner.0 ++ plain e ∷ []),
-      outer.1 ∙ (ap (λ (xs : BoardState). outer.0 ++ xs) (inner.1 ∙ sym (append_assoc inner.0 (plain e ∷ []) b)) ∙ sym (append_assoc outer.0 (inner.0 ++ plain e ∷ []) b)),
+      outer.1
+      ∙ (ap (λ (xs : BoardState). outer.0 ++ xs) (inner.1 ∙ sym (append_assoc inner.0 (plain e ∷ []) b))
+      ∙ sym (append_assoc outer.0 (inner.0 ++ plain e ∷ []) b)),
     )
 
 past-append : (xs ys : BoardState) → past (xs ++ ys) ≡ past xs ++ past ys
@@ -49,7 +51,8 @@ legal-before s t n ds b h =
 numbers-within : (s : Setting) (v : ℕ) (ns : List Node) → 0 < v → v + length ns ≤ length s.nodes + 1 → All (λ u. is_node s u ≡ true) (numbers_from v ns)
 numbers-within s v [] some fit = All-nil (λ u. is_node s u ≡ true)
 numbers-within s v (n ∷ ns) some fit =
-    All-cons (λ u. is_node s u ≡ true) v (numbers_from (v + 1) ns) (and_from _ _ (lt-ltb 0 v some) (le-leb v (length s.nodes) (omega (arith, fit)))) (numbers-within s (v + 1) ns (omega arith) (omega (arith, fit)))
+    All-cons (λ u. is_node s u ≡ true) v (numbers_from (v + 1) ns)
+    (and_from _ _ (lt-ltb 0 v some) (le-leb v (length s.nodes) (omega (arith, fit)))) (numbers-within s (v + 1) ns (omega arith) (omega (arith, fit)))
 
 pub children-nodes : (s : Setting) (v : ℕ) → All (λ u. is_node s u ≡ true) (children s v)
 children-nodes s v = All-filter (λ c. (node s c).input == v) (λ u. is_node s u ≡ true) (node_numbers s) (numbers-within s 1 s.nodes (omega arith) (omega arith))
@@ -75,17 +78,21 @@ pub offered-full : (s : Setting) (b : BoardState) (a : FrameName) (c : ℕ) → 
 offered-full s b a c full = rw full refl
 
 -- the offer to the child at this place comes next
-next-offer : (s : Setting) (v : ℕ) (a : FrameName) (i : ℕ) (d : ℕ) (cs : List ℕ) (old new : Coursed) → cs ≡ children s v → i < length cs → OffersMade s v a i old new
-    → with_all s 0 1 (map (offer a) (drop (i + 1) (children s v))) (plain (offered_as s new.told a (get_or cs i d)) ∷ new.told) ≡ with_all s 0 1 (map (offer a) (children s v)) old.told
+next-offer : (s : Setting) (v : ℕ) (a : FrameName) (i : ℕ) (d : ℕ) (cs : List ℕ) (old new : Coursed) → cs ≡ children s v
+    → i < length cs → OffersMade s v a i old new
+    → with_all s 0 1 (map (offer a) (drop (i + 1) (children s v))) (plain (offered_as s new.told a (get_or cs i d)) ∷ new.told)
+    ≡ with_all s 0 1 (map (offer a) (children s v)) old.told
 next-offer s v a i d cs old new is lt m =
     let c = get_or cs i d in
-    let here : drop i (children s v) ≡ c ∷ drop (i + 1) (children s v) = subst (λ (xs : List ℕ). drop i xs ≡ get_or cs i d ∷ drop (i + 1) xs) is (more-of i cs d lt) in
+    let here : drop i (children s v) ≡ c ∷ drop (i + 1) (children s v) =
+    subst (λ (xs : List ℕ). drop i xs ≡ get_or cs i d ∷ drop (i + 1) xs) is (more-of i cs d lt) in
     sym (offers-first s a c (drop (i + 1) (children s v)) new.told)
     ∙ (ap (λ xs. with_all s 0 1 (map (offer a) xs) new.told) (sym here)
     ∙ m.rest)
 
 -- it is legal
-pub next-legal : (s : Setting) (v : ℕ) (a : FrameName) (i : ℕ) (d : ℕ) (cs : List ℕ) (old new : Coursed) (e : Entry) → cs ≡ children s v → i < length cs → OffersMade s v a i old new
+pub next-legal : (s : Setting) (v : ℕ) (a : FrameName) (i : ℕ) (d : ℕ) (cs : List ℕ) (old new : Coursed) (e : Entry) → cs ≡ children s v
+    → i < length cs → OffersMade s v a i old new
     → is_legal s (past (with_all s 0 1 (map (offer a) (children s v)) old.told)) ≡ true → offered_as s new.told a (get_or cs i d) ≡ e
     → is_legal s (e ∷ past new.told) ≡ true
 next-legal s v a i d cs old new e is lt m legal made =
@@ -94,12 +101,15 @@ next-legal s v a i d cs old new e is lt m legal made =
     (subst (λ (b : BoardState). is_legal s (past b) ≡ true) (sym (next-offer s v a i d cs old new is lt m)) legal))
 
 -- and then one more is made
-pub one-more : (s : Setting) (v : ℕ) (a : FrameName) (i : ℕ) (d : ℕ) (cs : List ℕ) (old new : Coursed) (e : Entry) → cs ≡ children s v → i < length cs → OffersMade s v a i old new
+pub one-more : (s : Setting) (v : ℕ) (a : FrameName) (i : ℕ) (d : ℕ) (cs : List ℕ) (old new : Coursed) (e : Entry) → cs ≡ children s v
+    → i < length cs → OffersMade s v a i old new
     → offered_as s new.told a (get_or cs i d) ≡ e → ((u : ℕ) → has_just_emitted u (e ∷ past new.told) ≡ false)
     → OffersMade s v a (i + 1) old (record new { told = plain e ∷ new.told })
 one-more s v a i d cs old new e is lt m made quiet =
     record {
-      rest = subst (λ (x : Entry). with_all s 0 1 (map (offer a) (drop (i + 1) (children s v))) (plain x ∷ new.told) ≡ with_all s 0 1 (map (offer a) (children s v)) old.told) made (next-offer s v a i d cs old new is lt m);
+      rest =
+          subst (λ (x : Entry). with_all s 0 1 (map (offer a) (drop (i + 1) (children s v))) (plain x ∷ new.told)
+          ≡ with_all s 0 1 (map (offer a) (children s v)) old.told) made (next-offer s v a i d cs old new is lt m);
       same_transit = m.same_transit;
       together = λ u dealing. quiet u;
     }
@@ -113,7 +123,8 @@ all-made s v a i old new le m =
     rw (sym told, sym m.same_transit) refl
 
 -- an emission is legal where its offers are
-pub emission-legal : (s : Setting) (v : ℕ) (why : Why) (a : FrameName) (b : BoardState) → is_legal s (past (with_all s 0 2 (emit v why a ∷ []) b)) ≡ true → is_legal s (Emit v a.maker a.index why ∷ past b) ≡ true
+pub emission-legal : (s : Setting) (v : ℕ) (why : Why) (a : FrameName) (b : BoardState) → is_legal s (past (with_all s 0 2 (emit v why a ∷ []) b)) ≡ true
+    → is_legal s (Emit v a.maker a.index why ∷ past b) ≡ true
 emission-legal s v why a b h = legal-before s 0 1 (map (offer a) (offered_to s (past b) v)) (plain (Emit v a.maker a.index why) ∷ b) h
 
 numbers-many : (v : ℕ) (ns : List Node) → length (numbers_from v ns) ≡ length ns
@@ -122,7 +133,8 @@ numbers-many v (n ∷ ns) = ap suc (numbers-many (v + 1) ns)
 
 -- no more children than nodes
 pub few-children : (s : Setting) (v : ℕ) → length (children s v) ≤ length s.nodes
-few-children s v = omega (arith, length-filter_both (λ c. (node s c).input == v) (λ c. not ((node s c).input == v)) (λ c. refl) (node_numbers s), numbers-many 1 s.nodes)
+few-children s v =
+    omega (arith, length-filter_both (λ c. (node s c).input == v) (λ c. not ((node s c).input == v)) (λ c. refl) (node_numbers s), numbers-many 1 s.nodes)
 
 pub node-number : (s : Setting) (v : ℕ) → is_node s v ≡ true → v ≤ length s.nodes
 node-number s v h = leb-true v (length s.nodes) (and_parts (ltb 0 v) (leb v (length s.nodes)) h).1

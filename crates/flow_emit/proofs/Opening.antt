@@ -4,4 +4,6 @@ use Rattle.flow_emit.specs.declared.course.Course.TheInside.{Inside}
 use Rattle.flow_emit.specs.Courses.{Parts}
 
 abbrev pub parts : {F B O : Type 0} → Inside F B O → Parts
-parts a = record { log = a.log; rules = a.rules; nodes = a.nodes.items; roles = a.roles.items; pool = a.pool; blocks = a.blocks.items; facts = a.facts; transit = a.transit.items; room = deque_capacity a.transit }
+parts a =
+    record { log = a.log; rules = a.rules; nodes = a.nodes.items; roles = a.roles.items; pool = a.pool; blocks = a.blocks.items; facts = a.facts;
+    transit = a.transit.items; room = deque_capacity a.transit }

@@ -47,7 +47,8 @@ map-filter : {X Y : Type 0} (f : X → Y) (p : X → Bool) (q : Y → Bool) → 
 map-filter f p q same [] = refl
 map-filter f p q same (x ∷ xs) = by (p x) (q (f x)) (same x) (map-filter f p q same xs)
   where
-    by : (a b : Bool) → a ≡ b → map f (filter p xs) ≡ filter q (map f xs) → map f (cond a (x ∷ filter p xs) (filter p xs)) ≡ cond b (f x ∷ filter q (map f xs)) (filter q (map f xs))
+    by : (a b : Bool) → a ≡ b → map f (filter p xs) ≡ filter q (map f xs)
+        → map f (cond a (x ∷ filter p xs) (filter p xs)) ≡ cond b (f x ∷ filter q (map f xs)) (filter q (map f xs))
     by true true e rest = ap (λ ys. f x ∷ ys) rest
     by false false e rest = rest
     by true false e rest = absurd (cc)
@@ -56,7 +57,8 @@ map-filter f p q same (x ∷ xs) = by (p x) (q (f x)) (same x) (map-filter f p q
 not_at_most : (a b : ℤ) → not (int_le a b) ≡ int_lt b a
 not_at_most a b = grind (arith, ints)
 
-placed-kept : (measure : Measuring) (s : Setting) (v : ℕ) (w : Waiting) (ws : List Waiting) → map (listed measure s v) (placed s w ws) ≡ sorting.placed (listed measure s v w) (map (listed measure s v) ws)
+placed-kept : (measure : Measuring) (s : Setting) (v : ℕ) (w : Waiting) (ws : List Waiting)
+    → map (listed measure s v) (placed s w ws) ≡ sorting.placed (listed measure s v w) (map (listed measure s v) ws)
 placed-kept measure s v w ws =
     let f : Waiting → Listed Kept = listed measure s v in
     let id : Waiting → ℤ = λ u. id_at s u.array.index in
@@ -64,10 +66,12 @@ placed-kept measure s v w ws =
     let high = filter (λ (u : Waiting). not (int_le (id u) (id w))) ws in
     map-append f low (w ∷ high)
     ∙ ap (λ front. front ++ f w ∷ map f high) (map-filter f _ (λ (u : Listed Kept). int_le u.id (id w)) (λ u. refl) ws)
-    ∙ ap (λ back. filter (λ (u : Listed Kept). int_le u.id (id w)) (map f ws) ++ f w ∷ back) (map-filter f _ (λ (u : Listed Kept). int_lt (id w) u.id) (λ u. not_at_most (id u) (id w)) ws)
+    ∙ ap (λ back. filter (λ (u : Listed Kept). int_le u.id (id w)) (map f ws) ++ f w ∷ back)
+    (map-filter f _ (λ (u : Listed Kept). int_lt (id w) u.id) (λ u. not_at_most (id u) (id w)) ws)
 
 -- a result that comes is placed by its id
-pub list-comes : (measure : Measuring) (s : Setting) (r v m k : ℕ) (f : Bool) (P : Past) → is_sorted s v ≡ true → list_of measure s v (Put r v m k f ∷ P) ≡ sorting.placed (listed measure s v (record { array = frame m k; tick = now P })) (list_of measure s v P)
+pub list-comes : (measure : Measuring) (s : Setting) (r v m k : ℕ) (f : Bool) (P : Past) → is_sorted s v ≡ true
+    → list_of measure s v (Put r v m k f ∷ P) ≡ sorting.placed (listed measure s v (record { array = frame m k; tick = now P })) (list_of measure s v P)
 list-comes measure s r v m k f P sorted =
     let w : Waiting = record { array = frame m k; tick = now P } in
     ap (λ ws. map (listed measure s v) (least_first s ws)) (node_puts.waits s r v m k f P sorted)
@@ -75,11 +79,15 @@ list-comes measure s r v m k f P sorted =
     ∙ placed-kept measure s v w (least_first s (waiting s v P)))
 
 -- and what goes out or is dropped at once leaves the list as it was
-pub list-again : (measure : Measuring) (s : Setting) (r v m k : ℕ) (f : Bool) (why : Why) (P : Past) → is_sorted s v ≡ true → is_legal s (Put r v m k f ∷ P) ≡ true → list_of measure s v (Emit v m k why ∷ Put r v m k f ∷ P) ≡ list_of measure s v P
-list-again measure s r v m k f why P sorted legal = ap (λ ws. map (listed measure s v) (least_first s ws)) (node_puts.goes s v m k why (Put r v m k f ∷ P) ∙ gone-again s r v m k f P sorted legal)
+pub list-again : (measure : Measuring) (s : Setting) (r v m k : ℕ) (f : Bool) (why : Why) (P : Past) → is_sorted s v ≡ true
+    → is_legal s (Put r v m k f ∷ P) ≡ true → list_of measure s v (Emit v m k why ∷ Put r v m k f ∷ P) ≡ list_of measure s v P
+list-again measure s r v m k f why P sorted legal =
+    ap (λ ws. map (listed measure s v) (least_first s ws)) (node_puts.goes s v m k why (Put r v m k f ∷ P) ∙ gone-again s r v m k f P sorted legal)
 
-pub list-dropped : (measure : Measuring) (s : Setting) (r v m k : ℕ) (f : Bool) (P : Past) → is_sorted s v ≡ true → is_legal s (Put r v m k f ∷ P) ≡ true → list_of measure s v (SortDrop v m k ∷ Put r v m k f ∷ P) ≡ list_of measure s v P
-list-dropped measure s r v m k f P sorted legal = ap (λ ws. map (listed measure s v) (least_first s ws)) (node_puts.dropped s v m k (Put r v m k f ∷ P) ∙ gone-again s r v m k f P sorted legal)
+pub list-dropped : (measure : Measuring) (s : Setting) (r v m k : ℕ) (f : Bool) (P : Past) → is_sorted s v ≡ true → is_legal s (Put r v m k f ∷ P) ≡ true
+    → list_of measure s v (SortDrop v m k ∷ Put r v m k f ∷ P) ≡ list_of measure s v P
+list-dropped measure s r v m k f P sorted legal =
+    ap (λ ws. map (listed measure s v) (least_first s ws)) (node_puts.dropped s v m k (Put r v m k f ∷ P) ∙ gone-again s r v m k f P sorted legal)
 
 -- A RESULT IN THE LIST
 sorted-ring : (s : Setting) (v : ℕ) (P Q : Past) (w : Work) (n : NodeState) → may_sort w ≡ true → IsRing s v Q w n.window
@@ -88,7 +96,9 @@ sorted-ring s v P Q (Passes d) n h = tt
 sorted-ring s v P Q (Saves g c) n h = tt
 sorted-ring s v P Q (Watches pre post preset) n h = absurd (false≢true h)
 
-list-keeps : (measure : Measuring) (s : Setting) (v : ℕ) (e : Entry) (P : Past) (n : NodeState) (l : SortState Kept) → is_sorted s v ≡ true → IsNode measure s v P n → l.size ≡ n.list.size → l.last ≡ n.list.last → l.waiting ≡ list_of measure s v (e ∷ P) → Keeps measure s v P (e ∷ P) (record n { list = l })
+list-keeps : (measure : Measuring) (s : Setting) (v : ℕ) (e : Entry) (P : Past) (n : NodeState) (l : SortState Kept) → is_sorted s v ≡ true
+    → IsNode measure s v P n → l.size ≡ n.list.size → l.last ≡ n.list.last → l.waiting ≡ list_of measure s v (e ∷ P)
+    → Keeps measure s v P (e ∷ P) (record n { list = l })
 list-keeps measure s v e P n l sorted i size last waits =
     let none = sorted_no_file s v sorted in
     record {
@@ -100,7 +110,9 @@ list-keeps measure s v e P n l sorted i size last waits =
       room = i.unsaved_room;
     }
 
-put-account : (s : Setting) (v r : ℕ) (a : FrameName) (f : Bool) (k : Parts) → JobOn s v r a (log_of k) → is_sorted s v ≡ true → is_legal s (put_of s r v a f ∷ log_of k) ≡ true → IsAccount s (log_of k) [] (all_named k.pool) → IsAccount s (put_of s r v a f ∷ log_of k) (flat_map (block_of (log_of k)) (inputs s v a)) (all_named k.pool)
+put-account : (s : Setting) (v r : ℕ) (a : FrameName) (f : Bool) (k : Parts) → JobOn s v r a (log_of k) → is_sorted s v ≡ true
+    → is_legal s (put_of s r v a f ∷ log_of k) ≡ true → IsAccount s (log_of k) [] (all_named k.pool)
+    → IsAccount s (put_of s r v a f ∷ log_of k) (flat_map (block_of (log_of k)) (inputs s v a)) (all_named k.pool)
 put-account s v r a f k job sorted legal account = by (is_maker s v) refl where
   by : (b : Bool) → is_maker s v ≡ b → IsAccount s (put_of s r v a f ∷ log_of k) (flat_map (block_of (log_of k)) (inputs s v a)) (all_named k.pool)
   by false is =
@@ -108,7 +120,9 @@ put-account s v r a f k job sorted legal account = by (is_maker s v) refl where
       let name : result_name s v a ≡ a = rw is refl in
       let none : inputs s v a ≡ [] = rw is refl in
       let taken = taken-as s v r a P job is in
-      let there : IsAccount s (Put r v a.maker a.index f ∷ P) [] (all_named k.pool) = put_laws.sorted s P r taken.0 v a.maker a.index f (all_named k.pool) [] taken.1 sorted (subst (λ (n : FrameName). is_legal s (Put r v n.maker a.index f ∷ P) ≡ true) name legal) account in
+      let there : IsAccount s (Put r v a.maker a.index f ∷ P) [] (all_named k.pool) =
+      put_laws.sorted s P r taken.0 v a.maker a.index f (all_named k.pool) [] taken.1 sorted
+      (subst (λ (n : FrameName). is_legal s (Put r v n.maker a.index f ∷ P) ≡ true) name legal) account in
       subst (λ (xs : List FrameName). IsAccount s (put_of s r v a f ∷ P) (flat_map (block_of P) xs) (all_named k.pool)) (sym none)
       (subst (λ (n : FrameName). IsAccount s (Put r v n.maker a.index f ∷ P) [] (all_named k.pool)) (sym name) there)
   by true is =
@@ -116,7 +130,9 @@ put-account s v r a f k job sorted legal account = by (is_maker s v) refl where
       let name : result_name s v a ≡ frame v a.index = rw is refl in
       let one : inputs s v a ≡ a ∷ [] = rw is refl in
       let g = granted-as s v r a P job is in
-      let there : IsAccount s (Put r v v a.index f ∷ P) (block_of P a ++ []) (all_named k.pool) = put_laws.sorted_maker s P r g.role v g.maker a.index g.block g.size g.fresh g.given g.regrown f (all_named k.pool) (block_of P a) [] g.held sorted (ap (block_of P) g.name) (subst (λ (n : FrameName). is_legal s (Put r v n.maker a.index f ∷ P) ≡ true) name legal) account in
+      let there : IsAccount s (Put r v v a.index f ∷ P) (block_of P a ++ []) (all_named k.pool) =
+      put_laws.sorted_maker s P r g.role v g.maker a.index g.block g.size g.fresh g.given g.regrown f (all_named k.pool) (block_of P a) [] g.held sorted
+      (ap (block_of P) g.name) (subst (λ (n : FrameName). is_legal s (Put r v n.maker a.index f ∷ P) ≡ true) name legal) account in
       subst (λ (xs : List FrameName). IsAccount s (put_of s r v a f ∷ P) (flat_map (block_of P) xs) (all_named k.pool)) (sym one)
       (subst (λ (n : FrameName). IsAccount s (Put r v n.maker a.index f ∷ P) (block_of P a ++ []) (all_named k.pool)) (sym name) there)
 
@@ -126,7 +142,12 @@ few-inputs s v a = split (is_maker s v) where
   split true = omega arith
   split false = omega arith
 
-pub put_in_list : (measure : Measuring) (s : Setting) (k : Parts) (r c : ℕ) (a : FrameName) (f : Bool) (x : RoleState) (n : NodeState) (l : SortState Kept) → IsCourse measure s k → is_legal s (put_of s r (suc c) a f ∷ log_of k) ≡ true → slice_get k.roles r ≡ Some x → slice_get k.nodes c ≡ Some n → k.transit ≡ [] → JobOn s (suc c) r a (log_of k) → is_sorted s (suc c) ≡ true → l.size ≡ n.list.size → l.last ≡ n.list.last → l.waiting ≡ list_of measure s (suc c) (put_of s r (suc c) a f ∷ log_of k) → IsCourse measure s (record k { log = record k.log { told = plain (put_of s r (suc c) a f) ∷ k.log.told }; nodes = set k.nodes c (record n { jobs = n.jobs - 1; puts = n.puts + 1; list = l }); roles = set k.roles r (record x { hand = Free }); transit = inputs s (suc c) a })
+pub put_in_list : (measure : Measuring) (s : Setting) (k : Parts) (r c : ℕ) (a : FrameName) (f : Bool) (x : RoleState) (n : NodeState) (l : SortState Kept)
+    → IsCourse measure s k → is_legal s (put_of s r (suc c) a f ∷ log_of k) ≡ true → slice_get k.roles r ≡ Some x → slice_get k.nodes c ≡ Some n
+    → k.transit ≡ [] → JobOn s (suc c) r a (log_of k) → is_sorted s (suc c) ≡ true → l.size ≡ n.list.size → l.last ≡ n.list.last
+    → l.waiting ≡ list_of measure s (suc c) (put_of s r (suc c) a f ∷ log_of k)
+    → IsCourse measure s (record k { log = record k.log { told = plain (put_of s r (suc c) a f) ∷ k.log.told }; nodes = set k.nodes c
+    (record n { jobs = n.jobs - 1; puts = n.puts + 1; list = l }); roles = set k.roles r (record x { hand = Free }); transit = inputs s (suc c) a })
 put_in_list measure s k r c a f x n l i legal at here empty job sorted size last waits =
     let P = log_of k in
     let v = suc c in
@@ -143,7 +164,16 @@ set-there xs i x y at =
     slice_get_read (set xs i y) (length xs) i y (sym (length-set xs i y)) lt (sym (get_or-set_same xs i y y lt))
 
 -- the arrays of the job are on their way: the result, which keeps step, and at a maker the input
-pub put_out : (measure : Measuring) (s : Setting) (k : Parts) (r c : ℕ) (a : FrameName) (f : Bool) (x : RoleState) (n y : NodeState) → IsCourse measure s k → is_legal s (put_of s r (suc c) a f ∷ log_of k) ≡ true → is_legal s (Emit (suc c) (result_name s (suc c) a).maker a.index Step ∷ put_of s r (suc c) a f ∷ log_of k) ≡ true → slice_get k.roles r ≡ Some x → slice_get k.nodes c ≡ Some n → k.transit ≡ [] → JobOn s (suc c) r a (log_of k) → is_sorted s (suc c) ≡ true → y.list.size ≡ n.list.size → y.list.last ≡ id_at s a.index → y.list.waiting ≡ n.list.waiting → y.measures.items ≡ n.measures.items ++ listed_one (measure (suc c) (result_name s (suc c) a)) → HasRoomToMeasure measure s (suc c) y → IsCourse measure s (record k { log = record k.log { told = plain (Emit (suc c) (result_name s (suc c) a).maker a.index Step) ∷ plain (put_of s r (suc c) a f) ∷ k.log.told }; nodes = set k.nodes c (record n { jobs = n.jobs - 1; puts = n.puts + 1; list = y.list; measures = y.measures }); roles = set k.roles r (record x { hand = Free }); transit = job_arrays s (suc c) a })
+pub put_out : (measure : Measuring) (s : Setting) (k : Parts) (r c : ℕ) (a : FrameName) (f : Bool) (x : RoleState) (n y : NodeState) → IsCourse measure s k
+    → is_legal s (put_of s r (suc c) a f ∷ log_of k) ≡ true
+    → is_legal s (Emit (suc c) (result_name s (suc c) a).maker a.index Step ∷ put_of s r (suc c) a f ∷ log_of k) ≡ true → slice_get k.roles r ≡ Some x
+    → slice_get k.nodes c ≡ Some n → k.transit ≡ [] → JobOn s (suc c) r a (log_of k) → is_sorted s (suc c) ≡ true → y.list.size ≡ n.list.size
+    → y.list.last ≡ id_at s a.index → y.list.waiting ≡ n.list.waiting
+    → y.measures.items ≡ n.measures.items ++ listed_one (measure (suc c) (result_name s (suc c) a)) → HasRoomToMeasure measure s (suc c) y
+    → IsCourse measure s
+    (record k { log = record k.log { told = plain (Emit (suc c) (result_name s (suc c) a).maker a.index Step) ∷ plain (put_of s r (suc c) a f) ∷ k.log.told };
+    nodes = set k.nodes c (record n { jobs = n.jobs - 1; puts = n.puts + 1; list = y.list; measures = y.measures });
+    roles = set k.roles r (record x { hand = Free }); transit = job_arrays s (suc c) a })
 put_out measure s k r c a f x n y i legal next here at empty job sorted size last waits items room =
     let P = log_of k in
     let v = suc c in
@@ -151,20 +181,34 @@ put_out measure s k r c a f x n y i legal next here at empty job sorted size las
     let Q = put_of s r v a f ∷ P in
     let l : SortState Kept = record n.list { waiting = list_of measure s v Q } in
     let n1 : NodeState = record n { jobs = n.jobs - 1; puts = n.puts + 1; list = l } in
-    let k1 : Parts = record k { log = record k.log { told = plain (put_of s r v a f) ∷ k.log.told }; nodes = set k.nodes c n1; roles = set k.roles r (record x { hand = Free }); transit = inputs s v a } in
+    let k1 : Parts =
+    record k { log = record k.log { told = plain (put_of s r v a f) ∷ k.log.told }; nodes = set k.nodes c n1;
+    roles = set k.roles r (record x { hand = Free }); transit = inputs s v a } in
     let i1 : IsCourse measure s k1 = put_in_list measure s k r c a f x n l i legal here at empty job sorted refl refl refl in
-    let has : HasBlock P (result_name s v a) = All-head (HasBlock P) (result_name s v a) (inputs s v a) (has-arrays s v r a P job.entry i.legal job.has.held job.kind).standing in
+    let has : HasBlock P (result_name s v a) =
+    All-head (HasBlock P) (result_name s v a) (inputs s v a) (has-arrays s v r a P job.entry i.legal job.has.held job.kind).standing in
     let name = whole-name s v a in
     let n2 : NodeState = record n1 { list = y.list; measures = y.measures } in
-    let i2 = emitted_more measure s k1 c m a.index Step n1 n2 i1 next (set-there k.nodes c n n1 at) sorted (omega (arith, few-inputs s v a)) (subst (HasBlock P) (sym name) has) size last
+    let i2 =
+    emitted_more measure s k1 c m a.index Step n1 n2 i1 next (set-there k.nodes c n n1 at) sorted (omega (arith, few-inputs s v a))
+    (subst (HasBlock P) (sym name) has) size last
     (waits ∙ ((i.nodes.each c n at).waits ∙ sym (list-again measure s r v m a.index f Step P sorted legal)))
     (items ∙ ap (λ (b : FrameName). n.measures.items ++ listed_one (measure v b)) (sym name)) room in
     let told = plain (Emit v m a.index Step) ∷ plain (put_of s r v a f) ∷ k.log.told in
-    subst (λ (ns : List NodeState). IsCourse measure s (record k { log = record k.log { told = told }; nodes = ns; roles = set k.roles r (record x { hand = Free }); transit = job_arrays s v a })) (set-set k.nodes c n1 n2)
-    (subst (λ (b : FrameName). IsCourse measure s (record k { log = record k.log { told = told }; nodes = set (set k.nodes c n1) c n2; roles = set k.roles r (record x { hand = Free }); transit = b ∷ inputs s v a })) name i2)
+    subst (λ (ns : List NodeState). IsCourse measure s (record k { log = record k.log { told = told }; nodes = ns;
+    roles = set k.roles r (record x { hand = Free }); transit = job_arrays s v a })) (set-set k.nodes c n1 n2)
+    (subst (λ (b : FrameName). IsCourse measure s (record k { log = record k.log { told = told }; nodes = set (set k.nodes c n1) c n2;
+    roles = set k.roles r (record x { hand = Free }); transit = b ∷ inputs s v a })) name i2)
 
 -- the same of a result that found no place
-pub put_full : (measure : Measuring) (s : Setting) (k : Parts) (r c : ℕ) (a : FrameName) (f : Bool) (x : RoleState) (n : NodeState) → IsCourse measure s k → is_legal s (put_of s r (suc c) a f ∷ log_of k) ≡ true → is_legal s (SortDrop (suc c) (result_name s (suc c) a).maker a.index ∷ put_of s r (suc c) a f ∷ log_of k) ≡ true → slice_get k.roles r ≡ Some x → slice_get k.nodes c ≡ Some n → k.transit ≡ [] → JobOn s (suc c) r a (log_of k) → is_sorted s (suc c) ≡ true → IsCourse measure s (record k { log = record k.log { told = plain (SortDrop (suc c) (result_name s (suc c) a).maker a.index) ∷ plain (put_of s r (suc c) a f) ∷ k.log.told }; nodes = set k.nodes c (record n { jobs = n.jobs - 1; puts = n.puts + 1 }); roles = set k.roles r (record x { hand = Free }); facts = record k.facts { dropped = k.facts.dropped + 1 }; transit = job_arrays s (suc c) a })
+pub put_full : (measure : Measuring) (s : Setting) (k : Parts) (r c : ℕ) (a : FrameName) (f : Bool) (x : RoleState) (n : NodeState) → IsCourse measure s k
+    → is_legal s (put_of s r (suc c) a f ∷ log_of k) ≡ true
+    → is_legal s (SortDrop (suc c) (result_name s (suc c) a).maker a.index ∷ put_of s r (suc c) a f ∷ log_of k) ≡ true → slice_get k.roles r ≡ Some x
+    → slice_get k.nodes c ≡ Some n → k.transit ≡ [] → JobOn s (suc c) r a (log_of k) → is_sorted s (suc c) ≡ true
+    → IsCourse measure s
+    (record k { log = record k.log { told = plain (SortDrop (suc c) (result_name s (suc c) a).maker a.index) ∷ plain (put_of s r (suc c) a f) ∷ k.log.told };
+    nodes = set k.nodes c (record n { jobs = n.jobs - 1; puts = n.puts + 1 }); roles = set k.roles r (record x { hand = Free });
+    facts = record k.facts { dropped = k.facts.dropped + 1 }; transit = job_arrays s (suc c) a })
 put_full measure s k r c a f x n i legal next here at empty job sorted =
     let P = log_of k in
     let v = suc c in
@@ -172,26 +216,68 @@ put_full measure s k r c a f x n i legal next here at empty job sorted =
     let Q = put_of s r v a f ∷ P in
     let l : SortState Kept = record n.list { waiting = list_of measure s v Q } in
     let n1 : NodeState = record n { jobs = n.jobs - 1; puts = n.puts + 1; list = l } in
-    let k1 : Parts = record k { log = record k.log { told = plain (put_of s r v a f) ∷ k.log.told }; nodes = set k.nodes c n1; roles = set k.roles r (record x { hand = Free }); transit = inputs s v a } in
+    let k1 : Parts =
+    record k { log = record k.log { told = plain (put_of s r v a f) ∷ k.log.told }; nodes = set k.nodes c n1;
+    roles = set k.roles r (record x { hand = Free }); transit = inputs s v a } in
     let i1 : IsCourse measure s k1 = put_in_list measure s k r c a f x n l i legal here at empty job sorted refl refl refl in
-    let has : HasBlock P (result_name s v a) = All-head (HasBlock P) (result_name s v a) (inputs s v a) (has-arrays s v r a P job.entry i.legal job.has.held job.kind).standing in
+    let has : HasBlock P (result_name s v a) =
+    All-head (HasBlock P) (result_name s v a) (inputs s v a) (has-arrays s v r a P job.entry i.legal job.has.held job.kind).standing in
     let name = whole-name s v a in
     let n2 : NodeState = record n { jobs = n.jobs - 1; puts = n.puts + 1 } in
     let was = i.nodes.each c n at in
-    let i2 = dropped_by_list measure s k1 c m a.index n1 n2 i1 next (set-there k.nodes c n n1 at) sorted (subst (HasBlock P) (sym name) has) refl (was.last sorted)
+    let i2 =
+    dropped_by_list measure s k1 c m a.index n1 n2 i1 next (set-there k.nodes c n n1 at) sorted (subst (HasBlock P) (sym name) has) refl (was.last sorted)
     (was.waits ∙ sym (list-dropped measure s r v m a.index f P sorted legal)) (omega (arith, few-inputs s v a)) in
     let told = plain (SortDrop v m a.index) ∷ plain (put_of s r v a f) ∷ k.log.told in
     let facts = record k.facts { dropped = k.facts.dropped + 1 } in
-    subst (λ (ns : List NodeState). IsCourse measure s (record k { log = record k.log { told = told }; nodes = ns; roles = set k.roles r (record x { hand = Free }); facts = facts; transit = job_arrays s v a })) (set-set k.nodes c n1 n2)
-    (subst (λ (b : FrameName). IsCourse measure s (record k { log = record k.log { told = told }; nodes = set (set k.nodes c n1) c n2; roles = set k.roles r (record x { hand = Free }); facts = facts; transit = b ∷ inputs s v a })) name i2)
+    subst (λ (ns : List NodeState). IsCourse measure s (record k { log = record k.log { told = told }; nodes = ns;
+    roles = set k.roles r (record x { hand = Free }); facts = facts; transit = job_arrays s v a })) (set-set k.nodes c n1 n2)
+    (subst (λ (b : FrameName). IsCourse measure s (record k { log = record k.log { told = told }; nodes = set (set k.nodes c n1) c n2;
+    roles = set k.roles r (record x { hand = Free }); facts = facts; transit = b ∷ inputs s v a })) name i2)
 
 -- AT A NODE
 -- The same of a node by its number, where its state stands at the place before.
-pub put_in_list_at : (measure : Measuring) (s : Setting) (k : Parts) (v : ℕ) (r c : ℕ) (a : FrameName) (f : Bool) (x : RoleState) (n : NodeState) (l : SortState Kept) → suc c ≡ v → IsCourse measure s k → is_legal s (put_of s r v a f ∷ log_of k) ≡ true → slice_get k.roles r ≡ Some x → slice_get k.nodes c ≡ Some n → k.transit ≡ [] → JobOn s v r a (log_of k) → is_sorted s v ≡ true → l.size ≡ n.list.size → l.last ≡ n.list.last → l.waiting ≡ list_of measure s v (put_of s r v a f ∷ log_of k) → IsCourse measure s (record k { log = record k.log { told = plain (put_of s r v a f) ∷ k.log.told }; nodes = set k.nodes c (record n { jobs = n.jobs - 1; puts = n.puts + 1; list = l }); roles = set k.roles r (record x { hand = Free }); transit = inputs s v a })
-put_in_list_at measure s k v r c a f x n l is i = subst (λ u. is_legal s (put_of s r u a f ∷ log_of k) ≡ true → slice_get k.roles r ≡ Some x → slice_get k.nodes c ≡ Some n → k.transit ≡ [] → JobOn s u r a (log_of k) → is_sorted s u ≡ true → l.size ≡ n.list.size → l.last ≡ n.list.last → l.waiting ≡ list_of measure s u (put_of s r u a f ∷ log_of k) → IsCourse measure s (record k { log = record k.log { told = plain (put_of s r u a f) ∷ k.log.told }; nodes = set k.nodes c (record n { jobs = n.jobs - 1; puts = n.puts + 1; list = l }); roles = set k.roles r (record x { hand = Free }); transit = inputs s u a })) is (put_in_list measure s k r c a f x n l i)
+pub put_in_list_at : (measure : Measuring) (s : Setting) (k : Parts) (v : ℕ) (r c : ℕ) (a : FrameName) (f : Bool) (x : RoleState) (n : NodeState)
+    (l : SortState Kept) → suc c ≡ v → IsCourse measure s k → is_legal s (put_of s r v a f ∷ log_of k) ≡ true → slice_get k.roles r ≡ Some x
+    → slice_get k.nodes c ≡ Some n → k.transit ≡ [] → JobOn s v r a (log_of k) → is_sorted s v ≡ true → l.size ≡ n.list.size → l.last ≡ n.list.last
+    → l.waiting ≡ list_of measure s v (put_of s r v a f ∷ log_of k)
+    → IsCourse measure s (record k { log = record k.log { told = plain (put_of s r v a f) ∷ k.log.told }; nodes = set k.nodes c
+    (record n { jobs = n.jobs - 1; puts = n.puts + 1; list = l }); roles = set k.roles r (record x { hand = Free }); transit = inputs s v a })
+put_in_list_at measure s k v r c a f x n l is i =
+    subst (λ u. is_legal s (put_of s r u a f ∷ log_of k) ≡ true → slice_get k.roles r ≡ Some x → slice_get k.nodes c ≡ Some n → k.transit ≡ [] → JobOn s u r a
+    (log_of k) → is_sorted s u ≡ true → l.size ≡ n.list.size → l.last ≡ n.list.last → l.waiting ≡ list_of measure s u (put_of s r u a f ∷ log_of k)
+    → IsCourse measure s (record k { log = record k.log { told = plain (put_of s r u a f) ∷ k.log.told }; nodes = set k.nodes c (record n { jobs = n.jobs - 1;
+    puts = n.puts + 1; list = l }); roles = set k.roles r (record x { hand = Free }); transit = inputs s u a })) is (put_in_list measure s k r c a f x n l i)
 
-pub put_out_at : (measure : Measuring) (s : Setting) (k : Parts) (v : ℕ) (r c : ℕ) (a : FrameName) (f : Bool) (x : RoleState) (n y : NodeState) → suc c ≡ v → IsCourse measure s k → is_legal s (put_of s r v a f ∷ log_of k) ≡ true → is_legal s (Emit v (result_name s v a).maker a.index Step ∷ put_of s r v a f ∷ log_of k) ≡ true → slice_get k.roles r ≡ Some x → slice_get k.nodes c ≡ Some n → k.transit ≡ [] → JobOn s v r a (log_of k) → is_sorted s v ≡ true → y.list.size ≡ n.list.size → y.list.last ≡ id_at s a.index → y.list.waiting ≡ n.list.waiting → y.measures.items ≡ n.measures.items ++ listed_one (measure v (result_name s v a)) → HasRoomToMeasure measure s v y → IsCourse measure s (record k { log = record k.log { told = plain (Emit v (result_name s v a).maker a.index Step) ∷ plain (put_of s r v a f) ∷ k.log.told }; nodes = set k.nodes c (record n { jobs = n.jobs - 1; puts = n.puts + 1; list = y.list; measures = y.measures }); roles = set k.roles r (record x { hand = Free }); transit = job_arrays s v a })
-put_out_at measure s k v r c a f x n y is i = subst (λ u. is_legal s (put_of s r u a f ∷ log_of k) ≡ true → is_legal s (Emit u (result_name s u a).maker a.index Step ∷ put_of s r u a f ∷ log_of k) ≡ true → slice_get k.roles r ≡ Some x → slice_get k.nodes c ≡ Some n → k.transit ≡ [] → JobOn s u r a (log_of k) → is_sorted s u ≡ true → y.list.size ≡ n.list.size → y.list.last ≡ id_at s a.index → y.list.waiting ≡ n.list.waiting → y.measures.items ≡ n.measures.items ++ listed_one (measure u (result_name s u a)) → HasRoomToMeasure measure s u y → IsCourse measure s (record k { log = record k.log { told = plain (Emit u (result_name s u a).maker a.index Step) ∷ plain (put_of s r u a f) ∷ k.log.told }; nodes = set k.nodes c (record n { jobs = n.jobs - 1; puts = n.puts + 1; list = y.list; measures = y.measures }); roles = set k.roles r (record x { hand = Free }); transit = job_arrays s u a })) is (put_out measure s k r c a f x n y i)
+pub put_out_at : (measure : Measuring) (s : Setting) (k : Parts) (v : ℕ) (r c : ℕ) (a : FrameName) (f : Bool) (x : RoleState) (n y : NodeState) → suc c ≡ v
+    → IsCourse measure s k → is_legal s (put_of s r v a f ∷ log_of k) ≡ true
+    → is_legal s (Emit v (result_name s v a).maker a.index Step ∷ put_of s r v a f ∷ log_of k) ≡ true → slice_get k.roles r ≡ Some x
+    → slice_get k.nodes c ≡ Some n → k.transit ≡ [] → JobOn s v r a (log_of k) → is_sorted s v ≡ true → y.list.size ≡ n.list.size
+    → y.list.last ≡ id_at s a.index → y.list.waiting ≡ n.list.waiting
+    → y.measures.items ≡ n.measures.items ++ listed_one (measure v (result_name s v a)) → HasRoomToMeasure measure s v y
+    → IsCourse measure s
+    (record k { log = record k.log { told = plain (Emit v (result_name s v a).maker a.index Step) ∷ plain (put_of s r v a f) ∷ k.log.told };
+    nodes = set k.nodes c (record n { jobs = n.jobs - 1; puts = n.puts + 1; list = y.list; measures = y.measures });
+    roles = set k.roles r (record x { hand = Free }); transit = job_arrays s v a })
+put_out_at measure s k v r c a f x n y is i =
+    subst (λ u. is_legal s (put_of s r u a f ∷ log_of k) ≡ true → is_legal s (Emit u (result_name s u a).maker a.index Step ∷ put_of s r u a f ∷ log_of k)
+    ≡ true → slice_get k.roles r ≡ Some x → slice_get k.nodes c ≡ Some n → k.transit ≡ [] → JobOn s u r a (log_of k) → is_sorted s u ≡ true
+    → y.list.size ≡ n.list.size → y.list.last ≡ id_at s a.index → y.list.waiting ≡ n.list.waiting
+    → y.measures.items ≡ n.measures.items ++ listed_one (measure u (result_name s u a)) → HasRoomToMeasure measure s u y → IsCourse measure s
+    (record k { log = record k.log { told = plain (Emit u (result_name s u a).maker a.index Step) ∷ plain (put_of s r u a f) ∷ k.log.told };
+    nodes = set k.nodes c (record n { jobs = n.jobs - 1; puts = n.puts + 1; list = y.list; measures = y.measures });
+    roles = set k.roles r (record x { hand = Free }); transit = job_arrays s u a })) is (put_out measure s k r c a f x n y i)
 
-pub put_full_at : (measure : Measuring) (s : Setting) (k : Parts) (v : ℕ) (r c : ℕ) (a : FrameName) (f : Bool) (x : RoleState) (n : NodeState) → suc c ≡ v → IsCourse measure s k → is_legal s (put_of s r v a f ∷ log_of k) ≡ true → is_legal s (SortDrop v (result_name s v a).maker a.index ∷ put_of s r v a f ∷ log_of k) ≡ true → slice_get k.roles r ≡ Some x → slice_get k.nodes c ≡ Some n → k.transit ≡ [] → JobOn s v r a (log_of k) → is_sorted s v ≡ true → IsCourse measure s (record k { log = record k.log { told = plain (SortDrop v (result_name s v a).maker a.index) ∷ plain (put_of s r v a f) ∷ k.log.told }; nodes = set k.nodes c (record n { jobs = n.jobs - 1; puts = n.puts + 1 }); roles = set k.roles r (record x { hand = Free }); facts = record k.facts { dropped = k.facts.dropped + 1 }; transit = job_arrays s v a })
-put_full_at measure s k v r c a f x n is i = subst (λ u. is_legal s (put_of s r u a f ∷ log_of k) ≡ true → is_legal s (SortDrop u (result_name s u a).maker a.index ∷ put_of s r u a f ∷ log_of k) ≡ true → slice_get k.roles r ≡ Some x → slice_get k.nodes c ≡ Some n → k.transit ≡ [] → JobOn s u r a (log_of k) → is_sorted s u ≡ true → IsCourse measure s (record k { log = record k.log { told = plain (SortDrop u (result_name s u a).maker a.index) ∷ plain (put_of s r u a f) ∷ k.log.told }; nodes = set k.nodes c (record n { jobs = n.jobs - 1; puts = n.puts + 1 }); roles = set k.roles r (record x { hand = Free }); facts = record k.facts { dropped = k.facts.dropped + 1 }; transit = job_arrays s u a })) is (put_full measure s k r c a f x n i)
+pub put_full_at : (measure : Measuring) (s : Setting) (k : Parts) (v : ℕ) (r c : ℕ) (a : FrameName) (f : Bool) (x : RoleState) (n : NodeState) → suc c ≡ v
+    → IsCourse measure s k → is_legal s (put_of s r v a f ∷ log_of k) ≡ true
+    → is_legal s (SortDrop v (result_name s v a).maker a.index ∷ put_of s r v a f ∷ log_of k) ≡ true → slice_get k.roles r ≡ Some x
+    → slice_get k.nodes c ≡ Some n → k.transit ≡ [] → JobOn s v r a (log_of k) → is_sorted s v ≡ true
+    → IsCourse measure s (record k { log = record k.log { told = plain (SortDrop v (result_name s v a).maker a.index) ∷ plain (put_of s r v a f) ∷ k.log.told };
+    nodes = set k.nodes c (record n { jobs = n.jobs - 1; puts = n.puts + 1 }); roles = set k.roles r (record x { hand = Free });
+    facts = record k.facts { dropped = k.facts.dropped + 1 }; transit = job_arrays s v a })
+put_full_at measure s k v r c a f x n is i =
+    subst (λ u. is_legal s (put_of s r u a f ∷ log_of k) ≡ true → is_legal s (SortDrop u (result_name s u a).maker a.index ∷ put_of s r u a f ∷ log_of k) ≡ true
+    → slice_get k.roles r ≡ Some x → slice_get k.nodes c ≡ Some n → k.transit ≡ [] → JobOn s u r a (log_of k) → is_sorted s u ≡ true
+    → IsCourse measure s (record k { log = record k.log { told = plain (SortDrop u (result_name s u a).maker a.index) ∷ plain (put_of s r u a f) ∷ k.log.told };
+    nodes = set k.nodes c (record n { jobs = n.jobs - 1; puts = n.puts + 1 }); roles = set k.roles r (record x { hand = Free });
+    facts = record k.facts { dropped = k.facts.dropped + 1 }; transit = job_arrays s u a })) is (put_full measure s k r c a f x n i)

@@ -48,24 +48,30 @@ put-first s v r a f P job fires = and_from _ _ (by job.entry job.has.held job.ki
       rw (held, name) (and_from _ _ (eq-eqb w v kind.1) (subst (λ b. same a b ≡ true) (sym kind.2) (same_refl a)))
   by (TakeBlock g x q w m k b n z) held kind =
       let name : result_name s v a ≡ frame v a.index = rw kind.0 refl in
-      rw (held, name) (and_from _ _ (eq-eqb w v kind.1) (subst (λ j. same (frame v a.index) (frame v j) ≡ true) (sym (ap (λ (c : FrameName). c.index) kind.2)) (same_refl (frame v a.index))))
+      rw (held, name) (and_from _ _ (eq-eqb w v kind.1)
+      (subst (λ j. same (frame v a.index) (frame v j) ≡ true) (sym (ap (λ (c : FrameName). c.index) kind.2)) (same_refl (frame v a.index))))
   by _ held kind = absurd kind
 
 -- the whole move is legal, and so is its first entry
-pub put-legal : (s : Setting) (v r : ℕ) (a : FrameName) (f : Bool) (b : BoardState) → is_history s (past b) ≡ true → JobOn s v r a (past b) → f ≡ fires_for s v a → is_legal s (put_of s r v a f ∷ past b) ≡ true
-put-legal s v r a f b h job fires = (push-first {s = s} {P = past b} (put_of s r v a f) (history-owes {s = s} {P = past b} h) (put-first s v r a f (past b) job fires)).legal
+pub put-legal : (s : Setting) (v r : ℕ) (a : FrameName) (f : Bool) (b : BoardState) → is_history s (past b) ≡ true → JobOn s v r a (past b)
+    → f ≡ fires_for s v a → is_legal s (put_of s r v a f ∷ past b) ≡ true
+put-legal s v r a f b h job fires =
+    (push-first {s = s} {P = past b} (put_of s r v a f) (history-owes {s = s} {P = past b} h) (put-first s v r a f (past b) job fires)).legal
 
-pub put-whole : (s : Setting) (v r : ℕ) (a : FrameName) (f : Bool) (b : BoardState) → is_history s (past b) ≡ true → JobOn s v r a (past b) → f ≡ fires_for s v a → is_history s (past (moved s (plain (put_of s r v a f)) b)) ≡ true
+pub put-whole : (s : Setting) (v r : ℕ) (a : FrameName) (f : Bool) (b : BoardState) → is_history s (past b) ≡ true → JobOn s v r a (past b)
+    → f ≡ fires_for s v a → is_history s (past (moved s (plain (put_of s r v a f)) b)) ≡ true
 put-whole s v r a f b h job fires = moved-legal s b 0 (plain (put_of s r v a f)) h (put-first s v r a f (past b) job fires)
 
 -- at a node without a sort list that makes or passes arrays on, the result goes out
-calls-plain : (s : Setting) (v : ℕ) (a : FrameName) (f : Bool) (P : Past) (w : Work) → may_sort w ≡ true → is_sorted s v ≡ false → result s v a f P w ≡ emit v Plain a ∷ []
+calls-plain : (s : Setting) (v : ℕ) (a : FrameName) (f : Bool) (P : Past) (w : Work) → may_sort w ≡ true → is_sorted s v ≡ false
+    → result s v a f P w ≡ emit v Plain a ∷ []
 calls-plain s v a f P Makes goes u = rw u refl
 calls-plain s v a f P (Passes d) goes u = rw u refl
 calls-plain s v a f P (Watches pre post preset) goes u = absurd (false≢true goes)
 calls-plain s v a f P (Saves whole n) goes u = absurd (false≢true goes)
 
-pub moved-at-once : (s : Setting) (r v m k : ℕ) (f : Bool) (b : BoardState) → passes_all s v ≡ true → is_sorted s v ≡ false → moved s (plain (Put r v m k f)) b ≡ with_all s 0 2 (emit v Plain (frame m k) ∷ []) (plain (Put r v m k f) ∷ b)
+pub moved-at-once : (s : Setting) (r v m k : ℕ) (f : Bool) (b : BoardState) → passes_all s v ≡ true → is_sorted s v ≡ false
+    → moved s (plain (Put r v m k f)) b ≡ with_all s 0 2 (emit v Plain (frame m k) ∷ []) (plain (Put r v m k f) ∷ b)
 moved-at-once s r v m k f b goes u =
     ap (λ ds. with_all s 0 3 ds (plain (Put r v m k f) ∷ b)) (calls-plain s v (frame m k) f (past b) (node s v).work goes u)
     ∙ outs-flat s 0 1 (emit v Plain (frame m k) ∷ []) (plain (Put r v m k f) ∷ b) refl
@@ -76,12 +82,15 @@ whole-name s v a = by (is_maker s v) where
   by true = refl
   by false = refl
 
-pub moved-result : (s : Setting) (v r : ℕ) (a : FrameName) (f : Bool) (b : BoardState) → passes_all s v ≡ true → is_sorted s v ≡ false → moved s (plain (put_of s r v a f)) b ≡ with_all s 0 2 (emit v Plain (result_name s v a) ∷ []) (plain (put_of s r v a f) ∷ b)
+pub moved-result : (s : Setting) (v r : ℕ) (a : FrameName) (f : Bool) (b : BoardState) → passes_all s v ≡ true → is_sorted s v ≡ false
+    → moved s (plain (put_of s r v a f)) b ≡ with_all s 0 2 (emit v Plain (result_name s v a) ∷ []) (plain (put_of s r v a f) ∷ b)
 moved-result s v r a f b goes u =
-    moved-at-once s r v (result_name s v a).maker a.index f b goes u ∙ ap (λ (n : FrameName). with_all s 0 2 (emit v Plain n ∷ []) (plain (put_of s r v a f) ∷ b)) (whole-name s v a)
+    moved-at-once s r v (result_name s v a).maker a.index f b goes u
+    ∙ ap (λ (n : FrameName). with_all s 0 2 (emit v Plain n ∷ []) (plain (put_of s r v a f) ∷ b)) (whole-name s v a)
 
 -- a course once the result was put and went out, and what is still on its way
-pub emitted-put : (s : Setting) (v r : ℕ) (a n : FrameName) (f : Bool) (old mid out : Coursed) → passes_all s v ≡ true → is_sorted s v ≡ false → n ≡ result_name s v a
+pub emitted-put : (s : Setting) (v r : ℕ) (a n : FrameName) (f : Bool) (old mid out : Coursed) → passes_all s v ≡ true
+    → is_sorted s v ≡ false → n ≡ result_name s v a
     → mid ≡ record old { told = plain (put_of s r v a f) ∷ old.told; transit = job_arrays s v a }
     → out ≡ record mid { told = with_all s 0 2 (emit v Plain n ∷ []) mid.told; transit = drop 1 mid.transit }
     → out ≡ record old { told = moved s (plain (put_of s r v a f)) old.told; transit = drop 1 (job_arrays s v a) }
@@ -99,7 +108,8 @@ calls-file s v a f P (Passes d) h = absurd (false≢true h)
 calls-file s v a f P (Watches pre post preset) h = absurd (false≢true h)
 calls-file s v a f P (Saves whole n) h = refl
 
-pub moved-file : (s : Setting) (r v : ℕ) (a : FrameName) (f : Bool) (b : BoardState) → saves_all s v ≡ true → is_maker s v ≡ false → plain (Put r v a.maker a.index f) ∷ b ≡ moved s (plain (put_of s r v a f)) b
+pub moved-file : (s : Setting) (r v : ℕ) (a : FrameName) (f : Bool) (b : BoardState) → saves_all s v ≡ true → is_maker s v ≡ false
+    → plain (Put r v a.maker a.index f) ∷ b ≡ moved s (plain (put_of s r v a f)) b
 moved-file s r v a f b h passes =
     let name : result_name s v a ≡ a = rw passes refl in
     sym (ap (λ ds. with_all s 0 3 ds (plain (put_of s r v a f) ∷ b)) (calls-file s v (frame (result_name s v a).maker a.index) f (past b) (node s v).work h)
@@ -120,7 +130,8 @@ none-measured g t (suc k) a h = by (slice_get g.nodes k) refl where
   by : (o : Option NodeRule) → slice_get g.nodes k ≡ o → run_measure g t (suc k) a ≡ None
   by None is = rw is refl
   by (Some n) is =
-      let here : node (run_setting g t) (suc k) ≡ node_of n = get_or-map node_of g.nodes k n no_node (slice_get_within g.nodes k n is) ∙ ap node_of (get_or_from_slice_get g.nodes k n n is) in
+      let here : node (run_setting g t) (suc k) ≡ node_of n =
+      get_or-map node_of g.nodes k n no_node (slice_get_within g.nodes k n is) ∙ ap node_of (get_or_from_slice_get g.nodes k n n is) in
       rw is (maker-measures-none n.kind (sym (ap (λ (m : Node). makes m.work) here) ∙ h) (content g.nodes t.arrays a))
 
 -- what is measured of a job's array is measured of its result

@@ -47,7 +47,8 @@ use Rattle.flow_emit.proofs.Ringing.{ring-outs-last}
 use Rattle.flow_emit.proofs.RingWindows.{WindowAt, watch-facts, watch-passes, watch-unsorted, watch-rule, window-at}
 
 -- and after a put
-ring-then : (s : Setting) (r v : ℕ) (a : FrameName) (f : Bool) (P : Past) (old new : Watch FrameName) (out : List FrameName) (q : Watched) → WindowAt s v P old → is_settled v P ≡ false → IsWatched (firings v P) (puts v P) f a old new out q → IsRing s v (Put r v a.maker a.index f ∷ P) (node s v).work new
+ring-then : (s : Setting) (r v : ℕ) (a : FrameName) (f : Bool) (P : Past) (old new : Watch FrameName) (out : List FrameName) (q : Watched) → WindowAt s v P old
+    → is_settled v P ≡ false → IsWatched (firings v P) (puts v P) f a old new out q → IsRing s v (Put r v a.maker a.index f ∷ P) (node s v).work new
 ring-then s r v a f P old new out q at running w =
     let Q : Past = Put r v a.maker a.index f ∷ P in
     let rule : (node s v).work ≡ Watches new.pre new.post new.preset = at.rule ∙ rw (w.rule.0, w.rule.1, w.rule.2) refl in
@@ -58,7 +59,10 @@ ring-then s r v a f P old new out q at running w =
         rule = rule;
         names = map-id (puts v Q);
         after = subst (IsAfter new) (sym flags) w.stands.after;
-        ring = w.stands.ring ∙ (ap (λ fs. kept new.pre new.post new.preset fs (puts v P ++ a ∷ [])) (sym flags) ∙ ap (kept new.pre new.post new.preset (firings v Q)) (sym names));
+        ring =
+            w.stands.ring
+            ∙ (ap (λ fs. kept new.pre new.post new.preset fs (puts v P ++ a ∷ [])) (sym flags)
+            ∙ ap (kept new.pre new.post new.preset (firings v Q)) (sym names));
       },
       λ settled. absurd (true≢false (sym settled ∙ running)),
       w.stands.pending,
@@ -68,7 +72,8 @@ All-front : {X : Type 0} (Q : X → Type 0) (xs ys : List X) → All Q (xs ++ ys
 All-front Q xs ys all = subst (All Q) (take_at xs ys (length xs) refl) (All-take Q (length xs) (xs ++ ys) all)
 
 -- the put of an array of a job on it
-pub record WatchedPut (measure : Measuring) (s : Setting) (k : Parts) (v c r : ℕ) (a : FrameName) (f : Bool) (x : RoleState) (n y : NodeState) (out : List FrameName) (q : Watched) : Type 0 where
+pub record WatchedPut (measure : Measuring) (s : Setting) (k : Parts) (v c r : ℕ) (a : FrameName) (f : Bool) (x : RoleState) (n y : NodeState)
+    (out : List FrameName) (q : Watched) : Type 0 where
   pub here : slice_get k.nodes c ≡ Some n
   pub role : slice_get k.roles r ≡ Some x
   pub legal : is_legal s (put_of s r v a f ∷ log_of k) ≡ true
@@ -78,7 +83,10 @@ pub record WatchedPut (measure : Measuring) (s : Setting) (k : Parts) (v c r : �
   pub running : is_settled v (log_of k) ≡ false
   pub watched : IsWatched (firings v (log_of k)) (puts v (log_of k)) f a n.window y.window out q
 
-put_in_ring : (measure : Measuring) (s : Setting) (k : Parts) (c r : ℕ) (a : FrameName) (f : Bool) (x : RoleState) (n y : NodeState) (out : List FrameName) (q : Watched) → IsCourse measure s k → WatchedPut measure s k (suc c) c r a f x n y out q → IsCourse measure s (record k { log = record k.log { told = plain (Put r (suc c) a.maker a.index f) ∷ k.log.told }; nodes = set k.nodes c (record n { jobs = n.jobs - 1; puts = n.puts + 1; window = y.window }); roles = set k.roles r (record x { hand = Free }); transit = out })
+put_in_ring : (measure : Measuring) (s : Setting) (k : Parts) (c r : ℕ) (a : FrameName) (f : Bool) (x : RoleState) (n y : NodeState) (out : List FrameName)
+    (q : Watched) → IsCourse measure s k → WatchedPut measure s k (suc c) c r a f x n y out q
+    → IsCourse measure s (record k { log = record k.log { told = plain (Put r (suc c) a.maker a.index f) ∷ k.log.told }; nodes = set k.nodes c
+    (record n { jobs = n.jobs - 1; puts = n.puts + 1; window = y.window }); roles = set k.roles r (record x { hand = Free }); transit = out })
 put_in_ring measure s k c r a f x n y out q i p =
     let v = suc c in
     let P = log_of k in
@@ -97,7 +105,8 @@ put_in_ring measure s k c r a f x n y out q i p =
     let rule = watch-rule s v p.kind in
     let then : y.window.ring ≡ ring s v Q = ring-after s v Q rule.pre rule.post rule.preset y.window rule.rule p.running ring_is in
     let whole : out ++ ring s v Q ≡ ring s v P ++ a ∷ [] = ap (λ xs. out ++ xs) (sym then) ∙ (w.whole ∙ ap (λ xs. xs ++ a ∷ []) at.ring) in
-    let account : IsAccount s P [] (all_named k.pool) = subst (λ (ts : List FrameName). IsAccount s P (flat_map (block_of P) ts) (all_named k.pool)) p.empty i.account in
+    let account : IsAccount s P [] (all_named k.pool) =
+    subst (λ (ts : List FrameName). IsAccount s P (flat_map (block_of P) ts) (all_named k.pool)) p.empty i.account in
     let has : HasBlock P a = All-head (HasBlock P) a [] (subst (All (HasBlock P)) alone arrays.standing) in
     put_with measure s k r c a.maker a.index f p.job.entry x n (record n { window = y.window }) out i legal p.role p.here p.job.has
     (record {
@@ -108,28 +117,42 @@ put_in_ring measure s k c r a f x n y out q i p =
       kept = was.kept ∙ (none-unsaved s v P facts.2 ∙ sym (none-unsaved s v Q facts.2));
       room = was.unsaved_room;
     })
-    (put_laws.watched s P r v a.maker a.index f rule.pre rule.post rule.preset (Take taken.0 v a.maker a.index) (all_named k.pool) [] (flat_map (block_of P) out) taken.1 rule.rule (same-blocks P a out (ring s v Q) (ring s v P) whole) legal account)
+    (put_laws.watched s P r v a.maker a.index f rule.pre rule.post rule.preset (Take taken.0 v a.maker a.index) (all_named k.pool) []
+    (flat_map (block_of P) out) taken.1 rule.rule (same-blocks P a out (ring s v Q) (ring s v P) whole) legal account)
     (All-front (HasBlock P) out (ring s v Q) (subst (All (HasBlock P)) (sym whole) (All-push (HasBlock P) (ring s v P) a (ring-blocks s v P i.legal) has)))
     (omega (arith, ap length w.whole, length-append out y.window.ring, length-append n.window.ring (a ∷ []), at.few))
   where
-    ring-after : (s : Setting) (v : ℕ) (Q : Past) (pre post preset : ℕ) (w : Watch FrameName) → (node s v).work ≡ Watches pre post preset → is_settled v Q ≡ false → IsRing s v Q (node s v).work w → w.ring ≡ ring s v Q
+    ring-after : (s : Setting) (v : ℕ) (Q : Past) (pre post preset : ℕ) (w : Watch FrameName) → (node s v).work ≡ Watches pre post preset
+        → is_settled v Q ≡ false → IsRing s v Q (node s v).work w → w.ring ≡ ring s v Q
     ring-after s v Q pre post preset w rule running h =
         let is : IsRing s v Q (Watches pre post preset) w = subst (λ (u : Work). IsRing s v Q u w) rule h in
         let o = is.0 running in
         o.ring ∙ sym (ring_laws.kept_is s v Q w.pre w.post w.preset o.rule running)
 
-    same-blocks : (P : Past) (a : FrameName) (out after before : List FrameName) → out ++ after ≡ before ++ a ∷ [] → SameTimes (flat_map (block_of P) out ++ flat_map (block_of P) after) (block_of P a ++ flat_map (block_of P) before ++ [])
+    same-blocks : (P : Past) (a : FrameName) (out after before : List FrameName) → out ++ after ≡ before ++ a ∷ []
+        → SameTimes (flat_map (block_of P) out ++ flat_map (block_of P) after) (block_of P a ++ flat_map (block_of P) before ++ [])
     same-blocks P a out after before is b =
         let g = flat_map (block_of P) in
-        let left : g out ++ g after ≡ g before ++ (block_of P a ++ []) = sym (flat_map-append (block_of P) out after) ∙ (ap g is ∙ flat_map-append (block_of P) before (a ∷ [])) in
-        omega (arith, ap (times_among b) left, times-append b (g before) (block_of P a ++ []), ap (times_among b) (append-nil (block_of P a)), times-append b (block_of P a ++ g before) [], times-append b (block_of P a) (g before))
+        let left : g out ++ g after ≡ g before ++ (block_of P a ++ []) =
+        sym (flat_map-append (block_of P) out after) ∙ (ap g is ∙ flat_map-append (block_of P) before (a ∷ [])) in
+        omega (arith, ap (times_among b) left, times-append b (g before) (block_of P a ++ []), ap (times_among b) (append-nil (block_of P a)),
+        times-append b (block_of P a ++ g before) [], times-append b (block_of P a) (g before))
 
 -- the same of a node by its number
-pub put_in_ring_at : (measure : Measuring) (s : Setting) (k : Parts) (v c r : ℕ) (a : FrameName) (f : Bool) (x : RoleState) (n y : NodeState) (out : List FrameName) (q : Watched) → suc c ≡ v → IsCourse measure s k → WatchedPut measure s k v c r a f x n y out q → IsCourse measure s (record k { log = record k.log { told = plain (Put r v a.maker a.index f) ∷ k.log.told }; nodes = set k.nodes c (record n { jobs = n.jobs - 1; puts = n.puts + 1; window = y.window }); roles = set k.roles r (record x { hand = Free }); transit = out })
-put_in_ring_at measure s k v c r a f x n y out q is i = subst (λ u. WatchedPut measure s k u c r a f x n y out q → IsCourse measure s (record k { log = record k.log { told = plain (Put r u a.maker a.index f) ∷ k.log.told }; nodes = set k.nodes c (record n { jobs = n.jobs - 1; puts = n.puts + 1; window = y.window }); roles = set k.roles r (record x { hand = Free }); transit = out })) is (put_in_ring measure s k c r a f x n y out q i)
+pub put_in_ring_at : (measure : Measuring) (s : Setting) (k : Parts) (v c r : ℕ) (a : FrameName) (f : Bool) (x : RoleState) (n y : NodeState)
+    (out : List FrameName) (q : Watched) → suc c ≡ v → IsCourse measure s k → WatchedPut measure s k v c r a f x n y out q
+    → IsCourse measure s (record k { log = record k.log { told = plain (Put r v a.maker a.index f) ∷ k.log.told }; nodes = set k.nodes c
+    (record n { jobs = n.jobs - 1; puts = n.puts + 1; window = y.window }); roles = set k.roles r (record x { hand = Free }); transit = out })
+put_in_ring_at measure s k v c r a f x n y out q is i =
+    subst (λ u. WatchedPut measure s k u c r a f x n y out q
+    → IsCourse measure s (record k { log = record k.log { told = plain (Put r u a.maker a.index f) ∷ k.log.told }; nodes = set k.nodes c
+    (record n { jobs = n.jobs - 1; puts = n.puts + 1; window = y.window }); roles = set k.roles r (record x { hand = Free }); transit = out })) is
+    (put_in_ring measure s k c r a f x n y out q i)
 
 -- WHAT IT CALLS FOR
-calls-watched : (s : Setting) (v : ℕ) (a : FrameName) (f : Bool) (P : Past) (old : Watch FrameName) → WindowAt s v P old → result s v a f P (node s v).work ≡ map (emit v Ring) (cond (is_trigger old.post old.preset (firings v P ++ f ∷ []) (length (firings v P))) old.ring []) ++ cond (is_passed old.pre old.post old.preset (firings v P ++ f ∷ []) (length (firings v P))) (emit v Now a ∷ []) []
+calls-watched : (s : Setting) (v : ℕ) (a : FrameName) (f : Bool) (P : Past) (old : Watch FrameName) → WindowAt s v P old
+    → result s v a f P (node s v).work ≡ map (emit v Ring) (cond (is_trigger old.post old.preset (firings v P ++ f ∷ []) (length (firings v P))) old.ring [])
+    ++ cond (is_passed old.pre old.post old.preset (firings v P ++ f ∷ []) (length (firings v P))) (emit v Now a ∷ []) []
 calls-watched s v a f P old at =
     let last = cond (is_passed old.pre old.post old.preset (firings v P ++ f ∷ []) (length (firings v P))) (emit v Now a ∷ []) [] in
     let fires : Bool = is_trigger old.post old.preset (firings v P ++ f ∷ []) (length (firings v P)) in
@@ -141,18 +164,25 @@ calls-watched s v a f P old at =
     split true = refl
     split false = refl
 
-pub calls-on-way : (s : Setting) (v r : ℕ) (a : FrameName) (f : Bool) (P : Past) (old new : Watch FrameName) (out : List FrameName) (q : Watched) → watches s v ≡ true → WindowAt s v P old → IsWatched (firings v P) (puts v P) f a old new out q → IsOnItsWay v (calls_for s P (put_of s r v a f)) out q
+pub calls-on-way : (s : Setting) (v r : ℕ) (a : FrameName) (f : Bool) (P : Past) (old new : Watch FrameName) (out : List FrameName) (q : Watched)
+    → watches s v ≡ true → WindowAt s v P old → IsWatched (firings v P) (puts v P) f a old new out q → IsOnItsWay v (calls_for s P (put_of s r v a f)) out q
 calls-on-way s v r a f P old new out q kind at w =
     let passes = is_passed old.pre old.post old.preset (firings v P ++ f ∷ []) (length (firings v P)) in
     let called = cond (is_trigger old.post old.preset (firings v P ++ f ∷ []) (length (firings v P))) old.ring [] in
     let name : result_name s v a ≡ a = rw (watch-passes s v kind) refl in
-    let calls : calls_for s P (put_of s r v a f) ≡ map (emit v Ring) called ++ cond passes (emit v Now a ∷ []) [] = ap (λ (b : FrameName). result s v (frame b.maker a.index) f P (node s v).work) name ∙ calls-watched s v a f P old at in
+    let calls : calls_for s P (put_of s r v a f) ≡ map (emit v Ring) called ++ cond passes (emit v Now a ∷ []) [] =
+    ap (λ (b : FrameName). result s v (frame b.maker a.index) f P (node s v).work) name ∙ calls-watched s v a f P old at in
     by q passes called calls w.comes
   where
-    nothing : (passes : Bool) (called : List FrameName) (calls : List Entry) → calls ≡ map (emit v Ring) called ++ cond passes (emit v Now a ∷ []) [] → passes ≡ false → called ≡ [] → calls ≡ []
-    nothing passes called calls is none empty = is ∙ (ap (λ b. map (emit v Ring) called ++ cond b (emit v Now a ∷ []) []) none ∙ ap (λ xs. map (emit v Ring) xs ++ []) empty)
+    nothing : (passes : Bool) (called : List FrameName) (calls : List Entry) → calls ≡ map (emit v Ring) called ++ cond passes (emit v Now a ∷ []) []
+        → passes ≡ false → called ≡ [] → calls ≡ []
+    nothing passes called calls is none empty =
+        is ∙ (ap (λ b. map (emit v Ring) called ++ cond b (emit v Now a ∷ []) []) none ∙ ap (λ xs. map (emit v Ring) xs ++ []) empty)
 
-    by : (q : Watched) (passes : Bool) (called : List FrameName) → calls_for s P (put_of s r v a f) ≡ map (emit v Ring) called ++ cond passes (emit v Now a ∷ []) [] → ComesOut passes called a out q → IsOnItsWay v (calls_for s P (put_of s r v a f)) out q
+    by : (q : Watched) (passes : Bool) (called : List FrameName)
+        → calls_for s P (put_of s r v a f) ≡ map (emit v Ring) called ++ cond passes (emit v Now a ∷ []) [] → ComesOut passes called a out q
+        → IsOnItsWay v (calls_for s P (put_of s r v a f)) out q
     by watched.Kept passes called is h = (nothing passes called _ is h.0 h.1, h.2)
     by watched.LetGo passes called is h = (nothing passes called _ is h.0 h.1, h.2)
-    by watched.Out passes called is h = is ∙ (ap (λ b. map (emit v Ring) called ++ cond b (emit v Now a ∷ []) []) h.0 ∙ (sym (ring-outs-last v called a) ∙ ap (ring_outs v) (sym h.1)))
+    by watched.Out passes called is h =
+        is ∙ (ap (λ b. map (emit v Ring) called ++ cond b (emit v Now a ∷ []) []) h.0 ∙ (sym (ring-outs-last v called a) ∙ ap (ring_outs v) (sym h.1)))

@@ -65,14 +65,23 @@ no-load v (Take r u m k) job = refl
 no-load v (TakeBlock f x r u m k b n g) job = refl
 no-load v _ job = absurd (false≢true job)
 
-pub put_with : (measure : Measuring) (s : Setting) (k : Parts) (r c m j : ℕ) (f : Bool) (h : Entry) (x : RoleState) (n y : NodeState) (ts : List FrameName) → IsCourse measure s k → is_legal s (Put r (suc c) m j f ∷ log_of k) ≡ true → slice_get k.roles r ≡ Some x → slice_get k.nodes c ≡ Some n → HasJob (suc c) r (log_of k) h → Keeps measure s (suc c) (log_of k) (Put r (suc c) m j f ∷ log_of k) y → IsAccount s (Put r (suc c) m j f ∷ log_of k) (flat_map (block_of (log_of k)) ts) (all_named k.pool) → All (HasBlock (log_of k)) ts → length ts ≤ 4097 → IsCourse measure s (record k { log = record k.log { told = plain (Put r (suc c) m j f) ∷ k.log.told }; nodes = set k.nodes c (record n { jobs = n.jobs - 1; puts = n.puts + 1; list = y.list; window = y.window; unsaved = y.unsaved }); roles = set k.roles r (record x { hand = Free }); transit = ts })
+pub put_with : (measure : Measuring) (s : Setting) (k : Parts) (r c m j : ℕ) (f : Bool) (h : Entry) (x : RoleState) (n y : NodeState) (ts : List FrameName)
+    → IsCourse measure s k → is_legal s (Put r (suc c) m j f ∷ log_of k) ≡ true → slice_get k.roles r ≡ Some x → slice_get k.nodes c ≡ Some n
+    → HasJob (suc c) r (log_of k) h → Keeps measure s (suc c) (log_of k) (Put r (suc c) m j f ∷ log_of k) y
+    → IsAccount s (Put r (suc c) m j f ∷ log_of k) (flat_map (block_of (log_of k)) ts) (all_named k.pool) → All (HasBlock (log_of k)) ts → length ts ≤ 4097
+    → IsCourse measure s (record k { log = record k.log { told = plain (Put r (suc c) m j f) ∷ k.log.told };
+    nodes = set k.nodes c (record n { jobs = n.jobs - 1; puts = n.puts + 1; list = y.list; window = y.window; unsaved = y.unsaved });
+    roles = set k.roles r (record x { hand = Free }); transit = ts })
 put_with measure s k r c m j f h x n y ts i legal at here has keeps account standing few =
     let P = log_of k in
     let e = Put r (suc c) m j f in
     record {
       ruled = i.ruled;
       legal = legal;
-      nodes = nodes-set measure s P (e ∷ P) k.nodes c _ i.nodes (here-put measure s r (suc c) m j f h P n y (i.nodes.each c n here) legal has.held has.job (no-piece (suc c) (suc c) h has.job) keeps.size keeps.last keeps.waits keeps.ring keeps.kept keeps.room) (λ v ne. same-put s (suc v) r (suc c) m j f h P legal (apart-more ne) has.held (job-elsewhere (suc c) (suc v) h has.job (apart-more ne)) (no-piece (suc c) (suc v) h has.job));
+      nodes =
+          nodes-set measure s P (e ∷ P) k.nodes c _ i.nodes (here-put measure s r (suc c) m j f h P n y (i.nodes.each c n here) legal has.held has.job
+          (no-piece (suc c) (suc c) h has.job) keeps.size keeps.last keeps.waits keeps.ring keeps.kept keeps.room) (λ v ne. same-put s (suc v) r
+          (suc c) m j f h P legal (apart-more ne) has.held (job-elsewhere (suc c) (suc v) h has.job (apart-more ne)) (no-piece (suc c) (suc v) h has.job));
       roles = role-down s r e P k.roles x i.roles at (put-of r (suc c) m j f) legal (eq-eqb r r refl) refl refl;
       account = account;
       standing = standing;
@@ -84,12 +93,15 @@ put_with measure s k r c m j f h x n y ts i legal at here has keeps account stan
       transit_room = i.transit_room;
     }
 
-pub some-job : (measure : Measuring) (s : Setting) (k : Parts) (v r : ℕ) (a : FrameName) (n : NodeState) → IsCourse measure s k → is_node s v ≡ true → slice_get k.nodes (v - 1) ≡ Some n → is_job_on v a (hand r (log_of k)) ≡ true → 0 < n.jobs
+pub some-job : (measure : Measuring) (s : Setting) (k : Parts) (v r : ℕ) (a : FrameName) (n : NodeState) → IsCourse measure s k → is_node s v ≡ true
+    → slice_get k.nodes (v - 1) ≡ Some n → is_job_on v a (hand r (log_of k)) ≡ true → 0 < n.jobs
 some-job measure s k v r a n i h at on =
     let job = job-on s v r a (log_of k) i.legal on in
-    omega (arith, (node-is measure s k v n i h at).working, job_laws.down (is_job v) r job.entry (Put r v 0 0 false) (log_of k) (eq-eqb r r refl) job.has.held job.has.job)
+    omega (arith, (node-is measure s k v n i h at).working,
+    job_laws.down (is_job v) r job.entry (Put r v 0 0 false) (log_of k) (eq-eqb r r refl) job.has.held job.has.job)
 
-pub few-puts : (measure : Measuring) (s : Setting) (k : Parts) (v : ℕ) (n : NodeState) → IsCourse measure s k → is_node s v ≡ true → slice_get k.nodes (v - 1) ≡ Some n → n.puts < 4294967295
+pub few-puts : (measure : Measuring) (s : Setting) (k : Parts) (v : ℕ) (n : NodeState) → IsCourse measure s k → is_node s v ≡ true
+    → slice_get k.nodes (v - 1) ≡ Some n → n.puts < 4294967295
 few-puts measure s k v n i h at =
     let frames : length s.ids ≤ 65536 = subst (λ (ids : List ℤ). length ids ≤ 65536) i.ruled.ids i.ruled.few_frames in
     omega (arith, (node-is measure s k v n i h at).results, puts-short s (log_of k) v i.legal, frames)
@@ -117,7 +129,8 @@ no-ring s v P (Watches pre post preset) x h = absurd (false≢true h)
 pub none-unsaved : (s : Setting) (v : ℕ) (P : Past) → is_file (node s v).work ≡ false → unsaved s v P ≡ []
 none-unsaved s v P h = rw h refl
 
-keeps-none : (measure : Measuring) (s : Setting) (v : ℕ) (P Q : Past) (n : NodeState) → passes_all s v ≡ true → is_sorted s v ≡ false → IsNode measure s v P n → Keeps measure s v P Q n
+keeps-none : (measure : Measuring) (s : Setting) (v : ℕ) (P Q : Past) (n : NodeState) → passes_all s v ≡ true → is_sorted s v ≡ false
+    → IsNode measure s v P n → Keeps measure s v P Q n
 keeps-none measure s v P Q n goes plain_one i =
     let none = no-file (node s v).work goes in
     record {
@@ -129,12 +142,18 @@ keeps-none measure s v P Q n goes plain_one i =
       room = i.unsaved_room;
     }
 
-pub put_at_once : (measure : Measuring) (s : Setting) (k : Parts) (r c m j : ℕ) (f : Bool) (h : Entry) (a : FrameName) (x : RoleState) (n : NodeState) → IsCourse measure s k → is_legal s (Put r (suc c) m j f ∷ log_of k) ≡ true → slice_get k.roles r ≡ Some x → slice_get k.nodes c ≡ Some n → k.transit ≡ [] → HasJob (suc c) r (log_of k) h → passes_all s (suc c) ≡ true → is_sorted s (suc c) ≡ false → HasArrays s (suc c) a (log_of k) h → IsCourse measure s (record k { log = record k.log { told = plain (Put r (suc c) m j f) ∷ k.log.told }; nodes = set k.nodes c (record n { jobs = n.jobs - 1; puts = n.puts + 1 }); roles = set k.roles r (record x { hand = Free }); transit = job_arrays s (suc c) a })
+pub put_at_once : (measure : Measuring) (s : Setting) (k : Parts) (r c m j : ℕ) (f : Bool) (h : Entry) (a : FrameName) (x : RoleState) (n : NodeState)
+    → IsCourse measure s k → is_legal s (Put r (suc c) m j f ∷ log_of k) ≡ true → slice_get k.roles r ≡ Some x → slice_get k.nodes c ≡ Some n → k.transit ≡ []
+    → HasJob (suc c) r (log_of k) h → passes_all s (suc c) ≡ true → is_sorted s (suc c) ≡ false → HasArrays s (suc c) a (log_of k) h
+    → IsCourse measure s (record k { log = record k.log { told = plain (Put r (suc c) m j f) ∷ k.log.told }; nodes = set k.nodes c
+    (record n { jobs = n.jobs - 1; puts = n.puts + 1 }); roles = set k.roles r (record x { hand = Free }); transit = job_arrays s (suc c) a })
 put_at_once measure s k r c m j f h a x n i legal at here empty has goes plain_one arrays =
     let P = log_of k in
     let v = suc c in
     put_with measure s k r c m j f h x n n (job_arrays s v a) i legal at here has (keeps-none measure s v P _ n goes plain_one (i.nodes.each c n here))
-    (subst (λ bs. IsAccount s (Put r v m j f ∷ P) bs (all_named k.pool)) (append-nil (blocks_in_hand P h) ∙ sym arrays.blocks) (put_laws.plain s P r v m j f h (all_named k.pool) [] has.held goes plain_one legal (subst (λ (ts : List FrameName). IsAccount s P (flat_map (block_of P) ts) (all_named k.pool)) empty i.account)))
+    (subst (λ bs. IsAccount s (Put r v m j f ∷ P) bs (all_named k.pool)) (append-nil (blocks_in_hand P h) ∙ sym arrays.blocks)
+    (put_laws.plain s P r v m j f h (all_named k.pool) [] has.held goes plain_one legal
+    (subst (λ (ts : List FrameName). IsAccount s P (flat_map (block_of P) ts) (all_named k.pool)) empty i.account)))
     arrays.standing
     (few-arrays s v a)
 
@@ -157,13 +176,19 @@ file-ring s v P (Passes d) x h = tt
 file-ring s v P (Saves g c) x h = tt
 file-ring s v P (Watches pre post preset) x h = absurd (false≢true h)
 
-pub put_file : (measure : Measuring) (s : Setting) (k : Parts) (r c m j : ℕ) (f : Bool) (q : ℕ) (x : RoleState) (n y : NodeState) → IsCourse measure s k → is_legal s (Put r (suc c) m j f ∷ log_of k) ≡ true → slice_get k.roles r ≡ Some x → slice_get k.nodes c ≡ Some n → k.transit ≡ [] → hand r (log_of k) ≡ Some (Take q (suc c) m j) → saves_all s (suc c) ≡ true → y.unsaved.items ≡ n.unsaved.items ++ frame m j ∷ [] → deque_capacity y.unsaved ≡ deque_capacity n.unsaved → IsCourse measure s (record k { log = record k.log { told = plain (Put r (suc c) m j f) ∷ k.log.told }; nodes = set k.nodes c (record n { jobs = n.jobs - 1; puts = n.puts + 1; unsaved = y.unsaved }); roles = set k.roles r (record x { hand = Free }) })
+pub put_file : (measure : Measuring) (s : Setting) (k : Parts) (r c m j : ℕ) (f : Bool) (q : ℕ) (x : RoleState) (n y : NodeState) → IsCourse measure s k
+    → is_legal s (Put r (suc c) m j f ∷ log_of k) ≡ true → slice_get k.roles r ≡ Some x → slice_get k.nodes c ≡ Some n → k.transit ≡ []
+    → hand r (log_of k) ≡ Some (Take q (suc c) m j) → saves_all s (suc c) ≡ true → y.unsaved.items ≡ n.unsaved.items ++ frame m j ∷ []
+    → deque_capacity y.unsaved ≡ deque_capacity n.unsaved
+    → IsCourse measure s (record k { log = record k.log { told = plain (Put r (suc c) m j f) ∷ k.log.told };
+    nodes = set k.nodes c (record n { jobs = n.jobs - 1; puts = n.puts + 1; unsaved = y.unsaved }); roles = set k.roles r (record x { hand = Free }) })
 put_file measure s k r c m j f q x n y i legal at here empty held file items room =
     let P = log_of k in
     let v = suc c in
     let was = i.nodes.each c n here in
     let plain_one = file-unsorted s v file in
-    rw empty (put_with measure s k r c m j f (Take q v m j) x n (record n { unsaved = y.unsaved }) [] i legal at here (record { held = held; job = eq-eqb v v refl })
+    rw empty
+    (put_with measure s k r c m j f (Take q v m j) x n (record n { unsaved = y.unsaved }) [] i legal at here (record { held = held; job = eq-eqb v v refl })
     (record {
       size = was.list_size;
       last = was.last;
@@ -172,20 +197,42 @@ put_file measure s k r c m j f q x n y i legal at here empty held file items roo
       kept = items ∙ (ap (λ xs. xs ++ frame m j ∷ []) was.kept ∙ sym (save_laws.put s r v m j f P i.legal file));
       room = omega (arith, room, was.unsaved_room);
     })
-    (put_laws.file s P r q v m j f (all_named k.pool) [] held file legal (subst (λ (ts : List FrameName). IsAccount s P (flat_map (block_of P) ts) (all_named k.pool)) empty i.account))
+    (put_laws.file s P r q v m j f (all_named k.pool) [] held file legal
+    (subst (λ (ts : List FrameName). IsAccount s P (flat_map (block_of P) ts) (all_named k.pool)) empty i.account))
     (All-nil (HasBlock P)) (omega arith))
 
-pub unsaved-short : (measure : Measuring) (s : Setting) (k : Parts) (v r m j : ℕ) (f : Bool) (n : NodeState) → IsCourse measure s k → is_node s v ≡ true → slice_get k.nodes (v - 1) ≡ Some n → saves_all s v ≡ true → is_legal s (Put r v m j f ∷ log_of k) ≡ true → length n.unsaved.items < deque_capacity n.unsaved
+pub unsaved-short : (measure : Measuring) (s : Setting) (k : Parts) (v r m j : ℕ) (f : Bool) (n : NodeState) → IsCourse measure s k → is_node s v ≡ true
+    → slice_get k.nodes (v - 1) ≡ Some n → saves_all s v ≡ true → is_legal s (Put r v m j f ∷ log_of k) ≡ true
+    → length n.unsaved.items < deque_capacity n.unsaved
 unsaved-short measure s k v r m j f n i h at file legal =
     let P = log_of k in
     let was = node-is measure s k v n i h at in
     let all = save_laws.front s v P i.legal file in
-    omega (arith, was.unsaved_room, ap length was.kept, ap length all, length-append (standing_saves v P) (unsaved s v P), puts-short s (Put r v m j f ∷ P) v legal, ap length (node_puts.array r v m j f P), length-append (puts v P) (frame m j ∷ []))
+    omega (arith, was.unsaved_room, ap length was.kept, ap length all, length-append (standing_saves v P) (unsaved s v P),
+    puts-short s (Put r v m j f ∷ P) v legal, ap length (node_puts.array r v m j f P), length-append (puts v P) (frame m j ∷ []))
 
 -- AT A NODE
 -- The same of a node by its number, where its state stands at the place before.
-pub put_at_once_at : (measure : Measuring) (s : Setting) (k : Parts) (v : ℕ) (r c m j : ℕ) (f : Bool) (h : Entry) (a : FrameName) (x : RoleState) (n : NodeState) → suc c ≡ v → IsCourse measure s k → is_legal s (Put r v m j f ∷ log_of k) ≡ true → slice_get k.roles r ≡ Some x → slice_get k.nodes c ≡ Some n → k.transit ≡ [] → HasJob v r (log_of k) h → passes_all s v ≡ true → is_sorted s v ≡ false → HasArrays s v a (log_of k) h → IsCourse measure s (record k { log = record k.log { told = plain (Put r v m j f) ∷ k.log.told }; nodes = set k.nodes c (record n { jobs = n.jobs - 1; puts = n.puts + 1 }); roles = set k.roles r (record x { hand = Free }); transit = job_arrays s v a })
-put_at_once_at measure s k v r c m j f h a x n is i = subst (λ u. is_legal s (Put r u m j f ∷ log_of k) ≡ true → slice_get k.roles r ≡ Some x → slice_get k.nodes c ≡ Some n → k.transit ≡ [] → HasJob u r (log_of k) h → passes_all s u ≡ true → is_sorted s u ≡ false → HasArrays s u a (log_of k) h → IsCourse measure s (record k { log = record k.log { told = plain (Put r u m j f) ∷ k.log.told }; nodes = set k.nodes c (record n { jobs = n.jobs - 1; puts = n.puts + 1 }); roles = set k.roles r (record x { hand = Free }); transit = job_arrays s u a })) is (put_at_once measure s k r c m j f h a x n i)
+pub put_at_once_at : (measure : Measuring) (s : Setting) (k : Parts) (v : ℕ) (r c m j : ℕ) (f : Bool) (h : Entry) (a : FrameName) (x : RoleState)
+    (n : NodeState) → suc c ≡ v → IsCourse measure s k → is_legal s (Put r v m j f ∷ log_of k) ≡ true → slice_get k.roles r ≡ Some x
+    → slice_get k.nodes c ≡ Some n → k.transit ≡ [] → HasJob v r (log_of k) h → passes_all s v ≡ true → is_sorted s v ≡ false → HasArrays s v a (log_of k) h
+    → IsCourse measure s (record k { log = record k.log { told = plain (Put r v m j f) ∷ k.log.told };
+    nodes = set k.nodes c (record n { jobs = n.jobs - 1; puts = n.puts + 1 }); roles = set k.roles r (record x { hand = Free }); transit = job_arrays s v a })
+put_at_once_at measure s k v r c m j f h a x n is i =
+    subst (λ u. is_legal s (Put r u m j f ∷ log_of k) ≡ true → slice_get k.roles r ≡ Some x → slice_get k.nodes c ≡ Some n → k.transit ≡ []
+    → HasJob u r (log_of k) h → passes_all s u ≡ true → is_sorted s u ≡ false → HasArrays s u a (log_of k) h → IsCourse measure s
+    (record k { log = record k.log { told = plain (Put r u m j f) ∷ k.log.told }; nodes = set k.nodes c (record n { jobs = n.jobs - 1; puts = n.puts + 1 });
+    roles = set k.roles r (record x { hand = Free }); transit = job_arrays s u a })) is (put_at_once measure s k r c m j f h a x n i)
 
-pub put_file_at : (measure : Measuring) (s : Setting) (k : Parts) (v : ℕ) (r c m j : ℕ) (f : Bool) (q : ℕ) (x : RoleState) (n y : NodeState) → suc c ≡ v → IsCourse measure s k → is_legal s (Put r v m j f ∷ log_of k) ≡ true → slice_get k.roles r ≡ Some x → slice_get k.nodes c ≡ Some n → k.transit ≡ [] → hand r (log_of k) ≡ Some (Take q v m j) → saves_all s v ≡ true → y.unsaved.items ≡ n.unsaved.items ++ frame m j ∷ [] → deque_capacity y.unsaved ≡ deque_capacity n.unsaved → IsCourse measure s (record k { log = record k.log { told = plain (Put r v m j f) ∷ k.log.told }; nodes = set k.nodes c (record n { jobs = n.jobs - 1; puts = n.puts + 1; unsaved = y.unsaved }); roles = set k.roles r (record x { hand = Free }) })
-put_file_at measure s k v r c m j f q x n y is i = subst (λ u. is_legal s (Put r u m j f ∷ log_of k) ≡ true → slice_get k.roles r ≡ Some x → slice_get k.nodes c ≡ Some n → k.transit ≡ [] → hand r (log_of k) ≡ Some (Take q u m j) → saves_all s u ≡ true → y.unsaved.items ≡ n.unsaved.items ++ frame m j ∷ [] → deque_capacity y.unsaved ≡ deque_capacity n.unsaved → IsCourse measure s (record k { log = record k.log { told = plain (Put r u m j f) ∷ k.log.told }; nodes = set k.nodes c (record n { jobs = n.jobs - 1; puts = n.puts + 1; unsaved = y.unsaved }); roles = set k.roles r (record x { hand = Free }) })) is (put_file measure s k r c m j f q x n y i)
+pub put_file_at : (measure : Measuring) (s : Setting) (k : Parts) (v : ℕ) (r c m j : ℕ) (f : Bool) (q : ℕ) (x : RoleState) (n y : NodeState) → suc c ≡ v
+    → IsCourse measure s k → is_legal s (Put r v m j f ∷ log_of k) ≡ true → slice_get k.roles r ≡ Some x → slice_get k.nodes c ≡ Some n → k.transit ≡ []
+    → hand r (log_of k) ≡ Some (Take q v m j) → saves_all s v ≡ true → y.unsaved.items ≡ n.unsaved.items ++ frame m j ∷ []
+    → deque_capacity y.unsaved ≡ deque_capacity n.unsaved
+    → IsCourse measure s (record k { log = record k.log { told = plain (Put r v m j f) ∷ k.log.told };
+    nodes = set k.nodes c (record n { jobs = n.jobs - 1; puts = n.puts + 1; unsaved = y.unsaved }); roles = set k.roles r (record x { hand = Free }) })
+put_file_at measure s k v r c m j f q x n y is i =
+    subst (λ u. is_legal s (Put r u m j f ∷ log_of k) ≡ true → slice_get k.roles r ≡ Some x → slice_get k.nodes c ≡ Some n → k.transit ≡ []
+    → hand r (log_of k) ≡ Some (Take q u m j) → saves_all s u ≡ true → y.unsaved.items ≡ n.unsaved.items ++ frame m j ∷ []
+    → deque_capacity y.unsaved ≡ deque_capacity n.unsaved → IsCourse measure s (record k { log = record k.log { told = plain (Put r u m j f) ∷ k.log.told };
+    nodes = set k.nodes c (record n { jobs = n.jobs - 1; puts = n.puts + 1; unsaved = y.unsaved }); roles = set k.roles r (record x { hand = Free }) })) is
+    (put_file measure s k r c m j f q x n y i)

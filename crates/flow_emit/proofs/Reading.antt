@@ -37,13 +37,15 @@ place-of s v h =
     (omega (arith, ltb-true 0 v p.0), omega (arith, ltb-true 0 v p.0, leb-true v (length s.nodes) p.1))
 
 -- the queue has room where the inbox takes more
-pub room-of : (measure : ℕ → FrameName → Option Measure) (s : Setting) (v : ℕ) (P : Past) (n : NodeState) → IsNode measure s v P n → length n.inbox.items < n.inbox.size → has_room s P v ≡ true
+pub room-of : (measure : ℕ → FrameName → Option Measure) (s : Setting) (v : ℕ) (P : Past) (n : NodeState) → IsNode measure s v P n
+    → length n.inbox.items < n.inbox.size → has_room s P v ≡ true
 room-of measure s v P n i lt =
     let size : n.inbox.size ≡ (node s v).queue = ap (λ (b : InboxState FrameName). b.size) i.inbox in
     let items : n.inbox.items ≡ queued v P = ap (λ (b : InboxState FrameName). b.items) i.inbox in
     lt-ltb (length (queued v P)) (node s v).queue (omega (arith, lt, size, ap length items))
 
-pub full-of : (measure : ℕ → FrameName → Option Measure) (s : Setting) (v : ℕ) (P : Past) (n : NodeState) → IsNode measure s v P n → n.inbox.size ≤ length n.inbox.items → has_room s P v ≡ false
+pub full-of : (measure : ℕ → FrameName → Option Measure) (s : Setting) (v : ℕ) (P : Past) (n : NodeState) → IsNode measure s v P n
+    → n.inbox.size ≤ length n.inbox.items → has_room s P v ≡ false
 full-of measure s v P n i le =
     let size : n.inbox.size ≡ (node s v).queue = ap (λ (b : InboxState FrameName). b.size) i.inbox in
     let items : n.inbox.items ≡ queued v P = ap (λ (b : InboxState FrameName). b.items) i.inbox in

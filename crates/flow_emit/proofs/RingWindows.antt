@@ -61,14 +61,17 @@ rule-within work.Deals pre post preset h is = absurd (cc)
 rule-within (work.Watches a b c) pre post preset h is = let e : a ≡ pre = cc in subst (λ n. n ≤ 4096) e h.0
 rule-within (work.Saves whole n) pre post preset h is = absurd (cc)
 
-rules-within : (ns : List NodeRules) (i pre post preset : ℕ) → All (λ (n : NodeRules). IsWorkWithin n.work) ns → (slice_index_or (map as_node ns) i no_node).work ≡ Watches pre post preset → pre ≤ 4096
+rules-within : (ns : List NodeRules) (i pre post preset : ℕ) → All (λ (n : NodeRules). IsWorkWithin n.work) ns
+    → (slice_index_or (map as_node ns) i no_node).work ≡ Watches pre post preset → pre ≤ 4096
 rules-within [] i pre post preset h is = absurd (cc)
 rules-within (n ∷ ns) zero pre post preset h is = rule-within n.work pre post preset (All-head (λ (m : NodeRules). IsWorkWithin m.work) n ns h) is
 rules-within (n ∷ ns) (suc i) pre post preset h is = rules-within ns i pre post preset (All-tail (λ (m : NodeRules). IsWorkWithin m.work) n ns h) is
 
-pub few-before : (s : Setting) (k : Parts) (measure : Measuring) (v pre post preset : ℕ) → IsCourse measure s k → (node s v).work ≡ Watches pre post preset → pre ≤ 4096
+pub few-before : (s : Setting) (k : Parts) (measure : Measuring) (v pre post preset : ℕ) → IsCourse measure s k
+    → (node s v).work ≡ Watches pre post preset → pre ≤ 4096
 few-before s k measure zero pre post preset i is = absurd (cc)
-few-before s k measure (suc c) pre post preset i is = rules-within k.rules.nodes c pre post preset i.ruled.works (ap (λ ns. (slice_index_or ns c no_node).work) i.ruled.nodes ∙ is)
+few-before s k measure (suc c) pre post preset i is =
+    rules-within k.rules.nodes c pre post preset i.ruled.works (ap (λ ns. (slice_index_or ns c no_node).work) i.ruled.nodes ∙ is)
 
 -- what is kept is no more than its rule says
 pub kept-few : (pre post preset : ℕ) (flags : List Bool) (xs : List FrameName) → length (kept pre post preset flags xs) ≤ pre
@@ -86,7 +89,8 @@ pub record WindowAt (s : Setting) (v : ℕ) (P : Past) (w : Watch FrameName) : T
   pub ring : w.ring ≡ ring s v P
   pub few : length w.ring ≤ 4096
 
-pub window-at : (measure : Measuring) (s : Setting) (k : Parts) (v : ℕ) (n : NodeState) → IsCourse measure s k → IsNode measure s v (log_of k) n → watches s v ≡ true → is_settled v (log_of k) ≡ false → WindowAt s v (log_of k) n.window
+pub window-at : (measure : Measuring) (s : Setting) (k : Parts) (v : ℕ) (n : NodeState) → IsCourse measure s k → IsNode measure s v (log_of k) n
+    → watches s v ≡ true → is_settled v (log_of k) ≡ false → WindowAt s v (log_of k) n.window
 window-at measure s k v n i node_is kind running =
     let P = log_of k in
     let r = watch-rule s v kind in
@@ -96,5 +100,7 @@ window-at measure s k v n i node_is kind running =
       rule = w.rule;
       stands = record { after = w.after; items = sym (ring_laws.flags v P); ring = w.ring; pending = is.2 };
       ring = w.ring ∙ sym (ring_laws.kept_is s v P n.window.pre n.window.post n.window.preset w.rule running);
-      few = omega (arith, ap length w.ring, kept-few n.window.pre n.window.post n.window.preset (firings v P) (puts v P), few-before s k measure v n.window.pre n.window.post n.window.preset i w.rule);
+      few =
+          omega (arith, ap length w.ring, kept-few n.window.pre n.window.post n.window.preset (firings v P) (puts v P),
+          few-before s k measure v n.window.pre n.window.post n.window.preset i w.rule);
     }

@@ -42,7 +42,8 @@ pub record HasRing (s : Setting) (v : ℕ) (P : Past) (w : Watch FrameName) : Ty
   pub pending : w.pending ≡ []
   pub few : length w.ring ≤ 4096
 
-pub has-ring : (measure : Measuring) (s : Setting) (k : Parts) (v : ℕ) (n : NodeState) → IsCourse measure s k → is_node s v ≡ true → slice_get k.nodes (v - 1) ≡ Some n → watches s v ≡ true → is_settled v (log_of k) ≡ false → HasRing s v (log_of k) n.window
+pub has-ring : (measure : Measuring) (s : Setting) (k : Parts) (v : ℕ) (n : NodeState) → IsCourse measure s k → is_node s v ≡ true
+    → slice_get k.nodes (v - 1) ≡ Some n → watches s v ≡ true → is_settled v (log_of k) ≡ false → HasRing s v (log_of k) n.window
 has-ring measure s k v n i here at kind unsettled =
     let w = window-at measure s k v n i (node-is measure s k v n i here at) kind unsettled in
     record { same = w.ring; pending = w.stands.pending; few = w.few }
@@ -61,7 +62,8 @@ no-ring (Passes d) false flags xs h = refl
 no-ring (Watches pre post preset) false flags xs h = absurd (true≢false h)
 no-ring (Saves whole n) false flags xs h = refl
 
-here-settle : (measure : Measuring) (s : Setting) (r v : ℕ) (P : Past) (n : NodeState) → IsNode measure s v P n → is_legal s (Settle r v ∷ P) ≡ true → watches s v ≡ false
+here-settle : (measure : Measuring) (s : Setting) (r v : ℕ) (P : Past) (n : NodeState) → IsNode measure s v P n
+    → is_legal s (Settle r v ∷ P) ≡ true → watches s v ≡ false
     → IsNode measure s v (Settle r v ∷ P) (record n { settled = true })
 here-settle measure s r v P n i legal kind =
     let e = Settle r v in
@@ -86,8 +88,10 @@ here-settle measure s r v P n i legal kind =
       measures_room = i.measures_room;
     }
 
-settled_here : (measure : Measuring) (s : Setting) (k : Parts) (r c : ℕ) (n : NodeState) → IsCourse measure s k → is_legal s (Settle r (suc c) ∷ log_of k) ≡ true → slice_get k.nodes c ≡ Some n → k.transit ≡ [] → watches s (suc c) ≡ false
-    → IsCourse measure s (record k { log = record k.log { told = plain (Settle r (suc c)) ∷ k.log.told }; nodes = set k.nodes c (record n { settled = true }); transit = [] })
+settled_here : (measure : Measuring) (s : Setting) (k : Parts) (r c : ℕ) (n : NodeState) → IsCourse measure s k
+    → is_legal s (Settle r (suc c) ∷ log_of k) ≡ true → slice_get k.nodes c ≡ Some n → k.transit ≡ [] → watches s (suc c) ≡ false
+    → IsCourse measure s
+    (record k { log = record k.log { told = plain (Settle r (suc c)) ∷ k.log.told }; nodes = set k.nodes c (record n { settled = true }); transit = [] })
 settled_here measure s k r c n i legal here empty kind =
     let P = log_of k in
     let e = Settle r (suc c) in
@@ -95,9 +99,13 @@ settled_here measure s k r c n i legal here empty kind =
     record {
       ruled = i.ruled;
       legal = legal;
-      nodes = nodes-set measure s P (e ∷ P) k.nodes c _ i.nodes (here-settle measure s r (suc c) P n (i.nodes.each c n here) legal kind) (λ v ne. same-settle s (suc v) r (suc c) P legal (apart-more ne));
+      nodes =
+          nodes-set measure s P (e ∷ P) k.nodes c _ i.nodes (here-settle measure s r (suc c) P n (i.nodes.each c n here) legal kind)
+          (λ v ne. same-settle s (suc v) r (suc c) P legal (apart-more ne));
       roles = roles-kept s P _ k.roles i.roles (λ r. refl);
-      account = subst (λ (xs : List FrameName). IsAccount s (e ∷ P) (flat_map (block_of P) xs ++ []) (all_named k.pool)) none (array_laws.settle s P r (suc c) (all_named k.pool) [] legal (still-account measure s k i empty));
+      account =
+          subst (λ (xs : List FrameName). IsAccount s (e ∷ P) (flat_map (block_of P) xs ++ []) (all_named k.pool)) none
+          (array_laws.settle s P r (suc c) (all_named k.pool) [] legal (still-account measure s k i empty));
       standing = All-nil (HasBlock P);
       blocks = blocks-kept s P _ k.blocks i.blocks (λ a. refl);
       facts = i.facts ∙ sym (facts-settle s r (suc c) P legal);
@@ -107,10 +115,14 @@ settled_here measure s k r c n i legal here empty kind =
       transit_room = i.transit_room;
     }
 
-pub settled_plain : (measure : Measuring) (s : Setting) (k : Parts) (v r c : ℕ) (n : NodeState) → suc c ≡ v → IsCourse measure s k → is_legal s (Settle r v ∷ log_of k) ≡ true → slice_get k.nodes c ≡ Some n → k.transit ≡ [] → watches s v ≡ false
-    → IsCourse measure s (record k { log = record k.log { told = plain (Settle r v) ∷ k.log.told }; nodes = set k.nodes c (record n { settled = true }); transit = [] })
+pub settled_plain : (measure : Measuring) (s : Setting) (k : Parts) (v r c : ℕ) (n : NodeState) → suc c ≡ v → IsCourse measure s k
+    → is_legal s (Settle r v ∷ log_of k) ≡ true → slice_get k.nodes c ≡ Some n → k.transit ≡ [] → watches s v ≡ false
+    → IsCourse measure s
+    (record k { log = record k.log { told = plain (Settle r v) ∷ k.log.told }; nodes = set k.nodes c (record n { settled = true }); transit = [] })
 settled_plain measure s k v r c n is i =
-    subst (λ u. is_legal s (Settle r u ∷ log_of k) ≡ true → slice_get k.nodes c ≡ Some n → k.transit ≡ [] → watches s u ≡ false → IsCourse measure s (record k { log = record k.log { told = plain (Settle r u) ∷ k.log.told }; nodes = set k.nodes c (record n { settled = true }); transit = [] })) is (settled_here measure s k r c n i)
+    subst (λ u. is_legal s (Settle r u ∷ log_of k) ≡ true → slice_get k.nodes c ≡ Some n → k.transit ≡ [] → watches s u ≡ false → IsCourse measure s
+    (record k { log = record k.log { told = plain (Settle r u) ∷ k.log.told }; nodes = set k.nodes c (record n { settled = true }); transit = [] })) is
+    (settled_here measure s k r c n i)
 
 -- what a node does, as code reads it
 pub not-watching : (w : NodeWork) → ((pre post preset : ℕ) → w ≡ work.Watches pre post preset → ⊥) → is_watching (as_work w) ≡ false

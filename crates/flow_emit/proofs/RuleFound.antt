@@ -13,7 +13,8 @@ pub rule-found : (s : Setting) (ru : Rules) (v : ℕ) (n : NodeRules) → AreRul
 rule-found s ru v n are h is =
     let p = place-of s v h in
     let lt : v - 1 < length ru.nodes = omega (arith, p.1, ap length are.nodes, length-map ru.nodes as_node) in
-    subst (λ u. as_node n ≡ node s u) p.0 (ap as_node is ∙ (sym (get_or-map as_node ru.nodes (v - 1) n no_node lt) ∙ ap (λ (ns : List Node). get_or ns (v - 1) no_node) are.nodes))
+    subst (λ u. as_node n ≡ node s u) p.0
+    (ap as_node is ∙ (sym (get_or-map as_node ru.nodes (v - 1) n no_node lt) ∙ ap (λ (ns : List Node). get_or ns (v - 1) no_node) are.nodes))
 
 -- only one kind makes arrays
 pub no-makes : (w : NodeWork) → (w ≡ work.Makes → ⊥) → makes (as_work w) ≡ false

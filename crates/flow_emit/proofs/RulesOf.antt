@@ -36,13 +36,15 @@ use Rattle.flow_emit.specs.RunRules.{AreRules, AreNodeRules, IsRule, IsWithin, I
 
 -- MAKERS
 -- one maker further
-pub need-step : (ms : List Maker) (i m : ℕ) (x : Maker) → i < length ms → x ≡ get_or ms i x → need_among (drop i ms) m ≡ cond (eqb x.node m) x.need (need_among (drop (i + 1) ms) m)
+pub need-step : (ms : List Maker) (i m : ℕ) (x : Maker) → i < length ms → x ≡ get_or ms i x
+    → need_among (drop i ms) m ≡ cond (eqb x.node m) x.need (need_among (drop (i + 1) ms) m)
 need-step ms i m x h is = at_drop_more (λ ks. need_among ks m) ms i x h ∙ ap (λ (k : Maker). need_among (k ∷ drop (i + 1) ms) m) (sym is)
 
 need-found : (ms : List Maker) (m : ℕ) (k : Maker) → find (λ (x : Maker). eqb x.node m) ms ≡ Some k → need_among ms m ≡ k.need
 need-found [] m k h = absurd (cc)
 need-found (x ∷ ms) m k h = split (eqb x.node m) (need-found ms m k) h where
-  split : (b : Bool) → (find (λ (y : Maker). eqb y.node m) ms ≡ Some k → need_among ms m ≡ k.need) → cond b (Some x) (find (λ (y : Maker). eqb y.node m) ms) ≡ Some k → cond b x.need (need_among ms m) ≡ k.need
+  split : (b : Bool) → (find (λ (y : Maker). eqb y.node m) ms ≡ Some k → need_among ms m ≡ k.need)
+      → cond b (Some x) (find (λ (y : Maker). eqb y.node m) ms) ≡ Some k → cond b x.need (need_among ms m) ≡ k.need
   split true later e = let same : x ≡ k = cc in ap (λ (y : Maker). y.need) same
   split false later e = later e
 
@@ -66,7 +68,8 @@ needs-some : (g : Graph) (t : StackValue) (v : ℕ) → IsStack t → IsMaker g.
 needs-some g t v stack maker =
     let made : ℕ → Maker = λ w. maker_of w (shape_at g.nodes t.shape w) in
     let there : find (λ (x : Maker). eqb x.node v) (makers_of g.nodes t.shape) ≡ Some (made v) = found made g.nodes v (λ w. refl) maker in
-    let sound : IsArrayShape (made v).dims = found-all (λ m. IsArrayShape m.dims) (λ (x : Maker). eqb x.node v) (makers_of g.nodes t.shape) (made v) (plans-sound g t stack) there in
+    let sound : IsArrayShape (made v).dims =
+    found-all (λ m. IsArrayShape m.dims) (λ (x : Maker). eqb x.node v) (makers_of g.nodes t.shape) (made v) (plans-sound g t stack) there in
     let some : 1 ≤ sample_count (made v).dims = sample_count-positive (made v).dims (has_dimensions-none_empty (made v).dims sound.dimensions) in
     let bytes : 1 ≤ sample_count (made v).dims * width (made v).kind = one-le-mul some (wide (made v).kind) in
     omega (arith, bytes, need-found (makers_of g.nodes t.shape) v (made v) there)
@@ -86,14 +89,16 @@ unfolding fed
 fed-append m v [] ys = ap (λ u. fed m u ys) (sym (add-zero v))
 fed-append m v (n ∷ xs) ys =
     let e : v + 1 + length xs ≡ v + suc (length xs) = omega arith in
-    in-front (eqb n.input m) v (fed m (v + 1) (xs ++ ys)) (fed m (v + 1) xs) (fed m (v + suc (length xs)) ys) (fed-append m (v + 1) xs ys ∙ ap (λ u. fed m (v + 1) xs ++ fed m u ys) e)
+    in-front (eqb n.input m) v (fed m (v + 1) (xs ++ ys)) (fed m (v + 1) xs) (fed m (v + suc (length xs)) ys)
+    (fed-append m (v + 1) xs ys ∙ ap (λ u. fed m (v + 1) xs ++ fed m u ys) e)
 
 -- a node more
 fed-one : (m v : ℕ) (n : NodeRule) → fed m v (n ∷ []) ≡ cond (eqb n.input m) (v ∷ []) []
 unfolding fed
 fed-one m v n = refl
 
-fed-more : (m i : ℕ) (ns : List NodeRule) (n : NodeRule) → i < length ns → n ≡ get_or ns i n → fed m 1 (take (i + 1) ns) ≡ fed m 1 (take i ns) ++ cond (eqb n.input m) (suc i ∷ []) []
+fed-more : (m i : ℕ) (ns : List NodeRule) (n : NodeRule) → i < length ns → n ≡ get_or ns i n
+    → fed m 1 (take (i + 1) ns) ≡ fed m 1 (take i ns) ++ cond (eqb n.input m) (suc i ∷ []) []
 fed-more m i ns n h is =
     ap (fed m 1) (take_more ns i n h)
     ∙ fed-append m 1 (take i ns) (get_or ns i n ∷ [])
@@ -101,11 +106,14 @@ fed-more m i ns n h is =
     ∙ ap (λ (x : NodeRule). fed m 1 (take i ns) ++ fed m (suc i) (x ∷ [])) (sym is)
     ∙ ap (λ us. fed m 1 (take i ns) ++ us) (fed-one m (suc i) n)
 
-pub fed-yes : (m i : ℕ) (ns : List NodeRule) (n : NodeRule) → i < length ns → n ≡ get_or ns i n → n.input ≡ m → fed m 1 (take (i + 1) ns) ≡ fed m 1 (take i ns) ++ (i + 1) ∷ []
+pub fed-yes : (m i : ℕ) (ns : List NodeRule) (n : NodeRule) → i < length ns → n ≡ get_or ns i n → n.input ≡ m
+    → fed m 1 (take (i + 1) ns) ≡ fed m 1 (take i ns) ++ (i + 1) ∷ []
 fed-yes m i ns n h is same =
-    fed-more m i ns n h is ∙ ap (λ b. fed m 1 (take i ns) ++ cond b (suc i ∷ []) []) (eq-eqb n.input m same) ∙ ap (λ j. fed m 1 (take i ns) ++ j ∷ []) (omega arith)
+    fed-more m i ns n h is ∙ ap (λ b. fed m 1 (take i ns) ++ cond b (suc i ∷ []) []) (eq-eqb n.input m same)
+    ∙ ap (λ j. fed m 1 (take i ns) ++ j ∷ []) (omega arith)
 
-pub fed-no : (m i : ℕ) (ns : List NodeRule) (n : NodeRule) → i < length ns → n ≡ get_or ns i n → (n.input ≡ m → ⊥) → fed m 1 (take (i + 1) ns) ≡ fed m 1 (take i ns)
+pub fed-no : (m i : ℕ) (ns : List NodeRule) (n : NodeRule) → i < length ns → n ≡ get_or ns i n → (n.input ≡ m → ⊥)
+    → fed m 1 (take (i + 1) ns) ≡ fed m 1 (take i ns)
 fed-no m i ns n h is other =
     fed-more m i ns n h is ∙ ap (λ b. fed m 1 (take i ns) ++ cond b (suc i ∷ []) []) (ne_eqb n.input m other) ∙ append-nil (fed m 1 (take i ns))
 
@@ -131,7 +139,8 @@ children-fed s m ns are =
     ∙ fed-from s m 1 ns (λ i h. let e : 1 + i ≡ suc i = omega arith in ap (λ u. (node s u).input) e ∙ ap (λ xs. (get_or xs i no_node).input) are)
 
 -- NODES
-pub node-at : (s : Setting) (v : ℕ) (ns : List NodeRule) (n : NodeRule) → s.nodes ≡ map node_of ns → 1 ≤ v → v ≤ length ns → n ≡ get_or ns (v - 1) n → node_of n ≡ node s v
+pub node-at : (s : Setting) (v : ℕ) (ns : List NodeRule) (n : NodeRule) → s.nodes ≡ map node_of ns → 1 ≤ v → v ≤ length ns
+    → n ≡ get_or ns (v - 1) n → node_of n ≡ node s v
 node-at s zero ns n are low high is = absurd (omega (arith, low))
 node-at s (suc i) ns n are low high is =
     let e : suc i - 1 ≡ i = omega arith in
@@ -158,20 +167,24 @@ no_rule = record { work = work.Passes; input = 0; queue = 0; threads = 0; sort =
 rules-nodes : (s : Setting) (ns : List NodeRules) → AreNodeRules s ns → map as_node ns ≡ s.nodes
 rules-nodes s ns are =
     ext_get_or no_node (map as_node ns) s.nodes (length-map ns as_node ∙ are.all)
-    (λ i h. let lt : i < length ns = omega (arith, h, length-map ns as_node) in get_or-map as_node ns i no_rule no_node lt ∙ (rule-at s ns i no_rule are lt).node)
+    (λ i h. let lt : i < length ns = omega (arith, h, length-map ns as_node) in
+    get_or-map as_node ns i no_rule no_node lt ∙ (rule-at s ns i no_rule are lt).node)
 
-pub need-at : (r : Rules) (v : ℕ) (n : NodeRules) (ns : List NodeRules) → ns ≡ r.nodes → (v ≡ 0 → ⊥) → v - 1 < length ns → n ≡ get_or ns (v - 1) n → n.need ≡ need_of r v
+pub need-at : (r : Rules) (v : ℕ) (n : NodeRules) (ns : List NodeRules) → ns ≡ r.nodes → (v ≡ 0 → ⊥) → v - 1 < length ns
+    → n ≡ get_or ns (v - 1) n → n.need ≡ need_of r v
 need-at r zero n ns are some h is = absurd (some refl)
 need-at r (suc i) n ns are some h is =
     let e : suc i - 1 ≡ i = omega arith in
-    ap (λ (x : NodeRules). x.need) (is ∙ ap (λ j. get_or ns j n) e) ∙ sym (get_or-map (λ (x : NodeRules). x.need) ns i n 0 (omega (arith, h))) ∙ ap (λ (xs : List NodeRules). get_or (map (λ (x : NodeRules). x.need) xs) i 0) are
+    ap (λ (x : NodeRules). x.need) (is ∙ ap (λ j. get_or ns j n) e) ∙ sym (get_or-map (λ (x : NodeRules). x.need) ns i n 0 (omega (arith, h)))
+    ∙ ap (λ (xs : List NodeRules). get_or (map (λ (x : NodeRules). x.need) xs) i 0) are
 
 pub children-at : (r : Rules) (v : ℕ) (n : NodeRules) → (v ≡ 0 → ⊥) → slice_get r.nodes (v - 1) ≡ Some n → n.children ≡ children_of r v
 children-at r zero n some h = absurd (some refl)
 children-at r (suc i) n some h =
     let e : suc i - 1 ≡ i = omega arith in
     let there : slice_get r.nodes i ≡ Some n = ap (slice_get r.nodes) (sym e) ∙ h in
-    ap (λ (x : NodeRules). x.children) (sym (get_or_from_slice_get r.nodes i n n there)) ∙ sym (get_or-map (λ (x : NodeRules). x.children) r.nodes i n [] (slice_get_within r.nodes i n there))
+    ap (λ (x : NodeRules). x.children) (sym (get_or_from_slice_get r.nodes i n n there))
+    ∙ sym (get_or-map (λ (x : NodeRules). x.children) r.nodes i n [] (slice_get_within r.nodes i n there))
 
 -- the rules of so many nodes, the first ones
 pub record RulesUpTo (s : Setting) (k : ℕ) (ns : List NodeRules) : Type 0 where
@@ -182,7 +195,8 @@ pub rules-none : (s : Setting) (ns : List NodeRules) → ns ≡ [] → RulesUpTo
 rules-none s [] e = record { all = refl; each = λ i n h. absurd (cc) }
 rules-none s (x ∷ ns) e = absurd (cc)
 
-pub rules-more : (s : Setting) (k : ℕ) (ns ms : List NodeRules) (n : NodeRules) → RulesUpTo s k ns → ms ≡ ns ++ n ∷ [] → IsRule s (k + 1) n → RulesUpTo s (k + 1) ms
+pub rules-more : (s : Setting) (k : ℕ) (ns ms : List NodeRules) (n : NodeRules) → RulesUpTo s k ns → ms ≡ ns ++ n ∷ []
+    → IsRule s (k + 1) n → RulesUpTo s (k + 1) ms
 rules-more s k ns ms n old are new =
     record {
       all = ap length are ∙ length-append ns (n ∷ []) ∙ ap (λ j. j + 1) old.all;
@@ -240,11 +254,13 @@ source-within ns (suc i) h = at-place (cases_lt i (length ns)) where
   at-place (inr le) = absurd (false≢true (ap (λ o. option_map_or (λ (n : NodeRule). may_feed n.kind) o false) (sym (slice_get_past ns i le)) ∙ h))
 
 -- a rule of the setting is that of the graph's node
-as-rule : (g : Graph) (t : StackValue) (ns : List NodeRules) (i : ℕ) (d : NodeRules) (n : NodeRule) → AreNodeRules (run_setting g t) ns → i < length ns → as_node (get_or ns i d) ≡ node_of (get_or g.nodes i n)
+as-rule : (g : Graph) (t : StackValue) (ns : List NodeRules) (i : ℕ) (d : NodeRules) (n : NodeRule) → AreNodeRules (run_setting g t) ns → i < length ns
+    → as_node (get_or ns i d) ≡ node_of (get_or g.nodes i n)
 as-rule g t ns i d n are lt =
     (rule-at (run_setting g t) ns i d are lt).node ∙ get_or-map node_of g.nodes i n no_node (omega (arith, lt, are.all, length-map g.nodes node_of))
 
-within-as : (g : Graph) (x : NodeRules) (n : NodeRule) (k : ℕ) → k ≡ length g.nodes → as_node x ≡ node_of n → IsNode n → IsTrue (is_source g.nodes n.input) → IsWithin k x
+within-as : (g : Graph) (x : NodeRules) (n : NodeRule) (k : ℕ) → k ≡ length g.nodes → as_node x ≡ node_of n → IsNode n
+    → IsTrue (is_source g.nodes n.input) → IsWithin k x
 within-as g x n k many e is fed-by = (
   omega (arith, many, ap (λ (y : Node). y.input) e, source-within g.nodes n.input fed-by),
   omega (arith, ap (λ (y : Node). y.queue) e, is.queue.0),
@@ -276,10 +292,14 @@ is_maker-region g t (suc i) (inr maker) = at-node (cases_lt i (length g.nodes)) 
       inr
       (ap (λ o. option_map_or (λ (m : NodeRule). makes_arrays m.kind) o false) (slice_get-get_or g.nodes i no_node_rule lt) ∙ sym (region-kind n.kind)
       ∙ ap (λ (m : Node). makes m.work) (sym (get_or-map node_of g.nodes i no_node_rule no_node lt)) ∙ maker)
-  at-node (inr le) = absurd (false≢true (ap (λ (n : Node). makes n.work) (sym (get_or_past (map node_of g.nodes) i no_node (omega (arith, le, length-map g.nodes node_of)))) ∙ maker))
+  at-node (inr le) =
+      absurd (false≢true (ap (λ (n : Node). makes n.work) (sym (get_or_past (map node_of g.nodes) i no_node (omega (arith, le, length-map g.nodes node_of))))
+      ∙ maker))
 
-pub are_rules : (g : Graph) (t : StackValue) (r : Rules) → IsGraph g → IsStack t → r.wait ≡ g.wait → r.limit ≡ g.limit → r.ids ≡ map (λ (a : Array). a.id) t.arrays
-    → r.need ≡ need_among (makers_of g.nodes t.shape) 0 → r.children ≡ children (run_setting g t) 0 → AreNodeRules (run_setting g t) r.nodes → AreRules r (run_setting g t)
+pub are_rules : (g : Graph) (t : StackValue) (r : Rules) → IsGraph g → IsStack t → r.wait ≡ g.wait → r.limit ≡ g.limit
+    → r.ids ≡ map (λ (a : Array). a.id) t.arrays
+    → r.need ≡ need_among (makers_of g.nodes t.shape) 0 → r.children ≡ children (run_setting g t) 0
+    → AreNodeRules (run_setting g t) r.nodes → AreRules r (run_setting g t)
 are_rules g t r graph stack wait limit ids need kids are =
     let many : length r.nodes ≡ length g.nodes = are.all ∙ length-map g.nodes node_of in
     record {

@@ -66,9 +66,11 @@ last-is s ru are = ap (λ k. k + 1) (sym (threads-map ru.nodes) ∙ ap (λ ns. s
 pub few-threads : (s : Setting) (ru : Rules) → AreRules ru s → sum_by (λ (n : NodeRules). n.threads) ru.nodes ≤ 64
 few-threads s ru are = omega (arith, last-is s ru are, are.few_threads)
 
-pub course-none : (measure : Measuring) (s : Setting) (ru : Rules) (ns : List NodeState) (rs : List RoleState) (bs : List ℕ) (last : ℕ) → AreRules ru s → AreNodes measure s [] ns → last ≡ sum_by (λ (n : NodeRules). n.threads) ru.nodes + 1
+pub course-none : (measure : Measuring) (s : Setting) (ru : Rules) (ns : List NodeState) (rs : List RoleState) (bs : List ℕ) (last : ℕ) → AreRules ru s
+    → AreNodes measure s [] ns → last ≡ sum_by (λ (n : NodeRules). n.threads) ru.nodes + 1
     → rs ≡ replicate (last + 1) free_role → bs ≡ replicate ((length ru.nodes + 1) * length ru.ids) 0
-    → IsCourse measure s (record { log = empty_log (most_entries s) last; rules = ru; nodes = ns; roles = rs; pool = empty_ledger ru.limit 0; blocks = bs; facts = facts_of []; transit = []; room = 4097 })
+    → IsCourse measure s (record { log = empty_log (most_entries s) last; rules = ru; nodes = ns; roles = rs; pool = empty_ledger ru.limit 0; blocks = bs;
+    facts = facts_of []; transit = []; room = 4097 })
 course-none measure s ru ns rs bs last ruled nodes is roles blocks =
     let l : last ≡ last_role s = is ∙ last-is s ru ruled in
     let many : length ru.nodes ≡ length s.nodes = sym (length-map ru.nodes as_node) ∙ ap length ruled.nodes in
@@ -79,7 +81,9 @@ course-none measure s ru ns rs bs last ruled nodes is roles blocks =
       roles = roles-none s rs (last + 1) roles (ap (λ k. k + 1) l);
       account = subst (λ n. IsAccount s [] [] (all_named (empty_ledger n 0))) (sym ruled.limit) (hold_laws.start s 0);
       standing = All-nil (HasBlock []);
-      blocks = blocks-none s bs ((length ru.nodes + 1) * length ru.ids) blocks (ap (λ n. (n + 1) * length ru.ids) many ∙ ap (λ (is_ : List ℤ). (length s.nodes + 1) * length is_) ruled.ids);
+      blocks =
+          blocks-none s bs ((length ru.nodes + 1) * length ru.ids) blocks
+          (ap (λ n. (n + 1) * length ru.ids) many ∙ ap (λ (is_ : List ℤ). (length s.nodes + 1) * length is_) ruled.ids);
       facts = refl;
       log_room = refl;
       reclaims = omega (arith, l);

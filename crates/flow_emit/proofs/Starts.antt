@@ -40,12 +40,14 @@ kind-measures (Circular r) o m h = absurd (cc)
 kind-measures (File r) o m h = absurd (cc)
 kind-measures Scatter o m h = absurd (cc)
 
-rule-measures : (ns : List NodeRule) (i : ℕ) (o : Option Array) (m : Measure) → rule_measure (slice_get ns i) o ≡ Some m → may_measure (slice_index_or (map node_of ns) i no_node).work ≡ true
+rule-measures : (ns : List NodeRule) (i : ℕ) (o : Option Array) (m : Measure) → rule_measure (slice_get ns i) o ≡ Some m
+    → may_measure (slice_index_or (map node_of ns) i no_node).work ≡ true
 rule-measures [] i o m h = absurd (cc)
 rule-measures (n ∷ ns) zero o m h = kind-measures n.kind o m h
 rule-measures (n ∷ ns) (suc i) o m h = rule-measures ns i o m h
 
-pub run-measures : (g : Graph) (t : StackValue) (v : ℕ) (a : FrameName) (m : Measure) → run_measure g t v a ≡ Some m → may_measure (node (run_setting g t) v).work ≡ true
+pub run-measures : (g : Graph) (t : StackValue) (v : ℕ) (a : FrameName) (m : Measure) → run_measure g t v a ≡ Some m
+    → may_measure (node (run_setting g t) v).work ≡ true
 run-measures g t zero a m h = absurd (cc)
 run-measures g t (suc i) a m h = rule-measures g.nodes i (content g.nodes t.arrays a) m h
 
@@ -55,7 +57,8 @@ none-unsaved false = refl
 
 -- a node whose parts are all empty
 pub fresh-node : (measure : Measuring) (s : Setting) (v : ℕ) (r : NodeRules) (frames : ℕ) (first : ℤ) (n : NodeState) → Starts measure s v r frames first
-    → n.inbox ≡ record { size = r.queue; extra = r.threads; items = [] } → n.list ≡ record { size = r.sort; last = first -ℤ pos 1; disordered = 0; waiting = [] }
+    → n.inbox ≡ record { size = r.queue; extra = r.threads; items = [] }
+    → n.list ≡ record { size = r.sort; last = first -ℤ pos 1; disordered = 0; waiting = [] }
     → IsRing s v [] (node s v).work n.window → n.unsaved.items ≡ [] → n.measures.items ≡ []
     → deque_capacity n.unsaved ≡ cond (is_file (as_work r.work)) frames 0 → vec_capacity n.measures ≡ cond (may_measure (as_work r.work)) frames 0
     → n.jobs ≡ 0 → n.settled ≡ false → n.puts ≡ 0 → n.saves ≡ 0 → n.saving ≡ false → n.turn ≡ 0 → IsNode measure s v [] n
@@ -78,7 +81,8 @@ fresh-node measure s v r frames first n i inbox list ring unsaved measures to_sa
       next_child = λ d some. turn ∙ sym (zero-mod (length (children s v)));
       measures = measures;
       unsaved_room = λ f. omega (arith, i.as_many, to_save, ap (λ b. cond b frames 0) (ap (λ (y : Node). is_file y.work) i.ruled ∙ f));
-      measures_room = λ a m h. omega (arith, i.as_many, to_measure, ap (λ b. cond b frames 0) (ap (λ (y : Node). may_measure y.work) i.ruled ∙ i.measured a m h));
+      measures_room =
+          λ a m h. omega (arith, i.as_many, to_measure, ap (λ b. cond b frames 0) (ap (λ (y : Node). may_measure y.work) i.ruled ∙ i.measured a m h));
     }
 
 -- the first nodes of a run, so many of them
@@ -90,15 +94,19 @@ pub nodes-none : (measure : Measuring) (s : Setting) (ns : List NodeState) → n
 nodes-none measure s [] e = record { all = refl; each = λ i n h. absurd (cc) }
 nodes-none measure s (x ∷ ns) e = absurd (cc)
 
-pub nodes-more : (measure : Measuring) (s : Setting) (k : ℕ) (ns ms : List NodeState) (n : NodeState) → NodesUpTo measure s k ns → ms ≡ ns ++ n ∷ [] → IsNode measure s (k + 1) [] n → NodesUpTo measure s (k + 1) ms
+pub nodes-more : (measure : Measuring) (s : Setting) (k : ℕ) (ns ms : List NodeState) (n : NodeState) → NodesUpTo measure s k ns → ms ≡ ns ++ n ∷ []
+    → IsNode measure s (k + 1) [] n → NodesUpTo measure s (k + 1) ms
 nodes-more measure s k ns ms n old are new =
     record {
       all = ap length are ∙ length-append ns (n ∷ []) ∙ ap (λ j. j + 1) old.all;
-      each = λ i y h. push-each (λ j x. IsNode measure s j [] x) ns n old.each (subst (λ j. IsNode measure s (j + 1) [] n) (sym old.all) new) i y (ap (λ xs. slice_get xs i) (sym are) ∙ h);
+      each =
+          λ i y h. push-each (λ j x. IsNode measure s j [] x) ns n old.each (subst (λ j. IsNode measure s (j + 1) [] n) (sym old.all) new) i y
+          (ap (λ xs. slice_get xs i) (sym are) ∙ h);
     }
 
 -- a node of a run, by its rules
-pub run-starts : (g : Graph) (t : StackValue) (r : Rules) (i : ℕ) (n : NodeRules) (frames : ℕ) (first : ℤ) → AreRules r (run_setting g t) → i < length r.nodes → n ≡ get_or r.nodes i n → frames ≡ length r.ids → first -ℤ pos 1 ≡ first_prev r.ids
+pub run-starts : (g : Graph) (t : StackValue) (r : Rules) (i : ℕ) (n : NodeRules) (frames : ℕ) (first : ℤ) → AreRules r (run_setting g t) → i < length r.nodes
+    → n ≡ get_or r.nodes i n → frames ≡ length r.ids → first -ℤ pos 1 ≡ first_prev r.ids
     → Starts (run_measure g t) (run_setting g t) (i + 1) n frames first
 run-starts g t r i n frames first are h is many before =
     record {
@@ -111,7 +119,8 @@ run-starts g t r i n frames first are h is many before =
     }
 
 -- a rule at its place is within its bounds
-pub item-within : (r : Rules) (s : Setting) (i : ℕ) (n : NodeRules) (ns : List NodeRules) → AreRules r s → i < length ns → ns ≡ r.nodes → n ≡ get_or ns i n → IsWithin (length r.nodes) n × IsWorkWithin n.work
+pub item-within : (r : Rules) (s : Setting) (i : ℕ) (n : NodeRules) (ns : List NodeRules) → AreRules r s → i < length ns → ns ≡ r.nodes → n ≡ get_or ns i n
+    → IsWithin (length r.nodes) n × IsWorkWithin n.work
 item-within r s i n ns are h same is =
     let there : get_or r.nodes i n ≡ n = ap (λ xs. get_or xs i n) (sym same) ∙ sym is in
     let lt : i < length r.nodes = omega (arith, h, ap length same) in

@@ -36,9 +36,11 @@ is_out_of v _ = false
 
 goes-of : (s : Setting) (v : ℕ) (before : ℤ) (t : ℕ) (ws : List Waiting) → list_all (is_out_of v) (goes_out s v before t ws) ≡ true
 goes-of s v before t [] = refl
-goes-of s v before t (w ∷ ws) = split (keeps_step before (id_at s w.array.index)) (ltb (w.tick + (node s v).sort_time) t) (goes-of s v (id_at s w.array.index) t ws) where
+goes-of s v before t (w ∷ ws) =
+    split (keeps_step before (id_at s w.array.index)) (ltb (w.tick + (node s v).sort_time) t) (goes-of s v (id_at s w.array.index) t ws) where
   split : (a b : Bool) → list_all (is_out_of v) (goes_out s v (id_at s w.array.index) t ws) ≡ true
-      → list_all (is_out_of v) (if a then emit v Step w.array ∷ goes_out s v (id_at s w.array.index) t ws else if b then emit v Late w.array ∷ goes_out s v (id_at s w.array.index) t ws else []) ≡ true
+      → list_all (is_out_of v) (if a then emit v Step w.array ∷ goes_out s v (id_at s w.array.index) t ws
+      else if b then emit v Late w.array ∷ goes_out s v (id_at s w.array.index) t ws else []) ≡ true
   split true b more = and_from _ _ (eq-eqb v v refl) more
   split false true more = and_from _ _ (eq-eqb v v refl) more
   split false false more = refl
@@ -70,7 +72,8 @@ emit-elsewhere s u w m k why P ne =
     ∙ ap (λ (ws : List Waiting). goes_out s u (prev s u P) (now P) (least_first s ws)) (put_laws.goes_elsewhere s u w m k why P ne)
 
 -- what goes out of a node leaves it as it was
-pub look-elsewhere : (s : Setting) (u v : ℕ) (ds : List Entry) (b : BoardState) → list_all (is_out_of v) ds ≡ true → v ≢ u → look s u (past (with_all s 0 2 ds b)) ≡ look s u (past b)
+pub look-elsewhere : (s : Setting) (u v : ℕ) (ds : List Entry) (b : BoardState) → list_all (is_out_of v) ds ≡ true → v ≢ u
+    → look s u (past (with_all s 0 2 ds b)) ≡ look s u (past b)
 look-elsewhere s u v [] b h ne = refl
 look-elsewhere s u v (Emit w m k why ∷ ds) b h ne =
     let p = and_parts (eqb w v) (list_all (is_out_of v) ds) h in
@@ -83,11 +86,13 @@ look-elsewhere s u v (Emit w m k why ∷ ds) b h ne =
 look-elsewhere s u v (_ ∷ ds) b h ne = absurd (false≢true h)
 
 -- and so the looks at all nodes behind it
-looks-elsewhere : (s : Setting) (v : ℕ) (ds : List Entry) (b : BoardState) (us : List ℕ) → list_all (is_out_of v) ds ≡ true → All (λ u. v < u) us → looks s (past (with_all s 0 2 ds b)) us ≡ looks s (past b) us
+looks-elsewhere : (s : Setting) (v : ℕ) (ds : List Entry) (b : BoardState) (us : List ℕ) → list_all (is_out_of v) ds ≡ true → All (λ u. v < u) us
+    → looks s (past (with_all s 0 2 ds b)) us ≡ looks s (past b) us
 looks-elsewhere s v ds b [] h behind = refl
 looks-elsewhere s v ds b (u ∷ us) h behind =
     let lt : v < u = All-head (λ w. v < w) u us behind in
-    ap (λ (xs : List Entry). (if is_sorted s u then xs else []) ++ looks s (past (with_all s 0 2 ds b)) us) (look-elsewhere s u v ds b h (λ e. absurd (omega (arith, lt, e))))
+    ap (λ (xs : List Entry). (if is_sorted s u then xs else []) ++ looks s (past (with_all s 0 2 ds b)) us)
+    (look-elsewhere s u v ds b h (λ e. absurd (omega (arith, lt, e))))
     ∙ ap (λ (ys : List Entry). (if is_sorted s u then look s u (past b) else []) ++ ys) (looks-elsewhere s v ds b us h (All-tail (λ w. v < w) u us behind))
 
 -- NUMBERS
@@ -111,7 +116,8 @@ next-number s i lt =
     ∙ ap (λ (us : List ℕ). (i + 1) ∷ us) (ap (λ j. numbers_from j (drop (i + 1) s.nodes)) (omega arith) ∙ sym (numbers-drop (i + 1) 1 s.nodes))))
 
 later-numbers : (s : Setting) (i : ℕ) → All (λ u. i + 1 < u) (drop (i + 1) (node_numbers s))
-later-numbers s i = subst (All (λ u. i + 1 < u)) (sym (numbers-drop (i + 1) 1 s.nodes)) (numbers-behind (i + 1) (1 + (i + 1)) (drop (i + 1) s.nodes) (omega arith))
+later-numbers s i =
+    subst (All (λ u. i + 1 < u)) (sym (numbers-drop (i + 1) 1 s.nodes)) (numbers-behind (i + 1) (1 + (i + 1)) (drop (i + 1) s.nodes) (omega arith))
 
 pub place-node : (s : Setting) (i : ℕ) → i < length s.nodes → is_node s (i + 1) ≡ true
 place-node s i lt = and_from _ _ (lt-ltb 0 (i + 1) (omega arith)) (le-leb (i + 1) (length s.nodes) (omega (arith, lt)))
@@ -119,14 +125,17 @@ place-node s i lt = and_from _ _ (lt-ltb 0 (i + 1) (omega arith)) (le-leb (i + 1
 -- ONE LOOK AFTER THE OTHER
 -- the look at the node at this place comes first
 looked-first : (s : Setting) (i : ℕ) (old new : Coursed) → i < length s.nodes → is_sorted s (i + 1) ≡ true → LooksMade s i old new
-    → with_all s 0 2 (looks s (past new.told) (drop (i + 1) (node_numbers s))) (with_all s 0 2 (look s (i + 1) (past new.told)) new.told) ≡ all_looked s old.told
+    → with_all s 0 2 (looks s (past new.told) (drop (i + 1) (node_numbers s))) (with_all s 0 2 (look s (i + 1) (past new.told)) new.told)
+    ≡ all_looked s old.told
 looked-first s i old new lt sorted m =
     let P : Past = past new.told in
     let more : List Entry = looks s P (drop (i + 1) (node_numbers s)) in
-    let here : looks s P (drop i (node_numbers s)) ≡ look s (i + 1) P ++ more = ap (looks s P) (next-number s i lt) ∙ ap (λ (b : Bool). (if b then look s (i + 1) P else []) ++ more) sorted in
+    let here : looks s P (drop i (node_numbers s)) ≡ look s (i + 1) P ++ more =
+    ap (looks s P) (next-number s i lt) ∙ ap (λ (b : Bool). (if b then look s (i + 1) P else []) ++ more) sorted in
     sym (outs-append s (look s (i + 1) P) more new.told) ∙ (ap (λ (ds : List Entry). with_all s 0 2 ds new.told) (sym here) ∙ m.rest)
 
-pub look-legal : (s : Setting) (i : ℕ) (old new : Coursed) → i < length s.nodes → is_sorted s (i + 1) ≡ true → LooksMade s i old new → is_legal s (past (all_looked s old.told)) ≡ true
+pub look-legal : (s : Setting) (i : ℕ) (old new : Coursed) → i < length s.nodes → is_sorted s (i + 1) ≡ true → LooksMade s i old new
+    → is_legal s (past (all_looked s old.told)) ≡ true
     → is_legal s (past (with_all s 0 2 (look s (i + 1) (past new.told)) new.told)) ≡ true
 look-legal s i old new lt sorted m legal =
     legal-before s 0 2 (looks s (past new.told) (drop (i + 1) (node_numbers s))) (with_all s 0 2 (look s (i + 1) (past new.told)) new.told)
@@ -137,20 +146,26 @@ pub looked : (s : Setting) (i : ℕ) (old new : Coursed) → i < length s.nodes 
 looked s i old new lt sorted m =
     let ds : List Entry = look s (i + 1) (past new.told) in
     record {
-      rest = ap (λ (es : List Entry). with_all s 0 2 es (with_all s 0 2 ds new.told)) (looks-elsewhere s (i + 1) ds new.told (drop (i + 1) (node_numbers s)) (look-of s (i + 1) (past new.told)) (later-numbers s i)) ∙ looked-first s i old new lt sorted m;
+      rest =
+          ap (λ (es : List Entry). with_all s 0 2 es (with_all s 0 2 ds new.told))
+          (looks-elsewhere s (i + 1) ds new.told (drop (i + 1) (node_numbers s)) (look-of s (i + 1) (past new.told)) (later-numbers s i))
+          ∙ looked-first s i old new lt sorted m;
       still = m.still;
     }
 
 -- a node without a sort list is passed over
-pub passed-over : (s : Setting) (i : ℕ) (old new : Coursed) → i < length s.nodes → is_sorted s (i + 1) ≡ false → LooksMade s i old new → LooksMade s (i + 1) old new
+pub passed-over : (s : Setting) (i : ℕ) (old new : Coursed) → i < length s.nodes → is_sorted s (i + 1) ≡ false
+    → LooksMade s i old new → LooksMade s (i + 1) old new
 passed-over s i old new lt unsorted m =
     let P : Past = past new.told in
     let more : List Entry = looks s P (drop (i + 1) (node_numbers s)) in
-    let here : looks s P (drop i (node_numbers s)) ≡ more = ap (looks s P) (next-number s i lt) ∙ ap (λ (b : Bool). (if b then look s (i + 1) P else []) ++ more) unsorted in
+    let here : looks s P (drop i (node_numbers s)) ≡ more =
+    ap (looks s P) (next-number s i lt) ∙ ap (λ (b : Bool). (if b then look s (i + 1) P else []) ++ more) unsorted in
     record { rest = ap (λ (ds : List Entry). with_all s 0 2 ds new.told) (sym here) ∙ m.rest; still = m.still }
 
 -- at the end all were looked at
-pub looked-at-all : (s : Setting) (i : ℕ) (old new : Coursed) → length s.nodes ≤ i → old.transit ≡ [] → LooksMade s i old new → new ≡ record old { told = all_looked s old.told }
+pub looked-at-all : (s : Setting) (i : ℕ) (old new : Coursed) → length s.nodes ≤ i → old.transit ≡ [] → LooksMade s i old new
+    → new ≡ record old { told = all_looked s old.told }
 looked-at-all s i old new le still m =
     let none : drop i (node_numbers s) ≡ [] = numbers-drop i 1 s.nodes ∙ ap (numbers_from (1 + i)) (drop_all i s.nodes le) in
     let told : new.told ≡ all_looked s old.told = sym (ap (λ us. with_all s 0 2 (looks s (past new.told) us) new.told) none) ∙ m.rest in
@@ -162,11 +177,13 @@ abbrev pub kept_tick : ℕ → BoardState → Entry
 kept_tick t b = Tick (max (now (past b)) t)
 
 pub tick-looks : (s : Setting) (t : ℕ) (b : BoardState) → with_all s t 3 (Tick (now (past b)) ∷ []) b ≡ all_looked s (plain (kept_tick t b) ∷ b)
-tick-looks s t b = outs-flat s t 0 (looks s (kept_tick t b ∷ past b) (node_numbers s)) (plain (kept_tick t b) ∷ b) (looks-outs s (kept_tick t b ∷ past b) (node_numbers s))
+tick-looks s t b =
+    outs-flat s t 0 (looks s (kept_tick t b ∷ past b) (node_numbers s)) (plain (kept_tick t b) ∷ b) (looks-outs s (kept_tick t b ∷ past b) (node_numbers s))
 
 -- it is legal where its looks are
 pub tick-legal : (s : Setting) (t : ℕ) (b : BoardState) → is_legal s (past (with_all s t 3 (Tick (now (past b)) ∷ []) b)) ≡ true
     → (is_legal s (kept_tick t b ∷ past b) ≡ true) × (is_legal s (past (all_looked s (plain (kept_tick t b) ∷ b))) ≡ true)
 tick-legal s t b h =
-    let all : is_legal s (past (all_looked s (plain (kept_tick t b) ∷ b))) ≡ true = subst (λ (d : BoardState). is_legal s (past d) ≡ true) (tick-looks s t b) h in
+    let all : is_legal s (past (all_looked s (plain (kept_tick t b) ∷ b))) ≡ true =
+    subst (λ (d : BoardState). is_legal s (past d) ≡ true) (tick-looks s t b) h in
     (legal-before s 0 2 (looks s (kept_tick t b ∷ past b) (node_numbers s)) (plain (kept_tick t b) ∷ b) all, all)

@@ -24,11 +24,13 @@ ComesOut passes ring_out a out Out = (passes ≡ true) × (out ≡ ring_out ++ a
 
 -- One more array was put into a window, and these came out: what it doesn't keep any more. They go out, the ring at a counted trigger
 -- and the newest one where a window has it, or no window can have them.
-pub record IsWatched (flags : List Bool) (names : List FrameName) (fired : Bool) (a : FrameName) (old new : Watch FrameName) (out : List FrameName) (result : Watched) : Type 0 where
+pub record IsWatched (flags : List Bool) (names : List FrameName) (fired : Bool) (a : FrameName) (old new : Watch FrameName)
+    (out : List FrameName) (result : Watched) : Type 0 where
   pub rule : SameRule old new
   pub stands : StandsAt new (flags ++ fired ∷ []) (names ++ a ∷ [])
   pub whole : out ++ new.ring ≡ old.ring ++ a ∷ []
-  pub comes : ComesOut (is_passed old.pre old.post old.preset (flags ++ fired ∷ []) (length flags)) (if is_trigger old.post old.preset (flags ++ fired ∷ []) (length flags) then old.ring else []) a out result
+  pub comes : ComesOut (is_passed old.pre old.post old.preset (flags ++ fired ∷ []) (length flags))
+      (if is_trigger old.post old.preset (flags ++ fired ∷ []) (length flags) then old.ring else []) a out result
 
 -- the last one goes out as the newest, and those before it as the ring
 abbrev pub why_out : (behind : List FrameName) → Why

@@ -28,18 +28,21 @@ follow-whole s P (e ∷ es) g n =
     let p = and_parts (not (is_nothing (owed s P)) && next s P e (owed s P)) (going s (e ∷ P) es) g in
     and_from _ _ p.0 (follow-whole s (e ∷ P) es p.1 n)
 
-move-whole : (s : Setting) (P : Past) (e : Entry) (es : List Entry) → begun s P (e ∷ es) ≡ true → is_nothing (owed s (onto (e ∷ es) P)) ≡ true → is_move s P (e ∷ es) ≡ true
+move-whole : (s : Setting) (P : Past) (e : Entry) (es : List Entry) → begun s P (e ∷ es) ≡ true
+    → is_nothing (owed s (onto (e ∷ es) P)) ≡ true → is_move s P (e ∷ es) ≡ true
 move-whole s P e es b n =
     let p = and_parts (first s P e) (going s (e ∷ P) es) b in
     and_from _ _ p.0 (follow-whole s (e ∷ P) es p.1 n)
 
-going-more : (s : Setting) (P : Past) (es : List Entry) (e : Entry) → going s P es ≡ true → is_nothing (owed s (onto es P)) ≡ false → next s (onto es P) e (owed s (onto es P)) ≡ true → going s P (es ++ e ∷ []) ≡ true
+going-more : (s : Setting) (P : Past) (es : List Entry) (e : Entry) → going s P es ≡ true → is_nothing (owed s (onto es P)) ≡ false
+    → next s (onto es P) e (owed s (onto es P)) ≡ true → going s P (es ++ e ∷ []) ≡ true
 going-more s P [] e g o n = and_from _ _ (and_from _ _ (ap not o) n) refl
 going-more s P (x ∷ es) e g o n =
     let p = and_parts (not (is_nothing (owed s P)) && next s P x (owed s P)) (going s (x ∷ P) es) g in
     and_from _ _ p.0 (going-more s (x ∷ P) es e p.1 o n)
 
-moves-more : (s : Setting) (P : Past) (ms : List (List Entry)) (m : List Entry) → are_moves s P ms ≡ true → is_move s (onto (all_of ms) P) m ≡ true → are_moves s P (ms ++ m ∷ []) ≡ true
+moves-more : (s : Setting) (P : Past) (ms : List (List Entry)) (m : List Entry) → are_moves s P ms ≡ true → is_move s (onto (all_of ms) P) m ≡ true
+    → are_moves s P (ms ++ m ∷ []) ≡ true
 moves-more s P [] m h f = and_from _ _ f refl
 moves-more s P (x ∷ ms) m h f =
     let p = and_parts (is_move s P x) (are_moves s (onto x P) ms) h in
@@ -59,14 +62,16 @@ pub record Split (s : Setting) (P : Past) : Type 0 where
   pub owing : is_nothing (owed s P) ≡ true → last ≡ []
 
 -- the last move as it is after one more entry
-closed : (s : Setting) (P : Past) (ms : List (List Entry)) (e : Entry) (es : List Entry) → are_moves s [] ms ≡ true → begun s (onto (all_of ms) []) (e ∷ es) ≡ true → onto (e ∷ es) (onto (all_of ms) []) ≡ P → Split s P
+closed : (s : Setting) (P : Past) (ms : List (List Entry)) (e : Entry) (es : List Entry) → are_moves s [] ms ≡ true
+    → begun s (onto (all_of ms) []) (e ∷ es) ≡ true → onto (e ∷ es) (onto (all_of ms) []) ≡ P → Split s P
 closed s P ms e es h b same =
     elim (cases_Bool (is_nothing (owed s P))) [
       | inl whole ↦
           record {
             moves = ms ++ (e ∷ es) ∷ [];
             last = [];
-            each = moves-more s [] ms (e ∷ es) h (move-whole s (onto (all_of ms) []) e es b (subst (λ (Q : Past). is_nothing (owed s Q) ≡ true) (sym same) whole));
+            each =
+                moves-more s [] ms (e ∷ es) h (move-whole s (onto (all_of ms) []) e es b (subst (λ (Q : Past). is_nothing (owed s Q) ≡ true) (sym same) whole));
             part = refl;
             same = all_of-more ms (e ∷ es) [] ∙ same;
             owing = λ _. refl;
@@ -77,7 +82,9 @@ closed s P ms e es h b same =
 onto-last : (es : List Entry) (e : Entry) (P : Past) → onto (es ++ e ∷ []) P ≡ e ∷ onto es P
 onto-last es e P = onto-append es (e ∷ []) P
 
-one_more : (s : Setting) (P : Past) (e : Entry) (ms : List (List Entry)) (last : List Entry) → are_moves s [] ms ≡ true → begun s (onto (all_of ms) []) last ≡ true → onto last (onto (all_of ms) []) ≡ P → (is_nothing (owed s P) ≡ true → last ≡ []) → next s P e (owed s P) ≡ true → Split s (e ∷ P)
+one_more : (s : Setting) (P : Past) (e : Entry) (ms : List (List Entry)) (last : List Entry) → are_moves s [] ms ≡ true
+    → begun s (onto (all_of ms) []) last ≡ true → onto last (onto (all_of ms) []) ≡ P → (is_nothing (owed s P) ≡ true → last ≡ [])
+    → next s P e (owed s P) ≡ true → Split s (e ∷ P)
 one_more s P e ms [] h b same o n =
     let Q : Past = onto (all_of ms) [] in
     let whole : is_history s Q ≡ true = history-moves s [] ms refl h in
@@ -93,7 +100,8 @@ one_more s P e ms (x ∷ es) h b same o n =
           let p = and_parts (first s Q x) (going s (x ∷ Q) es) b in
           let still : is_nothing (owed s (onto es (x ∷ Q))) ≡ false = subst (λ (R : Past). is_nothing (owed s R) ≡ false) (sym same) more in
           let fits : next s (onto es (x ∷ Q)) e (owed s (onto es (x ∷ Q))) ≡ true = subst (λ (R : Past). next s R e (owed s R) ≡ true) (sym same) n in
-          closed s (e ∷ P) ms x (es ++ e ∷ []) h (and_from _ _ p.0 (going-more s (x ∷ Q) es e p.1 still fits)) (onto-last es e (x ∷ Q) ∙ ap (λ (R : Past). e ∷ R) same)
+          closed s (e ∷ P) ms x (es ++ e ∷ []) h (and_from _ _ p.0 (going-more s (x ∷ Q) es e p.1 still fits))
+          (onto-last es e (x ∷ Q) ∙ ap (λ (R : Past). e ∷ R) same)
     ]
 
 pub split : (s : Setting) (P : Past) → is_legal s P ≡ true → Split s P

@@ -63,17 +63,21 @@ none_below p of [] = refl
 none_below p of (e ∷ es) =
     omega (arith, count-cons (λ d. p d && ltb (of d) 0) e es, ap bit (none_low (p e) (of e)), none_below p of es)
 
-one_more : (p : Entry → Bool) (of : Entry → ℕ) (q : ℕ → Entry → Bool) → AreBuckets p of q → (n : ℕ) (es : List Entry) → count (λ e. p e && ltb (of e) (suc n)) es ≡ count (λ e. p e && ltb (of e) n) es + count (q n) es
+one_more : (p : Entry → Bool) (of : Entry → ℕ) (q : ℕ → Entry → Bool) → AreBuckets p of q → (n : ℕ) (es : List Entry)
+    → count (λ e. p e && ltb (of e) (suc n)) es ≡ count (λ e. p e && ltb (of e) n) es + count (q n) es
 one_more p of q are n [] = refl
 one_more p of q are n (e ∷ es) =
-    omega (arith, one_more p of q are n es, count-cons (λ d. p d && ltb (of d) (suc n)) e es, count-cons (λ d. p d && ltb (of d) n) e es, count-cons (q n) e es, and-next (p e) (of e) n, ap bit (are e n))
+    omega (arith, one_more p of q are n es, count-cons (λ d. p d && ltb (of d) (suc n)) e es, count-cons (λ d. p d && ltb (of d) n) e es, count-cons (q n) e es,
+    and-next (p e) (of e) n, ap bit (are e n))
 
-summed : (p : Entry → Bool) (of : Entry → ℕ) (q : ℕ → Entry → Bool) → AreBuckets p of q → (n : ℕ) (es : List Entry) → count (λ e. p e && ltb (of e) n) es ≡ sum_to (λ v. count (q v) es) n
+summed : (p : Entry → Bool) (of : Entry → ℕ) (q : ℕ → Entry → Bool) → AreBuckets p of q → (n : ℕ) (es : List Entry)
+    → count (λ e. p e && ltb (of e) n) es ≡ sum_to (λ v. count (q v) es) n
 summed p of q are zero es = none_below p of es
 summed p of q are (suc n) es = omega (arith, one_more p of q are n es, summed p of q are n es)
 
 -- where no bucket from n on has any, all have numbers below n
-all_below : (p : Entry → Bool) (of : Entry → ℕ) (q : ℕ → Entry → Bool) → AreBuckets p of q → (n : ℕ) (es : List Entry) → ((v : ℕ) → ltb v n ≡ false → count (q v) es ≡ 0) → count p es ≡ count (λ e. p e && ltb (of e) n) es
+all_below : (p : Entry → Bool) (of : Entry → ℕ) (q : ℕ → Entry → Bool) → AreBuckets p of q → (n : ℕ) (es : List Entry)
+    → ((v : ℕ) → ltb v n ≡ false → count (q v) es ≡ 0) → count p es ≡ count (λ e. p e && ltb (of e) n) es
 all_below p of q are n [] h = refl
 all_below p of q are n (e ∷ es) h =
     let rest = all_below p of q are n es (λ v high. omega (arith, count-cons (q v) e es, h v high)) in
@@ -84,20 +88,23 @@ all_below p of q are n (e ∷ es) h =
           let same : (p e && ltb (of e) n) ≡ p e = ap (λ b. p e && b) low ∙ elim (p e) as (λ b. (b && true) ≡ b) [ true ↦ refl | false ↦ refl ] in
           omega (arith, rest, one, other, ap bit same)
       | inr high ↦
-          let own : q (of e) e ≡ p e = are e (of e) ∙ (ap (λ b. p e && b) (eq-eqb (of e) (of e) refl) ∙ elim (p e) as (λ b. (b && true) ≡ b) [ true ↦ refl | false ↦ refl ]) in
+          let own : q (of e) e ≡ p e =
+          are e (of e) ∙ (ap (λ b. p e && b) (eq-eqb (of e) (of e) refl) ∙ elim (p e) as (λ b. (b && true) ≡ b) [ true ↦ refl | false ↦ refl ]) in
           let none : (p e && ltb (of e) n) ≡ false = ap (λ b. p e && b) high ∙ elim (p e) as (λ b. (b && false) ≡ false) [ true ↦ refl | false ↦ refl ] in
           omega (arith, rest, one, other, ap bit none, ap bit own, count-cons (q (of e)) e es, h (of e) high)
     ]
 
 -- no bucket from n on has any, and those below have no more than the bound says
-pub few_in_buckets : (p : Entry → Bool) (of : Entry → ℕ) (q : ℕ → Entry → Bool) → AreBuckets p of q → (n : ℕ) (bound : ℕ → ℕ) (es : List Entry) → ((v : ℕ) → count (q v) es ≤ cond (ltb v n) (bound v) 0) → count p es ≤ sum_to bound n
+pub few_in_buckets : (p : Entry → Bool) (of : Entry → ℕ) (q : ℕ → Entry → Bool) → AreBuckets p of q → (n : ℕ) (bound : ℕ → ℕ) (es : List Entry)
+    → ((v : ℕ) → count (q v) es ≤ cond (ltb v n) (bound v) 0) → count p es ≤ sum_to bound n
 few_in_buckets p of q are n bound es h =
     let none : (v : ℕ) → ltb v n ≡ false → count (q v) es ≡ 0 = λ v high. omega (arith, h v, ap (λ (b : Bool). cond b (bound v) 0) high) in
     let few : (v : ℕ) → v < n → count (q v) es ≤ bound v = λ v less. omega (arith, h v, ap (λ (b : Bool). cond b (bound v) 0) (lt-ltb v n less)) in
     omega (arith, all_below p of q are n es none, summed p of q are n es, sum-le (λ v. count (q v) es) bound n few)
 
 -- one in each bucket at most
-pub one_in_buckets : (p : Entry → Bool) (of : Entry → ℕ) (q : ℕ → Entry → Bool) → AreBuckets p of q → (n : ℕ) (es : List Entry) → ((v : ℕ) → count (q v) es ≤ bit (ltb v n)) → count p es ≤ n
+pub one_in_buckets : (p : Entry → Bool) (of : Entry → ℕ) (q : ℕ → Entry → Bool) → AreBuckets p of q → (n : ℕ) (es : List Entry)
+    → ((v : ℕ) → count (q v) es ≤ bit (ltb v n)) → count p es ≤ n
 one_in_buckets p of q are n es h =
     omega (arith, few_in_buckets p of q are n (λ v. 1) es (λ v. omega (arith, h v, as_cond (ltb v n))), sum_same 1 n)
   where

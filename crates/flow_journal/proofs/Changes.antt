@@ -50,13 +50,18 @@ queue_laws = record {
   accept = queued-Accept;
   accept_elsewhere = λ v w m k P ne. comes_elsewhere v w (frame m k) (queued v P) ne;
   take = λ s r v m k P h. rw (eq-eqb v v refl) (taken_front s r v (frame m k) P (and_parts (may_take s r v (frame m k) P) (not (is_maker s v)) h).0);
-  take_block = λ s r v m k b n f g x P h. rw (eq-eqb v v refl) (taken_front s r v (frame m k) P (and_parts _ _ (and_parts (may_take s r v (frame m k) P && is_maker s v) (pool_grants s v b n f g x P) h).0).0);
-  pool_drop = λ s r v m k n z P h. rw (eq-eqb v v refl) (taken_front s r v (frame m k) P (and_parts _ _ (and_parts (may_take s r v (frame m k) P && is_maker s v) (pool_refuses s v n z P) h).0).0);
+  take_block =
+      λ s r v m k b n f g x P h. rw (eq-eqb v v refl)
+      (taken_front s r v (frame m k) P (and_parts _ _ (and_parts (may_take s r v (frame m k) P && is_maker s v) (pool_grants s v b n f g x P) h).0).0);
+  pool_drop =
+      λ s r v m k n z P h. rw (eq-eqb v v refl)
+      (taken_front s r v (frame m k) P (and_parts _ _ (and_parts (may_take s r v (frame m k) P && is_maker s v) (pool_refuses s v n z P) h).0).0);
   take_elsewhere = λ r v w m k P ne. rw (ne_eqb w v ne) refl;
   take_block_elsewhere = λ r v w m k b n f g x P ne. rw (ne_eqb w v ne) refl;
   pool_drop_elsewhere = λ r v w m k n h P ne. rw (ne_eqb w v ne) refl;
   reclaim = queued-Reclaim;
-  reclaim_other = λ v r e P held other. ap (λ (o : Option Entry). job_array v o ++ queued v P) held ∙ ap (λ (xs : List FrameName). xs ++ queued v P) (no_job v e other);
+  reclaim_other =
+      λ v r e P held other. ap (λ (o : Option Entry). job_array v o ++ queued v P) held ∙ ap (λ (xs : List FrameName). xs ++ queued v P) (no_job v e other);
   reclaim_block = λ v r q m k b n f g x P h. rw h (rw (comes_here v (frame m k) []) refl);
   others = queue_others;
 }
@@ -69,7 +74,9 @@ hand_up r (Save q v m k g) P h = rw h refl
 hand_up r _ P h = absurd (false≢true h)
 
 dropped : (s : Setting) (r q : ℕ) (P : Past) → is_legal s P ≡ true → eqb q r ≡ true → find (takes_up r) (let_go q (hands P)) ≡ None
-dropped s r q P h same = subst (λ (i : ℕ). find (takes_up r) (let_go i (hands P)) ≡ None) (sym (eqb-true q r same)) (find-none (takes_up r) (let_go r (hands P)) (free-let_go r (hands P) (hands-Apart P)))
+dropped s r q P h same =
+    subst (λ (i : ℕ). find (takes_up r) (let_go i (hands P)) ≡ None) (sym (eqb-true q r same))
+    (find-none (takes_up r) (let_go r (hands P)) (free-let_go r (hands P) (hands-Apart P)))
 
 hand_down : (s : Setting) (r : ℕ) (e : Entry) (P : Past) → is_legal s (e ∷ P) ≡ true → lets_go r e ≡ true → hand r (e ∷ P) ≡ None
 hand_down s r (Issue q k) P h u = dropped s r q P (and_parts _ _ h).0 u
@@ -112,7 +119,9 @@ offer_laws = record {
   accept_elsewhere = λ v w m k P ne. comes_elsewhere v w (frame m k) (offered v P) ne;
   full_elsewhere = λ v w m k P ne. comes_elsewhere v w (frame m k) (offered v P) ne;
   others = offer_others;
-  reclaim = λ s r q k b n f g x P h held. loaded-last s P r q k b n f g x h held ∙ ap (λ (es : List Entry). k ∷ flat_map loads es) (sym (stood r (Load q k b n f g x) P held));
+  reclaim =
+      λ s r q k b n f g x P h held. loaded-last s P r q k b n f g x h held
+      ∙ ap (λ (es : List Entry). k ∷ flat_map loads es) (sym (stood r (Load q k b n f g x) P held));
   reclaim_other = offered-Reclaim_other;
   frames_others = frames_others;
 }
@@ -149,10 +158,12 @@ put_laws = record {
   lists = list_others;
 }
 
-is_kept : (s : Setting) (v : ℕ) (P : Past) (pre post preset : ℕ) → (node s v).work ≡ Watches pre post preset → is_settled v P ≡ false → ring s v P ≡ kept pre post preset (firings v P) (puts v P)
+is_kept : (s : Setting) (v : ℕ) (P : Past) (pre post preset : ℕ) → (node s v).work ≡ Watches pre post preset → is_settled v P ≡ false
+    → ring s v P ≡ kept pre post preset (firings v P) (puts v P)
 is_kept s v P pre post preset work running = rw (running, work) refl
 
-kept_put : (s : Setting) (r v m k : ℕ) (f : Bool) (P : Past) (pre post preset : ℕ) → (node s v).work ≡ Watches pre post preset → is_legal s P ≡ true → first s P (Put r v m k f) ≡ true → ring s v (Put r v m k f ∷ P) ≡ kept pre post preset (firings v P ++ f ∷ []) (puts v P ++ frame m k ∷ [])
+kept_put : (s : Setting) (r v m k : ℕ) (f : Bool) (P : Past) (pre post preset : ℕ) → (node s v).work ≡ Watches pre post preset → is_legal s P ≡ true
+    → first s P (Put r v m k f) ≡ true → ring s v (Put r v m k f ∷ P) ≡ kept pre post preset (firings v P ++ f ∷ []) (puts v P ++ frame m k ∷ [])
 kept_put s r v m k f P pre post preset work h row =
     is_kept s v (Put r v m k f ∷ P) pre post preset work (put-unsettled s r v m k f P h row)
     ∙ (ap (λ (fs : List Bool). kept pre post preset fs (puts v (Put r v m k f ∷ P))) (comes_here v f (firings v P))
@@ -212,10 +223,12 @@ hands-down r (Saved q v m k) P h = ap (λ (i : ℕ). let_go i (hands P)) (eqb-tr
 hands-down r (Reclaim q) P h = ap (λ (i : ℕ). let_go i (hands P)) (eqb-true q r h)
 hands-down r _ P h = absurd (false≢true h)
 
-counts-up : (p : Entry → Bool) (r : ℕ) (e : Entry) (P : Past) → takes_up r e ≡ true → is_free r P ≡ true → count p (hands (e ∷ P)) ≡ bit (p e) + count p (hands P)
+counts-up : (p : Entry → Bool) (r : ℕ) (e : Entry) (P : Past) → takes_up r e ≡ true → is_free r P ≡ true
+    → count p (hands (e ∷ P)) ≡ bit (p e) + count p (hands P)
 counts-up p r e P up free = ap (count p) (hands-first r e P up free) ∙ count-cons p e (hands P)
 
-counts-down : (p : Entry → Bool) (r : ℕ) (e d : Entry) (P : Past) → lets_go r d ≡ true → hand r P ≡ Some e → count p (hands P) ≡ bit (p e) + count p (hands (d ∷ P))
+counts-down : (p : Entry → Bool) (r : ℕ) (e d : Entry) (P : Past) → lets_go r d ≡ true → hand r P ≡ Some e
+    → count p (hands P) ≡ bit (p e) + count p (hands (d ∷ P))
 counts-down p r e d P down held = count-let_go p r e (hands P) held ∙ ap (λ (hs : List Entry). bit (p e) + count p hs) (sym (hands-down r d P down))
 
 hands_others : (e : Entry) (P : Past) → moves_hands e ≡ false → hands (e ∷ P) ≡ hands P
@@ -257,16 +270,21 @@ less_out : (s : Setting) (r q v m k g : ℕ) (P : Past) → is_legal s P ≡ tru
 less_out s r q v m k g P h held =
     let file : is_file (node s v).work ≡ true = piece-file s r q v m k g P h held in
     ap (λ (b : Bool). outs_of b v (standing P)) file ∙ (last_out s P r q v m k g h held
-    ∙ (ap (λ (es : List Entry). k ∷ outs_of true v es) (sym (stood r (Save q v m k g) P held)) ∙ ap (λ (b : Bool). k ∷ outs_of b v (standing (Reclaim r ∷ P))) (sym file)))
+    ∙ (ap (λ (es : List Entry). k ∷ outs_of true v es) (sym (stood r (Save q v m k g) P held))
+    ∙ ap (λ (b : Bool). k ∷ outs_of b v (standing (Reclaim r ∷ P))) (sym file)))
 
 pub clock_laws : ClockLaws
 clock_laws = record {
   emit = λ s v m k why P other. out_now s v k (outs s v P) (not (is_file (node s v).work) && eqb v v) (rw other (eq-eqb v v refl));
   save = λ s r v m k g P file. out_now s v k (outs s v P) (is_file (node s v).work && eqb v v) (rw file (eq-eqb v v refl));
-  emit_elsewhere = λ s v w m k why P ne. ap (λ (b : Bool). prev_of s (cond b (k ∷ []) [] ++ outs s v P)) (off (not (is_file (node s v).work)) (eqb w v) (ne_eqb w v ne));
-  save_elsewhere = λ s r v w m k g P ne. ap (λ (b : Bool). prev_of s (cond b (k ∷ []) [] ++ outs s v P)) (off (is_file (node s v).work) (eqb w v) (ne_eqb w v ne));
+  emit_elsewhere =
+      λ s v w m k why P ne. ap (λ (b : Bool). prev_of s (cond b (k ∷ []) [] ++ outs s v P)) (off (not (is_file (node s v).work)) (eqb w v) (ne_eqb w v ne));
+  save_elsewhere =
+      λ s r v w m k g P ne. ap (λ (b : Bool). prev_of s (cond b (k ∷ []) [] ++ outs s v P)) (off (is_file (node s v).work) (eqb w v) (ne_eqb w v ne));
   reclaim = less_out;
-  reclaim_other = λ s r v e P h held none. ap (λ (es : List Entry). prev_of s (outs_of (is_file (node s v).work) v es)) (stood r e P held) ∙ ap (prev_of s) (outs-let_go (is_file (node s v).work) v r e (standing P) (hand-standing s P r e h held) none);
+  reclaim_other =
+      λ s r v e P h held none. ap (λ (es : List Entry). prev_of s (outs_of (is_file (node s v).work) v es)) (stood r e P held)
+      ∙ ap (prev_of s) (outs-let_go (is_file (node s v).work) v r e (standing P) (hand-standing s P r e h held) none);
   prev_others = prev_others;
   tick = λ t P. refl;
   now_others = now_others;
@@ -277,7 +295,8 @@ clock_laws = record {
 }
 
 -- one more that went out
-break_now : (s : Setting) (v k : ℕ) (ks : List ℕ) (b : Bool) → b ≡ true → breaks_of s (cond b (k ∷ []) [] ++ ks) ≡ breaks_of s ks + cond (keeps_step (prev_of s ks) (id_at s k)) 0 1
+break_now : (s : Setting) (v k : ℕ) (ks : List ℕ) (b : Bool) → b ≡ true
+    → breaks_of s (cond b (k ∷ []) [] ++ ks) ≡ breaks_of s ks + cond (keeps_step (prev_of s ks) (id_at s k)) 0 1
 break_now s v k ks true h = refl
 break_now s v k ks false h = absurd (false≢true h)
 
@@ -292,10 +311,14 @@ break_laws = record {
   none = λ s v. refl;
   emit = λ s v m k why P other. break_now s v k (outs s v P) (not (is_file (node s v).work) && eqb v v) (rw other (eq-eqb v v refl));
   save = λ s r v m k g P file. break_now s v k (outs s v P) (is_file (node s v).work && eqb v v) (rw file (eq-eqb v v refl));
-  emit_elsewhere = λ s v w m k why P ne. ap (λ (b : Bool). breaks_of s (cond b (k ∷ []) [] ++ outs s v P)) (off (not (is_file (node s v).work)) (eqb w v) (ne_eqb w v ne));
-  save_elsewhere = λ s r v w m k g P ne. ap (λ (b : Bool). breaks_of s (cond b (k ∷ []) [] ++ outs s v P)) (off (is_file (node s v).work) (eqb w v) (ne_eqb w v ne));
+  emit_elsewhere =
+      λ s v w m k why P ne. ap (λ (b : Bool). breaks_of s (cond b (k ∷ []) [] ++ outs s v P)) (off (not (is_file (node s v).work)) (eqb w v) (ne_eqb w v ne));
+  save_elsewhere =
+      λ s r v w m k g P ne. ap (λ (b : Bool). breaks_of s (cond b (k ∷ []) [] ++ outs s v P)) (off (is_file (node s v).work) (eqb w v) (ne_eqb w v ne));
   reclaim = λ s r q v m k g P h held. ap (breaks_of s) (less_out s r q v m k g P h held);
-  reclaim_other = λ s r v e P h held none. ap (λ (es : List Entry). breaks_of s (outs_of (is_file (node s v).work) v es)) (stood r e P held) ∙ ap (breaks_of s) (outs-let_go (is_file (node s v).work) v r e (standing P) (hand-standing s P r e h held) none);
+  reclaim_other =
+      λ s r v e P h held none. ap (λ (es : List Entry). breaks_of s (outs_of (is_file (node s v).work) v es)) (stood r e P held)
+      ∙ ap (breaks_of s) (outs-let_go (is_file (node s v).work) v r e (standing P) (hand-standing s P r e h held) none);
   others = break_others;
 }
 

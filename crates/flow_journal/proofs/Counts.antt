@@ -33,13 +33,15 @@ comes_last v w x xs =
     elim (cases_Bool (eqb w v)) [ inl here ↦ rw here refl | inr away ↦ rw away (sym (append-nil xs)) ]
 
 -- the front of a queue goes
-times-goes : (v w : ℕ) (t : FrameName → Bool) (x : FrameName) (P : Past) → is_next x (queued w P) ≡ true → times_by t (queued v P) ≡ times_by t (goes_at v w x (queued v P)) + times_by t (comes_at v w x [])
+times-goes : (v w : ℕ) (t : FrameName → Bool) (x : FrameName) (P : Past) → is_next x (queued w P) ≡ true
+    → times_by t (queued v P) ≡ times_by t (goes_at v w x (queued v P)) + times_by t (comes_at v w x [])
 times-goes v w t x P h =
     elim (cases_Bool (eqb w v)) [
       | inl here ↦
           let at_v : is_next x (queued v P) ≡ true = subst (λ (u : ℕ). is_next x (queued u P) ≡ true) (eqb-true w v here) h in
           let front : times_by t (queued v P) ≡ times_by t (x ∷ without x (queued v P)) = ap (times_by t) (next_is x (queued v P) at_v) in
-          let sum : times_by t ((x ∷ []) ++ without x (queued v P)) ≡ times_by t (x ∷ []) + times_by t (without x (queued v P)) = times-append t (x ∷ []) (without x (queued v P)) in
+          let sum : times_by t ((x ∷ []) ++ without x (queued v P)) ≡ times_by t (x ∷ []) + times_by t (without x (queued v P)) =
+          times-append t (x ∷ []) (without x (queued v P)) in
           rw here (front ∙ omega (arith, sum))
       | inr away ↦ rw away (omega arith)
     ]
@@ -62,13 +64,17 @@ still_other r q e hs away h = sym (find-let_go q r hs (eqb-false q r away)) ∙ 
 pub hand-standing : (s : Setting) (P : Past) (r : ℕ) (e : Entry) → is_legal s P ≡ true → hand r P ≡ Some e → find (takes_up r) (standing P) ≡ Some e
 hand-standing s [] r e l h = cc
 hand-standing s (Load q k b n f g x ∷ P) r e l h =
-    elim (cases_Bool (eqb q r)) [ inl here ↦ rw here (rw here at h) | inr away ↦ rw away (hand-standing s P r e (and_parts _ _ l).0 (still_other r q e (hands P) away (rw away at h))) ]
+    elim (cases_Bool (eqb q r)) [ inl here ↦ rw here (rw here at h)
+    | inr away ↦ rw away (hand-standing s P r e (and_parts _ _ l).0 (still_other r q e (hands P) away (rw away at h))) ]
 hand-standing s (Take q v m k ∷ P) r e l h =
-    elim (cases_Bool (eqb q r)) [ inl here ↦ rw here (rw here at h) | inr away ↦ rw away (hand-standing s P r e (and_parts _ _ l).0 (still_other r q e (hands P) away (rw away at h))) ]
+    elim (cases_Bool (eqb q r)) [ inl here ↦ rw here (rw here at h)
+    | inr away ↦ rw away (hand-standing s P r e (and_parts _ _ l).0 (still_other r q e (hands P) away (rw away at h))) ]
 hand-standing s (TakeBlock f x q v m k b n g ∷ P) r e l h =
-    elim (cases_Bool (eqb q r)) [ inl here ↦ rw here (rw here at h) | inr away ↦ rw away (hand-standing s P r e (and_parts _ _ l).0 (still_other r q e (hands P) away (rw away at h))) ]
+    elim (cases_Bool (eqb q r)) [ inl here ↦ rw here (rw here at h)
+    | inr away ↦ rw away (hand-standing s P r e (and_parts _ _ l).0 (still_other r q e (hands P) away (rw away at h))) ]
 hand-standing s (Save q v m k g ∷ P) r e l h =
-    elim (cases_Bool (eqb q r)) [ inl here ↦ rw here (rw here at h) | inr away ↦ rw away (hand-standing s P r e (and_parts _ _ l).0 (still_other r q e (hands P) away (rw away at h))) ]
+    elim (cases_Bool (eqb q r)) [ inl here ↦ rw here (rw here at h)
+    | inr away ↦ rw away (hand-standing s P r e (and_parts _ _ l).0 (still_other r q e (hands P) away (rw away at h))) ]
 hand-standing s (Issue q k ∷ P) r e l h = hand-standing s P r e (and_parts _ _ l).0 (still_held r q e (hands P) (hands-Apart P) h).1
 hand-standing s (Put q v m k f ∷ P) r e l h = hand-standing s P r e (and_parts _ _ l).0 (still_held r q e (hands P) (hands-Apart P) h).1
 hand-standing s (Saved q v m k ∷ P) r e l h = hand-standing s P r e (and_parts _ _ l).0 (still_held r q e (hands P) (hands-Apart P) h).1
@@ -85,14 +91,16 @@ gone-job v r (Save q w m k g) h = refl
 gone-job v r _ h = absurd (false≢true h)
 
 -- one hand less
-times-let_go : (t : FrameName → Bool) (v r : ℕ) (e : Entry) (hs : List Entry) → find (takes_up r) hs ≡ Some e → times_by t (flat_map (gone_at v) hs) ≡ times_by t (job_array v (Some e)) + times_by t (flat_map (gone_at v) (let_go r hs))
+times-let_go : (t : FrameName → Bool) (v r : ℕ) (e : Entry) (hs : List Entry) → find (takes_up r) hs ≡ Some e
+    → times_by t (flat_map (gone_at v) hs) ≡ times_by t (job_array v (Some e)) + times_by t (flat_map (gone_at v) (let_go r hs))
 times-let_go t v r e [] h = cc
 times-let_go t v r e (x ∷ hs) h =
     elim (cases_Bool (takes_up r x)) [
       | inl here ↦
           let same : Some x ≡ Some e = rw here at h in
           let is : x ≡ e = cc in
-          let job : times_by t (gone_at v x) ≡ times_by t (job_array v (Some e)) = ap (times_by t) (gone-job v r x here) ∙ ap (λ (y : Entry). times_by t (job_array v (Some y))) is in
+          let job : times_by t (gone_at v x) ≡ times_by t (job_array v (Some e)) =
+          ap (times_by t) (gone-job v r x here) ∙ ap (λ (y : Entry). times_by t (job_array v (Some y))) is in
           rw here (times-append t (gone_at v x) (flat_map (gone_at v) hs) ∙ omega (arith, job))
       | inr away ↦
           let rest = times-let_go t v r e hs (rw away at h) in
@@ -101,7 +109,8 @@ times-let_go t v r e (x ∷ hs) h =
     ]
 
 -- An array is queued as often as it was accepted, less the takes of it that stand and its drops.
-pub queued-by : (s : Setting) (P : Past) (v : ℕ) (t : FrameName → Bool) → is_legal s P ≡ true → times_by t (accepts v P) ≡ times_by t (queued v P) + times_by t (gone v P)
+pub queued-by : (s : Setting) (P : Past) (v : ℕ) (t : FrameName → Bool) → is_legal s P ≡ true
+    → times_by t (accepts v P) ≡ times_by t (queued v P) + times_by t (gone v P)
 queued-by s [] v t h = refl
 queued-by s (Accept w m k ∷ P) v t h =
     let rest = queued-by s P v t (and_parts _ _ h).0 in
@@ -133,7 +142,8 @@ queued-by s (Reclaim r ∷ P) v t h =
     let less = times-let_go t v r some.0 (standing P) (hand-standing s P r some.0 legal some.1) in
     let job = ap (λ (o : Option Entry). times_by t (job_array v o)) some.1 in
     let back = times-append t (job_array v (hand r P)) (queued v P) in
-    let left : times_by t (gone v (Reclaim r ∷ P)) ≡ times_by t (flat_map (gone_at v) (let_go r (standing P))) = ap (λ (es : List Entry). times_by t (flat_map (gone_at v) es)) (stood r some.0 P some.1) in
+    let left : times_by t (gone v (Reclaim r ∷ P)) ≡ times_by t (flat_map (gone_at v) (let_go r (standing P))) =
+    ap (λ (es : List Entry). times_by t (flat_map (gone_at v) es)) (stood r some.0 P some.1) in
     omega (arith, rest, less, job, back, left)
 queued-by s (_ ∷ P) v t h = queued-by s P v t (and_parts _ _ h).0
 

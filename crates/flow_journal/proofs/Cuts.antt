@@ -25,7 +25,8 @@ use Rattle.flow_journal.proofs.Hands.{takes_up-one}
 all_of-joined : (e : Entry) (ms : List (List Entry)) → all_of (joined e ms) ≡ e ∷ all_of ms
 all_of-joined e [] = refl
 all_of-joined e ([] ∷ ms) = refl
-all_of-joined e ((d ∷ m) ∷ ms) = elim (begins d) as (λ b. all_of (cond b ((e ∷ []) ∷ (d ∷ m) ∷ ms) ((e ∷ d ∷ m) ∷ ms)) ≡ e ∷ all_of ((d ∷ m) ∷ ms)) [ true ↦ refl | false ↦ refl ]
+all_of-joined e ((d ∷ m) ∷ ms) =
+    elim (begins d) as (λ b. all_of (cond b ((e ∷ []) ∷ (d ∷ m) ∷ ms) ((e ∷ d ∷ m) ∷ ms)) ≡ e ∷ all_of ((d ∷ m) ∷ ms)) [ true ↦ refl | false ↦ refl ]
 
 all_of-cut : (es : List Entry) → all_of (cut es) ≡ es
 all_of-cut [] = refl
@@ -70,7 +71,8 @@ cut-head d ds = joined-head d (cut ds)
 cut-apart : (e d : Entry) (ds : List Entry) → begins d ≡ true → cut (e ∷ d ∷ ds) ≡ (e ∷ []) ∷ cut (d ∷ ds)
 cut-apart e d ds h =
     let head = cut-head d ds in
-    ap (joined e) head.2 ∙ (ap (λ (b : Bool). cond b ((e ∷ []) ∷ (d ∷ head.0) ∷ head.1) ((e ∷ d ∷ head.0) ∷ head.1)) h ∙ ap (λ (ms : List (List Entry)). (e ∷ []) ∷ ms) (sym head.2))
+    ap (joined e) head.2
+    ∙ (ap (λ (b : Bool). cond b ((e ∷ []) ∷ (d ∷ head.0) ∷ head.1) ((e ∷ d ∷ head.0) ∷ head.1)) h ∙ ap (λ (ms : List (List Entry)). (e ∷ []) ∷ ms) (sym head.2))
 
 -- nothing follows, or an entry that begins a move
 abbrev BeginsOrEnds : List Entry → Type 0
@@ -179,7 +181,8 @@ other-let_go q r (e ∷ hs) ne =
       ]
     ]
 
-same-let_go : (q r : ℕ) (hs ks : List Entry) → filter (takes_up r) hs ≡ filter (takes_up r) ks → filter (takes_up r) (let_go q hs) ≡ filter (takes_up r) (let_go q ks)
+same-let_go : (q r : ℕ) (hs ks : List Entry) → filter (takes_up r) hs ≡ filter (takes_up r) ks
+    → filter (takes_up r) (let_go q hs) ≡ filter (takes_up r) (let_go q ks)
 same-let_go q r hs ks h =
     elim (cases_Bool (eqb q r)) [
       | inl here ↦
@@ -188,17 +191,20 @@ same-let_go q r hs ks h =
       | inr away ↦ other-let_go q r hs away ∙ (h ∙ sym (other-let_go q r ks away))
     ]
 
-one_more_hand : (r : ℕ) (e : Entry) (hs ks : List Entry) → filter (takes_up r) hs ≡ filter (takes_up r) ks → filter (takes_up r) (e ∷ hs) ≡ filter (takes_up r) (e ∷ ks)
+one_more_hand : (r : ℕ) (e : Entry) (hs ks : List Entry) → filter (takes_up r) hs ≡ filter (takes_up r) ks
+    → filter (takes_up r) (e ∷ hs) ≡ filter (takes_up r) (e ∷ ks)
 one_more_hand r e hs ks h =
     elim (takes_up r e) as (λ b. cond b (e ∷ filter (takes_up r) hs) (filter (takes_up r) hs) ≡ cond b (e ∷ filter (takes_up r) ks) (filter (takes_up r) ks)) [
       | true ↦ ap (λ (ds : List Entry). e ∷ ds) h
       | false ↦ h
     ]
 
-same-hands : (r : ℕ) (e : Entry) (P Q : Past) → filter (takes_up r) (hands P) ≡ filter (takes_up r) (hands Q) → filter (takes_up r) (hands (e ∷ P)) ≡ filter (takes_up r) (hands (e ∷ Q))
+same-hands : (r : ℕ) (e : Entry) (P Q : Past) → filter (takes_up r) (hands P) ≡ filter (takes_up r) (hands Q)
+    → filter (takes_up r) (hands (e ∷ P)) ≡ filter (takes_up r) (hands (e ∷ Q))
 same-hands r (Load q k b n f g x) P Q h = one_more_hand r (Load q k b n f g x) (let_go q (hands P)) (let_go q (hands Q)) (same-let_go q r (hands P) (hands Q) h)
 same-hands r (Take q v m k) P Q h = one_more_hand r (Take q v m k) (let_go q (hands P)) (let_go q (hands Q)) (same-let_go q r (hands P) (hands Q) h)
-same-hands r (TakeBlock f x q v m k b n g) P Q h = one_more_hand r (TakeBlock f x q v m k b n g) (let_go q (hands P)) (let_go q (hands Q)) (same-let_go q r (hands P) (hands Q) h)
+same-hands r (TakeBlock f x q v m k b n g) P Q h =
+    one_more_hand r (TakeBlock f x q v m k b n g) (let_go q (hands P)) (let_go q (hands Q)) (same-let_go q r (hands P) (hands Q) h)
 same-hands r (Save q v m k g) P Q h = one_more_hand r (Save q v m k g) (let_go q (hands P)) (let_go q (hands Q)) (same-let_go q r (hands P) (hands Q) h)
 same-hands r (Issue q k) P Q h = same-let_go q r (hands P) (hands Q) h
 same-hands r (Put q v m k f) P Q h = same-let_go q r (hands P) (hands Q) h
@@ -237,7 +243,8 @@ find-filtered p (e ∷ hs) =
 -- logs with the same entries of a role leave it the same hand
 same-hand : (r : ℕ) (P Q : Past) → filter (names r) P ≡ filter (names r) Q → hand r P ≡ hand r Q
 same-hand r P Q h =
-    let hs : filter (takes_up r) (hands P) ≡ filter (takes_up r) (hands Q) = named-hands r P ∙ (ap (λ (R : Past). filter (takes_up r) (hands R)) h ∙ sym (named-hands r Q)) in
+    let hs : filter (takes_up r) (hands P) ≡ filter (takes_up r) (hands Q) =
+    named-hands r P ∙ (ap (λ (R : Past). filter (takes_up r) (hands R)) h ∙ sym (named-hands r Q)) in
     find-filtered (takes_up r) (hands P) ∙ (ap (λ (ds : List Entry). find (takes_up r) ds) hs ∙ sym (find-filtered (takes_up r) (hands Q)))
 
 -- OWN MOVES
@@ -275,7 +282,8 @@ tails-cut : (es : List Entry) → AreTails (cut es)
 tails-cut [] = tt
 tails-cut (e ∷ es) = tails-joined e (cut es) (tails-cut es)
 
-own-entries : (r : ℕ) (ms : List (List Entry)) → AreTails ms → filter (names r) (all_of (filter (λ m. is_some_of r (move_role m)) ms)) ≡ filter (names r) (all_of ms)
+own-entries : (r : ℕ) (ms : List (List Entry)) → AreTails ms
+    → filter (names r) (all_of (filter (λ m. is_some_of r (move_role m)) ms)) ≡ filter (names r) (all_of ms)
 own-entries r [] h = refl
 own-entries r ([] ∷ ms) h = own-entries r ms h
 own-entries r ((e ∷ es) ∷ ms) h =
@@ -286,7 +294,8 @@ own-entries r ((e ∷ es) ∷ ms) h =
       | inl own ↦
           let is : keep (names r e) ≡ (e ∷ es) ∷ ours = ap keep own in
           ap (λ (ns : List (List Entry)). filter (names r) (all_of ns)) is
-          ∙ (filter-append (names r) (e ∷ es) (all_of ours) ∙ (ap (λ (ds : List Entry). filter (names r) (e ∷ es) ++ ds) rest ∙ sym (filter-append (names r) (e ∷ es) (all_of ms))))
+          ∙ (filter-append (names r) (e ∷ es) (all_of ours)
+          ∙ (ap (λ (ds : List Entry). filter (names r) (e ∷ es) ++ ds) rest ∙ sym (filter-append (names r) (e ∷ es) (all_of ms))))
       | inr other ↦
           let is : keep (names r e) ≡ ours = ap keep other in
           let none : filter (names r) (e ∷ es) ≡ [] = ap (λ (b : Bool). cond b (e ∷ filter (names r) es) (filter (names r) es)) other ∙ no_names r es h.0 in
@@ -297,7 +306,8 @@ own-entries r ((e ∷ es) ∷ ms) h =
 filter-reverse : (p : Entry → Bool) (es : List Entry) → filter p (reverse es) ≡ reverse (filter p es)
 filter-reverse p [] = refl
 filter-reverse p (e ∷ es) =
-    ap (λ (ds : List Entry). filter p ds) (reverse-append (e ∷ []) es) ∙ (filter-append p (reverse es) (e ∷ []) ∙ (ap (λ (ds : List Entry). ds ++ filter p (e ∷ [])) (filter-reverse p es) ∙ last (p e)))
+    ap (λ (ds : List Entry). filter p ds) (reverse-append (e ∷ []) es)
+    ∙ (filter-append p (reverse es) (e ∷ []) ∙ (ap (λ (ds : List Entry). ds ++ filter p (e ∷ [])) (filter-reverse p es) ∙ last (p e)))
   where
     last : (b : Bool) → reverse (filter p es) ++ cond b (e ∷ []) [] ≡ reverse (cond b (e ∷ filter p es) (filter p es))
     last true = sym (reverse-append (e ∷ []) (filter p es))
@@ -306,7 +316,8 @@ filter-reverse p (e ∷ es) =
 pub own_hand : (P : Past) (r : ℕ) → hand r P ≡ hand r (onto (all_of (role_moves r P)) [])
 own_hand P r =
     let ours : List Entry = all_of (role_moves r P) in
-    let entries : filter (names r) ours ≡ filter (names r) (reverse P) = own-entries r (moves P) (tails-cut (reverse P)) ∙ ap (λ (es : List Entry). filter (names r) es) (all_of-cut (reverse P)) in
+    let entries : filter (names r) ours ≡ filter (names r) (reverse P) =
+    own-entries r (moves P) (tails-cut (reverse P)) ∙ ap (λ (es : List Entry). filter (names r) es) (all_of-cut (reverse P)) in
     let same : filter (names r) (onto ours []) ≡ filter (names r) P =
     ap (λ (Q : Past). filter (names r) Q) (onto-nil ours) ∙ (filter-reverse (names r) ours ∙ (ap (λ (es : List Entry). reverse es) entries
     ∙ (sym (filter-reverse (names r) (reverse P)) ∙ ap (λ (Q : Past). filter (names r) Q) (reverse-reverse P)))) in

@@ -40,16 +40,19 @@ first-get a (x ∷ xs) = ((λ h. let e : x ∷ xs ≡ a ∷ h.0 = h.1 in cc), (�
 parts : (s : Setting) (v : ℕ) (P : Past) → is_legal s P ≡ true → is_file (node s v).work ≡ true → puts v P ≡ standing_saves v P ++ unsaved s v P
 parts = save_laws.front
 
-next : (s : Setting) (v : ℕ) (a : FrameName) (P : Past) → is_legal s P ≡ true → is_file (node s v).work ≡ true → IsFirstOf a (unsaved s v P) ↔ (slice_get (puts v P) (saved_count v P) ≡ Some a)
+next : (s : Setting) (v : ℕ) (a : FrameName) (P : Past) → is_legal s P ≡ true → is_file (node s v).work ≡ true
+    → IsFirstOf a (unsaved s v P) ↔ (slice_get (puts v P) (saved_count v P) ≡ Some a)
 next s v a P legal file =
     let n : ℕ = saved_count v P in
     let left : drop n (puts v P) ≡ unsaved s v P = ap (drop n) (parts s v P legal file) ∙ drop-append_seam (standing_saves v P) (unsaved s v P) in
     let place : n ≡ 0 + n = omega arith in
-    let at : slice_get (puts v P) n ≡ slice_get (unsaved s v P) 0 = ap (slice_get (puts v P)) place ∙ (sym (get-drop n 0 (puts v P)) ∙ ap (λ (xs : List FrameName). slice_get xs 0) left) in
+    let at : slice_get (puts v P) n ≡ slice_get (unsaved s v P) 0 =
+    ap (slice_get (puts v P)) place ∙ (sym (get-drop n 0 (puts v P)) ∙ ap (λ (xs : List FrameName). slice_get xs 0) left) in
     let here = first-get a (unsaved s v P) in
     ((λ h. at ∙ here.0 h), (λ h. here.1 (sym at ∙ h)))
 
-placed : (s : Setting) (v : ℕ) (whole : Bool) (count : ℕ) (a : FrameName) (P : Past) → (node s v).work ≡ Saves whole count → 0 < count → is_legal s P ≡ true → IsFirstOf a (unsaved s v P) → IsPlacedPiece count (saved_count v P / count) (saved_count v P % count) a (puts v P)
+placed : (s : Setting) (v : ℕ) (whole : Bool) (count : ℕ) (a : FrameName) (P : Past) → (node s v).work ≡ Saves whole count → 0 < count → is_legal s P ≡ true
+    → IsFirstOf a (unsaved s v P) → IsPlacedPiece count (saved_count v P / count) (saved_count v P % count) a (puts v P)
 placed s v whole count a P work some legal h =
     let n = saved_count v P in
     let below : n % count < count = mod-lt n some in
@@ -57,14 +60,17 @@ placed s v whole count a P work some legal h =
     let at : slice_get (puts v P) n ≡ Some a = (next s v a P legal (ap is_file work)).0 h in
     record {
       within = below;
-      is = get-take count (n % count) (drop ((n / count) * count) (puts v P)) below ∙ (get-drop ((n / count) * count) (n % count) (puts v P) ∙ (ap (slice_get (puts v P)) whole_is ∙ at));
+      is =
+          get-take count (n % count) (drop ((n / count) * count) (puts v P)) below
+          ∙ (get-drop ((n / count) * count) (n % count) (puts v P) ∙ (ap (slice_get (puts v P)) whole_is ∙ at));
     }
 
 whole-length : (count g : ℕ) (xs : List FrameName) → ((g + 1) * count ≤ length xs) ↔ (length (group_at count g xs) ≡ count)
 whole-length zero g xs = ((λ h. refl), (λ h. omega arith))
 whole-length (suc c) g xs =
     let count = suc c in
-    let long : length (group_at count g xs) ≡ min count (length xs - g * count) = length-take count (drop (g * count) xs) ∙ ap (min count) (length-drop (g * count) xs) in
+    let long : length (group_at count g xs) ≡ min count (length xs - g * count) =
+    length-take count (drop (g * count) xs) ∙ ap (min count) (length-drop (g * count) xs) in
     let next_group : (g + 1) * count ≡ g * count + 1 * count = add-mul g 1 count in
     let one : 1 * count ≡ count = omega arith in
     ((λ h. long ∙ omega (arith, h, next_group, one)), (λ h. omega (arith, next_group, one, sym long ∙ h)))
@@ -79,7 +85,8 @@ due_cases true false ready = ((λ h. inr (inr h)), due_back)
     due_back (inr (inl never)) = cc
     due_back (inr (inr h)) = h
 
-due : (s : Setting) (v : ℕ) (whole : Bool) (count : ℕ) (P : Past) → (node s v).work ≡ Saves whole count → (is_due (node s v).work v P ≡ true) ↔ ((whole ≡ false) ⊎ (is_settled v P ≡ true) ⊎ (length (group_at count (saved_count v P / count) (puts v P)) ≡ count))
+due : (s : Setting) (v : ℕ) (whole : Bool) (count : ℕ) (P : Past) → (node s v).work ≡ Saves whole count
+    → (is_due (node s v).work v P ≡ true) ↔ ((whole ≡ false) ⊎ (is_settled v P ≡ true) ⊎ (length (group_at count (saved_count v P / count) (puts v P)) ≡ count))
 due s v whole count P work =
     let ready = leb ((saved_count v P / count + 1) * count) (length (puts v P)) in
     let cases = due_cases whole (is_settled v P) ready in

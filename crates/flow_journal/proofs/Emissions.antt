@@ -50,7 +50,8 @@ look_if-ticks s P u false = refl
 
 pub looks-ticks : (s : Setting) (P : Past) (us : List ℕ) → count is_tick (looks s P us) ≡ 0
 looks-ticks s P [] = refl
-looks-ticks s P (u ∷ us) = omega (arith, count-append is_tick (cond (is_sorted s u) (look s u P) []) (looks s P us), look_if-ticks s P u (is_sorted s u), looks-ticks s P us)
+looks-ticks s P (u ∷ us) =
+    omega (arith, count-append is_tick (cond (is_sorted s u) (look s u P) []) (looks s P us), look_if-ticks s P u (is_sorted s u), looks-ticks s P us)
 
 -- no tick is owed, or nothing else
 abbrev pub TickAlone : List Entry → Type 0
@@ -75,9 +76,14 @@ tick_alone s (LoadRefused r i n z ∷ P) h =
     inr (omega (arith, ap (λ (ds : List Entry). length (drop 1 ds)) none))
 tick_alone s (Tick t ∷ P) h = alone-more (calls_for s P (Tick t)) (owed s P) (looks-ticks s (Tick t ∷ P) (node_numbers s)) (tick_alone s P (and_parts _ _ h).0)
 tick_alone s (Issue r i ∷ P) h = alone-more (calls_for s P (Issue r i)) (owed s P) refl (tick_alone s P (and_parts _ _ h).0)
-tick_alone s (Emit w m i why ∷ P) h = alone-more (calls_for s P (Emit w m i why)) (owed s P) (no_ticks_in_offers (frame m i) (offered_to s P w)) (tick_alone s P (and_parts _ _ h).0)
-tick_alone s (Put r w m i f ∷ P) h = alone-more (calls_for s P (Put r w m i f)) (owed s P) (no_ticks w (calls_for s P (Put r w m i f)) (result-at s w (frame m i) f P (node s w).work)) (tick_alone s P (and_parts _ _ h).0)
-tick_alone s (Settle r w ∷ P) h = alone-more (calls_for s P (Settle r w)) (owed s P) (no_ticks w (calls_for s P (Settle r w)) (flush-at w (least_first s (waiting s w P)))) (tick_alone s P (and_parts _ _ h).0)
+tick_alone s (Emit w m i why ∷ P) h =
+    alone-more (calls_for s P (Emit w m i why)) (owed s P) (no_ticks_in_offers (frame m i) (offered_to s P w)) (tick_alone s P (and_parts _ _ h).0)
+tick_alone s (Put r w m i f ∷ P) h =
+    alone-more (calls_for s P (Put r w m i f)) (owed s P) (no_ticks w (calls_for s P (Put r w m i f)) (result-at s w (frame m i) f P (node s w).work))
+    (tick_alone s P (and_parts _ _ h).0)
+tick_alone s (Settle r w ∷ P) h =
+    alone-more (calls_for s P (Settle r w)) (owed s P) (no_ticks w (calls_for s P (Settle r w)) (flush-at w (least_first s (waiting s w P))))
+    (tick_alone s P (and_parts _ _ h).0)
 tick_alone s (_ ∷ P) h = inl (alone-rest (owed s P) (tick_alone s P (and_parts _ _ h).0))
 
 alone-tail : (ds : List Entry) (head : Entry) (rest : List Entry) (u : ℕ) → ds ≡ head ∷ rest → head ≡ Tick u → TickAlone ds → drop 1 ds ≡ []
@@ -98,7 +104,8 @@ owed-Tick s t P h =
 -- SORTED NODES
 
 -- one that waits is taken away
-pub removed : (a : FrameName) (t : FrameName → Bool) (ws : List Waiting) → 1 ≤ count (waits (λ x. same x a)) ws → count (waits t) ws ≡ bit (t a) + count (waits t) (not_waiting a ws)
+pub removed : (a : FrameName) (t : FrameName → Bool) (ws : List Waiting) → 1 ≤ count (waits (λ x. same x a)) ws
+    → count (waits t) ws ≡ bit (t a) + count (waits t) (not_waiting a ws)
 removed a t [] h = absurd (omega (arith, h))
 removed a t (w ∷ ws) h =
     elim (cases_Bool (same w.array a)) [
@@ -117,19 +124,23 @@ removed-le a t (w ∷ ws) =
     ]
 
 -- the head of what was owed, as an emission or a drop
-owed-out : (s : Setting) (e : Entry) (P : Past) (v : ℕ) (t : FrameName → Bool) (b : Bool) (head : Entry) (rest : List Entry) → owed s P ≡ head ∷ rest → out_of v t head ≡ b → count (out_of v t) (owed s P) ≡ bit b + count (out_of v t) (drop 1 (owed s P))
+owed-out : (s : Setting) (e : Entry) (P : Past) (v : ℕ) (t : FrameName → Bool) (b : Bool) (head : Entry) (rest : List Entry) → owed s P ≡ head ∷ rest
+    → out_of v t head ≡ b → count (out_of v t) (owed s P) ≡ bit b + count (out_of v t) (drop 1 (owed s P))
 owed-out s e P v t b head rest is same_test =
-    let was : count (out_of v t) (owed s P) ≡ bit (out_of v t head) + count (out_of v t) rest = ap (count (out_of v t)) is ∙ count-cons (out_of v t) head rest in
+    let was : count (out_of v t) (owed s P) ≡ bit (out_of v t head) + count (out_of v t) rest =
+    ap (count (out_of v t)) is ∙ count-cons (out_of v t) head rest in
     let left : count (out_of v t) (drop 1 (owed s P)) ≡ count (out_of v t) rest = ap (λ (ds : List Entry). count (out_of v t) (drop 1 ds)) is in
     omega (arith, was, left, ap bit same_test)
 
-pub owed-Emit_out : (s : Setting) (w m i : ℕ) (why : Why) (P : Past) (v : ℕ) (t : FrameName → Bool) → is_legal s (Emit w m i why ∷ P) ≡ true → count (out_of v t) (owed s P) ≡ bit (eqb w v && t (frame m i)) + count (out_of v t) (drop 1 (owed s P))
+pub owed-Emit_out : (s : Setting) (w m i : ℕ) (why : Why) (P : Past) (v : ℕ) (t : FrameName → Bool) → is_legal s (Emit w m i why ∷ P) ≡ true
+    → count (out_of v t) (owed s P) ≡ bit (eqb w v && t (frame m i)) + count (out_of v t) (drop 1 (owed s P))
 owed-Emit_out s w m i why P v t h =
     let a = owed-answered s (Emit w m i why) P refl h in
     let is = answers-by_Emit s P w m i why a.head a.answer in
     owed-out s (Emit w m i why) P v t (eqb w v && t (frame m i)) a.head a.rest a.is (ap (out_of v t) is.1)
 
-pub owed-SortDrop_out : (s : Setting) (w m i : ℕ) (P : Past) (v : ℕ) (t : FrameName → Bool) → is_legal s (SortDrop w m i ∷ P) ≡ true → count (out_of v t) (owed s P) ≡ bit (eqb w v && t (frame m i)) + count (out_of v t) (drop 1 (owed s P))
+pub owed-SortDrop_out : (s : Setting) (w m i : ℕ) (P : Past) (v : ℕ) (t : FrameName → Bool) → is_legal s (SortDrop w m i ∷ P) ≡ true
+    → count (out_of v t) (owed s P) ≡ bit (eqb w v && t (frame m i)) + count (out_of v t) (drop 1 (owed s P))
 owed-SortDrop_out s w m i P v t h =
     let a = owed-answered s (SortDrop w m i) P refl h in
     owed-out s (SortDrop w m i) P v t (eqb w v && t (frame m i)) a.head a.rest a.is (ap (out_of v t) (answers-by_SortDrop s P w m i a.head a.answer))
@@ -138,31 +149,41 @@ pub no_outs_in_offers : (v : ℕ) (t : FrameName → Bool) (a : FrameName) (cs :
 no_outs_in_offers v t a [] = refl
 no_outs_in_offers v t a (c ∷ cs) = no_outs_in_offers v t a cs
 
-pub result-sorted : (s : Setting) (v : ℕ) (a : FrameName) (f : Bool) (P : Past) (w : Work) → may_sort w ≡ true → is_sorted s v ≡ true → result s v a f P w ≡ sorted_result s v a (waiting s v P) (Put 0 v a.maker a.index f ∷ P)
+pub result-sorted : (s : Setting) (v : ℕ) (a : FrameName) (f : Bool) (P : Past) (w : Work) → may_sort w ≡ true → is_sorted s v ≡ true
+    → result s v a f P w ≡ sorted_result s v a (waiting s v P) (Put 0 v a.maker a.index f ∷ P)
 result-sorted s v a f P Makes h sorted = rw sorted refl
 result-sorted s v a f P (Passes d) h sorted = rw sorted refl
 result-sorted s v a f P (Watches pre post preset) h sorted = absurd (false≢true h)
 result-sorted s v a f P (Saves whole n) h sorted = absurd (false≢true h)
 
-pub waiting-put : (s : Setting) (v r m i : ℕ) (f : Bool) (P : Past) → is_sorted s v ≡ true → waiting s v (Put r v m i f ∷ P) ≡ waiting s v P ++ record { array = frame m i; tick = now P } ∷ []
+pub waiting-put : (s : Setting) (v r m i : ℕ) (f : Bool) (P : Past) → is_sorted s v ≡ true
+    → waiting s v (Put r v m i f ∷ P) ≡ waiting s v P ++ record { array = frame m i; tick = now P } ∷ []
 waiting-put s v r m i f P sorted = rw sorted (comes_here v (record { array = frame m i; tick = now P }) (waiting s v P))
 
 waiting-put_elsewhere : (s : Setting) (v r w m i : ℕ) (f : Bool) (P : Past) → is_sorted s v ≡ true → w ≢ v → waiting s v (Put r w m i f ∷ P) ≡ waiting s v P
 waiting-put_elsewhere s v r w m i f P sorted ne = rw sorted (comes_elsewhere v w (record { array = frame m i; tick = now P }) (waiting s v P) ne)
 
 -- what is still to go out of a sorted node waits there
-pub owed-waits : (s : Setting) (P : Past) (v : ℕ) (t : FrameName → Bool) → v ≢ 0 → is_sorted s v ≡ true → is_legal s P ≡ true → count (out_of v t) (owed s P) ≤ count (waits t) (waiting s v P)
+pub owed-waits : (s : Setting) (P : Past) (v : ℕ) (t : FrameName → Bool) → v ≢ 0 → is_sorted s v ≡ true → is_legal s P ≡ true
+    → count (out_of v t) (owed s P) ≤ count (waits t) (waiting s v P)
 owed-waits s [] v t nz sorted h = omega arith
 owed-waits s (Put r w m i f ∷ P) v t nz sorted h =
     let none : owed s P ≡ [] = owed-first s (Put r w m i f) P (λ d. refl) h in
-    let whole : count (out_of v t) (owed s (Put r w m i f ∷ P)) ≡ count (out_of v t) (calls_for s P (Put r w m i f)) + 0 = count-append (out_of v t) (calls_for s P (Put r w m i f)) (drop 1 (owed s P)) ∙ ap (λ (ds : List Entry). count (out_of v t) (calls_for s P (Put r w m i f)) + count (out_of v t) (drop 1 ds)) none in
+    let whole : count (out_of v t) (owed s (Put r w m i f ∷ P)) ≡ count (out_of v t) (calls_for s P (Put r w m i f)) + 0 =
+    count-append (out_of v t) (calls_for s P (Put r w m i f)) (drop 1 (owed s P))
+    ∙ ap (λ (ds : List Entry). count (out_of v t) (calls_for s P (Put r w m i f)) + count (out_of v t) (drop 1 ds)) none in
     elim (cases_Bool (eqb w v)) [
       | inl here ↦
           let is : w ≡ v = eqb-true w v here in
           subst (λ (u : ℕ). count (out_of v t) (owed s (Put r u m i f ∷ P)) ≤ count (waits t) (waiting s v (Put r u m i f ∷ P))) (sym is)
-          (let whole_v : count (out_of v t) (owed s (Put r v m i f ∷ P)) ≡ count (out_of v t) (calls_for s P (Put r v m i f)) + 0 = count-append (out_of v t) (calls_for s P (Put r v m i f)) (drop 1 (owed s P)) ∙ ap (λ (ds : List Entry). count (out_of v t) (calls_for s P (Put r v m i f)) + count (out_of v t) (drop 1 ds)) none in
-          let as_sorted : calls_for s P (Put r v m i f) ≡ sorted_result s v (frame m i) (waiting s v P) (Put 0 v m i f ∷ P) = result-sorted s v (frame m i) f P (node s v).work (and_parts _ _ sorted).0 sorted in
-          omega (arith, whole_v, ap (count (out_of v t)) as_sorted, count-sorted_result s v t (frame m i) (now P) (waiting s v P) (Put 0 v m i f ∷ P) (waiting-put s v 0 m i f P sorted), ap (count (waits t)) (waiting-put s v r m i f P sorted), ap (count (waits t)) (waiting-put s v 0 m i f P sorted)))
+          (let whole_v : count (out_of v t) (owed s (Put r v m i f ∷ P)) ≡ count (out_of v t) (calls_for s P (Put r v m i f)) + 0 =
+          count-append (out_of v t) (calls_for s P (Put r v m i f)) (drop 1 (owed s P))
+          ∙ ap (λ (ds : List Entry). count (out_of v t) (calls_for s P (Put r v m i f)) + count (out_of v t) (drop 1 ds)) none in
+          let as_sorted : calls_for s P (Put r v m i f) ≡ sorted_result s v (frame m i) (waiting s v P) (Put 0 v m i f ∷ P) =
+          result-sorted s v (frame m i) f P (node s v).work (and_parts _ _ sorted).0 sorted in
+          omega (arith, whole_v, ap (count (out_of v t)) as_sorted,
+          count-sorted_result s v t (frame m i) (now P) (waiting s v P) (Put 0 v m i f ∷ P) (waiting-put s v 0 m i f P sorted),
+          ap (count (waits t)) (waiting-put s v r m i f P sorted), ap (count (waits t)) (waiting-put s v 0 m i f P sorted)))
       | inr away ↦
           let ne : w ≢ v = λ e. true≢false (sym (eq-eqb w v e) ∙ away) in
           omega (arith, whole, none_elsewhere w v t (calls_for s P (Put r w m i f)) ne (result-at s w (frame m i) f P (node s w).work))
@@ -174,10 +195,12 @@ owed-waits s (Emit w m i why ∷ P) v t nz sorted h =
     elim (cases_Bool (eqb w v)) [
       | inl here ↦
           let there = owed-Emit_out s w m i why P v (λ x. same x (frame m i)) h in
-          let some : 1 ≤ count (waits (λ x. same x (frame m i))) (waiting s v P) = omega (arith, owed-waits s P v (λ x. same x (frame m i)) nz sorted legal, there, ap bit (and_from _ _ here (same_refl (frame m i)))) in
+          let some : 1 ≤ count (waits (λ x. same x (frame m i))) (waiting s v P) =
+          omega (arith, owed-waits s P v (λ x. same x (frame m i)) nz sorted legal, there, ap bit (and_from _ _ here (same_refl (frame m i)))) in
           let hit : (eqb w v && t (frame m i)) ≡ t (frame m i) = ap (λ (x : Bool). x && t (frame m i)) here in
           let goes : waiting s v (Emit w m i why ∷ P) ≡ not_waiting (frame m i) (waiting s v P) = rw here refl in
-          omega (arith, whole, no_outs_in_offers v t (frame m i) (offered_to s P w), was, ap bit hit, owed-waits s P v t nz sorted legal, removed (frame m i) t (waiting s v P) some, ap (count (waits t)) goes)
+          omega (arith, whole, no_outs_in_offers v t (frame m i) (offered_to s P w), was, ap bit hit, owed-waits s P v t nz sorted legal,
+          removed (frame m i) t (waiting s v P) some, ap (count (waits t)) goes)
       | inr away ↦
           let stays : waiting s v (Emit w m i why ∷ P) ≡ waiting s v P = rw away refl in
           omega (arith, whole, no_outs_in_offers v t (frame m i) (offered_to s P w), was, owed-waits s P v t nz sorted legal, ap (count (waits t)) stays)
@@ -188,7 +211,8 @@ owed-waits s (SortDrop w m i ∷ P) v t nz sorted h =
     elim (cases_Bool (eqb w v)) [
       | inl here ↦
           let there = owed-SortDrop_out s w m i P v (λ x. same x (frame m i)) h in
-          let some : 1 ≤ count (waits (λ x. same x (frame m i))) (waiting s v P) = omega (arith, owed-waits s P v (λ x. same x (frame m i)) nz sorted legal, there, ap bit (and_from _ _ here (same_refl (frame m i)))) in
+          let some : 1 ≤ count (waits (λ x. same x (frame m i))) (waiting s v P) =
+          omega (arith, owed-waits s P v (λ x. same x (frame m i)) nz sorted legal, there, ap bit (and_from _ _ here (same_refl (frame m i)))) in
           let hit : (eqb w v && t (frame m i)) ≡ t (frame m i) = ap (λ (x : Bool). x && t (frame m i)) here in
           let goes : waiting s v (SortDrop w m i ∷ P) ≡ not_waiting (frame m i) (waiting s v P) = rw here refl in
           omega (arith, was, ap bit hit, owed-waits s P v t nz sorted legal, removed (frame m i) t (waiting s v P) some, ap (count (waits t)) goes)
@@ -197,16 +221,24 @@ owed-waits s (SortDrop w m i ∷ P) v t nz sorted h =
           omega (arith, was, owed-waits s P v t nz sorted legal, ap (count (waits t)) stays)
     ]
 owed-waits s (Tick u ∷ P) v t nz sorted h =
-    let whole : count (out_of v t) (owed s (Tick u ∷ P)) ≡ count (out_of v t) (looks s (Tick u ∷ P) (node_numbers s)) + 0 = count-append (out_of v t) (looks s (Tick u ∷ P) (node_numbers s)) (drop 1 (owed s P)) ∙ ap (λ (ds : List Entry). count (out_of v t) (looks s (Tick u ∷ P) (node_numbers s)) + count (out_of v t) ds) (owed-Tick s u P h) in
-    let most : count (out_of v t) (looks s (Tick u ∷ P) (node_numbers s)) ≤ count (waits t) (waiting s v P) = subst (λ (b : Bool). count (out_of v t) (looks s (Tick u ∷ P) (node_numbers s)) ≤ cond b (count (waits t) (waiting s v P)) 0) sorted (looks-le s (Tick u ∷ P) v t (node_numbers s) (once_numbered s v)) in
+    let whole : count (out_of v t) (owed s (Tick u ∷ P)) ≡ count (out_of v t) (looks s (Tick u ∷ P) (node_numbers s)) + 0 =
+    count-append (out_of v t) (looks s (Tick u ∷ P) (node_numbers s)) (drop 1 (owed s P))
+    ∙ ap (λ (ds : List Entry). count (out_of v t) (looks s (Tick u ∷ P) (node_numbers s)) + count (out_of v t) ds) (owed-Tick s u P h) in
+    let most : count (out_of v t) (looks s (Tick u ∷ P) (node_numbers s)) ≤ count (waits t) (waiting s v P) =
+    subst (λ (b : Bool). count (out_of v t) (looks s (Tick u ∷ P) (node_numbers s)) ≤ cond b (count (waits t) (waiting s v P)) 0) sorted
+    (looks-le s (Tick u ∷ P) v t (node_numbers s) (once_numbered s v)) in
     omega (arith, whole, most)
 owed-waits s (Settle r w ∷ P) v t nz sorted h =
     let none : owed s P ≡ [] = owed-first s (Settle r w) P (λ d. refl) h in
-    let whole : count (out_of v t) (owed s (Settle r w ∷ P)) ≡ count (out_of v t) (calls_for s P (Settle r w)) + 0 = count-append (out_of v t) (calls_for s P (Settle r w)) (drop 1 (owed s P)) ∙ ap (λ (ds : List Entry). count (out_of v t) (calls_for s P (Settle r w)) + count (out_of v t) (drop 1 ds)) none in
+    let whole : count (out_of v t) (owed s (Settle r w ∷ P)) ≡ count (out_of v t) (calls_for s P (Settle r w)) + 0 =
+    count-append (out_of v t) (calls_for s P (Settle r w)) (drop 1 (owed s P))
+    ∙ ap (λ (ds : List Entry). count (out_of v t) (calls_for s P (Settle r w)) + count (out_of v t) (drop 1 ds)) none in
     elim (cases_Bool (eqb w v)) [
       | inl here ↦
           let is : w ≡ v = eqb-true w v here in
-          let calls : count (out_of v t) (calls_for s P (Settle r w)) ≡ count (waits t) (waiting s v P) = subst (λ (u : ℕ). count (out_of v t) (calls_for s P (Settle r u)) ≡ count (waits t) (waiting s v P)) (sym is) (count-flush v t (least_first s (waiting s v P)) ∙ count-least_first s (waits t) (waiting s v P)) in
+          let calls : count (out_of v t) (calls_for s P (Settle r w)) ≡ count (waits t) (waiting s v P) =
+          subst (λ (u : ℕ). count (out_of v t) (calls_for s P (Settle r u)) ≡ count (waits t) (waiting s v P)) (sym is)
+          (count-flush v t (least_first s (waiting s v P)) ∙ count-least_first s (waits t) (waiting s v P)) in
           omega (arith, whole, calls)
       | inr away ↦
           let ne : w ≢ v = λ e. true≢false (sym (eq-eqb w v e) ∙ away) in
@@ -214,39 +246,49 @@ owed-waits s (Settle r w ∷ P) v t nz sorted h =
     ]
 owed-waits s (Issue r i ∷ P) v t nz sorted h =
     let away : (eqb 0 v && t (frame 0 i)) ≡ false = ap (λ (x : Bool). x && t (frame 0 i)) (ne_eqb 0 v (λ e. nz (sym e))) in
-    omega (arith, owed-waits s P v t nz sorted (and_parts _ _ h).0, count-cons (out_of v t) (Emit 0 0 i Plain) (drop 1 (owed s P)), ap bit away, count-drop (out_of v t) (owed s P))
+    omega (arith, owed-waits s P v t nz sorted (and_parts _ _ h).0, count-cons (out_of v t) (Emit 0 0 i Plain) (drop 1 (owed s P)), ap bit away,
+    count-drop (out_of v t) (owed s P))
 owed-waits s (_ ∷ P) v t nz sorted h = omega (arith, owed-waits s P v t nz sorted (and_parts _ _ h).0, count-drop (out_of v t) (owed s P))
 
 pub puts-of_index : (v k : ℕ) (P : Past) → count (puts_of v (of_index k)) P ≡ count (puts_at v k) P
 puts-of_index v k [] = refl
-puts-of_index v k (Put r w m i f ∷ P) = omega (arith, puts-of_index v k P, count-cons (puts_of v (of_index k)) (Put r w m i f) P, count-cons (puts_at v k) (Put r w m i f) P)
+puts-of_index v k (Put r w m i f ∷ P) =
+    omega (arith, puts-of_index v k P, count-cons (puts_of v (of_index k)) (Put r w m i f) P, count-cons (puts_at v k) (Put r w m i f) P)
 puts-of_index v k (_ ∷ P) = puts-of_index v k P
 
 -- what waits of the emission or drop that comes
-pub drop-waits : (s : Setting) (v m i : ℕ) (P : Past) → v ≢ 0 → is_sorted s v ≡ true → is_legal s (SortDrop v m i ∷ P) ≡ true → 1 ≤ count (waits (λ x. same x (frame m i))) (waiting s v P)
+pub drop-waits : (s : Setting) (v m i : ℕ) (P : Past) → v ≢ 0 → is_sorted s v ≡ true → is_legal s (SortDrop v m i ∷ P) ≡ true
+    → 1 ≤ count (waits (λ x. same x (frame m i))) (waiting s v P)
 drop-waits s v m i P nz sorted h =
     let there = owed-SortDrop_out s v m i P v (λ x. same x (frame m i)) h in
-    omega (arith, owed-waits s P v (λ x. same x (frame m i)) nz sorted (and_parts _ _ h).0, there, ap bit (and_from _ _ (eq-eqb v v refl) (same_refl (frame m i))))
+    omega (arith, owed-waits s P v (λ x. same x (frame m i)) nz sorted (and_parts _ _ h).0, there,
+    ap bit (and_from _ _ (eq-eqb v v refl) (same_refl (frame m i))))
 
-emit-waits : (s : Setting) (v m i : ℕ) (why : Why) (P : Past) → v ≢ 0 → is_sorted s v ≡ true → is_legal s (Emit v m i why ∷ P) ≡ true → 1 ≤ count (waits (λ x. same x (frame m i))) (waiting s v P)
+emit-waits : (s : Setting) (v m i : ℕ) (why : Why) (P : Past) → v ≢ 0 → is_sorted s v ≡ true → is_legal s (Emit v m i why ∷ P) ≡ true
+    → 1 ≤ count (waits (λ x. same x (frame m i))) (waiting s v P)
 emit-waits s v m i why P nz sorted h =
     let there = owed-Emit_out s v m i why P v (λ x. same x (frame m i)) h in
-    omega (arith, owed-waits s P v (λ x. same x (frame m i)) nz sorted (and_parts _ _ h).0, there, ap bit (and_from _ _ (eq-eqb v v refl) (same_refl (frame m i))))
+    omega (arith, owed-waits s P v (λ x. same x (frame m i)) nz sorted (and_parts _ _ h).0, there,
+    ap bit (and_from _ _ (eq-eqb v v refl) (same_refl (frame m i))))
 
 -- what was put at a sorted node went out, was dropped or waits
-pub sorted-outs : (s : Setting) (P : Past) (v : ℕ) (t : FrameName → Bool) → v ≢ 0 → is_sorted s v ≡ true → is_legal s P ≡ true → count (out_of v t) P + count (waits t) (waiting s v P) ≡ count (puts_of v t) P
+pub sorted-outs : (s : Setting) (P : Past) (v : ℕ) (t : FrameName → Bool) → v ≢ 0 → is_sorted s v ≡ true → is_legal s P ≡ true
+    → count (out_of v t) P + count (waits t) (waiting s v P) ≡ count (puts_of v t) P
 sorted-outs s [] v t nz sorted h = refl
 sorted-outs s (Put r w m i f ∷ P) v t nz sorted h =
     let before = sorted-outs s P v t nz sorted (and_parts _ _ h).0 in
     let new : Waiting = record { array = frame m i; tick = now P } in
     elim (cases_Bool (eqb w v)) [
       | inl here ↦
-          let goes : waiting s v (Put r w m i f ∷ P) ≡ waiting s v P ++ new ∷ [] = subst (λ (u : ℕ). waiting s v (Put r u m i f ∷ P) ≡ waiting s v P ++ new ∷ []) (sym (eqb-true w v here)) (waiting-put s v r m i f P sorted) in
+          let goes : waiting s v (Put r w m i f ∷ P) ≡ waiting s v P ++ new ∷ [] =
+          subst (λ (u : ℕ). waiting s v (Put r u m i f ∷ P) ≡ waiting s v P ++ new ∷ []) (sym (eqb-true w v here)) (waiting-put s v r m i f P sorted) in
           let hit : puts_of v t (Put r w m i f) ≡ t (frame m i) = ap (λ (x : Bool). x && t (frame m i)) here in
-          omega (arith, before, ap (count (waits t)) goes, count-append (waits t) (waiting s v P) (new ∷ []), count-cons (waits t) new [], count-cons (puts_of v t) (Put r w m i f) P, ap bit hit)
+          omega (arith, before, ap (count (waits t)) goes, count-append (waits t) (waiting s v P) (new ∷ []), count-cons (waits t) new [],
+          count-cons (puts_of v t) (Put r w m i f) P, ap bit hit)
       | inr away ↦
           let miss : puts_of v t (Put r w m i f) ≡ false = ap (λ (x : Bool). x && t (frame m i)) away in
-          omega (arith, before, ap (count (waits t)) (waiting-put_elsewhere s v r w m i f P sorted (eqb-false w v away)), count-cons (puts_of v t) (Put r w m i f) P, ap bit miss)
+          omega (arith, before, ap (count (waits t)) (waiting-put_elsewhere s v r w m i f P sorted (eqb-false w v away)),
+          count-cons (puts_of v t) (Put r w m i f) P, ap bit miss)
     ]
 sorted-outs s (Emit w m i why ∷ P) v t nz sorted h =
     let before = sorted-outs s P v t nz sorted (and_parts _ _ h).0 in
@@ -276,7 +318,8 @@ sorted-outs s (SortDrop w m i ∷ P) v t nz sorted h =
     ]
 sorted-outs s (_ ∷ P) v t nz sorted h = sorted-outs s P v t nz sorted (and_parts _ _ h).0
 
-pub sorted-emits : (s : Setting) (P : Past) (v k : ℕ) → v ≢ 0 → is_sorted s v ≡ true → is_legal s P ≡ true → count (emits_at v k) P + count (waits (of_index k)) (waiting s v P) ≤ count (puts_at v k) P
+pub sorted-emits : (s : Setting) (P : Past) (v k : ℕ) → v ≢ 0 → is_sorted s v ≡ true → is_legal s P ≡ true
+    → count (emits_at v k) P + count (waits (of_index k)) (waiting s v P) ≤ count (puts_at v k) P
 sorted-emits s P v k nz sorted h = omega (arith, sorted-outs s P v (of_index k) nz sorted h, emits-le v k P, puts-of_index v k P)
 
 -- OTHER NODES
@@ -296,7 +339,8 @@ waiting-unsorted s v (SortDrop w m i ∷ P) u =
     ]
 waiting-unsorted s v (_ ∷ P) u = waiting-unsorted s v P u
 
-comes-length : {X Y : Type 0} (v w : ℕ) (x : X) (y : Y) (xs : List X) (ys : List Y) → length xs ≡ length ys → length (comes_at v w x xs) ≡ length (comes_at v w y ys)
+comes-length : {X Y : Type 0} (v w : ℕ) (x : X) (y : Y) (xs : List X) (ys : List Y) → length xs ≡ length ys
+    → length (comes_at v w x xs) ≡ length (comes_at v w y ys)
 comes-length v w x y xs ys h =
     elim (eqb w v) as (λ b. length (cond b (xs ++ x ∷ []) xs) ≡ length (cond b (ys ++ y ∷ []) ys)) [
       | true ↦ omega (arith, h, length-append xs (x ∷ []), length-append ys (y ∷ []))
@@ -327,8 +371,10 @@ emits-one v t why a =
     let hit : out_of v t (emit v why a) ≡ t a = ap (λ (b : Bool). b && t a) (eq-eqb v v refl) in
     omega (arith, count-cons (out_of v t) (emit v why a) [], ap bit hit)
 
-watched-count : (v : ℕ) (t : FrameName → Bool) (a : FrameName) (xs : List FrameName) (b c : Bool) → count (out_of v t) (cond b (map (emit v Ring) xs) [] ++ cond c (emit v Now a ∷ []) []) ≡ cond b (count t xs) 0 + cond c (bit (t a)) 0
-watched-count v t a xs true true = count-append (out_of v t) (map (emit v Ring) xs) (emit v Now a ∷ []) ∙ omega (arith, emits-map v t Ring xs, emits-one v t Now a)
+watched-count : (v : ℕ) (t : FrameName → Bool) (a : FrameName) (xs : List FrameName) (b c : Bool)
+    → count (out_of v t) (cond b (map (emit v Ring) xs) [] ++ cond c (emit v Now a ∷ []) []) ≡ cond b (count t xs) 0 + cond c (bit (t a)) 0
+watched-count v t a xs true true =
+    count-append (out_of v t) (map (emit v Ring) xs) (emit v Now a ∷ []) ∙ omega (arith, emits-map v t Ring xs, emits-one v t Now a)
 watched-count v t a xs true false = count-append (out_of v t) (map (emit v Ring) xs) [] ∙ omega (arith, emits-map v t Ring xs)
 watched-count v t a xs false true = omega (arith, emits-one v t Now a)
 watched-count v t a xs false false = refl
@@ -338,9 +384,14 @@ cond-le true m n h = h
 cond-le false m n h = omega arith
 
 -- what a put sends out and leaves in the ring
-result-unsorted : (s : Setting) (v : ℕ) (t : FrameName → Bool) (a : FrameName) (f : Bool) (P : Past) (w : Work) → is_sorted s v ≡ false → length (firings v P) ≡ length (puts v P) → count t (ring s v P) ≤ count t (ring_of w (firings v P) (puts v P)) → count (out_of v t) (result s v a f P w) + count t (ring_of w (firings v P ++ f ∷ []) (puts v P ++ a ∷ [])) ≤ bit (t a) + count t (ring_of w (firings v P) (puts v P))
-result-unsorted s v t a f P Makes u long le = let plain : result s v a f P Makes ≡ emit v Plain a ∷ [] = rw u refl in omega (arith, ap (count (out_of v t)) plain, emits-one v t Plain a)
-result-unsorted s v t a f P (Passes d) u long le = let plain : result s v a f P (Passes d) ≡ emit v Plain a ∷ [] = rw u refl in omega (arith, ap (count (out_of v t)) plain, emits-one v t Plain a)
+result-unsorted : (s : Setting) (v : ℕ) (t : FrameName → Bool) (a : FrameName) (f : Bool) (P : Past) (w : Work) → is_sorted s v ≡ false
+    → length (firings v P) ≡ length (puts v P) → count t (ring s v P) ≤ count t (ring_of w (firings v P) (puts v P))
+    → count (out_of v t) (result s v a f P w) + count t (ring_of w (firings v P ++ f ∷ []) (puts v P ++ a ∷ []))
+    ≤ bit (t a) + count t (ring_of w (firings v P) (puts v P))
+result-unsorted s v t a f P Makes u long le =
+    let plain : result s v a f P Makes ≡ emit v Plain a ∷ [] = rw u refl in omega (arith, ap (count (out_of v t)) plain, emits-one v t Plain a)
+result-unsorted s v t a f P (Passes d) u long le =
+    let plain : result s v a f P (Passes d) ≡ emit v Plain a ∷ [] = rw u refl in omega (arith, ap (count (out_of v t)) plain, emits-one v t Plain a)
 result-unsorted s v t a f P (Saves whole n) u long le = omega arith
 result-unsorted s v t a f P (Watches pre post preset) u long le =
     let flags : List Bool = firings v P in
@@ -360,7 +411,8 @@ unsorted-none : (s : Setting) (v : ℕ) (t : FrameName → Bool) → 0 + 0 + cou
 unsorted-none s v t = omega (arith, empty_ring t (node s v).work)
 
 -- what went out of a node that isn't sorted, what will, and its ring were put
-pub unsorted-outs : (s : Setting) (P : Past) (v : ℕ) (t : FrameName → Bool) → v ≢ 0 → is_sorted s v ≡ false → is_legal s P ≡ true → count (out_of v t) P + count (out_of v t) (owed s P) + count t (kept_at s v P) ≤ count (puts_of v t) P
+pub unsorted-outs : (s : Setting) (P : Past) (v : ℕ) (t : FrameName → Bool) → v ≢ 0 → is_sorted s v ≡ false → is_legal s P ≡ true
+    → count (out_of v t) P + count (out_of v t) (owed s P) + count t (kept_at s v P) ≤ count (puts_of v t) P
 unsorted-outs s [] v t nz u h = unsorted-none s v t
 unsorted-outs s (Put r w m i f ∷ P) v t nz u h =
     let before = unsorted-outs s P v t nz u (and_parts _ _ h).0 in
@@ -368,42 +420,60 @@ unsorted-outs s (Put r w m i f ∷ P) v t nz u h =
     elim (cases_Bool (eqb w v)) [
       | inl here ↦
           let is : w ≡ v = eqb-true w v here in
-          subst (λ (x : ℕ). count (out_of v t) P + count (out_of v t) (owed s (Put r x m i f ∷ P)) + count t (kept_at s v (Put r x m i f ∷ P)) ≤ count (puts_of v t) (Put r x m i f ∷ P)) (sym is)
-          (let whole : count (out_of v t) (owed s (Put r v m i f ∷ P)) ≡ count (out_of v t) (calls_for s P (Put r v m i f)) + 0 = count-append (out_of v t) (calls_for s P (Put r v m i f)) (drop 1 (owed s P)) ∙ ap (λ (ds : List Entry). count (out_of v t) (calls_for s P (Put r v m i f)) + count (out_of v t) (drop 1 ds)) none in
+          subst (λ (x : ℕ). count (out_of v t) P + count (out_of v t) (owed s (Put r x m i f ∷ P)) + count t (kept_at s v (Put r x m i f ∷ P))
+          ≤ count (puts_of v t) (Put r x m i f ∷ P)) (sym is)
+          (let whole : count (out_of v t) (owed s (Put r v m i f ∷ P)) ≡ count (out_of v t) (calls_for s P (Put r v m i f)) + 0 =
+          count-append (out_of v t) (calls_for s P (Put r v m i f)) (drop 1 (owed s P))
+          ∙ ap (λ (ds : List Entry). count (out_of v t) (calls_for s P (Put r v m i f)) + count (out_of v t) (drop 1 ds)) none in
           let flags : firings v (Put r v m i f ∷ P) ≡ firings v P ++ f ∷ [] = comes_here v f (firings v P) in
           let arrays : puts v (Put r v m i f ∷ P) ≡ puts v P ++ frame m i ∷ [] = comes_here v (frame m i) (puts v P) in
-          let after : kept_at s v (Put r v m i f ∷ P) ≡ ring_of (node s v).work (firings v P ++ f ∷ []) (puts v P ++ frame m i ∷ []) = ap (λ (fs : List Bool). ring_of (node s v).work fs (puts v (Put r v m i f ∷ P))) flags ∙ ap (λ (xs : List FrameName). ring_of (node s v).work (firings v P ++ f ∷ []) xs) arrays in
+          let after : kept_at s v (Put r v m i f ∷ P) ≡ ring_of (node s v).work (firings v P ++ f ∷ []) (puts v P ++ frame m i ∷ []) =
+          ap (λ (fs : List Bool). ring_of (node s v).work fs (puts v (Put r v m i f ∷ P))) flags
+          ∙ ap (λ (xs : List FrameName). ring_of (node s v).work (firings v P ++ f ∷ []) xs) arrays in
           let hit : puts_of v t (Put r v m i f) ≡ t (frame m i) = ap (λ (x : Bool). x && t (frame m i)) (eq-eqb v v refl) in
-          omega (arith, before, whole, ap (count t) after, result-unsorted s v t (frame m i) f P (node s v).work u (flags-puts v P) (ring-le s v P t), count-cons (puts_of v t) (Put r v m i f) P, ap bit hit))
+          omega (arith, before, whole, ap (count t) after, result-unsorted s v t (frame m i) f P (node s v).work u (flags-puts v P) (ring-le s v P t),
+          count-cons (puts_of v t) (Put r v m i f) P, ap bit hit))
       | inr away ↦
           let ne : w ≢ v = λ e. true≢false (sym (eq-eqb w v e) ∙ away) in
           let whole = count-append (out_of v t) (calls_for s P (Put r w m i f)) (drop 1 (owed s P)) in
           let flags : firings v (Put r w m i f ∷ P) ≡ firings v P = comes_elsewhere v w f (firings v P) ne in
           let arrays : puts v (Put r w m i f ∷ P) ≡ puts v P = comes_elsewhere v w (frame m i) (puts v P) ne in
-          let after : kept_at s v (Put r w m i f ∷ P) ≡ kept_at s v P = ap (λ (fs : List Bool). ring_of (node s v).work fs (puts v (Put r w m i f ∷ P))) flags ∙ ap (λ (xs : List FrameName). ring_of (node s v).work (firings v P) xs) arrays in
-          omega (arith, before, whole, none_elsewhere w v t (calls_for s P (Put r w m i f)) ne (result-at s w (frame m i) f P (node s w).work), count-drop (out_of v t) (owed s P), ap (count t) after, count-cons (puts_of v t) (Put r w m i f) P)
+          let after : kept_at s v (Put r w m i f ∷ P) ≡ kept_at s v P =
+          ap (λ (fs : List Bool). ring_of (node s v).work fs (puts v (Put r w m i f ∷ P))) flags
+          ∙ ap (λ (xs : List FrameName). ring_of (node s v).work (firings v P) xs) arrays in
+          omega (arith, before, whole, none_elsewhere w v t (calls_for s P (Put r w m i f)) ne (result-at s w (frame m i) f P (node s w).work),
+          count-drop (out_of v t) (owed s P), ap (count t) after, count-cons (puts_of v t) (Put r w m i f) P)
     ]
 unsorted-outs s (Emit w m i why ∷ P) v t nz u h =
-    omega (arith, unsorted-outs s P v t nz u (and_parts _ _ h).0, owed-Emit_out s w m i why P v t h, count-append (out_of v t) (map (offer (frame m i)) (offered_to s P w)) (drop 1 (owed s P)), no_outs_in_offers v t (frame m i) (offered_to s P w), count-cons (out_of v t) (Emit w m i why) P)
+    omega (arith, unsorted-outs s P v t nz u (and_parts _ _ h).0, owed-Emit_out s w m i why P v t h,
+    count-append (out_of v t) (map (offer (frame m i)) (offered_to s P w)) (drop 1 (owed s P)), no_outs_in_offers v t (frame m i) (offered_to s P w),
+    count-cons (out_of v t) (Emit w m i why) P)
 unsorted-outs s (SortDrop w m i ∷ P) v t nz u h =
     omega (arith, unsorted-outs s P v t nz u (and_parts _ _ h).0, owed-SortDrop_out s w m i P v t h, count-cons (out_of v t) (SortDrop w m i) P)
 unsorted-outs s (Tick z ∷ P) v t nz u h =
-    let none : count (out_of v t) (looks s (Tick z ∷ P) (node_numbers s)) ≤ 0 = subst (λ (b : Bool). count (out_of v t) (looks s (Tick z ∷ P) (node_numbers s)) ≤ cond b (count (waits t) (waiting s v P)) 0) u (looks-le s (Tick z ∷ P) v t (node_numbers s) (once_numbered s v)) in
-    omega (arith, unsorted-outs s P v t nz u (and_parts _ _ h).0, count-append (out_of v t) (calls_for s P (Tick z)) (drop 1 (owed s P)), none, count-drop (out_of v t) (owed s P))
+    let none : count (out_of v t) (looks s (Tick z ∷ P) (node_numbers s)) ≤ 0 =
+    subst (λ (b : Bool). count (out_of v t) (looks s (Tick z ∷ P) (node_numbers s)) ≤ cond b (count (waits t) (waiting s v P)) 0) u
+    (looks-le s (Tick z ∷ P) v t (node_numbers s) (once_numbered s v)) in
+    omega (arith, unsorted-outs s P v t nz u (and_parts _ _ h).0, count-append (out_of v t) (calls_for s P (Tick z)) (drop 1 (owed s P)), none,
+    count-drop (out_of v t) (owed s P))
 unsorted-outs s (Settle r w ∷ P) v t nz u h =
     let whole = count-append (out_of v t) (calls_for s P (Settle r w)) (drop 1 (owed s P)) in
     elim (cases_Bool (eqb w v)) [
       | inl here ↦
           let is : w ≡ v = eqb-true w v here in
-          let calls : calls_for s P (Settle r w) ≡ [] = ap (λ (x : ℕ). calls_for s P (Settle r x)) is ∙ ap (λ (ws : List Waiting). map (λ (x : Waiting). emit v Flush x.array) (least_first s ws)) (waiting-unsorted s v P u) in
+          let calls : calls_for s P (Settle r w) ≡ [] =
+          ap (λ (x : ℕ). calls_for s P (Settle r x)) is
+          ∙ ap (λ (ws : List Waiting). map (λ (x : Waiting). emit v Flush x.array) (least_first s ws)) (waiting-unsorted s v P u) in
           omega (arith, unsorted-outs s P v t nz u (and_parts _ _ h).0, whole, ap (count (out_of v t)) calls, count-drop (out_of v t) (owed s P))
       | inr away ↦
           let ne : w ≢ v = λ e. true≢false (sym (eq-eqb w v e) ∙ away) in
-          omega (arith, unsorted-outs s P v t nz u (and_parts _ _ h).0, whole, none_elsewhere w v t (calls_for s P (Settle r w)) ne (flush-at w (least_first s (waiting s w P))), count-drop (out_of v t) (owed s P))
+          omega (arith, unsorted-outs s P v t nz u (and_parts _ _ h).0, whole,
+          none_elsewhere w v t (calls_for s P (Settle r w)) ne (flush-at w (least_first s (waiting s w P))), count-drop (out_of v t) (owed s P))
     ]
 unsorted-outs s (Issue r i ∷ P) v t nz u h =
     let away : (eqb 0 v && t (frame 0 i)) ≡ false = ap (λ (x : Bool). x && t (frame 0 i)) (ne_eqb 0 v (λ e. nz (sym e))) in
-    omega (arith, unsorted-outs s P v t nz u (and_parts _ _ h).0, count-cons (out_of v t) (Emit 0 0 i Plain) (drop 1 (owed s P)), ap bit away, count-drop (out_of v t) (owed s P))
+    omega (arith, unsorted-outs s P v t nz u (and_parts _ _ h).0, count-cons (out_of v t) (Emit 0 0 i Plain) (drop 1 (owed s P)), ap bit away,
+    count-drop (out_of v t) (owed s P))
 unsorted-outs s (_ ∷ P) v t nz u h = omega (arith, unsorted-outs s P v t nz u (and_parts _ _ h).0, count-drop (out_of v t) (owed s P))
 
 -- so no more goes out of a node than was put there

@@ -41,7 +41,8 @@ pub count-let_go : (p : Entry → Bool) (r : ℕ) (e : Entry) (hs : List Entry) 
 count-let_go p r e [] h = cc
 count-let_go p r e (x ∷ hs) h =
     elim (cases_Bool (takes_up r x)) [
-      | inl here ↦ let same : Some x ≡ Some e = rw here at h in let is : x ≡ e = cc in rw here (count-cons p x hs ∙ ap (λ (y : Entry). bit (p y) + count p hs) is)
+      | inl here ↦
+          let same : Some x ≡ Some e = rw here at h in let is : x ≡ e = cc in rw here (count-cons p x hs ∙ ap (λ (y : Entry). bit (p y) + count p hs) is)
       | inr away ↦
           let rest = count-let_go p r e hs (rw away at h) in
           let more = count-cons p x (let_go r hs) in
@@ -76,7 +77,8 @@ arrives_at c k _ = false
 
 pub arrives-le : (c k : ℕ) (es : List Entry) → count (accepts_at c k) es ≤ count (arrives_at c k) es
 arrives-le c k [] = omega arith
-arrives-le c k (Accept w m j ∷ es) = omega (arith, arrives-le c k es, count-cons (accepts_at c k) (Accept w m j) es, count-cons (arrives_at c k) (Accept w m j) es)
+arrives-le c k (Accept w m j ∷ es) =
+    omega (arith, arrives-le c k es, count-cons (accepts_at c k) (Accept w m j) es, count-cons (arrives_at c k) (Accept w m j) es)
 arrives-le c k (Full w m j ∷ es) = omega (arith, arrives-le c k es, count-cons (arrives_at c k) (Full w m j) es)
 arrives-le c k (_ ∷ es) = arrives-le c k es
 
@@ -104,7 +106,8 @@ leaves_at v k _ = false
 pub takes-le : (v k : ℕ) (es : List Entry) → count (takes_at v k) es ≤ count (leaves_at v k) es
 takes-le v k [] = omega arith
 takes-le v k (Take r w m j ∷ es) = omega (arith, takes-le v k es, count-cons (takes_at v k) (Take r w m j) es, count-cons (leaves_at v k) (Take r w m j) es)
-takes-le v k (TakeBlock f x r w m j b n g ∷ es) = omega (arith, takes-le v k es, count-cons (takes_at v k) (TakeBlock f x r w m j b n g) es, count-cons (leaves_at v k) (TakeBlock f x r w m j b n g) es)
+takes-le v k (TakeBlock f x r w m j b n g ∷ es) =
+    omega (arith, takes-le v k es, count-cons (takes_at v k) (TakeBlock f x r w m j b n g) es, count-cons (leaves_at v k) (TakeBlock f x r w m j b n g) es)
 takes-le v k (PoolDrop r w m j n h ∷ es) = omega (arith, takes-le v k es, count-cons (leaves_at v k) (PoolDrop r w m j n h) es)
 takes-le v k (_ ∷ es) = takes-le v k es
 
@@ -152,7 +155,8 @@ drop-same : (w n j v m k : ℕ) → (w ≡ v) × (n ≡ m) × (j ≡ k) → Sort
 drop-same w n j v m k h = let a : w ≡ v = h.0 in let b : n ≡ m = h.1 in let c : j ≡ k = h.2 in cc
 
 -- an offer is wanted as an Accept or a Full, and so no other entry answers it
-offer-other : (s : Setting) (P : Past) (e : Entry) (c n j : ℕ) → is_such e (Accept c n j) ≡ false → is_such e (Full c n j) ≡ false → answers s P e (Accept c n j) ≡ false
+offer-other : (s : Setting) (P : Past) (e : Entry) (c n j : ℕ) → is_such e (Accept c n j) ≡ false → is_such e (Full c n j) ≡ false
+    → answers s P e (Accept c n j) ≡ false
 offer-other s P e c n j a b =
     elim (cases_Bool (has_room s P c)) [ inl room ↦ rw room a | inr full ↦ rw full b ]
 
@@ -186,5 +190,6 @@ answers-by_Full s P v m k c j (Accept w n i) h =
       | inl room ↦ absurd (false≢true (rw room at h))
       | inr full ↦ let p = three-same w n i v m k (rw full at h) in ap (λ (x : ℕ). eqb x c && eqb i j) p.0 ∙ ap (λ (x : ℕ). eqb v c && eqb x j) p.2
     ]
-answers-by_Full s P v m k c j (Full w n i) h = let p = three-same w n i v m k h in ap (λ (x : ℕ). eqb x c && eqb i j) p.0 ∙ ap (λ (x : ℕ). eqb v c && eqb x j) p.2
+answers-by_Full s P v m k c j (Full w n i) h =
+    let p = three-same w n i v m k h in ap (λ (x : ℕ). eqb x c && eqb i j) p.0 ∙ ap (λ (x : ℕ). eqb v c && eqb x j) p.2
 answers-by_Full s P v m k c j _ h = absurd (false≢true h)

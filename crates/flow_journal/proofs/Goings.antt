@@ -59,7 +59,9 @@ look_called s P u false = refl
 
 looks_called : (s : Setting) (P : Past) (us : List ℕ) → list_all is_called (flat_map (λ u. cond (is_sorted s u) (look s u P) []) us) ≡ true
 looks_called s P [] = refl
-looks_called s P (u ∷ us) = all-append is_called (cond (is_sorted s u) (look s u P) []) (flat_map (λ x. cond (is_sorted s x) (look s x P) []) us) (look_called s P u (is_sorted s u)) (looks_called s P us)
+looks_called s P (u ∷ us) =
+    all-append is_called (cond (is_sorted s u) (look s u P) []) (flat_map (λ x. cond (is_sorted s x) (look s x P) []) us)
+    (look_called s P u (is_sorted s u)) (looks_called s P us)
 
 calls_called : (s : Setting) (P : Past) (e : Entry) → list_all is_called (calls_for s P e) ≡ true
 calls_called s P (Tick t) = looks_called s (Tick t ∷ P) (node_numbers s)
@@ -145,7 +147,8 @@ same_why Ring Ring h = refl
 same_why Now Now h = refl
 same_why _ _ h = absurd (false≢true h)
 
-same_emit : (v m k w n j : ℕ) (why how : Why) → (eqb v w && eqb m n && eqb k j && eqb (why_number why) (why_number how)) ≡ true → Emit v m k why ≡ Emit w n j how
+same_emit : (v m k w n j : ℕ) (why how : Why)
+    → (eqb v w && eqb m n && eqb k j && eqb (why_number why) (why_number how)) ≡ true → Emit v m k why ≡ Emit w n j how
 same_emit v m k w n j why how h =
     let p = and_parts (eqb v w && eqb m n && eqb k j) (eqb (why_number why) (why_number how)) h in
     let q = and_parts (eqb v w && eqb m n) (eqb k j) p.0 in
@@ -182,7 +185,8 @@ comes_as s P x d t h = such_same x (wanted s P d) (wanted_no_tick s P d t) h
 answer_tick : (s : Setting) (P : Past) (x d : Entry) → is_tick d ≡ false → answers s P x d ≡ true → is_tick x ≡ false
 answer_tick s P x d t h = ap is_tick (sym (comes_as s P x d t h)) ∙ wanted_no_tick s P d t
 
-some_owed : (s : Setting) (P : Past) (e : Entry) (ds : List Entry) → (not (is_nothing ds) && next s P e ds) ≡ true → (d : Entry) × (rest : List Entry) × (ds ≡ d ∷ rest) × (answers s P e d ≡ true)
+some_owed : (s : Setting) (P : Past) (e : Entry) (ds : List Entry) → (not (is_nothing ds) && next s P e ds) ≡ true
+    → (d : Entry) × (rest : List Entry) × (ds ≡ d ∷ rest) × (answers s P e d ≡ true)
 some_owed s P e [] h = absurd (false≢true h)
 some_owed s P e (d ∷ rest) h = (d, rest, refl, h)
 
@@ -199,7 +203,8 @@ pub record Quietly (s : Setting) (P : Past) (e : Entry) : Type 0 where
   pub no_tick : is_tick e ≡ false
   pub after : count is_tick (owed s (e ∷ P)) ≡ 0
 
-quietly : (s : Setting) (P : Past) (e d : Entry) (rest : List Entry) → count is_tick (owed s P) ≡ 0 → owed s P ≡ d ∷ rest → answers s P e d ≡ true → (is_tick d ≡ false) × Quietly s P e
+quietly : (s : Setting) (P : Past) (e d : Entry) (rest : List Entry) → count is_tick (owed s P) ≡ 0 → owed s P ≡ d ∷ rest → answers s P e d ≡ true
+    → (is_tick d ≡ false) × Quietly s P e
 quietly s P e d rest none is a =
     let all : count is_tick (owed s P) ≡ bit (is_tick d) + count is_tick rest = ap (count is_tick) is ∙ count-cons is_tick d rest in
     let quiet_d : is_tick d ≡ false = no_bit (is_tick d) (omega (arith, all, none)) in
@@ -252,7 +257,9 @@ is_Tick s P (Tick t) u h = (t, refl)
 is_Tick s P _ u h = absurd (false≢true h)
 
 -- after the tick of a load
-ticked : (s : Setting) (P : Past) (u : ℕ) (es : List Entry) → owed s P ≡ Tick u ∷ [] → follow s P es ≡ true → (t : ℕ) × (rest : List Entry) × (es ≡ Tick t ∷ rest) × (follow s (Tick t ∷ P) rest ≡ true) × (now (onto es P) ≡ t) × (count is_tick (owed s (Tick t ∷ P)) ≡ 0)
+ticked : (s : Setting) (P : Past) (u : ℕ) (es : List Entry) → owed s P ≡ Tick u ∷ [] → follow s P es ≡ true
+    → (t : ℕ) × (rest : List Entry) × (es ≡ Tick t ∷ rest) × (follow s (Tick t ∷ P) rest ≡ true) × (now (onto es P) ≡ t)
+    × (count is_tick (owed s (Tick t ∷ P)) ≡ 0)
 ticked s P u [] is h = absurd (false≢true (ap is_nothing (sym is) ∙ h))
 ticked s P u (e ∷ es) is h =
     let p = and_parts (not (is_nothing (owed s P)) && next s P e (owed s P)) (follow s (e ∷ P) es) h in
@@ -262,11 +269,13 @@ ticked s P u (e ∷ es) is h =
     let t = is_Tick s P e u (subst (λ (x : Entry). answers s P e x ≡ true) head d.3) in
     let on : follow s (Tick t.0 ∷ P) es ≡ true = subst (λ (x : Entry). follow s (x ∷ P) es ≡ true) t.1 p.1 in
     let left : count is_tick (drop 1 (owed s P)) ≡ 0 = ap (λ (ds : List Entry). count is_tick (drop 1 ds)) is in
-    let none : count is_tick (owed s (Tick t.0 ∷ P)) ≡ 0 = omega (arith, count-append is_tick (calls_for s P (Tick t.0)) (drop 1 (owed s P)), looks-ticks s (Tick t.0 ∷ P) (node_numbers s), left) in
+    let none : count is_tick (owed s (Tick t.0 ∷ P)) ≡ 0 =
+    omega (arith, count-append is_tick (calls_for s P (Tick t.0)) (drop 1 (owed s P)), looks-ticks s (Tick t.0 ∷ P) (node_numbers s), left) in
     let ends : now (onto es (e ∷ P)) ≡ t.0 = ap (λ (x : Entry). now (onto es (x ∷ P))) t.1 ∙ now_stays s (Tick t.0 ∷ P) es none on in
     (t.0, es, ap (λ (x : Entry). x ∷ es) t.1, on, ends, none)
 
-one_part : (s : Setting) (P : Past) (owing es ds : List Entry) → owed s P ≡ owing → TickAlone owing → follow s P es ≡ true → follow s P ds ≡ true → now (onto es P) ≡ now (onto ds P) → es ≡ ds
+one_part : (s : Setting) (P : Past) (owing es ds : List Entry) → owed s P ≡ owing → TickAlone owing → follow s P es ≡ true → follow s P ds ≡ true
+    → now (onto es P) ≡ now (onto ds P) → es ≡ ds
 one_part s P owing es ds is (inl none) h g n = one_follow s P es ds (ap (count is_tick) is ∙ none) h g
 one_part s P [] es ds is (inr few) h g n = one_follow s P es ds (ap (count is_tick) is) h g
 one_part s P (Tick u ∷ []) es ds is (inr few) h g n =
@@ -279,7 +288,8 @@ one_part s P (Tick u ∷ []) es ds is (inr few) h g n =
 one_part s P (d ∷ []) es ds is (inr few) h g n = one_follow s P es ds (ap (count is_tick) is) h g
 one_part s P (d ∷ x ∷ xs) es ds is (inr few) h g n = absurd (omega (arith, few))
 
-one_rest : (s : Setting) (P : Past) (e : Entry) (es ds : List Entry) → is_history s P ≡ true → is_move s P (e ∷ es) ≡ true → is_move s P (e ∷ ds) ≡ true → now (onto (e ∷ es) P) ≡ now (onto (e ∷ ds) P) → es ≡ ds
+one_rest : (s : Setting) (P : Past) (e : Entry) (es ds : List Entry) → is_history s P ≡ true → is_move s P (e ∷ es) ≡ true → is_move s P (e ∷ ds) ≡ true
+    → now (onto (e ∷ es) P) ≡ now (onto (e ∷ ds) P) → es ≡ ds
 one_rest s P e es ds h m n same =
     let a = and_parts (first s P e) (follow s (e ∷ P) es) m in
     let b = and_parts (first s P e) (follow s (e ∷ P) ds) n in

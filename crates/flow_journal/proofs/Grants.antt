@@ -73,7 +73,8 @@ none_held is_free k (x ∷ xs) u h =
     let ne : x.number ≢ k = λ e. true≢false (sym q.0 ∙ (ap is_free e ∙ u)) in
     or_from (eqb x.number k) (has_number k xs) (ne_eqb x.number k ne) (none_held is_free k xs u q.1)
 
-stays : (given : List Block) (k : ℕ) (bs : List Block) → has_number k given ≡ false → has_number k bs ≡ true → has_number k (filter (λ b. not (has_number b.number given)) bs) ≡ true
+stays : (given : List Block) (k : ℕ) (bs : List Block) → has_number k given ≡ false → has_number k bs ≡ true
+    → has_number k (filter (λ b. not (has_number b.number given)) bs) ≡ true
 stays given k [] u h = h
 stays given k (b ∷ bs) u h =
     elim (or_cases (eqb b.number k) (has_number k bs) h) [
@@ -90,37 +91,50 @@ stays given k (b ∷ bs) u h =
     ]
 
 -- a block that isn't free is never given up
-pub stays-left : (is_free : ℕ → Bool) (given k : ℕ) (bs : List Block) → is_free k ≡ false → has_number k bs ≡ true → has_number k (left_after given is_free bs) ≡ true
+pub stays-left : (is_free : ℕ → Bool) (given k : ℕ) (bs : List Block) → is_free k ≡ false → has_number k bs ≡ true
+    → has_number k (left_after given is_free bs) ≡ true
 stays-left is_free given k bs u h =
-    let none = none_held is_free k (largest_free given is_free bs) u (all_take (free_block is_free) given (reverse (free_in_order is_free bs)) (all_reverse (free_block is_free) (free_in_order is_free bs) (all_free is_free bs))) in
+    let none =
+    none_held is_free k (largest_free given is_free bs) u (all_take (free_block is_free) given (reverse (free_in_order is_free bs))
+    (all_reverse (free_block is_free) (free_in_order is_free bs) (all_free is_free bs))) in
     stays (largest_free given is_free bs) k bs none h
 
 pub number-among : (k : ℕ) (bs : List Block) → is_among k (map (λ b. b.number) bs) ≡ has_number k bs
 number-among k [] = refl
 number-among k (b ∷ bs) = ap (λ (x : Bool). eqb b.number k || x) (number-among k bs)
 
-fit-free : (limit n b size : ℕ) (fresh : Bool) (given : ℕ) (is_free : ℕ → Bool) (bs : List Block) (o : Option Block) → ((k : ℕ) → is_free k ≡ false → has_number k bs ≡ true) → ((c : Block) → o ≡ Some c → is_free c.number ≡ true) → fit_or_fresh limit n is_free bs o ≡ Granted b size fresh given → is_free b ≡ true
+fit-free : (limit n b size : ℕ) (fresh : Bool) (given : ℕ) (is_free : ℕ → Bool) (bs : List Block) (o : Option Block)
+    → ((k : ℕ) → is_free k ≡ false → has_number k bs ≡ true) → ((c : Block) → o ≡ Some c → is_free c.number ≡ true)
+    → fit_or_fresh limit n is_free bs o ≡ Granted b size fresh given → is_free b ≡ true
 fit-free limit n b size fresh given is_free bs (Some c) known o h = let is : c.number ≡ b = cc in subst (λ (k : ℕ). is_free k ≡ true) is (o c refl)
 fit-free limit n b size fresh given is_free bs None known o h =
     let left : List Block = left_after (given_up limit n is_free bs) is_free bs in
     let is : new_number left ≡ b = cc in
-    let missing : has_number (new_number left) left ≡ false = sym (number-among (new_number left) left) ∙ least_missing-not_among (map (λ (c : Block). c.number) left) in
+    let missing : has_number (new_number left) left ≡ false =
+    sym (number-among (new_number left) left) ∙ least_missing-not_among (map (λ (c : Block). c.number) left) in
     elim (cases_Bool (is_free b)) [
       | inl free ↦ free
-      | inr placed_b ↦ absurd (true≢false (sym (stays-left is_free (given_up limit n is_free bs) b bs placed_b (known b placed_b)) ∙ subst (λ (k : ℕ). has_number k left ≡ false) is missing))
+      | inr placed_b ↦
+          absurd (true≢false (sym (stays-left is_free (given_up limit n is_free bs) b bs placed_b (known b placed_b))
+          ∙ subst (λ (k : ℕ). has_number k left ≡ false) is missing))
     ]
 
 -- what is granted is free, where each block that isn't is known
-pub granted-free : (limit n held b size : ℕ) (fresh : Bool) (given : ℕ) (is_free : ℕ → Bool) (bs : List Block) → ((k : ℕ) → is_free k ≡ false → has_number k bs ≡ true) → granted limit n held is_free bs ≡ Granted b size fresh given → is_free b ≡ true
+pub granted-free : (limit n held b size : ℕ) (fresh : Bool) (given : ℕ) (is_free : ℕ → Bool) (bs : List Block)
+    → ((k : ℕ) → is_free k ≡ false → has_number k bs ≡ true) → granted limit n held is_free bs ≡ Granted b size fresh given → is_free b ≡ true
 granted-free limit n held b size fresh given is_free bs known h =
-    let found : (c : Block) → smallest_fit n is_free bs ≡ Some c → is_free c.number ≡ true = λ c e. all_found (free_block is_free) (λ d. leb n d.size) (free_in_order is_free bs) c (all_free is_free bs) e in
+    let found : (c : Block) → smallest_fit n is_free bs ≡ Some c → is_free c.number ≡ true =
+    λ c e. all_found (free_block is_free) (λ d. leb n d.size) (free_in_order is_free bs) c (all_free is_free bs) e in
     elim (cases_Bool (passes limit (held + n))) [
       | inl over ↦ let never : Refused ≡ Granted b size fresh given = rw over at h in cc
-      | inr within ↦ let fits : fit_or_fresh limit n is_free bs (smallest_fit n is_free bs) ≡ Granted b size fresh given = rw within at h in fit-free limit n b size fresh given is_free bs (smallest_fit n is_free bs) known found fits
+      | inr within ↦
+          let fits : fit_or_fresh limit n is_free bs (smallest_fit n is_free bs) ≡ Granted b size fresh given = rw within at h in
+          fit-free limit n b size fresh given is_free bs (smallest_fit n is_free bs) known found fits
     ]
 
 -- the grant that an entry has is the one of the rules
-pub granted-is : (s : Setting) (m b n : ℕ) (f : Bool) (g : ℕ) (x : Bool) (P : Past) → s.pooled ≡ true → pool_grants s m b n f g x P ≡ true → granted s.limit (s.need m) (held s P) (is_unplaced s P) (known s P) ≡ Granted b n f g
+pub granted-is : (s : Setting) (m b n : ℕ) (f : Bool) (g : ℕ) (x : Bool) (P : Past) → s.pooled ≡ true → pool_grants s m b n f g x P ≡ true
+    → granted s.limit (s.need m) (held s P) (is_unplaced s P) (known s P) ≡ Granted b n f g
 granted-is s m b n f g x P pooled h =
     sym (cond-true s.pooled (granted s.limit (s.need m) (held s P) (is_unplaced s P) (known s P)) (Granted 0 0 false 0) pooled)
     ∙ (grant-facts s m b n f g x P h).answer
@@ -136,35 +150,47 @@ all_filtered p q (b ∷ bs) h =
       | false ↦ all_filtered p q bs r.1
     ]
 
-all_within : (whole bs : List Block) → ((k : ℕ) → has_number k bs ≡ true → has_number k whole ≡ true) → list_all (λ (b : Block). has_number b.number whole) bs ≡ true
+all_within : (whole bs : List Block) → ((k : ℕ) → has_number k bs ≡ true → has_number k whole ≡ true)
+    → list_all (λ (b : Block). has_number b.number whole) bs ≡ true
 all_within whole [] h = refl
 all_within whole (b ∷ bs) h =
-    and_from _ _ (h b.number (or_left (eqb b.number b.number) _ (eq-eqb b.number b.number refl))) (all_within whole bs (λ k i. h k (or_right (eqb b.number k) _ i)))
+    and_from _ _ (h b.number (or_left (eqb b.number b.number) _ (eq-eqb b.number b.number refl)))
+    (all_within whole bs (λ k i. h k (or_right (eqb b.number k) _ i)))
 
-fit-known : (limit n b size : ℕ) (fresh : Bool) (given : ℕ) (is_free : ℕ → Bool) (bs : List Block) (o : Option Block) → ((c : Block) → o ≡ Some c → has_number c.number bs ≡ true) → fit_or_fresh limit n is_free bs o ≡ Granted b size fresh given → has_number b (known_after is_free (Granted b size fresh given) bs) ≡ true
+fit-known : (limit n b size : ℕ) (fresh : Bool) (given : ℕ) (is_free : ℕ → Bool) (bs : List Block) (o : Option Block)
+    → ((c : Block) → o ≡ Some c → has_number c.number bs ≡ true) → fit_or_fresh limit n is_free bs o ≡ Granted b size fresh given
+    → has_number b (known_after is_free (Granted b size fresh given) bs) ≡ true
 fit-known limit n b size fresh given is_free bs (Some c) found h =
     let is : c.number ≡ b = cc in
     let old : false ≡ fresh = cc in
-    subst (λ (f : Bool). has_number b (known_after is_free (Granted b size f given) bs) ≡ true) old (subst (λ (k : ℕ). has_number k bs ≡ true) is (found c refl))
+    subst (λ (f : Bool). has_number b (known_after is_free (Granted b size f given) bs) ≡ true) old
+    (subst (λ (k : ℕ). has_number k bs ≡ true) is (found c refl))
 fit-known limit n b size fresh given is_free bs None found h =
     let new : true ≡ fresh = cc in
     subst (λ (f : Bool). has_number b (known_after is_free (Granted b size f given) bs) ≡ true) new (or_left (eqb b b) _ (eq-eqb b b refl))
 
-pub granted-known : (limit n held b size : ℕ) (fresh : Bool) (given : ℕ) (is_free : ℕ → Bool) (bs : List Block) → granted limit n held is_free bs ≡ Granted b size fresh given → has_number b (known_after is_free (Granted b size fresh given) bs) ≡ true
+pub granted-known : (limit n held b size : ℕ) (fresh : Bool) (given : ℕ) (is_free : ℕ → Bool) (bs : List Block)
+    → granted limit n held is_free bs ≡ Granted b size fresh given → has_number b (known_after is_free (Granted b size fresh given) bs) ≡ true
 granted-known limit n held b size fresh given is_free bs h =
     let known_block : Block → Bool = λ c. has_number c.number bs in
-    let found : (c : Block) → smallest_fit n is_free bs ≡ Some c → has_number c.number bs ≡ true = λ c e. all_found known_block (λ d. leb n d.size) (free_in_order is_free bs) c (all_in_order known_block (filter (free_block is_free) bs) (all_filtered known_block (free_block is_free) bs (all_within bs bs (λ k i. i)))) e in
+    let found : (c : Block) → smallest_fit n is_free bs ≡ Some c → has_number c.number bs ≡ true =
+    λ c e. all_found known_block (λ d. leb n d.size) (free_in_order is_free bs) c
+    (all_in_order known_block (filter (free_block is_free) bs) (all_filtered known_block (free_block is_free) bs (all_within bs bs (λ k i. i)))) e in
     elim (cases_Bool (passes limit (held + n))) [
       | inl over ↦ let never : Refused ≡ Granted b size fresh given = rw over at h in cc
-      | inr within ↦ let fits : fit_or_fresh limit n is_free bs (smallest_fit n is_free bs) ≡ Granted b size fresh given = rw within at h in fit-known limit n b size fresh given is_free bs (smallest_fit n is_free bs) found fits
+      | inr within ↦
+          let fits : fit_or_fresh limit n is_free bs (smallest_fit n is_free bs) ≡ Granted b size fresh given = rw within at h in
+          fit-known limit n b size fresh given is_free bs (smallest_fit n is_free bs) found fits
     ]
 
 -- and so is each that was known and isn't free
-pub stays-known : (is_free : ℕ → Bool) (b size : ℕ) (fresh : Bool) (given k : ℕ) (bs : List Block) → is_free k ≡ false → has_number k bs ≡ true → has_number k (known_after is_free (Granted b size fresh given) bs) ≡ true
+pub stays-known : (is_free : ℕ → Bool) (b size : ℕ) (fresh : Bool) (given k : ℕ) (bs : List Block) → is_free k ≡ false → has_number k bs ≡ true
+    → has_number k (known_after is_free (Granted b size fresh given) bs) ≡ true
 stays-known is_free b size true given k bs u h = or_right (eqb b k) _ (stays-left is_free given k bs u h)
 stays-known is_free b size false given k bs u h = h
 
 -- a block that the pool grants has no place
-pub grants-unplaced : (s : Setting) (m b n : ℕ) (f : Bool) (g : ℕ) (x : Bool) (P : Past) → s.pooled ≡ true → ArePlacesKnown s P → pool_grants s m b n f g x P ≡ true → refs s P b ≡ 0
+pub grants-unplaced : (s : Setting) (m b n : ℕ) (f : Bool) (g : ℕ) (x : Bool) (P : Past) → s.pooled ≡ true → ArePlacesKnown s P
+    → pool_grants s m b n f g x P ≡ true → refs s P b ≡ 0
 grants-unplaced s m b n f g x P pooled places h =
     eqb-true (refs s P b) 0 (granted-free s.limit (s.need m) (held s P) b n f g (is_unplaced s P) (known s P) places (granted-is s m b n f g x P pooled h))

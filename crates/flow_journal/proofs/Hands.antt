@@ -82,7 +82,8 @@ next-first s P e never (d ∷ ds) h = absurd (true≢false (sym h ∙ never d))
 -- the new hand takes the place of the old one
 Apart-more : (r : ℕ) (e : Entry) (P : Past) → takes_up r e ≡ true → Apart (hands P) → Apart (e ∷ let_go r (hands P))
 Apart-more r e P up apart =
-    (λ q u. subst (λ i. list_any (takes_up i) (let_go r (hands P)) ≡ false) (eqb-true r q (sym (takes_up-one r q e up) ∙ u)) (free-let_go r (hands P) apart), Apart-let_go r (hands P) apart)
+    (λ q u. subst (λ i. list_any (takes_up i) (let_go r (hands P)) ≡ false) (eqb-true r q (sym (takes_up-one r q e up) ∙ u)) (free-let_go r (hands P) apart),
+    Apart-let_go r (hands P) apart)
 
 load-free : (s : Setting) (r k : ℕ) (P : Past) → may_load s r k P ≡ true → is_free r P ≡ true
 load-free s r k P h = none-free r P (load-facts s r k P h).acts.free
@@ -109,7 +110,8 @@ was_free s r _ P u h = absurd (false≢true u)
 -- who has no hand lets none go
 let_go-none : (r : ℕ) (hs : List Entry) → list_any (takes_up r) hs ≡ false → let_go r hs ≡ hs
 let_go-none r [] h = refl
-let_go-none r (e ∷ hs) h = let both = or_parts (takes_up r e) (list_any (takes_up r) hs) h in rw both.0 (ap (λ (es : List Entry). e ∷ es) (let_go-none r hs both.1))
+let_go-none r (e ∷ hs) h =
+    let both = or_parts (takes_up r e) (list_any (takes_up r) hs) h in rw both.0 (ap (λ (es : List Entry). e ∷ es) (let_go-none r hs both.1))
 
 hands-up : (r : ℕ) (e : Entry) (P : Past) → takes_up r e ≡ true → hands (e ∷ P) ≡ e ∷ let_go r (hands P)
 hands-up r (Load q k b n f g x) P u = ap (λ (i : ℕ). Load q k b n f g x ∷ let_go i (hands P)) (eqb-true q r u)
@@ -193,7 +195,8 @@ find-none_is p q e (x ∷ hs) h f =
     ]
 
 -- once the loaded block is let go, none is
-pub unloaded-let_go : (r : ℕ) (e : Entry) (hs : List Entry) → OneLoaded hs → find (takes_up r) hs ≡ Some e → is_loaded e ≡ true → list_any is_loaded (let_go r hs) ≡ false
+pub unloaded-let_go : (r : ℕ) (e : Entry) (hs : List Entry) → OneLoaded hs → find (takes_up r) hs ≡ Some e → is_loaded e ≡ true
+    → list_any is_loaded (let_go r hs) ≡ false
 unloaded-let_go r e [] o f l = cc
 unloaded-let_go r e (x ∷ hs) o f l =
     elim (cases_Bool (takes_up r x)) [
@@ -207,7 +210,8 @@ unloaded-let_go r e (x ∷ hs) o f l =
     ]
 
 -- one job less, where the hand that is let go is a job of v
-pub jobs-let_go : (v r : ℕ) (e : Entry) (hs : List Entry) → find (takes_up r) hs ≡ Some e → is_job v e ≡ true → length (filter (is_job v) hs) ≡ suc (length (filter (is_job v) (let_go r hs)))
+pub jobs-let_go : (v r : ℕ) (e : Entry) (hs : List Entry) → find (takes_up r) hs ≡ Some e → is_job v e ≡ true
+    → length (filter (is_job v) hs) ≡ suc (length (filter (is_job v) (let_go r hs)))
 jobs-let_go v r e [] f j = cc
 jobs-let_go v r e (x ∷ hs) f j =
     elim (cases_Bool (takes_up r x)) [
@@ -221,7 +225,8 @@ jobs-let_go v r e (x ∷ hs) f j =
     ]
 
 -- as many jobs, where it is none
-pub same_jobs-let_go : (v r : ℕ) (e : Entry) (hs : List Entry) → find (takes_up r) hs ≡ Some e → is_job v e ≡ false → length (filter (is_job v) hs) ≡ length (filter (is_job v) (let_go r hs))
+pub same_jobs-let_go : (v r : ℕ) (e : Entry) (hs : List Entry) → find (takes_up r) hs ≡ Some e → is_job v e ≡ false
+    → length (filter (is_job v) hs) ≡ length (filter (is_job v) (let_go r hs))
 same_jobs-let_go v r e [] f j = refl
 same_jobs-let_go v r e (x ∷ hs) f j =
     elim (cases_Bool (takes_up r x)) [
@@ -235,7 +240,8 @@ same_jobs-let_go v r e (x ∷ hs) f j =
     ]
 
 -- whoever has a job in hand has no loaded block
-pub same_loaded-let_go : (r : ℕ) (e : Entry) (hs : List Entry) → find (takes_up r) hs ≡ Some e → is_loaded e ≡ false → list_any is_loaded (let_go r hs) ≡ list_any is_loaded hs
+pub same_loaded-let_go : (r : ℕ) (e : Entry) (hs : List Entry) → find (takes_up r) hs ≡ Some e → is_loaded e ≡ false
+    → list_any is_loaded (let_go r hs) ≡ list_any is_loaded hs
 same_loaded-let_go r e [] f j = refl
 same_loaded-let_go r e (x ∷ hs) f j =
     elim (cases_Bool (takes_up r x)) [
@@ -278,7 +284,8 @@ pub one-loaded : (s : Setting) (P : Past) → is_legal s P ≡ true → length (
 one-loaded s P h = few_loaded (hands P) (hands-OneLoaded s P h)
 
 -- a hand that gives nothing leaves what the others give
-pub flat-let_go : {X : Type 0} (f : Entry → List X) (r : ℕ) (e : Entry) (hs : List Entry) → find (takes_up r) hs ≡ Some e → f e ≡ [] → flat_map f (let_go r hs) ≡ flat_map f hs
+pub flat-let_go : {X : Type 0} (f : Entry → List X) (r : ℕ) (e : Entry) (hs : List Entry) → find (takes_up r) hs ≡ Some e → f e ≡ []
+    → flat_map f (let_go r hs) ≡ flat_map f hs
 flat-let_go f r e [] h none = refl
 flat-let_go f r e (x ∷ hs) h none =
     elim (cases_Bool (takes_up r x)) [

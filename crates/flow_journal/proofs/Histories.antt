@@ -48,7 +48,8 @@ onto-append [] n P = refl
 onto-append (e ∷ m) n P = onto-append m n (e ∷ P)
 
 -- lists of moves are legal histories
-pub history-moves : (s : Setting) (P : Past) (ms : List (List Entry)) → is_history s P ≡ true → are_moves s P ms ≡ true → is_history s (onto (all_of ms) P) ≡ true
+pub history-moves : (s : Setting) (P : Past) (ms : List (List Entry)) → is_history s P ≡ true → are_moves s P ms ≡ true
+    → is_history s (onto (all_of ms) P) ≡ true
 history-moves s P [] h f = h
 history-moves s P (m ∷ ms) h f =
     let p = and_parts (is_move s P m) (are_moves s (onto m P) ms) f in

@@ -62,7 +62,8 @@ not-or false false = refl
 -- one entry more in front
 stays-front : (v : ℕ) (e : Entry) (es : List Entry) (xs : List FrameName) → stays_in v (e ∷ es) xs ≡ filter (not_taken v e) (stays_in v es xs)
 stays-front v e es xs =
-    filtered_by (λ a. not (list_any (takes_out v a) es)) (not_taken v e) (λ a. not (list_any (takes_out v a) (e ∷ es))) (λ a. not-or (takes_out v a e) (list_any (takes_out v a) es)) xs
+    filtered_by (λ a. not (list_any (takes_out v a) es)) (not_taken v e)
+    (λ a. not (list_any (takes_out v a) (e ∷ es))) (λ a. not-or (takes_out v a e) (list_any (takes_out v a) es)) xs
 
 any-last : (p : Entry → Bool) (es : List Entry) (e : Entry) → list_any p (es ++ e ∷ []) ≡ (p e || list_any p es)
 any-last p [] e = refl
@@ -77,7 +78,8 @@ any-last p (d ∷ es) e = ap (λ (b : Bool). p d || b) (any-last p es e) ∙ tur
 -- or at the end
 stays-last : (v : ℕ) (e : Entry) (es : List Entry) (xs : List FrameName) → stays_in v (es ++ e ∷ []) xs ≡ filter (not_taken v e) (stays_in v es xs)
 stays-last v e es xs =
-    filtered_by (λ a. not (list_any (takes_out v a) es)) (not_taken v e) (λ a. not (list_any (takes_out v a) (es ++ e ∷ []))) (λ a. ap not (any-last (takes_out v a) es e) ∙ not-or (takes_out v a e) (list_any (takes_out v a) es)) xs
+    filtered_by (λ a. not (list_any (takes_out v a) es)) (not_taken v e) (λ a. not (list_any (takes_out v a) (es ++ e ∷ [])))
+    (λ a. ap not (any-last (takes_out v a) es e) ∙ not-or (takes_out v a e) (list_any (takes_out v a) es)) xs
 
 back-last : (v : ℕ) (e : Entry) (newer : List Entry) (P : Past) → back_since v (newer ++ e ∷ []) P ≡ filter (not_taken v e) (back_since v newer P)
 back-last v e newer [] = refl
@@ -94,13 +96,15 @@ in_order v P = given_back v P ++ never_left v P
 -- an entry that neither comes nor gives back
 one_more : (v : ℕ) (e : Entry) (P : Past) → gives_back v e P ≡ [] → accepts v (e ∷ P) ≡ accepts v P → in_order v (e ∷ P) ≡ filter (not_taken v e) (in_order v P)
 one_more v e P none came =
-    let back : given_back v (e ∷ P) ≡ filter (not_taken v e) (given_back v P) = ap (λ (xs : List FrameName). stays_in v [] xs ++ back_since v (e ∷ []) P) none ∙ back-last v e [] P in
+    let back : given_back v (e ∷ P) ≡ filter (not_taken v e) (given_back v P) =
+    ap (λ (xs : List FrameName). stays_in v [] xs ++ back_since v (e ∷ []) P) none ∙ back-last v e [] P in
     let left : never_left v (e ∷ P) ≡ filter (not_taken v e) (never_left v P) = ap (stays_in v (e ∷ P)) came ∙ stays-front v e P (accepts v P) in
     ap (λ (xs : List FrameName). xs ++ never_left v (e ∷ P)) back
     ∙ (ap (λ (xs : List FrameName). filter (not_taken v e) (given_back v P) ++ xs) left
     ∙ sym (filter-append (not_taken v e) (given_back v P) (never_left v P)))
 
-quiet : (v : ℕ) (e : Entry) (P : Past) → gives_back v e P ≡ [] → accepts v (e ∷ P) ≡ accepts v P → ((a : FrameName) → not_taken v e a ≡ true) → queued v (e ∷ P) ≡ queued v P → queued v P ≡ in_order v P → queued v (e ∷ P) ≡ in_order v (e ∷ P)
+quiet : (v : ℕ) (e : Entry) (P : Past) → gives_back v e P ≡ [] → accepts v (e ∷ P) ≡ accepts v P → ((a : FrameName) → not_taken v e a ≡ true)
+    → queued v (e ∷ P) ≡ queued v P → queued v P ≡ in_order v P → queued v (e ∷ P) ≡ in_order v (e ∷ P)
 quiet v e P none came all still h = still ∙ (h ∙ sym (one_more v e P none came ∙ keeps_all (not_taken v e) all (in_order v P)))
 
 none_same : (x : FrameName) (xs : List FrameName) → times x xs ≡ 0 → filter (λ a. not (same a x)) xs ≡ xs
@@ -124,7 +128,8 @@ without-one x (y ∷ ys) h =
 
 times-le : (x : FrameName) (xs : List FrameName) → times x xs ≤ count (of_index x.index) xs
 times-le x [] = omega arith
-times-le x (y ∷ ys) = omega (arith, times-le x ys, count-cons (λ a. same a x) y ys, count-cons (of_index x.index) y ys, one-le (eqb y.maker x.maker) (eqb y.index x.index))
+times-le x (y ∷ ys) =
+    omega (arith, times-le x ys, count-cons (λ a. same a x) y ys, count-cons (of_index x.index) y ys, one-le (eqb y.maker x.maker) (eqb y.index x.index))
   where
     one-le : (b c : Bool) → bit (b && c) ≤ bit c
     one-le true c = omega arith
@@ -135,12 +140,15 @@ times-le x (y ∷ ys) = omega (arith, times-le x ys, count-cons (λ a. same a x)
 queued-once : (s : Setting) (P : Past) (v : ℕ) (x : FrameName) → is_legal s P ≡ true → times x (queued v P) ≤ 1
 queued-once s P v x h = omega (arith, queued-counts s P v x h, times-le x (accepts v P), accepts-count v x.index P, accepts-once s P v x.index h)
 
-taken : (s : Setting) (v w : ℕ) (x : FrameName) (e : Entry) (P : Past) → is_legal s P ≡ true → gives_back v e P ≡ [] → accepts v (e ∷ P) ≡ accepts v P → ((a : FrameName) → takes_out v a e ≡ (eqb w v && same a x)) → queued v (e ∷ P) ≡ goes_at v w x (queued v P) → queued v P ≡ in_order v P → queued v (e ∷ P) ≡ in_order v (e ∷ P)
+taken : (s : Setting) (v w : ℕ) (x : FrameName) (e : Entry) (P : Past) → is_legal s P ≡ true → gives_back v e P ≡ [] → accepts v (e ∷ P) ≡ accepts v P
+    → ((a : FrameName) → takes_out v a e ≡ (eqb w v && same a x)) → queued v (e ∷ P) ≡ goes_at v w x (queued v P) → queued v P ≡ in_order v P
+    → queued v (e ∷ P) ≡ in_order v (e ∷ P)
 taken s v w x e P legal none came test goes h =
     elim (cases_Bool (eqb w v)) [
       | inl here ↦
           let tests : (a : FrameName) → not_taken v e a ≡ not (same a x) = λ a. ap not (test a ∙ ap (λ (b : Bool). b && same a x) here) in
-          let less : filter (not_taken v e) (queued v P) ≡ without x (queued v P) = same_tests (not_taken v e) (λ a. not (same a x)) tests (queued v P) ∙ without-one x (queued v P) (queued-once s P v x legal) in
+          let less : filter (not_taken v e) (queued v P) ≡ without x (queued v P) =
+          same_tests (not_taken v e) (λ a. not (same a x)) tests (queued v P) ∙ without-one x (queued v P) (queued-once s P v x legal) in
           let left : queued v (e ∷ P) ≡ without x (queued v P) = goes ∙ ap (λ (b : Bool). cond b (without x (queued v P)) (queued v P)) here in
           left ∙ (sym less ∙ (ap (filter (not_taken v e)) h ∙ sym (one_more v e P none came)))
       | inr away ↦
@@ -167,7 +175,8 @@ came_before s (TakeBlock f x r w i j b n g ∷ P) v m k h any =
           let p = and_parts (eqb w v) (same (frame m k) (frame i j)) now_ in
           let index : j ≡ k = sym (eqb-true k j (and_parts (eqb m i) (eqb k j) p.1).1) in
           let out : (eqb w v && eqb j k) ≡ true = ap (λ (c : Bool). c && eqb j k) p.0 ∙ eq-eqb j k index in
-          omega (arith, leaves-accepted s (TakeBlock f x r w i j b n g ∷ P) v k h, count-cons (leaves_at v k) (TakeBlock f x r w i j b n g) (standing P), ap bit out)
+          omega (arith, leaves-accepted s (TakeBlock f x r w i j b n g ∷ P) v k h,
+          count-cons (leaves_at v k) (TakeBlock f x r w i j b n g) (standing P), ap bit out)
     ]
 came_before s (PoolDrop r w i j n z ∷ P) v m k h any =
     elim (or_cases (eqb w v && same (frame m k) (frame i j)) (list_any (takes_out v (frame m k)) P) any) [
@@ -188,13 +197,15 @@ never_taken s P v m k h =
       | inr none ↦ none
       | inl some ↦
           let own : (eqb v v && eqb k k) ≡ true = ap (λ (b : Bool). b && eqb k k) (eq-eqb v v refl) ∙ eq-eqb k k refl in
-          absurd (omega (arith, accepts-once s (Accept v m k ∷ P) v k h, count-cons (accepts_at v k) (Accept v m k) P, ap bit own, came_before s P v m k (and_parts _ _ h).0 some))
+          absurd (omega (arith, accepts-once s (Accept v m k ∷ P) v k h, count-cons (accepts_at v k) (Accept v m k) P, ap bit own,
+          came_before s P v m k (and_parts _ _ h).0 some))
     ]
 
 stays_all : (v : ℕ) (xs : List FrameName) → stays_in v [] xs ≡ xs
 stays_all v xs = keeps_all (λ a. not (list_any (takes_out v a) [])) (λ a. refl) xs
 
-accepted-here : (s : Setting) (v m k : ℕ) (P : Past) → is_legal s (Accept v m k ∷ P) ≡ true → queued v P ≡ in_order v P → queued v (Accept v m k ∷ P) ≡ in_order v (Accept v m k ∷ P)
+accepted-here : (s : Setting) (v m k : ℕ) (P : Past) → is_legal s (Accept v m k ∷ P) ≡ true → queued v P ≡ in_order v P
+    → queued v (Accept v m k ∷ P) ≡ in_order v (Accept v m k ∷ P)
 accepted-here s v m k P h before =
     let e : Entry = Accept v m k in
     let x : FrameName = frame m k in
@@ -216,7 +227,8 @@ queues_in_order s (Accept w m k ∷ P) v h =
     let before = queues_in_order s P v (and_parts _ _ h).0 in
     elim (cases_Bool (eqb w v)) [
       | inl here ↦
-          subst (λ (u : ℕ). is_legal s (Accept u m k ∷ P) ≡ true → queued v (Accept u m k ∷ P) ≡ in_order v (Accept u m k ∷ P)) (sym (eqb-true w v here)) (λ g. accepted-here s v m k P g before) h
+          subst (λ (u : ℕ). is_legal s (Accept u m k ∷ P) ≡ true → queued v (Accept u m k ∷ P) ≡ in_order v (Accept u m k ∷ P)) (sym (eqb-true w v here))
+          (λ g. accepted-here s v m k P g before) h
       | inr away ↦
           let ne : w ≢ v = eqb-false w v away in
           quiet v (Accept w m k) P refl (comes_elsewhere v w (frame m k) (accepts v P) ne) (λ a. refl) (comes_elsewhere v w (frame m k) (queued v P) ne) before

@@ -69,8 +69,10 @@ offered_below s (Reclaim r ∷ P) h =
     fewer k zero ks e = cc
     fewer k (suc n) ks e = (n, (let same : n ∷ below n ≡ k ∷ ks = e in cc))
 
-    of_load : (s : Setting) (r : ℕ) (e : Entry) (P : Past) → is_legal s P ≡ true → hand r P ≡ Some e → is_loaded e ≡ true → (n : ℕ) → offered_frames P ≡ below n → (m : ℕ) × (offered_frames (Reclaim r ∷ P) ≡ below m)
-    of_load s r (Load q k b n f g x) P legal held loaded c is = fewer k c (offered_frames (Reclaim r ∷ P)) (sym is ∙ offer_laws.reclaim s r q k b n f g x P legal held)
+    of_load : (s : Setting) (r : ℕ) (e : Entry) (P : Past) → is_legal s P ≡ true → hand r P ≡ Some e → is_loaded e ≡ true → (n : ℕ) → offered_frames P ≡ below n
+        → (m : ℕ) × (offered_frames (Reclaim r ∷ P) ≡ below m)
+    of_load s r (Load q k b n f g x) P legal held loaded c is =
+        fewer k c (offered_frames (Reclaim r ∷ P)) (sym is ∙ offer_laws.reclaim s r q k b n f g x P legal held)
     of_load s r _ P legal held loaded c is = absurd (false≢true loaded)
 offered_below s (_ ∷ P) h = offered_below s P (and_parts _ _ h).0
 
@@ -81,13 +83,16 @@ offered_all : (s : Setting) (P : Past) → is_legal s P ≡ true → offered_fra
 offered_all s P h = (offered_below s P h).1 ∙ ap below (sym (next_of s P h))
 
 -- one more frame is offered
-next-more : (s : Setting) (k : ℕ) (P Q : Past) → is_legal s P ≡ true → k ≡ next_index P → offered_frames Q ≡ k ∷ offered_frames P → next_index Q ≡ next_index P + 1
+next-more : (s : Setting) (k : ℕ) (P Q : Past) → is_legal s P ≡ true → k ≡ next_index P
+    → offered_frames Q ≡ k ∷ offered_frames P → next_index Q ≡ next_index P + 1
 next-more s k P Q h turn more =
-    let whole : offered_frames Q ≡ below (suc (next_index P)) = more ∙ (ap (λ (j : ℕ). j ∷ offered_frames P) turn ∙ ap (λ (ks : List ℕ). next_index P ∷ ks) (offered_all s P h)) in
+    let whole : offered_frames Q ≡ below (suc (next_index P)) =
+    more ∙ (ap (λ (j : ℕ). j ∷ offered_frames P) turn ∙ ap (λ (ks : List ℕ). next_index P ∷ ks) (offered_all s P h)) in
     ap least_missing whole ∙ (least-below (suc (next_index P)) ∙ omega arith)
 
 -- one frame fewer
-next-fewer : (s : Setting) (k : ℕ) (P Q : Past) → is_legal s P ≡ true → is_legal s Q ≡ true → offered_frames P ≡ k ∷ offered_frames Q → next_index P ≡ next_index Q + 1
+next-fewer : (s : Setting) (k : ℕ) (P Q : Past) → is_legal s P ≡ true → is_legal s Q ≡ true
+    → offered_frames P ≡ k ∷ offered_frames Q → next_index P ≡ next_index Q + 1
 next-fewer s k P Q h g fewer =
     let was : below (next_index P) ≡ k ∷ below (next_index Q) = sym (offered_all s P h) ∙ (fewer ∙ ap (λ (ks : List ℕ). k ∷ ks) (offered_all s Q g)) in
     let lengths : length (below (next_index P)) ≡ length (k ∷ below (next_index Q)) = ap length was in
@@ -106,7 +111,8 @@ index_laws = record {
   load_refused = λ s r k n z P h.
       let may : may_load s r k P ≡ true = (and_parts (may_load s r k P) (pool_refuses s 0 n z P) (row_of s (LoadRefused r k n z) P (λ d. refl) h)).0 in
       next-more s k P (LoadRefused r k n z ∷ P) (and_parts _ _ h).0 (load-facts s r k P may).in_turn (offer_laws.load_refused r k n z P);
-  reclaim = λ s r q k b n f g x P h held. next-fewer s k P (Reclaim r ∷ P) (and_parts _ _ h).0 h (offer_laws.reclaim s r q k b n f g x P (and_parts _ _ h).0 held);
+  reclaim =
+      λ s r q k b n f g x P h held. next-fewer s k P (Reclaim r ∷ P) (and_parts _ _ h).0 h (offer_laws.reclaim s r q k b n f g x P (and_parts _ _ h).0 held);
   reclaim_other = λ s r e P legal held other. ap least_missing (offer_laws.reclaim_other s r e P legal held other);
   others = λ e P none. ap least_missing (frames_others e P none);
 }

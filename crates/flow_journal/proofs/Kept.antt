@@ -50,14 +50,16 @@ no_unsaved : (s : Setting) (v : ℕ) (P : Past) → is_file (node s v).work ≡ 
 no_unsaved s v P h = ap (λ (b : Bool). cond b (minus (puts v P) (standing_saves v P)) []) h
 
 -- what is kept, by its three parts
-three : (s : Setting) (v : ℕ) (P : Past) (ws : List Waiting) (r f : List FrameName) → waiting s v P ≡ ws → ring s v P ≡ r → unsaved s v P ≡ f → kept_at s P v ≡ map (λ w. w.array) ws ++ r ++ f
+three : (s : Setting) (v : ℕ) (P : Past) (ws : List Waiting) (r f : List FrameName) → waiting s v P ≡ ws → ring s v P ≡ r → unsaved s v P ≡ f
+    → kept_at s P v ≡ map (λ w. w.array) ws ++ r ++ f
 three s v P ws r f w_is r_is f_is =
     ap (λ (us : List Waiting). map (λ w. w.array) us ++ ring s v P ++ unsaved s v P) w_is
     ∙ (ap (λ (us : List FrameName). map (λ w. w.array) ws ++ us ++ unsaved s v P) r_is ∙ ap (λ (us : List FrameName). map (λ w. w.array) ws ++ r ++ us) f_is)
 
 list_only : (s : Setting) (v : ℕ) (P : Past) → may_sort (node s v).work ≡ true → kept_at s P v ≡ map (λ w. w.array) (waiting s v P)
 list_only s v P sorts =
-    three s v P (waiting s v P) [] [] refl (empty_ring s v P (sorts_no_ring (node s v).work (firings v P) (puts v P) sorts)) (no_unsaved s v P (sorts_no_file (node s v).work sorts))
+    three s v P (waiting s v P) [] [] refl (empty_ring s v P (sorts_no_ring (node s v).work (firings v P) (puts v P) sorts))
+    (no_unsaved s v P (sorts_no_file (node s v).work sorts))
     ∙ (append-nil (map (λ w. w.array) (waiting s v P) ++ []) ∙ append-nil (map (λ w. w.array) (waiting s v P)))
 
 unsorted_list : (s : Setting) (v : ℕ) (P : Past) → may_sort (node s v).work ≡ false → waiting s v P ≡ []
@@ -65,7 +67,8 @@ unsorted_list s v P h = waiting-unsorted s v P (ap (λ (b : Bool). b && ltb 0 (n
 
 file_only : (s : Setting) (v : ℕ) (P : Past) → is_file (node s v).work ≡ true → kept_at s P v ≡ unsaved s v P
 file_only s v P file =
-    three s v P [] [] (unsaved s v P) (unsorted_list s v P (file_no_sort (node s v).work file)) (empty_ring s v P (file_no_ring (node s v).work (firings v P) (puts v P) file)) refl
+    three s v P [] [] (unsaved s v P) (unsorted_list s v P (file_no_sort (node s v).work file))
+    (empty_ring s v P (file_no_ring (node s v).work (firings v P) (puts v P) file)) refl
 
 ring_only : (s : Setting) (v pre post preset : ℕ) (P : Past) → (node s v).work ≡ Watches pre post preset → kept_at s P v ≡ ring s v P
 ring_only s v pre post preset P work =
@@ -77,9 +80,11 @@ kept_laws = record {
       let sorts : may_sort (node s v).work ≡ true = (and_parts _ _ h).0 in
       list_only s v (Put r v m k f ∷ P) sorts
       ∙ (ap (map (λ (w : Waiting). w.array)) (waiting-put s v r m k f P h)
-      ∙ (map-append (λ (w : Waiting). w.array) (waiting s v P) (record { array = frame m k; tick = now P } ∷ []) ∙ ap (λ (xs : List FrameName). xs ++ frame m k ∷ []) (sym (list_only s v P sorts))));
+      ∙ (map-append (λ (w : Waiting). w.array) (waiting s v P) (record { array = frame m k; tick = now P } ∷ [])
+      ∙ ap (λ (xs : List FrameName). xs ++ frame m k ∷ []) (sym (list_only s v P sorts))));
   file = λ s r v m k f P file legal.
-      file_only s v (Put r v m k f ∷ P) file ∙ (save_laws.put s r v m k f P legal file ∙ ap (λ (xs : List FrameName). xs ++ frame m k ∷ []) (sym (file_only s v P file)));
+      file_only s v (Put r v m k f ∷ P) file
+      ∙ (save_laws.put s r v m k f P legal file ∙ ap (λ (xs : List FrameName). xs ++ frame m k ∷ []) (sym (file_only s v P file)));
   unsorted = λ s v P sorts plain. list_only s v P sorts ∙ ap (map (λ (w : Waiting). w.array)) (waiting-unsorted s v P plain);
   watched = ring_only;
 }

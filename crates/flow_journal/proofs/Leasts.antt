@@ -65,7 +65,8 @@ AreById-placed s w ws up =
     AllPairs-append R (filter p ws) (w ∷ filter q ws)
     (AllPairs-filter R p ws up)
     (AllPairs-cons R w (filter q ws) above (AllPairs-filter R q ws up))
-    (All-weaker (λ v. R v w) (λ v. All (R v) (w ∷ filter q ws)) (λ v h. All-cons (R v) w (filter q ws) h (All-weaker (R w) (R v) (λ u g. le_chain _ _ _ h g) (filter q ws) above)) (filter p ws) below)
+    (All-weaker (λ v. R v w) (λ v. All (R v) (w ∷ filter q ws))
+    (λ v h. All-cons (R v) w (filter q ws) h (All-weaker (R w) (R v) (λ u g. le_chain _ _ _ h g) (filter q ws) above)) (filter p ws) below)
 
 AreById-placed_all : (s : Setting) (done ws : List Waiting) → AreById s done → AreById s (placed_all s done ws)
 AreById-placed_all s done [] up = up
@@ -83,7 +84,8 @@ placed-moves : (s : Setting) (w : Waiting) (ws : List Waiting) → IsPermutation
 placed-moves s w ws =
     let p = λ (v : Waiting). int_le (id_of s v) (id_of s w) in
     let q = λ (v : Waiting). not (int_le (id_of s v) (id_of s w)) in
-    IsPermutation-trans _ _ _ (IsPermutation-cons w _ _ (IsPermutation-filter_both p q (λ v. refl) ws)) (IsPermutation-sym _ _ (IsPermutation-middle (filter p ws) w (filter q ws)))
+    IsPermutation-trans _ _ _ (IsPermutation-cons w _ _ (IsPermutation-filter_both p q (λ v. refl) ws))
+    (IsPermutation-sym _ _ (IsPermutation-middle (filter p ws) w (filter q ws)))
 
 placed_all-moves : (s : Setting) (done ws : List Waiting) → IsPermutation (done ++ ws) (placed_all s done ws)
 placed_all-moves s done [] = subst (λ (xs : List Waiting). IsPermutation xs done) (sym (append-nil done)) (IsPermutation-refl done)
@@ -125,14 +127,16 @@ with_id-placed s i w ws =
           let le : i ≤ℤ k = le_passes i k up in
           let front : filter e (filter p ws) ≡ filter e ws = filter_inner e p (λ v h. in_front (id_of s v) k i le h) ws in
           let back : filter e (filter q ws) ≡ [] = filter_outer e q (λ v h. not_behind (id_of s v) k i le h) ws in
-          split ∙ (ap (λ (xs : List Waiting). xs ++ filter e (w ∷ filter q ws)) front ∙ (ap (λ (xs : List Waiting). filter e ws ++ cond (e w) (w ∷ xs) xs) back ∙ sym whole))
+          split ∙ (ap (λ (xs : List Waiting). xs ++ filter e (w ∷ filter q ws)) front
+          ∙ (ap (λ (xs : List Waiting). filter e ws ++ cond (e w) (w ∷ xs) xs) back ∙ sym whole))
       | inr down ↦
           let front : filter e (filter p ws) ≡ [] = filter_outer e p (λ v h. not_in_front (id_of s v) k i down h) ws in
           let back : filter e (filter q ws) ≡ filter e ws = filter_inner e q (λ v h. behind (id_of s v) k i down h) ws in
           let off : e w ≡ false = other_id k i down in
           let last : filter e (w ∷ filter q ws) ≡ filter e ws = rw off back in
           let none : filter e (w ∷ []) ≡ [] = rw off refl in
-          split ∙ (ap (λ (xs : List Waiting). xs ++ filter e (w ∷ filter q ws)) front ∙ (last ∙ sym (whole ∙ (ap (λ (xs : List Waiting). filter e ws ++ xs) none ∙ append-nil (filter e ws)))))
+          split ∙ (ap (λ (xs : List Waiting). xs ++ filter e (w ∷ filter q ws)) front
+          ∙ (last ∙ sym (whole ∙ (ap (λ (xs : List Waiting). filter e ws ++ xs) none ∙ append-nil (filter e ws)))))
     ]
 
 with_id-placed_all : (s : Setting) (i : ℤ) (done ws : List Waiting) → with_id s i (placed_all s done ws) ≡ with_id s i (done ++ ws)
@@ -177,14 +181,18 @@ only_one s [] (y ∷ ys) up up_too same = let e : [] ≡ y ∷ with_id s (id_of 
 only_one s (x ∷ xs) [] up up_too same = let e : x ∷ with_id s (id_of s x) xs ≡ [] = sym (its_own s x xs) ∙ same (id_of s x) in cc
 only_one s (x ∷ xs) (y ∷ ys) up up_too same =
     let R = λ (a b : Waiting). id_of s a ≤ℤ id_of s b in
-    let x_le : id_of s x ≤ℤ id_of s y = reached s (id_of s x) (id_of s y) (x ∷ xs) y (with_id s (id_of s y) ys) (low-first s x xs up) (same (id_of s y) ∙ its_own s y ys) in
-    let y_le : id_of s y ≤ℤ id_of s x = reached s (id_of s y) (id_of s x) (y ∷ ys) x (with_id s (id_of s x) xs) (low-first s y ys up_too) (sym (same (id_of s x)) ∙ its_own s x xs) in
+    let x_le : id_of s x ≤ℤ id_of s y =
+    reached s (id_of s x) (id_of s y) (x ∷ xs) y (with_id s (id_of s y) ys) (low-first s x xs up) (same (id_of s y) ∙ its_own s y ys) in
+    let y_le : id_of s y ≤ℤ id_of s x =
+    reached s (id_of s y) (id_of s x) (y ∷ ys) x (with_id s (id_of s x) xs) (low-first s y ys up_too) (sym (same (id_of s x)) ∙ its_own s x xs) in
     let one : id_of s y ≡ id_of s x = both_le _ _ y_le x_le in
-    let heads : x ∷ with_id s (id_of s x) xs ≡ y ∷ with_id s (id_of s y) ys = sym (its_own s x xs) ∙ (same (id_of s x) ∙ (ap (λ (i : ℤ). with_id s i (y ∷ ys)) (sym one) ∙ its_own s y ys)) in
+    let heads : x ∷ with_id s (id_of s x) xs ≡ y ∷ with_id s (id_of s y) ys =
+    sym (its_own s x xs) ∙ (same (id_of s x) ∙ (ap (λ (i : ℤ). with_id s i (y ∷ ys)) (sym one) ∙ its_own s y ys)) in
     let is : x ≡ y = cc in
     let up_y : AreById s (x ∷ ys) = subst (λ (w : Waiting). AreById s (w ∷ ys)) (sym is) up_too in
     let same_x : (i : ℤ) → with_id s i (x ∷ xs) ≡ with_id s i (x ∷ ys) = λ i. same i ∙ ap (λ (w : Waiting). with_id s i (w ∷ ys)) (sym is) in
-    ap (λ (w : Waiting). w ∷ xs) is ∙ ap (λ (ws : List Waiting). y ∷ ws) (only_one s xs ys (AllPairs-tail R x xs up) (AllPairs-tail R x ys up_y) (λ i. tails_same s i x xs ys (same_x i)))
+    ap (λ (w : Waiting). w ∷ xs) is
+    ∙ ap (λ (ws : List Waiting). y ∷ ws) (only_one s xs ys (AllPairs-tail R x xs up) (AllPairs-tail R x ys up_y) (λ i. tails_same s i x xs ys (same_x i)))
 
 only : (s : Setting) (xs ws : List Waiting) → AreById s xs → ((i : ℤ) → with_id s i xs ≡ with_id s i ws) → xs ≡ least_first s ws
 only s xs ws up same = only_one s xs (least_first s ws) up (by_id s ws) (λ i. same i ∙ sym (in_turn s i ws))
@@ -199,7 +207,8 @@ comes-placed s ws w = placed_all-last [] ws
     placed_all-last done (v ∷ ws) = placed_all-last (placed s v done) ws
 
 -- what goes away leaves those of each id, and the order
-with_id-goes : (s : Setting) (i : ℤ) (a : FrameName) (ws : List Waiting) → with_id s i (not_waiting a ws) ≡ cond (int_eq (id_at s a.index) i) (not_waiting a (with_id s i ws)) (with_id s i ws)
+with_id-goes : (s : Setting) (i : ℤ) (a : FrameName) (ws : List Waiting)
+    → with_id s i (not_waiting a ws) ≡ cond (int_eq (id_at s a.index) i) (not_waiting a (with_id s i ws)) (with_id s i ws)
 with_id-goes s i a [] = elim (cases_Bool (int_eq (id_at s a.index) i)) [
   | inl here ↦ rw here refl
   | inr away ↦ rw away refl
@@ -236,7 +245,8 @@ AreById-goes s a (w ∷ ws) up =
     let R = λ (u v : Waiting). id_of s u ≤ℤ id_of s v in
     elim (cases_Bool (same w.array a)) [
       | inl here ↦ rw here (AllPairs-tail R w ws up)
-      | inr away ↦ rw away (AllPairs-cons R w (not_waiting a ws) (All-goes (R w) a ws (AllPairs-head R w ws up)) (AreById-goes s a ws (AllPairs-tail R w ws up)))
+      | inr away ↦
+          rw away (AllPairs-cons R w (not_waiting a ws) (All-goes (R w) a ws (AllPairs-head R w ws up)) (AreById-goes s a ws (AllPairs-tail R w ws up)))
     ]
 
 goes : (s : Setting) (ws : List Waiting) (a : FrameName) → least_first s (not_waiting a ws) ≡ not_waiting a (least_first s ws)

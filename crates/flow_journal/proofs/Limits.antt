@@ -66,7 +66,8 @@ sizes_of-in_order p (b ∷ bs) = omega (arith, sizes_of-placed p b (in_order bs)
 sizes_of-reverse : (p : Block → Bool) (bs : List Block) → sizes_of p (reverse bs) ≡ sizes_of p bs
 sizes_of-reverse p [] = refl
 sizes_of-reverse p (b ∷ bs) =
-    ap (sizes_of p) (reverse-append (b ∷ []) bs) ∙ omega (arith, sizes_of-append p (reverse bs) (b ∷ []), sizes_of-reverse p bs, sizes_of-cons p b bs, sizes_of-cons p b [])
+    ap (sizes_of p) (reverse-append (b ∷ []) bs)
+    ∙ omega (arith, sizes_of-append p (reverse bs) (b ∷ []), sizes_of-reverse p bs, sizes_of-cons p b bs, sizes_of-cons p b [])
 
 abbrev any_block : Block → Bool
 any_block b = true
@@ -98,7 +99,8 @@ none_left : (ys xs : List Block) → sizes_of (not_among (ys ++ xs)) xs ≡ 0
 none_left ys [] = refl
 none_left ys (b ∷ xs) =
     let out : not_among (ys ++ b ∷ xs) b ≡ false = ap not (has-last ys xs b) in
-    let rest : sizes_of (not_among (ys ++ b ∷ xs)) xs ≡ 0 = subst (λ (zs : List Block). sizes_of (not_among zs) xs ≡ 0) (append_assoc ys (b ∷ []) xs) (none_left (ys ++ b ∷ []) xs) in
+    let rest : sizes_of (not_among (ys ++ b ∷ xs)) xs ≡ 0 =
+    subst (λ (zs : List Block). sizes_of (not_among zs) xs ≡ 0) (append_assoc ys (b ∷ []) xs) (none_left (ys ++ b ∷ []) xs) in
     omega (arith, rest, sizes_of-cons (not_among (ys ++ b ∷ xs)) b xs, ap (λ (c : Bool). one_size c b) out)
 
 abbrev order : (ℕ → Bool) → List Block → List Block
@@ -111,7 +113,8 @@ held_ones is_free bs = filter (λ b. not (is_free b.number)) bs
 all_sizes : (is_free : ℕ → Bool) (bs : List Block) → sizes (order is_free bs) + sizes (held_ones is_free bs) ≡ sizes bs
 all_sizes is_free bs =
     let free : List Block = filter (λ (b : Block). is_free b.number) bs in
-    omega (arith, sizes_of-any (order is_free bs), sizes_of-any (held_ones is_free bs), sizes_of-any bs, sizes_of-reverse any_block (in_order free), sizes_of-in_order any_block free, parted any_block (λ (b : Block). is_free b.number) bs)
+    omega (arith, sizes_of-any (order is_free bs), sizes_of-any (held_ones is_free bs), sizes_of-any bs, sizes_of-reverse any_block (in_order free),
+    sizes_of-in_order any_block free, parted any_block (λ (b : Block). is_free b.number) bs)
 
 -- what is left are the free ones that aren't given up, and the others
 left-le : (k : ℕ) (is_free : ℕ → Bool) (bs : List Block) → sizes (left_after k is_free bs) ≤ sizes (drop k (order is_free bs)) + sizes (held_ones is_free bs)
@@ -121,7 +124,8 @@ left-le k is_free bs =
     let free : List Block = filter (λ (b : Block). is_free b.number) bs in
     let rest : List Block = drop k (order is_free bs) in
     let split : sizes_of p (order is_free bs) ≡ sizes_of p (gone ++ rest) = ap (sizes_of p) (sym (take-append-drop k (order is_free bs))) in
-    omega (arith, parted p (λ (b : Block). is_free b.number) bs, sizes_of-in_order p free, sizes_of-reverse p (in_order free), split, sizes_of-append p gone rest, none_left [] gone, sizes_of-le p rest, sizes_of-le p (held_ones is_free bs))
+    omega (arith, parted p (λ (b : Block). is_free b.number) bs, sizes_of-in_order p free, sizes_of-reverse p (in_order free), split,
+    sizes_of-append p gone rest, none_left [] gone, sizes_of-le p rest, sizes_of-le p (held_ones is_free bs))
 
 -- HOW MANY ARE GIVEN UP
 
@@ -138,7 +142,8 @@ not_over limit bytes some h =
 next : (n : ℕ) → n + 1 ≡ suc n
 next n = omega arith
 
-give-fits : (limit n standing : ℕ) (xs : List Block) → limit ≢ 0 → sizes xs ≤ standing → (standing + n ≤ limit + sizes (take (count_to_give limit n standing xs) xs)) ⊎ (count_to_give limit n standing xs ≡ length xs)
+give-fits : (limit n standing : ℕ) (xs : List Block) → limit ≢ 0 → sizes xs ≤ standing
+    → (standing + n ≤ limit + sizes (take (count_to_give limit n standing xs) xs)) ⊎ (count_to_give limit n standing xs ≡ length xs)
 give-fits limit n standing [] some h = inr refl
 give-fits limit n standing (b ∷ bs) some h =
     let rest : ℕ = count_to_give limit n (standing - b.size) bs in
@@ -151,7 +156,8 @@ give-fits limit n standing (b ∷ bs) some h =
       ]
     ]
 
-give-needed : (limit n standing j : ℕ) (xs : List Block) → sizes xs ≤ standing → j < count_to_give limit n standing xs → limit + sizes (take j xs) < standing + n
+give-needed : (limit n standing j : ℕ) (xs : List Block) → sizes xs ≤ standing → j < count_to_give limit n standing xs
+    → limit + sizes (take j xs) < standing + n
 give-needed limit n standing j [] h less = absurd (omega (arith, less))
 give-needed limit n standing zero (b ∷ bs) h less =
     elim (cases_Bool (passes limit (standing + n))) [
@@ -175,7 +181,8 @@ drop_all [] = refl
 drop_all (x ∷ xs) = drop_all xs
 
 -- so with a limit a new block finds room
-fresh-fits : (limit n : ℕ) (is_free : ℕ → Bool) (bs : List Block) → limit ≢ 0 → sizes (held_ones is_free bs) + n ≤ limit → n + sizes (left_after (given_up limit n is_free bs) is_free bs) ≤ limit
+fresh-fits : (limit n : ℕ) (is_free : ℕ → Bool) (bs : List Block) → limit ≢ 0 → sizes (held_ones is_free bs) + n ≤ limit
+    → n + sizes (left_after (given_up limit n is_free bs) is_free bs) ≤ limit
 fresh-fits limit n is_free bs some low =
     let k : ℕ = given_up limit n is_free bs in
     let xs : List Block = order is_free bs in
@@ -190,7 +197,9 @@ fresh-fits limit n is_free bs some low =
 
 -- GRANTS
 
-fit-within : (limit n b size : ℕ) (fresh : Bool) (given : ℕ) (is_free : ℕ → Bool) (bs : List Block) (o : Option Block) → limit ≢ 0 → sizes (held_ones is_free bs) + n ≤ limit → sizes bs ≤ limit → fit_or_fresh limit n is_free bs o ≡ Granted b size fresh given → sizes (known_after is_free (Granted b size fresh given) bs) ≤ limit
+fit-within : (limit n b size : ℕ) (fresh : Bool) (given : ℕ) (is_free : ℕ → Bool) (bs : List Block) (o : Option Block) → limit ≢ 0
+    → sizes (held_ones is_free bs) + n ≤ limit → sizes bs ≤ limit → fit_or_fresh limit n is_free bs o ≡ Granted b size fresh given
+    → sizes (known_after is_free (Granted b size fresh given) bs) ≤ limit
 fit-within limit n b size fresh given is_free bs (Some c) some low before h =
     let old : false ≡ fresh = cc in
     subst (λ (f : Bool). sizes (known_after is_free (Granted b size f given) bs) ≤ limit) old before
@@ -198,10 +207,13 @@ fit-within limit n b size fresh given is_free bs None some low before h =
     let new : true ≡ fresh = cc in
     let bytes : n ≡ size = cc in
     let gave : given_up limit n is_free bs ≡ given = cc in
-    let room : n + sizes (left_after given is_free bs) ≤ limit = subst (λ (k : ℕ). n + sizes (left_after k is_free bs) ≤ limit) gave (fresh-fits limit n is_free bs some low) in
-    subst (λ (f : Bool). sizes (known_after is_free (Granted b size f given) bs) ≤ limit) new (omega (arith, room, bytes, sizes-cons (record { number = b; size = size }) (left_after given is_free bs)))
+    let room : n + sizes (left_after given is_free bs) ≤ limit =
+    subst (λ (k : ℕ). n + sizes (left_after k is_free bs) ≤ limit) gave (fresh-fits limit n is_free bs some low) in
+    subst (λ (f : Bool). sizes (known_after is_free (Granted b size f given) bs) ≤ limit) new
+    (omega (arith, room, bytes, sizes-cons (record { number = b; size = size }) (left_after given is_free bs)))
 
-granted-within : (limit n held b size : ℕ) (fresh : Bool) (given : ℕ) (is_free : ℕ → Bool) (bs : List Block) → limit ≢ 0 → sizes (held_ones is_free bs) ≡ held → sizes bs ≤ limit → granted limit n held is_free bs ≡ Granted b size fresh given → sizes (known_after is_free (Granted b size fresh given) bs) ≤ limit
+granted-within : (limit n held b size : ℕ) (fresh : Bool) (given : ℕ) (is_free : ℕ → Bool) (bs : List Block) → limit ≢ 0 → sizes (held_ones is_free bs) ≡ held
+    → sizes bs ≤ limit → granted limit n held is_free bs ≡ Granted b size fresh given → sizes (known_after is_free (Granted b size fresh given) bs) ≤ limit
 granted-within limit n held b size fresh given is_free bs some is before h =
     elim (cases_Bool (passes limit (held + n))) [
       | inl too_much ↦ let never : Refused ≡ Granted b size fresh given = rw too_much at h in cc
@@ -218,21 +230,27 @@ placed-not_free (suc r) = lt-ltb 0 (suc r) (omega arith) ∙ sym (ap not (ne_eqb
 
 same_filter : (p q : Block → Bool) → ((b : Block) → p b ≡ q b) → (bs : List Block) → filter p bs ≡ filter q bs
 same_filter p q same [] = refl
-same_filter p q same (b ∷ bs) = ap (λ (c : Bool). cond c (b ∷ filter p bs) (filter p bs)) (same b) ∙ ap (λ (cs : List Block). cond (q b) (b ∷ cs) cs) (same_filter p q same bs)
+same_filter p q same (b ∷ bs) =
+    ap (λ (c : Bool). cond c (b ∷ filter p bs) (filter p bs)) (same b) ∙ ap (λ (cs : List Block). cond (q b) (b ∷ cs) cs) (same_filter p q same bs)
 
 held-is : (s : Setting) (P : Past) → sizes (held_ones (is_unplaced s P) (known s P)) ≡ held s P
-held-is s P = sym (ap sizes (same_filter (λ (b : Block). ltb 0 (refs s P b.number)) (λ (b : Block). not (is_unplaced s P b.number)) (λ b. placed-not_free (refs s P b.number)) (known s P)))
+held-is s P =
+    sym (ap sizes (same_filter (λ (b : Block). ltb 0 (refs s P b.number)) (λ (b : Block). not (is_unplaced s P b.number))
+    (λ b. placed-not_free (refs s P b.number)) (known s P)))
 
-grants-within : (s : Setting) (m b n : ℕ) (f : Bool) (g : ℕ) (x : Bool) (P : Past) → s.pooled ≡ true → s.limit ≢ 0 → pool_grants s m b n f g x P ≡ true → sizes (known s P) ≤ s.limit → sizes (known_after (is_unplaced s P) (Granted b n f g) (known s P)) ≤ s.limit
+grants-within : (s : Setting) (m b n : ℕ) (f : Bool) (g : ℕ) (x : Bool) (P : Past) → s.pooled ≡ true → s.limit ≢ 0 → pool_grants s m b n f g x P ≡ true
+    → sizes (known s P) ≤ s.limit → sizes (known_after (is_unplaced s P) (Granted b n f g) (known s P)) ≤ s.limit
 grants-within s m b n f g x P pooled some h before =
     granted-within s.limit (s.need m) (held s P) b n f g (is_unplaced s P) (known s P) some (held-is s P) before (granted-is s m b n f g x P pooled h)
 
 within : (s : Setting) (P : Past) → s.pooled ≡ true → s.limit ≢ 0 → is_legal s P ≡ true → sizes (known s P) ≤ s.limit
 within s [] pooled some h = omega arith
 within s (Load r k b n f g x ∷ P) pooled some h =
-    grants-within s 0 b n f g x P pooled some (and_parts (may_load s r k P) (pool_grants s 0 b n f g x P) (row_of s (Load r k b n f g x) P (λ d. refl) h)).1 (within s P pooled some (and_parts _ _ h).0)
+    grants-within s 0 b n f g x P pooled some (and_parts (may_load s r k P) (pool_grants s 0 b n f g x P) (row_of s (Load r k b n f g x) P (λ d. refl) h)).1
+    (within s P pooled some (and_parts _ _ h).0)
 within s (TakeBlock f x r v m k b n g ∷ P) pooled some h =
-    grants-within s v b n f g x P pooled some (and_parts (may_take s r v (frame m k) P && is_maker s v) (pool_grants s v b n f g x P) (row_of s (TakeBlock f x r v m k b n g) P (λ d. refl) h)).1 (within s P pooled some (and_parts _ _ h).0)
+    grants-within s v b n f g x P pooled some (and_parts (may_take s r v (frame m k) P && is_maker s v) (pool_grants s v b n f g x P)
+    (row_of s (TakeBlock f x r v m k b n g) P (λ d. refl) h)).1 (within s P pooled some (and_parts _ _ h).0)
 within s (_ ∷ P) pooled some h = within s P pooled some (and_parts _ _ h).0
 
 pub limit_laws : LimitLaws

@@ -28,15 +28,19 @@ loads-let_go : (r : ℕ) (e : Entry) (es : List Entry) → find (takes_up r) es 
 loads-let_go r e es h n = flat-let_go loads r e es h (loads-none r e (found_up (takes_up r) e es h) n)
 
 -- who else has something has no loaded block
-other_unloaded : (s : Setting) (P : Past) (r p : ℕ) (e d : Entry) → is_legal s P ≡ true → r ≢ p → hand r P ≡ Some e → hand p P ≡ Some d → is_loaded e ≡ true → is_loaded d ≡ false
+other_unloaded : (s : Setting) (P : Past) (r p : ℕ) (e d : Entry) → is_legal s P ≡ true → r ≢ p → hand r P ≡ Some e → hand p P ≡ Some d
+    → is_loaded e ≡ true → is_loaded d ≡ false
 other_unloaded s P r p e d h ne he hd le =
     let other : find (takes_up p) (let_go r (hands P)) ≡ Some d = find-let_go r p (hands P) ne ∙ hd in
     elim (cases_Bool (is_loaded d)) [
-      | inl loaded ↦ absurd (omega (arith, one-loaded s P h, count-let_go is_loaded r e (hands P) he, count-let_go is_loaded p d (let_go r (hands P)) other, ap bit le, ap bit loaded))
+      | inl loaded ↦
+          absurd (omega (arith, one-loaded s P h, count-let_go is_loaded r e (hands P) he,
+          count-let_go is_loaded p d (let_go r (hands P)) other, ap bit le, ap bit loaded))
       | inr none ↦ none
     ]
 
-pub loaded-last : (s : Setting) (P : Past) (r q k b n : ℕ) (f : Bool) (g : ℕ) (x : Bool) → is_legal s P ≡ true → hand r P ≡ Some (Load q k b n f g x) → offered_frames P ≡ k ∷ flat_map loads (let_go r (standing P))
+pub loaded-last : (s : Setting) (P : Past) (r q k b n : ℕ) (f : Bool) (g : ℕ) (x : Bool) → is_legal s P ≡ true → hand r P ≡ Some (Load q k b n f g x)
+    → offered_frames P ≡ k ∷ flat_map loads (let_go r (standing P))
 loaded-last s [] r q k b n f g x l h = cc
 loaded-last s (Load p i c m d e y ∷ P) r q k b n f g x l h =
     elim (cases_Bool (eqb p r)) [
@@ -67,9 +71,12 @@ loaded-last s (Save p w i j z ∷ P) r q k b n f g x l h =
       | inl here ↦ let never : Some (Save p w i j z) ≡ Some (Load q k b n f g x) = rw here at h in cc
       | inr away ↦ rw away (loaded-last s P r q k b n f g x (and_parts _ _ l).0 (still_other r p (Load q k b n f g x) (hands P) away (rw away at h)))
     ]
-loaded-last s (Issue p i ∷ P) r q k b n f g x l h = loaded-last s P r q k b n f g x (and_parts _ _ l).0 (still_held r p (Load q k b n f g x) (hands P) (hands-Apart P) h).1
-loaded-last s (Put p w i j d ∷ P) r q k b n f g x l h = loaded-last s P r q k b n f g x (and_parts _ _ l).0 (still_held r p (Load q k b n f g x) (hands P) (hands-Apart P) h).1
-loaded-last s (Saved p w i j ∷ P) r q k b n f g x l h = loaded-last s P r q k b n f g x (and_parts _ _ l).0 (still_held r p (Load q k b n f g x) (hands P) (hands-Apart P) h).1
+loaded-last s (Issue p i ∷ P) r q k b n f g x l h =
+    loaded-last s P r q k b n f g x (and_parts _ _ l).0 (still_held r p (Load q k b n f g x) (hands P) (hands-Apart P) h).1
+loaded-last s (Put p w i j d ∷ P) r q k b n f g x l h =
+    loaded-last s P r q k b n f g x (and_parts _ _ l).0 (still_held r p (Load q k b n f g x) (hands P) (hands-Apart P) h).1
+loaded-last s (Saved p w i j ∷ P) r q k b n f g x l h =
+    loaded-last s P r q k b n f g x (and_parts _ _ l).0 (still_held r p (Load q k b n f g x) (hands P) (hands-Apart P) h).1
 loaded-last s (Reclaim p ∷ P) r q k b n f g x l h =
     let legal : is_legal s P ≡ true = (and_parts _ _ l).0 in
     let still = still_held r p (Load q k b n f g x) (hands P) (hands-Apart P) h in
@@ -77,11 +84,14 @@ loaded-last s (Reclaim p ∷ P) r q k b n f g x l h =
     let none : is_loaded e.0 ≡ false = other_unloaded s P r p (Load q k b n f g x) e.0 legal (λ y. still.0 (sym y)) still.1 e.1 refl in
     let stands : find (takes_up p) (standing P) ≡ Some e.0 = hand-standing s P p e.0 legal e.1 in
     let rest = loaded-last s P r q k b n f g x legal still.1 in
-    let front : flat_map loads (let_go p (let_go r (standing P))) ≡ flat_map loads (let_go r (standing P)) = loads-let_go p e.0 (let_go r (standing P)) (find-let_go r p (standing P) (λ y. still.0 (sym y)) ∙ stands) none in
+    let front : flat_map loads (let_go p (let_go r (standing P))) ≡ flat_map loads (let_go r (standing P)) =
+    loads-let_go p e.0 (let_go r (standing P)) (find-let_go r p (standing P) (λ y. still.0 (sym y)) ∙ stands) none in
     subst (λ (es : List Entry). flat_map loads es ≡ k ∷ flat_map loads (let_go r es)) (sym (stood p e.0 P e.1))
-    (loads-let_go p e.0 (standing P) stands none ∙ (rest ∙ ap (λ (ks : List ℕ). k ∷ ks) (sym front ∙ ap (flat_map loads) (let_go-swap p r (standing P) still.0))))
+    (loads-let_go p e.0 (standing P) stands none
+    ∙ (rest ∙ ap (λ (ks : List ℕ). k ∷ ks) (sym front ∙ ap (flat_map loads) (let_go-swap p r (standing P) still.0))))
 loaded-last s (_ ∷ P) r q k b n f g x l h = loaded-last s P r q k b n f g x (and_parts _ _ l).0 h
 
 -- a reclaim of another hand leaves what was offered
-pub offered-Reclaim_other : (s : Setting) (r : ℕ) (e : Entry) (P : Past) → is_legal s P ≡ true → hand r P ≡ Some e → is_loaded e ≡ false → offered_frames (Reclaim r ∷ P) ≡ offered_frames P
+pub offered-Reclaim_other : (s : Setting) (r : ℕ) (e : Entry) (P : Past) → is_legal s P ≡ true → hand r P ≡ Some e → is_loaded e ≡ false
+    → offered_frames (Reclaim r ∷ P) ≡ offered_frames P
 offered-Reclaim_other s r e P legal held none = ap (flat_map loads) (stood r e P held) ∙ loads-let_go r e (standing P) (hand-standing s P r e legal held) none

@@ -36,8 +36,12 @@ let_out a P = cond (eqb a.maker 0) (count (issues_at a.index) P) (count (puts_at
 let_out-before : (a : FrameName) (e : Entry) (P : Past) → let_out a (e ∷ P) ≡ 0 → let_out a P ≡ 0
 let_out-before a e P h =
     elim (cases_Bool (eqb a.maker 0)) [
-      | inl driver ↦ let all : count (issues_at a.index) (e ∷ P) ≡ 0 = rw driver at h in let none : count (issues_at a.index) P ≡ 0 = omega (arith, all, count-cons (issues_at a.index) e P) in rw driver none
-      | inr maker ↦ let all : count (puts_at a.maker a.index) (e ∷ P) ≡ 0 = rw maker at h in let none : count (puts_at a.maker a.index) P ≡ 0 = omega (arith, all, count-cons (puts_at a.maker a.index) e P) in rw maker none
+      | inl driver ↦
+          let all : count (issues_at a.index) (e ∷ P) ≡ 0 = rw driver at h in
+          let none : count (issues_at a.index) P ≡ 0 = omega (arith, all, count-cons (issues_at a.index) e P) in rw driver none
+      | inr maker ↦
+          let all : count (puts_at a.maker a.index) (e ∷ P) ≡ 0 = rw maker at h in
+          let none : count (puts_at a.maker a.index) P ≡ 0 = omega (arith, all, count-cons (puts_at a.maker a.index) e P) in rw maker none
     ]
 
 none_passes : (xs : List FrameName) → count no_frame xs ≡ 0
@@ -58,7 +62,8 @@ no_issue a r i P h =
           absurd (omega (arith, none, count-cons (issues_at a.index) (Issue r i) P, ap bit p.1))
     ]
 
-no_put : (s : Setting) (a : FrameName) (r v m i : ℕ) (f : Bool) (P : Past) → is_legal s (Put r v m i f ∷ P) ≡ true → ClearBy no_frame (is_frame a) s P → let_out a (Put r v m i f ∷ P) ≡ 0 → is_frame a (frame m i) ≡ false
+no_put : (s : Setting) (a : FrameName) (r v m i : ℕ) (f : Bool) (P : Past) → is_legal s (Put r v m i f ∷ P) ≡ true → ClearBy no_frame (is_frame a) s P
+    → let_out a (Put r v m i f ∷ P) ≡ 0 → is_frame a (frame m i) ≡ false
 no_put s a r v m i f P h c none =
     elim ((row_laws.put s P r v m i f).0 (row_of s (Put r v m i f) P (λ d. refl) h)).0 [
       | inl job ↦ hand-clear (holds_by no_frame (is_frame a)) r (Take r v m i) P job c.roles
@@ -118,32 +123,37 @@ made-most a (Load r k b n f g x) =
       | inl is ↦
           let p = and_parts (eqb 0 a.maker) (eqb k a.index) is in
           let driver : eqb a.maker 0 ≡ true = eq-eqb a.maker 0 (sym (eqb-true 0 a.maker p.0)) in
-          let one : cond (eqb a.maker 0) (bit (loads_at a.index (Load r k b n f g x))) 0 ≡ 1 = ap (λ (c : Bool). cond c (bit (loads_at a.index (Load r k b n f g x))) 0) driver ∙ ap bit p.1 in
+          let one : cond (eqb a.maker 0) (bit (loads_at a.index (Load r k b n f g x))) 0 ≡ 1 =
+          ap (λ (c : Bool). cond c (bit (loads_at a.index (Load r k b n f g x))) 0) driver ∙ ap bit p.1 in
           omega (arith, ap bit is, one)
       | inr other ↦ omega (arith, ap bit other)
     ]
 made-most a (TakeBlock f x r v m k b n g) = omega arith
 made-most a _ = omega arith
 
-making-cons : (a : FrameName) (e : Entry) (hs : List Entry) → in_making a (e ∷ hs) ≡ cond (eqb a.maker 0) (bit (loads_at a.index e)) 0 + bit (takes_at a.maker a.index e) + in_making a hs
+making-cons : (a : FrameName) (e : Entry) (hs : List Entry)
+    → in_making a (e ∷ hs) ≡ cond (eqb a.maker 0) (bit (loads_at a.index e)) 0 + bit (takes_at a.maker a.index e) + in_making a hs
 making-cons a e hs = omega (arith, loads-cons a e hs, count-cons (takes_at a.maker a.index) e hs)
 
 hands-held : (a : FrameName) (hs : List Entry) → count (holds (is_frame a)) hs ≤ count (holds_by no_frame (is_frame a)) hs + in_making a hs
 hands-held a [] = omega arith
 hands-held a (e ∷ hs) =
-    omega (arith, hands-held a hs, held-split a e, made-most a e, making-cons a e hs, count-cons (holds (is_frame a)) e hs, count-cons (holds_by no_frame (is_frame a)) e hs)
+    omega (arith, hands-held a hs, held-split a e, made-most a e, making-cons a e hs, count-cons (holds (is_frame a)) e hs,
+    count-cons (holds_by no_frame (is_frame a)) e hs)
 
 nowhere : (s : Setting) (P : Past) (a : FrameName) → is_legal s P ≡ true → let_out a P ≡ 0 → in_making a (hands P) ≡ 0 → Clear (is_frame a) s P
 nowhere s P a h none idle =
     let c = unmade-clear s P a h none in
-    record { queues = c.queues; lists = c.lists; rings = c.rings; files = c.files; roles = omega (arith, hands-held a (hands P), c.roles, idle); calls = c.calls }
+    record { queues = c.queues; lists = c.lists; rings = c.rings; files = c.files;
+    roles = omega (arith, hands-held a (hands P), c.roles, idle); calls = c.calls }
 
 -- nobody takes from the driver
 none_taken : (s : Setting) (P : Past) (k : ℕ) → is_legal s P ≡ true → count (takes_at 0 k) (standing P) ≡ 0
 none_taken s P k h = omega (arith, takes-accepted s P 0 k h, none_at_driver s P k h)
 
 -- before its load a frame has no place
-pub unloaded-nowhere : (s : Setting) (r k b n : ℕ) (f : Bool) (g : ℕ) (x : Bool) (P : Past) → is_legal s (Load r k b n f g x ∷ P) ≡ true → Clear (is_frame (frame 0 k)) s P
+pub unloaded-nowhere : (s : Setting) (r k b n : ℕ) (f : Bool) (g : ℕ) (x : Bool) (P : Past)
+    → is_legal s (Load r k b n f g x ∷ P) ≡ true → Clear (is_frame (frame 0 k)) s P
 unloaded-nowhere s r k b n f g x P h =
     let e : Entry = Load r k b n f g x in
     let legal : is_legal s P ≡ true = (and_parts _ _ h).0 in
@@ -153,7 +163,8 @@ unloaded-nowhere s r k b n f g x P h =
     nowhere s P (frame 0 k) legal (omega (arith, none, issued)) (omega (arith, none, issued, takes, none_taken s P k legal))
 
 -- nor has it after its load is reclaimed
-pub reclaimed-nowhere : (s : Setting) (r q k b n : ℕ) (f : Bool) (g : ℕ) (x : Bool) (P : Past) → is_legal s (Reclaim r ∷ P) ≡ true → hand r P ≡ Some (Load q k b n f g x) → Clear (is_frame (frame 0 k)) s (Reclaim r ∷ P)
+pub reclaimed-nowhere : (s : Setting) (r q k b n : ℕ) (f : Bool) (g : ℕ) (x : Bool) (P : Past) → is_legal s (Reclaim r ∷ P) ≡ true
+    → hand r P ≡ Some (Load q k b n f g x) → Clear (is_frame (frame 0 k)) s (Reclaim r ∷ P)
 reclaimed-nowhere s r q k b n f g x P h held =
     let e : Entry = Load q k b n f g x in
     let legal : is_legal s P ≡ true = (and_parts _ _ h).0 in
@@ -163,7 +174,8 @@ reclaimed-nowhere s r q k b n f g x P h held =
     let most = load-once s P k legal in
     let takes = puts-taken s (Reclaim r ∷ P) 0 k h in
     let same_issues : count (issues_at k) (Reclaim r ∷ P) ≡ count (issues_at k) P = refl in
-    nowhere s (Reclaim r ∷ P) (frame 0 k) h (omega (arith, fewer, one, issued, most, same_issues)) (omega (arith, fewer, one, issued, most, takes, none_taken s (Reclaim r ∷ P) k h))
+    nowhere s (Reclaim r ∷ P) (frame 0 k) h
+    (omega (arith, fewer, one, issued, most, same_issues)) (omega (arith, fewer, one, issued, most, takes, none_taken s (Reclaim r ∷ P) k h))
 
 away_from_driver : (s : Setting) (P : Past) (v k : ℕ) → is_legal s P ≡ true → 1 ≤ count (takes_at v k) (standing P) → eqb v 0 ≡ false
 away_from_driver s P v k h some =
@@ -181,7 +193,8 @@ in_making-take v k hs away =
     omega (arith, none)
 
 -- before its take a maker's frame has no place
-pub untaken-nowhere : (s : Setting) (r v m k b n : ℕ) (f : Bool) (g : ℕ) (x : Bool) (P : Past) → is_legal s (TakeBlock f x r v m k b n g ∷ P) ≡ true → Clear (is_frame (frame v k)) s P
+pub untaken-nowhere : (s : Setting) (r v m k b n : ℕ) (f : Bool) (g : ℕ) (x : Bool) (P : Past)
+    → is_legal s (TakeBlock f x r v m k b n g ∷ P) ≡ true → Clear (is_frame (frame v k)) s P
 untaken-nowhere s r v m k b n f g x P h =
     let e : Entry = TakeBlock f x r v m k b n g in
     let legal : is_legal s P ≡ true = (and_parts _ _ h).0 in
@@ -194,7 +207,8 @@ untaken-nowhere s r v m k b n f g x P h =
     nowhere s P (frame v k) legal (let_out-put v k P away ∙ omega (arith, none, taken)) (in_making-take v k (hands P) away ∙ omega (arith, none, taken))
 
 -- nor has it after its take is reclaimed
-pub untaken-again : (s : Setting) (r q v m k b n : ℕ) (f : Bool) (g : ℕ) (x : Bool) (P : Past) → is_legal s (Reclaim r ∷ P) ≡ true → hand r P ≡ Some (TakeBlock f x q v m k b n g) → Clear (is_frame (frame v k)) s (Reclaim r ∷ P)
+pub untaken-again : (s : Setting) (r q v m k b n : ℕ) (f : Bool) (g : ℕ) (x : Bool) (P : Past) → is_legal s (Reclaim r ∷ P) ≡ true
+    → hand r P ≡ Some (TakeBlock f x q v m k b n g) → Clear (is_frame (frame v k)) s (Reclaim r ∷ P)
 untaken-again s r q v m k b n f g x P h held =
     let e : Entry = TakeBlock f x q v m k b n g in
     let legal : is_legal s P ≡ true = (and_parts _ _ h).0 in
@@ -204,4 +218,5 @@ untaken-again s r q v m k b n f g x P h held =
     let away : eqb v 0 ≡ false = away_from_driver s P v k legal (omega (arith, one, fewer, taken)) in
     let most : count (takes_at v k) (standing P) ≤ 1 = omega (arith, takes-accepted s P v k legal, accepts-once s P v k legal) in
     let same_puts : count (puts_at v k) (Reclaim r ∷ P) ≡ count (puts_at v k) P = refl in
-    nowhere s (Reclaim r ∷ P) (frame v k) h (let_out-put v k (Reclaim r ∷ P) away ∙ omega (arith, one, fewer, taken, most, same_puts)) (in_making-take v k (hands (Reclaim r ∷ P)) away ∙ omega (arith, one, fewer, taken, most))
+    nowhere s (Reclaim r ∷ P) (frame v k) h (let_out-put v k (Reclaim r ∷ P) away
+    ∙ omega (arith, one, fewer, taken, most, same_puts)) (in_making-take v k (hands (Reclaim r ∷ P)) away ∙ omega (arith, one, fewer, taken, most))

@@ -76,7 +76,8 @@ pub child_once : (s : Setting) (v c : ℕ) → count (is_number c) (children s v
 child_once s v c =
     elim (cases_Bool (eqb (node s c).input v)) [
       | inl child ↦
-          let n : count (is_number c) (children s v) ≡ count (is_number c) (node_numbers s) = rw child at (filtered (λ u. eqb (node s u).input v) c (node_numbers s)) in
+          let n : count (is_number c) (children s v) ≡ count (is_number c) (node_numbers s) =
+          rw child at (filtered (λ u. eqb (node s u).input v) c (node_numbers s)) in
           rw child (omega (arith, n, once_numbered s c))
       | inr other ↦
           let n : count (is_number c) (children s v) ≡ 0 = rw other at (filtered (λ u. eqb (node s u).input v) c (node_numbers s)) in
@@ -87,7 +88,9 @@ child_once s v c =
 no_child : (s : Setting) (c v : ℕ) → count (is_number c) (node_numbers s) ≡ 0 → count (is_number c) (children s v) ≡ 0
 no_child s c v none =
     elim (cases_Bool (eqb (node s c).input v)) [
-      | inl child ↦ let n : count (is_number c) (children s v) ≡ count (is_number c) (node_numbers s) = rw child at (filtered (λ u. eqb (node s u).input v) c (node_numbers s)) in n ∙ none
+      | inl child ↦
+          let n : count (is_number c) (children s v) ≡ count (is_number c) (node_numbers s) =
+          rw child at (filtered (λ u. eqb (node s u).input v) c (node_numbers s)) in n ∙ none
       | inr other ↦ let n : count (is_number c) (children s v) ≡ 0 = rw other at (filtered (λ u. eqb (node s u).input v) c (node_numbers s)) in n
     ]
 
@@ -101,7 +104,8 @@ offers_are a c k (u ∷ us) =
       | inl same ↦
           let more : count (arrives_at c k) (map (offer a) us) ≡ count (is_number c) us = rw same at rest in
           let b : (eqb u c && eqb a.index k) ≡ eqb u c = rw same (elim (eqb u c) as (λ (x : Bool). (x && true) ≡ x) [ true ↦ refl | false ↦ refl ]) in
-          let whole : count (arrives_at c k) (map (offer a) (u ∷ us)) ≡ count (is_number c) (u ∷ us) = omega (arith, one, more, ap bit b, count-cons (is_number c) u us) in
+          let whole : count (arrives_at c k) (map (offer a) (u ∷ us)) ≡ count (is_number c) (u ∷ us) =
+          omega (arith, one, more, ap bit b, count-cons (is_number c) u us) in
           whole ∙ sym (ap (λ (x : Bool). cond x (count (is_number c) (u ∷ us)) 0) same)
       | inr other ↦
           let more : count (arrives_at c k) (map (offer a) us) ≡ 0 = rw other at rest in
@@ -110,7 +114,8 @@ offers_are a c k (u ∷ us) =
           whole ∙ sym (ap (λ (x : Bool). cond x (count (is_number c) (u ∷ us)) 0) other)
     ]
 
-pub offers_of_emit : (s : Setting) (P : Past) (v m i c k : ℕ) → count (arrives_at c k) (map (offer (frame m i)) (offered_to s P v)) ≤ bit (eqb v (node s c).input && eqb i k)
+pub offers_of_emit : (s : Setting) (P : Past) (v m i c k : ℕ)
+    → count (arrives_at c k) (map (offer (frame m i)) (offered_to s P v)) ≤ bit (eqb v (node s c).input && eqb i k)
 offers_of_emit s P v m i c k =
     let are = offers_are (frame m i) c k (offered_to s P v) in
     let once = child_once s v c in
@@ -120,7 +125,8 @@ offers_of_emit s P v m i c k =
           let n : count (arrives_at c k) (map (offer (frame m i)) (offered_to s P v)) ≡ count (is_number c) (offered_to s P v) = rw same at are in
           elim (cases_Bool (eqb (node s c).input v)) [
             | inl child ↦
-                let both : (eqb v (node s c).input && eqb i k) ≡ true = and_from _ _ (eq-eqb v (node s c).input (sym (eqb-true (node s c).input v child))) same in
+                let both : (eqb v (node s c).input && eqb i k) ≡ true =
+                and_from _ _ (eq-eqb v (node s c).input (sym (eqb-true (node s c).input v child))) same in
                 omega (arith, n, few, once, ap bit child, ap bit both)
             | inr other ↦ omega (arith, n, few, once, ap bit other)
           ]
@@ -129,7 +135,8 @@ offers_of_emit s P v m i c k =
           omega (arith, n)
     ]
 
-none_to : (s : Setting) (P : Past) (c v m i k : ℕ) → count (is_number c) (node_numbers s) ≡ 0 → count (arrives_at c k) (map (offer (frame m i)) (offered_to s P v)) ≡ 0
+none_to : (s : Setting) (P : Past) (c v m i k : ℕ) → count (is_number c) (node_numbers s) ≡ 0
+    → count (arrives_at c k) (map (offer (frame m i)) (offered_to s P v)) ≡ 0
 none_to s P c v m i k none =
     let are = offers_are (frame m i) c k (offered_to s P v) in
     elim (cases_Bool (eqb i k)) [
@@ -147,61 +154,79 @@ look_if s P c k u false = refl
 no_offers-tick : (s : Setting) (P : Past) (c k : ℕ) (us : List ℕ) → count (arrives_at c k) (flat_map (λ u. cond (is_sorted s u) (look s u P) []) us) ≡ 0
 no_offers-tick s P c k [] = refl
 no_offers-tick s P c k (u ∷ us) =
-    omega (arith, count-append (arrives_at c k) (cond (is_sorted s u) (look s u P) []) (flat_map (λ x. cond (is_sorted s x) (look s x P) []) us), look_if s P c k u (is_sorted s u), no_offers-tick s P c k us)
+    omega (arith, count-append (arrives_at c k) (cond (is_sorted s u) (look s u P) []) (flat_map (λ x. cond (is_sorted s x) (look s x P) []) us),
+    look_if s P c k u (is_sorted s u), no_offers-tick s P c k us)
 
 -- what came and what is still offered was emitted by the input
-pub arrives-emitted : (s : Setting) (P : Past) (c k : ℕ) → is_legal s P ≡ true → count (arrives_at c k) P + count (arrives_at c k) (owed s P) ≤ count (emits_at (node s c).input k) P
+pub arrives-emitted : (s : Setting) (P : Past) (c k : ℕ) → is_legal s P ≡ true
+    → count (arrives_at c k) P + count (arrives_at c k) (owed s P) ≤ count (emits_at (node s c).input k) P
 arrives-emitted s [] c k h = omega arith
 arrives-emitted s (Accept w m i ∷ P) c k h =
     let a = owed-answered s (Accept w m i) P refl h in
     let same = answers-by_Accept s P w m i a.head a.answer in
-    let was : count (arrives_at c k) (owed s P) ≡ bit (arrives_at c k (Accept w m i)) + count (arrives_at c k) a.rest = ap (count (arrives_at c k)) a.is ∙ (count-cons (arrives_at c k) a.head a.rest ∙ ap (λ (d : Entry). bit (arrives_at c k d) + count (arrives_at c k) a.rest) same) in
+    let was : count (arrives_at c k) (owed s P) ≡ bit (arrives_at c k (Accept w m i)) + count (arrives_at c k) a.rest =
+    ap (count (arrives_at c k)) a.is
+    ∙ (count-cons (arrives_at c k) a.head a.rest ∙ ap (λ (d : Entry). bit (arrives_at c k d) + count (arrives_at c k) a.rest) same) in
     let left : count (arrives_at c k) (drop 1 (owed s P)) ≡ count (arrives_at c k) a.rest = ap (λ (ds : List Entry). count (arrives_at c k) (drop 1 ds)) a.is in
     omega (arith, arrives-emitted s P c k (and_parts _ _ h).0, was, left, count-cons (arrives_at c k) (Accept w m i) P)
 arrives-emitted s (Full w m i ∷ P) c k h =
     let a = owed-answered s (Full w m i) P refl h in
     let same = answers-by_Full s P w m i c k a.head a.answer in
-    let was : count (arrives_at c k) (owed s P) ≡ bit (arrives_at c k (Full w m i)) + count (arrives_at c k) a.rest = ap (count (arrives_at c k)) a.is ∙ (count-cons (arrives_at c k) a.head a.rest ∙ ap (λ (b : Bool). bit b + count (arrives_at c k) a.rest) same) in
+    let was : count (arrives_at c k) (owed s P) ≡ bit (arrives_at c k (Full w m i)) + count (arrives_at c k) a.rest =
+    ap (count (arrives_at c k)) a.is ∙ (count-cons (arrives_at c k) a.head a.rest ∙ ap (λ (b : Bool). bit b + count (arrives_at c k) a.rest) same) in
     let left : count (arrives_at c k) (drop 1 (owed s P)) ≡ count (arrives_at c k) a.rest = ap (λ (ds : List Entry). count (arrives_at c k) (drop 1 ds)) a.is in
     omega (arith, arrives-emitted s P c k (and_parts _ _ h).0, was, left, count-cons (arrives_at c k) (Full w m i) P)
 arrives-emitted s (Emit w m i why ∷ P) c k h =
     let calls = offers_of_emit s P w m i c k in
     let all = count-append (arrives_at c k) (map (offer (frame m i)) (offered_to s P w)) (drop 1 (owed s P)) in
-    omega (arith, arrives-emitted s P c k (and_parts _ _ h).0, calls, all, count-drop (arrives_at c k) (owed s P), count-cons (emits_at (node s c).input k) (Emit w m i why) P)
+    omega (arith, arrives-emitted s P c k (and_parts _ _ h).0, calls, all, count-drop (arrives_at c k) (owed s P),
+    count-cons (emits_at (node s c).input k) (Emit w m i why) P)
 arrives-emitted s (Tick t ∷ P) c k h =
-    omega (arith, arrives-emitted s P c k (and_parts _ _ h).0, count-append (arrives_at c k) (calls_for s P (Tick t)) (drop 1 (owed s P)), no_offers-tick s (Tick t ∷ P) c k (node_numbers s), count-drop (arrives_at c k) (owed s P))
+    omega (arith, arrives-emitted s P c k (and_parts _ _ h).0, count-append (arrives_at c k) (calls_for s P (Tick t)) (drop 1 (owed s P)),
+    no_offers-tick s (Tick t ∷ P) c k (node_numbers s), count-drop (arrives_at c k) (owed s P))
 arrives-emitted s (Put r w m i f ∷ P) c k h =
-    omega (arith, arrives-emitted s P c k (and_parts _ _ h).0, count-append (arrives_at c k) (calls_for s P (Put r w m i f)) (drop 1 (owed s P)), no_offers w c k (calls_for s P (Put r w m i f)) (result-at s w (frame m i) f P (node s w).work), count-drop (arrives_at c k) (owed s P))
+    omega (arith, arrives-emitted s P c k (and_parts _ _ h).0, count-append (arrives_at c k) (calls_for s P (Put r w m i f)) (drop 1 (owed s P)),
+    no_offers w c k (calls_for s P (Put r w m i f)) (result-at s w (frame m i) f P (node s w).work), count-drop (arrives_at c k) (owed s P))
 arrives-emitted s (Settle r w ∷ P) c k h =
-    omega (arith, arrives-emitted s P c k (and_parts _ _ h).0, count-append (arrives_at c k) (calls_for s P (Settle r w)) (drop 1 (owed s P)), no_offers w c k (calls_for s P (Settle r w)) (flush-at w (least_first s (waiting s w P))), count-drop (arrives_at c k) (owed s P))
+    omega (arith, arrives-emitted s P c k (and_parts _ _ h).0, count-append (arrives_at c k) (calls_for s P (Settle r w)) (drop 1 (owed s P)),
+    no_offers w c k (calls_for s P (Settle r w)) (flush-at w (least_first s (waiting s w P))), count-drop (arrives_at c k) (owed s P))
 arrives-emitted s (_ ∷ P) c k h = omega (arith, arrives-emitted s P c k (and_parts _ _ h).0, count-drop (arrives_at c k) (owed s P))
 
 -- nothing is offered to what isn't numbered
-pub none_arrives : (s : Setting) (P : Past) (c k : ℕ) → count (is_number c) (node_numbers s) ≡ 0 → is_legal s P ≡ true → count (arrives_at c k) P + count (arrives_at c k) (owed s P) ≡ 0
+pub none_arrives : (s : Setting) (P : Past) (c k : ℕ) → count (is_number c) (node_numbers s) ≡ 0 → is_legal s P ≡ true
+    → count (arrives_at c k) P + count (arrives_at c k) (owed s P) ≡ 0
 none_arrives s [] c k none h = refl
 none_arrives s (Accept w m i ∷ P) c k none h =
     let a = owed-answered s (Accept w m i) P refl h in
     let same = answers-by_Accept s P w m i a.head a.answer in
-    let was : count (arrives_at c k) (owed s P) ≡ bit (arrives_at c k (Accept w m i)) + count (arrives_at c k) a.rest = ap (count (arrives_at c k)) a.is ∙ (count-cons (arrives_at c k) a.head a.rest ∙ ap (λ (d : Entry). bit (arrives_at c k d) + count (arrives_at c k) a.rest) same) in
+    let was : count (arrives_at c k) (owed s P) ≡ bit (arrives_at c k (Accept w m i)) + count (arrives_at c k) a.rest =
+    ap (count (arrives_at c k)) a.is
+    ∙ (count-cons (arrives_at c k) a.head a.rest ∙ ap (λ (d : Entry). bit (arrives_at c k d) + count (arrives_at c k) a.rest) same) in
     let left : count (arrives_at c k) (drop 1 (owed s P)) ≡ count (arrives_at c k) a.rest = ap (λ (ds : List Entry). count (arrives_at c k) (drop 1 ds)) a.is in
     omega (arith, none_arrives s P c k none (and_parts _ _ h).0, was, left, count-cons (arrives_at c k) (Accept w m i) P)
 none_arrives s (Full w m i ∷ P) c k none h =
     let a = owed-answered s (Full w m i) P refl h in
     let same = answers-by_Full s P w m i c k a.head a.answer in
-    let was : count (arrives_at c k) (owed s P) ≡ bit (arrives_at c k (Full w m i)) + count (arrives_at c k) a.rest = ap (count (arrives_at c k)) a.is ∙ (count-cons (arrives_at c k) a.head a.rest ∙ ap (λ (b : Bool). bit b + count (arrives_at c k) a.rest) same) in
+    let was : count (arrives_at c k) (owed s P) ≡ bit (arrives_at c k (Full w m i)) + count (arrives_at c k) a.rest =
+    ap (count (arrives_at c k)) a.is ∙ (count-cons (arrives_at c k) a.head a.rest ∙ ap (λ (b : Bool). bit b + count (arrives_at c k) a.rest) same) in
     let left : count (arrives_at c k) (drop 1 (owed s P)) ≡ count (arrives_at c k) a.rest = ap (λ (ds : List Entry). count (arrives_at c k) (drop 1 ds)) a.is in
     omega (arith, none_arrives s P c k none (and_parts _ _ h).0, was, left, count-cons (arrives_at c k) (Full w m i) P)
 none_arrives s (Emit w m i why ∷ P) c k none h =
-    omega (arith, none_arrives s P c k none (and_parts _ _ h).0, none_to s P c w m i k none, count-append (arrives_at c k) (map (offer (frame m i)) (offered_to s P w)) (drop 1 (owed s P)), count-drop (arrives_at c k) (owed s P))
+    omega (arith, none_arrives s P c k none (and_parts _ _ h).0, none_to s P c w m i k none,
+    count-append (arrives_at c k) (map (offer (frame m i)) (offered_to s P w)) (drop 1 (owed s P)), count-drop (arrives_at c k) (owed s P))
 none_arrives s (Tick t ∷ P) c k none h =
-    omega (arith, none_arrives s P c k none (and_parts _ _ h).0, count-append (arrives_at c k) (calls_for s P (Tick t)) (drop 1 (owed s P)), no_offers-tick s (Tick t ∷ P) c k (node_numbers s), count-drop (arrives_at c k) (owed s P))
+    omega (arith, none_arrives s P c k none (and_parts _ _ h).0, count-append (arrives_at c k) (calls_for s P (Tick t)) (drop 1 (owed s P)),
+    no_offers-tick s (Tick t ∷ P) c k (node_numbers s), count-drop (arrives_at c k) (owed s P))
 none_arrives s (Put r w m i f ∷ P) c k none h =
-    omega (arith, none_arrives s P c k none (and_parts _ _ h).0, count-append (arrives_at c k) (calls_for s P (Put r w m i f)) (drop 1 (owed s P)), no_offers w c k (calls_for s P (Put r w m i f)) (result-at s w (frame m i) f P (node s w).work), count-drop (arrives_at c k) (owed s P))
+    omega (arith, none_arrives s P c k none (and_parts _ _ h).0, count-append (arrives_at c k) (calls_for s P (Put r w m i f)) (drop 1 (owed s P)),
+    no_offers w c k (calls_for s P (Put r w m i f)) (result-at s w (frame m i) f P (node s w).work), count-drop (arrives_at c k) (owed s P))
 none_arrives s (Settle r w ∷ P) c k none h =
-    omega (arith, none_arrives s P c k none (and_parts _ _ h).0, count-append (arrives_at c k) (calls_for s P (Settle r w)) (drop 1 (owed s P)), no_offers w c k (calls_for s P (Settle r w)) (flush-at w (least_first s (waiting s w P))), count-drop (arrives_at c k) (owed s P))
+    omega (arith, none_arrives s P c k none (and_parts _ _ h).0, count-append (arrives_at c k) (calls_for s P (Settle r w)) (drop 1 (owed s P)),
+    no_offers w c k (calls_for s P (Settle r w)) (flush-at w (least_first s (waiting s w P))), count-drop (arrives_at c k) (owed s P))
 none_arrives s (_ ∷ P) c k none h = omega (arith, none_arrives s P c k none (and_parts _ _ h).0, count-drop (arrives_at c k) (owed s P))
 
-pub none_at : (s : Setting) (P : Past) (c k : ℕ) → count (is_number c) (node_numbers s) ≡ 0 → is_legal s P ≡ true → count (accepts_at c k) P + count (accepts_at c k) (owed s P) ≡ 0
+pub none_at : (s : Setting) (P : Past) (c k : ℕ) → count (is_number c) (node_numbers s) ≡ 0 → is_legal s P ≡ true
+    → count (accepts_at c k) P + count (accepts_at c k) (owed s P) ≡ 0
 none_at s P c k none h = omega (arith, none_arrives s P c k none h, arrives-le c k P, arrives-le c k (owed s P))
 
 -- nor to the driver

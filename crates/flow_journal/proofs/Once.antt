@@ -77,7 +77,8 @@ load-few s (Load r i b n f g x ∷ P) k h =
     let before = load-few s P k (and_parts _ _ h).0 in
     let may : may_load s r i P ≡ true = (and_parts (may_load s r i P) (pool_grants s 0 b n f g x P) (row_of s (Load r i b n f g x) P (λ d. refl) h)).0 in
     let facts = load-facts s r i P may in
-    let none : count (loads_at i) (standing P) ≡ 0 = not_loaded i (standing P) (subst (λ (j : ℕ). is_among j (offered_frames P) ≡ false) (sym facts.in_turn) (least_missing-not_among (offered_frames P))) in
+    let none : count (loads_at i) (standing P) ≡ 0 =
+    not_loaded i (standing P) (subst (λ (j : ℕ). is_among j (offered_frames P) ≡ false) (sym facts.in_turn) (least_missing-not_among (offered_frames P))) in
     elim (cases_Bool (eqb i k)) [
       | inl same ↦
           let is : i ≡ k = eqb-true i k same in
@@ -86,7 +87,8 @@ load-few s (Load r i b n f g x ∷ P) k h =
           omega (arith, none_k, count-cons (loads_at k) (Load r i b n f g x) (standing P), ap bit same, ap bit low)
       | inr other ↦ omega (arith, before, count-cons (loads_at k) (Load r i b n f g x) (standing P), ap bit other)
     ]
-load-few s (Reclaim r ∷ P) k h = omega (arith, load-few s P k (and_parts _ _ h).0, count-let_go-le (loads_at k) r (standing P), ap (count (loads_at k)) (stands-less s r P h))
+load-few s (Reclaim r ∷ P) k h =
+    omega (arith, load-few s P k (and_parts _ _ h).0, count-let_go-le (loads_at k) r (standing P), ap (count (loads_at k)) (stands-less s r P h))
 load-few s (_ ∷ P) k h = load-few s P k (and_parts _ _ h).0
 
 pub load-once : (s : Setting) (P : Past) (k : ℕ) → is_legal s P ≡ true → count (loads_at k) (standing P) ≤ 1
@@ -95,10 +97,13 @@ load-once s P k h = omega (arith, load-few s P k h, bit-le (ltb k (length s.ids)
 -- ARRIVALS
 
 -- a node emits no more of an index than came to it, and the driver no more than was loaded
-emits-bounded : (s : Setting) (P : Past) (v k : ℕ) → is_legal s P ≡ true → ((c : ℕ) → count (arrives_at c k) P ≤ bit (ltb k (length s.ids))) → count (emits_at v k) P ≤ bit (ltb k (length s.ids))
+emits-bounded : (s : Setting) (P : Past) (v k : ℕ) → is_legal s P ≡ true → ((c : ℕ) → count (arrives_at c k) P ≤ bit (ltb k (length s.ids)))
+    → count (emits_at v k) P ≤ bit (ltb k (length s.ids))
 emits-bounded s P v k h few =
     elim (cases_Bool (eqb v 0)) [
-      | inl driver ↦ subst (λ (u : ℕ). count (emits_at u k) P ≤ bit (ltb k (length s.ids))) (sym (eqb-true v 0 driver)) (omega (arith, emits-loaded s P k h, load-few s P k h))
+      | inl driver ↦
+          subst (λ (u : ℕ). count (emits_at u k) P ≤ bit (ltb k (length s.ids))) (sym (eqb-true v 0 driver))
+          (omega (arith, emits-loaded s P k h, load-few s P k h))
       | inr at_node ↦
           let nz : v ≢ 0 = λ e. true≢false (sym (eq-eqb v 0 e) ∙ at_node) in
           omega (arith, emits-puts s P v k nz h, puts-taken s P v k h, takes-accepted s P v k h, arrives-le v k P, few v)
@@ -111,14 +116,17 @@ arrives-few s (Accept w m i ∷ P) c k h =
     let legal : is_legal s P ≡ true = (and_parts _ _ h).0 in
     let a = owed-answered s (Accept w m i) P refl h in
     let same = answers-by_Accept s P w m i a.head a.answer in
-    let was : count (arrives_at c k) (owed s P) ≡ bit (arrives_at c k (Accept w m i)) + count (arrives_at c k) a.rest = ap (count (arrives_at c k)) a.is ∙ (count-cons (arrives_at c k) a.head a.rest ∙ ap (λ (d : Entry). bit (arrives_at c k d) + count (arrives_at c k) a.rest) same) in
+    let was : count (arrives_at c k) (owed s P) ≡ bit (arrives_at c k (Accept w m i)) + count (arrives_at c k) a.rest =
+    ap (count (arrives_at c k)) a.is
+    ∙ (count-cons (arrives_at c k) a.head a.rest ∙ ap (λ (d : Entry). bit (arrives_at c k d) + count (arrives_at c k) a.rest) same) in
     let few = emits-bounded s P (node s c).input k legal (λ (u : ℕ). arrives-few s P u k legal) in
     omega (arith, arrives-emitted s P c k legal, was, few, count-cons (arrives_at c k) (Accept w m i) P)
 arrives-few s (Full w m i ∷ P) c k h =
     let legal : is_legal s P ≡ true = (and_parts _ _ h).0 in
     let a = owed-answered s (Full w m i) P refl h in
     let same = answers-by_Full s P w m i c k a.head a.answer in
-    let was : count (arrives_at c k) (owed s P) ≡ bit (arrives_at c k (Full w m i)) + count (arrives_at c k) a.rest = ap (count (arrives_at c k)) a.is ∙ (count-cons (arrives_at c k) a.head a.rest ∙ ap (λ (b : Bool). bit b + count (arrives_at c k) a.rest) same) in
+    let was : count (arrives_at c k) (owed s P) ≡ bit (arrives_at c k (Full w m i)) + count (arrives_at c k) a.rest =
+    ap (count (arrives_at c k)) a.is ∙ (count-cons (arrives_at c k) a.head a.rest ∙ ap (λ (b : Bool). bit b + count (arrives_at c k) a.rest) same) in
     let few = emits-bounded s P (node s c).input k legal (λ (u : ℕ). arrives-few s P u k legal) in
     omega (arith, arrives-emitted s P c k legal, was, few, count-cons (arrives_at c k) (Full w m i) P)
 arrives-few s (_ ∷ P) c k h = arrives-few s P c k (and_parts _ _ h).0

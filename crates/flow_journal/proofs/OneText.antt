@@ -23,15 +23,18 @@ one_entry e d fe fd same =
 same_line : (text : List ℕ) (e d : Entry) (back after : List ℕ) → Fits e → Fits d → text ≡ line e ++ back → text ≡ line d ++ after → (e ≡ d) × (back ≡ after)
 same_line text e d back after fe fd he hd =
     let ends = line_end-line text e back fe he in
-    let one : e ≡ d = one_entry e d fe fd (sym (taken-line text (length (spelling e)) e back fe ends he) ∙ taken-line text (length (spelling e)) d after fd ends hd) in
+    let one : e ≡ d =
+    one_entry e d fe fd (sym (taken-line text (length (spelling e)) e back fe ends he) ∙ taken-line text (length (spelling e)) d after fd ends hd) in
     let at_d : text ≡ line d ++ back = he ∙ ap (λ (x : Entry). line x ++ back) one in
     (one, sym (drop-append_seam (line d) back) ∙ (ap (drop (length (line d))) (sym at_d ∙ hd) ∙ drop-append_seam (line d) after))
 
 -- lines at the front of a text are those of its first entries
-pub front_entries : (es before : List Entry) (rest : List ℕ) → All Fits es → All Fits before → text_of es ≡ text_of before ++ rest → (ds : List Entry) × (es ≡ before ++ ds) × (rest ≡ text_of ds) × All Fits ds
+pub front_entries : (es before : List Entry) (rest : List ℕ) → All Fits es → All Fits before → text_of es ≡ text_of before ++ rest
+    → (ds : List Entry) × (es ≡ before ++ ds) × (rest ≡ text_of ds) × All Fits ds
 front_entries es [] rest fes fit same = (es, refl, sym same, fes)
 front_entries [] (d ∷ before) rest fes fit same =
-    absurd (omega (arith, ap length same, length-append (text_of (d ∷ before)) rest, length-append (line d) (text_of before), length-append (spelling d) (10 ∷ [])))
+    absurd (omega (arith, ap length same, length-append (text_of (d ∷ before)) rest, length-append (line d) (text_of before),
+    length-append (spelling d) (10 ∷ [])))
 front_entries (e ∷ es) (d ∷ before) rest fes fit same =
     let whole : text_of (e ∷ es) ≡ line d ++ (text_of before ++ rest) = same ∙ append_assoc (line d) (text_of before) rest in
     let one = same_line (text_of (e ∷ es)) e d (text_of es) (text_of before ++ rest) (All-head Fits e es fes) (All-head Fits d before fit) refl whole in
@@ -51,7 +54,8 @@ one_text es ds fes fds same =
     let front = front_entries es ds [] fes fds (same ∙ sym (append_none (text_of ds))) in
     front.1 ∙ (ap (λ (xs : List Entry). ds ++ xs) (no_text front.0 front.2) ∙ append_none ds)
 
-begins : (ds : List Entry) (rest : List ℕ) → All Fits ds → rest ≡ text_of ds → (rest ≡ [] → ⊥) → ((e : Entry) (back : List ℕ) → Fits e → rest ≡ line e ++ back → ⊥) → ⊥
+begins : (ds : List Entry) (rest : List ℕ) → All Fits ds → rest ≡ text_of ds → (rest ≡ [] → ⊥)
+    → ((e : Entry) (back : List ℕ) → Fits e → rest ≡ line e ++ back → ⊥) → ⊥
 begins [] rest fit is more bad = more is
 begins (d ∷ ds) rest fit is more bad = bad d (text_of ds) (All-head Fits d ds fit) is
 

@@ -42,7 +42,9 @@ outs_of v (d ∷ ds) = outs_of v ds
 
 outs-append : (v : ℕ) (ds es : List Entry) → outs_of v (ds ++ es) ≡ outs_of v ds ++ outs_of v es
 outs-append v [] es = refl
-outs-append v (Emit w m k why ∷ ds) es = ap (λ (xs : List FrameName). comes_at v w (frame m k) [] ++ xs) (outs-append v ds es) ∙ sym (append_assoc (comes_at v w (frame m k) []) (outs_of v ds) (outs_of v es))
+outs-append v (Emit w m k why ∷ ds) es =
+    ap (λ (xs : List FrameName). comes_at v w (frame m k) [] ++ xs) (outs-append v ds es)
+    ∙ sym (append_assoc (comes_at v w (frame m k) []) (outs_of v ds) (outs_of v es))
 outs-append v (_ ∷ ds) es = outs-append v ds es
 
 outs-elsewhere : (u v : ℕ) (ds : List Entry) → u ≢ v → AllOutAt u ds → outs_of v ds ≡ []
@@ -59,7 +61,8 @@ outs-offers v a (c ∷ cs) = outs-offers v a cs
 
 outs-emits : (v : ℕ) (why : Why) (xs : List FrameName) → outs_of v (map (emit v why) xs) ≡ xs
 outs-emits v why [] = refl
-outs-emits v why (x ∷ xs) = ap (λ (ys : List FrameName). ys ++ outs_of v (map (emit v why) xs)) (comes_here v x []) ∙ ap (λ (ys : List FrameName). x ∷ ys) (outs-emits v why xs)
+outs-emits v why (x ∷ xs) =
+    ap (λ (ys : List FrameName). ys ++ outs_of v (map (emit v why) xs)) (comes_here v x []) ∙ ap (λ (ys : List FrameName). x ∷ ys) (outs-emits v why xs)
 
 -- a look at sorted nodes lets nothing out of an unsorted one
 outs-looks : (s : Setting) (v : ℕ) (P : Past) (us : List ℕ) → is_sorted s v ≡ false → outs_of v (flat_map (λ u. cond (is_sorted s u) (look s u P) []) us) ≡ []
@@ -82,22 +85,28 @@ abbrev so_far : Setting → ℕ → Past → List FrameName
 so_far s v P = emitted v P ++ outs_of v (owed s P)
 
 -- an entry that begins a move adds what it calls for
-begun : (s : Setting) (v : ℕ) (e : Entry) (P : Past) → owed s P ≡ [] → emitted v (e ∷ P) ≡ emitted v P → so_far s v (e ∷ P) ≡ so_far s v P ++ outs_of v (calls_for s P e)
+begun : (s : Setting) (v : ℕ) (e : Entry) (P : Past) → owed s P ≡ [] → emitted v (e ∷ P) ≡ emitted v P
+    → so_far s v (e ∷ P) ≡ so_far s v P ++ outs_of v (calls_for s P e)
 begun s v e P none same =
     let calls : List Entry = calls_for s P e in
     let now_owed : owed s (e ∷ P) ≡ calls = ap (λ (ds : List Entry). calls ++ drop 1 ds) none ∙ append-nil calls in
     let was : so_far s v P ≡ emitted v P = ap (λ (ds : List Entry). emitted v P ++ outs_of v ds) none ∙ append-nil (emitted v P) in
-    ap (λ (xs : List FrameName). xs ++ outs_of v (owed s (e ∷ P))) same ∙ (ap (λ (ds : List Entry). emitted v P ++ outs_of v ds) now_owed ∙ ap (λ (xs : List FrameName). xs ++ outs_of v calls) (sym was))
+    ap (λ (xs : List FrameName). xs ++ outs_of v (owed s (e ∷ P))) same
+    ∙ (ap (λ (ds : List Entry). emitted v P ++ outs_of v ds) now_owed ∙ ap (λ (xs : List FrameName). xs ++ outs_of v calls) (sym was))
 
-begun-still : (s : Setting) (v : ℕ) (e : Entry) (P : Past) → owed s P ≡ [] → emitted v (e ∷ P) ≡ emitted v P → outs_of v (calls_for s P e) ≡ [] → so_far s v (e ∷ P) ≡ so_far s v P
+begun-still : (s : Setting) (v : ℕ) (e : Entry) (P : Past) → owed s P ≡ [] → emitted v (e ∷ P) ≡ emitted v P → outs_of v (calls_for s P e) ≡ []
+    → so_far s v (e ∷ P) ≡ so_far s v P
 begun-still s v e P none same quiet = begun s v e P none same ∙ (ap (λ (xs : List FrameName). so_far s v P ++ xs) quiet ∙ append-nil (so_far s v P))
 
 -- one that was owed, and calls for no more of the node
-went_on : (s : Setting) (v : ℕ) (e head : Entry) (rest : List Entry) (P : Past) → owed s P ≡ head ∷ rest → outs_of v (calls_for s P e) ≡ [] → emitted v (e ∷ P) ≡ emitted v P ++ outs_of v (head ∷ []) → so_far s v (e ∷ P) ≡ so_far s v P
+went_on : (s : Setting) (v : ℕ) (e head : Entry) (rest : List Entry) (P : Past) → owed s P ≡ head ∷ rest → outs_of v (calls_for s P e) ≡ []
+    → emitted v (e ∷ P) ≡ emitted v P ++ outs_of v (head ∷ []) → so_far s v (e ∷ P) ≡ so_far s v P
 went_on s v e head rest P is quiet more =
     let left : drop 1 (owed s P) ≡ rest = ap (drop 1) is in
-    let now_owed : outs_of v (owed s (e ∷ P)) ≡ outs_of v rest = outs-append v (calls_for s P e) (drop 1 (owed s P)) ∙ (ap (λ (xs : List FrameName). xs ++ outs_of v (drop 1 (owed s P))) quiet ∙ ap (outs_of v) left) in
-    let was : so_far s v P ≡ emitted v P ++ (outs_of v (head ∷ []) ++ outs_of v rest) = ap (λ (ds : List Entry). emitted v P ++ outs_of v ds) is ∙ ap (λ (xs : List FrameName). emitted v P ++ xs) (outs-append v (head ∷ []) rest) in
+    let now_owed : outs_of v (owed s (e ∷ P)) ≡ outs_of v rest =
+    outs-append v (calls_for s P e) (drop 1 (owed s P)) ∙ (ap (λ (xs : List FrameName). xs ++ outs_of v (drop 1 (owed s P))) quiet ∙ ap (outs_of v) left) in
+    let was : so_far s v P ≡ emitted v P ++ (outs_of v (head ∷ []) ++ outs_of v rest) =
+    ap (λ (ds : List Entry). emitted v P ++ outs_of v ds) is ∙ ap (λ (xs : List FrameName). emitted v P ++ xs) (outs-append v (head ∷ []) rest) in
     ap (λ (xs : List FrameName). xs ++ outs_of v (owed s (e ∷ P))) more
     ∙ (ap (λ (xs : List FrameName). (emitted v P ++ outs_of v (head ∷ [])) ++ xs) now_owed
     ∙ (append_assoc (emitted v P) (outs_of v (head ∷ [])) (outs_of v rest) ∙ sym was))
@@ -132,27 +141,35 @@ outputs s v T plain t (Put r w m k f ∷ P) h =
     elim (cases_Bool (eqb w v)) [
       | inl here ↦
           subst (λ (u : ℕ). is_legal s (Put r u m k f ∷ P) ≡ true → so_far s v (Put r u m k f ∷ P) ≡ T (Put r u m k f ∷ P)) (sym (eqb-true w v here))
-          (λ g. begun s v (Put r v m k f) P none refl ∙ (ap (λ (xs : List FrameName). xs ++ outs_of v (calls_for s P (Put r v m k f))) (outputs s v T plain t P legal) ∙ sym (t.put r m k f P g))) h
-      | inr away ↦ begun-still s v (Put r w m k f) P none refl (outs-elsewhere w v (calls_for s P (Put r w m k f)) (eqb-false w v away) (result-at s w (frame m k) f P (node s w).work)) ∙ (outputs s v T plain t P legal ∙ sym (t.others (Put r w m k f) P away))
+          (λ g. begun s v (Put r v m k f) P none refl
+          ∙ (ap (λ (xs : List FrameName). xs ++ outs_of v (calls_for s P (Put r v m k f))) (outputs s v T plain t P legal) ∙ sym (t.put r m k f P g))) h
+      | inr away ↦
+          begun-still s v (Put r w m k f) P none refl
+          (outs-elsewhere w v (calls_for s P (Put r w m k f)) (eqb-false w v away) (result-at s w (frame m k) f P (node s w).work))
+          ∙ (outputs s v T plain t P legal ∙ sym (t.others (Put r w m k f) P away))
     ]
 outputs s v T plain t (Emit w m k why ∷ P) h =
     let legal : is_legal s P ≡ true = (and_parts _ _ h).0 in
     let a = owed-answered s (Emit w m k why) P refl h in
     let is = answers-by_Emit s P w m k why a.head a.answer in
     let here : outs_of v (a.head ∷ []) ≡ comes_at v w (frame m k) [] = ap (λ (d : Entry). outs_of v (d ∷ [])) is.1 ∙ append-nil (comes_at v w (frame m k) []) in
-    let more : emitted v (Emit w m k why ∷ P) ≡ emitted v P ++ outs_of v (a.head ∷ []) = comes-last v w (frame m k) (emitted v P) ∙ ap (λ (xs : List FrameName). emitted v P ++ xs) (sym here) in
-    went_on s v (Emit w m k why) a.head a.rest P a.is (outs-offers v (frame m k) (offered_to s P w)) more ∙ (outputs s v T plain t P legal ∙ sym (t.others (Emit w m k why) P refl))
+    let more : emitted v (Emit w m k why ∷ P) ≡ emitted v P ++ outs_of v (a.head ∷ []) =
+    comes-last v w (frame m k) (emitted v P) ∙ ap (λ (xs : List FrameName). emitted v P ++ xs) (sym here) in
+    went_on s v (Emit w m k why) a.head a.rest P a.is (outs-offers v (frame m k) (offered_to s P w)) more
+    ∙ (outputs s v T plain t P legal ∙ sym (t.others (Emit w m k why) P refl))
   where
     comes-last : (v w : ℕ) (a : FrameName) (xs : List FrameName) → comes_at v w a xs ≡ xs ++ comes_at v w a []
     comes-last v w a xs = elim (eqb w v) as (λ b. cond b (xs ++ a ∷ []) xs ≡ xs ++ cond b (a ∷ []) []) [ true ↦ refl | false ↦ sym (append-nil xs) ]
 outputs s v T plain t (Accept w m k ∷ P) h =
     let a = owed-answered s (Accept w m k) P refl h in
     let quiet : outs_of v (a.head ∷ []) ≡ [] = ap (λ (d : Entry). outs_of v (d ∷ [])) (answers-by_Accept s P w m k a.head a.answer) in
-    went_on s v (Accept w m k) a.head a.rest P a.is refl (sym (ap (λ (xs : List FrameName). emitted v P ++ xs) quiet ∙ append-nil (emitted v P))) ∙ (outputs s v T plain t P (and_parts _ _ h).0 ∙ sym (t.others (Accept w m k) P refl))
+    went_on s v (Accept w m k) a.head a.rest P a.is refl (sym (ap (λ (xs : List FrameName). emitted v P ++ xs) quiet ∙ append-nil (emitted v P)))
+    ∙ (outputs s v T plain t P (and_parts _ _ h).0 ∙ sym (t.others (Accept w m k) P refl))
 outputs s v T plain t (Full w m k ∷ P) h =
     let a = owed-answered s (Full w m k) P refl h in
     let quiet : outs_of v (a.head ∷ []) ≡ [] = quiet_out v a.head (answers-by_Full s P w m k a.head a.answer) in
-    went_on s v (Full w m k) a.head a.rest P a.is refl (sym (ap (λ (xs : List FrameName). emitted v P ++ xs) quiet ∙ append-nil (emitted v P))) ∙ (outputs s v T plain t P (and_parts _ _ h).0 ∙ sym (t.others (Full w m k) P refl))
+    went_on s v (Full w m k) a.head a.rest P a.is refl (sym (ap (λ (xs : List FrameName). emitted v P ++ xs) quiet ∙ append-nil (emitted v P)))
+    ∙ (outputs s v T plain t P (and_parts _ _ h).0 ∙ sym (t.others (Full w m k) P refl))
   where
     answers-by_Full : (s : Setting) (P : Past) (v m k : ℕ) (d : Entry) → answers s P (Full v m k) d ≡ true → lets_none_out d ≡ true
     answers-by_Full s P v m k (Emit w n j why) h = h
@@ -160,14 +177,18 @@ outputs s v T plain t (Full w m k ∷ P) h =
 outputs s v T plain t (SortDrop w m k ∷ P) h =
     let a = owed-answered s (SortDrop w m k) P refl h in
     let quiet : outs_of v (a.head ∷ []) ≡ [] = ap (λ (d : Entry). outs_of v (d ∷ [])) (answers-by_SortDrop s P w m k a.head a.answer) in
-    went_on s v (SortDrop w m k) a.head a.rest P a.is refl (sym (ap (λ (xs : List FrameName). emitted v P ++ xs) quiet ∙ append-nil (emitted v P))) ∙ (outputs s v T plain t P (and_parts _ _ h).0 ∙ sym (t.others (SortDrop w m k) P refl))
+    went_on s v (SortDrop w m k) a.head a.rest P a.is refl (sym (ap (λ (xs : List FrameName). emitted v P ++ xs) quiet ∙ append-nil (emitted v P)))
+    ∙ (outputs s v T plain t P (and_parts _ _ h).0 ∙ sym (t.others (SortDrop w m k) P refl))
 outputs s v T plain t (Tick u ∷ P) h =
     let a = owed-answered s (Tick u) P refl h in
     let quiet : outs_of v (a.head ∷ []) ≡ [] = ap (λ (d : Entry). outs_of v (d ∷ [])) (answers-by_Tick s P u a.head a.answer).1 in
-    went_on s v (Tick u) a.head a.rest P a.is (outs-looks s v (Tick u ∷ P) (node_numbers s) plain) (sym (ap (λ (xs : List FrameName). emitted v P ++ xs) quiet ∙ append-nil (emitted v P))) ∙ (outputs s v T plain t P (and_parts _ _ h).0 ∙ sym (t.others (Tick u) P refl))
+    went_on s v (Tick u) a.head a.rest P a.is (outs-looks s v (Tick u ∷ P) (node_numbers s) plain)
+    (sym (ap (λ (xs : List FrameName). emitted v P ++ xs) quiet ∙ append-nil (emitted v P)))
+    ∙ (outputs s v T plain t P (and_parts _ _ h).0 ∙ sym (t.others (Tick u) P refl))
 outputs s v T plain t (Issue r k ∷ P) h =
     let none : owed s P ≡ [] = owed-first s (Issue r k) P (λ d. refl) h in
-    begun s v (Issue r k) P none refl ∙ (ap (λ (xs : List FrameName). xs ++ outs_of v (calls_for s P (Issue r k))) (outputs s v T plain t P (and_parts _ _ h).0) ∙ sym (t.issue r k P))
+    begun s v (Issue r k) P none refl
+    ∙ (ap (λ (xs : List FrameName). xs ++ outs_of v (calls_for s P (Issue r k))) (outputs s v T plain t P (and_parts _ _ h).0) ∙ sym (t.issue r k P))
 outputs s v T plain t (Settle r w ∷ P) h =
     let none : owed s P ≡ [] = owed-first s (Settle r w) P (λ d. refl) h in
     let quiet : outs_of v (calls_for s P (Settle r w)) ≡ [] = elim (cases_Bool (eqb w v)) [
@@ -178,25 +199,35 @@ outputs s v T plain t (Settle r w ∷ P) h =
     ] in
     begun-still s v (Settle r w) P none refl quiet ∙ (outputs s v T plain t P (and_parts _ _ h).0 ∙ sym (t.others (Settle r w) P refl))
 outputs s v T plain t (Load r k b n f g x ∷ P) h =
-    begun-still s v (Load r k b n f g x) P (owed-first s (Load r k b n f g x) P (λ d. refl) h) refl refl ∙ (outputs s v T plain t P (and_parts _ _ h).0 ∙ sym (t.others (Load r k b n f g x) P refl))
+    begun-still s v (Load r k b n f g x) P (owed-first s (Load r k b n f g x) P (λ d. refl) h) refl refl
+    ∙ (outputs s v T plain t P (and_parts _ _ h).0 ∙ sym (t.others (Load r k b n f g x) P refl))
 outputs s v T plain t (LoadRefused r k n z ∷ P) h =
-    begun-still s v (LoadRefused r k n z) P (owed-first s (LoadRefused r k n z) P (λ d. refl) h) refl refl ∙ (outputs s v T plain t P (and_parts _ _ h).0 ∙ sym (t.others (LoadRefused r k n z) P refl))
+    begun-still s v (LoadRefused r k n z) P (owed-first s (LoadRefused r k n z) P (λ d. refl) h) refl refl
+    ∙ (outputs s v T plain t P (and_parts _ _ h).0 ∙ sym (t.others (LoadRefused r k n z) P refl))
 outputs s v T plain t (Take r w m k ∷ P) h =
-    begun-still s v (Take r w m k) P (owed-first s (Take r w m k) P (λ d. refl) h) refl refl ∙ (outputs s v T plain t P (and_parts _ _ h).0 ∙ sym (t.others (Take r w m k) P refl))
+    begun-still s v (Take r w m k) P (owed-first s (Take r w m k) P (λ d. refl) h) refl refl
+    ∙ (outputs s v T plain t P (and_parts _ _ h).0 ∙ sym (t.others (Take r w m k) P refl))
 outputs s v T plain t (TakeBlock f x r w m k b n g ∷ P) h =
-    begun-still s v (TakeBlock f x r w m k b n g) P (owed-first s (TakeBlock f x r w m k b n g) P (λ d. refl) h) refl refl ∙ (outputs s v T plain t P (and_parts _ _ h).0 ∙ sym (t.others (TakeBlock f x r w m k b n g) P refl))
+    begun-still s v (TakeBlock f x r w m k b n g) P (owed-first s (TakeBlock f x r w m k b n g) P (λ d. refl) h) refl refl
+    ∙ (outputs s v T plain t P (and_parts _ _ h).0 ∙ sym (t.others (TakeBlock f x r w m k b n g) P refl))
 outputs s v T plain t (PoolDrop r w m k n z ∷ P) h =
-    begun-still s v (PoolDrop r w m k n z) P (owed-first s (PoolDrop r w m k n z) P (λ d. refl) h) refl refl ∙ (outputs s v T plain t P (and_parts _ _ h).0 ∙ sym (t.others (PoolDrop r w m k n z) P refl))
+    begun-still s v (PoolDrop r w m k n z) P (owed-first s (PoolDrop r w m k n z) P (λ d. refl) h) refl refl
+    ∙ (outputs s v T plain t P (and_parts _ _ h).0 ∙ sym (t.others (PoolDrop r w m k n z) P refl))
 outputs s v T plain t (Save r w m k g ∷ P) h =
-    begun-still s v (Save r w m k g) P (owed-first s (Save r w m k g) P (λ d. refl) h) refl refl ∙ (outputs s v T plain t P (and_parts _ _ h).0 ∙ sym (t.others (Save r w m k g) P refl))
+    begun-still s v (Save r w m k g) P (owed-first s (Save r w m k g) P (λ d. refl) h) refl refl
+    ∙ (outputs s v T plain t P (and_parts _ _ h).0 ∙ sym (t.others (Save r w m k g) P refl))
 outputs s v T plain t (Saved r w m k ∷ P) h =
-    begun-still s v (Saved r w m k) P (owed-first s (Saved r w m k) P (λ d. refl) h) refl refl ∙ (outputs s v T plain t P (and_parts _ _ h).0 ∙ sym (t.others (Saved r w m k) P refl))
+    begun-still s v (Saved r w m k) P (owed-first s (Saved r w m k) P (λ d. refl) h) refl refl
+    ∙ (outputs s v T plain t P (and_parts _ _ h).0 ∙ sym (t.others (Saved r w m k) P refl))
 outputs s v T plain t (Close r ∷ P) h =
-    begun-still s v (Close r) P (owed-first s (Close r) P (λ d. refl) h) refl refl ∙ (outputs s v T plain t P (and_parts _ _ h).0 ∙ sym (t.others (Close r) P refl))
+    begun-still s v (Close r) P (owed-first s (Close r) P (λ d. refl) h) refl refl
+    ∙ (outputs s v T plain t P (and_parts _ _ h).0 ∙ sym (t.others (Close r) P refl))
 outputs s v T plain t (Leave r ∷ P) h =
-    begun-still s v (Leave r) P (owed-first s (Leave r) P (λ d. refl) h) refl refl ∙ (outputs s v T plain t P (and_parts _ _ h).0 ∙ sym (t.others (Leave r) P refl))
+    begun-still s v (Leave r) P (owed-first s (Leave r) P (λ d. refl) h) refl refl
+    ∙ (outputs s v T plain t P (and_parts _ _ h).0 ∙ sym (t.others (Leave r) P refl))
 outputs s v T plain t (Reclaim r ∷ P) h =
-    begun-still s v (Reclaim r) P (owed-first s (Reclaim r) P (λ d. refl) h) refl refl ∙ (outputs s v T plain t P (and_parts _ _ h).0 ∙ sym (t.others (Reclaim r) P refl))
+    begun-still s v (Reclaim r) P (owed-first s (Reclaim r) P (λ d. refl) h) refl refl
+    ∙ (outputs s v T plain t P (and_parts _ _ h).0 ∙ sym (t.others (Reclaim r) P refl))
 
 -- in a history nothing more must go out
 outputs-all : (s : Setting) (v : ℕ) (T : Past → List FrameName) → is_sorted s v ≡ false → Target s v T → (P : Past) → is_history s P ≡ true → emitted v P ≡ T P
@@ -217,27 +248,36 @@ issued_elsewhere s v nz xs r k P =
     let quiet : outs_of v (calls_for s P (Issue r k)) ≡ [] = ap (λ (ys : List FrameName). ys ++ []) (comes_elsewhere v 0 (frame 0 k) [] (λ e. nz (sym e))) in
     sym (ap (λ (ys : List FrameName). xs ++ ys) quiet ∙ append-nil xs)
 
-circular_target : (s : Setting) (v pre post preset : ℕ) → v ≢ 0 → (node s v).work ≡ Watches pre post preset → 1 ≤ post → Target s v (λ P. passed_items pre post preset (firings v P) (puts v P))
+circular_target : (s : Setting) (v pre post preset : ℕ) → v ≢ 0 → (node s v).work ≡ Watches pre post preset → 1 ≤ post
+    → Target s v (λ P. passed_items pre post preset (firings v P) (puts v P))
 circular_target s v pre post preset nz work positive = record {
   start = refl;
   put = put;
   issue = λ r k P. issued_elsewhere s v nz (passed_items pre post preset (firings v P) (puts v P)) r k P;
-  others = λ e P h. let o = flags_others v e P h in ap (λ (fs : List Bool). passed_items pre post preset fs (puts v (e ∷ P))) o.0 ∙ ap (passed_items pre post preset (firings v P)) o.1;
+  others =
+      λ e P h. let o = flags_others v e P h in
+      ap (λ (fs : List Bool). passed_items pre post preset fs (puts v (e ∷ P))) o.0 ∙ ap (passed_items pre post preset (firings v P)) o.1;
 }
   where
-    put : (r m k : ℕ) (f : Bool) (P : Past) → is_legal s (Put r v m k f ∷ P) ≡ true → passed_items pre post preset (firings v (Put r v m k f ∷ P)) (puts v (Put r v m k f ∷ P)) ≡ passed_items pre post preset (firings v P) (puts v P) ++ outs_of v (calls_for s P (Put r v m k f))
+    put : (r m k : ℕ) (f : Bool) (P : Past) → is_legal s (Put r v m k f ∷ P) ≡ true
+        → passed_items pre post preset (firings v (Put r v m k f ∷ P)) (puts v (Put r v m k f ∷ P))
+        ≡ passed_items pre post preset (firings v P) (puts v P) ++ outs_of v (calls_for s P (Put r v m k f))
     put r m k f P h =
         let flags : List Bool = firings v P in
         let b : Bool = is_trigger post preset (flags ++ f ∷ []) (length flags) in
         let d : Bool = is_passed pre post preset (flags ++ f ∷ []) (length flags) in
         let row = row_of s (Put r v m k f) P (λ u. refl) h in
         let kept_ring = ring_laws.kept_is s v P pre post preset work (put-unsettled s r v m k f P (and_parts _ _ h).0 row) in
-        let calls : calls_for s P (Put r v m k f) ≡ cond b (map (emit v Ring) (ring s v P)) [] ++ cond d (emit v Now (frame m k) ∷ []) [] = ap (result s v (frame m k) f P) work in
-        let out : outs_of v (calls_for s P (Put r v m k f)) ≡ cond b (ring s v P) [] ++ cond d (frame m k ∷ []) [] = ap (outs_of v) calls ∙ (outs-append v (cond b (map (emit v Ring) (ring s v P)) []) (cond d (emit v Now (frame m k) ∷ []) []) ∙ parts b d (ring s v P) (frame m k)) in
+        let calls : calls_for s P (Put r v m k f) ≡ cond b (map (emit v Ring) (ring s v P)) [] ++ cond d (emit v Now (frame m k) ∷ []) [] =
+        ap (result s v (frame m k) f P) work in
+        let out : outs_of v (calls_for s P (Put r v m k f)) ≡ cond b (ring s v P) [] ++ cond d (frame m k ∷ []) [] =
+        ap (outs_of v) calls
+        ∙ (outs-append v (cond b (map (emit v Ring) (ring s v P)) []) (cond d (emit v Now (frame m k) ∷ []) []) ∙ parts b d (ring s v P) (frame m k)) in
         ap (λ (fs : List Bool). passed_items pre post preset fs (puts v (Put r v m k f ∷ P))) (comes_here v f flags)
         ∙ (ap (passed_items pre post preset (flags ++ f ∷ [])) (comes_here v (frame m k) (puts v P))
         ∙ (passed_items-push pre post preset flags (puts v P) (sym (flags-puts v P)) f (frame m k) positive
-        ∙ ap (λ (xs : List FrameName). passed_items pre post preset flags (puts v P) ++ xs) (ap (λ (xs : List FrameName). cond b xs [] ++ cond d (frame m k ∷ []) []) (sym kept_ring) ∙ sym out)))
+        ∙ ap (λ (xs : List FrameName). passed_items pre post preset flags (puts v P) ++ xs)
+        (ap (λ (xs : List FrameName). cond b xs [] ++ cond d (frame m k ∷ []) []) (sym kept_ring) ∙ sym out)))
       where
         first_part : (b : Bool) (xs : List FrameName) → outs_of v (cond b (map (emit v Ring) xs) []) ≡ cond b xs []
         first_part true xs = outs-emits v Ring xs
@@ -247,8 +287,11 @@ circular_target s v pre post preset nz work positive = record {
         last_part true a = outs-emits v Now (a ∷ [])
         last_part false a = refl
 
-        parts : (b d : Bool) (xs : List FrameName) (a : FrameName) → outs_of v (cond b (map (emit v Ring) xs) []) ++ outs_of v (cond d (emit v Now a ∷ []) []) ≡ cond b xs [] ++ cond d (a ∷ []) []
-        parts b d xs a = ap (λ (ys : List FrameName). ys ++ outs_of v (cond d (emit v Now a ∷ []) [])) (first_part b xs) ∙ ap (λ (ys : List FrameName). cond b xs [] ++ ys) (last_part d a)
+        parts : (b d : Bool) (xs : List FrameName) (a : FrameName)
+            → outs_of v (cond b (map (emit v Ring) xs) []) ++ outs_of v (cond d (emit v Now a ∷ []) []) ≡ cond b xs [] ++ cond d (a ∷ []) []
+        parts b d xs a =
+            ap (λ (ys : List FrameName). ys ++ outs_of v (cond d (emit v Now a ∷ []) [])) (first_part b xs)
+            ∙ ap (λ (ys : List FrameName). cond b xs [] ++ ys) (last_part d a)
 
 watched_unsorted : (s : Setting) (v pre post preset : ℕ) → (node s v).work ≡ Watches pre post preset → (v ≢ 0) × (is_sorted s v ≡ false)
 watched_unsorted s v pre post preset work = ((λ e. no_driver (sym (ap (λ (u : ℕ). (node s u).work) e) ∙ work)), rw work refl)
@@ -259,7 +302,9 @@ watched_unsorted s v pre post preset work = ((λ e. no_driver (sym (ap (λ (u : 
 plain_target : (s : Setting) (v : ℕ) → v ≢ 0 → may_sort (node s v).work ≡ true → is_sorted s v ≡ false → Target s v (puts v)
 plain_target s v nz sorts plain = record {
   start = refl;
-  put = λ r m k f P h. comes_here v (frame m k) (puts v P) ∙ ap (λ (xs : List FrameName). puts v P ++ xs) (sym (ap (outs_of v) (plain_result (node s v).work sorts m k f P) ∙ outs-emits v Plain (frame m k ∷ [])));
+  put =
+      λ r m k f P h. comes_here v (frame m k) (puts v P)
+      ∙ ap (λ (xs : List FrameName). puts v P ++ xs) (sym (ap (outs_of v) (plain_result (node s v).work sorts m k f P) ∙ outs-emits v Plain (frame m k ∷ [])));
   issue = λ r k P. issued_elsewhere s v nz (puts v P) r k P;
   others = λ e P h. (flags_others v e P h).1;
 }
@@ -306,7 +351,8 @@ times-comes v w t a xs =
 out_listed : (v : ℕ) (t : FrameName → Bool) (P : Past) → count (out_of v t) P ≡ times_by t (emitted v P) + times_by t (sort_dropped v P)
 out_listed v t [] = refl
 out_listed v t (Emit w m k why ∷ P) = omega (arith, out_listed v t P, times-comes v w t (frame m k) (emitted v P), count-cons (out_of v t) (Emit w m k why) P)
-out_listed v t (SortDrop w m k ∷ P) = omega (arith, out_listed v t P, times-comes v w t (frame m k) (sort_dropped v P), count-cons (out_of v t) (SortDrop w m k) P)
+out_listed v t (SortDrop w m k ∷ P) =
+    omega (arith, out_listed v t P, times-comes v w t (frame m k) (sort_dropped v P), count-cons (out_of v t) (SortDrop w m k) P)
 out_listed v t (_ ∷ P) = out_listed v t P
 
 put_listed : (v : ℕ) (t : FrameName → Bool) (P : Past) → count (puts_of v t) P ≡ times_by t (puts v P)
@@ -318,14 +364,17 @@ waiting_listed : (t : FrameName → Bool) (ws : List Waiting) → count (waits t
 waiting_listed t [] = refl
 waiting_listed t (w ∷ ws) = omega (arith, waiting_listed t ws, count-cons (waits t) w ws, count-cons t w.array (map (λ (u : Waiting). u.array) ws))
 
-sorted_all : (s : Setting) (v : ℕ) (a : FrameName) (P : Past) → v ≢ 0 → is_sorted s v ≡ true → is_legal s P ≡ true → times a (puts v P) ≡ times a (emitted v P) + times a (sort_dropped v P) + times a (map (λ (w : Waiting). w.array) (waiting s v P))
+sorted_all : (s : Setting) (v : ℕ) (a : FrameName) (P : Past) → v ≢ 0 → is_sorted s v ≡ true → is_legal s P ≡ true
+    → times a (puts v P) ≡ times a (emitted v P) + times a (sort_dropped v P) + times a (map (λ (w : Waiting). w.array) (waiting s v P))
 sorted_all s v a P nz sorted h =
     let is_a : FrameName → Bool = λ x. same x a in
     omega (arith, sorted-outs s P v is_a nz sorted h, out_listed v is_a P, put_listed v is_a P, waiting_listed is_a (waiting s v P))
 
 pub output_laws : OutputLaws
 output_laws = record {
-  circular = λ s v pre post preset P work positive h. let u = watched_unsorted s v pre post preset work in outputs-all s v _ u.1 (circular_target s v pre post preset u.0 work positive) P h;
+  circular =
+      λ s v pre post preset P work positive h. let u = watched_unsorted s v pre post preset work in
+      outputs-all s v _ u.1 (circular_target s v pre post preset u.0 work positive) P h;
   unsorted = λ s v P nz sorts plain h. outputs-all s v _ plain (plain_target s v nz sorts plain) P h;
   sorted = sorted_all;
   file = λ s v P file h. none_emitted v P (omega (arith, none_out s P v file h));

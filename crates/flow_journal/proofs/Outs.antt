@@ -46,9 +46,12 @@ pub goes_out-at : (s : Setting) (v : ℕ) (before : ℤ) (now : ℕ) (ws : List 
 goes_out-at s v before now [] = refl
 goes_out-at s v before now (w ∷ ws) =
     let more = goes_out-at s v (id_at s w.array.index) now ws in
-    elim (keeps_step before (id_at s w.array.index)) as (λ b. list_all (is_out_at v) (cond b (emit v Step w.array ∷ goes_out s v (id_at s w.array.index) now ws) (cond (ltb (w.tick + (node s v).sort_time) now) (emit v Late w.array ∷ goes_out s v (id_at s w.array.index) now ws) [])) ≡ true) [
+    elim (keeps_step before (id_at s w.array.index)) as (λ b. list_all (is_out_at v) (cond b (emit v Step w.array ∷ goes_out s v (id_at s w.array.index) now ws)
+    (cond (ltb (w.tick + (node s v).sort_time) now) (emit v Late w.array ∷ goes_out s v (id_at s w.array.index) now ws) [])) ≡ true) [
       | true ↦ and_from _ _ (here v) more
-      | false ↦ elim (ltb (w.tick + (node s v).sort_time) now) as (λ b. list_all (is_out_at v) (cond b (emit v Late w.array ∷ goes_out s v (id_at s w.array.index) now ws) []) ≡ true) [
+      | false ↦
+          elim (ltb (w.tick + (node s v).sort_time) now) as (λ b. list_all (is_out_at v)
+          (cond b (emit v Late w.array ∷ goes_out s v (id_at s w.array.index) now ws) []) ≡ true) [
         | true ↦ and_from _ _ (here v) more
         | false ↦ refl
       ]
@@ -72,11 +75,15 @@ sorted_result-at s v a before P =
       ]
     ]
 
-watched_result-at : (pre post preset v : ℕ) (a : FrameName) (f : Bool) (kept : List FrameName) (flags : List Bool) → AllOutAt v (watched_result pre post preset v a f kept flags)
+watched_result-at : (pre post preset v : ℕ) (a : FrameName) (f : Bool) (kept : List FrameName) (flags : List Bool)
+    → AllOutAt v (watched_result pre post preset v a f kept flags)
 watched_result-at pre post preset v a f kept flags =
-    all-append (is_out_at v) (cond (is_trigger post preset (flags ++ f ∷ []) (length flags)) (map (emit v Ring) kept) []) (cond (is_passed pre post preset (flags ++ f ∷ []) (length flags)) (emit v Now a ∷ []) [])
-    (elim (is_trigger post preset (flags ++ f ∷ []) (length flags)) as (λ b. AllOutAt v (cond b (map (emit v Ring) kept) [])) [ true ↦ emits-at v Ring kept | false ↦ refl ])
-    (elim (is_passed pre post preset (flags ++ f ∷ []) (length flags)) as (λ b. AllOutAt v (cond b (emit v Now a ∷ []) [])) [ true ↦ and_from _ _ (here v) refl | false ↦ refl ])
+    all-append (is_out_at v) (cond (is_trigger post preset (flags ++ f ∷ []) (length flags)) (map (emit v Ring) kept) [])
+    (cond (is_passed pre post preset (flags ++ f ∷ []) (length flags)) (emit v Now a ∷ []) [])
+    (elim (is_trigger post preset (flags ++ f ∷ []) (length flags)) as (λ b. AllOutAt v (cond b (map (emit v Ring) kept) [])) [ true ↦ emits-at v Ring kept
+    | false ↦ refl ])
+    (elim (is_passed pre post preset (flags ++ f ∷ []) (length flags)) as (λ b. AllOutAt v (cond b (emit v Now a ∷ []) [])) [ true ↦ and_from _ _ (here v) refl
+    | false ↦ refl ])
 
 sorted-or-plain-at : (b : Bool) (v : ℕ) (a : FrameName) (ds : List Entry) → AllOutAt v ds → AllOutAt v (cond b ds (emit v Plain a ∷ []))
 sorted-or-plain-at true v a ds h = h
@@ -118,7 +125,8 @@ of_index k a = eqb a.index k
 
 pub emits-le : (v k : ℕ) (ds : List Entry) → count (emits_at v k) ds ≤ count (out_of v (of_index k)) ds
 emits-le v k [] = omega arith
-emits-le v k (Emit w m i why ∷ ds) = omega (arith, emits-le v k ds, count-cons (emits_at v k) (Emit w m i why) ds, count-cons (out_of v (of_index k)) (Emit w m i why) ds)
+emits-le v k (Emit w m i why ∷ ds) =
+    omega (arith, emits-le v k ds, count-cons (emits_at v k) (Emit w m i why) ds, count-cons (out_of v (of_index k)) (Emit w m i why) ds)
 emits-le v k (SortDrop w m i ∷ ds) = omega (arith, emits-le v k ds, count-cons (out_of v (of_index k)) (SortDrop w m i) ds)
 emits-le v k (_ ∷ ds) = emits-le v k ds
 
@@ -152,15 +160,18 @@ count-least_first s q ws = omega (arith, count-placed_all s q [] ws)
 same_out : (v : ℕ) (t : FrameName → Bool) (b : Bool) → bit (eqb v v && b) ≡ bit b
 same_out v t b = rw (here v) refl
 
-pub count-goes_out : (s : Setting) (v : ℕ) (t : FrameName → Bool) (before : ℤ) (now : ℕ) (ws : List Waiting) → count (out_of v t) (goes_out s v before now ws) ≤ count (waits t) ws
+pub count-goes_out : (s : Setting) (v : ℕ) (t : FrameName → Bool) (before : ℤ) (now : ℕ) (ws : List Waiting)
+    → count (out_of v t) (goes_out s v before now ws) ≤ count (waits t) ws
 count-goes_out s v t before now [] = omega arith
 count-goes_out s v t before now (w ∷ ws) =
     let rest : List Entry = goes_out s v (id_at s w.array.index) now ws in
     let more = count-goes_out s v t (id_at s w.array.index) now ws in
     let one = count-cons (waits t) w ws in
-    elim (keeps_step before (id_at s w.array.index)) as (λ b. count (out_of v t) (cond b (emit v Step w.array ∷ rest) (cond (ltb (w.tick + (node s v).sort_time) now) (emit v Late w.array ∷ rest) [])) ≤ count (waits t) (w ∷ ws)) [
+    elim (keeps_step before (id_at s w.array.index)) as (λ b. count (out_of v t)
+    (cond b (emit v Step w.array ∷ rest) (cond (ltb (w.tick + (node s v).sort_time) now) (emit v Late w.array ∷ rest) [])) ≤ count (waits t) (w ∷ ws)) [
       | true ↦ omega (arith, more, one, count-cons (out_of v t) (emit v Step w.array) rest, same_out v t (t w.array))
-      | false ↦ elim (ltb (w.tick + (node s v).sort_time) now) as (λ b. count (out_of v t) (cond b (emit v Late w.array ∷ rest) []) ≤ count (waits t) (w ∷ ws)) [
+      | false ↦
+          elim (ltb (w.tick + (node s v).sort_time) now) as (λ b. count (out_of v t) (cond b (emit v Late w.array ∷ rest) []) ≤ count (waits t) (w ∷ ws)) [
         | true ↦ omega (arith, more, one, count-cons (out_of v t) (emit v Late w.array) rest, same_out v t (t w.array))
         | false ↦ omega arith
       ]
@@ -171,17 +182,25 @@ count-look s v t P = omega (arith, count-goes_out s v t (prev s v P) (now P) (le
 
 pub count-flush : (v : ℕ) (t : FrameName → Bool) (ws : List Waiting) → count (out_of v t) (map (λ (w : Waiting). emit v Flush w.array) ws) ≡ count (waits t) ws
 count-flush v t [] = refl
-count-flush v t (w ∷ ws) = omega (arith, count-flush v t ws, count-cons (out_of v t) (emit v Flush w.array) (map (λ (x : Waiting). emit v Flush x.array) ws), count-cons (waits t) w ws, same_out v t (t w.array))
+count-flush v t (w ∷ ws) =
+    omega (arith, count-flush v t ws, count-cons (out_of v t) (emit v Flush w.array) (map (λ (x : Waiting). emit v Flush x.array) ws),
+    count-cons (waits t) w ws, same_out v t (t w.array))
 
 -- of the list with the result, no more goes out or is dropped than there is
-pub count-sorted_result : (s : Setting) (v : ℕ) (t : FrameName → Bool) (a : FrameName) (tick : ℕ) (before : List Waiting) (P : Past) → waiting s v P ≡ before ++ record { array = a; tick = tick } ∷ [] → count (out_of v t) (sorted_result s v a before P) ≤ count (waits t) (waiting s v P)
+pub count-sorted_result : (s : Setting) (v : ℕ) (t : FrameName → Bool) (a : FrameName) (tick : ℕ) (before : List Waiting) (P : Past)
+    → waiting s v P ≡ before ++ record { array = a; tick = tick } ∷ [] → count (out_of v t) (sorted_result s v a before P) ≤ count (waits t) (waiting s v P)
 count-sorted_result s v t a tick before P is =
     let w : Waiting = record { array = a; tick = tick } in
-    let all : count (waits t) (waiting s v P) ≡ count (waits t) before + bit (t a) = ap (count (waits t)) is ∙ (count-append (waits t) before (w ∷ []) ∙ omega (arith, count-cons (waits t) w [])) in
+    let all : count (waits t) (waiting s v P) ≡ count (waits t) before + bit (t a) =
+    ap (count (waits t)) is ∙ (count-append (waits t) before (w ∷ []) ∙ omega (arith, count-cons (waits t) w [])) in
     elim (cases_Bool (keeps_step (prev s v P) (id_at s a.index))) [
-      | inl step ↦ rw step (omega (arith, all, count-cons (out_of v t) (emit v Step a) (goes_out s v (id_at s a.index) (now P) (least_first s before)), same_out v t (t a), count-goes_out s v t (id_at s a.index) (now P) (least_first s before), count-least_first s (waits t) before))
+      | inl step ↦
+          rw step (omega (arith, all, count-cons (out_of v t) (emit v Step a) (goes_out s v (id_at s a.index) (now P) (least_first s before)),
+          same_out v t (t a), count-goes_out s v t (id_at s a.index) (now P) (least_first s before), count-least_first s (waits t) before))
       | inr out ↦ elim (cases_Bool (eqb (length before) (node s v).sort)) [
-        | inl full ↦ rw (out, full) (omega (arith, all, count-cons (out_of v t) (SortDrop v a.maker a.index) (goes_out s v (prev s v P) (now P) (least_first s before)), same_out v t (t a), count-goes_out s v t (prev s v P) (now P) (least_first s before), count-least_first s (waits t) before))
+        | inl full ↦
+            rw (out, full) (omega (arith, all, count-cons (out_of v t) (SortDrop v a.maker a.index) (goes_out s v (prev s v P) (now P) (least_first s before)),
+            same_out v t (t a), count-goes_out s v t (prev s v P) (now P) (least_first s before), count-least_first s (waits t) before))
         | inr room ↦ rw (out, room) (count-look s v t P)
       ]
     ]

@@ -30,7 +30,8 @@ one-piece s (Save r w m k g ∷ P) v h =
     let one = ap (count (is_piece v)) (hands-more s r (Save r w m k g) P (eq-eqb r r refl) h) ∙ count-cons (is_piece v) (Save r w m k g) (hands P) in
     elim (cases_Bool (eqb w v)) [
       | inl here ↦
-          let none : count (is_piece v) (hands P) ≡ 0 = subst (λ (u : ℕ). count (is_piece u) (hands P) ≡ 0) (eqb-true w v here) (none_counted (is_piece w) (hands P) facts.none) in
+          let none : count (is_piece v) (hands P) ≡ 0 =
+          subst (λ (u : ℕ). count (is_piece u) (hands P) ≡ 0) (eqb-true w v here) (none_counted (is_piece w) (hands P) facts.none) in
           omega (arith, one, none, ap bit here)
       | inr away ↦ omega (arith, one, before, ap bit away)
     ]
@@ -44,11 +45,14 @@ one-piece s (TakeBlock f x r w m k b n g ∷ P) v h = omega (arith, one-piece s 
 one-piece s (_ ∷ P) v h = one-piece s P v (and_parts _ _ h).0
 
 -- two roles have no two pieces of one node
-pub no_two_pieces : (s : Setting) (P : Past) (v r q : ℕ) (e d : Entry) → is_legal s P ≡ true → r ≢ q → hand r P ≡ Some e → hand q P ≡ Some d → is_piece v e ≡ true → is_piece v d ≡ false
+pub no_two_pieces : (s : Setting) (P : Past) (v r q : ℕ) (e d : Entry) → is_legal s P ≡ true → r ≢ q → hand r P ≡ Some e → hand q P ≡ Some d
+    → is_piece v e ≡ true → is_piece v d ≡ false
 no_two_pieces s P v r q e d h ne he hd pe =
     let other : find (takes_up q) (let_go r (hands P)) ≡ Some d = find-let_go r q (hands P) ne ∙ hd in
     elim (cases_Bool (is_piece v d)) [
-      | inl piece ↦ absurd (omega (arith, one-piece s P v h, count-let_go (is_piece v) r e (hands P) he, count-let_go (is_piece v) q d (let_go r (hands P)) other, ap bit pe, ap bit piece))
+      | inl piece ↦
+          absurd (omega (arith, one-piece s P v h, count-let_go (is_piece v) r e (hands P) he,
+          count-let_go (is_piece v) q d (let_go r (hands P)) other, ap bit pe, ap bit piece))
       | inr none ↦ none
     ]
 
@@ -61,7 +65,8 @@ none_stray : (s : Setting) (P : Past) → is_legal s P ≡ true → count (is_st
 none_stray s [] h = refl
 none_stray s (Save r v m k g ∷ P) h =
     let facts = (save-facts s r v m k g P (row_of s (Save r v m k g) P (λ d. refl) h)).piece in
-    omega (arith, none_stray s P (and_parts _ _ h).0, count-cons (is_stray s) (Save r v m k g) (let_go r (hands P)), count-let_go-le (is_stray s) r (hands P), ap (λ (b : Bool). bit (not b)) facts.file)
+    omega (arith, none_stray s P (and_parts _ _ h).0, count-cons (is_stray s) (Save r v m k g) (let_go r (hands P)), count-let_go-le (is_stray s) r (hands P),
+    ap (λ (b : Bool). bit (not b)) facts.file)
 none_stray s (Issue r k ∷ P) h = omega (arith, none_stray s P (and_parts _ _ h).0, count-let_go-le (is_stray s) r (hands P))
 none_stray s (Put r v m k f ∷ P) h = omega (arith, none_stray s P (and_parts _ _ h).0, count-let_go-le (is_stray s) r (hands P))
 none_stray s (Saved r v m k ∷ P) h = omega (arith, none_stray s P (and_parts _ _ h).0, count-let_go-le (is_stray s) r (hands P))
@@ -130,7 +135,8 @@ save_is : (q w i j p r v m k g : ℕ) → Save q w i j p ≡ Save r v m k g → 
 save_is q w i j p r v m k g h = let a : w ≡ v = cc in let b : i ≡ m = cc in let c : j ≡ k = cc in (a, cc)
 
 -- the piece in hand is the last of the node's saves that stand
-pub last_piece : (s : Setting) (P : Past) (r q v m k g : ℕ) → is_legal s P ≡ true → hand r P ≡ Some (Save q v m k g) → saves v (standing P) ≡ saves v (let_go r (standing P)) ++ frame m k ∷ []
+pub last_piece : (s : Setting) (P : Past) (r q v m k g : ℕ) → is_legal s P ≡ true → hand r P ≡ Some (Save q v m k g)
+    → saves v (standing P) ≡ saves v (let_go r (standing P)) ++ frame m k ∷ []
 last_piece s [] r q v m k g l h = cc
 last_piece s (Load p i b n f z x ∷ P) r q v m k g l h =
     elim (cases_Bool (eqb p r)) [
@@ -153,18 +159,23 @@ last_piece s (Save p w i j z ∷ P) r q v m k g l h =
           let same : Some (Save p w i j z) ≡ Some (Save q v m k g) = rw here at h in
           let is = save_is p w i j z q v m k g cc in
           let took : comes_at v w (frame i j) (saves v (standing P)) ≡ saves v (standing P) ++ frame m k ∷ [] =
-          subst (λ (u : ℕ). comes_at v u (frame i j) (saves v (standing P)) ≡ saves v (standing P) ++ frame m k ∷ []) (sym is.0) (comes_here v (frame i j) (saves v (standing P)) ∙ ap (λ (a : FrameName). saves v (standing P) ++ a ∷ []) is.1) in
+          subst (λ (u : ℕ). comes_at v u (frame i j) (saves v (standing P)) ≡ saves v (standing P) ++ frame m k ∷ []) (sym is.0)
+          (comes_here v (frame i j) (saves v (standing P)) ∙ ap (λ (a : FrameName). saves v (standing P) ++ a ∷ []) is.1) in
           rw here took
       | inr away ↦
           let before : hand r P ≡ Some (Save q v m k g) = still_other r p (Save q v m k g) (hands P) away (rw away at h) in
           let facts = (save-facts s p w i j z P (row_of s (Save p w i j z) P (λ d. refl) l)).piece in
-          let other : w ≢ v = λ e. true≢false (sym (eq-eqb v w (sym e)) ∙ find-none_is (takes_up r) (is_piece w) (Save q v m k g) (hands P) facts.none before) in
+          let other : w ≢ v =
+          λ e. true≢false (sym (eq-eqb v w (sym e)) ∙ find-none_is (takes_up r) (is_piece w) (Save q v m k g) (hands P) facts.none before) in
           let rest = last_piece s P r q v m k g (and_parts _ _ l).0 before in
-          rw away (comes_elsewhere v w (frame i j) (saves v (standing P)) other ∙ (rest ∙ ap (λ (xs : List FrameName). xs ++ frame m k ∷ []) (sym (comes_elsewhere v w (frame i j) (saves v (let_go r (standing P))) other))))
+          rw away (comes_elsewhere v w (frame i j) (saves v (standing P)) other
+          ∙ (rest ∙ ap (λ (xs : List FrameName). xs ++ frame m k ∷ []) (sym (comes_elsewhere v w (frame i j) (saves v (let_go r (standing P))) other))))
     ]
 last_piece s (Issue p i ∷ P) r q v m k g l h = last_piece s P r q v m k g (and_parts _ _ l).0 (still_held r p (Save q v m k g) (hands P) (hands-Apart P) h).1
-last_piece s (Put p w i j f ∷ P) r q v m k g l h = last_piece s P r q v m k g (and_parts _ _ l).0 (still_held r p (Save q v m k g) (hands P) (hands-Apart P) h).1
-last_piece s (Saved p w i j ∷ P) r q v m k g l h = last_piece s P r q v m k g (and_parts _ _ l).0 (still_held r p (Save q v m k g) (hands P) (hands-Apart P) h).1
+last_piece s (Put p w i j f ∷ P) r q v m k g l h =
+    last_piece s P r q v m k g (and_parts _ _ l).0 (still_held r p (Save q v m k g) (hands P) (hands-Apart P) h).1
+last_piece s (Saved p w i j ∷ P) r q v m k g l h =
+    last_piece s P r q v m k g (and_parts _ _ l).0 (still_held r p (Save q v m k g) (hands P) (hands-Apart P) h).1
 last_piece s (Reclaim p ∷ P) r q v m k g l h =
     let legal : is_legal s P ≡ true = (and_parts _ _ l).0 in
     let still = still_held r p (Save q v m k g) (hands P) (hands-Apart P) h in
@@ -172,9 +183,11 @@ last_piece s (Reclaim p ∷ P) r q v m k g l h =
     let none : is_piece v e.0 ≡ false = no_two_pieces s P v r p (Save q v m k g) e.0 legal (λ x. still.0 (sym x)) still.1 e.1 (eq-eqb v v refl) in
     let stands : find (takes_up p) (standing P) ≡ Some e.0 = hand-standing s P p e.0 legal e.1 in
     let rest = last_piece s P r q v m k g legal still.1 in
-    let front : saves v (let_go p (let_go r (standing P))) ≡ saves v (let_go r (standing P)) = saves-let_go v p e.0 (let_go r (standing P)) (find-let_go r p (standing P) (λ x. still.0 (sym x)) ∙ stands) none in
+    let front : saves v (let_go p (let_go r (standing P))) ≡ saves v (let_go r (standing P)) =
+    saves-let_go v p e.0 (let_go r (standing P)) (find-let_go r p (standing P) (λ x. still.0 (sym x)) ∙ stands) none in
     subst (λ (es : List Entry). saves v es ≡ saves v (let_go r es) ++ frame m k ∷ []) (sym (stood p e.0 P e.1))
-    (saves-let_go v p e.0 (standing P) stands none ∙ (rest ∙ ap (λ (xs : List FrameName). xs ++ frame m k ∷ []) (sym front ∙ ap (saves v) (let_go-swap p r (standing P) still.0))))
+    (saves-let_go v p e.0 (standing P) stands none
+    ∙ (rest ∙ ap (λ (xs : List FrameName). xs ++ frame m k ∷ []) (sym front ∙ ap (saves v) (let_go-swap p r (standing P) still.0))))
 last_piece s (_ ∷ P) r q v m k g l h = last_piece s P r q v m k g (and_parts _ _ l).0 h
 
 -- THE FRONT OF THE PUTS
@@ -201,25 +214,31 @@ unsaved-file s v P h = ap (λ (b : Bool). cond b (rest_of v P) []) h
 
 -- a put comes at the end of the rest
 puts-Put : (v r m k : ℕ) (f : Bool) (P : Past) → IsFront v P → puts v (Put r v m k f ∷ P) ≡ standing_saves v P ++ (rest_of v P ++ frame m k ∷ [])
-puts-Put v r m k f P h = comes_here v (frame m k) (puts v P) ∙ (ap (λ (xs : List FrameName). xs ++ frame m k ∷ []) h ∙ append_assoc (standing_saves v P) (rest_of v P) (frame m k ∷ []))
+puts-Put v r m k f P h =
+    comes_here v (frame m k) (puts v P)
+    ∙ (ap (λ (xs : List FrameName). xs ++ frame m k ∷ []) h ∙ append_assoc (standing_saves v P) (rest_of v P) (frame m k ∷ []))
 
 -- a save takes the first of the rest
-puts-Save : (s : Setting) (v r m k g : ℕ) (P : Past) → IsFront v P → first s P (Save r v m k g) ≡ true → puts v P ≡ standing_saves v (Save r v m k g ∷ P) ++ without (frame m k) (rest_of v P)
+puts-Save : (s : Setting) (v r m k g : ℕ) (P : Past) → IsFront v P → first s P (Save r v m k g) ≡ true
+    → puts v P ≡ standing_saves v (Save r v m k g ∷ P) ++ without (frame m k) (rest_of v P)
 puts-Save s v r m k g P h row =
     let facts = (save-facts s r v m k g P row).piece in
-    let next : is_next (frame m k) (rest_of v P) ≡ true = subst (λ (xs : List FrameName). is_next (frame m k) xs ≡ true) (unsaved-file s v P facts.file) (first_of-next (frame m k) (unsaved s v P) facts.front) in
+    let next : is_next (frame m k) (rest_of v P) ≡ true =
+    subst (λ (xs : List FrameName). is_next (frame m k) xs ≡ true) (unsaved-file s v P facts.file) (first_of-next (frame m k) (unsaved s v P) facts.front) in
     h ∙ (ap (λ (xs : List FrameName). standing_saves v P ++ xs) (next_is (frame m k) (rest_of v P) next)
     ∙ (sym (append_assoc (standing_saves v P) (frame m k ∷ []) (without (frame m k) (rest_of v P)))
     ∙ ap (λ (xs : List FrameName). xs ++ without (frame m k) (rest_of v P)) (sym (comes_here v (frame m k) (standing_saves v P)))))
 
 -- a piece that is reclaimed is the first of the rest again
-puts-Reclaim : (s : Setting) (v r q m k g : ℕ) (P : Past) → IsFront v P → is_legal s P ≡ true → hand r P ≡ Some (Save q v m k g) → puts v P ≡ standing_saves v (Reclaim r ∷ P) ++ (frame m k ∷ rest_of v P)
+puts-Reclaim : (s : Setting) (v r q m k g : ℕ) (P : Past) → IsFront v P → is_legal s P ≡ true → hand r P ≡ Some (Save q v m k g)
+    → puts v P ≡ standing_saves v (Reclaim r ∷ P) ++ (frame m k ∷ rest_of v P)
 puts-Reclaim s v r q m k g P h legal held =
     h ∙ (ap (λ (xs : List FrameName). xs ++ rest_of v P) (last_piece s P r q v m k g legal held)
     ∙ (append_assoc (saves v (let_go r (standing P))) (frame m k ∷ []) (rest_of v P)
     ∙ ap (λ (es : List Entry). saves v es ++ (frame m k ∷ rest_of v P)) (sym (stood r (Save q v m k g) P held))))
 
-saves-Reclaim : (s : Setting) (v r : ℕ) (e : Entry) (P : Past) → is_legal s P ≡ true → hand r P ≡ Some e → is_piece v e ≡ false → standing_saves v (Reclaim r ∷ P) ≡ standing_saves v P
+saves-Reclaim : (s : Setting) (v r : ℕ) (e : Entry) (P : Past) → is_legal s P ≡ true → hand r P ≡ Some e → is_piece v e ≡ false
+    → standing_saves v (Reclaim r ∷ P) ≡ standing_saves v P
 saves-Reclaim s v r e P legal held none = ap (saves v) (stood r e P held) ∙ saves-let_go v r e (standing P) (hand-standing s P r e legal held) none
 
 front-Reclaim : (s : Setting) (v r : ℕ) (e : Entry) (P : Past) → is_legal s P ≡ true → hand r P ≡ Some e → IsFront v P → IsFront v (Reclaim r ∷ P)
@@ -228,12 +247,21 @@ front-Reclaim s v r (Save q w m k g) P legal held h =
       | inl here ↦
           let at_v : hand r P ≡ Some (Save q v m k g) = subst (λ (u : ℕ). hand r P ≡ Some (Save q u m k g)) (eqb-true w v here) held in
           front-from v (Reclaim r ∷ P) (frame m k ∷ rest_of v P) (puts-Reclaim s v r q m k g P h legal at_v)
-      | inr away ↦ front-from v (Reclaim r ∷ P) (rest_of v P) (h ∙ ap (λ (xs : List FrameName). xs ++ rest_of v P) (sym (saves-Reclaim s v r (Save q w m k g) P legal held away)))
+      | inr away ↦
+          front-from v (Reclaim r ∷ P) (rest_of v P)
+          (h ∙ ap (λ (xs : List FrameName). xs ++ rest_of v P) (sym (saves-Reclaim s v r (Save q w m k g) P legal held away)))
     ]
-front-Reclaim s v r (Load q k b n f g x) P legal held h = front-from v (Reclaim r ∷ P) (rest_of v P) (h ∙ ap (λ (xs : List FrameName). xs ++ rest_of v P) (sym (saves-Reclaim s v r (Load q k b n f g x) P legal held refl)))
-front-Reclaim s v r (Take q w m k) P legal held h = front-from v (Reclaim r ∷ P) (rest_of v P) (h ∙ ap (λ (xs : List FrameName). xs ++ rest_of v P) (sym (saves-Reclaim s v r (Take q w m k) P legal held refl)))
-front-Reclaim s v r (TakeBlock f x q w m k b n g) P legal held h = front-from v (Reclaim r ∷ P) (rest_of v P) (h ∙ ap (λ (xs : List FrameName). xs ++ rest_of v P) (sym (saves-Reclaim s v r (TakeBlock f x q w m k b n g) P legal held refl)))
-front-Reclaim s v r e P legal held h = front-from v (Reclaim r ∷ P) (rest_of v P) (h ∙ ap (λ (xs : List FrameName). xs ++ rest_of v P) (sym (saves-Reclaim s v r e P legal held refl)))
+front-Reclaim s v r (Load q k b n f g x) P legal held h =
+    front-from v (Reclaim r ∷ P) (rest_of v P)
+    (h ∙ ap (λ (xs : List FrameName). xs ++ rest_of v P) (sym (saves-Reclaim s v r (Load q k b n f g x) P legal held refl)))
+front-Reclaim s v r (Take q w m k) P legal held h =
+    front-from v (Reclaim r ∷ P) (rest_of v P)
+    (h ∙ ap (λ (xs : List FrameName). xs ++ rest_of v P) (sym (saves-Reclaim s v r (Take q w m k) P legal held refl)))
+front-Reclaim s v r (TakeBlock f x q w m k b n g) P legal held h =
+    front-from v (Reclaim r ∷ P) (rest_of v P)
+    (h ∙ ap (λ (xs : List FrameName). xs ++ rest_of v P) (sym (saves-Reclaim s v r (TakeBlock f x q w m k b n g) P legal held refl)))
+front-Reclaim s v r e P legal held h =
+    front-from v (Reclaim r ∷ P) (rest_of v P) (h ∙ ap (λ (xs : List FrameName). xs ++ rest_of v P) (sym (saves-Reclaim s v r e P legal held refl)))
 
 -- the saves that stand took the front of the puts
 pub saves-front : (s : Setting) (P : Past) (v : ℕ) → is_legal s P ≡ true → IsFront v P
@@ -241,7 +269,9 @@ saves-front s [] v h = refl
 saves-front s (Put r w m k f ∷ P) v h =
     let before = saves-front s P v (and_parts _ _ h).0 in
     elim (cases_Bool (eqb w v)) [
-      | inl here ↦ subst (λ (u : ℕ). IsFront v (Put r u m k f ∷ P)) (sym (eqb-true w v here)) (front-from v (Put r v m k f ∷ P) (rest_of v P ++ frame m k ∷ []) (puts-Put v r m k f P before))
+      | inl here ↦
+          subst (λ (u : ℕ). IsFront v (Put r u m k f ∷ P)) (sym (eqb-true w v here))
+          (front-from v (Put r v m k f ∷ P) (rest_of v P ++ frame m k ∷ []) (puts-Put v r m k f P before))
       | inr away ↦ front-from v (Put r w m k f ∷ P) (rest_of v P) (comes_elsewhere v w (frame m k) (puts v P) (eqb-false w v away) ∙ before)
     ]
 saves-front s (Save r w m k g ∷ P) v h =
@@ -250,8 +280,11 @@ saves-front s (Save r w m k g ∷ P) v h =
       | inl here ↦
           let is : w ≡ v = eqb-true w v here in
           let row : first s P (Save r v m k g) ≡ true = subst (λ (u : ℕ). first s P (Save r u m k g) ≡ true) is (row_of s (Save r w m k g) P (λ d. refl) h) in
-          subst (λ (u : ℕ). IsFront v (Save r u m k g ∷ P)) (sym is) (front-from v (Save r v m k g ∷ P) (without (frame m k) (rest_of v P)) (puts-Save s v r m k g P before row))
-      | inr away ↦ front-from v (Save r w m k g ∷ P) (rest_of v P) (before ∙ ap (λ (xs : List FrameName). xs ++ rest_of v P) (sym (comes_elsewhere v w (frame m k) (standing_saves v P) (eqb-false w v away))))
+          subst (λ (u : ℕ). IsFront v (Save r u m k g ∷ P)) (sym is)
+          (front-from v (Save r v m k g ∷ P) (without (frame m k) (rest_of v P)) (puts-Save s v r m k g P before row))
+      | inr away ↦
+          front-from v (Save r w m k g ∷ P) (rest_of v P)
+          (before ∙ ap (λ (xs : List FrameName). xs ++ rest_of v P) (sym (comes_elsewhere v w (frame m k) (standing_saves v P) (eqb-false w v away))))
     ]
 saves-front s (Reclaim r ∷ P) v h =
     let legal : is_legal s P ≡ true = (and_parts _ _ h).0 in
@@ -261,31 +294,40 @@ saves-front s (_ ∷ P) v h = saves-front s P v (and_parts _ _ h).0
 
 -- UNSAVED
 
-pub unsaved-Put : (s : Setting) (r v m k : ℕ) (f : Bool) (P : Past) → is_legal s P ≡ true → is_file (node s v).work ≡ true → unsaved s v (Put r v m k f ∷ P) ≡ unsaved s v P ++ frame m k ∷ []
+pub unsaved-Put : (s : Setting) (r v m k : ℕ) (f : Bool) (P : Past) → is_legal s P ≡ true → is_file (node s v).work ≡ true
+    → unsaved s v (Put r v m k f ∷ P) ≡ unsaved s v P ++ frame m k ∷ []
 unsaved-Put s r v m k f P h file =
     unsaved-file s v (Put r v m k f ∷ P) file
     ∙ (minus-rest (puts v (Put r v m k f ∷ P)) (standing_saves v P) (rest_of v P ++ frame m k ∷ []) (puts-Put v r m k f P (saves-front s P v h))
     ∙ ap (λ (xs : List FrameName). xs ++ frame m k ∷ []) (sym (unsaved-file s v P file)))
 
 pub unsaved-Put_elsewhere : (s : Setting) (r v w m k : ℕ) (f : Bool) (P : Past) → w ≢ v → unsaved s v (Put r w m k f ∷ P) ≡ unsaved s v P
-unsaved-Put_elsewhere s r v w m k f P ne = ap (λ (xs : List FrameName). cond (is_file (node s v).work) (minus xs (standing_saves v P)) []) (comes_elsewhere v w (frame m k) (puts v P) ne)
+unsaved-Put_elsewhere s r v w m k f P ne =
+    ap (λ (xs : List FrameName). cond (is_file (node s v).work) (minus xs (standing_saves v P)) []) (comes_elsewhere v w (frame m k) (puts v P) ne)
 
-pub unsaved-Save : (s : Setting) (r v m k g : ℕ) (P : Past) → is_legal s P ≡ true → first s P (Save r v m k g) ≡ true → unsaved s v P ≡ frame m k ∷ unsaved s v (Save r v m k g ∷ P)
+pub unsaved-Save : (s : Setting) (r v m k g : ℕ) (P : Past) → is_legal s P ≡ true → first s P (Save r v m k g) ≡ true
+    → unsaved s v P ≡ frame m k ∷ unsaved s v (Save r v m k g ∷ P)
 unsaved-Save s r v m k g P h row =
     let facts = (save-facts s r v m k g P row).piece in
-    let next : is_next (frame m k) (rest_of v P) ≡ true = subst (λ (xs : List FrameName). is_next (frame m k) xs ≡ true) (unsaved-file s v P facts.file) (first_of-next (frame m k) (unsaved s v P) facts.front) in
+    let next : is_next (frame m k) (rest_of v P) ≡ true =
+    subst (λ (xs : List FrameName). is_next (frame m k) xs ≡ true) (unsaved-file s v P facts.file) (first_of-next (frame m k) (unsaved s v P) facts.front) in
     unsaved-file s v P facts.file
     ∙ (next_is (frame m k) (rest_of v P) next
-    ∙ ap (λ (xs : List FrameName). frame m k ∷ xs) (sym (unsaved-file s v (Save r v m k g ∷ P) facts.file ∙ minus-rest (puts v P) (standing_saves v (Save r v m k g ∷ P)) (without (frame m k) (rest_of v P)) (puts-Save s v r m k g P (saves-front s P v h) row))))
+    ∙ ap (λ (xs : List FrameName). frame m k ∷ xs) (sym (unsaved-file s v (Save r v m k g ∷ P) facts.file
+    ∙ minus-rest (puts v P) (standing_saves v (Save r v m k g ∷ P)) (without (frame m k) (rest_of v P)) (puts-Save s v r m k g P (saves-front s P v h) row))))
 
 pub unsaved-Save_elsewhere : (s : Setting) (r v w m k g : ℕ) (P : Past) → w ≢ v → unsaved s v (Save r w m k g ∷ P) ≡ unsaved s v P
-unsaved-Save_elsewhere s r v w m k g P ne = ap (λ (ys : List FrameName). cond (is_file (node s v).work) (minus (puts v P) ys) []) (comes_elsewhere v w (frame m k) (standing_saves v P) ne)
+unsaved-Save_elsewhere s r v w m k g P ne =
+    ap (λ (ys : List FrameName). cond (is_file (node s v).work) (minus (puts v P) ys) []) (comes_elsewhere v w (frame m k) (standing_saves v P) ne)
 
-pub unsaved-Reclaim : (s : Setting) (r v q m k g : ℕ) (P : Past) → is_legal s P ≡ true → is_file (node s v).work ≡ true → hand r P ≡ Some (Save q v m k g) → unsaved s v (Reclaim r ∷ P) ≡ frame m k ∷ unsaved s v P
+pub unsaved-Reclaim : (s : Setting) (r v q m k g : ℕ) (P : Past) → is_legal s P ≡ true → is_file (node s v).work ≡ true → hand r P ≡ Some (Save q v m k g)
+    → unsaved s v (Reclaim r ∷ P) ≡ frame m k ∷ unsaved s v P
 unsaved-Reclaim s r v q m k g P h file held =
     unsaved-file s v (Reclaim r ∷ P) file
     ∙ (minus-rest (puts v P) (standing_saves v (Reclaim r ∷ P)) (frame m k ∷ rest_of v P) (puts-Reclaim s v r q m k g P (saves-front s P v h) h held)
     ∙ ap (λ (xs : List FrameName). frame m k ∷ xs) (sym (unsaved-file s v P file)))
 
-pub unsaved-Reclaim_other : (s : Setting) (r v : ℕ) (e : Entry) (P : Past) → is_legal s P ≡ true → hand r P ≡ Some e → is_piece v e ≡ false → unsaved s v (Reclaim r ∷ P) ≡ unsaved s v P
-unsaved-Reclaim_other s r v e P h held none = ap (λ (ys : List FrameName). cond (is_file (node s v).work) (minus (puts v P) ys) []) (saves-Reclaim s v r e P h held none)
+pub unsaved-Reclaim_other : (s : Setting) (r v : ℕ) (e : Entry) (P : Past) → is_legal s P ≡ true → hand r P ≡ Some e → is_piece v e ≡ false
+    → unsaved s v (Reclaim r ∷ P) ≡ unsaved s v P
+unsaved-Reclaim_other s r v e P h held none =
+    ap (λ (ys : List FrameName). cond (is_file (node s v).work) (minus (puts v P) ys) []) (saves-Reclaim s v r e P h held none)

@@ -40,14 +40,16 @@ use Rattle.flow_journal.proofs.Found.{none_counted, none_any}
 -- ONE TEST FOR ANOTHER
 
 -- where two tests never pass, and the third passes only where one of them does
-no_third : {X : Type 0} (p q r : X → Bool) → ((x : X) → p x ≡ false → q x ≡ false → r x ≡ false) → (xs : List X) → count p xs ≡ 0 → count q xs ≡ 0 → count r xs ≡ 0
+no_third : {X : Type 0} (p q r : X → Bool) → ((x : X) → p x ≡ false → q x ≡ false → r x ≡ false) → (xs : List X)
+    → count p xs ≡ 0 → count q xs ≡ 0 → count r xs ≡ 0
 no_third p q r only [] h g = refl
 no_third p q r only (x ∷ xs) h g =
     let np = bit-none (p x) (omega (arith, count-cons p x xs, h)) in
     let nq = bit-none (q x) (omega (arith, count-cons q x xs, g)) in
     omega (arith, count-cons r x xs, ap bit (only x np nq), no_third p q r only xs (omega (arith, count-cons p x xs, h)) (omega (arith, count-cons q x xs, g)))
 
-holds-third : (t u w : FrameName → Bool) → ((a : FrameName) → t a ≡ false → u a ≡ false → w a ≡ false) → (e : Entry) → holds t e ≡ false → holds u e ≡ false → holds w e ≡ false
+holds-third : (t u w : FrameName → Bool) → ((a : FrameName) → t a ≡ false → u a ≡ false → w a ≡ false) → (e : Entry) → holds t e ≡ false
+    → holds u e ≡ false → holds w e ≡ false
 holds-third t u w only (Load r k b n f g x) h i = only (frame 0 k) h i
 holds-third t u w only (Take r v m k) h i = only (frame m k) h i
 holds-third t u w only (TakeBlock f x r v m k b n g) h i =
@@ -65,7 +67,8 @@ record Unplaced (t : FrameName → Bool) (s : Setting) (P : Past) : Type 0 where
   files : (v : ℕ) → count t (unsaved s v P) ≡ 0
   roles : count (holds t) (hands P) ≡ 0
 
-clear-third : (t u w : FrameName → Bool) (s : Setting) (P : Past) → ((a : FrameName) → t a ≡ false → u a ≡ false → w a ≡ false) → Clear t s P → Unplaced u s P → count (carries w) (owed s P) ≡ 0 → Clear w s P
+clear-third : (t u w : FrameName → Bool) (s : Setting) (P : Past) → ((a : FrameName) → t a ≡ false → u a ≡ false → w a ≡ false) → Clear t s P → Unplaced u s P
+    → count (carries w) (owed s P) ≡ 0 → Clear w s P
 clear-third t u w s P only c n calls = record {
   queues = λ v. no_third t u w only (queued v P) (c.queues v) (n.queues v);
   lists = λ v. no_third (waits t) (waits u) (waits w) (λ x. only x.array) (waiting s v P) (c.lists v) (n.lists v);
@@ -122,7 +125,9 @@ at_none t s P v h none =
     record {
       queue = no_queue s P v t h none;
       list = ap (count (waits t)) (waiting-unsorted s v P (ap (λ (n : Node). may_sort n.work && ltb 0 n.sort) rule));
-      kept = subst (λ (n : Node). count t (cond (is_settled v P) [] (ring_of n.work (firings v P) (puts v P))) ≡ 0) (sym rule) (elim (is_settled v P) as (λ b. count t (cond b [] []) ≡ 0) [ true ↦ refl | false ↦ refl ]);
+      kept =
+          subst (λ (n : Node). count t (cond (is_settled v P) [] (ring_of n.work (firings v P) (puts v P))) ≡ 0) (sym rule)
+          (elim (is_settled v P) as (λ b. count t (cond b [] []) ≡ 0) [ true ↦ refl | false ↦ refl ]);
       file = subst (λ (n : Node). count t (cond (is_file n.work) (minus (puts v P) (standing_saves v P)) []) ≡ 0) (sym rule) refl;
     }
 
@@ -130,10 +135,12 @@ pub map-count : (t : FrameName → Bool) (ws : List Waiting) → count t (map (�
 map-count t [] = refl
 map-count t (w ∷ ws) = omega (arith, map-count t ws, count-cons t w.array (map (λ x. x.array) ws), count-cons (waits t) w ws)
 
-pub arrays-count : (t : FrameName → Bool) (s : Setting) (P : Past) (v : ℕ) → count t (arrays_at s P v) ≡ count t (queued v P) + count (waits t) (waiting s v P) + count t (ring s v P) + count t (unsaved s v P)
+pub arrays-count : (t : FrameName → Bool) (s : Setting) (P : Past) (v : ℕ)
+    → count t (arrays_at s P v) ≡ count t (queued v P) + count (waits t) (waiting s v P) + count t (ring s v P) + count t (unsaved s v P)
 arrays-count t s P v =
     let ws : List FrameName = map (λ w. w.array) (waiting s v P) in
-    omega (arith, count-append t (queued v P ++ ws ++ ring s v P) (unsaved s v P), count-append t (queued v P ++ ws) (ring s v P), count-append t (queued v P) ws, map-count t (waiting s v P))
+    omega (arith, count-append t (queued v P ++ ws ++ ring s v P) (unsaved s v P), count-append t (queued v P ++ ws) (ring s v P),
+    count-append t (queued v P) ws, map-count t (waiting s v P))
 
 at_some : (t : FrameName → Bool) (s : Setting) (P : Past) (v : ℕ) → list_any t (arrays_at s P v) ≡ false → AtNode t s P v
 at_some t s P v h =
@@ -156,8 +163,11 @@ any_at p v (u ∷ us) h i =
 from_places : (s : Setting) (q : ℕ → Bool) (P : Past) → is_legal s P ≡ true → list_any q (places s P) ≡ false → Unplaced (has q P) s P
 from_places s q P h none =
     let t : FrameName → Bool = has q P in
-    let p = or_parts (list_any q (flat_map (blocks_in_hand P) (hands P))) (list_any q (flat_map (block_of P) (flat_map (arrays_at s P) (node_numbers s)))) (sym (any-append q (flat_map (blocks_in_hand P) (hands P)) (flat_map (block_of P) (flat_map (arrays_at s P) (node_numbers s)))) ∙ none) in
-    let nodes : list_any (λ v. list_any t (arrays_at s P v)) (node_numbers s) ≡ false = sym (any-flat t (arrays_at s P) (node_numbers s)) ∙ (sym (any-flat q (block_of P) (flat_map (arrays_at s P) (node_numbers s))) ∙ p.1) in
+    let p =
+    or_parts (list_any q (flat_map (blocks_in_hand P) (hands P))) (list_any q (flat_map (block_of P) (flat_map (arrays_at s P) (node_numbers s))))
+    (sym (any-append q (flat_map (blocks_in_hand P) (hands P)) (flat_map (block_of P) (flat_map (arrays_at s P) (node_numbers s)))) ∙ none) in
+    let nodes : list_any (λ v. list_any t (arrays_at s P v)) (node_numbers s) ≡ false =
+    sym (any-flat t (arrays_at s P) (node_numbers s)) ∙ (sym (any-flat q (block_of P) (flat_map (arrays_at s P) (node_numbers s))) ∙ p.1) in
     let at : (v : ℕ) → AtNode t s P v = λ v. elim (cases_Bool (is_numbered s v)) [
       | inl numbered ↦ at_some t s P v (any_at (λ u. list_any t (arrays_at s P u)) v (node_numbers s) nodes numbered)
       | inr away ↦ at_none t s P v h away
@@ -182,14 +192,16 @@ to_places s q P h c =
     let vs : list_any q (flat_map (block_of P) (flat_map (arrays_at s P) (node_numbers s))) ≡ false =
     any-flat q (block_of P) (flat_map (arrays_at s P) (node_numbers s))
     ∙ (any-flat t (arrays_at s P) (node_numbers s)
-    ∙ all_none (λ v. list_any t (arrays_at s P v)) (node_numbers s) (λ v. none_any t (arrays_at s P v) (omega (arith, arrays-count t s P v, c.queues v, c.lists v, c.rings v, c.files v)))) in
+    ∙ all_none (λ v. list_any t (arrays_at s P v)) (node_numbers s)
+    (λ v. none_any t (arrays_at s P v) (omega (arith, arrays-count t s P v, c.queues v, c.lists v, c.rings v, c.files v)))) in
     any-append q (flat_map (blocks_in_hand P) (hands P)) (flat_map (block_of P) (flat_map (arrays_at s P) (node_numbers s))) ∙ or_from _ _ hs vs
 
 none_alone : (whole xs : List ℕ) → ((c : ℕ) → count (is_number c) xs ≤ count (is_number c) whole) → list_any (λ c. eqb (count (is_number c) whole) 0) xs ≡ false
 none_alone whole [] h = refl
 none_alone whole (x ∷ xs) h =
     let some : count (is_number x) whole ≢ 0 = λ e. omega (arith, h x, count-cons (is_number x) x xs, ap bit (eq-eqb x x refl), e) in
-    or_from (eqb (count (is_number x) whole) 0) (list_any (λ c. eqb (count (is_number c) whole) 0) xs) (ne_eqb (count (is_number x) whole) 0 some) (none_alone whole xs (λ c. omega (arith, h c, count-cons (is_number c) x xs)))
+    or_from (eqb (count (is_number x) whole) 0) (list_any (λ c. eqb (count (is_number c) whole) 0) xs) (ne_eqb (count (is_number x) whole) 0 some)
+    (none_alone whole xs (λ c. omega (arith, h c, count-cons (is_number c) x xs)))
 
 -- each place has its block
 places-placed : (s : Setting) (P : Past) → list_any (is_unplaced s P) (places s P) ≡ false
@@ -217,7 +229,8 @@ not-false : (b : Bool) → not b ≡ false → b ≡ true
 not-false true h = refl
 not-false false h = absurd (true≢false h)
 
-first-third : (p q r : ℕ → Bool) (bs : List ℕ) → ((c : ℕ) → p c ≡ false → q c ≡ false → r c ≡ false) → list_any p bs ≡ false → list_any q bs ≡ false → list_any r bs ≡ false
+first-third : (p q r : ℕ → Bool) (bs : List ℕ) → ((c : ℕ) → p c ≡ false → q c ≡ false → r c ≡ false) → list_any p bs ≡ false
+    → list_any q bs ≡ false → list_any r bs ≡ false
 first-third p q r [] only h g = refl
 first-third p q r (b ∷ bs) only h g =
     let i = or_parts (p b) (list_any p bs) h in
@@ -225,17 +238,27 @@ first-third p q r (b ∷ bs) only h g =
     or_from (r b) (list_any r bs) (only b i.0 j.0) (first-third p q r bs only i.1 j.1)
 
 -- a grant that makes a frame: the frame's block is known then, and no block of a place is given up
-granted-third : (s : Setting) (m b n : ℕ) (f : Bool) (g : ℕ) (x : Bool) (P : Past) (made a : FrameName) → s.pooled ≡ true → pool_grants s m b n f g x P ≡ true → is_lost s P a ≡ false → has (is_unplaced s P) P a ≡ false → list_any (λ c. not (has_number c (known_after (is_unplaced s P) (Granted b n f g) (known s P)))) (first_of (cond (same a made) (b ∷ []) [] ++ grants_of a (standing P))) ≡ false
+granted-third : (s : Setting) (m b n : ℕ) (f : Bool) (g : ℕ) (x : Bool) (P : Past) (made a : FrameName) → s.pooled ≡ true → pool_grants s m b n f g x P ≡ true
+    → is_lost s P a ≡ false → has (is_unplaced s P) P a ≡ false
+    → list_any (λ c. not (has_number c (known_after (is_unplaced s P) (Granted b n f g) (known s P))))
+    (first_of (cond (same a made) (b ∷ []) [] ++ grants_of a (standing P))) ≡ false
 granted-third s m b n f g x P made a pooled h lost unplaced =
-    elim (same a made) as (λ c. list_any (λ k. not (has_number k (known_after (is_unplaced s P) (Granted b n f g) (known s P)))) (first_of (cond c (b ∷ []) [] ++ grants_of a (standing P))) ≡ false) [
-      | true ↦ or_from _ false (ap not (granted-known s.limit (s.need m) (held s P) b n f g (is_unplaced s P) (known s P) (granted-is s m b n f g x P pooled h))) refl
-      | false ↦ first-third (is_unknown s P) (is_unplaced s P) (λ k. not (has_number k (known_after (is_unplaced s P) (Granted b n f g) (known s P)))) (block_of P a)
+    elim (same a made) as (λ c. list_any (λ k. not (has_number k (known_after (is_unplaced s P) (Granted b n f g) (known s P))))
+    (first_of (cond c (b ∷ []) [] ++ grants_of a (standing P))) ≡ false) [
+      | true ↦
+          or_from _ false
+          (ap not (granted-known s.limit (s.need m) (held s P) b n f g (is_unplaced s P) (known s P) (granted-is s m b n f g x P pooled h))) refl
+      | false ↦
+          first-third (is_unknown s P) (is_unplaced s P) (λ k. not (has_number k (known_after (is_unplaced s P) (Granted b n f g) (known s P)))) (block_of P a)
           (λ k u p. ap not (stays-known (is_unplaced s P) b n f g k (known s P) p (not-false _ u))) lost unplaced
     ]
 
-granted-made : (s : Setting) (m b n : ℕ) (f : Bool) (g : ℕ) (x : Bool) (P : Past) (made : FrameName) → s.pooled ≡ true → pool_grants s m b n f g x P ≡ true → list_any (λ c. not (has_number c (known_after (is_unplaced s P) (Granted b n f g) (known s P)))) (first_of (cond (same made made) (b ∷ []) [] ++ grants_of made (standing P))) ≡ false
+granted-made : (s : Setting) (m b n : ℕ) (f : Bool) (g : ℕ) (x : Bool) (P : Past) (made : FrameName) → s.pooled ≡ true → pool_grants s m b n f g x P ≡ true
+    → list_any (λ c. not (has_number c (known_after (is_unplaced s P) (Granted b n f g) (known s P))))
+    (first_of (cond (same made made) (b ∷ []) [] ++ grants_of made (standing P))) ≡ false
 granted-made s m b n f g x P made pooled h =
-    subst (λ c. list_any (λ k. not (has_number k (known_after (is_unplaced s P) (Granted b n f g) (known s P)))) (first_of (cond c (b ∷ []) [] ++ grants_of made (standing P))) ≡ false) (sym (same_refl made))
+    subst (λ c. list_any (λ k. not (has_number k (known_after (is_unplaced s P) (Granted b n f g) (known s P))))
+    (first_of (cond c (b ∷ []) [] ++ grants_of made (standing P))) ≡ false) (sym (same_refl made))
     (or_from _ false (ap not (granted-known s.limit (s.need m) (held s P) b n f g (is_unplaced s P) (known s P) (granted-is s m b n f g x P pooled h))) refl)
 
 count-one : (t : FrameName → Bool) (a : FrameName) → t a ≡ false → count t (a ∷ []) ≡ 0
@@ -257,8 +280,10 @@ any-first q (b ∷ bs) h = or_from (q b) false (or_parts (q b) (list_any q bs) h
 -- a reclaim makes no frame lost
 reclaimed-third : (s : Setting) (r : ℕ) (P : Past) (a : FrameName) → is_legal s P ≡ true → is_lost s P a ≡ false → is_lost s (Reclaim r ∷ P) a ≡ false
 reclaimed-third s r P a h lost =
-    let whole : list_any (is_unknown s P) (grants_of a (standing P)) ≡ false = ap (list_any (is_unknown s P)) (sym (first_of-few (grants_of a (standing P)) (grant-once s P a h))) ∙ lost in
-    let fewer : list_any (is_unknown s P) (first_of (grants_of a (let_go r (standing P)))) ≡ false = any-first (is_unknown s P) (grants_of a (let_go r (standing P))) (any-let_go (is_unknown s P) a r (standing P) whole) in
+    let whole : list_any (is_unknown s P) (grants_of a (standing P)) ≡ false =
+    ap (list_any (is_unknown s P)) (sym (first_of-few (grants_of a (standing P)) (grant-once s P a h))) ∙ lost in
+    let fewer : list_any (is_unknown s P) (first_of (grants_of a (let_go r (standing P)))) ≡ false =
+    any-first (is_unknown s P) (grants_of a (let_go r (standing P))) (any-let_go (is_unknown s P) a r (standing P) whole) in
     elim (is_free r P) as (λ b. list_any (is_unknown s P) (first_of (grants_of a (Reclaim r ∷ cond b (standing P) (let_go r (standing P))))) ≡ false) [
       | true ↦ any-first (is_unknown s P) (grants_of a (standing P)) whole
       | false ↦ fewer
@@ -272,21 +297,28 @@ none_lost s (Load r k b n f g x ∷ P) pooled h =
     let e : Entry = Load r k b n f g x in
     let t : FrameName → Bool = is_lost s (e ∷ P) in
     let grants : pool_grants s 0 b n f g x P ≡ true = (and_parts (may_load s r k P) (pool_grants s 0 b n f g x P) (row_of s e P (λ d. refl) h)).1 in
-    let before : Clear t s P = clear-third (is_lost s P) (has (is_unplaced s P) P) t s P (λ a lost unplaced. granted-third s 0 b n f g x P (frame 0 k) a pooled grants lost unplaced) (none_lost s P pooled legal) (from_places s (is_unplaced s P) P legal (places-placed s P)) (ap (count (carries t)) (owed-first s e P (λ d. refl) h)) in
+    let before : Clear t s P =
+    clear-third (is_lost s P) (has (is_unplaced s P) P) t s P (λ a lost unplaced. granted-third s 0 b n f g x P (frame 0 k) a pooled grants lost unplaced)
+    (none_lost s P pooled legal) (from_places s (is_unplaced s P) P legal (places-placed s P)) (ap (count (carries t)) (owed-first s e P (λ d. refl) h)) in
     clear-more t s e P h (count-one t (frame 0 k) (granted-made s 0 b n f g x P (frame 0 k) pooled grants)) before
 none_lost s (TakeBlock f x r v m k b n g ∷ P) pooled h =
     let legal : is_legal s P ≡ true = (and_parts _ _ h).0 in
     let e : Entry = TakeBlock f x r v m k b n g in
     let t : FrameName → Bool = is_lost s (e ∷ P) in
-    let grants : pool_grants s v b n f g x P ≡ true = (and_parts (may_take s r v (frame m k) P && is_maker s v) (pool_grants s v b n f g x P) (row_of s e P (λ d. refl) h)).1 in
-    let before : Clear t s P = clear-third (is_lost s P) (has (is_unplaced s P) P) t s P (λ a lost unplaced. granted-third s v b n f g x P (frame v k) a pooled grants lost unplaced) (none_lost s P pooled legal) (from_places s (is_unplaced s P) P legal (places-placed s P)) (ap (count (carries t)) (owed-first s e P (λ d. refl) h)) in
+    let grants : pool_grants s v b n f g x P ≡ true =
+    (and_parts (may_take s r v (frame m k) P && is_maker s v) (pool_grants s v b n f g x P) (row_of s e P (λ d. refl) h)).1 in
+    let before : Clear t s P =
+    clear-third (is_lost s P) (has (is_unplaced s P) P) t s P (λ a lost unplaced. granted-third s v b n f g x P (frame v k) a pooled grants lost unplaced)
+    (none_lost s P pooled legal) (from_places s (is_unplaced s P) P legal (places-placed s P)) (ap (count (carries t)) (owed-first s e P (λ d. refl) h)) in
     clear-more t s e P h (count-one t (frame v k) (granted-made s v b n f g x P (frame v k) pooled grants)) before
 none_lost s (Reclaim r ∷ P) pooled h =
     let legal : is_legal s P ≡ true = (and_parts _ _ h).0 in
     let c = none_lost s P pooled legal in
     let t : FrameName → Bool = is_lost s (Reclaim r ∷ P) in
     let still : (a : FrameName) → is_lost s P a ≡ false → is_lost s P a ≡ false → t a ≡ false = λ a lost _. reclaimed-third s r P a legal lost in
-    let before : Clear t s P = clear-third (is_lost s P) (is_lost s P) t s P still c (record { queues = c.queues; lists = c.lists; rings = c.rings; files = c.files; roles = c.roles }) (ap (count (carries t)) (owed-first s (Reclaim r) P (λ d. refl) h)) in
+    let before : Clear t s P =
+    clear-third (is_lost s P) (is_lost s P) t s P still c (record { queues = c.queues; lists = c.lists; rings = c.rings; files = c.files; roles = c.roles })
+    (ap (count (carries t)) (owed-first s (Reclaim r) P (λ d. refl) h)) in
     clear-more t s (Reclaim r) P h refl before
 none_lost s (e ∷ P) pooled h = clear-more (is_lost s P) s e P h refl (none_lost s P pooled (and_parts _ _ h).0)
 
@@ -302,11 +334,16 @@ places-known s P pooled h b placed =
     ]
 
 -- a granted block has no place just before
-pub load-unplaced : (s : Setting) (P : Past) (r k b n : ℕ) (f : Bool) (g : ℕ) (x : Bool) → s.pooled ≡ true → is_legal s P ≡ true → first s P (Load r k b n f g x) ≡ true → refs s P b ≡ 0
-load-unplaced s P r k b n f g x pooled legal h = grants-unplaced s 0 b n f g x P pooled (places-known s P pooled legal) (and_parts (may_load s r k P) (pool_grants s 0 b n f g x P) h).1
+pub load-unplaced : (s : Setting) (P : Past) (r k b n : ℕ) (f : Bool) (g : ℕ) (x : Bool) → s.pooled ≡ true → is_legal s P ≡ true
+    → first s P (Load r k b n f g x) ≡ true → refs s P b ≡ 0
+load-unplaced s P r k b n f g x pooled legal h =
+    grants-unplaced s 0 b n f g x P pooled (places-known s P pooled legal) (and_parts (may_load s r k P) (pool_grants s 0 b n f g x P) h).1
 
-pub take-unplaced : (s : Setting) (P : Past) (r v m k b n : ℕ) (f : Bool) (g : ℕ) (x : Bool) → s.pooled ≡ true → is_legal s P ≡ true → first s P (TakeBlock f x r v m k b n g) ≡ true → refs s P b ≡ 0
-take-unplaced s P r v m k b n f g x pooled legal h = grants-unplaced s v b n f g x P pooled (places-known s P pooled legal) (and_parts (may_take s r v (frame m k) P && is_maker s v) (pool_grants s v b n f g x P) h).1
+pub take-unplaced : (s : Setting) (P : Past) (r v m k b n : ℕ) (f : Bool) (g : ℕ) (x : Bool) → s.pooled ≡ true → is_legal s P ≡ true
+    → first s P (TakeBlock f x r v m k b n g) ≡ true → refs s P b ≡ 0
+take-unplaced s P r v m k b n f g x pooled legal h =
+    grants-unplaced s v b n f g x P pooled (places-known s P pooled legal)
+    (and_parts (may_take s r v (frame m k) P && is_maker s v) (pool_grants s v b n f g x P) h).1
 
 -- in a run blocks are accounted
 pub runs-load : RunsLoadUnplaced

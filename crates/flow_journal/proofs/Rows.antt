@@ -76,7 +76,8 @@ acts-from s r P f =
 
 pub load-facts : (s : Setting) (r k : ℕ) (P : Past) → may_load s r k P ≡ true → LoadFacts s r k P
 load-facts s r k P h =
-    let wait = and_parts (acts s r P && not (has_loaded P) && eqb k (next_index P) && ltb k (length s.ids)) (not s.wait || list_all (has_room s P) (children s 0)) h in
+    let wait =
+    and_parts (acts s r P && not (has_loaded P) && eqb k (next_index P) && ltb k (length s.ids)) (not s.wait || list_all (has_room s P) (children s 0)) h in
     let some = and_parts (acts s r P && not (has_loaded P) && eqb k (next_index P)) (ltb k (length s.ids)) wait.0 in
     let turn = and_parts (acts s r P && not (has_loaded P)) (eqb k (next_index P)) some.0 in
     let idle = and_parts (acts s r P) (not (has_loaded P)) turn.0 in
@@ -90,7 +91,8 @@ load-facts s r k P h =
 
 pub load-from : (s : Setting) (r k : ℕ) (P : Past) → LoadFacts s r k P → may_load s r k P ≡ true
 load-from s r k P f =
-    and_from _ _ (and_from _ _ (and_from _ _ (and_from _ _ (acts-from s r P f.acts) (not_from_false _ f.unloaded)) (eq-eqb k (next_index P) f.in_turn)) (lt-ltb k (length s.ids) f.some))
+    and_from _ _ (and_from _ _ (and_from _ _ (and_from _ _ (acts-from s r P f.acts) (not_from_false _ f.unloaded)) (eq-eqb k (next_index P) f.in_turn))
+    (lt-ltb k (length s.ids) f.some))
     (else-no s.wait (list_all (has_room s P) (children s 0)) f.room)
 
 pub take-facts : (s : Setting) (r v : ℕ) (a : FrameName) (P : Past) → may_take s r v a P ≡ true → TakeFacts s r v a P
@@ -102,7 +104,8 @@ take-facts s r v a P h =
 
 pub take-from : (s : Setting) (r v : ℕ) (a : FrameName) (P : Past) → TakeFacts s r v a P → may_take s r v a P ≡ true
 take-from s r v a P f =
-    and_from _ _ (and_from _ _ (and_from _ _ (acts-from s r P f.acts) (not_from_false _ f.unsettled)) (first_of-next a (queued v P) f.front)) (lt-ltb _ _ f.room)
+    and_from _ _ (and_from _ _ (and_from _ _ (acts-from s r P f.acts) (not_from_false _ f.unsettled)) (first_of-next a (queued v P) f.front))
+    (lt-ltb _ _ f.room)
 
 -- the array that is taken is at the front
 pub taken_front : (s : Setting) (r v : ℕ) (a : FrameName) (P : Past) → may_take s r v a P ≡ true → queued v P ≡ a ∷ without a (queued v P)
@@ -126,7 +129,8 @@ settle-facts s v P h =
 
 pub settle-from : (s : Setting) (v : ℕ) (P : Past) → SettleFacts s v P → may_settle s v P ≡ true
 settle-from s v P f =
-    and_from _ _ (and_from _ _ (and_from _ _ (and_from _ _ (and_from _ _ (lt-ltb 0 v f.above) (le-leb v (length s.nodes) f.known)) (not_from_false _ f.unsettled)) f.input)
+    and_from _ _
+    (and_from _ _ (and_from _ _ (and_from _ _ (and_from _ _ (lt-ltb 0 v f.above) (le-leb v (length s.nodes) f.known)) (not_from_false _ f.unsettled)) f.input)
     (rw f.empty refl)) (eq-eqb (jobs v P) 0 f.idle)
 
 pub piece-facts : (s : Setting) (v : ℕ) (a : FrameName) (P : Past) → may_save s v a P ≡ true → PieceFacts s v a P
@@ -179,7 +183,8 @@ grant-facts s m b n f g x P h =
 
 pub grant-from : (s : Setting) (m b n : ℕ) (f : Bool) (g : ℕ) (x : Bool) (P : Past) → GrantFacts s m b n f g x P → pool_grants s m b n f g x P ≡ true
 grant-from s m b n f g x P t =
-    and_from _ _ (ap (is_granted b n f g) t.answer ∙ granted-from b n f g) (else-no x (s.pooled && not f) (λ e. and_from _ _ (t.accounted e) (not_from_false f (t.stale e))))
+    and_from _ _ (ap (is_granted b n f g) t.answer ∙ granted-from b n f g)
+    (else-no x (s.pooled && not f) (λ e. and_from _ _ (t.accounted e) (not_from_false f (t.stale e))))
 
 -- without a pool
 zeros : (s : Setting) (m : ℕ) (P : Past) → s.pooled ≡ false → grant s P (s.need m) ≡ Granted 0 0 false 0
@@ -229,7 +234,9 @@ loaded-from r k P l = ap (is_load_of k) l.5 ∙ eq-eqb k k refl
 
 -- a job of v with the result a, whoever has it
 abbrev IsResult : ℕ → FrameName → Option Entry → Type 0
-IsResult v a o = ((q : ℕ) × (o ≡ Some (Take q v a.maker a.index))) ⊎ ((a.maker ≡ v) × ((q m b n : ℕ) × (f : Bool) × (g : ℕ) × (x : Bool) × (o ≡ Some (TakeBlock f x q v m a.index b n g))))
+IsResult v a o =
+    ((q : ℕ) × (o ≡ Some (Take q v a.maker a.index)))
+    ⊎ ((a.maker ≡ v) × ((q m b n : ℕ) × (f : Bool) × (g : ℕ) × (x : Bool) × (o ≡ Some (TakeBlock f x q v m a.index b n g))))
 
 result_is : (v : ℕ) (a : FrameName) (o : Option Entry) → is_result_of v a o ≡ true → IsResult v a o
 result_is v a None h = absurd (false≢true h)
@@ -303,7 +310,8 @@ save-facts s r v m k g P h =
 
 pub save-from : (s : Setting) (r v m k g : ℕ) (P : Past) → SaveFacts s r v (frame m k) g P → first s P (Save r v m k g) ≡ true
 save-from s r v m k g P f =
-    and_from _ _ (and_from _ _ (and_from _ _ (le-leb r (last_role s) f.role) (none-free r P f.free)) (piece-from s v (frame m k) P f.piece)) (eq-eqb _ _ f.group)
+    and_from _ _ (and_from _ _ (and_from _ _ (le-leb r (last_role s) f.role) (none-free r P f.free)) (piece-from s v (frame m k) P f.piece))
+    (eq-eqb _ _ f.group)
 
 reclaim_row : (s : Setting) (P : Past) (r : ℕ) → (first s P (Reclaim r) ≡ true) ↔ ReclaimFacts s r P
 reclaim_row s P r = (
@@ -318,7 +326,8 @@ reclaim_row s P r = (
   (λ f. and_from _ _ (and_from _ _ (not_from_false _ (ap is_none f.holds.1)) (not_from_false _ (ne_eqb r (last_role s) f.worker))) (not_from_false _ f.once)),
 )
 
-taking_row : (s : Setting) (r v m k : ℕ) (P : Past) (b : Bool) (X : Type 0) → ((b ≡ true) ↔ X) → ((may_take s r v (frame m k) P && is_maker s v && b) ≡ true) ↔ (TakeFacts s r v (frame m k) P × (is_maker s v ≡ true) × X)
+taking_row : (s : Setting) (r v m k : ℕ) (P : Past) (b : Bool) (X : Type 0) → ((b ≡ true) ↔ X)
+    → ((may_take s r v (frame m k) P && is_maker s v && b) ≡ true) ↔ (TakeFacts s r v (frame m k) P × (is_maker s v ≡ true) × X)
 taking_row s r v m k P b X e = (
   (λ h.
       let p = and_parts (may_take s r v (frame m k) P && is_maker s v) b h in

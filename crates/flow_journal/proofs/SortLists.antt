@@ -15,7 +15,8 @@ map-filter : {X Y : Type 0} (f : X → Y) (p : X → Bool) (q : Y → Bool) → 
 map-filter f p q same [] = refl
 map-filter f p q same (x ∷ xs) = by (p x) (q (f x)) (same x) (map-filter f p q same xs)
   where
-    by : (a b : Bool) → a ≡ b → map f (filter p xs) ≡ filter q (map f xs) → map f (cond a (x ∷ filter p xs) (filter p xs)) ≡ cond b (f x ∷ filter q (map f xs)) (filter q (map f xs))
+    by : (a b : Bool) → a ≡ b → map f (filter p xs) ≡ filter q (map f xs)
+        → map f (cond a (x ∷ filter p xs) (filter p xs)) ≡ cond b (f x ∷ filter q (map f xs)) (filter q (map f xs))
     by true true e rest = ap (λ ys. f x ∷ ys) rest
     by false false e rest = rest
     by true false e rest = absurd (cc)
@@ -30,7 +31,8 @@ placed-listed s w ws =
     let high = filter (λ (v : Waiting). not (int_le (id_of s v) (id_of s w))) ws in
     map-append (as_listed s) low (w ∷ high)
     ∙ ap (λ front. front ++ as_listed s w ∷ map (as_listed s) high) (map-filter (as_listed s) _ (λ v. int_le v.id (id_of s w)) (λ v. refl) ws)
-    ∙ ap (λ back. filter (λ v. int_le v.id (id_of s w)) (map (as_listed s) ws) ++ as_listed s w ∷ back) (map-filter (as_listed s) _ (λ v. int_lt (id_of s w) v.id) (λ v. not_at_most (id_of s v) (id_of s w)) ws)
+    ∙ ap (λ back. filter (λ v. int_le v.id (id_of s w)) (map (as_listed s) ws) ++ as_listed s w ∷ back)
+    (map-filter (as_listed s) _ (λ v. int_lt (id_of s w) v.id) (λ v. not_at_most (id_of s v) (id_of s w)) ws)
 
 pub sort_list_laws : SortListLaws
 sort_list_laws = record {

@@ -64,7 +64,8 @@ kind_in-spelling (Reclaim r) = refl
 is_digit : (d : ℕ) → d < 10 → is_ascii_digit (48 + d) ≡ true
 is_digit d h = and_from _ _ (le-leb 48 (48 + d) (omega arith)) (le-leb (48 + d) 57 (omega arith))
 
-one_digit : (o : Option ℕ) (d m : ℕ) (rest : List ℕ) → d < 10 → min (unwrap_or o 0 * 10 + d) (2 ^ 64 - 1) ≡ m → numbers_after o ((48 + d) ∷ rest) ≡ numbers_after (Some m) rest
+one_digit : (o : Option ℕ) (d m : ℕ) (rest : List ℕ) → d < 10 → min (unwrap_or o 0 * 10 + d) (2 ^ 64 - 1) ≡ m
+    → numbers_after o ((48 + d) ∷ rest) ≡ numbers_after (Some m) rest
 one_digit o d m rest h e =
     let same : with_digit o (48 + d) ≡ m = ap (λ x. min (unwrap_or o 0 * 10 + x) (2 ^ 64 - 1)) (let back : 48 + d - 48 ≡ d = omega arith in back) ∙ e in
     rw (is_digit d h) (ap (λ x. numbers_after (Some x) rest) same)
@@ -132,7 +133,8 @@ no_number Ring = refl
 no_number Now = refl
 
 pub numbers_in-spelling : (e : Entry) → Fits e → numbers_in (spelling e) ≡ numbers_of e
-numbers_in-spelling (Load r k b n f g x) p = small_then r _ _ p.0 (small_then k _ _ p.1 (small_then b _ _ p.2 (small_then n _ _ p.3 (flag_then f _ _ (small_then g _ _ p.4 (flag_last x))))))
+numbers_in-spelling (Load r k b n f g x) p =
+    small_then r _ _ p.0 (small_then k _ _ p.1 (small_then b _ _ p.2 (small_then n _ _ p.3 (flag_then f _ _ (small_then g _ _ p.4 (flag_last x))))))
 numbers_in-spelling (LoadRefused r k n h) p = small_then r _ _ p.0 (small_then k _ _ p.1 (small_then n _ _ p.2 (wide_last h p.3)))
 numbers_in-spelling (Tick t) p = wide_last t p
 numbers_in-spelling (Issue r k) p = small_then r _ _ p.0 (small_last k p.1)
@@ -140,8 +142,11 @@ numbers_in-spelling (Emit v m k why) p = small_then v _ _ p.0 (small_then m _ _ 
 numbers_in-spelling (Accept v m k) p = small_then v _ _ p.0 (small_then m _ _ p.1 (small_last k p.2))
 numbers_in-spelling (Full v m k) p = small_then v _ _ p.0 (small_then m _ _ p.1 (small_last k p.2))
 numbers_in-spelling (Take r v m k) p = small_then r _ _ p.0 (small_then v _ _ p.1 (small_then m _ _ p.2 (small_last k p.3)))
-numbers_in-spelling (TakeBlock f x r v m k b n g) p = small_then r _ _ p.0 (small_then v _ _ p.1 (small_then m _ _ p.2 (small_then k _ _ p.3 (small_then b _ _ p.4 (small_then n _ _ p.5 (flag_then f _ _ (small_then g _ _ p.6 (flag_last x))))))))
-numbers_in-spelling (PoolDrop r v m k n h) p = small_then r _ _ p.0 (small_then v _ _ p.1 (small_then m _ _ p.2 (small_then k _ _ p.3 (small_then n _ _ p.4 (wide_last h p.5)))))
+numbers_in-spelling (TakeBlock f x r v m k b n g) p =
+    small_then r _ _ p.0 (small_then v _ _ p.1
+    (small_then m _ _ p.2 (small_then k _ _ p.3 (small_then b _ _ p.4 (small_then n _ _ p.5 (flag_then f _ _ (small_then g _ _ p.6 (flag_last x))))))))
+numbers_in-spelling (PoolDrop r v m k n h) p =
+    small_then r _ _ p.0 (small_then v _ _ p.1 (small_then m _ _ p.2 (small_then k _ _ p.3 (small_then n _ _ p.4 (wide_last h p.5)))))
 numbers_in-spelling (Put r v m k f) p = small_then r _ _ p.0 (small_then v _ _ p.1 (small_then m _ _ p.2 (small_then k _ _ p.3 (flag_last f))))
 numbers_in-spelling (SortDrop v m k) p = small_then v _ _ p.0 (small_then m _ _ p.1 (small_last k p.2))
 numbers_in-spelling (Settle r v) p = small_then r _ _ p.0 (small_last v p.1)
@@ -170,7 +175,8 @@ entry_of-numbers (Emit v m k w) why p same = rw (is_small v p.0, is_small m p.1,
 entry_of-numbers (Accept v m k) why p same = rw (is_small v p.0, is_small m p.1, is_small k p.2) refl
 entry_of-numbers (Full v m k) why p same = rw (is_small v p.0, is_small m p.1, is_small k p.2) refl
 entry_of-numbers (Take r v m k) why p same = rw (is_small r p.0, is_small v p.1, is_small m p.2, is_small k p.3) refl
-entry_of-numbers (TakeBlock f x r v m k b n g) why p same = rw (is_small r p.0, is_small v p.1, is_small m p.2, is_small k p.3, is_small b p.4, is_small n p.5, is_bit f, is_small g p.6, is_bit x) refl
+entry_of-numbers (TakeBlock f x r v m k b n g) why p same =
+    rw (is_small r p.0, is_small v p.1, is_small m p.2, is_small k p.3, is_small b p.4, is_small n p.5, is_bit f, is_small g p.6, is_bit x) refl
 entry_of-numbers (PoolDrop r v m k n h) why p same = rw (is_small r p.0, is_small v p.1, is_small m p.2, is_small k p.3, is_small n p.4) refl
 entry_of-numbers (Put r v m k f) why p same = rw (is_small r p.0, is_small v p.1, is_small m p.2, is_small k p.3, is_bit f) refl
 entry_of-numbers (SortDrop v m k) why p same = rw (is_small v p.0, is_small m p.1, is_small k p.2) refl
@@ -206,7 +212,9 @@ abbrev emit_front : (v m k : ℕ) → List ℕ
 emit_front v m k = 101 ∷ 109 ∷ 105 ∷ 116 ∷ 32 ∷ (decimal v ++ 32 ∷ (decimal m ++ 32 ∷ decimal k))
 
 emit-parts : (v m k : ℕ) (why : Why) → spelling (Emit v m k why) ≡ emit_front v m k ++ 32 ∷ why_word why
-emit-parts v m k why = ap (λ xs. 101 ∷ 109 ∷ 105 ∷ 116 ∷ 32 ∷ xs) (sym (append_assoc (decimal v) (32 ∷ (decimal m ++ 32 ∷ decimal k)) (32 ∷ why_word why) ∙ ap (λ xs. decimal v ++ 32 ∷ xs) (append_assoc (decimal m) (32 ∷ decimal k) (32 ∷ why_word why))))
+emit-parts v m k why =
+    ap (λ xs. 101 ∷ 109 ∷ 105 ∷ 116 ∷ 32 ∷ xs) (sym (append_assoc (decimal v) (32 ∷ (decimal m ++ 32 ∷ decimal k)) (32 ∷ why_word why)
+    ∙ ap (λ xs. decimal v ++ 32 ∷ xs) (append_assoc (decimal m) (32 ∷ decimal k) (32 ∷ why_word why))))
 
 why_in-Emit : (v m k : ℕ) (why : Why) → why_in (spelling (Emit v m k why)) ≡ why
 why_in-Emit v m k why =
@@ -264,7 +272,8 @@ word_plain Ring = refl
 word_plain Now = refl
 
 pub no_newline-spelling : (e : Entry) → Fits e → has_no_newline (spelling e) ≡ true
-no_newline-spelling (Load r k b n f g x) p = small_plain r _ p.0 (small_plain k _ p.1 (small_plain b _ p.2 (small_plain n _ p.3 (flag_plain f _ (small_plain g _ p.4 (flag_end x))))))
+no_newline-spelling (Load r k b n f g x) p =
+    small_plain r _ p.0 (small_plain k _ p.1 (small_plain b _ p.2 (small_plain n _ p.3 (flag_plain f _ (small_plain g _ p.4 (flag_end x))))))
 no_newline-spelling (LoadRefused r k n h) p = small_plain r _ p.0 (small_plain k _ p.1 (small_plain n _ p.2 (no_newline-decimal h p.3)))
 no_newline-spelling (Tick t) p = no_newline-decimal t p
 no_newline-spelling (Issue r k) p = small_plain r _ p.0 (small_end k p.1)
@@ -272,8 +281,11 @@ no_newline-spelling (Emit v m k why) p = small_plain v _ p.0 (small_plain m _ p.
 no_newline-spelling (Accept v m k) p = small_plain v _ p.0 (small_plain m _ p.1 (small_end k p.2))
 no_newline-spelling (Full v m k) p = small_plain v _ p.0 (small_plain m _ p.1 (small_end k p.2))
 no_newline-spelling (Take r v m k) p = small_plain r _ p.0 (small_plain v _ p.1 (small_plain m _ p.2 (small_end k p.3)))
-no_newline-spelling (TakeBlock f x r v m k b n g) p = small_plain r _ p.0 (small_plain v _ p.1 (small_plain m _ p.2 (small_plain k _ p.3 (small_plain b _ p.4 (small_plain n _ p.5 (flag_plain f _ (small_plain g _ p.6 (flag_end x))))))))
-no_newline-spelling (PoolDrop r v m k n h) p = small_plain r _ p.0 (small_plain v _ p.1 (small_plain m _ p.2 (small_plain k _ p.3 (small_plain n _ p.4 (no_newline-decimal h p.5)))))
+no_newline-spelling (TakeBlock f x r v m k b n g) p =
+    small_plain r _ p.0 (small_plain v _ p.1
+    (small_plain m _ p.2 (small_plain k _ p.3 (small_plain b _ p.4 (small_plain n _ p.5 (flag_plain f _ (small_plain g _ p.6 (flag_end x))))))))
+no_newline-spelling (PoolDrop r v m k n h) p =
+    small_plain r _ p.0 (small_plain v _ p.1 (small_plain m _ p.2 (small_plain k _ p.3 (small_plain n _ p.4 (no_newline-decimal h p.5)))))
 no_newline-spelling (Put r v m k f) p = small_plain r _ p.0 (small_plain v _ p.1 (small_plain m _ p.2 (small_plain k _ p.3 (flag_end f))))
 no_newline-spelling (SortDrop v m k) p = small_plain v _ p.0 (small_plain m _ p.1 (small_end k p.2))
 no_newline-spelling (Settle r v) p = small_plain r _ p.0 (small_end v p.1)
@@ -284,11 +296,14 @@ no_newline-spelling (Leave r) p = small_end r p
 no_newline-spelling (Reclaim r) p = small_end r p
 
 -- where a line is the spelling of an entry, what is read of it is spelled as the line
-pub read-again : (text : List ℕ) (kind : Kind) (e d : Entry) → kind_in text ≡ Some kind → d ≡ entry_of kind (numbers_in text) (why_in text) → Fits e → text ≡ spelling e → spelling d ≡ text
+pub read-again : (text : List ℕ) (kind : Kind) (e d : Entry) → kind_in text ≡ Some kind → d ≡ entry_of kind (numbers_in text) (why_in text) → Fits e
+    → text ≡ spelling e → spelling d ≡ text
 read-again text kind e d k made fits same =
     let is_kind : Some (kind_of e) ≡ Some kind = sym (ap kind_in same ∙ kind_in-spelling e) ∙ k in
     let one : kind_of e ≡ kind = cc in
-    let again : entry_of kind (numbers_in text) (why_in text) ≡ e = subst (λ (q : Kind). entry_of q (numbers_in text) (why_in text) ≡ e) one (subst (λ (t : List ℕ). entry_of (kind_of e) (numbers_in t) (why_in t) ≡ e) (sym same) (reads-spelling e fits)) in
+    let again : entry_of kind (numbers_in text) (why_in text) ≡ e =
+    subst (λ (q : Kind). entry_of q (numbers_in text) (why_in text) ≡ e) one
+    (subst (λ (t : List ℕ). entry_of (kind_of e) (numbers_in t) (why_in t) ≡ e) (sym same) (reads-spelling e fits)) in
     ap spelling (made ∙ again) ∙ sym same
 
 pointwise_self : (xs : List ℕ) → pointwise eqb xs xs ≡ true

@@ -10,9 +10,12 @@ pub text_of-more : (es : List Entry) (e : Entry) → text_of (es ++ e ∷ []) �
 text_of-more es e = flat_map-append line es (e ∷ []) ∙ ap (λ (xs : List ℕ). text_of es ++ xs) (append-nil (line e))
 
 -- the rest of a text begins with one more line
-pub whole-more : (text rest after : List ℕ) (es : List Entry) (e : Entry) → text ≡ text_of es ++ rest → rest ≡ line e ++ after → text ≡ text_of (es ++ e ∷ []) ++ after
+pub whole-more : (text rest after : List ℕ) (es : List Entry) (e : Entry) → text ≡ text_of es ++ rest → rest ≡ line e ++ after
+    → text ≡ text_of (es ++ e ∷ []) ++ after
 whole-more text rest after es e whole first =
-    whole ∙ (ap (λ (xs : List ℕ). text_of es ++ xs) first ∙ (sym (append_assoc (text_of es) (line e) after) ∙ ap (λ (xs : List ℕ). xs ++ after) (sym (text_of-more es e))))
+    whole
+    ∙ (ap (λ (xs : List ℕ). text_of es ++ xs) first
+    ∙ (sym (append_assoc (text_of es) (line e) after) ∙ ap (λ (xs : List ℕ). xs ++ after) (sym (text_of-more es e))))
 
 All-one : (P : Entry → Type 0) (e : Entry) → P e → All P (e ∷ [])
 All-one P e h zero d lt = h

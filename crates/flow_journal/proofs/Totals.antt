@@ -45,7 +45,8 @@ sum-but f g w [] same none = refl
 sum-but f g w (u ∷ us) same none =
     elim (cases_Bool (eqb u w)) [
       | inl here ↦ absurd (omega (arith, none, count-cons (is_number w) u us, ap bit here))
-      | inr away ↦ omega (arith, same u (λ e. true≢false (sym (eq-eqb u w e) ∙ away)), sum-but f g w us same (omega (arith, none, count-cons (is_number w) u us)))
+      | inr away ↦
+          omega (arith, same u (λ e. true≢false (sym (eq-eqb u w e) ∙ away)), sum-but f g w us same (omega (arith, none, count-cons (is_number w) u us)))
     ]
 
 sum-one : (f g : ℕ → ℕ) (w : ℕ) (us : List ℕ) → ((v : ℕ) → v ≢ w → f v ≡ g v) → count (is_number w) us ≡ 1 → sum_of f us + g w ≡ sum_of g us + f w
@@ -56,7 +57,9 @@ sum-one f g w (u ∷ us) same one =
           let is : u ≡ w = eqb-true u w here in
           let rest : sum_of f us ≡ sum_of g us = sum-but f g w us same (omega (arith, one, count-cons (is_number w) u us, ap bit here)) in
           omega (arith, rest, ap f is, ap g is)
-      | inr away ↦ omega (arith, same u (λ e. true≢false (sym (eq-eqb u w e) ∙ away)), sum-one f g w us same (omega (arith, one, count-cons (is_number w) u us, ap bit away)))
+      | inr away ↦
+          omega (arith, same u (λ e. true≢false (sym (eq-eqb u w e) ∙ away)),
+          sum-one f g w us same (omega (arith, one, count-cons (is_number w) u us, ap bit away)))
     ]
 
 -- THE TOTAL
@@ -87,19 +90,24 @@ frame-count q P a = one_block q (flat_map (granted_for a) (standing P))
 
 pub blocks-count : (q : ℕ → Bool) (P : Past) (xs : List FrameName) → count q (flat_map (block_of P) xs) ≡ count (has q P) xs
 blocks-count q P [] = refl
-blocks-count q P (x ∷ xs) = omega (arith, count-append q (block_of P x) (flat_map (block_of P) xs), count-cons (has q P) x xs, frame-count q P x, blocks-count q P xs)
+blocks-count q P (x ∷ xs) =
+    omega (arith, count-append q (block_of P x) (flat_map (block_of P) xs), count-cons (has q P) x xs, frame-count q P x, blocks-count q P xs)
 
 pub hand-count : (s : Setting) (q : ℕ → Bool) (P : Past) (e : Entry) → is_legal s P ≡ true → Stands P e → count q (blocks_in_hand P e) ≡ held_by (has q P) e
-hand-count s q P (Load r k b n f g x) h stands = omega (arith, count-cons q b [], ap bit (any-one q b (block_of P (frame 0 k)) (load-block s P r k b n f g x h (stands r (eq-eqb r r refl)))))
+hand-count s q P (Load r k b n f g x) h stands =
+    omega (arith, count-cons q b [], ap bit (any-one q b (block_of P (frame 0 k)) (load-block s P r k b n f g x h (stands r (eq-eqb r r refl)))))
 hand-count s q P (Take r v m k) h stands = frame-count q P (frame m k)
 hand-count s q P (TakeBlock f x r v m k b n g) h stands =
-    omega (arith, count-cons q b (block_of P (frame m k)), frame-count q P (frame m k), ap bit (any-one q b (block_of P (frame v k)) (take-block s P r v m k b n f g x h (stands r (eq-eqb r r refl)))))
+    omega (arith, count-cons q b (block_of P (frame m k)), frame-count q P (frame m k),
+    ap bit (any-one q b (block_of P (frame v k)) (take-block s P r v m k b n f g x h (stands r (eq-eqb r r refl)))))
 hand-count s q P (Save r v m k g) h stands = frame-count q P (frame m k)
 hand-count s q P _ h stands = refl
 
-hands-count : (s : Setting) (q : ℕ → Bool) (P : Past) (hs : List Entry) → is_legal s P ≡ true → AllStand P hs → count q (flat_map (blocks_in_hand P) hs) ≡ sum_of (held_by (has q P)) hs
+hands-count : (s : Setting) (q : ℕ → Bool) (P : Past) (hs : List Entry) → is_legal s P ≡ true → AllStand P hs
+    → count q (flat_map (blocks_in_hand P) hs) ≡ sum_of (held_by (has q P)) hs
 hands-count s q P [] h stand = refl
-hands-count s q P (e ∷ hs) h stand = omega (arith, count-append q (blocks_in_hand P e) (flat_map (blocks_in_hand P) hs), hand-count s q P e h stand.0, hands-count s q P hs h stand.1)
+hands-count s q P (e ∷ hs) h stand =
+    omega (arith, count-append q (blocks_in_hand P e) (flat_map (blocks_in_hand P) hs), hand-count s q P e h stand.0, hands-count s q P hs h stand.1)
 
 -- the count of a block is the total of the arrays that have it
 pub refs-total : (s : Setting) (b : ℕ) (P : Past) → is_legal s P ≡ true → refs s P b ≡ total (has (is_number b) P) s P
@@ -113,7 +121,9 @@ refs-total s b P h =
 -- ONE MORE ENTRY
 
 -- where only one node's arrays differ
-pub nodes-but : (t : FrameName → Bool) (s : Setting) (e : Entry) (P : Past) (w : ℕ) → is_legal s (e ∷ P) ≡ true → ((v : ℕ) → v ≢ w → at_node t s (e ∷ P) v ≡ at_node t s P v) → sum_of (at_node t s (e ∷ P)) (node_numbers s) + at_node t s P w ≡ sum_of (at_node t s P) (node_numbers s) + at_node t s (e ∷ P) w
+pub nodes-but : (t : FrameName → Bool) (s : Setting) (e : Entry) (P : Past) (w : ℕ) → is_legal s (e ∷ P) ≡ true
+    → ((v : ℕ) → v ≢ w → at_node t s (e ∷ P) v ≡ at_node t s P v)
+    → sum_of (at_node t s (e ∷ P)) (node_numbers s) + at_node t s P w ≡ sum_of (at_node t s P) (node_numbers s) + at_node t s (e ∷ P) w
 nodes-but t s e P w h same =
     let now_at : ℕ → ℕ = at_node t s (e ∷ P) in
     let was_at : ℕ → ℕ = at_node t s P in
@@ -124,7 +134,8 @@ nodes-but t s e P w h same =
           let legal : is_legal s P ≡ true = (and_parts _ _ h).0 in
           let n = at_none t s P w legal away in
           let m = at_none t s (e ∷ P) w h away in
-          omega (arith, sum-but now_at was_at w (node_numbers s) same none, arrays-count t s P w, arrays-count t s (e ∷ P) w, n.queue, n.list, n.kept, n.file, m.queue, m.list, m.kept, m.file)
+          omega (arith, sum-but now_at was_at w (node_numbers s) same none, arrays-count t s P w, arrays-count t s (e ∷ P) w, n.queue, n.list, n.kept,
+          n.file, m.queue, m.list, m.kept, m.file)
     ]
   where
     some_counted : (p : ℕ → Bool) (us : List ℕ) → list_any p us ≡ true → 1 ≤ count p us
@@ -136,7 +147,8 @@ nodes-but t s e P w h same =
         ]
 
 -- where no node's arrays differ
-pub nodes-same : (t : FrameName → Bool) (s : Setting) (P Q : Past) → ((v : ℕ) → at_node t s Q v ≡ at_node t s P v) → sum_of (at_node t s Q) (node_numbers s) ≡ sum_of (at_node t s P) (node_numbers s)
+pub nodes-same : (t : FrameName → Bool) (s : Setting) (P Q : Past) → ((v : ℕ) → at_node t s Q v ≡ at_node t s P v)
+    → sum_of (at_node t s Q) (node_numbers s) ≡ sum_of (at_node t s P) (node_numbers s)
 nodes-same t s P Q same = sums_same (node_numbers s)
   where
     sums_same : (us : List ℕ) → sum_of (at_node t s Q) us ≡ sum_of (at_node t s P) us
@@ -144,7 +156,8 @@ nodes-same t s P Q same = sums_same (node_numbers s)
     sums_same (u ∷ us) = omega (arith, same u, sums_same us)
 
 -- where two tests differ at one frame alone, and no place has it
-pub tests-same : (t u : FrameName → Bool) (a : FrameName) (s : Setting) (P : Past) → ((x : FrameName) → is_frame a x ≡ false → t x ≡ u x) → Clear (is_frame a) s P → total t s P ≡ total u s P
+pub tests-same : (t u : FrameName → Bool) (a : FrameName) (s : Setting) (P : Past) → ((x : FrameName) → is_frame a x ≡ false → t x ≡ u x)
+    → Clear (is_frame a) s P → total t s P ≡ total u s P
 tests-same t u a s P agree c =
     let nodes : sum_of (at_node t s P) (node_numbers s) ≡ sum_of (at_node u s P) (node_numbers s) = sums_agree (node_numbers s) in
     omega (arith, roles_agree (hands P) c.roles, nodes)

@@ -99,7 +99,8 @@ head-clear p d rest ds is none =
     let split : count p ds ≡ bit (p d) + count p rest = ap (count p) is ∙ count-cons p d rest in
     bit-none (p d) (omega (arith, split, none))
 
-emit-clear : (u t : FrameName → Bool) (s : Setting) (v m k : ℕ) (why : Why) (P : Past) → is_legal s (Emit v m k why ∷ P) ≡ true → ClearBy u t s P → t (frame m k) ≡ false
+emit-clear : (u t : FrameName → Bool) (s : Setting) (v m k : ℕ) (why : Why) (P : Past) → is_legal s (Emit v m k why ∷ P) ≡ true
+    → ClearBy u t s P → t (frame m k) ≡ false
 emit-clear u t s v m k why P h c =
     let a = owed-answered s (Emit v m k why) P refl h in
     let is = answers-by_Emit s P v m k why a.head a.answer in
@@ -112,16 +113,21 @@ accept-clear u t s v m k P h c =
 
 take-clear : (u t : FrameName → Bool) (s : Setting) (r v m k : ℕ) (P : Past) → may_take s r v (frame m k) P ≡ true → ClearBy u t s P → t (frame m k) ≡ false
 take-clear u t s r v m k P may c =
-    let split : count t (queued v P) ≡ bit (t (frame m k)) + count t (without (frame m k) (queued v P)) = ap (count t) (taken_front s r v (frame m k) P may) ∙ count-cons t (frame m k) (without (frame m k) (queued v P)) in
+    let split : count t (queued v P) ≡ bit (t (frame m k)) + count t (without (frame m k) (queued v P)) =
+    ap (count t) (taken_front s r v (frame m k) P may) ∙ count-cons t (frame m k) (without (frame m k) (queued v P)) in
     bit-none (t (frame m k)) (omega (arith, split, c.queues v))
 
 pub may-Take : (s : Setting) (r v m k : ℕ) (P : Past) → is_legal s (Take r v m k ∷ P) ≡ true → may_take s r v (frame m k) P ≡ true
 may-Take s r v m k P h = (and_parts _ _ (row_of s (Take r v m k) P (λ d. refl) h)).0
 
-pub may-TakeBlock : (s : Setting) (r v m k b n : ℕ) (f : Bool) (g : ℕ) (x : Bool) (P : Past) → is_legal s (TakeBlock f x r v m k b n g ∷ P) ≡ true → may_take s r v (frame m k) P ≡ true
-may-TakeBlock s r v m k b n f g x P h = (and_parts _ _ (and_parts (may_take s r v (frame m k) P && is_maker s v) (pool_grants s v b n f g x P) (row_of s (TakeBlock f x r v m k b n g) P (λ d. refl) h)).0).0
+pub may-TakeBlock : (s : Setting) (r v m k b n : ℕ) (f : Bool) (g : ℕ) (x : Bool) (P : Past) → is_legal s (TakeBlock f x r v m k b n g ∷ P) ≡ true
+    → may_take s r v (frame m k) P ≡ true
+may-TakeBlock s r v m k b n f g x P h =
+    (and_parts _ _
+    (and_parts (may_take s r v (frame m k) P && is_maker s v) (pool_grants s v b n f g x P) (row_of s (TakeBlock f x r v m k b n g) P (λ d. refl) h)).0).0
 
-result-clear : (t : FrameName → Bool) (v : ℕ) (a : FrameName) (o : Option Entry) → is_result_of v a o ≡ true → ((e : Entry) → o ≡ Some e → holds t e ≡ false) → t a ≡ false
+result-clear : (t : FrameName → Bool) (v : ℕ) (a : FrameName) (o : Option Entry) → is_result_of v a o ≡ true
+    → ((e : Entry) → o ≡ Some e → holds t e ≡ false) → t a ≡ false
 result-clear t v a None h clear = absurd (false≢true h)
 result-clear t v a (Some (Take r w m k)) h clear =
     let p = and_parts (eqb w v) (same a (frame m k)) h in
@@ -132,9 +138,11 @@ result-clear t v a (Some (TakeBlock f x r w m k b n g)) h clear =
     ap t (same-true a (frame v k) p.1) ∙ (ap (λ (u : ℕ). t (frame u k)) (sym (eqb-true w v p.0)) ∙ q.0)
 result-clear t v a (Some _) h clear = absurd (false≢true h)
 
-put-clear : (t : FrameName → Bool) (s : Setting) (r v m k : ℕ) (f : Bool) (P : Past) → is_legal s (Put r v m k f ∷ P) ≡ true → Clear t s P → t (frame m k) ≡ false
+put-clear : (t : FrameName → Bool) (s : Setting) (r v m k : ℕ) (f : Bool) (P : Past) → is_legal s (Put r v m k f ∷ P) ≡ true
+    → Clear t s P → t (frame m k) ≡ false
 put-clear t s r v m k f P h c =
-    let row : is_result_of v (frame m k) (hand r P) ≡ true = (and_parts (is_result_of v (frame m k) (hand r P)) (both f (fires_at s v k (node s v).work)) (row_of s (Put r v m k f) P (λ d. refl) h)).0 in
+    let row : is_result_of v (frame m k) (hand r P) ≡ true =
+    (and_parts (is_result_of v (frame m k) (hand r P)) (both f (fires_at s v k (node s v).work)) (row_of s (Put r v m k f) P (λ d. refl) h)).0 in
     result-clear t v (frame m k) (hand r P) row (λ e held. hand-clear (holds t) r e P held c.roles)
 
 load-clear : (t : FrameName → Bool) (k : ℕ) (o : Option Entry) → is_load_of k o ≡ true → ((e : Entry) → o ≡ Some e → holds t e ≡ false) → t (frame 0 k) ≡ false
@@ -174,18 +182,22 @@ job-clear u t v (Some (TakeBlock f x r w m k b n g)) clear =
     omega (arith, comes-le t v w (frame m k) [], none-bit (t (frame m k)) q.1)
 job-clear u t v (Some _) clear = refl
 
-queues-more : (u t : FrameName → Bool) (s : Setting) (v : ℕ) (e : Entry) (P : Past) → is_legal s (e ∷ P) ≡ true → ClearBy u t s P → count t (queued v (e ∷ P)) ≡ 0
-queues-more u t s v (Accept w m k) P h c = omega (arith, comes-le t v w (frame m k) (queued v P), c.queues v, none-bit (t (frame m k)) (accept-clear u t s w m k P h c))
+queues-more : (u t : FrameName → Bool) (s : Setting) (v : ℕ) (e : Entry) (P : Past) → is_legal s (e ∷ P) ≡ true
+    → ClearBy u t s P → count t (queued v (e ∷ P)) ≡ 0
+queues-more u t s v (Accept w m k) P h c =
+    omega (arith, comes-le t v w (frame m k) (queued v P), c.queues v, none-bit (t (frame m k)) (accept-clear u t s w m k P h c))
 queues-more u t s v (Take r w m k) P h c = omega (arith, goes-le t v w (frame m k) (queued v P), c.queues v)
 queues-more u t s v (TakeBlock f x r w m k b n g) P h c = omega (arith, goes-le t v w (frame m k) (queued v P), c.queues v)
 queues-more u t s v (PoolDrop r w m k n z) P h c = omega (arith, goes-le t v w (frame m k) (queued v P), c.queues v)
 queues-more u t s v (Reclaim r) P h c =
-    omega (arith, count-append t (job_array v (hand r P)) (queued v P), job-clear u t v (hand r P) (λ e held. hand-clear (holds_by u t) r e P held c.roles), c.queues v)
+    omega (arith, count-append t (job_array v (hand r P)) (queued v P),
+    job-clear u t v (hand r P) (λ e held. hand-clear (holds_by u t) r e P held c.roles), c.queues v)
 queues-more u t s v _ P h c = c.queues v
 
 -- SORT LISTS
 
-lists-put : (t : FrameName → Bool) (v w : ℕ) (b : Bool) (x : Waiting) (ws : List Waiting) → t x.array ≡ false → count (waits t) ws ≡ 0 → count (waits t) (cond b (comes_at v w x ws) []) ≡ 0
+lists-put : (t : FrameName → Bool) (v w : ℕ) (b : Bool) (x : Waiting) (ws : List Waiting) → t x.array ≡ false → count (waits t) ws ≡ 0
+    → count (waits t) (cond b (comes_at v w x ws) []) ≡ 0
 lists-put t v w true x ws none h =
     elim (eqb w v) as (λ b. count (waits t) (cond b (ws ++ x ∷ []) ws) ≡ 0) [
       | true ↦ omega (arith, count-append (waits t) ws (x ∷ []), count-cons (waits t) x [], none-bit (t x.array) none, h)
@@ -197,21 +209,26 @@ lists-out : (t : FrameName → Bool) (b : Bool) (a : FrameName) (ws : List Waiti
 lists-out t true a ws h = omega (arith, removed-le a t ws, h)
 lists-out t false a ws h = h
 
-lists-more : (u t : FrameName → Bool) (s : Setting) (v : ℕ) (e : Entry) (P : Past) → is_legal s (e ∷ P) ≡ true → count t (issued_by e) ≡ 0 → ClearBy u t s P → count (waits t) (waiting s v (e ∷ P)) ≡ 0
-lists-more u t s v (Put r w m k f) P h i c = lists-put t v w (is_sorted s v) (record { array = frame m k; tick = now P }) (waiting s v P) (made-clear t (frame m k) i) (c.lists v)
+lists-more : (u t : FrameName → Bool) (s : Setting) (v : ℕ) (e : Entry) (P : Past) → is_legal s (e ∷ P) ≡ true → count t (issued_by e) ≡ 0 → ClearBy u t s P
+    → count (waits t) (waiting s v (e ∷ P)) ≡ 0
+lists-more u t s v (Put r w m k f) P h i c =
+    lists-put t v w (is_sorted s v) (record { array = frame m k; tick = now P }) (waiting s v P) (made-clear t (frame m k) i) (c.lists v)
 lists-more u t s v (Emit w m k why) P h i c = lists-out t (eqb w v) (frame m k) (waiting s v P) (c.lists v)
 lists-more u t s v (SortDrop w m k) P h i c = lists-out t (eqb w v) (frame m k) (waiting s v P) (c.lists v)
 lists-more u t s v _ P h i c = c.lists v
 
 -- RINGS
 
-ring_of-more : (t : FrameName → Bool) (w : Work) (flags : List Bool) (f : Bool) (xs : List FrameName) (a : FrameName) → length flags ≡ length xs → count t (ring_of w (flags ++ f ∷ []) (xs ++ a ∷ [])) ≤ bit (t a) + count t (ring_of w flags xs)
+ring_of-more : (t : FrameName → Bool) (w : Work) (flags : List Bool) (f : Bool) (xs : List FrameName) (a : FrameName) → length flags ≡ length xs
+    → count t (ring_of w (flags ++ f ∷ []) (xs ++ a ∷ [])) ≤ bit (t a) + count t (ring_of w flags xs)
 ring_of-more t Makes flags f xs a long = omega arith
 ring_of-more t (Passes d) flags f xs a long = omega arith
 ring_of-more t (Saves whole n) flags f xs a long = omega arith
 ring_of-more t (Watches pre post preset) flags f xs a long = omega (arith, ring-push pre post preset flags f t xs a long)
 
-rings-put : (t : FrameName → Bool) (s : Setting) (v w : ℕ) (f : Bool) (a : FrameName) (P : Past) (b : Bool) → t a ≡ false → count t (cond b [] (ring_of (node s v).work (firings v P) (puts v P))) ≡ 0 → count t (cond b [] (ring_of (node s v).work (comes_at v w f (firings v P)) (comes_at v w a (puts v P)))) ≡ 0
+rings-put : (t : FrameName → Bool) (s : Setting) (v w : ℕ) (f : Bool) (a : FrameName) (P : Past) (b : Bool) → t a ≡ false
+    → count t (cond b [] (ring_of (node s v).work (firings v P) (puts v P))) ≡ 0
+    → count t (cond b [] (ring_of (node s v).work (comes_at v w f (firings v P)) (comes_at v w a (puts v P)))) ≡ 0
 rings-put t s v w f a P true none h = refl
 rings-put t s v w f a P false none h =
     elim (eqb w v) as (λ b. count t (ring_of (node s v).work (cond b (firings v P ++ f ∷ []) (firings v P)) (cond b (puts v P ++ a ∷ []) (puts v P))) ≡ 0) [
@@ -223,7 +240,8 @@ rings-settle : (t : FrameName → Bool) (b c : Bool) (xs : List FrameName) → c
 rings-settle t true c xs h = refl
 rings-settle t false c xs h = h
 
-rings-more : (u t : FrameName → Bool) (s : Setting) (v : ℕ) (e : Entry) (P : Past) → is_legal s (e ∷ P) ≡ true → count t (issued_by e) ≡ 0 → ClearBy u t s P → count t (ring s v (e ∷ P)) ≡ 0
+rings-more : (u t : FrameName → Bool) (s : Setting) (v : ℕ) (e : Entry) (P : Past) → is_legal s (e ∷ P) ≡ true → count t (issued_by e) ≡ 0
+    → ClearBy u t s P → count t (ring s v (e ∷ P)) ≡ 0
 rings-more u t s v (Put r w m k f) P h i c = rings-put t s v w f (frame m k) P (is_settled v P) (made-clear t (frame m k) i) (c.rings v)
 rings-more u t s v (Settle r w) P h i c = rings-settle t (eqb w v) (is_settled v P) (ring_of (node s v).work (firings v P) (puts v P)) (c.rings v)
 rings-more u t s v _ P h i c = c.rings v
@@ -233,15 +251,18 @@ rings-more u t s v _ P h i c = c.rings v
 no_file : (t : FrameName → Bool) (s : Setting) (v : ℕ) (P : Past) → is_file (node s v).work ≡ false → count t (unsaved s v P) ≡ 0
 no_file t s v P h = rw h refl
 
-files-reclaim : (u t : FrameName → Bool) (s : Setting) (r v : ℕ) (e : Entry) (P : Past) → is_legal s P ≡ true → hand r P ≡ Some e → is_piece v e ≡ true → is_file (node s v).work ≡ true → ClearBy u t s P → count t (unsaved s v (Reclaim r ∷ P)) ≡ 0
+files-reclaim : (u t : FrameName → Bool) (s : Setting) (r v : ℕ) (e : Entry) (P : Past) → is_legal s P ≡ true → hand r P ≡ Some e → is_piece v e ≡ true
+    → is_file (node s v).work ≡ true → ClearBy u t s P → count t (unsaved s v (Reclaim r ∷ P)) ≡ 0
 files-reclaim u t s r v (Save q w m k g) P h held piece file c =
     let at_v : hand r P ≡ Some (Save q v m k g) = subst (λ (u : ℕ). hand r P ≡ Some (Save q u m k g)) (eqb-true w v piece) held in
     let none : t (frame m k) ≡ false = hand-clear (holds_by u t) r (Save q w m k g) P held c.roles in
-    let back : count t (unsaved s v (Reclaim r ∷ P)) ≡ bit (t (frame m k)) + count t (unsaved s v P) = ap (count t) (unsaved-Reclaim s r v q m k g P h file at_v) ∙ count-cons t (frame m k) (unsaved s v P) in
+    let back : count t (unsaved s v (Reclaim r ∷ P)) ≡ bit (t (frame m k)) + count t (unsaved s v P) =
+    ap (count t) (unsaved-Reclaim s r v q m k g P h file at_v) ∙ count-cons t (frame m k) (unsaved s v P) in
     omega (arith, back, none-bit (t (frame m k)) none, c.files v)
 files-reclaim u t s r v _ P h held piece file c = absurd (false≢true piece)
 
-files-more : (u t : FrameName → Bool) (s : Setting) (v : ℕ) (e : Entry) (P : Past) → is_legal s (e ∷ P) ≡ true → count t (issued_by e) ≡ 0 → ClearBy u t s P → count t (unsaved s v (e ∷ P)) ≡ 0
+files-more : (u t : FrameName → Bool) (s : Setting) (v : ℕ) (e : Entry) (P : Past) → is_legal s (e ∷ P) ≡ true → count t (issued_by e) ≡ 0 → ClearBy u t s P
+    → count t (unsaved s v (e ∷ P)) ≡ 0
 files-more u t s v (Put r w m k f) P h i c =
     let legal : is_legal s P ≡ true = (and_parts _ _ h).0 in
     elim (cases_Bool (is_file (node s v).work)) [
@@ -249,8 +270,10 @@ files-more u t s v (Put r w m k f) P h i c =
       | inl file ↦ elim (cases_Bool (eqb w v)) [
         | inl here ↦
             let clear : t (frame m k) ≡ false = made-clear t (frame m k) i in
-            let more : count t (unsaved s v (Put r v m k f ∷ P)) ≡ count t (unsaved s v P) + count t (frame m k ∷ []) = ap (count t) (unsaved-Put s r v m k f P legal file) ∙ count-append t (unsaved s v P) (frame m k ∷ []) in
-            subst (λ (u : ℕ). count t (unsaved s v (Put r u m k f ∷ P)) ≡ 0) (sym (eqb-true w v here)) (omega (arith, more, count-cons t (frame m k) [], none-bit (t (frame m k)) clear, c.files v))
+            let more : count t (unsaved s v (Put r v m k f ∷ P)) ≡ count t (unsaved s v P) + count t (frame m k ∷ []) =
+            ap (count t) (unsaved-Put s r v m k f P legal file) ∙ count-append t (unsaved s v P) (frame m k ∷ []) in
+            subst (λ (u : ℕ). count t (unsaved s v (Put r u m k f ∷ P)) ≡ 0) (sym (eqb-true w v here))
+            (omega (arith, more, count-cons t (frame m k) [], none-bit (t (frame m k)) clear, c.files v))
         | inr away ↦ ap (count t) (unsaved-Put_elsewhere s r v w m k f P (eqb-false w v away)) ∙ c.files v
       ]
     ]
@@ -260,7 +283,8 @@ files-more u t s v (Save r w m k g) P h i c =
       | inl here ↦
           let is : w ≡ v = eqb-true w v here in
           let row : first s P (Save r v m k g) ≡ true = subst (λ (u : ℕ). first s P (Save r u m k g) ≡ true) is (row_of s (Save r w m k g) P (λ d. refl) h) in
-          let less : count t (unsaved s v P) ≡ bit (t (frame m k)) + count t (unsaved s v (Save r v m k g ∷ P)) = ap (count t) (unsaved-Save s r v m k g P legal row) ∙ count-cons t (frame m k) (unsaved s v (Save r v m k g ∷ P)) in
+          let less : count t (unsaved s v P) ≡ bit (t (frame m k)) + count t (unsaved s v (Save r v m k g ∷ P)) =
+          ap (count t) (unsaved-Save s r v m k g P legal row) ∙ count-cons t (frame m k) (unsaved s v (Save r v m k g ∷ P)) in
           subst (λ (u : ℕ). count t (unsaved s v (Save r u m k g ∷ P)) ≡ 0) (sym is) (omega (arith, less, c.files v))
       | inr away ↦ ap (count t) (unsaved-Save_elsewhere s r v w m k g P (eqb-false w v away)) ∙ c.files v
     ]
@@ -287,13 +311,17 @@ fewer_hands p r hs h = omega (arith, count-let_go-le p r hs, h)
 or-none : (a b : Bool) → a ≡ false → b ≡ false → (a || b) ≡ false
 or-none a b h g = rw h g
 
-roles-more : (u t : FrameName → Bool) (s : Setting) (e : Entry) (P : Past) → is_legal s (e ∷ P) ≡ true → ClearBy u t s P → count u (made_by e) ≡ 0 → count (holds_by u t) (hands (e ∷ P)) ≡ 0
+roles-more : (u t : FrameName → Bool) (s : Setting) (e : Entry) (P : Past) → is_legal s (e ∷ P) ≡ true → ClearBy u t s P → count u (made_by e) ≡ 0
+    → count (holds_by u t) (hands (e ∷ P)) ≡ 0
 roles-more u t s (Load r k b n f g x) P h c made = one_more_hand (holds_by u t) r (Load r k b n f g x) (hands P) (made-clear u (frame 0 k) made) c.roles
-roles-more u t s (Take r v m k) P h c made = one_more_hand (holds_by u t) r (Take r v m k) (hands P) (take-clear u t s r v m k P (may-Take s r v m k P h) c) c.roles
+roles-more u t s (Take r v m k) P h c made =
+    one_more_hand (holds_by u t) r (Take r v m k) (hands P) (take-clear u t s r v m k P (may-Take s r v m k P h) c) c.roles
 roles-more u t s (TakeBlock f x r v m k b n g) P h c made =
-    one_more_hand (holds_by u t) r (TakeBlock f x r v m k b n g) (hands P) (or-none (u (frame v k)) (t (frame m k)) (made-clear u (frame v k) made) (take-clear u t s r v m k P (may-TakeBlock s r v m k b n f g x P h) c)) c.roles
+    one_more_hand (holds_by u t) r (TakeBlock f x r v m k b n g) (hands P)
+    (or-none (u (frame v k)) (t (frame m k)) (made-clear u (frame v k) made) (take-clear u t s r v m k P (may-TakeBlock s r v m k b n f g x P h) c)) c.roles
 roles-more u t s (Save r v m k g) P h c made =
-    one_more_hand (holds_by u t) r (Save r v m k g) (hands P) (front-clear t (frame m k) (unsaved s v P) (first_of-next (frame m k) (unsaved s v P) (save-facts s r v m k g P (row_of s (Save r v m k g) P (λ d. refl) h)).piece.front) (c.files v)) c.roles
+    one_more_hand (holds_by u t) r (Save r v m k g) (hands P) (front-clear t (frame m k) (unsaved s v P)
+    (first_of-next (frame m k) (unsaved s v P) (save-facts s r v m k g P (row_of s (Save r v m k g) P (λ d. refl) h)).piece.front) (c.files v)) c.roles
 roles-more u t s (Issue r k) P h c made = fewer_hands (holds_by u t) r (hands P) c.roles
 roles-more u t s (Put r v m k f) P h c made = fewer_hands (holds_by u t) r (hands P) c.roles
 roles-more u t s (Saved r v m k) P h c made = fewer_hands (holds_by u t) r (hands P) c.roles
@@ -313,14 +341,17 @@ carried v t (d ∷ ds) h =
     let p = and_parts (is_out_at v d) _ h in
     omega (arith, count-cons (carries t) d ds, count-cons (out_of v t) d ds, ap bit (carried-one v t d p.0), carried v t ds p.1)
 
-look-clear : (t : FrameName → Bool) (s : Setting) (v : ℕ) (P : Past) (b : Bool) → count (waits t) (waiting s v P) ≡ 0 → count (carries t) (cond b (look s v P) []) ≡ 0
+look-clear : (t : FrameName → Bool) (s : Setting) (v : ℕ) (P : Past) (b : Bool) → count (waits t) (waiting s v P) ≡ 0
+    → count (carries t) (cond b (look s v P) []) ≡ 0
 look-clear t s v P true h = omega (arith, carried v t (look s v P) (goes_out-at s v _ _ _), count-look s v t P, h)
 look-clear t s v P false h = refl
 
-looks-clear : (t : FrameName → Bool) (s : Setting) (P : Past) (us : List ℕ) → ((v : ℕ) → count (waits t) (waiting s v P) ≡ 0) → count (carries t) (looks s P us) ≡ 0
+looks-clear : (t : FrameName → Bool) (s : Setting) (P : Past) (us : List ℕ) → ((v : ℕ) → count (waits t) (waiting s v P) ≡ 0)
+    → count (carries t) (looks s P us) ≡ 0
 looks-clear t s P [] h = refl
 looks-clear t s P (u ∷ us) h =
-    omega (arith, count-append (carries t) (cond (is_sorted s u) (look s u P) []) (looks s P us), look-clear t s u P (is_sorted s u) (h u), looks-clear t s P us h)
+    omega (arith, count-append (carries t) (cond (is_sorted s u) (look s u P) []) (looks s P us),
+    look-clear t s u P (is_sorted s u) (h u), looks-clear t s P us h)
 
 offers-clear : (t : FrameName → Bool) (a : FrameName) (cs : List ℕ) → t a ≡ false → count (carries t) (map (offer a) cs) ≡ 0
 offers-clear t a [] h = refl
@@ -339,23 +370,30 @@ only_if : (p : Entry → Bool) (b : Bool) (ds : List Entry) → count p ds ≡ 0
 only_if p true ds h = h
 only_if p false ds h = refl
 
-sorted-clear : (u t : FrameName → Bool) (s : Setting) (v m k : ℕ) (f : Bool) (P : Past) → is_sorted s v ≡ true → t (frame m k) ≡ false → ClearBy u t s P → count (carries t) (sorted_result s v (frame m k) (waiting s v P) (Put 0 v m k f ∷ P)) ≡ 0
+sorted-clear : (u t : FrameName → Bool) (s : Setting) (v m k : ℕ) (f : Bool) (P : Past) → is_sorted s v ≡ true → t (frame m k) ≡ false → ClearBy u t s P
+    → count (carries t) (sorted_result s v (frame m k) (waiting s v P) (Put 0 v m k f ∷ P)) ≡ 0
 sorted-clear u t s v m k f P sorted none c =
     let new : Waiting = record { array = frame m k; tick = now P } in
     let is : waiting s v (Put 0 v m k f ∷ P) ≡ waiting s v P ++ new ∷ [] = waiting-put s v 0 m k f P sorted in
-    let all : count (waits t) (waiting s v (Put 0 v m k f ∷ P)) ≡ count (waits t) (waiting s v P) + count (waits t) (new ∷ []) = ap (count (waits t)) is ∙ count-append (waits t) (waiting s v P) (new ∷ []) in
+    let all : count (waits t) (waiting s v (Put 0 v m k f ∷ P)) ≡ count (waits t) (waiting s v P) + count (waits t) (new ∷ []) =
+    ap (count (waits t)) is ∙ count-append (waits t) (waiting s v P) (new ∷ []) in
     let most = count-sorted_result s v t (frame m k) (now P) (waiting s v P) (Put 0 v m k f ∷ P) is in
-    omega (arith, carried v t (sorted_result s v (frame m k) (waiting s v P) (Put 0 v m k f ∷ P)) (sorted_result-at s v (frame m k) (waiting s v P) (Put 0 v m k f ∷ P)), most, all, count-cons (waits t) new [], none-bit (t (frame m k)) none, c.lists v)
+    omega (arith,
+    carried v t (sorted_result s v (frame m k) (waiting s v P) (Put 0 v m k f ∷ P)) (sorted_result-at s v (frame m k) (waiting s v P) (Put 0 v m k f ∷ P)),
+    most, all, count-cons (waits t) new [], none-bit (t (frame m k)) none, c.lists v)
 
 either_clear : (p : Entry → Bool) (b : Bool) (xs ys : List Entry) → (b ≡ true → count p xs ≡ 0) → count p ys ≡ 0 → count p (cond b xs ys) ≡ 0
 either_clear p true xs ys h g = h refl
 either_clear p false xs ys h g = g
 
-passed-clear : (u t : FrameName → Bool) (s : Setting) (v m k : ℕ) (f : Bool) (P : Past) → t (frame m k) ≡ false → ClearBy u t s P → count (carries t) (cond (is_sorted s v) (sorted_result s v (frame m k) (waiting s v P) (Put 0 v m k f ∷ P)) (emit v Plain (frame m k) ∷ [])) ≡ 0
+passed-clear : (u t : FrameName → Bool) (s : Setting) (v m k : ℕ) (f : Bool) (P : Past) → t (frame m k) ≡ false → ClearBy u t s P
+    → count (carries t) (cond (is_sorted s v) (sorted_result s v (frame m k) (waiting s v P) (Put 0 v m k f ∷ P)) (emit v Plain (frame m k) ∷ [])) ≡ 0
 passed-clear u t s v m k f P none c =
-    either_clear (carries t) (is_sorted s v) (sorted_result s v (frame m k) (waiting s v P) (Put 0 v m k f ∷ P)) (emit v Plain (frame m k) ∷ []) (λ sorted. sorted-clear u t s v m k f P sorted none c) (one_emit-clear t v Plain (frame m k) none)
+    either_clear (carries t) (is_sorted s v) (sorted_result s v (frame m k) (waiting s v P) (Put 0 v m k f ∷ P)) (emit v Plain (frame m k) ∷ [])
+    (λ sorted. sorted-clear u t s v m k f P sorted none c) (one_emit-clear t v Plain (frame m k) none)
 
-put-calls : (u t : FrameName → Bool) (s : Setting) (v m k : ℕ) (f : Bool) (P : Past) (w : Work) → t (frame m k) ≡ false → ClearBy u t s P → count (carries t) (result s v (frame m k) f P w) ≡ 0
+put-calls : (u t : FrameName → Bool) (s : Setting) (v m k : ℕ) (f : Bool) (P : Past) (w : Work) → t (frame m k) ≡ false → ClearBy u t s P
+    → count (carries t) (result s v (frame m k) f P w) ≡ 0
 put-calls u t s v m k f P Makes none c = passed-clear u t s v m k f P none c
 put-calls u t s v m k f P (Passes d) none c = passed-clear u t s v m k f P none c
 put-calls u t s v m k f P (Saves whole n) none c = refl
@@ -364,9 +402,11 @@ put-calls u t s v m k f P (Watches pre post preset) none c =
     let b : Bool = is_trigger post preset (flags ++ f ∷ []) (length flags) in
     let d : Bool = is_passed pre post preset (flags ++ f ∷ []) (length flags) in
     count-append (carries t) (cond b (map (emit v Ring) (ring s v P)) []) (cond d (emit v Now (frame m k) ∷ []) [])
-    ∙ omega (arith, only_if (carries t) b (map (emit v Ring) (ring s v P)) (emits-clear t v Ring (ring s v P) (c.rings v)), only_if (carries t) d (emit v Now (frame m k) ∷ []) (one_emit-clear t v Now (frame m k) none))
+    ∙ omega (arith, only_if (carries t) b (map (emit v Ring) (ring s v P)) (emits-clear t v Ring (ring s v P) (c.rings v)),
+    only_if (carries t) d (emit v Now (frame m k) ∷ []) (one_emit-clear t v Now (frame m k) none))
 
-calls-clear : (u t : FrameName → Bool) (s : Setting) (e : Entry) (P : Past) → is_legal s (e ∷ P) ≡ true → count t (issued_by e) ≡ 0 → ClearBy u t s P → count (carries t) (calls_for s P e) ≡ 0
+calls-clear : (u t : FrameName → Bool) (s : Setting) (e : Entry) (P : Past) → is_legal s (e ∷ P) ≡ true → count t (issued_by e) ≡ 0 → ClearBy u t s P
+    → count (carries t) (calls_for s P e) ≡ 0
 calls-clear u t s (Tick z) P h i c = looks-clear t s (Tick z ∷ P) (node_numbers s) c.lists
 calls-clear u t s (Issue r k) P h i c = one_emit-clear t 0 Plain (frame 0 k) (made-clear t (frame 0 k) i)
 calls-clear u t s (Emit v m k why) P h i c = offers-clear t (frame m k) (offered_to s P v) (emit-clear u t s v m k why P h c)
@@ -376,7 +416,8 @@ calls-clear u t s (Settle r v) P h i c =
     omega (arith, carried v t (calls_for s P (Settle r v)) (flush-at v ws), count-flush v t ws, count-least_first s (waits t) (waiting s v P), c.lists v)
 calls-clear u t s _ P h i c = refl
 
-calls-more : (u t : FrameName → Bool) (s : Setting) (e : Entry) (P : Past) → is_legal s (e ∷ P) ≡ true → count t (issued_by e) ≡ 0 → ClearBy u t s P → count (carries t) (owed s (e ∷ P)) ≡ 0
+calls-more : (u t : FrameName → Bool) (s : Setting) (e : Entry) (P : Past) → is_legal s (e ∷ P) ≡ true → count t (issued_by e) ≡ 0 → ClearBy u t s P
+    → count (carries t) (owed s (e ∷ P)) ≡ 0
 calls-more u t s e P h i c =
     omega (arith, count-append (carries t) (calls_for s P e) (drop 1 (owed s P)), calls-clear u t s e P h i c, count-drop (carries t) (owed s P), c.calls)
 
@@ -398,7 +439,8 @@ clear-start u t s = record {
     no_ring t (Watches pre post preset) = ap (count t) (kept-nothing pre post preset)
 
 -- one more entry
-pub clear_by-more : (u t : FrameName → Bool) (s : Setting) (e : Entry) (P : Past) → is_legal s (e ∷ P) ≡ true → count u (made_by e) ≡ 0 → count t (issued_by e) ≡ 0 → ClearBy u t s P → ClearBy u t s (e ∷ P)
+pub clear_by-more : (u t : FrameName → Bool) (s : Setting) (e : Entry) (P : Past) → is_legal s (e ∷ P) ≡ true → count u (made_by e) ≡ 0
+    → count t (issued_by e) ≡ 0 → ClearBy u t s P → ClearBy u t s (e ∷ P)
 clear_by-more u t s e P h made i c = record {
   queues = λ v. queues-more u t s v e P h c;
   lists = λ v. lists-more u t s v e P h i c;
@@ -413,5 +455,6 @@ issued-clear t s (Issue r k) P h c = omega (arith, count-cons t (frame 0 k) [], 
 issued-clear t s (Put r v m k f) P h c = omega (arith, count-cons t (frame m k) [], none-bit (t (frame m k)) (put-clear t s r v m k f P h c))
 issued-clear t s _ P h c = refl
 
-pub clear-more : (t : FrameName → Bool) (s : Setting) (e : Entry) (P : Past) → is_legal s (e ∷ P) ≡ true → count t (made_by e) ≡ 0 → Clear t s P → Clear t s (e ∷ P)
+pub clear-more : (t : FrameName → Bool) (s : Setting) (e : Entry) (P : Past) → is_legal s (e ∷ P) ≡ true
+    → count t (made_by e) ≡ 0 → Clear t s P → Clear t s (e ∷ P)
 clear-more t s e P h made c = clear_by-more t t s e P h made (issued-clear t s e P h c) c

@@ -32,14 +32,17 @@ pub record QueueLaws : Type 0 where
   pub accept : (v m k : ℕ) (P : Past) → queued v (Accept v m k ∷ P) ≡ queued v P ++ frame m k ∷ []
   pub accept_elsewhere : (v w m k : ℕ) (P : Past) → w ≢ v → queued v (Accept w m k ∷ P) ≡ queued v P
   pub take : (s : Setting) (r v m k : ℕ) (P : Past) → first s P (Take r v m k) ≡ true → queued v P ≡ frame m k ∷ queued v (Take r v m k ∷ P)
-  pub take_block : (s : Setting) (r v m k b n : ℕ) (f : Bool) (g : ℕ) (x : Bool) (P : Past) → first s P (TakeBlock f x r v m k b n g) ≡ true → queued v P ≡ frame m k ∷ queued v (TakeBlock f x r v m k b n g ∷ P)
-  pub pool_drop : (s : Setting) (r v m k n h : ℕ) (P : Past) → first s P (PoolDrop r v m k n h) ≡ true → queued v P ≡ frame m k ∷ queued v (PoolDrop r v m k n h ∷ P)
+  pub take_block : (s : Setting) (r v m k b n : ℕ) (f : Bool) (g : ℕ) (x : Bool) (P : Past) → first s P (TakeBlock f x r v m k b n g) ≡ true
+      → queued v P ≡ frame m k ∷ queued v (TakeBlock f x r v m k b n g ∷ P)
+  pub pool_drop : (s : Setting) (r v m k n h : ℕ) (P : Past) → first s P (PoolDrop r v m k n h) ≡ true
+      → queued v P ≡ frame m k ∷ queued v (PoolDrop r v m k n h ∷ P)
   pub take_elsewhere : (r v w m k : ℕ) (P : Past) → w ≢ v → queued v (Take r w m k ∷ P) ≡ queued v P
   pub take_block_elsewhere : (r v w m k b n : ℕ) (f : Bool) (g : ℕ) (x : Bool) (P : Past) → w ≢ v → queued v (TakeBlock f x r w m k b n g ∷ P) ≡ queued v P
   pub pool_drop_elsewhere : (r v w m k n h : ℕ) (P : Past) → w ≢ v → queued v (PoolDrop r w m k n h ∷ P) ≡ queued v P
   pub reclaim : (v r q m k : ℕ) (P : Past) → hand r P ≡ Some (Take q v m k) → queued v (Reclaim r ∷ P) ≡ frame m k ∷ queued v P
   pub reclaim_other : (v r : ℕ) (e : Entry) (P : Past) → hand r P ≡ Some e → is_job v e ≡ false → queued v (Reclaim r ∷ P) ≡ queued v P
-  pub reclaim_block : (v r q m k b n : ℕ) (f : Bool) (g : ℕ) (x : Bool) (P : Past) → hand r P ≡ Some (TakeBlock f x q v m k b n g) → queued v (Reclaim r ∷ P) ≡ frame m k ∷ queued v P
+  pub reclaim_block : (v r q m k b n : ℕ) (f : Bool) (g : ℕ) (x : Bool) (P : Past) → hand r P ≡ Some (TakeBlock f x q v m k b n g)
+      → queued v (Reclaim r ∷ P) ≡ frame m k ∷ queued v P
   pub others : (v : ℕ) (e : Entry) (P : Past) → moves_queues e ≡ false → queued v (e ∷ P) ≡ queued v P
 
 abbrev pub lets_go : ℕ → Entry → Bool
@@ -75,8 +78,10 @@ pub record OfferLaws : Type 0 where
   pub accept_elsewhere : (v w m k : ℕ) (P : Past) → w ≢ v → offered v (Accept w m k ∷ P) ≡ offered v P
   pub full_elsewhere : (v w m k : ℕ) (P : Past) → w ≢ v → offered v (Full w m k ∷ P) ≡ offered v P
   pub others : (v : ℕ) (e : Entry) (P : Past) → offers e ≡ false → offered v (e ∷ P) ≡ offered v P
-  pub reclaim : (s : Setting) (r q k b n : ℕ) (f : Bool) (g : ℕ) (x : Bool) (P : Past) → is_legal s P ≡ true → hand r P ≡ Some (Load q k b n f g x) → offered_frames P ≡ k ∷ offered_frames (Reclaim r ∷ P)
-  pub reclaim_other : (s : Setting) (r : ℕ) (e : Entry) (P : Past) → is_legal s P ≡ true → hand r P ≡ Some e → is_loaded e ≡ false → offered_frames (Reclaim r ∷ P) ≡ offered_frames P
+  pub reclaim : (s : Setting) (r q k b n : ℕ) (f : Bool) (g : ℕ) (x : Bool) (P : Past) → is_legal s P ≡ true → hand r P ≡ Some (Load q k b n f g x)
+      → offered_frames P ≡ k ∷ offered_frames (Reclaim r ∷ P)
+  pub reclaim_other : (s : Setting) (r : ℕ) (e : Entry) (P : Past) → is_legal s P ≡ true → hand r P ≡ Some e → is_loaded e ≡ false
+      → offered_frames (Reclaim r ∷ P) ≡ offered_frames P
   pub frames_others : (e : Entry) (P : Past) → offers_frames e ≡ false → offered_frames (e ∷ P) ≡ offered_frames P
 
 abbrev pub is_put : Entry → Bool
@@ -97,7 +102,8 @@ pub record PutLaws : Type 0 where
   pub array_elsewhere : (r v w m k : ℕ) (f : Bool) (P : Past) → w ≢ v → puts v (Put r w m k f ∷ P) ≡ puts v P
   pub flag_elsewhere : (r v w m k : ℕ) (f : Bool) (P : Past) → w ≢ v → firings v (Put r w m k f ∷ P) ≡ firings v P
   pub flag_others : (v : ℕ) (e : Entry) (P : Past) → is_put e ≡ false → firings v (e ∷ P) ≡ firings v P
-  pub waits : (s : Setting) (r v m k : ℕ) (f : Bool) (P : Past) → is_sorted s v ≡ true → waiting s v (Put r v m k f ∷ P) ≡ waiting s v P ++ record { array = frame m k; tick = now P } ∷ []
+  pub waits : (s : Setting) (r v m k : ℕ) (f : Bool) (P : Past) → is_sorted s v ≡ true
+      → waiting s v (Put r v m k f ∷ P) ≡ waiting s v P ++ record { array = frame m k; tick = now P } ∷ []
   pub waits_elsewhere : (s : Setting) (r v w m k : ℕ) (f : Bool) (P : Past) → is_sorted s v ≡ true → w ≢ v → waiting s v (Put r w m k f ∷ P) ≡ waiting s v P
   pub unsorted : (s : Setting) (v : ℕ) (P : Past) → is_sorted s v ≡ false → waiting s v P ≡ []
   pub goes : (s : Setting) (v m k : ℕ) (why : Why) (P : Past) → waiting s v (Emit v m k why ∷ P) ≡ not_waiting (frame m k) (waiting s v P)
@@ -115,8 +121,10 @@ moves_rings _ = false
 -- the ring is what is kept of the puts so far, until a Settle empties it; and each put has its flag
 pub record RingLaws : Type 0 where
   pub flags : (v : ℕ) (P : Past) → length (firings v P) ≡ length (puts v P)
-  pub kept_is : (s : Setting) (v : ℕ) (P : Past) (pre post preset : ℕ) → (node s v).work ≡ Watches pre post preset → is_settled v P ≡ false → ring s v P ≡ kept pre post preset (firings v P) (puts v P)
-  pub put : (s : Setting) (r v m k : ℕ) (f : Bool) (P : Past) (pre post preset : ℕ) → (node s v).work ≡ Watches pre post preset → is_legal s P ≡ true → first s P (Put r v m k f) ≡ true → ring s v (Put r v m k f ∷ P) ≡ kept pre post preset (firings v P ++ f ∷ []) (puts v P ++ frame m k ∷ [])
+  pub kept_is : (s : Setting) (v : ℕ) (P : Past) (pre post preset : ℕ) → (node s v).work ≡ Watches pre post preset → is_settled v P ≡ false
+      → ring s v P ≡ kept pre post preset (firings v P) (puts v P)
+  pub put : (s : Setting) (r v m k : ℕ) (f : Bool) (P : Past) (pre post preset : ℕ) → (node s v).work ≡ Watches pre post preset → is_legal s P ≡ true
+      → first s P (Put r v m k f) ≡ true → ring s v (Put r v m k f ∷ P) ≡ kept pre post preset (firings v P ++ f ∷ []) (puts v P ++ frame m k ∷ [])
   pub put_elsewhere : (s : Setting) (r v w m k : ℕ) (f : Bool) (P : Past) → w ≢ v → ring s v (Put r w m k f ∷ P) ≡ ring s v P
   pub settle : (s : Setting) (r v : ℕ) (P : Past) → ring s v (Settle r v ∷ P) ≡ []
   pub settle_elsewhere : (s : Setting) (r v w : ℕ) (P : Past) → w ≢ v → ring s v (Settle r w ∷ P) ≡ ring s v P
@@ -137,12 +145,16 @@ changes_saves _ = false
 -- a piece that is reclaimed is the first one again.
 pub record SaveLaws : Type 0 where
   pub front : (s : Setting) (v : ℕ) (P : Past) → is_legal s P ≡ true → is_file (node s v).work ≡ true → puts v P ≡ standing_saves v P ++ unsaved s v P
-  pub put : (s : Setting) (r v m k : ℕ) (f : Bool) (P : Past) → is_legal s P ≡ true → is_file (node s v).work ≡ true → unsaved s v (Put r v m k f ∷ P) ≡ unsaved s v P ++ frame m k ∷ []
+  pub put : (s : Setting) (r v m k : ℕ) (f : Bool) (P : Past) → is_legal s P ≡ true → is_file (node s v).work ≡ true
+      → unsaved s v (Put r v m k f ∷ P) ≡ unsaved s v P ++ frame m k ∷ []
   pub put_elsewhere : (s : Setting) (r v w m k : ℕ) (f : Bool) (P : Past) → w ≢ v → unsaved s v (Put r w m k f ∷ P) ≡ unsaved s v P
-  pub save : (s : Setting) (r v m k g : ℕ) (P : Past) → is_legal s P ≡ true → first s P (Save r v m k g) ≡ true → unsaved s v P ≡ frame m k ∷ unsaved s v (Save r v m k g ∷ P)
+  pub save : (s : Setting) (r v m k g : ℕ) (P : Past) → is_legal s P ≡ true → first s P (Save r v m k g) ≡ true
+      → unsaved s v P ≡ frame m k ∷ unsaved s v (Save r v m k g ∷ P)
   pub save_elsewhere : (s : Setting) (r v w m k g : ℕ) (P : Past) → w ≢ v → unsaved s v (Save r w m k g ∷ P) ≡ unsaved s v P
-  pub reclaim : (s : Setting) (r v q m k g : ℕ) (P : Past) → is_legal s P ≡ true → hand r P ≡ Some (Save q v m k g) → unsaved s v (Reclaim r ∷ P) ≡ frame m k ∷ unsaved s v P
-  pub reclaim_other : (s : Setting) (r v : ℕ) (e : Entry) (P : Past) → is_legal s P ≡ true → hand r P ≡ Some e → is_piece v e ≡ false → unsaved s v (Reclaim r ∷ P) ≡ unsaved s v P
+  pub reclaim : (s : Setting) (r v q m k g : ℕ) (P : Past) → is_legal s P ≡ true → hand r P ≡ Some (Save q v m k g)
+      → unsaved s v (Reclaim r ∷ P) ≡ frame m k ∷ unsaved s v P
+  pub reclaim_other : (s : Setting) (r v : ℕ) (e : Entry) (P : Past) → is_legal s P ≡ true → hand r P ≡ Some e → is_piece v e ≡ false
+      → unsaved s v (Reclaim r ∷ P) ≡ unsaved s v P
   pub others : (s : Setting) (v : ℕ) (e : Entry) (P : Past) → moves_saves e ≡ false → unsaved s v (e ∷ P) ≡ unsaved s v P
   pub saved : (r v m k g : ℕ) (P : Past) → standing_saves v (Save r v m k g ∷ P) ≡ standing_saves v P ++ frame m k ∷ []
   pub saved_elsewhere : (r v w m k g : ℕ) (P : Past) → w ≢ v → standing_saves v (Save r w m k g ∷ P) ≡ standing_saves v P
@@ -162,10 +174,14 @@ moves_hands _ = false
 -- A test of hands counts one more where a hand that passes it is taken up, and one less where its role lets it go. So are jobs counted,
 -- pieces and loaded blocks.
 pub record JobLaws : Type 0 where
-  pub up : (p : Entry → Bool) (r : ℕ) (e : Entry) (P : Past) → takes_up r e ≡ true → is_free r P ≡ true → p e ≡ true → length (filter p (hands (e ∷ P))) ≡ length (filter p (hands P)) + 1
-  pub up_other : (p : Entry → Bool) (r : ℕ) (e : Entry) (P : Past) → takes_up r e ≡ true → is_free r P ≡ true → p e ≡ false → length (filter p (hands (e ∷ P))) ≡ length (filter p (hands P))
-  pub down : (p : Entry → Bool) (r : ℕ) (e d : Entry) (P : Past) → lets_go r d ≡ true → hand r P ≡ Some e → p e ≡ true → length (filter p (hands P)) ≡ length (filter p (hands (d ∷ P))) + 1
-  pub down_other : (p : Entry → Bool) (r : ℕ) (e d : Entry) (P : Past) → lets_go r d ≡ true → hand r P ≡ Some e → p e ≡ false → length (filter p (hands (d ∷ P))) ≡ length (filter p (hands P))
+  pub up : (p : Entry → Bool) (r : ℕ) (e : Entry) (P : Past) → takes_up r e ≡ true → is_free r P ≡ true → p e ≡ true
+      → length (filter p (hands (e ∷ P))) ≡ length (filter p (hands P)) + 1
+  pub up_other : (p : Entry → Bool) (r : ℕ) (e : Entry) (P : Past) → takes_up r e ≡ true → is_free r P ≡ true → p e ≡ false
+      → length (filter p (hands (e ∷ P))) ≡ length (filter p (hands P))
+  pub down : (p : Entry → Bool) (r : ℕ) (e d : Entry) (P : Past) → lets_go r d ≡ true → hand r P ≡ Some e → p e ≡ true
+      → length (filter p (hands P)) ≡ length (filter p (hands (d ∷ P))) + 1
+  pub down_other : (p : Entry → Bool) (r : ℕ) (e d : Entry) (P : Past) → lets_go r d ≡ true → hand r P ≡ Some e → p e ≡ false
+      → length (filter p (hands (d ∷ P))) ≡ length (filter p (hands P))
   pub others : (e : Entry) (P : Past) → moves_hands e ≡ false → hands (e ∷ P) ≡ hands P
 
 abbrev pub lets_out : Entry → Bool
@@ -186,7 +202,8 @@ pub record ClockLaws : Type 0 where
   pub emit_elsewhere : (s : Setting) (v w m k : ℕ) (why : Why) (P : Past) → w ≢ v → prev s v (Emit w m k why ∷ P) ≡ prev s v P
   pub save_elsewhere : (s : Setting) (r v w m k g : ℕ) (P : Past) → w ≢ v → prev s v (Save r w m k g ∷ P) ≡ prev s v P
   pub reclaim : (s : Setting) (r q v m k g : ℕ) (P : Past) → is_legal s P ≡ true → hand r P ≡ Some (Save q v m k g) → outs s v P ≡ k ∷ outs s v (Reclaim r ∷ P)
-  pub reclaim_other : (s : Setting) (r v : ℕ) (e : Entry) (P : Past) → is_legal s P ≡ true → hand r P ≡ Some e → is_piece v e ≡ false → prev s v (Reclaim r ∷ P) ≡ prev s v P
+  pub reclaim_other : (s : Setting) (r v : ℕ) (e : Entry) (P : Past) → is_legal s P ≡ true → hand r P ≡ Some e → is_piece v e ≡ false
+      → prev s v (Reclaim r ∷ P) ≡ prev s v P
   pub prev_others : (s : Setting) (v : ℕ) (e : Entry) (P : Past) → lets_out e ≡ false → prev s v (e ∷ P) ≡ prev s v P
   pub tick : (t : ℕ) (P : Past) → now (Tick t ∷ P) ≡ t
   pub now_others : (e : Entry) (P : Past) → ticks e ≡ false → now (e ∷ P) ≡ now P
@@ -198,12 +215,16 @@ pub record ClockLaws : Type 0 where
 -- An emission and a save count as a break where the id keeps no step with the previous one. A piece that is reclaimed counts no more.
 pub record BreakLaws : Type 0 where
   pub none : (s : Setting) (v : ℕ) → breaks s v [] ≡ 0
-  pub emit : (s : Setting) (v m k : ℕ) (why : Why) (P : Past) → is_file (node s v).work ≡ false → breaks s v (Emit v m k why ∷ P) ≡ breaks s v P + (if keeps_step (prev s v P) (id_at s k) then 0 else 1)
-  pub save : (s : Setting) (r v m k g : ℕ) (P : Past) → is_file (node s v).work ≡ true → breaks s v (Save r v m k g ∷ P) ≡ breaks s v P + (if keeps_step (prev s v P) (id_at s k) then 0 else 1)
+  pub emit : (s : Setting) (v m k : ℕ) (why : Why) (P : Past) → is_file (node s v).work ≡ false
+      → breaks s v (Emit v m k why ∷ P) ≡ breaks s v P + (if keeps_step (prev s v P) (id_at s k) then 0 else 1)
+  pub save : (s : Setting) (r v m k g : ℕ) (P : Past) → is_file (node s v).work ≡ true
+      → breaks s v (Save r v m k g ∷ P) ≡ breaks s v P + (if keeps_step (prev s v P) (id_at s k) then 0 else 1)
   pub emit_elsewhere : (s : Setting) (v w m k : ℕ) (why : Why) (P : Past) → w ≢ v → breaks s v (Emit w m k why ∷ P) ≡ breaks s v P
   pub save_elsewhere : (s : Setting) (r v w m k g : ℕ) (P : Past) → w ≢ v → breaks s v (Save r w m k g ∷ P) ≡ breaks s v P
-  pub reclaim : (s : Setting) (r q v m k g : ℕ) (P : Past) → is_legal s P ≡ true → hand r P ≡ Some (Save q v m k g) → breaks s v P ≡ breaks s v (Reclaim r ∷ P) + (if keeps_step (prev s v (Reclaim r ∷ P)) (id_at s k) then 0 else 1)
-  pub reclaim_other : (s : Setting) (r v : ℕ) (e : Entry) (P : Past) → is_legal s P ≡ true → hand r P ≡ Some e → is_piece v e ≡ false → breaks s v (Reclaim r ∷ P) ≡ breaks s v P
+  pub reclaim : (s : Setting) (r q v m k g : ℕ) (P : Past) → is_legal s P ≡ true → hand r P ≡ Some (Save q v m k g)
+      → breaks s v P ≡ breaks s v (Reclaim r ∷ P) + (if keeps_step (prev s v (Reclaim r ∷ P)) (id_at s k) then 0 else 1)
+  pub reclaim_other : (s : Setting) (r v : ℕ) (e : Entry) (P : Past) → is_legal s P ≡ true → hand r P ≡ Some e → is_piece v e ≡ false
+      → breaks s v (Reclaim r ∷ P) ≡ breaks s v P
   pub others : (s : Setting) (v : ℕ) (e : Entry) (P : Past) → lets_out e ≡ false → breaks s v (e ∷ P) ≡ breaks s v P
 
 -- A Leave and a Reclaim are remembered of their role.

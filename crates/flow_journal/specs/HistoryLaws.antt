@@ -88,20 +88,30 @@ PlacesAreKnown = (s : Setting) (P : Past) → s.pooled ≡ true → is_legal s P
 
 -- and a block that a Load grants has no place just before
 abbrev pub LoadsAreUnplaced : Type 0
-LoadsAreUnplaced = (s : Setting) (P : Past) (r k b n : ℕ) (f : Bool) (g : ℕ) (x : Bool) → s.pooled ≡ true → is_legal s P ≡ true → first s P (Load r k b n f g x) ≡ true → refs s P b ≡ 0
+LoadsAreUnplaced =
+    (s : Setting) (P : Past) (r k b n : ℕ) (f : Bool) (g : ℕ) (x : Bool) → s.pooled ≡ true → is_legal s P ≡ true
+    → first s P (Load r k b n f g x) ≡ true → refs s P b ≡ 0
 
 -- nor has one that a TakeBlock grants
 abbrev pub TakesAreUnplaced : Type 0
-TakesAreUnplaced = (s : Setting) (P : Past) (r v m k b n : ℕ) (f : Bool) (g : ℕ) (x : Bool) → s.pooled ≡ true → is_legal s P ≡ true → first s P (TakeBlock f x r v m k b n g) ≡ true → refs s P b ≡ 0
+TakesAreUnplaced =
+    (s : Setting) (P : Past) (r v m k b n : ℕ) (f : Bool) (g : ℕ) (x : Bool) → s.pooled ≡ true → is_legal s P ≡ true
+    → first s P (TakeBlock f x r v m k b n g) ≡ true → refs s P b ≡ 0
 
 -- In every legal history of a run (blocks are accounted there) the block of each Load has no place just before it,
 abbrev pub RunsLoadUnplaced : Type 0
-RunsLoadUnplaced = (graph : Graph) (makers : List Maker) (arrays : List Array) (newer P : Past) (r k b n : ℕ) (f : Bool) (g : ℕ) (x : Bool) → is_legal (setting_of graph makers arrays) (newer ++ Load r k b n f g x ∷ P) ≡ true → refs (setting_of graph makers arrays) P b ≡ 0
+RunsLoadUnplaced =
+    (graph : Graph) (makers : List Maker) (arrays : List Array) (newer P : Past) (r k b n : ℕ) (f : Bool) (g : ℕ) (x : Bool)
+    → is_legal (setting_of graph makers arrays) (newer ++ Load r k b n f g x ∷ P) ≡ true → refs (setting_of graph makers arrays) P b ≡ 0
 
 -- and so it is with the block of each TakeBlock,
 abbrev pub RunsTakeUnplaced : Type 0
-RunsTakeUnplaced = (graph : Graph) (makers : List Maker) (arrays : List Array) (newer P : Past) (r v m k b n : ℕ) (f : Bool) (g : ℕ) (x : Bool) → is_legal (setting_of graph makers arrays) (newer ++ TakeBlock f x r v m k b n g ∷ P) ≡ true → refs (setting_of graph makers arrays) P b ≡ 0
+RunsTakeUnplaced =
+    (graph : Graph) (makers : List Maker) (arrays : List Array) (newer P : Past) (r v m k b n : ℕ) (f : Bool) (g : ℕ) (x : Bool)
+    → is_legal (setting_of graph makers arrays) (newer ++ TakeBlock f x r v m k b n g ∷ P) ≡ true → refs (setting_of graph makers arrays) P b ≡ 0
 
 -- and each block that has a place is known.
 abbrev pub RunsPlacesAreKnown : Type 0
-RunsPlacesAreKnown = (graph : Graph) (makers : List Maker) (arrays : List Array) (P : Past) → is_legal (setting_of graph makers arrays) P ≡ true → ArePlacesKnown (setting_of graph makers arrays) P
+RunsPlacesAreKnown =
+    (graph : Graph) (makers : List Maker) (arrays : List Array) (P : Past) → is_legal (setting_of graph makers arrays) P ≡ true
+    → ArePlacesKnown (setting_of graph makers arrays) P

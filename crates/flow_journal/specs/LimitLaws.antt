@@ -10,4 +10,5 @@ pub record LimitLaws : Type 0 where
   -- with a limit the sizes of the known blocks are within it at each moment
   pub within : (s : Setting) (P : Past) → s.pooled ≡ true → s.limit ≢ 0 → is_legal s P ≡ true → sizes (known s P) ≤ s.limit
   -- while fewer of the largest free blocks are given up, what is left and the new block pass the limit
-  pub needed : (limit n j : ℕ) (is_free : ℕ → Bool) (bs : List Block) → j < given_up limit n is_free bs → limit + sizes (largest_free j is_free bs) < sizes bs + n
+  pub needed : (limit n j : ℕ) (is_free : ℕ → Bool) (bs : List Block) → j < given_up limit n is_free bs
+      → limit + sizes (largest_free j is_free bs) < sizes bs + n

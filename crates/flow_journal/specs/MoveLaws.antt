@@ -17,7 +17,8 @@ pub record MoveLaws : Type 0 where
   -- there is no other way to cut it into legal moves
   pub one_way : (s : Setting) (P : Past) (ms : List (List Entry)) → are_moves s [] ms ≡ true → onto (all_of ms) [] ≡ P → ms ≡ moves P
   -- after one past the first entry of a legal move, and the tick that is kept, tell the rest
-  pub one_rest : (s : Setting) (P : Past) (e : Entry) (es ds : List Entry) → is_history s P ≡ true → is_move s P (e ∷ es) ≡ true → is_move s P (e ∷ ds) ≡ true → now (onto (e ∷ es) P) ≡ now (onto (e ∷ ds) P) → es ≡ ds
+  pub one_rest : (s : Setting) (P : Past) (e : Entry) (es ds : List Entry) → is_history s P ≡ true → is_move s P (e ∷ es) ≡ true → is_move s P (e ∷ ds) ≡ true
+      → now (onto (e ∷ es) P) ≡ now (onto (e ∷ ds) P) → es ≡ ds
   -- what a role has in hand depends on its own moves alone
   pub own_hand : (P : Past) (r : ℕ) → hand r P ≡ hand r (onto (all_of (role_moves r P)) [])
 

@@ -26,11 +26,14 @@ issued (e ∷ P) = issued P
 
 pub record OutputLaws : Type 0 where
   -- a circular node emits the arrays of its puts that have a position in a window, in order
-  pub circular : (s : Setting) (v pre post preset : ℕ) (P : Past) → (node s v).work ≡ Watches pre post preset → 1 ≤ post → is_history s P ≡ true → emitted v P ≡ passed_items pre post preset (firings v P) (puts v P)
+  pub circular : (s : Setting) (v pre post preset : ℕ) (P : Past) → (node s v).work ≡ Watches pre post preset → 1 ≤ post → is_history s P ≡ true
+      → emitted v P ≡ passed_items pre post preset (firings v P) (puts v P)
   -- a region, statistics or scatter node without a sort list emits what is put there, in order
-  pub unsorted : (s : Setting) (v : ℕ) (P : Past) → v ≢ 0 → may_sort (node s v).work ≡ true → is_sorted s v ≡ false → is_history s P ≡ true → emitted v P ≡ puts v P
+  pub unsorted : (s : Setting) (v : ℕ) (P : Past) → v ≢ 0 → may_sort (node s v).work ≡ true → is_sorted s v ≡ false
+      → is_history s P ≡ true → emitted v P ≡ puts v P
   -- with a sort list each array that was put there went out, was dropped or waits
-  pub sorted : (s : Setting) (v : ℕ) (a : FrameName) (P : Past) → v ≢ 0 → is_sorted s v ≡ true → is_legal s P ≡ true → times a (puts v P) ≡ times a (emitted v P) + times a (sort_dropped v P) + times a (map (λ (w : Waiting). w.array) (waiting s v P))
+  pub sorted : (s : Setting) (v : ℕ) (a : FrameName) (P : Past) → v ≢ 0 → is_sorted s v ≡ true → is_legal s P ≡ true
+      → times a (puts v P) ≡ times a (emitted v P) + times a (sort_dropped v P) + times a (map (λ (w : Waiting). w.array) (waiting s v P))
   -- a file node emits nothing
   pub file : (s : Setting) (v : ℕ) (P : Past) → is_file (node s v).work ≡ true → is_legal s P ≡ true → emitted v P ≡ []
   -- and the driver emits what is issued, in order

@@ -31,7 +31,8 @@ push-first {s} {P} e o f =
     record { legal = and_from _ _ o.legal (rw o.rest f); rest = rw (o.rest, append-nil) refl }
 
 -- a move goes on
-pub push-owed : {s : Setting} {P : Past} {d : Entry} {ds : List Entry} (e : Entry) → Owes s P (d ∷ ds) → answers s P e d ≡ true → Owes s (e ∷ P) (calls_for s P e ++ ds)
+pub push-owed : {s : Setting} {P : Past} {d : Entry} {ds : List Entry} (e : Entry) → Owes s P (d ∷ ds) → answers s P e d ≡ true
+    → Owes s (e ∷ P) (calls_for s P e ++ ds)
 push-owed {s} {P} {d} {ds} e o f =
     record { legal = and_from _ _ o.legal (rw o.rest f); rest = rw o.rest refl }
 

@@ -38,13 +38,17 @@ pub record TestLaws : Type 0 where
 
 -- the rows
 pub record RowLaws : Type 0 where
-  pub load : (s : Setting) (P : Past) (r k b n : ℕ) (f : Bool) (g : ℕ) (x : Bool) → (first s P (Load r k b n f g x) ≡ true) ↔ (LoadFacts s r k P × GrantFacts s 0 b n f g x P)
+  pub load : (s : Setting) (P : Past) (r k b n : ℕ) (f : Bool) (g : ℕ) (x : Bool)
+      → (first s P (Load r k b n f g x) ≡ true) ↔ (LoadFacts s r k P × GrantFacts s 0 b n f g x P)
   pub load_refused : (s : Setting) (P : Past) (r k n h : ℕ) → (first s P (LoadRefused r k n h) ≡ true) ↔ (LoadFacts s r k P × RefusalFacts s 0 n h P)
   pub issue : (s : Setting) (P : Past) (r k : ℕ) → (first s P (Issue r k) ≡ true) ↔ HasLoaded r k P
   pub take : (s : Setting) (P : Past) (r v m k : ℕ) → (first s P (Take r v m k) ≡ true) ↔ (TakeFacts s r v (frame m k) P × (is_maker s v ≡ false))
-  pub take_block : (s : Setting) (P : Past) (r v m k b n : ℕ) (f : Bool) (g : ℕ) (x : Bool) → (first s P (TakeBlock f x r v m k b n g) ≡ true) ↔ (TakeFacts s r v (frame m k) P × (is_maker s v ≡ true) × GrantFacts s v b n f g x P)
-  pub pool_drop : (s : Setting) (P : Past) (r v m k n h : ℕ) → (first s P (PoolDrop r v m k n h) ≡ true) ↔ (TakeFacts s r v (frame m k) P × (is_maker s v ≡ true) × RefusalFacts s v n h P)
-  pub put : (s : Setting) (P : Past) (r v m k : ℕ) (f : Bool) → (first s P (Put r v m k f) ≡ true) ↔ (HasResult r v m k P × (f ≡ fires_at s v k (node s v).work))
+  pub take_block : (s : Setting) (P : Past) (r v m k b n : ℕ) (f : Bool) (g : ℕ) (x : Bool)
+      → (first s P (TakeBlock f x r v m k b n g) ≡ true) ↔ (TakeFacts s r v (frame m k) P × (is_maker s v ≡ true) × GrantFacts s v b n f g x P)
+  pub pool_drop : (s : Setting) (P : Past) (r v m k n h : ℕ)
+      → (first s P (PoolDrop r v m k n h) ≡ true) ↔ (TakeFacts s r v (frame m k) P × (is_maker s v ≡ true) × RefusalFacts s v n h P)
+  pub put : (s : Setting) (P : Past) (r v m k : ℕ) (f : Bool)
+      → (first s P (Put r v m k f) ≡ true) ↔ (HasResult r v m k P × (f ≡ fires_at s v k (node s v).work))
   pub settle : (s : Setting) (P : Past) (r v : ℕ) → (first s P (Settle r v) ≡ true) ↔ ((r ≤ last_role s) × SettleFacts s v P)
   pub save : (s : Setting) (P : Past) (r v m k g : ℕ) → (first s P (Save r v m k g) ≡ true) ↔ SaveFacts s r v (frame m k) g P
   pub saved : (s : Setting) (P : Past) (r v m k : ℕ) → (first s P (Saved r v m k) ≡ true) ↔ HasPiece r v m k P

@@ -19,6 +19,7 @@ pub record SortListLaws : Type 0 where
   -- a result that comes to wait is placed as a sort list places it
   pub comes : (s : Setting) (ws : List Waiting) (w : Waiting) → as_list s (ws ++ w ∷ []) ≡ sorting.placed (as_listed s w) (as_list s ws)
   -- the first of the list is the least one, and the rest is the list without it
-  pub goes : (s : Setting) (ws : List Waiting) (w : Waiting) (rest : List Waiting) → least_first s ws ≡ w ∷ rest → as_list s ws ≡ as_listed s w ∷ as_list s (not_waiting w.array ws)
+  pub goes : (s : Setting) (ws : List Waiting) (w : Waiting) (rest : List Waiting) → least_first s ws ≡ w ∷ rest
+      → as_list s ws ≡ as_listed s w ∷ as_list s (not_waiting w.array ws)
   -- and it is late where the sort list says so
   pub late : (s : Setting) (w : Waiting) (now sort_time : ℕ) → sorting.is_late now sort_time (as_listed s w) ≡ nat_lt sort_time (now - w.tick)

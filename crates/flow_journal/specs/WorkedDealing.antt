@@ -33,15 +33,18 @@ abbrev all_fed : List Entry
 all_fed = flat_map fed (0 ∷ 1 ∷ 2 ∷ 3 ∷ [])
 
 -- one after the other
-in_turns : is_history (dealing 20 20) (reverse (all_fed ++ dealt 0 (Accept 2 0 0) ++ dealt 1 (Accept 3 0 1) ++ dealt 2 (Accept 2 0 2) ++ dealt 3 (Accept 3 0 3))) ≡ true
+in_turns : is_history (dealing 20 20)
+    (reverse (all_fed ++ dealt 0 (Accept 2 0 0) ++ dealt 1 (Accept 3 0 1) ++ dealt 2 (Accept 2 0 2) ++ dealt 3 (Accept 3 0 3))) ≡ true
 in_turns = refl
 
 -- a full child is passed over
-past_a_full_one : is_history (dealing 1 20) (reverse (all_fed ++ dealt 0 (Accept 2 0 0) ++ dealt 1 (Accept 3 0 1) ++ dealt 2 (Accept 3 0 2) ++ dealt 3 (Accept 3 0 3))) ≡ true
+past_a_full_one : is_history (dealing 1 20)
+    (reverse (all_fed ++ dealt 0 (Accept 2 0 0) ++ dealt 1 (Accept 3 0 1) ++ dealt 2 (Accept 3 0 2) ++ dealt 3 (Accept 3 0 3))) ≡ true
 past_a_full_one = refl
 
 -- where all are full the turns go on
-all_full : is_history (dealing 1 1) (reverse (all_fed ++ dealt 0 (Accept 2 0 0) ++ dealt 1 (Accept 3 0 1) ++ dealt 2 (Full 2 0 2) ++ dealt 3 (Full 3 0 3))) ≡ true
+all_full : is_history (dealing 1 1)
+    (reverse (all_fed ++ dealt 0 (Accept 2 0 0) ++ dealt 1 (Accept 3 0 1) ++ dealt 2 (Full 2 0 2) ++ dealt 3 (Full 3 0 3))) ≡ true
 all_full = refl
 
 -- not to the first child always,

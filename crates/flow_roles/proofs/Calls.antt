@@ -104,7 +104,8 @@ module _ (s : Setting) (gives : BoardState → BoardState → Type 0) (answered 
   before : moves_by r here ≡ old.made
   before =
       append_cancel_left c.added (moves_by r here) old.made
-      (sym (moves-added c.added here r (subst (λ (q : ℕ). IsMoveOf q c.added) is c.move)).0 ∙ (ap (λ (b : BoardState). moves_by r b) (sym c.seen) ∙ (exactly ∙ c.made)))
+      (sym (moves-added c.added here r (subst (λ (q : ℕ). IsMoveOf q c.added) is c.move)).0
+      ∙ (ap (λ (b : BoardState). moves_by r b) (sym c.seen) ∙ (exactly ∙ c.made)))
 
   pub hand-before : hand r (past here) ≡ hand r (past old.made)
   hand-before = sym (moves-tell here r).0 ∙ ap (λ (b : BoardState). hand r (past b)) before
@@ -131,10 +132,14 @@ module _ (s : Setting) (gives : BoardState → BoardState → Type 0) (answered 
       let made_ : new.made ≡ f.more ++ t ∷ old.made =
       sym exactly ∙ (ap (λ (b : BoardState). moves_by r b) whole ∙ ((moves-added (f.more ++ t ∷ []) here r one).0
       ∙ (ap (λ (b : BoardState). (f.more ++ t ∷ []) ++ b) before ∙ append_assoc f.more (t ∷ []) old.made))) in
-      let legal_ : is_legal s (past (f.more ++ t ∷ here)) ≡ true = subst (λ (b : BoardState). is_legal s (past b) ≡ true) seen_ (and_parts (is_legal s (past new.seen)) _ c.legal).0 in
+      let legal_ : is_legal s (past (f.more ++ t ∷ here)) ≡ true =
+      subst (λ (b : BoardState). is_legal s (past b) ≡ true) seen_ (and_parts (is_legal s (past new.seen)) _ c.legal).0 in
       record {
-        moves = subst (λ (b : BoardState). list_all logs (past b) ≡ true) (sym made_) (logs-on logs f.more (t ∷ old.made) quiet_ after (and_from _ _ here_ rest));
-        hand = ap (λ (b : BoardState). hand r (past b)) (sym exactly) ∙ ((moves-tell new.seen r).0 ∙ (ap (λ (b : BoardState). hand r (past b)) seen_ ∙ hand-on r f.more (t ∷ here) after));
+        moves =
+            subst (λ (b : BoardState). list_all logs (past b) ≡ true) (sym made_) (logs-on logs f.more (t ∷ old.made) quiet_ after (and_from _ _ here_ rest));
+        hand =
+            ap (λ (b : BoardState). hand r (past b)) (sym exactly)
+            ∙ ((moves-tell new.seen r).0 ∙ (ap (λ (b : BoardState). hand r (past b)) seen_ ∙ hand-on r f.more (t ∷ here) after));
         lent = ap (λ (b : BoardState). lent_to r b) made_ ∙ lent-on r f.more (t ∷ old.made) after;
         legal = legal-on s f.more (t ∷ here) legal_;
         seen = λ p yes_. subst (λ (b : BoardState). list_any p (past b) ≡ true) (sym seen_) (any-on p f.more (t ∷ here) (rw yes_ refl));

@@ -51,7 +51,8 @@ is_still (load.Loaded k blank) = false
 abbrev pub no_refusal : (B : Type 0) → Option (load_answer B)
 no_refusal B = None
 
-pub load-still : {F B : Type 0} (parts : F → Option Parts) (bytes_of : B → ℕ) (s : Setting) (old new : BoardState) (r tick : ℕ) (o : Option (load_answer B)) (g : Answer)
+pub load-still : {F B : Type 0} (parts : F → Option Parts)
+    (bytes_of : B → ℕ) (s : Setting) (old new : BoardState) (r tick : ℕ) (o : Option (load_answer B)) (g : Answer)
     (a : load_answer B) → is_still a ≡ true → LoadAnswers parts bytes_of s old r tick o g a new → new ≡ old
 load-still parts bytes_of s old new r tick (Some x) g a h c = c.1
 load-still parts bytes_of s old new r tick None (Granted b n f g) load.OutOfMemory h c = c.1
@@ -70,7 +71,8 @@ load-still parts bytes_of s old new r tick None pool.Refused (load.Refused k z) 
 load-still parts bytes_of s old new r tick None pool.Refused (load.Loaded k blank) h c = absurd (false≢true h)
 
 left-by : {B : Type 0} (away busy ended full : Bool)
-    → Some load.Left ≡ cond away (Some load.Left) (cond busy (Some load.Busy) (cond ended (Some load.Ended) (cond full (Some load.NotYet) (no_refusal B)))) → away ≡ true
+    → Some load.Left ≡ cond away (Some load.Left) (cond busy (Some load.Busy) (cond ended (Some load.Ended) (cond full (Some load.NotYet) (no_refusal B))))
+    → away ≡ true
 left-by true busy ended full h = refl
 left-by false true ended full h = cc
 left-by false false true full h = cc
@@ -78,7 +80,8 @@ left-by false false false true h = cc
 left-by false false false false h = cc
 
 loaded-by : {B : Type 0} (k : ℕ) (blank : B) (away busy ended full : Bool)
-    → Some (load.Loaded k blank) ≡ cond away (Some load.Left) (cond busy (Some load.Busy) (cond ended (Some load.Ended) (cond full (Some load.NotYet) (no_refusal B)))) → ⊥
+    → Some (load.Loaded k blank)
+    ≡ cond away (Some load.Left) (cond busy (Some load.Busy) (cond ended (Some load.Ended) (cond full (Some load.NotYet) (no_refusal B)))) → ⊥
 loaded-by k blank true busy ended full h = cc
 loaded-by k blank false true ended full h = cc
 loaded-by k blank false false true full h = cc
@@ -86,7 +89,8 @@ loaded-by k blank false false false true h = cc
 loaded-by k blank false false false false h = cc
 
 -- the answer that some role has left is so
-load-left : {F B : Type 0} (parts : F → Option Parts) (bytes_of : B → ℕ) (s : Setting) (old new : BoardState) (r tick : ℕ) (o : Option (load_answer B)) (g : Answer)
+load-left : {F B : Type 0} (parts : F → Option Parts)
+    (bytes_of : B → ℕ) (s : Setting) (old new : BoardState) (r tick : ℕ) (o : Option (load_answer B)) (g : Answer)
     → load_refusal s r (past old) ≡ o → LoadAnswers parts bytes_of s old r tick o g load.Left new → has_left_any (past old) ≡ true
 load-left {F} {B} parts bytes_of s old new r tick (Some x) g is c =
     let away = left-by {B = B} (is_sent_away s r (past old)) (has_loaded (past old) || not (is_free r (past old))) (leb (length s.ids) (next_index (past old)))
@@ -96,7 +100,8 @@ load-left parts bytes_of s old new r tick None (Granted b n f g) is c = absurd c
 load-left parts bytes_of s old new r tick None pool.Refused is c = absurd c
 
 -- a refused frame: nothing changed, or it is a move
-pub load-refused : {F B : Type 0} (parts : F → Option Parts) (bytes_of : B → ℕ) (s : Setting) (old new : BoardState) (r tick k z : ℕ) (o : Option (load_answer B)) (g : Answer)
+pub load-refused : {F B : Type 0} (parts : F → Option Parts)
+    (bytes_of : B → ℕ) (s : Setting) (old new : BoardState) (r tick k z : ℕ) (o : Option (load_answer B)) (g : Answer)
     → LoadAnswers parts bytes_of s old r tick o g (load.Refused k z) new → (new ≡ old) ⊎ (new ≡ moved_at s tick (plain (LoadRefused r k (s.need 0) z)) old)
 load-refused parts bytes_of s old new r tick k z (Some x) g c = inl c.1
 load-refused parts bytes_of s old new r tick k z None pool.Refused c = inr c.2
@@ -113,10 +118,12 @@ pub record Loaded (s : Setting) (old new : BoardState) (r tick k size : ℕ) : T
   pub there : k < length s.ids
   pub move : new ≡ moved_at s tick (plain (Load r k b n f g x)) old
 
-pub load-loaded : {F B : Type 0} (parts : F → Option Parts) (bytes_of : B → ℕ) (s : Setting) (old new : BoardState) (r tick k : ℕ) (blank : B) (o : Option (load_answer B)) (g : Answer)
+pub load-loaded : {F B : Type 0} (parts : F → Option Parts)
+    (bytes_of : B → ℕ) (s : Setting) (old new : BoardState) (r tick k : ℕ) (blank : B) (o : Option (load_answer B)) (g : Answer)
     → load_refusal s r (past old) ≡ o → LoadAnswers parts bytes_of s old r tick o g (load.Loaded k blank) new → Loaded s old new r tick k (bytes_of blank)
 load-loaded {F} {B} parts bytes_of s old new r tick k blank (Some x) g is c =
-    absurd (loaded-by {B = B} k blank (is_sent_away s r (past old)) (has_loaded (past old) || not (is_free r (past old))) (leb (length s.ids) (next_index (past old)))
+    absurd (loaded-by {B = B} k blank (is_sent_away s r (past old)) (has_loaded (past old) || not (is_free r (past old)))
+    (leb (length s.ids) (next_index (past old)))
     (s.wait && not (list_all (has_room s (past old)) (children s 0))) (ap Some c.0 ∙ sym is))
 load-loaded {F} {B} parts bytes_of s old new r tick k blank None (Granted b n f g) is c =
     let more = leb-false (length s.ids) (next_index (past old)) (may_load {B = B} s r (past old) is).more in
@@ -126,7 +133,8 @@ load-loaded parts bytes_of s old new r tick k blank None pool.Refused is c = abs
 -- THE FEEDER'S LOADS
 
 module _ {F B : Type 0} (parts : F → Option Parts) (bytes_of : B → ℕ) (s : Setting) (tick : ℕ) (old new : Pass) (n : HasNothing feeder_logs 0 old) where
-  pub load-goes : (a : load_answer B) → is_still a ≡ true → Called s (λ x y. LoadGives parts bytes_of s x 0 tick a y) (last_load a) old new → HasNothing feeder_logs 0 new
+  pub load-goes : (a : load_answer B) → is_still a ≡ true
+      → Called s (λ x y. LoadGives parts bytes_of s x 0 tick a y) (last_load a) old new → HasNothing feeder_logs 0 new
   load-goes a still c =
       let g = λ (x y : BoardState). LoadGives parts bytes_of s x 0 tick a y in
       let b = here s g (last_load a) old new 0 n.role c in
@@ -183,14 +191,17 @@ issue-goes {F} {E} name_of s k size f done old new l c =
       free = m.hand ∙ hand_laws.down s 0 (Issue 0 (name_of f).index) (past (c.between ++ old.seen)) m.legal refl;
     }
 
-pub issue-takes : {F : Type 0} (E : Type 0) (name_of : F → FrameName) (s : Setting) (k size : ℕ) (f : F) (e : NotYours F) (old new : Pass) → HasLoaded s k size old → name_of f ≡ frame 0 k
+pub issue-takes : {F : Type 0} (E : Type 0) (name_of : F → FrameName) (s : Setting) (k size : ℕ) (f : F) (e : NotYours F) (old new : Pass)
+    → HasLoaded s k size old → name_of f ≡ frame 0 k
     → Called s (λ x y. IssueGives {E = E} name_of s x 0 f (Err e) y) last.NotYours old new → ⊥
 issue-takes {F} E name_of s k size f e old new l name c =
     let g = λ (x y : BoardState). IssueGives {E = E} name_of s x 0 f (Err e) y in
     let same_ = hand-before s g last.NotYours old new 0 l.role c in
-    false≢true (sym c.answer.0 ∙ (ap (λ (o : Option Entry). is_load_of (name_of f) o) same_ ∙ (ap (λ (a : FrameName). is_load_of a (hand 0 (past old.made))) name ∙ l.loaded)))
+    false≢true (sym c.answer.0
+    ∙ (ap (λ (o : Option Entry). is_load_of (name_of f) o) same_ ∙ (ap (λ (a : FrameName). is_load_of a (hand 0 (past old.made))) name ∙ l.loaded)))
 
-pub close-goes : (s : Setting) (old new : Pass) → HasNothing feeder_logs 0 old → Called s (λ x y. CloseGives s x 0 settled.NotYet y) last.Other old new → HasNothing feeder_logs 0 new
+pub close-goes : (s : Setting) (old new : Pass) → HasNothing feeder_logs 0 old
+    → Called s (λ x y. CloseGives s x 0 settled.NotYet y) last.Other old new → HasNothing feeder_logs 0 new
 close-goes s old new n c =
     let g = λ (x y : BoardState). CloseGives s x 0 settled.NotYet y in
     kept feeder_logs 0 old new (role-after s g last.Other old new 0 n.role c) (unmoved s g last.Other old new 0 n.role c c.answer.1) n
@@ -205,7 +216,8 @@ close-ends s old new n c =
     elim (cases_Bool (is_closed (past b))) [
       | inl closed ↦
           let same : new.seen ≡ b = c.answer.1 ∙ rw closed refl in
-          (kept feeder_logs 0 old new role_ (unmoved s g last.Closed old new 0 n.role c same) n, last_ ∙ (ap (λ (w : BoardState). is_closed (past w)) same ∙ closed))
+          (kept feeder_logs 0 old new role_ (unmoved s g last.Closed old new 0 n.role c same) n,
+          last_ ∙ (ap (λ (w : BoardState). is_closed (past w)) same ∙ closed))
       | inr open_ ↦
           let m = moved s g last.Closed old new 0 n.role c feeder_logs 0 (plain (Close 0)) (c.answer.1 ∙ rw open_ refl) refl feeder-quiet refl n.moves in
           (record { role = role_; moves = m.moves; free = m.hand ∙ (hand-before s g last.Closed old new 0 n.role c ∙ n.free) }, last_ ∙ m.seen closes refl)

@@ -28,7 +28,8 @@ use Rattle.board_rules.specs.RunMeasures.{run_setting}
 use Rattle.run_laws.proofs.Makers.{wrong, accepts-named}
 
 -- what is found counts
-in-flat : (t : FrameName → Bool) (f : Entry → List FrameName) (q : Entry → Bool) (e : Entry) (xs : Past) → find q xs ≡ Some e → count t (f e) ≤ count t (flat_map f xs)
+in-flat : (t : FrameName → Bool) (f : Entry → List FrameName) (q : Entry → Bool) (e : Entry) (xs : Past) → find q xs ≡ Some e
+    → count t (f e) ≤ count t (flat_map f xs)
 in-flat t f q e [] h = cc
 in-flat t f q e (x ∷ xs) h =
     let both_ = count-append t (f x) (flat_map f xs) in

@@ -113,14 +113,22 @@ at_end r n h = omega arith
 
 pub replies_are_moves : {F B O : Type 0} → RepliesAreMoves F B O
 unfolding IsOf
-replies_are_moves {F} {B} {O} fs s old new (op.Load r tick) (reply.Load answer) m c = call-moves {O = O} fs s old new (Loads r tick answer) r (refl, tt) (below r (last_role s) m) c
-replies_are_moves {F} {B} {O} fs s old new (op.Issue r f) (reply.Issue answer) m c = call-moves {O = O} fs s old new (Issues r f answer) r (refl, tt) (below r (last_role s) m.0, m.1) c
-replies_are_moves {F} {B} {O} fs s old new (op.Take r v) (reply.Take answer) m c = call-moves {O = O} fs s old new (Takes r v answer) r (refl, tt) (below r (last_role s) m.0, m.1) c
-replies_are_moves {F} {B} {O} fs s old new (op.Put r done) (reply.Put answer) m c = call-moves {O = O} fs s old new (Puts r done answer) r (refl, tt) (below r (last_role s) m.0, m.1, m.2) c
-replies_are_moves {F} {B} {O} fs s old new (op.Settle r v) (reply.Settle answer) m c = call-moves {O = O} fs s old new (Settles r v answer) r (refl, tt) (below r (last_role s) m.0, m.1) c
-replies_are_moves {F} {B} {O} fs s old new (op.Close r) (reply.Close answer) m c = call-moves {O = O} fs s old new (Closes r answer) r (refl, tt) (below r (last_role s) m) c
+replies_are_moves {F} {B} {O} fs s old new (op.Load r tick) (reply.Load answer) m c =
+    call-moves {O = O} fs s old new (Loads r tick answer) r (refl, tt) (below r (last_role s) m) c
+replies_are_moves {F} {B} {O} fs s old new (op.Issue r f) (reply.Issue answer) m c =
+    call-moves {O = O} fs s old new (Issues r f answer) r (refl, tt) (below r (last_role s) m.0, m.1) c
+replies_are_moves {F} {B} {O} fs s old new (op.Take r v) (reply.Take answer) m c =
+    call-moves {O = O} fs s old new (Takes r v answer) r (refl, tt) (below r (last_role s) m.0, m.1) c
+replies_are_moves {F} {B} {O} fs s old new (op.Put r done) (reply.Put answer) m c =
+    call-moves {O = O} fs s old new (Puts r done answer) r (refl, tt) (below r (last_role s) m.0, m.1, m.2) c
+replies_are_moves {F} {B} {O} fs s old new (op.Settle r v) (reply.Settle answer) m c =
+    call-moves {O = O} fs s old new (Settles r v answer) r (refl, tt) (below r (last_role s) m.0, m.1) c
+replies_are_moves {F} {B} {O} fs s old new (op.Close r) (reply.Close answer) m c =
+    call-moves {O = O} fs s old new (Closes r answer) r (refl, tt) (below r (last_role s) m) c
 replies_are_moves {F} {B} {O} fs s old new (op.Leave r) reply.Leave m c = call-moves {O = O} fs s old new (Leaves r) r (refl, tt) (below r (last_role s) m) c
-replies_are_moves {F} {B} {O} fs s old new (op.Save r v) (reply.Save answer) m c = call-moves {O = O} fs s old new (SavesOne r v answer) r (refl, m.0) (at_end r (last_role s) m.0, m.1) c
-replies_are_moves {F} {B} {O} fs s old new (op.Saved r f) (reply.Saved answer) m c = call-moves {O = O} fs s old new (Saveds r f answer) r (refl, tt) (at_end r (last_role s) m.0, m.1) c
+replies_are_moves {F} {B} {O} fs s old new (op.Save r v) (reply.Save answer) m c =
+    call-moves {O = O} fs s old new (SavesOne r v answer) r (refl, m.0) (at_end r (last_role s) m.0, m.1) c
+replies_are_moves {F} {B} {O} fs s old new (op.Saved r f) (reply.Saved answer) m c =
+    call-moves {O = O} fs s old new (Saveds r f answer) r (refl, tt) (at_end r (last_role s) m.0, m.1) c
 replies_are_moves {F} {B} {O} fs s old new (op.Progress r) (reply.Progress answer) m c = call-moves {O = O} fs s old new (Asks answer) r (tt, tt) tt c
 replies_are_moves {F} {B} {O} fs s old new _ _ m c = absurd c

@@ -46,7 +46,8 @@ module _ {F B : Type 0} (name_of : F → FrameName) (parts : F → Option Parts)
   back-blank (Some (TakeBlock y x q u m k b n g)) input (Some f) (Some blank) h = absurd h.1
   back-blank (Some _) input made (Some blank) h = absurd h
 
-pub comes-back : {F B O : Type 0} (name_of : F → FrameName) (parts : F → Option Parts) (bytes_of : B → ℕ) (s : Setting) (r : ℕ) (made : BoardState) (left : Left F B O)
+pub comes-back : {F B O : Type 0} (name_of : F → FrameName) (parts : F → Option Parts)
+    (bytes_of : B → ℕ) (s : Setting) (r : ℕ) (made : BoardState) (left : Left F B O)
     → IsOfHand name_of parts bytes_of (lent_to r made) (hand r (past made)) left.input left.made left.blank → MayComeBack name_of parts bytes_of s r made left
 comes-back {F} {B} {O} name_of parts bytes_of s r made left h b same none_ =
     let held : hand r (past made) ≡ hand r (past b) = ap (λ (w : BoardState). hand r (past w)) (sym same) ∙ (moves-tell b r).0 in

@@ -131,7 +131,8 @@ input-is g stack v n m input bytes sound stack_ rule maker comes holds =
     let c = content-some g stack input.name bytes (content g.nodes stack.arrays input.name) refl holds in
     let k = input.name.index in
     let name_ : input.name.maker ≡ maker_at g.nodes n.input = comes ∙ ap (λ (w : ℕ). maker_at g.nodes w) (input_some g.nodes v n (sym rule)) in
-    let made_ : content g.nodes stack.arrays (frame (maker_at g.nodes n.input) k) ≡ Some c.0 = ap (λ (w : ℕ). content g.nodes stack.arrays (frame w k)) (sym name_) ∙ c.1 in
+    let made_ : content g.nodes stack.arrays (frame (maker_at g.nodes n.input) k) ≡ Some c.0 =
+    ap (λ (w : ℕ). content g.nodes stack.arrays (frame w k)) (sym name_) ∙ c.1 in
     let above : content g.nodes stack.arrays (frame n.input k) ≡ Some c.0 = content-maker g stack.arrays n.input k sound ∙ made_ in
     let shape = shaped g stack n.input k c.0 (slice_get stack.arrays k) stack_ refl above in
     let kind_ : c.0.kind ≡ m.kind = shape.0.kind ∙ sym (ap (λ (x : Maker). x.kind) maker) in
@@ -177,15 +178,18 @@ need-region g stack v n r sound rule kind =
     need-found (map f (0 ∷ regions g.nodes)) v ∙ ap (λ (o : Option Maker). option_map_or (λ (k : Maker). k.need) o 0) (found f g.nodes v (λ w. refl) maker)
 
 -- what a region node makes has the shape of the region
-pub region-need : (g : Graph) (stack : StackValue) (v : ℕ) (n : NodeRule) (r : RoiRule) (from to : Maker) → IsGraph g → rule_at g.nodes v ≡ Some n → n.kind ≡ Roi r
+pub region-need : (g : Graph) (stack : StackValue) (v : ℕ) (n : NodeRule) (r : RoiRule) (from to : Maker) → IsGraph g
+    → rule_at g.nodes v ≡ Some n → n.kind ≡ Roi r
     → from ≡ maker_of from.node (shape_at g.nodes stack.shape n.input) → to ≡ maker_of to.node (shape_at g.nodes stack.shape v)
     → to.need ≡ sample_count (region_dims r from.dims) * width (out_type r from.kind)
 region-need g stack v n r from to sound rule kind is made =
-    let shape : shape_at g.nodes stack.shape v ≡ region_shape r (shape_at g.nodes stack.shape n.input) = out_of-roi region_shape g v n r (stack_shape stack.shape) sound (sym rule) kind in
+    let shape : shape_at g.nodes stack.shape v ≡ region_shape r (shape_at g.nodes stack.shape n.input) =
+    out_of-roi region_shape g v n r (stack_shape stack.shape) sound (sym rule) kind in
     ap (λ (x : Maker). x.need) made ∙ (ap (λ (t : Shape). sample_count t.dims * width t.kind) shape
     ∙ sym (ap (λ (x : Maker). sample_count (region_dims r x.dims) * width (out_type r x.kind)) is))
 
-pub region-room : (g : Graph) (stack : StackValue) (v size : ℕ) (n : NodeRule) (r : RoiRule) (to : Maker) → IsGraph g → rule_at g.nodes v ≡ Some n → n.kind ≡ Roi r
+pub region-room : (g : Graph) (stack : StackValue) (v size : ℕ) (n : NodeRule) (r : RoiRule) (to : Maker) → IsGraph g
+    → rule_at g.nodes v ≡ Some n → n.kind ≡ Roi r
     → to ≡ maker_of to.node (shape_at g.nodes stack.shape v) → (run_setting g stack).need v ≤ size → to.need ≤ size
 region-room g stack v size n r to sound rule kind made room =
     let same_ : (run_setting g stack).need v ≡ to.need = need-region g stack v n r sound rule kind ∙ sym (ap (λ (x : Maker). x.need) made) in
@@ -203,24 +207,31 @@ region-content g stack v n r m name bytes out sound rule kind i size samples =
     λ dims same_. length-region_samples r a.kind dims a.samples ∙ ap (λ (d : List Dim). sample_count (region_dims r d)) same_ in
     subst (λ (o : Option Array). IsSomeAnd o (λ (b : Array). AreSamples b out)) (sym made_)
     (record {
-      size = size ∙ (ap (λ (c : ℕ). c * width (out_type r m.kind)) (sym (shape a.dims i.dims)) ∙ ap (λ t. length (region_samples r a.kind a.dims a.samples) * width (out_type r t)) (sym i.kind));
+      size =
+          size
+          ∙ (ap (λ (c : ℕ). c * width (out_type r m.kind)) (sym (shape a.dims i.dims))
+          ∙ ap (λ t. length (region_samples r a.kind a.dims a.samples) * width (out_type r t)) (sym i.kind));
       samples = ap (λ t. samples_of (out_type r t) out) i.kind ∙ (samples ∙ (ap (λ t. region_samples r t m.dims (samples_of m.kind bytes)) (sym i.kind)
           ∙ (ap (λ (d : List Dim). region_samples r a.kind d (samples_of m.kind bytes)) (sym i.dims) ∙ ap (region_samples r a.kind a.dims) i.samples)));
     })
 
 -- MEASURES
 
-heads-same : (o : Option Array) (a : Array) (h : Head) → option_map head_of (Some a) ≡ option_map head_of o → IfSome o (λ (b : Array). head_of b ≡ h) → head_of a ≡ h
+heads-same : (o : Option Array) (a : Array) (h : Head) → option_map head_of (Some a) ≡ option_map head_of o
+    → IfSome o (λ (b : Array). head_of b ≡ h) → head_of a ≡ h
 heads-same None a h e i = absurd (none-some (sym e))
 heads-same (Some b) a h e i = some-same e ∙ i
 
-pub measure-is : (g : Graph) (stack : StackValue) (v : ℕ) (n : NodeRule) (r : StatsRule) (m : Maker) (name : FrameName) (bytes : List ℕ) (h : Head) (x : Measure)
+pub measure-is : (g : Graph) (stack : StackValue) (v : ℕ) (n : NodeRule) (r : StatsRule) (m : Maker) (name : FrameName) (bytes : List ℕ)
+    (h : Head) (x : Measure)
     → rule_at g.nodes v ≡ Some n → n.kind ≡ Stats r → Input g stack v n m name bytes → IfSome (slice_get stack.arrays name.index) (λ (b : Array). head_of b ≡ h)
     → x ≡ measure_of r h.id m.kind m.dims 0 bytes → run_measure g stack v name ≡ Some x
 unfolding measure_of
 measure-is g stack v n r m name bytes h x rule kind i head is =
     let a = i.array in
-    let id_ : a.id ≡ h.id = ap (λ (y : Head). y.id) (heads-same (slice_get stack.arrays name.index) a h (sym (ap (option_map head_of) i.named) ∙ content-head g.nodes stack.arrays name) head) in
+    let id_ : a.id ≡ h.id =
+    ap (λ (y : Head). y.id)
+    (heads-same (slice_get stack.arrays name.index) a h (sym (ap (option_map head_of) i.named) ∙ content-head g.nodes stack.arrays name) head) in
     ap (λ (o : Option NodeRule). rule_measure o (content g.nodes stack.arrays name)) rule
     ∙ (ap (λ (k : Kind). kind_measure k (content g.nodes stack.arrays name)) kind
     ∙ (ap (λ (o : Option Array). kind_measure (Stats r) o) i.named
@@ -229,14 +240,16 @@ measure-is g stack v n r m name bytes h x rule kind i head is =
 
 -- FIRING
 
-pub fires-is : (g : Graph) (stack : StackValue) (v k : ℕ) (n : NodeRule) (r : CircularRule) (h : Head) → rule_at g.nodes v ≡ Some n → n.kind ≡ Circular r → k < length stack.arrays
+pub fires-is : (g : Graph) (stack : StackValue) (v k : ℕ) (n : NodeRule) (r : CircularRule) (h : Head) → rule_at g.nodes v ≡ Some n
+    → n.kind ≡ Circular r → k < length stack.arrays
     → IfSome (slice_get stack.arrays k) (λ (b : Array). head_of b ≡ h) → trigger_fires r h.attrs ≡ (run_setting g stack).fires v k
 fires-is g stack v k n r h rule kind within head =
     elim (slice_get_cases stack.arrays k).1 [
       | inl at ↦
           let same_ : head_of at.0 ≡ h = subst (λ (o : Option Array). IfSome o (λ (b : Array). head_of b ≡ h)) at.2 head in
           sym (ap (λ (o : Option NodeRule). node_fires o (slice_get stack.arrays k)) rule
-          ∙ (ap (λ (o : Option Array). node_fires (Some n) o) at.2 ∙ (ap (λ (c : Kind). kind_fires c at.0.attrs) kind ∙ ap (λ (y : Head). trigger_fires r y.attrs) same_)))
+          ∙ (ap (λ (o : Option Array). node_fires (Some n) o) at.2
+          ∙ (ap (λ (c : Kind). kind_fires c at.0.attrs) kind ∙ ap (λ (y : Head). trigger_fires r y.attrs) same_)))
       | inr past_ ↦ absurd (omega (arith, within, past_.0))
     ]
 
@@ -257,9 +270,11 @@ module _ (g : Graph) (stack : StackValue) (v : ℕ) (n : NodeRule) (input : Seal
 
   measures-as : (k : Kind) → n.kind ≡ k → run_measure g stack v input.name ≡ kind_measure k (content g.nodes stack.arrays input.name)
   measures-as k kind =
-      ap (λ (o : Option NodeRule). rule_measure o (content g.nodes stack.arrays input.name)) rule ∙ ap (λ (c : Kind). kind_measure c (content g.nodes stack.arrays input.name)) kind
+      ap (λ (o : Option NodeRule). rule_measure o (content g.nodes stack.arrays input.name)) rule
+      ∙ ap (λ (c : Kind). kind_measure c (content g.nodes stack.arrays input.name)) kind
 
-  made-as : (b : Bool) → is_maker s v ≡ b → (f : Option Sealed) → IsMadeAs name_of b (cond b (frame v input.name.index) input.name) f → IsMadeAs name_of (is_maker s v) (result_name s v input.name) f
+  made-as : (b : Bool) → is_maker s v ≡ b → (f : Option Sealed) → IsMadeAs name_of b (cond b (frame v input.name.index) input.name) f
+      → IsMadeAs name_of (is_maker s v) (result_name s v input.name) f
   made-as b is f h = subst (λ (c : Bool). IsMadeAs name_of c (cond c (frame v input.name.index) input.name) f) (sym is) h
 
   pub result-roi : (r : RoiRule) (f : Sealed) → n.kind ≡ Roi r → f.name ≡ frame v input.name.index
@@ -275,13 +290,16 @@ module _ (g : Graph) (stack : StackValue) (v : ℕ) (n : NodeRule) (input : Seal
   pub result-circular : (r : CircularRule) (b : Bool) → n.kind ≡ Circular r → b ≡ s.fires v input.name.index
       → IsResult name_of (run_measure g stack) s (record { node = v; input = input; made = None; measured = None; fired = b })
   result-circular r b kind is =
-      record { made = made-as false (maker-is (Circular r) kind) None tt; measured = sym (measures-as (Circular r) kind); fired = is ∙ sym (fires-as (Circular r) kind) }
+      record { made = made-as false (maker-is (Circular r) kind) None tt; measured = sym (measures-as (Circular r) kind);
+      fired = is ∙ sym (fires-as (Circular r) kind) }
 
-  pub result-file : (r : FileRule) → n.kind ≡ File r → IsResult name_of (run_measure g stack) s (record { node = v; input = input; made = None; measured = None; fired = false })
+  pub result-file : (r : FileRule) → n.kind ≡ File r
+      → IsResult name_of (run_measure g stack) s (record { node = v; input = input; made = None; measured = None; fired = false })
   result-file r kind =
       record { made = made-as false (maker-is (File r) kind) None tt; measured = sym (measures-as (File r) kind); fired = sym (fires-as (File r) kind) }
 
-  pub result-scatter : n.kind ≡ Scatter → IsResult name_of (run_measure g stack) s (record { node = v; input = input; made = None; measured = None; fired = false })
+  pub result-scatter : n.kind ≡ Scatter
+      → IsResult name_of (run_measure g stack) s (record { node = v; input = input; made = None; measured = None; fired = false })
   result-scatter kind =
       record { made = made-as false (maker-is Scatter kind) None tt; measured = sym (measures-as Scatter kind); fired = sym (fires-as Scatter kind) }
 
@@ -313,9 +331,11 @@ plan-own g stack now p is here_ = subst₂ (λ (h : Graph) (s : StackValue). p �
 
 pub maker-own : (g : Graph) (stack now : StackValue) (p : Plan) (m : Maker) (v : ℕ) → p ≡ plan_of g stack → now ≡ stack
     → m ≡ maker_of m.node (shape_at p.graph.nodes now.shape v) → m ≡ maker_of m.node (shape_at g.nodes stack.shape v)
-maker-own g stack now p m v is here_ made = subst₂ (λ (h : Graph) (s : StackValue). m ≡ maker_of m.node (shape_at h.nodes s.shape v)) (ap (λ (q : Plan). q.graph) is) here_ made
+maker-own g stack now p m v is here_ made =
+    subst₂ (λ (h : Graph) (s : StackValue). m ≡ maker_of m.node (shape_at h.nodes s.shape v)) (ap (λ (q : Plan). q.graph) is) here_ made
 
-pub maker-sound : (g : Graph) (stack : StackValue) (m : Maker) (v : ℕ) → IsStack stack → m ≡ maker_of m.node (shape_at g.nodes stack.shape v) → IsArrayShape m.dims
+pub maker-sound : (g : Graph) (stack : StackValue) (m : Maker) (v : ℕ) → IsStack stack
+    → m ≡ maker_of m.node (shape_at g.nodes stack.shape v) → IsArrayShape m.dims
 maker-sound g stack m v sound made = subst (λ (x : Maker). IsArrayShape x.dims) (sym made) (shape-sound g stack v sound)
 
 pub stack-sound : (stack now : StackValue) → now ≡ stack → IsStack now → IsStack stack
@@ -337,40 +357,49 @@ ok-some : {X E : Type 0} (f : Option X) (a : Result X E) (P : X → Type 0) → 
 ok-some f (Ok x) P h all = all x h
 ok-some f (Err e) P h all = tt
 
-pub measure-for : {E : Type 0} (g : Graph) (stack now : StackValue) (v : ℕ) (n : NodeRule) (r : StatsRule) (m : Maker) (name : FrameName) (bytes : List ℕ) (h : Head) (k : ℕ)
-    (z : ℤ) (dims : List Dim) (a : Result Measure E) → z ≡ h.id → dims ≡ m.dims → now ≡ stack → rule_at g.nodes v ≡ Some n → n.kind ≡ Stats r → Input g stack v n m name bytes → k ≡ name.index
+pub measure-for : {E : Type 0}
+    (g : Graph) (stack now : StackValue) (v : ℕ) (n : NodeRule) (r : StatsRule) (m : Maker) (name : FrameName) (bytes : List ℕ) (h : Head) (k : ℕ)
+    (z : ℤ) (dims : List Dim) (a : Result Measure E) → z ≡ h.id → dims ≡ m.dims → now ≡ stack → rule_at g.nodes v ≡ Some n → n.kind ≡ Stats r
+    → Input g stack v n m name bytes → k ≡ name.index
     → IfSome (slice_get now.arrays k) (λ (b : Array). head_of b ≡ h) → IfOk a (λ x. x ≡ measure_of r z m.kind dims 0 bytes)
     → IfOk a (λ x. run_measure g stack v name ≡ Some x)
 measure-for {E} g stack now v n r m name bytes h k z dims a id_ dims_ is rule kind i index head made =
-    let here_ : IfSome (slice_get stack.arrays name.index) (λ (b : Array). head_of b ≡ h) = subst₂ (λ (s : StackValue) (j : ℕ). IfSome (slice_get s.arrays j) (λ (b : Array). head_of b ≡ h)) is index head in
+    let here_ : IfSome (slice_get stack.arrays name.index) (λ (b : Array). head_of b ≡ h) =
+    subst₂ (λ (s : StackValue) (j : ℕ). IfSome (slice_get s.arrays j) (λ (b : Array). head_of b ≡ h)) is index head in
     ok-some {X = Measure} {E = E} (run_measure g stack v name) a (λ x. x ≡ measure_of r z m.kind dims 0 bytes) made
-    (λ x e. measure-is g stack v n r m name bytes h x rule kind i here_ (e ∙ (ap (λ y. measure_of r y m.kind dims 0 bytes) id_ ∙ ap (λ (d : List Dim). measure_of r h.id m.kind d 0 bytes) dims_)))
+    (λ x e. measure-is g stack v n r m name bytes h x rule kind i here_
+    (e ∙ (ap (λ y. measure_of r y m.kind dims 0 bytes) id_ ∙ ap (λ (d : List Dim). measure_of r h.id m.kind d 0 bytes) dims_)))
 
 pub fires-for : (g : Graph) (stack now : StackValue) (v : ℕ) (n : NodeRule) (r : CircularRule) (name : FrameName) (h : Head) (k : ℕ) (b : Bool)
     → now ≡ stack → rule_at g.nodes v ≡ Some n → n.kind ≡ Circular r → k ≡ name.index → k < length stack.arrays
     → IfSome (slice_get now.arrays k) (λ (x : Array). head_of x ≡ h) → b ≡ trigger_fires r h.attrs → b ≡ (run_setting g stack).fires v name.index
 fires-for g stack now v n r name h k b is rule kind index within head fired =
-    let here_ : IfSome (slice_get stack.arrays k) (λ (x : Array). head_of x ≡ h) = subst (λ (s : StackValue). IfSome (slice_get s.arrays k) (λ (x : Array). head_of x ≡ h)) is head in
+    let here_ : IfSome (slice_get stack.arrays k) (λ (x : Array). head_of x ≡ h) =
+    subst (λ (s : StackValue). IfSome (slice_get s.arrays k) (λ (x : Array). head_of x ≡ h)) is head in
     fired ∙ (fires-is g stack v k n r h rule kind within here_ ∙ ap (λ (j : ℕ). (run_setting g stack).fires v j) index)
 
 -- the rule that was found is the node's
-pub rule-of : (g : Graph) (stack : StackValue) (p : Plan) (nodes : List NodeRule) (v : ℕ) (o : Option NodeRule) → p ≡ plan_of g stack → nodes ≡ p.graph.nodes → o ≡ rule_at nodes v
+pub rule-of : (g : Graph) (stack : StackValue) (p : Plan) (nodes : List NodeRule) (v : ℕ) (o : Option NodeRule) → p ≡ plan_of g stack
+    → nodes ≡ p.graph.nodes → o ≡ rule_at nodes v
     → rule_at g.nodes v ≡ o
 rule-of g stack p nodes v o is same_ here_ = sym (here_ ∙ ap (λ (ns : List NodeRule). rule_at ns v) (same_ ∙ ap (λ (q : Plan). q.graph.nodes) is))
 
-pub node-has-rule : (g : Graph) (stack : StackValue) (p : Plan) (nodes : List NodeRule) (v : ℕ) → p ≡ plan_of g stack → nodes ≡ p.graph.nodes → is_node (run_setting g stack) v ≡ true
+pub node-has-rule : (g : Graph) (stack : StackValue) (p : Plan) (nodes : List NodeRule) (v : ℕ) → p ≡ plan_of g stack → nodes ≡ p.graph.nodes
+    → is_node (run_setting g stack) v ≡ true
     → None ≡ rule_at nodes v → ⊥
 node-has-rule g stack p nodes v is same_ node_ none_ =
     let n = node-rule g stack v node_ in
     none-some (sym (rule-of g stack p nodes v None is same_ none_) ∙ n.1)
 
 -- a maker's job has storage, with room
-pub blank-there : (g : Graph) (stack : StackValue) (v : ℕ) (n : NodeRule) (input : Sealed) (r : RoiRule) (blank : Option (List ℕ)) → rule_at g.nodes v ≡ Some n → n.kind ≡ Roi r
+pub blank-there : (g : Graph) (stack : StackValue) (v : ℕ) (n : NodeRule) (input : Sealed) (r : RoiRule) (blank : Option (List ℕ))
+    → rule_at g.nodes v ≡ Some n → n.kind ≡ Roi r
     → FitsNode g stack v blank → blank ≡ None → ⊥
 blank-there g stack v n input r blank rule kind fits none_ =
     false≢true (sym (ap is_some none_) ∙ (fits.maker ∙ maker-is g stack v n input rule (Roi r) kind))
 
-pub blank-room : (g : Graph) (stack : StackValue) (v : ℕ) (blank : Option (List ℕ)) (b : List ℕ) → FitsNode g stack v blank → blank ≡ Some b → (run_setting g stack).need v ≤ length b
+pub blank-room : (g : Graph) (stack : StackValue) (v : ℕ) (blank : Option (List ℕ)) (b : List ℕ) → FitsNode g stack v blank → blank ≡ Some b
+    → (run_setting g stack).need v ≤ length b
 blank-room g stack v blank b fits is = subst (λ (o : Option (List ℕ)). OfSome (λ (x : List ℕ). (run_setting g stack).need v ≤ length x) o) is fits.room
 
 pub stands-whole : (blank : Option (List ℕ)) (b : List ℕ) (f : Sealed) → blank ≡ Some b → (f.parts.size ≡ length b) × (f.parts.here ≡ 2 ^ 32)
@@ -380,7 +409,8 @@ stands-whole blank b f is h = subst (λ (o : Option (List ℕ)). IsWholeOf (opti
 -- FRAMES OF THE STACK AT HAND
 
 pub frame-holds : (g : Graph) (stack now : StackValue) (k : ℕ) (bytes : List ℕ) → now ≡ stack → IsStack now → k < length now.arrays
-    → IfSome (slice_get now.arrays k) (λ (a : Array). samples_of now.shape.kind bytes ≡ a.samples) → length bytes ≡ frame_size now.shape → IsContent g stack (frame 0 k) bytes
+    → IfSome (slice_get now.arrays k) (λ (a : Array). samples_of now.shape.kind bytes ≡ a.samples) → length bytes ≡ frame_size now.shape
+    → IsContent g stack (frame 0 k) bytes
 frame-holds g stack now k bytes is sound within samples size =
     subst (λ (s : StackValue). IsContent g s (frame 0 k) bytes) is (frame-content g now k bytes sound within samples size)
 

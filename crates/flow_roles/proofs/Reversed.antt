@@ -18,7 +18,8 @@ put-append true x xs ys = refl
 put-append false x xs ys = refl
 
 moves-snoc : (r : ℕ) (before : Bool) (xs : List Told) (t : Told)
-    → moves_from begins_of r before (xs ++ t ∷ []) ≡ moves_from begins_of r before xs ++ put_if begins_of (is_of begins_of (begins_of t) r (is_of_after begins_of r before xs)) t []
+    → moves_from begins_of r before (xs ++ t ∷ [])
+    ≡ moves_from begins_of r before xs ++ put_if begins_of (is_of begins_of (begins_of t) r (is_of_after begins_of r before xs)) t []
 moves-snoc r before [] t = refl
 moves-snoc r before (x ∷ xs) t =
     let b = is_of begins_of (begins_of x) r before in
@@ -48,7 +49,8 @@ moves_reversed r (t ∷ b) =
     ap (λ (xs : List Told). reverse (moves_of begins_of r xs)) (reverse-append (t ∷ []) b)
     ∙ (ap reverse (moves-snoc r false (reverse b) t)
     ∙ (put-one (is_of begins_of (begins_of t) r (is_of_after begins_of r false (reverse b))) t (moves_of begins_of r (reverse b))
-    ∙ (ap (λ (d : Bool). if d then t ∷ reverse (moves_of begins_of r (reverse b)) else reverse (moves_of begins_of r (reverse b))) (ap (λ (d : Bool). is_of begins_of (begins_of t) r d) (after-mover r b) ∙ of-first (begins t.entry) (mover b) r)
+    ∙ (ap (λ (d : Bool). if d then t ∷ reverse (moves_of begins_of r (reverse b)) else reverse (moves_of begins_of r (reverse b)))
+    (ap (λ (d : Bool). is_of begins_of (begins_of t) r d) (after-mover r b) ∙ of-first (begins t.entry) (mover b) r)
     ∙ ap (λ (xs : List Told). if c then t ∷ xs else xs) (moves_reversed r b))))
 
 -- a move, the other way round

@@ -81,7 +81,8 @@ some-left r (e ∷ P) h =
       ]
     ]
 
-module _ {F B O : Type 0} (name_of : F → FrameName) (parts : F → Option Parts) (bytes_of : B → ℕ) (s : Setting) (logs : Entry → Bool) (ends : Last → Past → Bool → Bool)
+module _ {F B O : Type 0} (name_of : F → FrameName) (parts : F → Option Parts)
+    (bytes_of : B → ℕ) (s : Setting) (logs : Entry → Bool) (ends : Last → Past → Bool → Bool)
     (r : ℕ) (old new : Pass) (left : Left F B O) where
   -- a role that leaves has in hand what it had
   pub leave-ends : old.role ≡ r → ((e : Entry) → begins e ≡ None → logs e ≡ true) → logs (Leave r) ≡ true
@@ -98,8 +99,11 @@ module _ {F B O : Type 0} (name_of : F → FrameName) (parts : F → Option Part
             record {
               role = role-after s g Gone old new r role c;
               moves = subst (λ (a : BoardState). list_all logs (past a) ≡ true) (sym made_) rest;
-              last = ap (λ (l : Last). ends l (past new.seen) true) c.last ∙ gone (past new.seen) (ap (λ (a : BoardState). has_left_any (past a)) same ∙ some-left r (past b) left_);
-              handed = subst (λ (a : BoardState). IsOfHand name_of parts bytes_of (lent_to r a) (hand r (past a)) left.input left.made left.blank) (sym made_) of;
+              last =
+                  ap (λ (l : Last). ends l (past new.seen) true) c.last
+                  ∙ gone (past new.seen) (ap (λ (a : BoardState). has_left_any (past a)) same ∙ some-left r (past b) left_);
+              handed =
+                  subst (λ (a : BoardState). IsOfHand name_of parts bytes_of (lent_to r a) (hand r (past a)) left.input left.made left.blank) (sym made_) of;
             }
         | inr stays ↦
             let m = moved s g Gone old new r role c logs 0 (plain (Leave r)) (c.answer ∙ rw stays refl) refl quiet_ leaves_ rest in
@@ -107,13 +111,16 @@ module _ {F B O : Type 0} (name_of : F → FrameName) (parts : F → Option Part
               role = role-after s g Gone old new r role c;
               moves = m.moves;
               last = ap (λ (l : Last). ends l (past new.seen) true) c.last ∙ gone (past new.seen) (m.seen leaves refl);
-              handed = subst (λ (o : Option Entry). IsOfHand name_of parts bytes_of (lent_to r new.made) o left.input left.made left.blank) (sym (m.hand ∙ hand-before s g Gone old new r role c))
+              handed =
+                  subst (λ (o : Option Entry). IsOfHand name_of parts bytes_of (lent_to r new.made) o left.input left.made left.blank)
+                  (sym (m.hand ∙ hand-before s g Gone old new r role c))
                   (subst (λ (o : Option Parts). IsOfHand name_of parts bytes_of o (hand r (past old.made)) left.input left.made left.blank) (sym m.lent) of);
             }
       ]
 
   -- a role that goes without a hand
-  pub ends-free : new.role ≡ r → list_all logs (past new.made) ≡ true → hand r (past new.made) ≡ None → (want : Bool) → ends new.last (past new.seen) want ≡ true
+  pub ends-free : new.role ≡ r → list_all logs (past new.made) ≡ true → hand r (past new.made) ≡ None → (want : Bool)
+      → ends new.last (past new.seen) want ≡ true
       → left ≡ record { input = None; made = None; blank = None } → HasEnded name_of parts bytes_of logs ends r new left want
   ends-free role rest free want last_ none_ =
       record {
@@ -134,7 +141,8 @@ module _ {F B O : Type 0} (name_of : F → FrameName) (parts : F → Option Part
       (subst (λ (l : Left F B O). IsOfHand name_of parts bytes_of (lent_to r old.made) None l.input l.made l.blank) (sym none_) (refl, refl, refl)))
       c
 
-module _ {F B O : Type 0} (name_of : F → FrameName) (parts : F → Option Parts) (bytes_of : B → ℕ) (s : Setting) (logs : Entry → Bool) (ends : Last → Past → Bool → Bool)
+module _ {F B O : Type 0} (name_of : F → FrameName) (parts : F → Option Parts)
+    (bytes_of : B → ℕ) (s : Setting) (logs : Entry → Bool) (ends : Last → Past → Bool → Bool)
     (r : ℕ) (p : Pass) (round : Round F B O) where
   pub gone-again : round ≡ Again → HasNothing logs r p → HasGone name_of parts bytes_of logs ends r p round
   gone-again is n = subst (λ (x : Round F B O). HasGone name_of parts bytes_of logs ends r p x) (sym is) n
@@ -143,4 +151,5 @@ module _ {F B O : Type 0} (name_of : F → FrameName) (parts : F → Option Part
       → HasGone name_of parts bytes_of logs ends r p round
   gone-free is n last_ =
       subst (λ (x : Round F B O). HasGone name_of parts bytes_of logs ends r p x) (sym is)
-      (ends-free {F = F} {B = B} {O = O} name_of parts bytes_of s logs ends r p p (record { input = None; made = None; blank = None }) n.role n.moves n.free false last_ refl)
+      (ends-free {F = F} {B = B} {O = O} name_of parts bytes_of s logs ends r p p
+      (record { input = None; made = None; blank = None }) n.role n.moves n.free false last_ refl)

@@ -80,13 +80,15 @@ may-call fs s o (m ∷ n ∷ ms) one is h = absurd one
 
 -- the role's moves grow by what the call adds
 one-more : (added : List Told) (made : List (Moves Told)) → HasOneRole made
-    → HasOneRole (adds added made) × (role_in (adds added made) ≡ role_in made) × (reverse (moves_in (adds added made)) ≡ reverse added ++ reverse (moves_in made))
+    → HasOneRole (adds added made) × (role_in (adds added made) ≡ role_in made)
+    × (reverse (moves_in (adds added made)) ≡ reverse added ++ reverse (moves_in made))
 one-more added [] one = absurd one
 one-more added (m ∷ []) one = (tt, refl, reverse-append m.entries added)
 one-more added (m ∷ n ∷ ms) one = absurd one
 
 -- of its one role the pass has made just these moves
-pub exact-one : (log : List Told) (made : List (Moves Told)) → HasOneRole made → AreExact begins_of log made → moves_by (role_in made) (reverse log) ≡ reverse (moves_in made)
+pub exact-one : (log : List Told) (made : List (Moves Told)) → HasOneRole made → AreExact begins_of log made
+    → moves_by (role_in made) (reverse log) ≡ reverse (moves_in made)
 exact-one log [] one a = absurd one
 exact-one log (m ∷ []) one a = moves-back m.role log m.entries a.0
 exact-one log (m ∷ n ∷ ms) one a = absurd one
@@ -96,7 +98,8 @@ module _ {F B O : Type 0} (fs : Frames F B) (s : Setting) where
       → lock.Called begins_of (role_of o) (λ before added. IsPlayed fs s before o answer added) old new → HasOneRole new.made
   calls-one o answer old new one c = subst (λ (ms : List (Moves Told)). HasOneRole ms) (sym c.5) (one-more c.1 old.made one).0
 
-  pub called : (o : DeskOp F) (answer : DeskReply F B O) (before answered : Last) (old new : PassFacts Told) → HasOneRole old.made → role_in old.made ≡ role_of o
+  pub called : (o : DeskOp F) (answer : DeskReply F B O) (before answered : Last) (old new : PassFacts Told)
+      → HasOneRole old.made → role_in old.made ≡ role_of o
       → lock.Called begins_of (role_of o) (λ log added. IsPlayed fs s log o answer added) old new
       → Called s (λ b d. Replies fs s b o answer d) answered (known_by old before) (known_by new answered)
   called o answer before answered old new one is c =
@@ -138,7 +141,8 @@ module _ (r : ℕ) (b made : BoardState) (is : moves_by r b ≡ made) where
   blank-made need bytes_of None h = tt
   blank-made need bytes_of (Some x) h = (h.0, h.1 ∙ ap (λ (o : Option Entry). granted_size o) hand-made)
 
-  job-made : {F B O : Type 0} (parts : F → Option Parts) (bytes_of : B → ℕ) (s : Setting) (v : ℕ) (a : Take F B O) → LendsJob {F = F} {B = B} {O = O} parts bytes_of s r v a b
+  job-made : {F B O : Type 0} (parts : F → Option Parts) (bytes_of : B → ℕ) (s : Setting) (v : ℕ) (a : Take F B O)
+      → LendsJob {F = F} {B = B} {O = O} parts bytes_of s r v a b
       → LendsJob {F = F} {B = B} {O = O} parts bytes_of s r v a made
   job-made parts bytes_of s v (Job w input blank) h = (sym lent-made ∙ h.0, blank-made (s.need v) bytes_of blank h.1)
   job-made parts bytes_of s v _ h = tt
@@ -147,7 +151,8 @@ module _ (r : ℕ) (b made : BoardState) (is : moves_by r b ≡ made) where
   piece-made parts (Piece input group place of) h = sym lent-made ∙ h
   piece-made parts _ h = tt
 
-pub lends-made : {F B O : Type 0} (fs : Frames F B) (s : Setting) (o : DeskOp F) (answer : DeskReply F B O) (b made : BoardState) → moves_by (role_of o) b ≡ made
+pub lends-made : {F B O : Type 0} (fs : Frames F B) (s : Setting) (o : DeskOp F) (answer : DeskReply F B O) (b made : BoardState)
+    → moves_by (role_of o) b ≡ made
     → Lends fs s o answer b → Lends fs s o answer made
 lends-made fs s (op.Load r tick) (reply.Load a) b made is h = room-made r b made is fs.bytes_of s a h
 lends-made {F} {B} {O} fs s (op.Take r v) (reply.Take a) b made is h = job-made r b made is {F = F} {B = B} {O = O} fs.parts fs.bytes_of s v a h
@@ -177,15 +182,18 @@ load-other : {F B O : Type 0} (r tick : ℕ) (answer : DeskReply F B O) → ((x 
 load-other r tick (reply.Load x) not = absurd (not x refl)
 load-other r tick _ not = refl
 
-pub load-replied : {F B O : Type 0} (fs : Frames F B) (s : Setting) (r tick : ℕ) (answer : DeskReply F B O) (l : Last) (old new : Pass) → ((x : Load B) → answer ≡ reply.Load x → ⊥)
+pub load-replied : {F B O : Type 0} (fs : Frames F B) (s : Setting) (r tick : ℕ) (answer : DeskReply F B O) (l : Last) (old new : Pass)
+    → ((x : Load B) → answer ≡ reply.Load x → ⊥)
     → Called s (λ b d. Replies fs s b (op.Load r tick) answer d) l old new → ⊥
 load-replied fs s r tick answer l old new not c = not-called fs s (op.Load r tick) answer l old new (load-other r tick answer not) c
 
-issue-other : {F B O : Type 0} (r : ℕ) (f : F) (answer : DeskReply F B O) → ((x : Result (Unit {0}) (NotYours F)) → answer ≡ reply.Issue x → ⊥) → call_of (op.Issue r f) answer ≡ None
+issue-other : {F B O : Type 0} (r : ℕ) (f : F) (answer : DeskReply F B O) → ((x : Result (Unit {0}) (NotYours F)) → answer ≡ reply.Issue x → ⊥)
+    → call_of (op.Issue r f) answer ≡ None
 issue-other r f (reply.Issue x) not = absurd (not x refl)
 issue-other r f _ not = refl
 
-pub issue-replied : {F B O : Type 0} (fs : Frames F B) (s : Setting) (r : ℕ) (f : F) (answer : DeskReply F B O) (l : Last) (old new : Pass) → ((x : Result (Unit {0}) (NotYours F)) → answer ≡ reply.Issue x → ⊥)
+pub issue-replied : {F B O : Type 0} (fs : Frames F B) (s : Setting) (r : ℕ) (f : F) (answer : DeskReply F B O) (l : Last) (old new : Pass)
+    → ((x : Result (Unit {0}) (NotYours F)) → answer ≡ reply.Issue x → ⊥)
     → Called s (λ b d. Replies fs s b (op.Issue r f) answer d) l old new → ⊥
 issue-replied fs s r f answer l old new not c = not-called fs s (op.Issue r f) answer l old new (issue-other r f answer not) c
 
@@ -193,15 +201,18 @@ take-other : {F B O : Type 0} (r v : ℕ) (answer : DeskReply F B O) → ((x : T
 take-other r v (reply.Take x) not = absurd (not x refl)
 take-other r v _ not = refl
 
-pub take-replied : {F B O : Type 0} (fs : Frames F B) (s : Setting) (r v : ℕ) (answer : DeskReply F B O) (l : Last) (old new : Pass) → ((x : Take F B O) → answer ≡ reply.Take x → ⊥)
+pub take-replied : {F B O : Type 0} (fs : Frames F B) (s : Setting) (r v : ℕ) (answer : DeskReply F B O) (l : Last) (old new : Pass)
+    → ((x : Take F B O) → answer ≡ reply.Take x → ⊥)
     → Called s (λ b d. Replies fs s b (op.Take r v) answer d) l old new → ⊥
 take-replied fs s r v answer l old new not c = not-called fs s (op.Take r v) answer l old new (take-other r v answer not) c
 
-put-other : {F B O : Type 0} (r : ℕ) (done : Done F) (answer : DeskReply F B O) → ((x : Result (Unit {0}) (NotYours F)) → answer ≡ reply.Put x → ⊥) → call_of (op.Put r done) answer ≡ None
+put-other : {F B O : Type 0} (r : ℕ) (done : Done F) (answer : DeskReply F B O) → ((x : Result (Unit {0}) (NotYours F)) → answer ≡ reply.Put x → ⊥)
+    → call_of (op.Put r done) answer ≡ None
 put-other r done (reply.Put x) not = absurd (not x refl)
 put-other r done _ not = refl
 
-pub put-replied : {F B O : Type 0} (fs : Frames F B) (s : Setting) (r : ℕ) (done : Done F) (answer : DeskReply F B O) (l : Last) (old new : Pass) → ((x : Result (Unit {0}) (NotYours F)) → answer ≡ reply.Put x → ⊥)
+pub put-replied : {F B O : Type 0} (fs : Frames F B) (s : Setting) (r : ℕ) (done : Done F) (answer : DeskReply F B O) (l : Last) (old new : Pass)
+    → ((x : Result (Unit {0}) (NotYours F)) → answer ≡ reply.Put x → ⊥)
     → Called s (λ b d. Replies fs s b (op.Put r done) answer d) l old new → ⊥
 put-replied fs s r done answer l old new not c = not-called fs s (op.Put r done) answer l old new (put-other r done answer not) c
 
@@ -209,7 +220,8 @@ settle-other : {F B O : Type 0} (r v : ℕ) (answer : DeskReply F B O) → ((x :
 settle-other r v (reply.Settle x) not = absurd (not x refl)
 settle-other r v _ not = refl
 
-pub settle-replied : {F B O : Type 0} (fs : Frames F B) (s : Setting) (r v : ℕ) (answer : DeskReply F B O) (l : Last) (old new : Pass) → ((x : Settled) → answer ≡ reply.Settle x → ⊥)
+pub settle-replied : {F B O : Type 0} (fs : Frames F B) (s : Setting) (r v : ℕ) (answer : DeskReply F B O) (l : Last) (old new : Pass)
+    → ((x : Settled) → answer ≡ reply.Settle x → ⊥)
     → Called s (λ b d. Replies fs s b (op.Settle r v) answer d) l old new → ⊥
 settle-replied fs s r v answer l old new not c = not-called fs s (op.Settle r v) answer l old new (settle-other r v answer not) c
 
@@ -217,7 +229,8 @@ close-other : {F B O : Type 0} (r : ℕ) (answer : DeskReply F B O) → ((x : Se
 close-other r (reply.Close x) not = absurd (not x refl)
 close-other r _ not = refl
 
-pub close-replied : {F B O : Type 0} (fs : Frames F B) (s : Setting) (r : ℕ) (answer : DeskReply F B O) (l : Last) (old new : Pass) → ((x : Settled) → answer ≡ reply.Close x → ⊥)
+pub close-replied : {F B O : Type 0} (fs : Frames F B) (s : Setting) (r : ℕ) (answer : DeskReply F B O) (l : Last) (old new : Pass)
+    → ((x : Settled) → answer ≡ reply.Close x → ⊥)
     → Called s (λ b d. Replies fs s b (op.Close r) answer d) l old new → ⊥
 close-replied fs s r answer l old new not c = not-called fs s (op.Close r) answer l old new (close-other r answer not) c
 
@@ -233,15 +246,18 @@ save-other : {F B O : Type 0} (r v : ℕ) (answer : DeskReply F B O) → ((x : S
 save-other r v (reply.Save x) not = absurd (not x refl)
 save-other r v _ not = refl
 
-pub save-replied : {F B O : Type 0} (fs : Frames F B) (s : Setting) (r v : ℕ) (answer : DeskReply F B O) (l : Last) (old new : Pass) → ((x : Save F) → answer ≡ reply.Save x → ⊥)
+pub save-replied : {F B O : Type 0} (fs : Frames F B) (s : Setting) (r v : ℕ) (answer : DeskReply F B O) (l : Last) (old new : Pass)
+    → ((x : Save F) → answer ≡ reply.Save x → ⊥)
     → Called s (λ b d. Replies fs s b (op.Save r v) answer d) l old new → ⊥
 save-replied fs s r v answer l old new not c = not-called fs s (op.Save r v) answer l old new (save-other r v answer not) c
 
-saved-other : {F B O : Type 0} (r : ℕ) (f : F) (answer : DeskReply F B O) → ((x : Result (Unit {0}) (NotYours F)) → answer ≡ reply.Saved x → ⊥) → call_of (op.Saved r f) answer ≡ None
+saved-other : {F B O : Type 0} (r : ℕ) (f : F) (answer : DeskReply F B O) → ((x : Result (Unit {0}) (NotYours F)) → answer ≡ reply.Saved x → ⊥)
+    → call_of (op.Saved r f) answer ≡ None
 saved-other r f (reply.Saved x) not = absurd (not x refl)
 saved-other r f _ not = refl
 
-pub saved-replied : {F B O : Type 0} (fs : Frames F B) (s : Setting) (r : ℕ) (f : F) (answer : DeskReply F B O) (l : Last) (old new : Pass) → ((x : Result (Unit {0}) (NotYours F)) → answer ≡ reply.Saved x → ⊥)
+pub saved-replied : {F B O : Type 0} (fs : Frames F B) (s : Setting) (r : ℕ) (f : F) (answer : DeskReply F B O) (l : Last) (old new : Pass)
+    → ((x : Result (Unit {0}) (NotYours F)) → answer ≡ reply.Saved x → ⊥)
     → Called s (λ b d. Replies fs s b (op.Saved r f) answer d) l old new → ⊥
 saved-replied fs s r f answer l old new not c = not-called fs s (op.Saved r f) answer l old new (saved-other r f answer not) c
 
@@ -249,7 +265,8 @@ progress-other : {F B O : Type 0} (r : ℕ) (answer : DeskReply F B O) → ((x :
 progress-other r (reply.Progress x) not = absurd (not x refl)
 progress-other r _ not = refl
 
-pub progress-replied : {F B O : Type 0} (fs : Frames F B) (s : Setting) (r : ℕ) (answer : DeskReply F B O) (l : Last) (old new : Pass) → ((x : Progress) → answer ≡ reply.Progress x → ⊥)
+pub progress-replied : {F B O : Type 0} (fs : Frames F B) (s : Setting) (r : ℕ) (answer : DeskReply F B O) (l : Last) (old new : Pass)
+    → ((x : Progress) → answer ≡ reply.Progress x → ⊥)
     → Called s (λ b d. Replies fs s b (op.Progress r) answer d) l old new → ⊥
 progress-replied fs s r answer l old new not c = not-called fs s (op.Progress r) answer l old new (progress-other r answer not) c
 

@@ -91,7 +91,8 @@ module _ {P : Type 0} (inner : P → PassFacts Told) (lock : TableId) (all : Lis
         own = split.1.0;
         ours = split.0;
         count = one-role (inner p).made split.1.1;
-        each = All-cons (λ q. IsWithin (inner q) (inner p)) p [] (([], sym (append-nil (inner p).seen)), λ log a. a) (All-nil (λ q. IsWithin (inner q) (inner p)));
+        each =
+            All-cons (λ q. IsWithin (inner q) (inner p)) p [] (([], sym (append-nil (inner p).seen)), λ log a. a) (All-nil (λ q. IsWithin (inner q) (inner p)));
         seen = inl refl;
       }
 
@@ -99,11 +100,14 @@ module _ {P : Type 0} (inner : P → PassFacts Told) (lock : TableId) (all : Lis
   seen-on old new ps is h = subst (λ (l : List Told). SeenBy inner l ps) (sym is) h
 
   pub next-joined : (left rest : List P) (p : P) (keep new : PassFacts Told) → Joined inner lock all left keep → left ≡ rest ++ p ∷ []
-      → new ≡ pass_facts keep.lock (longer keep.seen (inner p).seen) (keep.made ++ (inner p).made) → IsPrefix keep.seen new.seen × IsPrefix (inner p).seen new.seen
+      → new ≡ pass_facts keep.lock (longer keep.seen (inner p).seen) (keep.made ++ (inner p).made)
+      → IsPrefix keep.seen new.seen × IsPrefix (inner p).seen new.seen
       → Joined inner lock all rest new
   next-joined left rest p keep new j is made fronts =
       let split = All-pop (λ q. IsPassOf lock (inner q)) left rest (Some p) is j.ours in
-      let apart = λ (log : List Told) (a : AreExact begins_of log new.made). exact-append log keep.made (inner p).made (subst (λ (q : PassFacts Told). AreExact begins_of log q.made) made a) in
+      let apart =
+      λ (log : List Told) (a : AreExact begins_of log new.made).
+      exact-append log keep.made (inner p).made (subst (λ (q : PassFacts Told). AreExact begins_of log q.made) made a) in
       let longest : new.seen ≡ longer keep.seen (inner p).seen = ap (λ (q : PassFacts Told). q.seen) made in
       record {
         joined = p ∷ j.joined;
@@ -116,7 +120,8 @@ module _ {P : Type 0} (inner : P → PassFacts Told) (lock : TableId) (all : Lis
             omega (arith, both, whole_, j.count, one-role (inner p).made split.1.1);
         each =
             All-cons (λ q. IsWithin (inner q) new) p j.joined (fronts.1, λ log a. (apart log a).1)
-            (All-weaker (λ q. IsWithin (inner q) keep) (λ q. IsWithin (inner q) new) (λ q w. (prefix-on (inner q).seen keep.seen new.seen w.0 fronts.0, λ log a. w.1 log (apart log a).0)) j.joined j.each);
+            (All-weaker (λ q. IsWithin (inner q) keep) (λ q. IsWithin (inner q) new)
+            (λ q w. (prefix-on (inner q).seen keep.seen new.seen w.0 fronts.0, λ log a. w.1 log (apart log a).0)) j.joined j.each);
         seen =
             elim (longer-either keep.seen (inner p).seen (subst (λ (l : List Told). IsPrefix (inner p).seen l) longest fronts.1)) [
               | inl first_ ↦ inr (seen-on keep.seen new.seen j.joined (longest ∙ first_) j.seen)
@@ -142,7 +147,8 @@ module _ {P : Type 0} (inner : P → PassFacts Told) (lock : TableId) (all : Lis
 -- WHAT IS SAID OF THE BOARD
 
 -- what a joined pass says of the log, the board's words say of the board
-pub has-made : (p keep : PassFacts Told) (l : Last) (b : BoardState) → HasOneRole p.made → IsWithin p keep → reverse b ≡ keep.seen → AreExact begins_of (reverse b) keep.made
+pub has-made : (p keep : PassFacts Told) (l : Last) (b : BoardState) → HasOneRole p.made → IsWithin p keep → reverse b ≡ keep.seen
+    → AreExact begins_of (reverse b) keep.made
     → HasMade b (known_by p l)
 has-made p keep l b one w is exact_ =
     let back : b ≡ reverse keep.seen = sym (reverse-reverse b) ∙ ap (λ (x : List Told). reverse x) is in
@@ -172,12 +178,14 @@ mapped f None y h = cc
 mapped f (Some x) y h = let is : f x ≡ y = cc in (x, refl, is)
 
 -- a pass that was dealt out, in the words of a desk
-pub fresh-at : {P : Type 0} (inner : P → PassFacts Told) (last : P → Last) (make : PassFacts Told → P) (lock : TableId) (n k : ℕ) (ps : List P) (qs : List (PassFacts Told)) (p : P)
+pub fresh-at : {P : Type 0} (inner : P → PassFacts Told) (last : P → Last) (make : PassFacts Told → P) (lock : TableId) (n k : ℕ) (ps : List P)
+    (qs : List (PassFacts Told)) (p : P)
     → ((q : PassFacts Told) → (inner (make q) ≡ q) × (last (make q) ≡ Fresh)) → qs ≡ new_passes lock 0 n → ps ≡ map make qs → slice_get ps k ≡ Some p
     → IsFreshOf lock k (inner p) (last p)
 fresh-at {P} inner last make lock n k ps qs p made dealt is at =
     let found : option_map make (slice_get (new_passes lock 0 n) k) ≡ Some p =
-    sym (slice_get-map make (new_passes lock 0 n) k) ∙ (ap (λ (xs : List (PassFacts Told)). slice_get (map make xs) k) (sym dealt) ∙ (ap (λ (xs : List P). slice_get xs k) (sym is) ∙ at)) in
+    sym (slice_get-map make (new_passes lock 0 n) k)
+    ∙ (ap (λ (xs : List (PassFacts Told)). slice_get (map make xs) k) (sym dealt) ∙ (ap (λ (xs : List P). slice_get xs k) (sym is) ∙ at)) in
     let q = mapped make (slice_get (new_passes lock 0 n) k) p found in
     let m = made q.0 in
     subst (λ (x : P). IsFreshOf lock k (inner x) (last x)) q.2

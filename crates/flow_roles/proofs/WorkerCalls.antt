@@ -61,7 +61,8 @@ is_still (take.Job w input blank) = false
 abbrev pub no_refusal : (F B O : Type 0) → Option (take_answer F B O)
 no_refusal F B O = None
 
-pub take-still : {F B O : Type 0} (name_of : F → FrameName) (parts : F → Option Parts) (bytes_of : B → ℕ) (s : Setting) (old new : BoardState) (r v : ℕ) (o : Option (take_answer F B O))
+pub take-still : {F B O : Type 0} (name_of : F → FrameName) (parts : F → Option Parts)
+    (bytes_of : B → ℕ) (s : Setting) (old new : BoardState) (r v : ℕ) (o : Option (take_answer F B O))
     (g : Option Answer) (a : take_answer F B O) → is_still a ≡ true → TakeAnswers name_of parts bytes_of s old r v o g a new → new ≡ old
 take-still name_of parts bytes_of s old new r v (Some x) g a h c = c.1
 take-still name_of parts bytes_of s old new r v None (Some (Granted b n f g)) take.OutOfMemory h c = c.1
@@ -98,7 +99,8 @@ some-same : {X : Type 0} {x y : X} → Some x ≡ Some y → x ≡ y
 some-same h = cc
 
 pub said-by : {F B O : Type 0} (a : take_answer F B O) (away busy ended idle : Bool)
-    → cond away (Some take.Left) (cond busy (Some take.Busy) (cond ended (Some take.Ended) (cond idle (Some take.Idle) (no_refusal F B O)))) ≡ Some a → Says a away busy ended idle
+    → cond away (Some take.Left) (cond busy (Some take.Busy) (cond ended (Some take.Ended) (cond idle (Some take.Idle) (no_refusal F B O)))) ≡ Some a
+    → Says a away busy ended idle
 said-by {F} {B} {O} a true busy ended idle h = subst (λ (x : take_answer F B O). Says x true busy ended idle) (some-same h) refl
 said-by {F} {B} {O} a false true ended idle h = subst (λ (x : take_answer F B O). Says x false true ended idle) (some-same h) refl
 said-by {F} {B} {O} a false false true idle h = subst (λ (x : take_answer F B O). Says x false false true idle) (some-same h) refl
@@ -124,11 +126,15 @@ take-told name_of parts bytes_of s old new r v None take.Busy h c = c
 take-told name_of parts bytes_of s old new r v None take.Ended h c = c
 take-told name_of parts bytes_of s old new r v g _ h c = false≢true h
 
-pub take-says : {F B O : Type 0} (name_of : F → FrameName) (parts : F → Option Parts) (bytes_of : B → ℕ) (s : Setting) (old new : BoardState) (r v : ℕ) (o : Option (take_answer F B O))
-    (g : Option Answer) (a : take_answer F B O) → is_told a ≡ true → take_refusal {F = F} {B = B} {O = O} s r v (past old) ≡ o → TakeAnswers name_of parts bytes_of s old r v o g a new
-    → Says a (is_sent_away s r (past old)) (not (is_free r (past old))) (is_settled v (past old)) (none_left (queued v (past old)) || leb (node s v).threads (jobs v (past old)))
+pub take-says : {F B O : Type 0} (name_of : F → FrameName) (parts : F → Option Parts)
+    (bytes_of : B → ℕ) (s : Setting) (old new : BoardState) (r v : ℕ) (o : Option (take_answer F B O))
+    (g : Option Answer) (a : take_answer F B O) → is_told a ≡ true → take_refusal {F = F} {B = B} {O = O} s r v (past old) ≡ o
+    → TakeAnswers name_of parts bytes_of s old r v o g a new
+    → Says a (is_sent_away s r (past old)) (not (is_free r (past old))) (is_settled v (past old))
+    (none_left (queued v (past old)) || leb (node s v).threads (jobs v (past old)))
 take-says {F} {B} {O} name_of parts bytes_of s old new r v (Some x) g a h is c =
-    said-by {F = F} {B = B} {O = O} a (is_sent_away s r (past old)) (not (is_free r (past old))) (is_settled v (past old)) (none_left (queued v (past old)) || leb (node s v).threads (jobs v (past old)))
+    said-by {F = F} {B = B} {O = O} a (is_sent_away s r (past old)) (not (is_free r (past old))) (is_settled v (past old))
+    (none_left (queued v (past old)) || leb (node s v).threads (jobs v (past old)))
     (is ∙ ap Some (sym c.0))
 take-says name_of parts bytes_of s old new r v None g a h is c = absurd (take-told name_of parts bytes_of s old new r v g a h c)
 
@@ -136,7 +142,8 @@ take-says name_of parts bytes_of s old new r v None g a h is c = absurd (take-to
 abbrev pub Dropped : Setting → BoardState → BoardState → (r v : ℕ) → Type 0
 Dropped s old new r v = (m : ℕ) × (k : ℕ) × (z : ℕ) × (new ≡ moved_at s 0 (plain (PoolDrop r v m k (s.need v) z)) old)
 
-pub take-drop : {F B O : Type 0} (name_of : F → FrameName) (parts : F → Option Parts) (bytes_of : B → ℕ) (s : Setting) (old new : BoardState) (r v k z : ℕ) (o : Option (take_answer F B O))
+pub take-drop : {F B O : Type 0} (name_of : F → FrameName) (parts : F → Option Parts)
+    (bytes_of : B → ℕ) (s : Setting) (old new : BoardState) (r v k z : ℕ) (o : Option (take_answer F B O))
     (g : Option Answer) → TakeAnswers name_of parts bytes_of s old r v o g (take.PoolDrop k z) new → (new ≡ old) ⊎ Dropped s old new r v
 take-drop name_of parts bytes_of s old new r v k z (Some x) g c = inl c.1
 take-drop name_of parts bytes_of s old new r v k z None (Some pool.Refused) c = inr (c.1.0.maker, c.1.0.index, z, c.1.3)
@@ -144,7 +151,8 @@ take-drop name_of parts bytes_of s old new r v k z None (Some (Granted b n f g))
 take-drop name_of parts bytes_of s old new r v k z None None c = absurd c
 
 -- what is known of a job with a block, and of one without
-pub record WithBlock {F B : Type 0} (name_of : F → FrameName) (parts : F → Option Parts) (bytes_of : B → ℕ) (s : Setting) (old new : BoardState) (r v : ℕ) (input : F)
+pub record WithBlock {F B : Type 0} (name_of : F → FrameName) (parts : F → Option Parts)
+    (bytes_of : B → ℕ) (s : Setting) (old new : BoardState) (r v : ℕ) (input : F)
     (blank : Option B) : Type 0 where
   pub b : ℕ
   pub n : ℕ
@@ -171,12 +179,14 @@ asked-none : (maker : Bool) (x : Answer) → (if maker then Some x else None) �
 asked-none true x h = cc
 asked-none false x h = refl
 
-pub take-taken : {F B O : Type 0} (name_of : F → FrameName) (parts : F → Option Parts) (bytes_of : B → ℕ) (s : Setting) (old new : BoardState) (r v w : ℕ) (input : F) (blank : Option B)
+pub take-taken : {F B O : Type 0} (name_of : F → FrameName) (parts : F → Option Parts)
+    (bytes_of : B → ℕ) (s : Setting) (old new : BoardState) (r v w : ℕ) (input : F) (blank : Option B)
     (o : Option (take_answer F B O)) (g : Option Answer) → take_refusal {F = F} {B = B} {O = O} s r v (past old) ≡ o → asked s v (past old) ≡ g
     → TakeAnswers name_of parts bytes_of s old r v o g (take.Job w input blank) new
     → WithBlock name_of parts bytes_of s old new r v input blank ⊎ Alone name_of parts s old new r v input blank
 take-taken {F} {B} {O} name_of parts bytes_of s old new r v w input blank (Some x) g is given c =
-    absurd (said-by {F = F} {B = B} {O = O} (take.Job w input blank) (is_sent_away s r (past old)) (not (is_free r (past old))) (is_settled v (past old)) (none_left (queued v (past old)) || leb (node s v).threads (jobs v (past old)))
+    absurd (said-by {F = F} {B = B} {O = O} (take.Job w input blank) (is_sent_away s r (past old)) (not (is_free r (past old))) (is_settled v (past old))
+    (none_left (queued v (past old)) || leb (node s v).threads (jobs v (past old)))
     (is ∙ ap Some (sym c.0)))
 take-taken name_of parts bytes_of s old new r v w input (Some blank) None (Some (Granted b n f g)) is given c =
     inl (record {
@@ -199,29 +209,41 @@ take-taken name_of parts bytes_of s old new r v w input blank None (Some pool.Re
 
 -- THE WORKER'S TAKES
 
-module _ {F B O : Type 0} (name_of : F → FrameName) (parts : F → Option Parts) (bytes_of : B → ℕ) (s : Setting) (r v : ℕ) (old new : Pass) (n : HasNothing (worker_logs v) r old) where
-  pub take-goes : (a : take_answer F B O) → is_still a ≡ true → Called s (λ x y. TakeGives {F = F} {B = B} {O = O} name_of parts bytes_of s x r v a y) (last_take a) old new
+module _ {F B O : Type 0} (name_of : F → FrameName) (parts : F → Option Parts)
+    (bytes_of : B → ℕ) (s : Setting) (r v : ℕ) (old new : Pass) (n : HasNothing (worker_logs v) r old) where
+  pub take-goes : (a : take_answer F B O) → is_still a ≡ true
+      → Called s (λ x y. TakeGives {F = F} {B = B} {O = O} name_of parts bytes_of s x r v a y) (last_take a) old new
       → HasNothing (worker_logs v) r new
   take-goes a still c =
       let g = λ (x y : BoardState). TakeGives {F = F} {B = B} {O = O} name_of parts bytes_of s x r v a y in
       let b = here s g (last_take a) old new r n.role c in
-      let same_ = take-still {F = F} {B = B} {O = O} name_of parts bytes_of s b new.seen r v (take_refusal s r v (past b)) (asked s v (past b)) a still c.answer in
+      let same_ =
+      take-still {F = F} {B = B} {O = O} name_of parts bytes_of s b new.seen r v (take_refusal s r v (past b)) (asked s v (past b)) a still c.answer in
       kept (worker_logs v) r old new (role-after s g (last_take a) old new r n.role c) (unmoved s g (last_take a) old new r n.role c same_) n
 
-  pub take-left-seen : Called s (λ x y. TakeGives {F = F} {B = B} {O = O} name_of parts bytes_of s x r v take.Left y) last.Left old new → worker_ends v new.last (past new.seen) false ≡ true
+  pub take-left-seen : Called s (λ x y. TakeGives {F = F} {B = B} {O = O} name_of parts bytes_of s x r v take.Left y) last.Left old new
+      → worker_ends v new.last (past new.seen) false ≡ true
   take-left-seen c =
       let g = λ (x y : BoardState). TakeGives {F = F} {B = B} {O = O} name_of parts bytes_of s x r v take.Left y in
       let b = here s g last.Left old new r n.role c in
-      let same_ = take-still {F = F} {B = B} {O = O} name_of parts bytes_of s b new.seen r v (take_refusal s r v (past b)) (asked s v (past b)) take.Left refl c.answer in
-      let away = take-says {F = F} {B = B} {O = O} name_of parts bytes_of s b new.seen r v (take_refusal s r v (past b)) (asked s v (past b)) take.Left refl refl c.answer in
-      ap (λ (l : Last). worker_ends v l (past new.seen) false) c.last ∙ (ap (λ (w : BoardState). has_left_any (past w)) same_ ∙ (and_parts (has_left_any (past b)) _ away).0)
+      let same_ =
+      take-still {F = F} {B = B} {O = O} name_of parts bytes_of s b new.seen r v (take_refusal s r v (past b)) (asked s v (past b)) take.Left refl c.answer in
+      let away =
+      take-says {F = F} {B = B} {O = O} name_of parts bytes_of s b new.seen r v (take_refusal s r v (past b))
+      (asked s v (past b)) take.Left refl refl c.answer in
+      ap (λ (l : Last). worker_ends v l (past new.seen) false) c.last
+      ∙ (ap (λ (w : BoardState). has_left_any (past w)) same_ ∙ (and_parts (has_left_any (past b)) _ away).0)
 
-  pub take-ended-seen : Called s (λ x y. TakeGives {F = F} {B = B} {O = O} name_of parts bytes_of s x r v take.Ended y) last.Ended old new → worker_ends v new.last (past new.seen) false ≡ true
+  pub take-ended-seen : Called s (λ x y. TakeGives {F = F} {B = B} {O = O} name_of parts bytes_of s x r v take.Ended y) last.Ended old new
+      → worker_ends v new.last (past new.seen) false ≡ true
   take-ended-seen c =
       let g = λ (x y : BoardState). TakeGives {F = F} {B = B} {O = O} name_of parts bytes_of s x r v take.Ended y in
       let b = here s g last.Ended old new r n.role c in
-      let same_ = take-still {F = F} {B = B} {O = O} name_of parts bytes_of s b new.seen r v (take_refusal s r v (past b)) (asked s v (past b)) take.Ended refl c.answer in
-      let ended = take-says {F = F} {B = B} {O = O} name_of parts bytes_of s b new.seen r v (take_refusal s r v (past b)) (asked s v (past b)) take.Ended refl refl c.answer in
+      let same_ =
+      take-still {F = F} {B = B} {O = O} name_of parts bytes_of s b new.seen r v (take_refusal s r v (past b)) (asked s v (past b)) take.Ended refl c.answer in
+      let ended =
+      take-says {F = F} {B = B} {O = O} name_of parts bytes_of s b new.seen r v (take_refusal s r v (past b))
+      (asked s v (past b)) take.Ended refl refl c.answer in
       ap (λ (l : Last). worker_ends v l (past new.seen) false) c.last ∙ (ap (λ (w : BoardState). is_settled v (past w)) same_ ∙ ended)
 
   -- a role without a hand isn't busy
@@ -229,11 +251,14 @@ module _ {F B O : Type 0} (name_of : F → FrameName) (parts : F → Option Part
   take-isnt-busy c =
       let g = λ (x y : BoardState). TakeGives {F = F} {B = B} {O = O} name_of parts bytes_of s x r v take.Busy y in
       let b = here s g last.Other old new r n.role c in
-      let busy = take-says {F = F} {B = B} {O = O} name_of parts bytes_of s b new.seen r v (take_refusal s r v (past b)) (asked s v (past b)) take.Busy refl refl c.answer in
+      let busy =
+      take-says {F = F} {B = B} {O = O} name_of parts bytes_of s b new.seen r v (take_refusal s r v (past b))
+      (asked s v (past b)) take.Busy refl refl c.answer in
       let free : is_free r (past b) ≡ true = ap is_none (hand-before s g last.Other old new r n.role c ∙ n.free) in
       false≢true (sym (ap not free) ∙ busy)
 
-  pub take-drops : (k z : ℕ) → Called s (λ x y. TakeGives {F = F} {B = B} {O = O} name_of parts bytes_of s x r v (take.PoolDrop k z) y) last.Other old new → HasNothing (worker_logs v) r new
+  pub take-drops : (k z : ℕ) → Called s (λ x y. TakeGives {F = F} {B = B} {O = O} name_of parts bytes_of s x r v (take.PoolDrop k z) y) last.Other old new
+      → HasNothing (worker_logs v) r new
   take-drops k z c =
       let g = λ (x y : BoardState). TakeGives {F = F} {B = B} {O = O} name_of parts bytes_of s x r v (take.PoolDrop k z) y in
       let b = here s g last.Other old new r n.role c in
@@ -241,7 +266,9 @@ module _ {F B O : Type 0} (name_of : F → FrameName) (parts : F → Option Part
       elim (take-drop {F = F} {B = B} {O = O} name_of parts bytes_of s b new.seen r v k z (take_refusal s r v (past b)) (asked s v (past b)) c.answer) [
         | inl same_ ↦ kept (worker_logs v) r old new role_ (unmoved s g last.Other old new r n.role c same_) n
         | inr d ↦
-            let m = moved s g last.Other old new r n.role c (worker_logs v) 0 (plain (PoolDrop r v d.0 d.1 (s.need v) d.2)) d.3 refl (worker-quiet v) (eq-eqb v v refl) n.moves in
+            let m =
+            moved s g last.Other old new r n.role c (worker_logs v) 0 (plain (PoolDrop r v d.0 d.1 (s.need v) d.2)) d.3 refl
+            (worker-quiet v) (eq-eqb v v refl) n.moves in
             record { role = role_; moves = m.moves; free = m.hand ∙ (hand-before s g last.Other old new r n.role c ∙ n.free) }
       ]
 
@@ -250,34 +277,43 @@ module _ {F B O : Type 0} (name_of : F → FrameName) (parts : F → Option Part
 pub same-self : (a : FrameName) → same a (frame a.maker a.index) ≡ true
 same-self a = and_from _ _ (eq-eqb a.maker a.maker refl) (eq-eqb a.index a.index refl)
 
-pub room-of : (need : ℕ) (size : ℕ) (blank : Option (List ℕ)) → OfSome (λ (b : List ℕ). (need ≤ length b) × (length b ≡ size)) blank → OfSome (λ (b : List ℕ). need ≤ length b) blank
+pub room-of : (need : ℕ) (size : ℕ) (blank : Option (List ℕ)) → OfSome (λ (b : List ℕ). (need ≤ length b) × (length b ≡ size)) blank
+    → OfSome (λ (b : List ℕ). need ≤ length b) blank
 room-of need size None h = tt
 room-of need size (Some b) h = h.0
 
-module _ {O : Type 0} (g : Graph) (stack : StackValue) (r v w : ℕ) (input : Sealed) (old new : Pass) (sound : IsGraph g) (node_ : is_node (run_setting g stack) v ≡ true)
+module _ {O : Type 0} (g : Graph) (stack : StackValue) (r v w : ℕ) (input : Sealed) (old new : Pass) (sound : IsGraph g)
+    (node_ : is_node (run_setting g stack) v ≡ true)
     (n : HasNothing (worker_logs v) r old) where
-  job-from : (blank : Option (List ℕ)) (e : Entry) → takes_up r e ≡ true → is_job_on v input.name (Some e) ≡ true → is_some blank ≡ is_maker (run_setting g stack) v
+  job-from : (blank : Option (List ℕ)) (e : Entry) → takes_up r e ≡ true → is_job_on v input.name (Some e) ≡ true
+      → is_some blank ≡ is_maker (run_setting g stack) v
       → ((lent : Option Parts) → parts_of input ≡ lent → IsOfHand name_of parts_of length lent (Some e) (Some input) None blank)
-      → (c : Called (run_setting g stack) (λ x y. TakeGives {F = Sealed} {B = List ℕ} {O = O} name_of parts_of length (run_setting g stack) x r v (take.Job w input blank) y) last.Other old new)
+      → (c : Called (run_setting g stack)
+      (λ x y. TakeGives {F = Sealed} {B = List ℕ} {O = O} name_of parts_of length (run_setting g stack) x r v (take.Job w input blank) y) last.Other old new)
       → LendsJob {F = Sealed} {B = List ℕ} {O = O} parts_of length (run_setting g stack) r v (take.Job w input blank) new.made
       → new.seen ≡ moved_at (run_setting g stack) 0 (lends e (parts_of input)) (c.between ++ old.seen)
       → begins e ≡ Some r → worker_logs v e ≡ true → HasJob g stack r v input blank new
   job-from blank e up job maker held c lent_ move first log =
-      let f = λ (x y : BoardState). TakeGives {F = Sealed} {B = List ℕ} {O = O} name_of parts_of length (run_setting g stack) x r v (take.Job w input blank) y in
-      let m = moved (run_setting g stack) f last.Other old new r n.role c (worker_logs v) 0 (lends e (parts_of input)) move first (worker-quiet v) log n.moves in
+      let f =
+      λ (x y : BoardState). TakeGives {F = Sealed} {B = List ℕ} {O = O} name_of parts_of length (run_setting g stack) x r v (take.Job w input blank) y in
+      let m =
+      moved (run_setting g stack) f last.Other old new r n.role c (worker_logs v) 0 (lends e (parts_of input)) move first (worker-quiet v) log n.moves in
       let hand_ : hand r (past new.made) ≡ Some e = m.hand ∙ hand_laws.up r e (past (c.between ++ old.seen)) up in
       let seen_ : hand r (past new.seen) ≡ Some e = hand-after (run_setting g stack) f last.Other old new r n.role c ∙ hand_ in
       record {
         role = role-after (run_setting g stack) f last.Other old new r n.role c;
         moves = m.moves;
         job = ap (λ (o : Option Entry). is_job_on v input.name o) hand_ ∙ job;
-        held = subst (λ (o : Option Entry). IsOfHand name_of parts_of length (lent_to r new.made) o (Some input) None blank) (sym hand_) (held (lent_to r new.made) (sym lent_.0));
+        held =
+            subst (λ (o : Option Entry). IsOfHand name_of parts_of length (lent_to r new.made) o (Some input) None blank) (sym hand_)
+            (held (lent_to r new.made) (sym lent_.0));
         comes = hand-named g stack (past new.seen) r v e input.name sound node_ c.legal seen_ job;
         fits = record { maker = maker; room = room-of ((run_setting g stack).need v) (granted_size (hand r (past new.made))) blank lent_.1 };
       }
 
   with-block : (blank : Option (List ℕ))
-      → (c : Called (run_setting g stack) (λ x y. TakeGives {F = Sealed} {B = List ℕ} {O = O} name_of parts_of length (run_setting g stack) x r v (take.Job w input blank) y) last.Other old new)
+      → (c : Called (run_setting g stack)
+      (λ x y. TakeGives {F = Sealed} {B = List ℕ} {O = O} name_of parts_of length (run_setting g stack) x r v (take.Job w input blank) y) last.Other old new)
       → LendsJob {F = Sealed} {B = List ℕ} {O = O} parts_of length (run_setting g stack) r v (take.Job w input blank) new.made
       → WithBlock name_of parts_of length (run_setting g stack) (c.between ++ old.seen) new.seen r v input blank → HasJob g stack r v input blank new
   with-block blank c lent_ t =
@@ -287,7 +323,8 @@ module _ {O : Type 0} (g : Graph) (stack : StackValue) (r v w : ℕ) (input : Se
       c lent_ t.move refl (eq-eqb v v refl)
 
   without : (blank : Option (List ℕ))
-      → (c : Called (run_setting g stack) (λ x y. TakeGives {F = Sealed} {B = List ℕ} {O = O} name_of parts_of length (run_setting g stack) x r v (take.Job w input blank) y) last.Other old new)
+      → (c : Called (run_setting g stack)
+      (λ x y. TakeGives {F = Sealed} {B = List ℕ} {O = O} name_of parts_of length (run_setting g stack) x r v (take.Job w input blank) y) last.Other old new)
       → LendsJob {F = Sealed} {B = List ℕ} {O = O} parts_of length (run_setting g stack) r v (take.Job w input blank) new.made
       → Alone name_of parts_of (run_setting g stack) (c.between ++ old.seen) new.seen r v input blank → HasJob g stack r v input blank new
   without blank c lent_ t =
@@ -297,11 +334,14 @@ module _ {O : Type 0} (g : Graph) (stack : StackValue) (r v w : ℕ) (input : Se
       c lent_ t.move refl (eq-eqb v v refl)
 
   pub take-works : (blank : Option (List ℕ))
-      → Called (run_setting g stack) (λ x y. TakeGives {F = Sealed} {B = List ℕ} {O = O} name_of parts_of length (run_setting g stack) x r v (take.Job w input blank) y) last.Other old new
-      → LendsJob {F = Sealed} {B = List ℕ} {O = O} parts_of length (run_setting g stack) r v (take.Job w input blank) new.made → HasJob g stack r v input blank new
+      → Called (run_setting g stack)
+      (λ x y. TakeGives {F = Sealed} {B = List ℕ} {O = O} name_of parts_of length (run_setting g stack) x r v (take.Job w input blank) y) last.Other old new
+      → LendsJob {F = Sealed} {B = List ℕ} {O = O} parts_of length (run_setting g stack) r v (take.Job w input blank) new.made
+      → HasJob g stack r v input blank new
   take-works blank c lent_ =
       let b = c.between ++ old.seen in
-      elim (take-taken {F = Sealed} {B = List ℕ} {O = O} name_of parts_of length (run_setting g stack) b new.seen r v w input blank (take_refusal (run_setting g stack) r v (past b)) (asked (run_setting g stack) v (past b)) refl refl c.answer) [
+      elim (take-taken {F = Sealed} {B = List ℕ} {O = O} name_of parts_of length (run_setting g stack) b new.seen r v w input blank
+      (take_refusal (run_setting g stack) r v (past b)) (asked (run_setting g stack) v (past b)) refl refl c.answer) [
         | inl t ↦ with-block blank c lent_ t
         | inr t ↦ without blank c lent_ t
       ]
@@ -319,7 +359,8 @@ granted-by lent (Some (TakeBlock y x q u m k b n g)) input None (Some f) h w = a
 granted-by lent (Some (Load q k b n y g x)) input blank (Some f) h w = absurd (true≢false h.0)
 granted-by lent (Some _) input blank (Some f) h w = absurd h
 
-pub lent-by : (lent : Option Parts) (o : Option Entry) (input : Sealed) (blank : Option (List ℕ)) → IsOfHand name_of parts_of length lent o (Some input) None blank → parts_of input ≡ lent
+pub lent-by : (lent : Option Parts) (o : Option Entry) (input : Sealed) (blank : Option (List ℕ))
+    → IsOfHand name_of parts_of length lent o (Some input) None blank → parts_of input ≡ lent
 lent-by lent None input blank h = absurd (true≢false h.0)
 lent-by lent (Some (Take q u m k)) input blank h = h.0.1
 lent-by lent (Some (TakeBlock y x q u m k b n g)) input blank h = h.0.1
@@ -327,7 +368,8 @@ lent-by lent (Some (Load q k b n y g x)) input blank h = absurd (true≢false h.
 lent-by lent (Some _) input blank h = absurd h
 
 module _ (g : Graph) (stack : StackValue) (r v : ℕ) (input : Sealed) (blank : Option (List ℕ)) (old new : Pass) (job : HasJob g stack r v input blank old) where
-  pub job-may-put : (done : Done Sealed) → IsDone g stack v input blank done → MayPut name_of parts_of (run_measure g stack) (run_setting g stack) old.made r done
+  pub job-may-put : (done : Done Sealed) → IsDone g stack v input blank done
+      → MayPut name_of parts_of (run_measure g stack) (run_setting g stack) old.made r done
   job-may-put done d is = (
     d.result,
     ap parts_of d.given ∙ lent-by (lent_to r old.made) (hand r (past old.made)) input blank job.held,
@@ -335,11 +377,14 @@ module _ (g : Graph) (stack : StackValue) (r v : ℕ) (input : Sealed) (blank : 
   )
 
   pub put-goes : {E : Type 0} (done : Done Sealed) (x : E) → IsDone g stack v input blank done
-      → Called (run_setting g stack) (λ a b. PutGives {E = E} name_of (run_setting g stack) a r done (Ok x) b) last.Other old new → HasNothing (worker_logs v) r new
+      → Called (run_setting g stack) (λ a b. PutGives {E = E} name_of (run_setting g stack) a r done (Ok x) b) last.Other old new
+      → HasNothing (worker_logs v) r new
   put-goes {E} done x d c =
       let f = λ (a b : BoardState). PutGives {E = E} name_of (run_setting g stack) a r done (Ok x) b in
       let e = Put r done.node (result_name (run_setting g stack) done.node (name_of done.input)).maker (name_of done.input).index done.fired in
-      let m = moved (run_setting g stack) f last.Other old new r job.role c (worker_logs v) 0 (plain e) c.answer.1 refl (worker-quiet v) (eq-eqb done.node v d.node) job.moves in
+      let m =
+      moved (run_setting g stack) f last.Other old new r job.role c (worker_logs v) 0 (plain e) c.answer.1 refl (worker-quiet v)
+      (eq-eqb done.node v d.node) job.moves in
       record {
         role = role-after (run_setting g stack) f last.Other old new r job.role c;
         moves = m.moves;
@@ -352,12 +397,15 @@ module _ (g : Graph) (stack : StackValue) (r v : ℕ) (input : Sealed) (blank : 
   put-takes E done e d c =
       let f = λ (a b : BoardState). PutGives {E = E} name_of (run_setting g stack) a r done (Err e) b in
       let is : is_job_on done.node (name_of done.input) (hand r (past old.made)) ≡ true =
-      ap (λ (u : ℕ). is_job_on u (name_of done.input) (hand r (past old.made))) d.node ∙ (ap (λ (i : Sealed). is_job_on v (name_of i) (hand r (past old.made))) d.given ∙ job.job) in
-      false≢true (sym c.answer.0 ∙ (ap (λ (o : Option Entry). is_job_on done.node (name_of done.input) o) (hand-before (run_setting g stack) f last.NotYours old new r job.role c) ∙ is))
+      ap (λ (u : ℕ). is_job_on u (name_of done.input) (hand r (past old.made))) d.node
+      ∙ (ap (λ (i : Sealed). is_job_on v (name_of i) (hand r (past old.made))) d.given ∙ job.job) in
+      false≢true (sym c.answer.0
+      ∙ (ap (λ (o : Option Entry). is_job_on done.node (name_of done.input) o) (hand-before (run_setting g stack) f last.NotYours old new r job.role c) ∙ is))
 
 -- SETTLE
 
-pub settle-goes : (s : Setting) (r v : ℕ) (a : Settled) (old new : Pass) → HasNothing (worker_logs v) r old → Called s (λ x y. SettleGives s x r v a y) last.Other old new
+pub settle-goes : (s : Setting) (r v : ℕ) (a : Settled) (old new : Pass) → HasNothing (worker_logs v) r old
+    → Called s (λ x y. SettleGives s x r v a y) last.Other old new
     → HasNothing (worker_logs v) r new
 settle-goes s r v settled.NotYet old new n c =
     let f = λ (x y : BoardState). SettleGives s x r v settled.NotYet y in
@@ -369,7 +417,9 @@ settle-goes s r v settled.Done old new n c =
     elim (cases_Bool (is_settled v (past b))) [
       | inl done ↦ kept (worker_logs v) r old new role_ (unmoved s f last.Other old new r n.role c (c.answer.1 ∙ rw done refl)) n
       | inr not_yet ↦
-          let m = moved s f last.Other old new r n.role c (worker_logs v) 0 (plain (Settle r v)) (c.answer.1 ∙ rw not_yet refl) refl (worker-quiet v) (eq-eqb v v refl) n.moves in
+          let m =
+          moved s f last.Other old new r n.role c (worker_logs v) 0 (plain (Settle r v)) (c.answer.1 ∙ rw not_yet refl) refl
+          (worker-quiet v) (eq-eqb v v refl) n.moves in
           record { role = role_; moves = m.moves; free = m.hand ∙ (hand-before s f last.Other old new r n.role c ∙ n.free) }
     ]
 

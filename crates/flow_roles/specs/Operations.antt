@@ -84,7 +84,8 @@ abbrev pub MayBePlayed : {F B : Type 0} → Frames F B → Setting → (mine : L
 MayBePlayed fs s mine o = MayPlay fs s (reverse mine) o
 
 -- after this log the operation has this reply, and adds these entries
-pub record IsPlayed {F B O : Type 0} (fs : Frames F B) (s : Setting) (old : List Told) (o : DeskOp F) (answer : DeskReply F B O) (added : List Told) : Type 0 where
+pub record IsPlayed {F B O : Type 0} (fs : Frames F B) (s : Setting) (old : List Told) (o : DeskOp F)
+    (answer : DeskReply F B O) (added : List Told) : Type 0 where
   pub replies : Replies fs s (reverse old) o answer (reverse (old ++ added))
   pub lends : Lends fs s o answer (reverse (old ++ added))
   pub legal : is_history s (past (reverse (old ++ added))) ≡ true

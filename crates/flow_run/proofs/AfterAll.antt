@@ -39,7 +39,8 @@ saves-alone s (Leave r) ours logs = absurd (false≢true logs)
 saves-alone s (Reclaim r) ours logs = absurd (false≢true logs)
 saves-alone s _ ours logs = absurd (false≢true ours)
 
-after-all-saves : (s : Setting) (tick : ℕ) (added b : BoardState) → list_all (λ (e : Entry). is_role_of (last_role s) (begins e)) (past added) ≡ true → list_all saver_logs (past added) ≡ true
+after-all-saves : (s : Setting) (tick : ℕ) (added b : BoardState) → list_all (λ (e : Entry). is_role_of (last_role s) (begins e)) (past added) ≡ true
+    → list_all saver_logs (past added) ≡ true
     → AfterMoves s tick b (added ++ b)
 after-all-saves s tick [] b ours logs = AfterMoves.none b refl
 after-all-saves s tick (t ∷ added) b ours logs =
@@ -54,7 +55,8 @@ pub after-saves : (s : Setting) (tick : ℕ) (old new : BoardState) → SavesOn 
 after-saves s tick old new h = subst (λ (b : BoardState). AfterMoves s tick old b) (sym h.whole) (after-all-saves s tick h.added old h.ours h.logs)
 
 -- all that comes after the roles
-pub after-all : {F B O : Type 0} (name_of : F → FrameName) (s : Setting) (tick : ℕ) (ends : List (Left F B O)) (joined ready done ended : BoardState) → length ends ≤ last_role s
+pub after-all : {F B O : Type 0} (name_of : F → FrameName) (s : Setting) (tick : ℕ) (ends : List (Left F B O)) (joined ready done ended : BoardState)
+    → length ends ≤ last_role s
     → SavesOn s joined ready → DrainMoves s tick (taken_back name_of s 0 ends ready) done → SavesOn s done ended → AfterMoves s tick joined ended
 after-all {F} {B} {O} name_of s tick ends joined ready done ended few first drain rest =
     let mid : BoardState = taken_back {F = F} {B = B} {O = O} name_of s 0 ends ready in

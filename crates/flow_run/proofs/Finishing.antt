@@ -44,13 +44,16 @@ rest-entry s (Save r v m k g) h = (h, refl)
 rest-entry s (Saved r v m k) h = (h, refl)
 rest-entry s _ h = absurd (false≢true h)
 
-rest-ours : (s : Setting) (added : BoardState) → list_all (is_rest s) (past added) ≡ true → list_all (λ (e : Entry). is_role_of (last_role s) (begins e)) (past added) ≡ true
+rest-ours : (s : Setting) (added : BoardState) → list_all (is_rest s) (past added) ≡ true
+    → list_all (λ (e : Entry). is_role_of (last_role s) (begins e)) (past added) ≡ true
 rest-ours s [] h = refl
-rest-ours s (t ∷ added) h = let a = and_parts (is_rest s t.entry) (list_all (is_rest s) (past added)) h in rw (rest-entry s t.entry a.0).0 (rest-ours s added a.1)
+rest-ours s (t ∷ added) h =
+    let a = and_parts (is_rest s t.entry) (list_all (is_rest s) (past added)) h in rw (rest-entry s t.entry a.0).0 (rest-ours s added a.1)
 
 rest-logs : (s : Setting) (added : BoardState) → list_all (is_rest s) (past added) ≡ true → list_all saver_logs (past added) ≡ true
 rest-logs s [] h = refl
-rest-logs s (t ∷ added) h = let a = and_parts (is_rest s t.entry) (list_all (is_rest s) (past added)) h in rw (rest-entry s t.entry a.0).1 (rest-logs s added a.1)
+rest-logs s (t ∷ added) h =
+    let a = and_parts (is_rest s t.entry) (list_all (is_rest s) (past added)) h in rw (rest-entry s t.entry a.0).1 (rest-logs s added a.1)
 
 pub rest-saves : (s : Setting) (old new : BoardState) → RestMoves s old new → SavesOn s old new
 rest-saves s old new m = record { added = m.0; whole = m.1; ours = rest-ours s m.0 m.2; logs = rest-logs s m.0 m.2 }
@@ -72,12 +75,16 @@ module _ {O : Type 0} (g : Graph) (stack : StackValue) (joined ready : BoardStat
 
   module _ (tick : ℕ) (done ended : BoardState) (drain : DrainMoves s tick (taken_back name_of s 0 lefts ready) done) (rest : RestMoves s done ended) where
     after : AfterMoves s tick joined ended
-    after = after-all name_of s tick lefts joined ready done ended (omega (arith, j.lefts_many)) (rest-saves s joined ready first) drain (rest-saves s done ended rest)
+    after =
+        after-all name_of s tick lefts joined ready done ended
+        (omega (arith, j.lefts_many)) (rest-saves s joined ready first) drain (rest-saves s done ended rest)
 
-    pub run-own : IsGraph g → (prefix : List ℕ) (before : Option Files) (xs : List NodeFile) (fault : Bool) (held : Option Files) → IsSavingAlone g stack prefix before ready xs fault held
+    pub run-own : IsGraph g → (prefix : List ℕ) (before : Option Files) (xs : List NodeFile) (fault : Bool) (held : Option Files)
+        → IsSavingAlone g stack prefix before ready xs fault held
         → BeginsWith done ready → (IsDrained s (past ready) → done ≡ ready) → AreOwnMoves s (past ended)
     run-own sound prefix before xs fault held saving grown still =
-        own-moves g stack sound tick joined ready done ended passes lefts saver j (rest-saves s joined ready first) saving.legal saving.drained (free-alone g stack prefix before ready xs fault held saving)
+        own-moves g stack sound tick joined ready done ended passes lefts saver j (rest-saves s joined ready first) saving.legal saving.drained
+        (free-alone g stack prefix before ready xs fault held saving)
         grown still (rest-saves s done ended rest) after
 
     pub run-ticks : (old mid new : Option Coming) → IsFedUntil s joined old mid → Ticks mid tick new → IsFedByTheClock s (past ended) old new
@@ -97,8 +104,11 @@ module _ {O : Type 0} (g : Graph) (stack : StackValue) (joined ready : BoardStat
     }
 
 -- what stands on the shelf in the end
-pub saved-run : {T : Type 0} (g : Graph) (stack : StackValue) (P : Past) (held : Option Files) (Saving : List ℕ → Option Files → Type 0) (prefix : List ℕ) (before : Option Files) (answer : Result T SaveFault) (fault : Bool)
+pub saved-run : {T : Type 0} (g : Graph) (stack : StackValue) (P : Past) (held : Option Files) (Saving : List ℕ → Option Files → Type 0) (prefix : List ℕ)
+    (before : Option Files) (answer : Result T SaveFault) (fault : Bool)
     → fault ≡ is_err answer → Saving prefix before → OnOk answer ((p : List ℕ) (b : Option Files) → Saving p b → HoldsGroupsOf g stack p P b held)
     → OnErr answer ((p : List ℕ) (b : Option Files) → Saving p b → IsTornHistory g stack p P b held) → HasSavedRun g stack prefix P before fault held
-saved-run g stack P held Saving prefix before (Ok x) fault is a ok err = subst (λ (b : Bool). HasSavedRun g stack prefix P before b held) (sym is) (ok prefix before a)
-saved-run g stack P held Saving prefix before (Err e) fault is a ok err = subst (λ (b : Bool). HasSavedRun g stack prefix P before b held) (sym is) (err prefix before a)
+saved-run g stack P held Saving prefix before (Ok x) fault is a ok err =
+    subst (λ (b : Bool). HasSavedRun g stack prefix P before b held) (sym is) (ok prefix before a)
+saved-run g stack P held Saving prefix before (Err e) fault is a ok err =
+    subst (λ (b : Bool). HasSavedRun g stack prefix P before b held) (sym is) (err prefix before a)

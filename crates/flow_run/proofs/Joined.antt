@@ -26,7 +26,8 @@ use Rattle.flow_roles.proofs.TakenBack.{saver-none, none-such, not-back}
 use Rattle.flow_run.proofs.Ends.{feeder-closed, worker-settled, post-none}
 use Rattle.flow_run.proofs.Movers.{none-before, any-later}
 
-module _ {O : Type 0} (s : Setting) (b : BoardState) (passes : List Pass) (lefts : List (Left Sealed (List ℕ) O)) (saver : Pass) (j : IsJoined s b passes lefts saver) where
+module _ {O : Type 0} (s : Setting) (b : BoardState) (passes : List Pass) (lefts : List (Left Sealed (List ℕ) O))
+    (saver : Pass) (j : IsJoined s b passes lefts saver) where
   post-of : (k : ℕ) → k < last_role s → (v : ℕ) × (slice_get (posts s) k ≡ Some v)
   post-of k low = listed (posts s) k (omega (arith, low, posts-length s))
 
@@ -39,7 +40,8 @@ module _ {O : Type 0} (s : Setting) (b : BoardState) (passes : List Pass) (lefts
   pub below-last : (k v : ℕ) → slice_get (posts s) k ≡ Some v → k < last_role s
   below-last k v at = omega (arith, posts-length s, slice_get_within (posts s) k v at)
 
-  made-by : (k v : ℕ) (p : Pass) (left : Left Sealed (List ℕ) O) → slice_get (posts s) k ≡ Some v → slice_get passes k ≡ Some p → slice_get lefts k ≡ Some left → moves_by k b ≡ p.made
+  made-by : (k v : ℕ) (p : Pass) (left : Left Sealed (List ℕ) O) → slice_get (posts s) k ≡ Some v → slice_get passes k ≡ Some p
+      → slice_get lefts k ≡ Some left → moves_by k b ≡ p.made
   made-by k v p left at is has = let h = j.each k v p left at is has in subst (λ (r : ℕ). moves_by r b ≡ p.made) h.1.1.role h.0.made
 
   -- the moves of a role on the board
@@ -74,7 +76,8 @@ module _ {O : Type 0} (s : Setting) (b : BoardState) (passes : List Pass) (lefts
       ])
 
   -- what each role left may be taken back, also at a later board on which it made no move
-  pub may-back : (c : BoardState) → ((k : ℕ) → k < last_role s → moves_by k c ≡ moves_by k b) → (k : ℕ) (left : Left Sealed (List ℕ) O) → slice_get lefts k ≡ Some left
+  pub may-back : (c : BoardState) → ((k : ℕ) → k < last_role s → moves_by k c ≡ moves_by k b)
+      → (k : ℕ) (left : Left Sealed (List ℕ) O) → slice_get lefts k ≡ Some left
       → MayReclaim name_of parts_of length s c k left
   may-back c same k left at =
       let low : k < last_role s = omega (arith, j.lefts_many, slice_get_within lefts k left at) in

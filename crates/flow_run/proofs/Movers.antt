@@ -140,14 +140,18 @@ after-drain s tick old _ (DrainMoves.none new is) = AfterMoves.none new is
 after-drain s tick old _ (DrainMoves.more b new t at m d l is) = AfterMoves.more b new t at (after-drain s tick old b m) (drains-after s t.entry d) l is
 
 -- and so it is where hands are taken back
-after-taken : {F B O : Type 0} (name_of : F → FrameName) (s : Setting) (tick r : ℕ) (left : Left F B O) (b : BoardState) → r < last_role s → AfterMoves s tick b (taken name_of s r left b)
+after-taken : {F B O : Type 0} (name_of : F → FrameName) (s : Setting) (tick r : ℕ) (left : Left F B O) (b : BoardState) → r < last_role s
+    → AfterMoves s tick b (taken name_of s r left b)
 after-taken name_of s tick r left b low =
     elim (cases_Bool (is_free r (past b))) [
       | inl free ↦ rw free (AfterMoves.none b refl)
-      | inr held ↦ rw held (AfterMoves.more b _ (loses r (lost_of name_of (past b) (hand r (past b)) left)) 0 (AfterMoves.none b refl) (lt-ltb r (last_role s) low) (λ no. absurd (false≢true no)) refl)
+      | inr held ↦
+          rw held (AfterMoves.more b _ (loses r (lost_of name_of (past b) (hand r (past b)) left)) 0 (AfterMoves.none b refl) (lt-ltb r (last_role s) low)
+          (λ no. absurd (false≢true no)) refl)
     ]
 
-pub after-back : {F B O : Type 0} (name_of : F → FrameName) (s : Setting) (tick r : ℕ) (ends : List (Left F B O)) (b : BoardState) → r + length ends ≤ last_role s
+pub after-back : {F B O : Type 0} (name_of : F → FrameName) (s : Setting) (tick r : ℕ) (ends : List (Left F B O)) (b : BoardState)
+    → r + length ends ≤ last_role s
     → AfterMoves s tick b (taken_back name_of s r ends b)
 after-back name_of s tick r [] b few = AfterMoves.none b refl
 after-back {F} {B} {O} name_of s tick r (left ∷ ends) b few =

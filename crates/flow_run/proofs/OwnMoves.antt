@@ -68,8 +68,10 @@ saves-last s old new h all =
     ∙ (ap past (single-moves (last_role s) h.added old h.ours).0 ∙ past-append h.added (moves_by (last_role s) old)) in
     ap (list_all saver_logs) is ∙ all-append saver_logs (past h.added) (past (moves_by (last_role s) old)) h.logs all
 
-module _ {O : Type 0} (g : Graph) (stack : StackValue) (sound : IsGraph g) (tick : ℕ) (joined ready done ended : BoardState) (passes : List Pass) (lefts : List (Left Sealed (List ℕ) O)) (saver : Pass)
-    (j : IsJoined (run_setting g stack) joined passes lefts saver) (first : SavesOn (run_setting g stack) joined ready) (legal : is_history (run_setting g stack) (past ready) ≡ true)
+module _ {O : Type 0} (g : Graph) (stack : StackValue) (sound : IsGraph g) (tick : ℕ) (joined ready done ended : BoardState) (passes : List Pass)
+    (lefts : List (Left Sealed (List ℕ) O)) (saver : Pass)
+    (j : IsJoined (run_setting g stack) joined passes lefts saver) (first : SavesOn (run_setting g stack) joined ready)
+    (legal : is_history (run_setting g stack) (past ready) ≡ true)
     (drained : only_drain_saves (run_setting g stack) (past ready) ≡ true) (free : is_free (last_role (run_setting g stack)) (past ready) ≡ true)
     (grown : BeginsWith done ready) (still : IsDrained (run_setting g stack) (past ready) → done ≡ ready) (rest : SavesOn (run_setting g stack) done ended)
     (after : AfterMoves (run_setting g stack) tick joined ended) where
@@ -91,7 +93,8 @@ module _ {O : Type 0} (g : Graph) (stack : StackValue) (sound : IsGraph g) (tick
 
   pub drain-still : has_left_any (past ended) ≡ false → done ≡ ready
   drain-still none =
-      let closed = saves-any closes s joined ready first (feed-closed s joined passes lefts saver j (saves-none_before leaves s joined ready first (none-ready none))) in
+      let closed =
+      saves-any closes s joined ready first (feed-closed s joined passes lefts saver j (saves-none_before leaves s joined ready first (none-ready none))) in
       still (all-ended-drained s (past ready) legal closed (settled-all none) drained free)
 
   whole-rest : has_left_any (past ended) ≡ false → SavesOn s ready ended
@@ -105,7 +108,9 @@ module _ {O : Type 0} (g : Graph) (stack : StackValue) (sound : IsGraph g) (tick
   pub own-moves : AreOwnMoves s (past ended)
   own-moves = record {
     reclaims = λ none r. saves-back s r ready ended (whole-rest none) (saves-back s r joined ready first (none-back s joined passes lefts saver j r));
-    feeder = λ none. ap (list_all feeder_logs) (role-then 0 0 (below-last s joined passes lefts saver j 0 0 refl) none) ∙ role-moves s joined passes lefts saver j 0 0 refl;
+    feeder =
+        λ none. ap (list_all feeder_logs) (role-then 0 0 (below-last s joined passes lefts saver j 0 0 refl) none)
+        ∙ role-moves s joined passes lefts saver j 0 0 refl;
     workers_are = λ none k v at. worker-then none k v at;
     last =
         λ none. ap (list_all saver_logs) (entries-are (last_role s) ended)
@@ -113,7 +118,8 @@ module _ {O : Type 0} (g : Graph) (stack : StackValue) (sound : IsGraph g) (tick
     others = λ r high. entries-are r ended ∙ ap past (after-others s tick r joined ended high after ∙ j.others r high);
   }
     where
-      worker-then : has_left_any (past ended) ≡ false → (k v : ℕ) → slice_get (workers s) k ≡ Some v → list_all (worker_logs v) (entries_by (suc k) (past ended)) ≡ true
+      worker-then : has_left_any (past ended) ≡ false → (k v : ℕ) → slice_get (workers s) k ≡ Some v
+          → list_all (worker_logs v) (entries_by (suc k) (past ended)) ≡ true
       worker-then none k zero at = absurd (let a = (node-above s 0 (worker-node s k 0 at)).0 in omega (arith, a))
       worker-then none k (suc v) at =
           ap (list_all (worker_logs (suc v))) (role-then (suc k) (suc v) (below-last s joined passes lefts saver j (suc k) (suc v) at) none)

@@ -50,14 +50,16 @@ module _ {O P : Type 0} (ours : P → Type 0) (knows : P → Pass) where
         → ours e.pass × IsRoleEnd s (r + k) v (knows e.pass) e.left e.want
     pub seats : (k : ℕ) (e : RoleEnd Sealed P (List ℕ) O) → slice_get (ends_of xs) k ≡ Some e → slice_get xs k ≡ Some (Back e)
 
-  pub ends-from : (s : Setting) (r : ℕ) (posts : List ℕ) (xs : List (Seat Sealed P (List ℕ) O)) → length xs ≡ length posts → AreBack ours knows s r posts xs → AreEnds s r posts xs
+  pub ends-from : (s : Setting) (r : ℕ) (posts : List ℕ) (xs : List (Seat Sealed P (List ℕ) O)) → length xs ≡ length posts
+      → AreBack ours knows s r posts xs → AreEnds s r posts xs
   ends-from s r posts [] many back = record { all = refl; many = refl; each = λ k v e at is. cc; seats = λ k e is. cc }
   ends-from s r [] (x ∷ xs) many back = absurd (omega (arith, many))
   ends-from s r (w ∷ posts) (Ready role node pass ∷ xs) many back = absurd (back 0 w (Ready role node pass) refl refl)
   ends-from s r (w ∷ posts) (Away ∷ xs) many back = absurd (back 0 w Away refl refl)
   ends-from s r (w ∷ posts) (Back end ∷ xs) many back =
       let step : (j : ℕ) → r + suc j ≡ (r + 1) + j = λ j. omega arith in
-      let rest = ends-from s (r + 1) posts xs (omega (arith, many)) (λ k v x at is. subst (λ (q : ℕ). IsBack ours knows s q v x) (step k) (back (suc k) v x at is)) in
+      let rest =
+      ends-from s (r + 1) posts xs (omega (arith, many)) (λ k v x at is. subst (λ (q : ℕ). IsBack ours knows s q v x) (step k) (back (suc k) v x at is)) in
       record {
         all = rest.all;
         many = ap suc rest.many;
@@ -65,7 +67,8 @@ module _ {O P : Type 0} (ours : P → Type 0) (knows : P → Pass) where
         seats = seat rest;
       }
     where
-      one : ((j : ℕ) → r + suc j ≡ (r + 1) + j) → AreEnds s (r + 1) posts xs → (k v : ℕ) (e : RoleEnd Sealed P (List ℕ) O) → slice_get (w ∷ posts) k ≡ Some v → slice_get (end ∷ ends_of xs) k ≡ Some e
+      one : ((j : ℕ) → r + suc j ≡ (r + 1) + j) → AreEnds s (r + 1) posts xs → (k v : ℕ) (e : RoleEnd Sealed P (List ℕ) O) → slice_get (w ∷ posts) k ≡ Some v
+          → slice_get (end ∷ ends_of xs) k ≡ Some e
           → ours e.pass × IsRoleEnd s (r + k) v (knows e.pass) e.left e.want
       one step rest zero v e at is =
           let node : w ≡ v = cc in
@@ -74,22 +77,27 @@ module _ {O P : Type 0} (ours : P → Type 0) (knows : P → Pass) where
       one step rest (suc k) v e at is =
           subst (λ (q : ℕ). ours e.pass × IsRoleEnd s q v (knows e.pass) e.left e.want) (sym (step k)) (rest.each k v e at is)
 
-      seat : AreEnds s (r + 1) posts xs → (k : ℕ) (e : RoleEnd Sealed P (List ℕ) O) → slice_get (end ∷ ends_of xs) k ≡ Some e → slice_get (Back end ∷ xs) k ≡ Some (Back e)
+      seat : AreEnds s (r + 1) posts xs → (k : ℕ) (e : RoleEnd Sealed P (List ℕ) O) → slice_get (end ∷ ends_of xs) k ≡ Some e
+          → slice_get (Back end ∷ xs) k ≡ Some (Back e)
       seat rest zero e is = let same : end ≡ e = cc in ap (λ (d : RoleEnd Sealed P (List ℕ) O). Some (Back d)) same
       seat rest (suc k) e is = rest.seats k e is
 
 -- AT WORK
 
 -- what a worker's seat has once it has worked
-pub worked : {O P : Type 0} (ours : P → Type 0) (knows : P → Pass) (s : Setting) (role node : ℕ) (begins : P) (end : RoleEnd Sealed P (List ℕ) O) → ours end.pass → (knows end.pass).role ≡ role
+pub worked : {O P : Type 0} (ours : P → Type 0) (knows : P → Pass) (s : Setting) (role node : ℕ) (begins : P) (end : RoleEnd Sealed P (List ℕ) O)
+    → ours end.pass → (knows end.pass).role ≡ role
     → list_all (worker_logs node) (past (knows end.pass).made) ≡ true → worker_ends node (knows end.pass).last (past (knows end.pass).seen) end.want ≡ true
-    → MayComeBack name_of parts_of length s role (knows end.pass).made end.left → (r v : ℕ) → IsWorker {O = O} ours knows s r v (Ready role node begins) → IsBack ours knows s r v (Back end)
-worked ours knows s role zero begins end own is moves ends back r v w = absurd (let a = node-above s 0 (subst (λ (u : ℕ). is_node s u ≡ true) (sym w.3.1) w.2) in let b = a.0 in omega (arith, b))
+    → MayComeBack name_of parts_of length s role (knows end.pass).made end.left → (r v : ℕ) → IsWorker {O = O} ours knows s r v (Ready role node begins)
+    → IsBack ours knows s r v (Back end)
+worked ours knows s role zero begins end own is moves ends back r v w =
+    absurd (let a = node-above s 0 (subst (λ (u : ℕ). is_node s u ≡ true) (sym w.3.1) w.2) in let b = a.0 in omega (arith, b))
 worked {O} {P} ours knows s role (suc node) begins end own is moves ends back r v w =
     let here : IsBack {O = O} ours knows s role (suc node) (Back end) = (own, record { role = is; moves = moves; last = ends; reclaimed = back }) in
     subst (λ (u : ℕ). IsBack {O = O} ours knows s r u (Back end)) w.3.1 (subst (λ (q : ℕ). IsBack {O = O} ours knows s q (suc node) (Back end)) w.3.0 here)
 
-module _ {O P : Type 0} (ours : P → Type 0) (knows : P → Pass) (g : Graph) (stack : StackValue) (xs : List (Seat Sealed P (List ℕ) O)) (many : length xs ≡ length (workers (run_setting g stack)))
+module _ {O P : Type 0} (ours : P → Type 0) (knows : P → Pass) (g : Graph) (stack : StackValue) (xs : List (Seat Sealed P (List ℕ) O))
+    (many : length xs ≡ length (workers (run_setting g stack)))
     (ready : AreReady {O = O} ours knows 1 (workers (run_setting g stack)) xs) where
   abbrev s : Setting
   s = run_setting g stack
@@ -99,7 +107,8 @@ module _ {O P : Type 0} (ours : P → Type 0) (knows : P → Pass) (g : Graph) (
   listed-at zero (y ∷ ys) h = (y, refl)
   listed-at (suc k) (y ∷ ys) h = listed-at k ys (omega (arith, h))
 
-  pub worker-at : (k : ℕ) (x : Seat Sealed P (List ℕ) O) → slice_get xs k ≡ Some x → (v : ℕ) → slice_get (workers s) k ≡ Some v → IsWorker {O = O} ours knows s (1 + k) v x
+  pub worker-at : (k : ℕ) (x : Seat Sealed P (List ℕ) O) → slice_get xs k ≡ Some x → (v : ℕ) → slice_get (workers s) k ≡ Some v
+      → IsWorker {O = O} ours knows s (1 + k) v x
   worker-at k x at v is =
       let low = slice_get_within (workers s) k v is in
       let below_ : 1 + k < last_role s = omega (arith, low, workers-many s) in
@@ -115,7 +124,8 @@ module _ {O P : Type 0} (ours : P → Type 0) (knows : P → Pass) (g : Graph) (
 
   -- and what all have done
   pub all-worked : (ys : List (Seat Sealed P (List ℕ) O)) → length ys ≡ length xs
-      → ((k : ℕ) (d : Seat Sealed P (List ℕ) O) → k < length xs → HasWorked {O = O} ours knows s (slice_index_or xs k d) (slice_index_or ys k d)) → AreBack {O = O} ours knows s 1 (workers s) ys
+      → ((k : ℕ) (d : Seat Sealed P (List ℕ) O) → k < length xs → HasWorked {O = O} ours knows s (slice_index_or xs k d) (slice_index_or ys k d))
+      → AreBack {O = O} ours knows s 1 (workers s) ys
   all-worked ys same each k v y is at =
       let low : k < length xs = omega (arith, slice_get_within ys k y at, same) in
       let x = slice_index_or xs k y in
@@ -123,16 +133,19 @@ module _ {O P : Type 0} (ours : P → Type 0) (knows : P → Pass) (g : Graph) (
       let done = each k y low (1 + k) v (worker-at k x here v is) in
       subst (λ (z : Seat Sealed P (List ℕ) O). IsBack {O = O} ours knows s (1 + k) v z) (get_or_from_slice_get ys k y y at) done
 
-pub worked-from : {O P : Type 0} (ours : P → Type 0) (knows : P → Pass) (s : Setting) (x : Seat Sealed P (List ℕ) O) (role node : ℕ) (begins : P) (end : RoleEnd Sealed P (List ℕ) O) → x ≡ Ready role node begins
+pub worked-from : {O P : Type 0} (ours : P → Type 0) (knows : P → Pass) (s : Setting) (x : Seat Sealed P (List ℕ) O)
+    (role node : ℕ) (begins : P) (end : RoleEnd Sealed P (List ℕ) O) → x ≡ Ready role node begins
     → ours end.pass → (knows end.pass).role ≡ role
     → list_all (worker_logs node) (past (knows end.pass).made) ≡ true → worker_ends node (knows end.pass).last (past (knows end.pass).seen) end.want ≡ true
-    → MayComeBack name_of parts_of length s role (knows end.pass).made end.left → (r v : ℕ) → IsWorker {O = O} ours knows s r v x → IsBack ours knows s r v (Back end)
+    → MayComeBack name_of parts_of length s role (knows end.pass).made end.left → (r v : ℕ) → IsWorker {O = O} ours knows s r v x
+    → IsBack ours knows s r v (Back end)
 worked-from {O} {P} ours knows s x role node begins end same own is moves ends back r v w =
     worked ours knows s role node begins end own is moves ends back r v (subst (λ (y : Seat Sealed P (List ℕ) O). IsWorker {O = O} ours knows s r v y) same w)
 
 -- THE FEEDER'S SEAT BEFORE THOSE OF THE WORKERS
 
-pub all-back : {O P : Type 0} (ours : P → Type 0) (knows : P → Pass) (s : Setting) (x : Seat Sealed P (List ℕ) O) (xs : List (Seat Sealed P (List ℕ) O)) → IsBack {O = O} ours knows s 0 0 x
+pub all-back : {O P : Type 0} (ours : P → Type 0) (knows : P → Pass) (s : Setting) (x : Seat Sealed P (List ℕ) O) (xs : List (Seat Sealed P (List ℕ) O))
+    → IsBack {O = O} ours knows s 0 0 x
     → AreBack {O = O} ours knows s 1 (workers s) xs → AreBack {O = O} ours knows s 0 (posts s) (x ∷ xs)
 all-back {O} {P} ours knows s x xs feeder rest zero v y is at =
     let same : x ≡ y = cc in
@@ -145,10 +158,12 @@ all-back {O} {P} ours knows s x xs feeder rest (suc k) v y is at =
     subst (λ (q : ℕ). IsBack {O = O} ours knows s q v y) role (rest k v y is at)
 
 -- what a call with a worker's seat left, said of the list
-pub worked-here : {O P : Type 0} (ours : P → Type 0) (knows : P → Pass) (s : Setting) (x then_x y then_y : Seat Sealed P (List ℕ) O) → then_x ≡ x → then_y ≡ y → HasWorked {O = O} ours knows s then_x then_y
+pub worked-here : {O P : Type 0} (ours : P → Type 0) (knows : P → Pass) (s : Setting) (x then_x y then_y : Seat Sealed P (List ℕ) O) → then_x ≡ x → then_y ≡ y
+    → HasWorked {O = O} ours knows s then_x then_y
     → HasWorked {O = O} ours knows s x y
 worked-here {O} {P} ours knows s x then_x y then_y is became h r v w =
-    subst (λ (z : Seat Sealed P (List ℕ) O). IsBack {O = O} ours knows s r v z) became (h r v (subst (λ (z : Seat Sealed P (List ℕ) O). IsWorker {O = O} ours knows s r v z) (sym is) w))
+    subst (λ (z : Seat Sealed P (List ℕ) O). IsBack {O = O} ours knows s r v z) became
+    (h r v (subst (λ (z : Seat Sealed P (List ℕ) O). IsWorker {O = O} ours knows s r v z) (sym is) w))
 
 -- DEALT OUT
 
@@ -165,10 +180,12 @@ module _ {P : Type 0} (all front rest : List P) (first last : P) (whole : all �
       ap (λ (ps : List P). slice_get ps (n + 1)) whole ∙ (ap (λ (k : ℕ). slice_get (front ++ last ∷ []) k) role ∙ at-end front last)
 
 -- the workers' seats of passes that were dealt out
-pub ready-dealt : {O P : Type 0} (ours : P → Type 0) (knows : P → Pass) (nodes : List ℕ) (ps : List P) → ((k : ℕ) (p : P) → slice_get ps k ≡ Some p → ours p × IsFresh (suc k) (knows p))
+pub ready-dealt : {O P : Type 0} (ours : P → Type 0) (knows : P → Pass) (nodes : List ℕ) (ps : List P)
+    → ((k : ℕ) (p : P) → slice_get ps k ≡ Some p → ours p × IsFresh (suc k) (knows p))
     → AreReady {O = O} ours knows 1 nodes (seats_from 1 nodes ps)
 ready-dealt {O} {P} ours knows nodes ps fresh =
-    ready-from ours knows 1 nodes ps (λ k p at. let f = fresh k p at in let same_ : suc k ≡ 1 + k = omega arith in (f.0, subst (λ (r : ℕ). IsFresh r (knows p)) same_ f.1))
+    ready-from ours knows 1 nodes ps (λ k p at. let f = fresh k p at in let same_ : suc k ≡ 1 + k = omega arith in
+    (f.0, subst (λ (r : ℕ). IsFresh r (knows p)) same_ f.1))
 
 -- WHAT WAS WRITTEN THROUGH A SLICE OF A LIST, ALL OF IT
 
@@ -176,7 +193,9 @@ take-front : {X : Type 0} (xs ys : List X) → take (length xs) (xs ++ ys) ≡ x
 take-front [] ys = refl
 take-front (x ∷ xs) ys = ap (λ (zs : List _). x ∷ zs) (take-front xs ys)
 
-pub in-slice : {X : Type 0} (xs given : List X) (n k : ℕ) (x : X) → n ≡ length xs → length given ≡ length xs → slice_get (take n (given ++ drop (length given) xs)) k ≡ Some x → slice_get given k ≡ Some x
+pub in-slice : {X : Type 0} (xs given : List X) (n k : ℕ) (x : X) → n ≡ length xs → length given ≡ length xs
+    → slice_get (take n (given ++ drop (length given) xs)) k ≡ Some x → slice_get given k ≡ Some x
 in-slice {X} xs given n k x many same at =
-    let whole : take n (given ++ drop (length given) xs) ≡ given = ap (λ (m : ℕ). take m (given ++ drop (length given) xs)) (many ∙ sym same) ∙ take-front given (drop (length given) xs) in
+    let whole : take n (given ++ drop (length given) xs) ≡ given =
+    ap (λ (m : ℕ). take m (given ++ drop (length given) xs)) (many ∙ sym same) ∙ take-front given (drop (length given) xs) in
     sym (ap (λ (ys : List X). slice_get ys k) whole) ∙ at

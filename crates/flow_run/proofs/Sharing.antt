@@ -32,7 +32,8 @@ use Rattle.flow_roles.proofs.Workers.{posts-length}
 use Rattle.flow_roles.proofs.Lists.{at-front, at-end, at-map, map-at, all-at, all-from}
 use Rattle.flow_run.proofs.Seating.{AreEnds, ends-from, all-back}
 
-module _ {O P : Type 0} (ours : P → Type 0) (knows : P → Pass) (s : Setting) (xs : List (Seat Sealed P (List ℕ) O)) (count : length xs ≡ length (posts s)) (e : AreEnds {O = O} ours knows s 0 (posts s) xs) (pass : P) where
+module _ {O P : Type 0} (ours : P → Type 0) (knows : P → Pass) (s : Setting) (xs : List (Seat Sealed P (List ℕ) O)) (count : length xs ≡ length (posts s))
+    (e : AreEnds {O = O} ours knows s 0 (posts s) xs) (pass : P) where
   abbrev pub ends : List (RoleEnd Sealed P (List ℕ) O)
   ends = ends_of xs
 
@@ -86,20 +87,25 @@ module _ {O P : Type 0} (ours : P → Type 0) (knows : P → Pass) (s : Setting)
     pub made-at : (k : ℕ) (d : RoleEnd Sealed P (List ℕ) O) → slice_get ends k ≡ Some d → HasMade b (knows d.pass)
     made-at k d at =
         all-at (λ p. HasMade b (knows p)) back k d.pass made
-        (at-front (map (λ (c : RoleEnd Sealed P (List ℕ) O). c.pass) ends) (pass ∷ []) k d.pass (map-at (λ (c : RoleEnd Sealed P (List ℕ) O). c.pass) ends k d at))
+        (at-front (map (λ (c : RoleEnd Sealed P (List ℕ) O). c.pass) ends) (pass ∷ []) k d.pass
+        (map-at (λ (c : RoleEnd Sealed P (List ℕ) O). c.pass) ends k d at))
 
     pub made-last : HasMade b (knows pass)
     made-last =
-        all-at (λ p. HasMade b (knows p)) back (length (map (λ (c : RoleEnd Sealed P (List ℕ) O). c.pass) ends)) pass made (at-end (map (λ (c : RoleEnd Sealed P (List ℕ) O). c.pass) ends) pass)
+        all-at (λ p. HasMade b (knows p)) back (length (map (λ (c : RoleEnd Sealed P (List ℕ) O). c.pass) ends)) pass made
+        (at-end (map (λ (c : RoleEnd Sealed P (List ℕ) O). c.pass) ends) pass)
 
-    pub joined-from : is_history s (past b) ≡ true → only_drain_saves s (past b) ≡ true → ((r : ℕ) → last_role s + 1 ≤ r → moves_by r b ≡ []) → (knows pass).role ≡ last_role s
+    pub joined-from : is_history s (past b) ≡ true → only_drain_saves s (past b) ≡ true
+        → ((r : ℕ) → last_role s + 1 ≤ r → moves_by r b ≡ []) → (knows pass).role ≡ last_role s
         → list_all saver_logs (past (knows pass).made) ≡ true → IsJoined s b passes lefts (knows pass)
     joined-from legal drained others role moves = record {
       legal = legal;
       drained = drained;
       passes_many = length-map ends (λ (d : RoleEnd Sealed P (List ℕ) O). knows d.pass) ∙ many;
       lefts_many = length-map ends (λ (d : RoleEnd Sealed P (List ℕ) O). d.left) ∙ many;
-      each = λ k v p left at is has. one k v p left at (at-map (λ (d : RoleEnd Sealed P (List ℕ) O). knows d.pass) ends k p is) (at-map (λ (d : RoleEnd Sealed P (List ℕ) O). d.left) ends k left has);
+      each =
+          λ k v p left at is has. one k v p left at (at-map (λ (d : RoleEnd Sealed P (List ℕ) O). knows d.pass) ends k p is)
+          (at-map (λ (d : RoleEnd Sealed P (List ℕ) O). d.left) ends k left has);
       last_made = made-last;
       last_is = role;
       last_moves = moves;
@@ -116,11 +122,13 @@ module _ {O P : Type 0} (ours : P → Type 0) (knows : P → Pass) (s : Setting)
             let role : 0 + k ≡ k = omega arith in
             let end = subst (λ (r : ℕ). IsRoleEnd s r v (knows i.0.pass) i.0.left i.0.want) role (e.each k v i.0 at i.1).1 in (
               subst (λ (q : Pass). HasMade b q) i.2 (made-at k i.0 i.1),
-              (i.0.want, subst (λ (l : Left Sealed (List ℕ) O). IsRoleEnd s k v p l i.0.want) left_is (subst (λ (q : Pass). IsRoleEnd s k v q i.0.left i.0.want) i.2 end)),
+              (i.0.want,
+              subst (λ (l : Left Sealed (List ℕ) O). IsRoleEnd s k v p l i.0.want) left_is (subst (λ (q : Pass). IsRoleEnd s k v q i.0.left i.0.want) i.2 end)),
             )
 
     -- the feeder's ticks
-    pub fed-from : (old now : Option Coming) → ((x : Seat Sealed P (List ℕ) O) → slice_get xs 0 ≡ Some x → HasFed {O = O} knows s old now x) → IsFedUntil s b old now
+    pub fed-from : (old now : Option Coming)
+        → ((x : Seat Sealed P (List ℕ) O) → slice_get xs 0 ≡ Some x → HasFed {O = O} knows s old now x) → IsFedUntil s b old now
     fed-from old now fed =
         let low : 0 < length ends = omega (arith, many) in
         let d = listed ends 0 low in
@@ -128,11 +136,13 @@ module _ {O P : Type 0} (ours : P → Type 0) (knows : P → Pass) (s : Setting)
         record { first = f.0; fresh = f.1; last = knows d.0.pass; made = made-at 0 d.0 d.1; feeds = f.2 }
 
 -- the ends of the feeder and the workers
-pub came-back : {O P : Type 0} (ours : P → Type 0) (knows : P → Pass) (s : Setting) (x : Seat Sealed P (List ℕ) O) (xs : List (Seat Sealed P (List ℕ) O)) → length xs ≡ length (workers s)
+pub came-back : {O P : Type 0} (ours : P → Type 0) (knows : P → Pass) (s : Setting) (x : Seat Sealed P (List ℕ) O) (xs : List (Seat Sealed P (List ℕ) O))
+    → length xs ≡ length (workers s)
     → IsBack {O = O} ours knows s 0 0 x → AreBack {O = O} ours knows s 1 (workers s) xs → AreEnds {O = O} ours knows s 0 (posts s) (x ∷ xs)
 came-back ours knows s x xs many feeder rest = ends-from ours knows s 0 (posts s) (x ∷ xs) (ap suc many) (all-back ours knows s x xs feeder rest)
 
-pub first-fed : {O P : Type 0} (knows : P → Pass) (s : Setting) (old now : Option Coming) (x : Seat Sealed P (List ℕ) O) (xs : List (Seat Sealed P (List ℕ) O)) → HasFed {O = O} knows s old now x
+pub first-fed : {O P : Type 0} (knows : P → Pass) (s : Setting) (old now : Option Coming) (x : Seat Sealed P (List ℕ) O) (xs : List (Seat Sealed P (List ℕ) O))
+    → HasFed {O = O} knows s old now x
     → (y : Seat Sealed P (List ℕ) O) → slice_get (x ∷ xs) 0 ≡ Some y → HasFed {O = O} knows s old now y
 first-fed {O} {P} knows s old now x xs fed y at = let same : x ≡ y = cc in subst (λ (z : Seat Sealed P (List ℕ) O). HasFed {O = O} knows s old now z) same fed
 
@@ -141,9 +151,11 @@ if-ok (Ok x) A B goes h = goes x h
 if-ok (Err e) A B goes h = h
 
 -- what the role that saves left
-pub leaves-from : (g : Graph) (stack : StackValue) (prefix : List ℕ) (before : Option Files) (p : Pass) (left : Option (DuePiece Sealed)) (xs : List NodeFile) (fault : Bool) (held : Option Files) (b : BoardState)
+pub leaves-from : (g : Graph) (stack : StackValue) (prefix : List ℕ) (before : Option Files) (p : Pass) (left : Option (DuePiece Sealed)) (xs : List NodeFile)
+    (fault : Bool) (held : Option Files) (b : BoardState)
     → HasMade b p → is_history (run_setting g stack) (past b) ≡ true → only_drain_saves (run_setting g stack) (past b) ≡ true
-    → RoleLeaves g stack (record { prefix = prefix; made = []; held = before }) (last_role (run_setting g stack)) left p xs fault held → SaverLeaves g stack prefix before left b xs fault held
+    → RoleLeaves g stack (record { prefix = prefix; made = []; held = before }) (last_role (run_setting g stack)) left p xs fault held
+    → SaverLeaves g stack prefix before left b xs fault held
 leaves-from g stack prefix before p None xs fault held b made legal drained h =
     saving-alone g stack prefix [] before (last_role (run_setting g stack)) refl p xs fault held b made legal drained h
 leaves-from g stack prefix before p (Some due) xs fault held b made legal drained h =

@@ -33,7 +33,8 @@ has-worker v (m ∷ ns) (suc j) n h some =
     let here : (v + 1) + j ≡ v + suc j = omega arith in
     (l.0, l.1 ∙ ap (λ (u : ℕ). Some u) here)
 
-pub node-worker : (g : Graph) (stack : StackValue) (v : ℕ) → IsGraph g → is_node (run_setting g stack) v ≡ true → (k : ℕ) × (slice_get (workers (run_setting g stack)) k ≡ Some v)
+pub node-worker : (g : Graph) (stack : StackValue) (v : ℕ) → IsGraph g → is_node (run_setting g stack) v ≡ true
+    → (k : ℕ) × (slice_get (workers (run_setting g stack)) k ≡ Some v)
 node-worker g stack zero sound here = let a = node-above (run_setting g stack) 0 here in absurd (omega (arith, a.0))
 node-worker g stack (suc k) sound here =
     let s = run_setting g stack in

@@ -13,7 +13,8 @@ use Rattle.board_rules.specs.States.{BoardState}
 use Rattle.frame_store.specs.Sealed.{Sealed}
 
 -- what the role that saves left of a run: its files, and a piece in its hand
-abbrev pub SaverLeaves : Graph → StackValue → (prefix : List ℕ) → (before : Option Files) → Option (DuePiece Sealed) → BoardState → List NodeFile → (fault : Bool)
+abbrev pub SaverLeaves : Graph → StackValue → (prefix : List ℕ) → (before : Option Files) → Option (DuePiece Sealed)
+    → BoardState → List NodeFile → (fault : Bool)
     → (held : Option Files) → Type 0
 SaverLeaves g stack prefix before None b xs fault held = IsSavingAlone g stack prefix before b xs fault held
 SaverLeaves g stack prefix before (Some due) b xs fault held = HasUnsavedAlone g stack prefix before b xs fault held due

@@ -22,7 +22,8 @@ module _ {P : Type 0} (ours : P → Type 0) where
   SaverBegins g stack (Some b) = ours b.0 × ((prefix : List ℕ) × (b.1 ≡ file_nodes g stack prefix))
 
 -- the role has ended: it has only saved, and its files stand so
-pub record IsSaverEnd (g : Graph) (stack : StackValue) (before : Option Files) (began : List NodeFile) (p : Pass) (left : Option (DuePiece Sealed)) (xs : List NodeFile)
+pub record IsSaverEnd (g : Graph) (stack : StackValue) (before : Option Files) (began : List NodeFile)
+    (p : Pass) (left : Option (DuePiece Sealed)) (xs : List NodeFile)
     (fault : Bool) (held : Option Files) : Type 0 where
   pub role : p.role ≡ last_role (run_setting g stack)
   pub moves : list_all saver_logs (past p.made) ≡ true
@@ -30,7 +31,8 @@ pub record IsSaverEnd (g : Graph) (stack : StackValue) (before : Option Files) (
       → RoleLeaves g stack (record { prefix = prefix; made = []; held = before }) (last_role (run_setting g stack)) left p xs fault held
 
 module _ {P : Type 0} (ours : P → Type 0) (knows : P → Pass) where
-  abbrev pub SaverEnds : Graph → StackValue → (before : Option Files) → Option (P × List NodeFile) → (pass : P) → (left : Option (DuePiece Sealed)) → (xs : List NodeFile)
+  abbrev pub SaverEnds : Graph → StackValue → (before : Option Files) → Option (P × List NodeFile) → (pass : P)
+      → (left : Option (DuePiece Sealed)) → (xs : List NodeFile)
       → (fault : Bool) → (held : Option Files) → Type 0
   SaverEnds g stack before None pass left xs fault held = ⊥
   SaverEnds g stack before (Some b) pass left xs fault held = ours pass × IsSaverEnd g stack before b.1 (knows pass) left xs fault held

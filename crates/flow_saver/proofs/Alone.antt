@@ -30,14 +30,16 @@ pub record Adds (s : Setting) (b new : BoardState) : Type 0 where
   pub legal : is_history s (past new) ≡ true
   pub drained : only_drain_saves s (past new) ≡ true
 
-module _ (s : Setting) (b new : BoardState) (pooled : s.pooled ≡ true) (legal : is_history s (past b) ≡ true) (drained : only_drain_saves s (past b) ≡ true) where
+module _ (s : Setting) (b new : BoardState) (pooled : s.pooled ≡ true) (legal : is_history s (past b) ≡ true)
+    (drained : only_drain_saves s (past b) ≡ true) where
   pub saves-add : (v : ℕ) (answer : Save Sealed) → IsTrue (is_node s v) → SaveGives name_of parts_of s b (last_role s) v answer new → Adds s b new
   unfolding frames
   saves-add v answer node c =
       let m = replies_are_moves {F = Sealed} {B = List ℕ} {O = ℕ} frames s b new (op.Save (last_role s) v) (reply.Save answer) (refl, node) c in
       record { added = m.0.0; is = m.0.1; move = m.0.2; legal = m.1 pooled legal; drained = m.2 drained }
 
-  pub saveds-add : (f : Sealed) (answer : Result (Unit {0}) (NotYours Sealed)) → MaySaved name_of parts_of b (last_role s) f → SavedGives name_of s b (last_role s) f answer new → Adds s b new
+  pub saveds-add : (f : Sealed) (answer : Result (Unit {0}) (NotYours Sealed)) → MaySaved name_of parts_of b (last_role s) f
+      → SavedGives name_of s b (last_role s) f answer new → Adds s b new
   unfolding frames
   saveds-add f answer may c =
       let m = replies_are_moves {F = Sealed} {B = List ℕ} {O = ℕ} frames s b new (op.Saved (last_role s) f) (reply.Saved answer) (refl, may) c in

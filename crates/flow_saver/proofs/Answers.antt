@@ -59,7 +59,9 @@ module _ (s : Setting) (old new : BoardState) (r v : ℕ) where
       ])
   piece-by input group place of None is c =
       record {
-        due = due-of (not (none_left (unsaved s v (past old)))) (is_due (node s v).work v (past old)) (list_any (is_piece v) (hands (past old))) (not_refused busy early is).1;
+        due =
+            due-of (not (none_left (unsaved s v (past old)))) (is_due (node s v).work v (past old))
+            (list_any (is_piece v) (hands (past old))) (not_refused busy early is).1;
         next = c.0;
         group_is = c.2;
         place_is = c.3;
@@ -67,7 +69,8 @@ module _ (s : Setting) (old new : BoardState) (r v : ℕ) where
         logged = c.5;
       }
 
-  pub piece-given : (input : Sealed) (group place : ℕ) (of : Option ℕ) → SaveGives name_of parts_of s old r v (Piece input group place of) new → Given s old r v input group place of new
+  pub piece-given : (input : Sealed) (group place : ℕ) (of : Option ℕ) → SaveGives name_of parts_of s old r v (Piece input group place of) new
+      → Given s old r v input group place of new
   piece-given input group place of c = piece-by input group place of (save_refusal {F = Sealed} s r v (past old)) refl c
 
   not_yet-by : (o : Option (Save Sealed)) → SaveAnswers name_of parts_of s old r v o NotYet new → new ≡ old
@@ -77,7 +80,8 @@ module _ (s : Setting) (old new : BoardState) (r v : ℕ) where
   pub not_yet-still : SaveGives name_of parts_of s old r v NotYet new → new ≡ old
   not_yet-still c = not_yet-by (save_refusal {F = Sealed} s r v (past old)) c
 
-  busy-by : (o : Option (Save Sealed)) → save_refusal {F = Sealed} s r v (past old) ≡ o → SaveAnswers name_of parts_of s old r v o Busy new → is_free r (past old) ≡ false
+  busy-by : (o : Option (Save Sealed)) → save_refusal {F = Sealed} s r v (past old) ≡ o
+      → SaveAnswers name_of parts_of s old r v o Busy new → is_free r (past old) ≡ false
   busy-by (Some a) is c =
       elim (refused busy early a is) [
         | inl b ↦ not_free b.0

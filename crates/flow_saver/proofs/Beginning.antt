@@ -32,7 +32,8 @@ use Rattle.flow_saver.specs.GivenBack.{given_back, written_by}
 use Rattle.flow_saver.specs.Saver.{Start, IsSaving, HasUnsaved, HasSavedSince, AreSaved, AreBegunSo, IsPieceOfHand}
 
 module _ (g : Graph) (stack : StackValue) (prefix : List ℕ) where
-  closed-kind : (v : ℕ) (n : NodeRule) (c : Kind) (rest : List NodeFile) → map closed rest ≡ rest → map closed (kind_node g stack prefix v n.name c ++ rest) ≡ kind_node g stack prefix v n.name c ++ rest
+  closed-kind : (v : ℕ) (n : NodeRule) (c : Kind) (rest : List NodeFile) → map closed rest ≡ rest
+      → map closed (kind_node g stack prefix v n.name c ++ rest) ≡ kind_node g stack prefix v n.name c ++ rest
   closed-kind v n (File r) rest same = ap (λ xs. kind_node g stack prefix v n.name (File r) ++ xs) same
   closed-kind v n (Roi r) rest same = same
   closed-kind v n (Stats r) rest same = same
@@ -72,11 +73,13 @@ nothing_written x held none = record {
   each = λ i. subst (HasBytes held (name_of x i)) (sym (nothing_in x i none)) tt;
 }
 
-pub fresh-saving : (g : Graph) (stack : StackValue) (prefix : List ℕ) (held : Option Files) (r : ℕ) (p : Pass) (xs : List NodeFile) → xs ≡ file_nodes g stack prefix → IsFresh r p
+pub fresh-saving : (g : Graph) (stack : StackValue) (prefix : List ℕ) (held : Option Files) (r : ℕ) (p : Pass) (xs : List NodeFile)
+    → xs ≡ file_nodes g stack prefix → IsFresh r p
     → IsSaving g stack (record { prefix = prefix; made = []; held = held }) r p xs false held
 fresh-saving g stack prefix held r p xs files fresh =
     let start : Start = record { prefix = prefix; made = []; held = held } in
-    let none_ = λ (k : ℕ) (x : NodeFile) (at : slice_get xs k ≡ Some x). none-current g stack prefix k x (ap (λ (ys : List NodeFile). slice_get ys k) (sym files) ∙ at) in
+    let none_ =
+    λ (k : ℕ) (x : NodeFile) (at : slice_get xs k ≡ Some x). none-current g stack prefix k x (ap (λ (ys : List NodeFile). slice_get ys k) (sym files) ∙ at) in
     let all : AllWritten held xs (written_by g stack []) held = record {
       told = refl;
       each = λ k x at. nothing_written x held (none_ k x at);
@@ -106,7 +109,8 @@ all-since then_made made h first =
 since-none : (then_made made : BoardState) → HasSavedSince then_made made → then_made ≡ [] → HasSavedSince [] made
 since-none then_made made h first = (h.0, h.1 ∙ ap (λ (b : BoardState). h.0 ++ b) first, h.2)
 
-module _ (g : Graph) (stack : StackValue) (start : Start) (prefix : List ℕ) (before : Option Files) (r : ℕ) (p : Pass) (xs : List NodeFile) (fault : Bool) (held : Option Files) (began : start.held ≡ before) (first : start.made ≡ [])
+module _ (g : Graph) (stack : StackValue) (start : Start) (prefix : List ℕ) (before : Option Files) (r : ℕ) (p : Pass) (xs : List NodeFile)
+    (fault : Bool) (held : Option Files) (began : start.held ≡ before) (first : start.made ≡ [])
     (named : file_nodes g stack start.prefix ≡ file_nodes g stack prefix) where
   -- the same files by other names of the beginning
   pub saving-from : IsSaving g stack start r p xs fault held → IsSaving g stack (record { prefix = prefix; made = []; held = before }) r p xs fault held
@@ -121,7 +125,8 @@ module _ (g : Graph) (stack : StackValue) (start : Start) (prefix : List ℕ) (b
     saved = subst (λ (h : Option Files). AreSaved g stack h (past p.made) (past p.seen) xs fault held) began st.saved;
   }
 
-  pub unsaved-from : (due : DuePiece Sealed) → HasUnsaved g stack start r p xs fault held due → HasUnsaved g stack (record { prefix = prefix; made = []; held = before }) r p xs fault held due
+  pub unsaved-from : (due : DuePiece Sealed) → HasUnsaved g stack start r p xs fault held due
+      → HasUnsaved g stack (record { prefix = prefix; made = []; held = before }) r p xs fault held due
   unsaved-from due st = record {
     role = st.role;
     moves = since-none start.made p.made st.moves first;
@@ -144,6 +149,8 @@ module _ (g : Graph) (stack : StackValue) (start : Start) (prefix : List ℕ) (b
   }
 
 -- the piece of a hand
-pub hand-piece : (r v group : ℕ) (lent : Option Parts) (piece : Sealed) (e : Option Entry) → e ≡ Some (entry.Save r v piece.name.maker piece.name.index group) → lent ≡ parts_of piece → IsPieceOfHand lent e (Some piece)
+pub hand-piece : (r v group : ℕ) (lent : Option Parts) (piece : Sealed) (e : Option Entry) → e ≡ Some (entry.Save r v piece.name.maker piece.name.index group)
+    → lent ≡ parts_of piece → IsPieceOfHand lent e (Some piece)
 hand-piece r v group lent piece e is same =
-    subst (λ (o : Option Entry). IsPieceOfHand lent o (Some piece)) (sym is) (let both : IsLent feeder.name_of parts_of (frame piece.name.maker piece.name.index) lent (Some piece) = (refl, sym same) in both)
+    subst (λ (o : Option Entry). IsPieceOfHand lent o (Some piece)) (sym is)
+    (let both : IsLent feeder.name_of parts_of (frame piece.name.maker piece.name.index) lent (Some piece) = (refl, sym same) in both)

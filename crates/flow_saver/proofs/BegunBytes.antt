@@ -28,7 +28,8 @@ use Rattle.flow_saver.specs.Ending as ending
 -- THE COUNT OF RECORDS, as replay_top has it for a plain run, above this crate
 
 -- the last of two writes at one place counts
-overwritten-twice : (file a b : List ℕ) (off : ℕ) → off ≤ length file → length a ≡ length b → overwritten (overwritten file off a) off b ≡ overwritten file off b
+overwritten-twice : (file a b : List ℕ) (off : ℕ) → off ≤ length file → length a ≡ length b
+    → overwritten (overwritten file off a) off b ≡ overwritten file off b
 overwritten-twice file a b off within same =
     let place : length (take off file) ≡ off = length-take-le off file within in
     ap (λ n. overwritten (overwritten file off a) n b) (sym place)
@@ -46,11 +47,13 @@ open_is : (shape : FileShape) (rest : List ℕ) → take 4 (drop count_place (he
 unfolding header
 open_is shape rest = refl
 
-layout-overwritten : (shape : FileShape) (arrays : List Array) (count : List ℕ) → length count ≡ 4 → overwritten (layout shape arrays) count_place count ≡ overwritten (begun_file shape None arrays) count_place count
+layout-overwritten : (shape : FileShape) (arrays : List Array) (count : List ℕ) → length count ≡ 4
+    → overwritten (layout shape arrays) count_place count ≡ overwritten (begun_file shape None arrays) count_place count
 layout-overwritten shape arrays count four =
     let rows = flat_map (row shape) arrays in
     ap (λ file. overwritten file count_place count) (sym (overwritten-count shape (length arrays) rows))
-    ∙ overwritten-twice (begun_file shape None arrays) (word (length arrays)) count count_place (let long = header_long shape None rows in omega arith) (sym four)
+    ∙ overwritten-twice (begun_file shape None arrays) (word (length arrays)) count count_place
+    (let long = header_long shape None rows in omega arith) (sym four)
 
 layout-late : (shape : FileShape) (arrays : List Array) → overwritten (layout shape arrays) count_place open_count ≡ begun_file shape None arrays
 layout-late shape arrays =
@@ -59,7 +62,8 @@ layout-late shape arrays =
     ∙ ap (λ count. overwritten (begun_file shape None arrays) count_place count) (sym (open_is shape rows))
     ∙ overwritten-same (begun_file shape None arrays) count_place 4 (header_long shape None rows)
 
-overwritten-front : (file more bytes : List ℕ) (off : ℕ) → off + length bytes ≤ length file → overwritten (file ++ more) off bytes ≡ overwritten file off bytes ++ more
+overwritten-front : (file more bytes : List ℕ) (off : ℕ) → off + length bytes ≤ length file
+    → overwritten (file ++ more) off bytes ≡ overwritten file off bytes ++ more
 overwritten-front file more bytes off within =
     ap (λ front. front ++ (bytes ++ drop (off + length bytes) (file ++ more))) (take-append-le off file more (omega (arith, within)))
     ∙ ap (λ rest. take off file ++ (bytes ++ rest)) (drop-append-le (off + length bytes) file more within)
@@ -76,28 +80,36 @@ module _ (shape : FileShape) (arrays rest full : List Array) (is : full ≡ arra
   rows = flat_map (row shape) rest
 
   longer : (numrecs : Option ℕ) → begun_file shape numrecs full ≡ begun_file shape numrecs arrays ++ rows
-  longer numrecs = ap (λ zs. header shape numrecs ++ flat_map (row shape) zs) is ∙ ap (λ r. header shape numrecs ++ r) (flat_map-append (row shape) arrays rest) ∙ sym (append_assoc (header shape numrecs) (flat_map (row shape) arrays) rows)
+  longer numrecs =
+      ap (λ zs. header shape numrecs ++ flat_map (row shape) zs) is ∙ ap (λ r. header shape numrecs ++ r) (flat_map-append (row shape) arrays rest)
+      ∙ sym (append_assoc (header shape numrecs) (flat_map (row shape) arrays) rows)
 
   -- a front of the header and the rows
-  pub begun-front : (late : Bool) (numrecs : Option ℕ) (front tail : List ℕ) (now : Option (List ℕ)) → IsCountOf late (length full) numrecs → begun_file shape numrecs arrays ≡ front ++ tail → now ≡ Some front
+  pub begun-front : (late : Bool) (numrecs : Option ℕ) (front tail : List ℕ) (now : Option (List ℕ)) → IsCountOf late (length full) numrecs
+      → begun_file shape numrecs arrays ≡ front ++ tail → now ≡ Some front
       → IsBegunAs late (layout shape full) before now
   begun-front true numrecs front tail now count whole made =
-      let all : begun_file shape None full ≡ front ++ (tail ++ rows) = longer None ∙ ap (λ bytes. bytes ++ rows) (ap (λ n. begun_file shape n arrays) (sym count) ∙ whole) ∙ append_assoc front tail rows in
+      let all : begun_file shape None full ≡ front ++ (tail ++ rows) =
+      longer None ∙ ap (λ bytes. bytes ++ rows) (ap (λ n. begun_file shape n arrays) (sym count) ∙ whole) ∙ append_assoc front tail rows in
       Unended front (tail ++ rows) (layout-late shape full ∙ all) made
   begun-front false numrecs front tail now count whole made =
-      Unended front (tail ++ rows) (longer (Some (length full)) ∙ ap (λ bytes. bytes ++ rows) (ap (λ n. begun_file shape n arrays) (sym count) ∙ whole) ∙ append_assoc front tail rows) made
+      Unended front (tail ++ rows) (longer (Some (length full)) ∙ ap (λ bytes. bytes ++ rows) (ap (λ n. begun_file shape n arrays) (sym count) ∙ whole)
+      ∙ append_assoc front tail rows) made
 
-  miscounted : (late : Bool) (numrecs : Option ℕ) (any : List ℕ) (now : Option (List ℕ)) → IsCountOf late (length full) numrecs → numrecs ≡ None → length any ≡ 4 → now ≡ Some (overwritten (begun_file shape numrecs arrays) count_place any)
+  miscounted : (late : Bool) (numrecs : Option ℕ) (any : List ℕ) (now : Option (List ℕ)) → IsCountOf late (length full) numrecs → numrecs ≡ None
+      → length any ≡ 4 → now ≡ Some (overwritten (begun_file shape numrecs arrays) count_place any)
       → IsBegunAs late (layout shape full) before now
   miscounted false numrecs any now count none_ four made = let clash : Some (length full) ≡ None = sym count ∙ none_ in absurd (cc)
   miscounted true numrecs any now count none_ four made =
       let long = header_long shape None (flat_map (row shape) arrays) in
       ending.Miscounted refl any (overwritten (begun_file shape None arrays) count_place any) rows four
-      (layout-overwritten shape full any four ∙ ap (λ bytes. overwritten bytes count_place any) (longer None) ∙ overwritten-front (begun_file shape None arrays) rows any count_place (omega (arith, long, four)))
+      (layout-overwritten shape full any four ∙ ap (λ bytes. overwritten bytes count_place any) (longer None)
+      ∙ overwritten-front (begun_file shape None arrays) rows any count_place (omega (arith, long, four)))
       (made ∙ ap (λ n. Some (overwritten (begun_file shape n arrays) count_place any)) none_)
 
   -- whatever a call that failed left
-  pub begun-torn : (late : Bool) (numrecs : Option ℕ) (was now : Option (List ℕ)) → IsCountOf late (length full) numrecs → (now ≡ was → IsBegunAs late (layout shape full) before now) → IsTorn was shape numrecs arrays now
+  pub begun-torn : (late : Bool) (numrecs : Option ℕ) (was now : Option (List ℕ)) → IsCountOf late (length full) numrecs
+      → (now ≡ was → IsBegunAs late (layout shape full) before now) → IsTorn was shape numrecs arrays now
       → IsBegunAs late (layout shape full) before now
   begun-torn late numrecs was now count still (Untouched same) = still same
   begun-torn late numrecs was now count still (Front front tail whole made) = begun-front late numrecs front tail now count whole made
@@ -118,7 +130,9 @@ take-front n xs ys =
     elim (cases_lt (length xs) n) [
       | inl short ↦
           let e : length xs + (n - length xs) ≡ n = omega (arith, short) in
-          (take (n - length xs) ys, ap (λ k. take k (xs ++ ys)) (sym e) ∙ take-append-add xs ys (n - length xs) ∙ ap (λ zs. zs ++ take (n - length xs) ys) (sym (take_all n xs (omega (arith, short)))))
+          (take (n - length xs) ys,
+          ap (λ k. take k (xs ++ ys)) (sym e) ∙ take-append-add xs ys (n - length xs)
+          ∙ ap (λ zs. zs ++ take (n - length xs) ys) (sym (take_all n xs (omega (arith, short)))))
       | inr long ↦ ([], take-append-le n xs ys (omega (arith, long)) ∙ sym (append-nil (take n xs)))
     ]
 
@@ -153,7 +167,8 @@ group-long count i xs long =
 pub data GroupHas (x : NodeFile) (arrays : List Array) (i : ℕ) : Type 0 where
   Nothing : group_file x arrays i ≡ None → GroupHas x arrays i
   Whole : length (group_of x.count i arrays) ≡ x.count → group_file x arrays i ≡ Some (layout x.shape (group_of x.count i arrays)) → GroupHas x arrays i
-  Opened : (f : Stream) → x.current ≡ Some f → i ≡ length arrays / x.count → group_file x arrays i ≡ Some (begun_file x.shape f.numrecs (group_of x.count i arrays)) → GroupHas x arrays i
+  Opened : (f : Stream) → x.current ≡ Some f → i ≡ length arrays / x.count
+      → group_file x arrays i ≡ Some (begun_file x.shape f.numrecs (group_of x.count i arrays)) → GroupHas x arrays i
 
 whole-is : (shape : FileShape) (zs : List Array) → 1 ≤ length zs → whole_file shape zs ≡ Some (layout shape zs)
 whole-is shape [] some = absurd (omega arith)
@@ -168,7 +183,8 @@ module _ (x : NodeFile) (arrays : List Array) (some : 1 ≤ x.count) where
 
   closed-has : (i : ℕ) → i ≢ n / x.count → GroupHas x arrays i
   closed-has i apart =
-      let file : group_file x arrays i ≡ whole_file x.shape (group_of x.count i arrays) = ap (λ o. file_of o x.shape (group_of x.count i arrays)) (open-elsewhere x n i apart) in
+      let file : group_file x arrays i ≡ whole_file x.shape (group_of x.count i arrays) =
+      ap (λ o. file_of o x.shape (group_of x.count i arrays)) (open-elsewhere x n i apart) in
       elim (cases_lt i (n / x.count)) [
         | inl before ↦
             let rows : (i + 1) * x.count ≤ n / x.count * x.count = mul-le-mul_right x.count (let le : i + 1 ≤ n / x.count = omega (arith, before) in le) in
@@ -181,7 +197,8 @@ module _ (x : NodeFile) (arrays : List Array) (some : 1 ≤ x.count) where
   here-has : (o : Option Stream) → x.current ≡ o → IsOpenAfter x n o → (i : ℕ) → i ≡ n / x.count → GroupHas x arrays i
   here-has None is begun i here =
       let none_ : group_of x.count i arrays ≡ [] =
-      ap (λ j. group_of x.count j arrays) here ∙ empty (group_of x.count (n / x.count) arrays) (length-group x.count arrays (n / x.count) (n % x.count) place ∙ begun) in
+      ap (λ j. group_of x.count j arrays) here
+      ∙ empty (group_of x.count (n / x.count) arrays) (length-group x.count arrays (n / x.count) (n % x.count) place ∙ begun) in
       Nothing (ap (λ w. file_of w x.shape (group_of x.count i arrays)) (none-open x n i is) ∙ ap (whole_file x.shape) none_)
   here-has (Some f) is begun i here =
       Opened f is here (ap (λ w. file_of w x.shape (group_of x.count i arrays)) (open-here x n i here ∙ is))

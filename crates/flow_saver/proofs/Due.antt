@@ -57,9 +57,11 @@ pub record OfFile (g : Graph) (stack : StackValue) (x : NodeFile) : Type 0 where
   pub work : (node (run_setting g stack) x.node).work ≡ Saves (is_capture file.mode) file.count
   pub number : is_node (run_setting g stack) x.node ≡ true
 
-pub of_file : (g : Graph) (stack : StackValue) (prefix : List ℕ) (xs : List NodeFile) (k : ℕ) (x : NodeFile) → IsGraph g → map closed xs ≡ file_nodes g stack prefix → slice_get xs k ≡ Some x → OfFile g stack x
+pub of_file : (g : Graph) (stack : StackValue) (prefix : List ℕ) (xs : List NodeFile) (k : ℕ) (x : NodeFile) → IsGraph g
+    → map closed xs ≡ file_nodes g stack prefix → slice_get xs k ≡ Some x → OfFile g stack x
 of_file g stack prefix xs k x sound nodes at =
-    let there : slice_get (file_nodes g stack prefix) k ≡ Some (closed x) = ap (λ (ys : List NodeFile). slice_get ys k) (sym nodes) ∙ slice_get-map closed xs k ∙ ap (option_map closed) at in
+    let there : slice_get (file_nodes g stack prefix) k ≡ Some (closed x) =
+    ap (λ (ys : List NodeFile). slice_get ys k) (sym nodes) ∙ slice_get-map closed xs k ∙ ap (option_map closed) at in
     let o = of_node g stack prefix 1 g.nodes k (closed x) there in
     let place : x.node ≡ suc o.place = o.node ∙ omega arith in
     let rule : rule_at g.nodes x.node ≡ Some o.rule = ap (rule_at g.nodes) place ∙ o.at in
@@ -102,9 +104,11 @@ settled-due false ready h no_ = absurd (false≢true (sym no_ ∙ h))
 
 module _ (P : Past) (v count n : ℕ) (some : 1 ≤ count) (below : n < length (puts v P)) where
   whole-size : is_whole_group count n (length (puts v P)) ≡ true → IsGroupSize P v count (n / count) count
-  whole-size whole = inl (let rows = leb-true ((n / count + 1) * count) (length (puts v P)) whole in let next = add-mul (n / count) 1 count in omega (arith, rows, next), refl)
+  whole-size whole =
+      inl (let rows = leb-true ((n / count + 1) * count) (length (puts v P)) whole in let next = add-mul (n / count) 1 count in omega (arith, rows, next), refl)
 
-  short-size : is_whole_group count n (length (puts v P)) ≡ false → is_settled v P ≡ true → IsGroupSize P v count (n / count) (length (puts v P) - n / count * count)
+  short-size : is_whole_group count n (length (puts v P)) ≡ false → is_settled v P ≡ true
+      → IsGroupSize P v count (n / count) (length (puts v P) - n / count * count)
   short-size short settled =
       let rows = leb-false ((n / count + 1) * count) (length (puts v P)) short in
       let next = add-mul (n / count) 1 count in
@@ -112,16 +116,20 @@ module _ (P : Past) (v count n : ℕ) (some : 1 ≤ count) (below : n < length (
       inr (settled, omega (arith, rows, next), omega (arith, front, below))
 
   size-by : (whole settled : Bool) → is_whole_group count n (length (puts v P)) ≡ whole → is_settled v P ≡ settled → (whole ≡ false → settled ≡ true)
-      → (size : ℕ) × ((if whole then Some count else if settled then Some (length (puts v P) - n / count * count) else None) ≡ Some size) × IsGroupSize P v count (n / count) size
+      → (size : ℕ) × ((if whole then Some count else if settled then Some (length (puts v P) - n / count * count) else None) ≡ Some size)
+      × IsGroupSize P v count (n / count) size
   size-by true settled w t known_ = (count, refl, whole-size w)
   size-by false true w t known_ = (length (puts v P) - n / count * count, refl, short-size w t)
   size-by false false w t known_ = absurd (false≢true (known_ refl))
 
 one-whole : (n put : ℕ) → n < put → leb ((n / 1 + 1) * 1) put ≡ true
-one-whole n put below = le-leb ((n / 1 + 1) * 1) put (let d = div-add-mod' n 1 in let m = mod-lt n (let one : 0 < 1 = omega arith in one) in omega (arith, below, d, m))
+one-whole n put below =
+    le-leb ((n / 1 + 1) * 1) put (let d = div-add-mod' n 1 in let m = mod-lt n (let one : 0 < 1 = omega arith in one) in omega (arith, below, d, m))
 
-pub next-piece : (g : Graph) (stack : StackValue) (x : NodeFile) (f : OfFile g stack x) (P : Past) (n : ℕ) (name : FrameName) (group place : ℕ) (of : Option ℕ) → IsGraph g
-    → is_history (run_setting g stack) P ≡ true → n ≡ length (standing_saves x.node P) → is_due (node (run_setting g stack) x.node).work x.node P ≡ true → is_next name (unsaved (run_setting g stack) x.node P) ≡ true
+pub next-piece : (g : Graph) (stack : StackValue) (x : NodeFile) (f : OfFile g stack x) (P : Past) (n : ℕ) (name : FrameName) (group place : ℕ) (of : Option ℕ)
+    → IsGraph g
+    → is_history (run_setting g stack) P ≡ true → n ≡ length (standing_saves x.node P) → is_due (node (run_setting g stack) x.node).work x.node P ≡ true
+    → is_next name (unsaved (run_setting g stack) x.node P) ≡ true
     → group ≡ group_of (node (run_setting g stack) x.node).work n → place ≡ place_of (node (run_setting g stack) x.node).work n
     → of ≡ group_size (node (run_setting g stack) x.node).work n (is_settled x.node P) (length (puts x.node P)) → IsNext g stack x P n name group place of
 next-piece g stack x f P n name group place of sound h saved due next group_is place_is of_is =
@@ -134,10 +142,12 @@ next-piece g stack x f P n name group place of sound h saved due next group_is p
     let place_at : slice_get (puts v P) n ≡ Some name = ap (slice_get (puts v P)) saved ∙ at in
     let below : n < length (puts v P) = slice_get_within (puts v P) n name place_at in
     let maker = puts-named g (makers_of g.nodes stack.shape) stack.arrays P v f.rule sound f.at (ap makes f.work) h n name below in
-    let own : name.maker ≡ maker_at g.nodes f.rule.input = subst (λ (a : FrameName). a.maker ≡ maker_at g.nodes f.rule.input) (get_or_from_slice_get (puts v P) n name name place_at) maker in
+    let own : name.maker ≡ maker_at g.nodes f.rule.input =
+    subst (λ (a : FrameName). a.maker ≡ maker_at g.nodes f.rule.input) (get_or_from_slice_get (puts v P) n name name place_at) maker in
     let some : 1 ≤ count = f.sound.count.0 in
     let group_ : group ≡ n / count = group_is ∙ ap (λ (w : Work). group_of w n) f.work in
-    let of_ : of ≡ size_of_group count n (is_settled v P) (length (puts v P)) = of_is ∙ ap (λ (w : Work). group_size w n (is_settled v P) (length (puts v P))) f.work in
+    let of_ : of ≡ size_of_group count n (is_settled v P) (length (puts v P)) =
+    of_is ∙ ap (λ (w : Work). group_size w n (is_settled v P) (length (puts v P))) f.work in
     let due_ : is_due (Saves (is_capture f.file.mode) count) v P ≡ true = ap (λ (w : Work). is_due w v P) (sym f.work) ∙ due in
     record {
       below = below;
@@ -146,13 +156,16 @@ next-piece g stack x f P n name group place of sound h saved due next group_is p
       place_is = place_is ∙ ap (λ (w : Work). place_of w n) f.work ∙ ap (λ (c : ℕ). n % c) (sym f.count);
       named = own ∙ sym (maker_of_other g v f.rule sound (sym f.at) (ap makes_arrays f.kind));
       sized = λ early.
-          let known_ : is_whole_group count n (length (puts v P)) ≡ false → is_settled v P ≡ true = λ short. elim (not-stream f.file.mode (sym f.late ∙ early)) [
+          let known_ : is_whole_group count n (length (puts v P)) ≡ false → is_settled v P ≡ true =
+          λ short. elim (not-stream f.file.mode (sym f.late ∙ early)) [
             | inl single ↦
                 let one : count ≡ 1 = f.sound.single single in
                 absurd (false≢true (sym short ∙ ap (λ (c : ℕ). is_whole_group c n (length (puts v P))) one ∙ one-whole n (length (puts v P)) below))
             | inr capture ↦
-                let whole_due : (not true || is_settled v P || leb ((length (standing_saves v P) / count + 1) * count) (length (puts v P))) ≡ true = ap (λ (m : Mode). is_due (Saves (is_capture m) count) v P) (sym capture) ∙ due_ in
-                settled-due (is_settled v P) (leb ((length (standing_saves v P) / count + 1) * count) (length (puts v P))) whole_due (ap (λ (k : ℕ). leb ((k / count + 1) * count) (length (puts v P))) (sym saved) ∙ short)
+                let whole_due : (not true || is_settled v P || leb ((length (standing_saves v P) / count + 1) * count) (length (puts v P))) ≡ true =
+                ap (λ (m : Mode). is_due (Saves (is_capture m) count) v P) (sym capture) ∙ due_ in
+                settled-due (is_settled v P) (leb ((length (standing_saves v P) / count + 1) * count) (length (puts v P))) whole_due
+                (ap (λ (k : ℕ). leb ((k / count + 1) * count) (length (puts v P))) (sym saved) ∙ short)
           ] in
           let z = size-by P v count n some below (is_whole_group count n (length (puts v P))) (is_settled v P) refl refl known_ in
           (z.0, of_ ∙ z.1, subst (λ (c : ℕ). IsGroupSize P v c group z.0) (sym f.count) (subst (λ (i : ℕ). IsGroupSize P v count i z.0) (sym group_) z.2));
@@ -161,14 +174,16 @@ next-piece g stack x f P n name group place of sound h saved due next group_is p
 -- WHAT THE FILES ASK FOR
 
 -- its place is within the room
-pub next-room : (g : Graph) (stack : StackValue) (x : NodeFile) (f : OfFile g stack x) (P : Past) (n : ℕ) (name : FrameName) (group place : ℕ) (of : Option ℕ) → IsNext g stack x P n name group place of → place < x.room
+pub next-room : (g : Graph) (stack : StackValue) (x : NodeFile) (f : OfFile g stack x) (P : Past) (n : ℕ) (name : FrameName) (group place : ℕ) (of : Option ℕ)
+    → IsNext g stack x P n name group place of → place < x.room
 next-room g stack x f P n name group place of h =
     let some : 0 < x.count = omega (arith, f.count, f.sound.count.0) in
     let low = mod-lt n some in
     let all = div-add-mod' n x.count in
     omega (arith, h.below, h.few, h.place_is, low, all, f.room, f.count)
 
-sized-by : (late : Bool) (P : Past) (v count group place room n : ℕ) (of : Option ℕ) (F : ℕ) → n < length (puts v P) → length (puts v P) ≤ F → n ≡ group * count + place → place < count → room ≡ min count F
+sized-by : (late : Bool) (P : Past) (v count group place room n : ℕ) (of : Option ℕ) (F : ℕ) → n < length (puts v P) → length (puts v P) ≤ F
+    → n ≡ group * count + place → place < count → room ≡ min count F
     → (late ≡ false → (size : ℕ) × (of ≡ Some size) × IsGroupSize P v count group size) → IsSized late place room of
 sized-by true P v count group place room n of F below few all within is h = tt
 sized-by false P v count group place room n of F below few all within is h =
@@ -178,15 +193,18 @@ sized-by false P v count group place room n of F below few all within is h =
       | inr short ↦ (omega (arith, short.2, below, all), omega (arith, short.1, short.2, few, is))
     ])
 
-pub next-sized : (g : Graph) (stack : StackValue) (x : NodeFile) (f : OfFile g stack x) (P : Past) (n : ℕ) (name : FrameName) (group place : ℕ) (of : Option ℕ) → IsNext g stack x P n name group place of → IsSized x.late place x.room of
+pub next-sized : (g : Graph) (stack : StackValue) (x : NodeFile) (f : OfFile g stack x) (P : Past) (n : ℕ) (name : FrameName) (group place : ℕ) (of : Option ℕ)
+    → IsNext g stack x P n name group place of → IsSized x.late place x.room of
 next-sized g stack x f P n name group place of h =
     let some : 0 < x.count = omega (arith, f.count, f.sound.count.0) in
-    let all : n ≡ group * x.count + place = sym (div-add-mod' n x.count) ∙ ap (λ i. i * x.count + n % x.count) (sym h.group_is) ∙ ap (λ k. group * x.count + k) (sym h.place_is) in
+    let all : n ≡ group * x.count + place =
+    sym (div-add-mod' n x.count) ∙ ap (λ i. i * x.count + n % x.count) (sym h.group_is) ∙ ap (λ k. group * x.count + k) (sym h.place_is) in
     let within : place < x.count = omega (arith, mod-lt n some, h.place_is) in
     let room : x.room ≡ min x.count (length stack.arrays) = f.room ∙ ap (λ c. min c (length stack.arrays)) (sym f.count) in
     sized-by x.late P x.node x.count group place x.room n of (length stack.arrays) h.below h.few all within room h.sized
 
-numrecs-by : (late : Bool) (P : Past) (v count group : ℕ) (of numrecs : Option ℕ) → (late ≡ false → (size : ℕ) × (of ≡ Some size) × IsGroupSize P v count group size) → IsFirstCount P v count group late numrecs
+numrecs-by : (late : Bool) (P : Past) (v count group : ℕ) (of numrecs : Option ℕ)
+    → (late ≡ false → (size : ℕ) × (of ≡ Some size) × IsGroupSize P v count group size) → IsFirstCount P v count group late numrecs
     → numrecs ≡ first_count late of
 numrecs-by true P v count group of numrecs h first = first
 numrecs-by false P v count group of numrecs h first =
@@ -194,14 +212,17 @@ numrecs-by false P v count group of numrecs h first =
     first.1 ∙ ap Some (size-one P v count group first.0 z.0 first.2 z.2) ∙ sym z.1
 
 -- and the open file was begun with its number of records
-pub next-numrecs : (g : Graph) (stack : StackValue) (x : NodeFile) (P : Past) (n : ℕ) (name : FrameName) (group place : ℕ) (of numrecs : Option ℕ) → IsNext g stack x P n name group place of
+pub next-numrecs : (g : Graph) (stack : StackValue) (x : NodeFile) (P : Past) (n : ℕ) (name : FrameName) (group place : ℕ) (of numrecs : Option ℕ)
+    → IsNext g stack x P n name group place of
     → IsFirstCount P x.node x.count group x.late numrecs → numrecs ≡ first_count x.late of
 next-numrecs g stack x P n name group place of numrecs h first = numrecs-by x.late P x.node x.count group of numrecs h.sized first
 
-first-by : (late : Bool) (P : Past) (v count group : ℕ) (of : Option ℕ) → (late ≡ false → (size : ℕ) × (of ≡ Some size) × IsGroupSize P v count group size) → IsFirstCount P v count group late (first_count late of)
+first-by : (late : Bool) (P : Past) (v count group : ℕ) (of : Option ℕ) → (late ≡ false → (size : ℕ) × (of ≡ Some size) × IsGroupSize P v count group size)
+    → IsFirstCount P v count group late (first_count late of)
 first-by true P v count group of h = refl
 first-by false P v count group of h = h refl
 
-pub next-first : (g : Graph) (stack : StackValue) (x : NodeFile) (P : Past) (n : ℕ) (name : FrameName) (group place : ℕ) (of : Option ℕ) → IsNext g stack x P n name group place of
+pub next-first : (g : Graph) (stack : StackValue) (x : NodeFile) (P : Past) (n : ℕ) (name : FrameName) (group place : ℕ) (of : Option ℕ)
+    → IsNext g stack x P n name group place of
     → IsFirstCount P x.node x.count group x.late (first_count x.late of)
 next-first g stack x P n name group place of h = first-by x.late P x.node x.count group of h.sized

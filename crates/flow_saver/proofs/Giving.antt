@@ -28,16 +28,19 @@ use Rattle.flow_saver.specs.GivenBack.{given_back, written_by}
 use Rattle.flow_saver.specs.Saver.{Start, IsSaving, IsToGiveBack, AreSaved}
 use Rattle.flow_saver.proofs.Steps.{one-entry, saved-more, saved-since, any-moved}
 
-module _ (g : Graph) (stack : StackValue) (start : Start) (r : ℕ) (p q : Pass) (xs : List NodeFile) (fault : Bool) (held : Option Files) (piece : Sealed) (answered : Last)
+module _ (g : Graph) (stack : StackValue) (start : Start) (r : ℕ) (p q : Pass) (xs : List NodeFile)
+    (fault : Bool) (held : Option Files) (piece : Sealed) (answered : Last)
     (st : IsToGiveBack g stack start r p xs fault held piece) where
   abbrev s : Setting
   s = run_setting g stack
 
   -- the hand is this piece, whatever others did
-  piece-on : (gives : BoardState → BoardState → Type 0) (c : Called s gives answered p q) → is_piece_on (name_of piece) (hand r (past (c.between ++ p.seen))) ≡ true
+  piece-on : (gives : BoardState → BoardState → Type 0) (c : Called s gives answered p q)
+      → is_piece_on (name_of piece) (hand r (past (c.between ++ p.seen))) ≡ true
   piece-on gives c = ap (is_piece_on (name_of piece)) (hand-before s gives answered p q r st.role c ∙ st.hand) ∙ same_refl piece.name
 
-  pub never-refused : (E : Type 0) (e : NotYours Sealed) → Called s (λ old new. SavedGives {F = Sealed} {E = E} name_of s old r piece (Err e) new) answered p q → ⊥
+  pub never-refused : (E : Type 0) (e : NotYours Sealed)
+      → Called s (λ old new. SavedGives {F = Sealed} {E = E} name_of s old r piece (Err e) new) answered p q → ⊥
   never-refused E e c = false≢true (sym c.answer.0 ∙ piece-on (λ old new. SavedGives {F = Sealed} {E = E} name_of s old r piece (Err e) new) c)
 
   -- what it logs
@@ -46,10 +49,12 @@ module _ (g : Graph) (stack : StackValue) (start : Start) (r : ℕ) (p q : Pass)
   back-logged E u c =
       let gives : BoardState → BoardState → Type 0 = λ old new. SavedGives {F = Sealed} {E = E} name_of s old r piece (Ok u) new in
       let here : BoardState = c.between ++ p.seen in
-      let in_hand : hand r (past here) ≡ Some (entry.Save r st.node piece.name.maker piece.name.index st.group) = hand-before s gives answered p q r st.role c ∙ st.hand in
+      let in_hand : hand r (past here) ≡ Some (entry.Save r st.node piece.name.maker piece.name.index st.group) =
+      hand-before s gives answered p q r st.role c ∙ st.hand in
       c.answer.1 ∙ ap (λ (o : Option Entry). plain (entry.Saved r (hand_node o) piece.name.maker piece.name.index) ∷ here) in_hand
 
-  pub given-back : (E : Type 0) (u : E) → Called s (λ old new. SavedGives {F = Sealed} {E = E} name_of s old r piece (Ok u) new) answered p q → IsSaving g stack start r q xs fault held
+  pub given-back : (E : Type 0) (u : E) → Called s (λ old new. SavedGives {F = Sealed} {E = E} name_of s old r piece (Ok u) new) answered p q
+      → IsSaving g stack start r q xs fault held
   given-back E u c =
       let gives : BoardState → BoardState → Type 0 = λ old new. SavedGives {F = Sealed} {E = E} name_of s old r piece (Ok u) new in
       let here : BoardState = c.between ++ p.seen in

@@ -62,48 +62,57 @@ pub record FilesAt (xs : List NodeFile) (v : ℕ) : Type 0 where
   pub node : files.node ≡ v
 
 module _ (g : Graph) (stack : StackValue) (prefix : List ℕ) where
-  later : (u : ℕ) (n : NodeRule) (ns : List NodeRule) (c : Kind) (v : ℕ) → FilesAt (nodes_from g stack prefix (u + 1) ns) v → FilesAt (kind_node g stack prefix u n.name c ++ nodes_from g stack prefix (u + 1) ns) v
+  later : (u : ℕ) (n : NodeRule) (ns : List NodeRule) (c : Kind) (v : ℕ) → FilesAt (nodes_from g stack prefix (u + 1) ns) v
+      → FilesAt (kind_node g stack prefix u n.name c ++ nodes_from g stack prefix (u + 1) ns) v
   later u n ns (File r) v h = record { at = suc h.at; files = h.files; listed = h.listed; node = h.node }
   later u n ns (Roi r) v h = h
   later u n ns (Stats r) v h = h
   later u n ns (Circular r) v h = h
   later u n ns Scatter v h = h
 
-  first : (u : ℕ) (n : NodeRule) (ns : List NodeRule) (r : FileRule) (c : Kind) → c ≡ File r → FilesAt (kind_node g stack prefix u n.name c ++ nodes_from g stack prefix (u + 1) ns) u
+  first : (u : ℕ) (n : NodeRule) (ns : List NodeRule) (r : FileRule) (c : Kind) → c ≡ File r
+      → FilesAt (kind_node g stack prefix u n.name c ++ nodes_from g stack prefix (u + 1) ns) u
   first u n ns r (File q) is = record { at = 0; files = node_file g stack prefix u q n.name; listed = refl; node = refl }
   first u n ns r (Roi q) is = cc
   first u n ns r (Stats q) is = cc
   first u n ns r (Circular q) is = cc
   first u n ns r Scatter is = cc
 
-  files-from : (u : ℕ) (ns : List NodeRule) (k : ℕ) (n : NodeRule) (r : FileRule) → slice_get ns k ≡ Some n → n.kind ≡ File r → FilesAt (nodes_from g stack prefix u ns) (u + k)
+  files-from : (u : ℕ) (ns : List NodeRule) (k : ℕ) (n : NodeRule) (r : FileRule) → slice_get ns k ≡ Some n → n.kind ≡ File r
+      → FilesAt (nodes_from g stack prefix u ns) (u + k)
   files-from u [] k n r at kind = let none_ : None ≡ Some n = at in absurd (cc)
   files-from u (m ∷ ns) zero n r at kind =
       let same : m ≡ n = same_Some m n at in
-      subst (λ (w : ℕ). FilesAt (nodes_from g stack prefix u (m ∷ ns)) w) (let e : u ≡ u + 0 = omega arith in e) (first u m ns r m.kind (ap (λ (q : NodeRule). q.kind) same ∙ kind))
+      subst (λ (w : ℕ). FilesAt (nodes_from g stack prefix u (m ∷ ns)) w)
+      (let e : u ≡ u + 0 = omega arith in e) (first u m ns r m.kind (ap (λ (q : NodeRule). q.kind) same ∙ kind))
   files-from u (m ∷ ns) (suc k) n r at kind =
-      later u m ns m.kind (u + suc k) (subst (λ (w : ℕ). FilesAt (nodes_from g stack prefix (u + 1) ns) w) (let e : u + 1 + k ≡ u + suc k = omega arith in e) (files-from (u + 1) ns k n r at kind))
+      later u m ns m.kind (u + suc k) (subst (λ (w : ℕ). FilesAt (nodes_from g stack prefix (u + 1) ns) w)
+      (let e : u + 1 + k ≡ u + suc k = omega arith in e) (files-from (u + 1) ns k n r at kind))
 
   -- each file node has its files
   pub files-of : (v : ℕ) (n : NodeRule) (r : FileRule) → rule_at g.nodes v ≡ Some n → n.kind ≡ File r → FilesAt (file_nodes g stack prefix) v
   files-of zero n r at kind = let none_ : None ≡ Some n = at in absurd (cc)
-  files-of (suc k) n r at kind = subst (λ (w : ℕ). FilesAt (file_nodes g stack prefix) w) (let e : 1 + k ≡ suc k = omega arith in e) (files-from 1 g.nodes k n r at kind)
+  files-of (suc k) n r at kind =
+      subst (λ (w : ℕ). FilesAt (file_nodes g stack prefix) w) (let e : 1 + k ≡ suc k = omega arith in e) (files-from 1 g.nodes k n r at kind)
 
   pub of-open : (xs : List NodeFile) (k : ℕ) (y : NodeFile) → slice_get (map closed xs) k ≡ Some y → (x : NodeFile) × (slice_get xs k ≡ Some x) × (closed x ≡ y)
   of-open [] k y h = let none_ : None ≡ Some y = h in absurd (cc)
   of-open (x ∷ xs) zero y h = (x, refl, same_Some (closed x) y h)
   of-open (x ∷ xs) (suc k) y h = of-open xs k y h
 
-  pub open-files-of : (xs : List NodeFile) → map closed xs ≡ file_nodes g stack prefix → (v : ℕ) (n : NodeRule) (r : FileRule) → rule_at g.nodes v ≡ Some n → n.kind ≡ File r → FilesAt xs v
+  pub open-files-of : (xs : List NodeFile) → map closed xs ≡ file_nodes g stack prefix → (v : ℕ) (n : NodeRule) (r : FileRule)
+      → rule_at g.nodes v ≡ Some n → n.kind ≡ File r → FilesAt xs v
   open-files-of xs nodes v n r at kind =
       let f = files-of v n r at kind in
       let o = of-open xs f.at f.files (ap (λ (zs : List NodeFile). slice_get zs f.at) nodes ∙ f.listed) in
       record { at = f.at; files = o.0; listed = o.1; node = ap (λ (z : NodeFile). z.node) o.2 ∙ f.node }
 
   -- and the names of its groups
-  pub group-named : (xs : List NodeFile) → map closed xs ≡ file_nodes g stack prefix → (k : ℕ) (x : NodeFile) (n : NodeRule) → slice_get xs k ≡ Some x → rule_at g.nodes x.node ≡ Some n → (i : ℕ) → name_of x i ≡ group_name prefix n.name i
+  pub group-named : (xs : List NodeFile) → map closed xs ≡ file_nodes g stack prefix → (k : ℕ) (x : NodeFile) (n : NodeRule) → slice_get xs k ≡ Some x
+      → rule_at g.nodes x.node ≡ Some n → (i : ℕ) → name_of x i ≡ group_name prefix n.name i
   group-named xs nodes k x n at rule i =
-      let there : slice_get (file_nodes g stack prefix) k ≡ Some (closed x) = ap (λ (ys : List NodeFile). slice_get ys k) (sym nodes) ∙ slice_get-map closed xs k ∙ ap (option_map closed) at in
+      let there : slice_get (file_nodes g stack prefix) k ≡ Some (closed x) =
+      ap (λ (ys : List NodeFile). slice_get ys k) (sym nodes) ∙ slice_get-map closed xs k ∙ ap (option_map closed) at in
       let o = of_node g stack prefix 1 g.nodes k (closed x) there in
       let place : x.node ≡ suc o.place = o.node ∙ omega arith in
       let same : o.rule ≡ n = same_Some o.rule n (sym (ap (rule_at g.nodes) place ∙ o.at) ∙ rule) in
@@ -139,7 +148,8 @@ all-saved s P v h here =
     let d = and_parts (is_settled v P) (none_left (arrays_at s P v)) (all-numbers (is_done s P) 1 s.nodes a.1 v (omega (arith, n.0)) (omega (arith, n.1))) in
     last-none (queued v P ++ map (λ (w : Waiting). w.array) (waiting s v P) ++ ring s v P) (unsaved s v P) (none-is (arrays_at s P v) d.1)
 
-module _ (g : Graph) (stack : StackValue) (sound : IsGraph g) (prefix : List ℕ) (before : Option Files) (b : BoardState) (xs : List NodeFile) (fault : Bool) (held : Option Files)
+module _ (g : Graph) (stack : StackValue) (sound : IsGraph g) (prefix : List ℕ) (before : Option Files) (b : BoardState) (xs : List NodeFile)
+    (fault : Bool) (held : Option Files)
     (h : IsSavingAlone g stack prefix before b xs fault held) where
   abbrev s : Setting
   s = run_setting g stack
@@ -160,7 +170,8 @@ module _ (g : Graph) (stack : StackValue) (sound : IsGraph g) (prefix : List ℕ
   pub written-is : (v : ℕ) → written v ≡ contents g.nodes stack.arrays (standing_saves v (past b))
   written-is v = ap (λ (ns : List FrameName). contents g.nodes stack.arrays ns) (sym (given-is v))
 
-  kind-by : (n : NodeRule) (c : Kind) (v i : ℕ) (bytes : List ℕ) → n.kind ≡ c → kind_group g stack (past b) v n.kind i ≡ Some bytes → (r : FileRule) × (n.kind ≡ File r)
+  kind-by : (n : NodeRule) (c : Kind) (v i : ℕ) (bytes : List ℕ) → n.kind ≡ c → kind_group g stack (past b) v n.kind i ≡ Some bytes
+      → (r : FileRule) × (n.kind ≡ File r)
   kind-by n (File r) v i bytes kind is = (r, kind)
   kind-by n (Roi r) v i bytes kind is = let none_ : None ≡ Some bytes = ap (λ (c : Kind). kind_group g stack (past b) v c i) (sym kind) ∙ is in absurd (cc)
   kind-by n (Stats r) v i bytes kind is = let none_ : None ≡ Some bytes = ap (λ (c : Kind). kind_group g stack (past b) v c i) (sym kind) ∙ is in absurd (cc)
@@ -230,14 +241,16 @@ module _ (g : Graph) (stack : StackValue) (sound : IsGraph g) (prefix : List ℕ
         let count = due_laws.counts s x.node (past b) legal (ap is_file file.work) in
         omega (arith, count, none_, ap (λ (ns : List FrameName). length ns) (given-is x.node), h.saving.whole x.node)
 
-filled-by : (x : NodeFile) (P : Past) (n : ℕ) (o : Option Stream) (late : Bool) → 1 ≤ x.count → length (puts x.node P) ≡ n → IsOpenAfter x n o → ((f : Stream) → o ≡ Some f → 1 ≤ f.count)
+filled-by : (x : NodeFile) (P : Past) (n : ℕ) (o : Option Stream) (late : Bool) → 1 ≤ x.count → length (puts x.node P) ≡ n → IsOpenAfter x n o
+    → ((f : Stream) → o ≡ Some f → 1 ≤ f.count)
     → ((f : Stream) → o ≡ Some f → IsFirstCount P x.node x.count (n / x.count) late f.numrecs) → IsFilled o
 filled-by x P n None late some all begun row opened = tt
 filled-by x P n (Some f) late some all begun row opened =
     let rows : f.count ≡ n % x.count = ap (λ (d : Stream). d.count) begun in
     (row f refl, numrecs-by late f.numrecs (opened f refl) rows)
   where
-    numrecs-by : (late : Bool) (numrecs : Option ℕ) → IsFirstCount P x.node x.count (n / x.count) late numrecs → f.count ≡ n % x.count → ForSome numrecs (λ (k : ℕ). k ≡ f.count)
+    numrecs-by : (late : Bool) (numrecs : Option ℕ) → IsFirstCount P x.node x.count (n / x.count) late numrecs → f.count ≡ n % x.count
+        → ForSome numrecs (λ (k : ℕ). k ≡ f.count)
     numrecs-by true numrecs is rows k some_ = let none_ : None ≡ Some k = sym is ∙ some_ in absurd (cc)
     numrecs-by false numrecs z rows k some_ =
         let low = mod-lt n (let e : 0 < x.count = omega (arith, some) in e) in
@@ -248,7 +261,8 @@ filled-by x P n (Some f) late some all begun row opened =
         ] in
         same_Some k z.0 (sym some_ ∙ z.1) ∙ size
 
-module _ (g : Graph) (stack : StackValue) (sound : IsGraph g) (prefix : List ℕ) (before : Option Files) (b : BoardState) (xs : List NodeFile) (held : Option Files)
+module _ (g : Graph) (stack : StackValue) (sound : IsGraph g) (prefix : List ℕ) (before : Option Files)
+    (b : BoardState) (xs : List NodeFile) (held : Option Files)
     (h : IsSavingAlone g stack prefix before b xs false held) (finished : is_finished (run_setting g stack) (past b) ≡ true) where
   abbrev given : Past
   given = past (moves_by (last_role (run_setting g stack)) b)
@@ -258,11 +272,13 @@ module _ (g : Graph) (stack : StackValue) (sound : IsGraph g) (prefix : List ℕ
   all-filled k x at =
       let f = file g stack sound prefix before b xs false held h finished k x at in
       let written = h.saving.saved.0.each k x at in
-      filled-by x (past b) (length (written_by g stack given x.node)) x.current x.late (omega (arith, f.count, f.sound.count.0)) (all-written g stack sound prefix before b xs false held h finished k x at) written.begun
+      filled-by x (past b) (length (written_by g stack given x.node)) x.current x.late
+      (omega (arith, f.count, f.sound.count.0)) (all-written g stack sound prefix before b xs false held h finished k x at) written.begun
       (λ d is. h.saving.rows refl k x d (λ e. let none_ : None ≡ Some k = e in absurd (cc)) at is) (λ d is. h.saving.saved.1 k x d at is)
 
   -- a name that stands is one of a group that has an array
-  pub named-long : (k : ℕ) (x : NodeFile) (at : slice_get xs k ≡ Some x) (i : ℕ) → IsSome (group_file x (written_by g stack given x.node) i) → 1 ≤ length (group_of x.count i (written_by g stack given x.node))
+  pub named-long : (k : ℕ) (x : NodeFile) (at : slice_get xs k ≡ Some x) (i : ℕ) → IsSome (group_file x (written_by g stack given x.node) i)
+      → 1 ≤ length (group_of x.count i (written_by g stack given x.node))
   named-long k x at i named =
       let f = file g stack sound prefix before b xs false held h finished k x at in
       let some : 1 ≤ x.count = omega (arith, f.count, f.sound.count.0) in
@@ -285,10 +301,12 @@ module _ (g : Graph) (stack : StackValue) (sound : IsGraph g) (prefix : List ℕ
         let f = files-of-rule g stack sound prefix before b xs false held h v n r.0 rule r.1 in
         let x = f.files in
         let same : whole_file x.shape (group_of x.count i (written_by g stack given x.node)) ≡ Some bytes =
-        sym (group-is g stack sound prefix before b xs false held h f.at x f.listed n i f.rule) ∙ ap (λ (w : ℕ). kind_group g stack (past b) w n.kind i) f.node ∙ is in
+        sym (group-is g stack sound prefix before b xs false held h f.at x f.listed n i f.rule)
+        ∙ ap (λ (w : ℕ). kind_group g stack (past b) w n.kind i) f.node ∙ is in
         subst (λ (name : List ℕ). HasFile now name bytes) (f.named i) (subst (HasBytes now (name_of x i)) same (ended.each f.at x f.listed i));
     others = λ q away. ended.others q (λ k x i at named.
         let f = file g stack sound prefix before b xs false held h finished k x at in
         let o = some-is (whole_file x.shape (group_of x.count i (written_by g stack given x.node))) named in
-        (λ e. away x.node i f.rule o.0 f.at (group-is g stack sound prefix before b xs false held h k x at f.rule i f.at ∙ o.1) (e ∙ group-named g stack prefix xs h.saving.nodes k x f.rule at f.at i)));
+        (λ e. away x.node i f.rule o.0 f.at (group-is g stack sound prefix before b xs false held h k x at f.rule i f.at ∙ o.1) (e
+        ∙ group-named g stack prefix xs h.saving.nodes k x f.rule at f.at i)));
   }

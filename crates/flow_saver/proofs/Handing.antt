@@ -42,8 +42,10 @@ use Rattle.flow_saver.proofs.Writing.{all-same}
 
 -- FROM THE ROLE THAT SAVES
 
-module _ (g : Graph) (stack : StackValue) (prefix : List ℕ) (made : BoardState) (before : Option Files) (r : ℕ) (drain : r ≡ last_role (run_setting g stack)) (p : Pass) (xs : List NodeFile) (fault : Bool) (held : Option Files)
-    (b : BoardState) (there : HasMade b p) (legal : is_history (run_setting g stack) (past b) ≡ true) (drained : only_drain_saves (run_setting g stack) (past b) ≡ true) where
+module _ (g : Graph) (stack : StackValue) (prefix : List ℕ) (made : BoardState) (before : Option Files) (r : ℕ) (drain : r ≡ last_role (run_setting g stack))
+    (p : Pass) (xs : List NodeFile) (fault : Bool) (held : Option Files)
+    (b : BoardState) (there : HasMade b p)
+    (legal : is_history (run_setting g stack) (past b) ≡ true) (drained : only_drain_saves (run_setting g stack) (past b) ≡ true) where
   abbrev start : Start
   start = record { prefix = prefix; made = made; held = before }
 
@@ -52,8 +54,10 @@ module _ (g : Graph) (stack : StackValue) (prefix : List ℕ) (made : BoardState
 
   grown : AreSaved g stack before (past p.made) (past p.seen) xs fault held → AreSaved g stack before (past p.made) (past b) xs fault held
   grown saved =
-      let l : is_legal (run_setting g stack) (past (there.seen.0 ++ p.seen)) ≡ true = subst (λ (x : BoardState). is_legal (run_setting g stack) (past x) ≡ true) there.seen.1 (and_parts (is_legal (run_setting g stack) (past b)) _ legal).0 in
-      subst (λ (x : BoardState). AreSaved g stack before (past p.made) (past x) xs fault held) (sym there.seen.1) (saved-more g stack start (past p.made) there.seen.0 p.seen xs fault held l saved)
+      let l : is_legal (run_setting g stack) (past (there.seen.0 ++ p.seen)) ≡ true =
+      subst (λ (x : BoardState). is_legal (run_setting g stack) (past x) ≡ true) there.seen.1 (and_parts (is_legal (run_setting g stack) (past b)) _ legal).0 in
+      subst (λ (x : BoardState). AreSaved g stack before (past p.made) (past x) xs fault held) (sym there.seen.1)
+      (saved-more g stack start (past p.made) there.seen.0 p.seen xs fault held l saved)
 
   -- between two pieces
   pub saving-alone : IsSaving g stack start r p xs fault held → IsSavingAlone g stack prefix before b xs fault held
@@ -66,7 +70,9 @@ module _ (g : Graph) (stack : StackValue) (prefix : List ℕ) (made : BoardState
         saving = record {
           role = refl;
           moves = subst (λ (x : BoardState). HasSavedSince made x) o st.moves;
-          free = subst (λ (x : BoardState). hand (last_role (run_setting g stack)) (past x) ≡ None) o (subst (λ (k : ℕ). hand k (past p.made) ≡ None) drain st.free);
+          free =
+              subst (λ (x : BoardState). hand (last_role (run_setting g stack)) (past x) ≡ None) o
+              (subst (λ (k : ℕ). hand k (past p.made) ≡ None) drain st.free);
           alike = subst (λ (x : BoardState). (v : ℕ) → saves v (past x) ≡ given_back v (past x)) o st.alike;
           whole = subst (λ (x : BoardState). (v : ℕ) → length (written_by g stack (past x) v) ≡ length (given_back v (past x))) o st.whole;
           nodes = st.nodes;
@@ -80,7 +86,8 @@ module _ (g : Graph) (stack : StackValue) (prefix : List ℕ) (made : BoardState
   unsaved-alone due st =
       let o = sym (own st.role) in
       let x = st.node in
-      let l : is_legal (run_setting g stack) (past (there.seen.0 ++ p.seen)) ≡ true = subst (λ (z : BoardState). is_legal (run_setting g stack) (past z) ≡ true) there.seen.1 (and_parts (is_legal (run_setting g stack) (past b)) _ legal).0 in
+      let l : is_legal (run_setting g stack) (past (there.seen.0 ++ p.seen)) ≡ true =
+      subst (λ (z : BoardState). is_legal (run_setting g stack) (past z) ≡ true) there.seen.1 (and_parts (is_legal (run_setting g stack) (past b)) _ legal).0 in
       record {
         legal = legal;
         drained = drained;
@@ -90,9 +97,13 @@ module _ (g : Graph) (stack : StackValue) (prefix : List ℕ) (made : BoardState
           moves = subst (λ (z : BoardState). HasSavedSince made z) o st.moves;
           node = x;
           listed = st.listed;
-          hand = subst (λ (z : BoardState). hand (last_role (run_setting g stack)) (past z) ≡ Some (Save (last_role (run_setting g stack)) x.node due.piece.name.maker due.piece.name.index due.group)) o
+          hand =
+              subst (λ (z : BoardState). hand (last_role (run_setting g stack)) (past z)
+              ≡ Some (Save (last_role (run_setting g stack)) x.node due.piece.name.maker due.piece.name.index due.group)) o
               (subst (λ (k : ℕ). hand k (past p.made) ≡ Some (Save k x.node due.piece.name.maker due.piece.name.index due.group)) drain st.hand);
-          lent = subst (λ (z : BoardState). lent_to (last_role (run_setting g stack)) z ≡ Some due.piece.parts) o (subst (λ (k : ℕ). lent_to k p.made ≡ Some due.piece.parts) drain st.lent);
+          lent =
+              subst (λ (z : BoardState). lent_to (last_role (run_setting g stack)) z ≡ Some due.piece.parts) o
+              (subst (λ (k : ℕ). lent_to k p.made ≡ Some due.piece.parts) drain st.lent);
           maker = st.maker;
           place = subst (λ (z : BoardState). IsPlaceAfter x.count (written_by g stack (past z) x.node) due.group due.place) o st.place;
           few = subst (λ (z : BoardState). length (written_by g stack (past z) x.node) + 1 < 2 ^ 64) o st.few;
@@ -101,7 +112,9 @@ module _ (g : Graph) (stack : StackValue) (prefix : List ℕ) (made : BoardState
           first = subst (λ (z : BoardState). IsFirstCount (past z) x.node x.count due.group x.late (first_count x.late due.of)) (sym there.seen.1)
               (first-more (run_setting g stack) there.seen.0 p.seen x.node x.count due.group x.late (first_count x.late due.of) l st.first);
           numrecs = st.numrecs;
-          alike = subst (λ (z : BoardState). (v : ℕ) → saves v (past z) ≡ given_back v (back_of (last_role (run_setting g stack)) x.node due.piece.name ∷ past z)) o st.alike;
+          alike =
+              subst (λ (z : BoardState). (v : ℕ)
+              → saves v (past z) ≡ given_back v (back_of (last_role (run_setting g stack)) x.node due.piece.name ∷ past z)) o st.alike;
           whole = subst (λ (z : BoardState). (v : ℕ) → length (written_by g stack (past z) v) ≡ length (given_back v (past z))) o st.whole;
           nodes = st.nodes;
           rows = st.rows;
@@ -155,11 +168,13 @@ quiet-all : (more : BoardState) → GoesAfter more → list_all saves_not (past 
 quiet-all [] h = refl
 quiet-all (t ∷ more) h = and_from _ _ (quiet t.entry h.0) (quiet-all more h.1)
 
-moved-nothing : (s : Setting) (at r : ℕ) (t : Told) (b new : BoardState) → begins t.entry ≡ Some r → saves_not t.entry ≡ true → new ≡ moved_at s at t b → SavesNothing b new
+moved-nothing : (s : Setting) (at r : ℕ) (t : Told) (b new : BoardState) → begins t.entry ≡ Some r → saves_not t.entry ≡ true
+    → new ≡ moved_at s at t b → SavesNothing b new
 moved-nothing s at r t b new first none is =
     let f = followers s at t b in
     let after = from-move r f.more t (one-move r f.more t f.go first) in
-    record { more = f.more ++ t ∷ []; is = is ∙ f.whole ∙ sym (append_assoc f.more (t ∷ []) b); none = all-append saves_not f.more (t ∷ []) (quiet-all f.more after) (and_from _ _ none refl) }
+    record { more = f.more ++ t ∷ []; is = is ∙ f.whole ∙ sym (append_assoc f.more (t ∷ []) b);
+    none = all-append saves_not f.more (t ∷ []) (quiet-all f.more after) (and_from _ _ none refl) }
 
 drain-begins : (s : Setting) (e : Entry) → is_drains s e ≡ true → (begins e ≡ Some (last_role s)) × (saves_not e ≡ true)
 drain-begins s (Load r k b n f g x) h = (ap Some (eqb-true r (last_role s) h), refl)
@@ -190,9 +205,12 @@ module _ {F B O : Type 0} (name_of : F → FrameName) (s : Setting) where
 
   pub back-nothing : (r : ℕ) (ends : List (Left F B O)) (b : BoardState) → SavesNothing b (taken_back name_of s r ends b)
   back-nothing r [] b = nothing-first b b refl
-  back-nothing r (left ∷ ends) b = nothing-on b (taken name_of s r left b) (taken_back name_of s (suc r) ends (taken name_of s r left b)) (taken-nothing r left b) (back-nothing (suc r) ends (taken name_of s r left b))
+  back-nothing r (left ∷ ends) b =
+      nothing-on b (taken name_of s r left b) (taken_back name_of s (suc r) ends (taken name_of s r left b)) (taken-nothing r left b)
+      (back-nothing (suc r) ends (taken name_of s r left b))
 
-drained-on : (s : Setting) (more b : BoardState) → list_all saves_not (past more) ≡ true → only_drain_saves s (past b) ≡ true → only_drain_saves s (past (more ++ b)) ≡ true
+drained-on : (s : Setting) (more b : BoardState) → list_all saves_not (past more) ≡ true → only_drain_saves s (past b) ≡ true
+    → only_drain_saves s (past (more ++ b)) ≡ true
 drained-on s [] b none d = d
 drained-on s (t ∷ more) b none d =
     let two = and_parts (saves_not t.entry) (list_all saves_not (past more)) none in
@@ -208,11 +226,14 @@ own-more r (t ∷ more) b none =
     let two = and_parts (saves_not t.entry) (list_all saves_not (past more)) none in
     let rest = own-more r more b two.1 in
     elim (cases_Bool (is_role_of r (first_some (begins t.entry) (mover (more ++ b))))) [
-      | inl mine ↦ rw mine (nothing-on (moves_by r b) (moves_by r (more ++ b)) (t ∷ moves_by r (more ++ b)) rest (record { more = t ∷ []; is = refl; none = and_from _ _ two.0 refl }))
+      | inl mine ↦
+          rw mine (nothing-on (moves_by r b) (moves_by r (more ++ b)) (t ∷ moves_by r (more ++ b)) rest
+          (record { more = t ∷ []; is = refl; none = and_from _ _ two.0 refl }))
       | inr other ↦ rw other rest
     ]
 
-given-still : (v : ℕ) (more o : BoardState) → list_all saves_not (past more) ≡ true → (given_back v (past (more ++ o)) ≡ given_back v (past o)) × (saves v (past (more ++ o)) ≡ saves v (past o))
+given-still : (v : ℕ) (more o : BoardState) → list_all saves_not (past more) ≡ true
+    → (given_back v (past (more ++ o)) ≡ given_back v (past o)) × (saves v (past (more ++ o)) ≡ saves v (past o))
 given-still v [] o none = (refl, refl)
 given-still v (t ∷ more) o none =
     let two = and_parts (saves_not t.entry) (list_all saves_not (past more)) none in
@@ -229,14 +250,16 @@ past-append : (xs ys : BoardState) → past (xs ++ ys) ≡ past xs ++ past ys
 past-append [] ys = refl
 past-append (x ∷ xs) ys = ap (λ (P : Past). x.entry ∷ P) (past-append xs ys)
 
-module _ (g : Graph) (stack : StackValue) (before : Option Files) (more o : BoardState) (none : list_all saves_not (past more) ≡ true) (seen : Past) (xs : List NodeFile) (held : Option Files) where
+module _ (g : Graph) (stack : StackValue) (before : Option Files)
+    (more o : BoardState) (none : list_all saves_not (past more) ≡ true) (seen : Past) (xs : List NodeFile) (held : Option Files) where
   written-still : (v : ℕ) → written_by g stack (past o) v ≡ written_by g stack (past (more ++ o)) v
   written-still v = ap (λ (ns : List FrameName). contents g.nodes stack.arrays ns) (sym (given-still v more o none).0)
 
   saved-still : (fault : Bool) → AreSaved g stack before (past o) seen xs fault held → AreSaved g stack before (past (more ++ o)) seen xs fault held
   saved-still false h = (
     all-same before xs (written_by g stack (past o)) (written_by g stack (past (more ++ o))) held written-still h.0,
-    λ k x f at is. subst (λ (zs : List Array). IsFirstCount seen x.node x.count (length zs / x.count) x.late f.numrecs) (written-still x.node) (h.1 k x f at is),
+    λ k x f at is.
+    subst (λ (zs : List Array). IsFirstCount seen x.node x.count (length zs / x.count) x.late f.numrecs) (written-still x.node) (h.1 k x f at is),
   )
   saved-still true h = record {
     later = past more ++ h.later;
@@ -244,7 +267,8 @@ module _ (g : Graph) (stack : StackValue) (before : Option Files) (more o : Boar
     role = h.role;
     name = h.name;
     node = h.node;
-    whole = past-append more o ∙ ap (λ (P : Past). past more ++ P) h.whole ∙ sym (append_assoc (past more) h.later (back_of h.role h.node.node h.name ∷ h.front));
+    whole =
+        past-append more o ∙ ap (λ (P : Past). past more ++ P) h.whole ∙ sym (append_assoc (past more) h.later (back_of h.role h.node.node h.name ∷ h.front));
     files = h.files;
     then_held = h.then_held;
     written = h.written;
@@ -265,8 +289,10 @@ module _ (g : Graph) (stack : StackValue) (before : Option Files) (more o : Boar
   }
 
 -- so the files stay those of the log
-pub still-alone : (g : Graph) (stack : StackValue) (prefix : List ℕ) (before : Option Files) (b new : BoardState) (xs : List NodeFile) (fault : Bool) (held : Option Files) → SavesNothing b new
-    → is_history (run_setting g stack) (past new) ≡ true → hand (last_role (run_setting g stack)) (past new) ≡ None → IsSavingAlone g stack prefix before b xs fault held → IsSavingAlone g stack prefix before new xs fault held
+pub still-alone : (g : Graph) (stack : StackValue) (prefix : List ℕ) (before : Option Files) (b new : BoardState) (xs : List NodeFile)
+    (fault : Bool) (held : Option Files) → SavesNothing b new
+    → is_history (run_setting g stack) (past new) ≡ true → hand (last_role (run_setting g stack)) (past new) ≡ None
+    → IsSavingAlone g stack prefix before b xs fault held → IsSavingAlone g stack prefix before new xs fault held
 still-alone g stack prefix before b new xs fault held m legal free h =
     let s = run_setting g stack in
     let r = last_role s in
@@ -274,7 +300,8 @@ still-alone g stack prefix before b new xs fault held m legal free h =
     let grown_ : is_history s (past (m.more ++ b)) ≡ true = subst (λ (x : BoardState). is_history s (past x) ≡ true) m.is legal in
     let front = (and_parts (is_legal s (past (m.more ++ b))) _ grown_).0 in
     let o = own-more r m.more b m.none in
-    let saved : AreSaved g stack before (past (moves_by r b)) (past (m.more ++ b)) xs fault held = saved-more g stack (record { prefix = prefix; made = h.made; held = before }) (past (moves_by r b)) m.more b xs fault held front st.saved in
+    let saved : AreSaved g stack before (past (moves_by r b)) (past (m.more ++ b)) xs fault held =
+    saved-more g stack (record { prefix = prefix; made = h.made; held = before }) (past (moves_by r b)) m.more b xs fault held front st.saved in
     let all : IsSavingAlone g stack prefix before (m.more ++ b) xs fault held = record {
       legal = grown_;
       drained = drained-on s m.more b m.none h.drained;
@@ -283,12 +310,17 @@ still-alone g stack prefix before b new xs fault held m legal free h =
         role = refl;
         moves = ([], refl, refl);
         free = (moves-tell (m.more ++ b) r).0 ∙ subst (λ (x : BoardState). hand r (past x) ≡ None) m.is free;
-        alike = subst (λ (x : BoardState). (v : ℕ) → saves v (past x) ≡ given_back v (past x)) (sym o.is) (λ v. let e = given-still v o.more (moves_by r b) o.none in e.1 ∙ st.alike v ∙ sym e.0);
+        alike =
+            subst (λ (x : BoardState). (v : ℕ) → saves v (past x) ≡ given_back v (past x)) (sym o.is)
+            (λ v. let e = given-still v o.more (moves_by r b) o.none in e.1 ∙ st.alike v ∙ sym e.0);
         whole = subst (λ (x : BoardState). (v : ℕ) → length (written_by g stack (past x) v) ≡ length (given_back v (past x))) (sym o.is)
-            (λ v. ap length (sym (written-still g stack before o.more (moves_by r b) o.none (past new) xs held v)) ∙ st.whole v ∙ ap length (sym (given-still v o.more (moves_by r b) o.none).0));
+            (λ v. ap length (sym (written-still g stack before o.more (moves_by r b) o.none (past new) xs held v)) ∙ st.whole v
+            ∙ ap length (sym (given-still v o.more (moves_by r b) o.none).0));
         nodes = st.nodes;
         rows = st.rows;
-        saved = subst (λ (x : BoardState). AreSaved g stack before (past x) (past (m.more ++ b)) xs fault held) (sym o.is) (saved-still g stack before o.more (moves_by r b) o.none (past (m.more ++ b)) xs held fault saved);
+        saved =
+            subst (λ (x : BoardState). AreSaved g stack before (past x) (past (m.more ++ b)) xs fault held) (sym o.is)
+            (saved-still g stack before o.more (moves_by r b) o.none (past (m.more ++ b)) xs held fault saved);
       };
     } in
     subst (λ (x : BoardState). IsSavingAlone g stack prefix before x xs fault held) (sym m.is) all
@@ -296,18 +328,24 @@ still-alone g stack prefix before b new xs fault held m legal free h =
 -- THE DRAIN
 
 -- the last role has nothing in hand between two pieces
-pub free-alone : (g : Graph) (stack : StackValue) (prefix : List ℕ) (before : Option Files) (b : BoardState) (xs : List NodeFile) (fault : Bool) (held : Option Files) → IsSavingAlone g stack prefix before b xs fault held
+pub free-alone : (g : Graph) (stack : StackValue) (prefix : List ℕ) (before : Option Files) (b : BoardState) (xs : List NodeFile)
+    (fault : Bool) (held : Option Files) → IsSavingAlone g stack prefix before b xs fault held
     → is_free (last_role (run_setting g stack)) (past b) ≡ true
-free-alone g stack prefix before b xs fault held h = ap (λ (o : Option Entry). is_none o) (sym (moves-tell b (last_role (run_setting g stack))).0 ∙ h.saving.free)
+free-alone g stack prefix before b xs fault held h =
+    ap (λ (o : Option Entry). is_none o) (sym (moves-tell b (last_role (run_setting g stack))).0 ∙ h.saving.free)
 
 -- the files after the drain
-pub drained-alone : {F B O : Type 0} (name_of : F → FrameName) (g : Graph) (stack : StackValue) (prefix : List ℕ) (before : Option Files) (tick : ℕ) (ends : List (Left F B O)) (b new : BoardState) (xs : List NodeFile) (fault : Bool)
-    (held : Option Files) → DrainMoves (run_setting g stack) tick (taken_back name_of (run_setting g stack) 0 ends b) new → is_history (run_setting g stack) (past new) ≡ true
-    → hand (last_role (run_setting g stack)) (past new) ≡ None → IsSavingAlone g stack prefix before b xs fault held → IsSavingAlone g stack prefix before new xs fault held
+pub drained-alone : {F B O : Type 0} (name_of : F → FrameName) (g : Graph) (stack : StackValue) (prefix : List ℕ) (before : Option Files)
+    (tick : ℕ) (ends : List (Left F B O)) (b new : BoardState) (xs : List NodeFile) (fault : Bool)
+    (held : Option Files) → DrainMoves (run_setting g stack) tick (taken_back name_of (run_setting g stack) 0 ends b) new
+    → is_history (run_setting g stack) (past new) ≡ true
+    → hand (last_role (run_setting g stack)) (past new) ≡ None → IsSavingAlone g stack prefix before b xs fault held
+    → IsSavingAlone g stack prefix before new xs fault held
 drained-alone name_of g stack prefix before tick ends b new xs fault held moves legal free h =
     let s = run_setting g stack in
     still-alone g stack prefix before b new xs fault held
-    (nothing-on b (taken_back name_of s 0 ends b) new (back-nothing name_of s 0 ends b) (drain-nothing s tick (taken_back name_of s 0 ends b) new moves)) legal free h
+    (nothing-on b (taken_back name_of s 0 ends b) new (back-nothing name_of s 0 ends b) (drain-nothing s tick (taken_back name_of s 0 ends b) new moves))
+    legal free h
 
 -- WHAT SAVES LEAVE OF THE OTHER ROLES
 
@@ -328,7 +366,8 @@ others-more s r (t ∷ added) b apart h =
 pub rest-others : (s : Setting) (r : ℕ) (old new : BoardState) → r ≢ last_role s → RestMoves s old new → moves_by r new ≡ moves_by r old
 rest-others s r old new apart m = ap (λ (b : BoardState). moves_by r b) m.1 ∙ others-more s r m.0 old apart m.2
 
-reclaims-more : (s : Setting) (r : ℕ) (added b : BoardState) → list_all (is_rest s) (past added) ≡ true → was_reclaimed r (past (added ++ b)) ≡ was_reclaimed r (past b)
+reclaims-more : (s : Setting) (r : ℕ) (added b : BoardState) → list_all (is_rest s) (past added) ≡ true
+    → was_reclaimed r (past (added ++ b)) ≡ was_reclaimed r (past b)
 reclaims-more s r [] b h = refl
 reclaims-more s r (t ∷ added) b h =
     let two = and_parts (is_rest s t.entry) (list_all (is_rest s) (past added)) h in
@@ -340,10 +379,14 @@ rest-reclaims s r old new m = ap (λ (b : BoardState). was_reclaimed r (past b))
 
 -- THE LAWS
 
-role-left : (g : Graph) (stack : StackValue) (start : Start) (r : ℕ) (p : Pass) (left : Option (DuePiece Sealed)) (xs : List NodeFile) (fault : Bool) (held : Option Files) (b : BoardState) → r ≡ last_role (run_setting g stack)
-    → HasMade b p → is_history (run_setting g stack) (past b) ≡ true → only_drain_saves (run_setting g stack) (past b) ≡ true → RoleLeaves g stack start r left p xs fault held → LeftAlone g stack start.prefix start.held left b xs fault held
-role-left g stack start r p None xs fault held b drain there legal drained st = saving-alone g stack start.prefix start.made start.held r drain p xs fault held b there legal drained st
-role-left g stack start r p (Some due) xs fault held b drain there legal drained st = unsaved-alone g stack start.prefix start.made start.held r drain p xs fault held b there legal drained due st
+role-left : (g : Graph) (stack : StackValue) (start : Start) (r : ℕ) (p : Pass) (left : Option (DuePiece Sealed)) (xs : List NodeFile)
+    (fault : Bool) (held : Option Files) (b : BoardState) → r ≡ last_role (run_setting g stack)
+    → HasMade b p → is_history (run_setting g stack) (past b) ≡ true → only_drain_saves (run_setting g stack) (past b) ≡ true
+    → RoleLeaves g stack start r left p xs fault held → LeftAlone g stack start.prefix start.held left b xs fault held
+role-left g stack start r p None xs fault held b drain there legal drained st =
+    saving-alone g stack start.prefix start.made start.held r drain p xs fault held b there legal drained st
+role-left g stack start r p (Some due) xs fault held b drain there legal drained st =
+    unsaved-alone g stack start.prefix start.made start.held r drain p xs fault held b there legal drained due st
 
 pub handing_laws : {F B O : Type 0} → HandingLaws F B O
 handing_laws {F} {B} {O} = record {

@@ -77,12 +77,15 @@ puts-list v t (Put r w m j f ∷ P) = comes-all v w t (frame m j) (puts v P) ∙
 puts-list v t (_ ∷ P) = puts-list v t P
 
 -- at a node that makes no arrays they are of its input's maker
-pub puts-named : (g : Graph) (makers : List Maker) (arrays : List Array) (P : Past) (v : ℕ) (n : NodeRule) → IsGraph g → rule_at g.nodes v ≡ Some n → is_maker (setting_of g makers arrays) v ≡ false
+pub puts-named : (g : Graph) (makers : List Maker) (arrays : List Array) (P : Past) (v : ℕ) (n : NodeRule) → IsGraph g → rule_at g.nodes v ≡ Some n
+    → is_maker (setting_of g makers arrays) v ≡ false
     → is_history (setting_of g makers arrays) P ≡ true → All (λ a. a.maker ≡ maker_at g.nodes n.input) (puts v P)
 puts-named g makers arrays P v n sound rule none h =
     let m = maker_at g.nodes n.input in
     let legal = (and_parts (is_legal (setting_of g makers arrays) P) _ h).0 in
-    let zero_ : count (wrong m) (puts v P) ≡ 0 = omega (arith, puts-list v (wrong m) P, puts-accepted (setting_of g makers arrays) P v (wrong m) none legal, accepts-named g makers arrays P sound h v n rule) in
+    let zero_ : count (wrong m) (puts v P) ≡ 0 =
+    omega (arith, puts-list v (wrong m) P, puts-accepted (setting_of g makers arrays) P v (wrong m) none legal,
+    accepts-named g makers arrays P sound h v n rule) in
     all-named m (puts v P) zero_
 
 -- AS THE LOG GROWS
@@ -113,7 +116,8 @@ no-put s v (Put r w m j f) P h settled =
 no-put s v _ P h settled = refl
 
 -- a settled node gets no more
-pub puts-stay : (s : Setting) (v : ℕ) (more b : BoardState) → is_legal s (past (more ++ b)) ≡ true → is_settled v (past b) ≡ true → puts v (past (more ++ b)) ≡ puts v (past b)
+pub puts-stay : (s : Setting) (v : ℕ) (more b : BoardState) → is_legal s (past (more ++ b)) ≡ true → is_settled v (past b) ≡ true
+    → puts v (past (more ++ b)) ≡ puts v (past b)
 puts-stay s v [] b h settled = refl
 puts-stay s v (t ∷ more) b h settled =
     let legal = (and_parts (is_legal s (past (more ++ b))) _ h).0 in

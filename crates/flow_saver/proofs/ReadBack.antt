@@ -64,7 +64,8 @@ module _ (Q : Dim → Type 0) (each : (r : RoiRule) (k : ℕ) (d : Dim) → Q (c
 
   dims_at : (g : Graph) (s : StackValue) (v : ℕ) → All Q s.shape.dims → All Q (shape_at g.nodes s.shape v).dims
   dims_at g s v all =
-      passed_on-both (λ (t u : Shape). All Q t.dims) region_shape region_shape (λ r t u h. dims_from-all r 0 t.dims) g.nodes (length g.nodes) v (stack_shape s.shape) (stack_shape s.shape) all
+      passed_on-both (λ (t u : Shape). All Q t.dims) region_shape region_shape (λ r t u h. dims_from-all r 0 t.dims) g.nodes (length g.nodes) v
+      (stack_shape s.shape) (stack_shape s.shape) all
 
 region-IsKept : (r : RoiRule) (a : Array) → IsKept a → IsKept (region r a)
 region-IsKept r a h =
@@ -89,37 +90,45 @@ length-listed (Some a) = omega arith
 length-contents : (nodes : List NodeRule) (arrays : List Array) (names : List FrameName) → length (contents nodes arrays names) ≤ length names
 length-contents nodes arrays [] = omega arith
 length-contents nodes arrays (n ∷ names) =
-    omega (arith, length-append (listed (content nodes arrays n)) (contents nodes arrays names), length-listed (content nodes arrays n), length-contents nodes arrays names)
+    omega (arith, length-append (listed (content nodes arrays n)) (contents nodes arrays names), length-listed (content nodes arrays n),
+    length-contents nodes arrays names)
 
 module _ (g : Graph) (stack : StackValue) (sound : IsGraph g) (kept : IsKeptStack stack) (v : ℕ) where
   abbrev shape : FileShape
   shape = file_shape g stack v
 
-  shaped-by : (name : FrameName) → name.maker ≡ maker_at g.nodes v → (o : Option Array) → content g.nodes stack.arrays name ≡ o → All (HasShape shape) (listed o)
+  shaped-by : (name : FrameName) → name.maker ≡ maker_at g.nodes v → (o : Option Array)
+      → content g.nodes stack.arrays name ≡ o → All (HasShape shape) (listed o)
   shaped-by name maker None is = All-nil (HasShape shape)
   shaped-by name maker (Some a) is =
       let made : content g.nodes stack.arrays (frame v name.index) ≡ Some a =
       content-maker g stack.arrays v name.index sound ∙ ap (λ (m : ℕ). content g.nodes stack.arrays (frame m name.index)) (sym maker) ∙ is in
       All-cons (HasShape shape) a [] (content-HasShape g stack v name.index a kept made) (All-nil (HasShape shape))
 
-  kept-by : (name : FrameName) (o : Option Array) → slice_get stack.arrays name.index ≡ o → All IsKept (listed (option_map (out_of region g.nodes name.maker) o))
+  kept-by : (name : FrameName) (o : Option Array) → slice_get stack.arrays name.index ≡ o
+      → All IsKept (listed (option_map (out_of region g.nodes name.maker) o))
   kept-by name None is = All-nil IsKept
   kept-by name (Some a) is =
-      let there : IsKept a = subst IsKept (get_or_from_slice_get stack.arrays name.index a a is) (kept.kept name.index a (slice_get_within stack.arrays name.index a is)) in
+      let there : IsKept a =
+      subst IsKept (get_or_from_slice_get stack.arrays name.index a a is) (kept.kept name.index a (slice_get_within stack.arrays name.index a is)) in
       All-cons IsKept (out_of region g.nodes name.maker a) [] (out_of-IsKept g.nodes name.maker a there) (All-nil IsKept)
 
-  all-shaped : (names : List FrameName) → All (λ (n : FrameName). n.maker ≡ maker_at g.nodes v) names → All (HasShape shape) (contents g.nodes stack.arrays names)
+  all-shaped : (names : List FrameName) → All (λ (n : FrameName). n.maker ≡ maker_at g.nodes v) names
+      → All (HasShape shape) (contents g.nodes stack.arrays names)
   all-shaped [] all = All-nil (HasShape shape)
   all-shaped (n ∷ names) all =
       All-append (HasShape shape) (listed (content g.nodes stack.arrays n)) (contents g.nodes stack.arrays names)
-      (shaped-by n (All-head (λ (m : FrameName). m.maker ≡ maker_at g.nodes v) n names all) (content g.nodes stack.arrays n) refl) (all-shaped names (All-tail (λ (m : FrameName). m.maker ≡ maker_at g.nodes v) n names all))
+      (shaped-by n (All-head (λ (m : FrameName). m.maker ≡ maker_at g.nodes v) n names all) (content g.nodes stack.arrays n) refl)
+      (all-shaped names (All-tail (λ (m : FrameName). m.maker ≡ maker_at g.nodes v) n names all))
 
   all-kept : (names : List FrameName) → All IsKept (contents g.nodes stack.arrays names)
   all-kept [] = All-nil IsKept
   all-kept (n ∷ names) =
-      All-append IsKept (listed (content g.nodes stack.arrays n)) (contents g.nodes stack.arrays names) (kept-by n (slice_get stack.arrays n.index) refl) (all-kept names)
+      All-append IsKept (listed (content g.nodes stack.arrays n)) (contents g.nodes stack.arrays names)
+      (kept-by n (slice_get stack.arrays n.index) refl) (all-kept names)
 
-  module _ (n : NodeRule) (r : FileRule) (rule : rule_at g.nodes v ≡ Some n) (kind : n.kind ≡ File r) (P : Past) (history : is_history (run_setting g stack) P ≡ true) where
+  module _ (n : NodeRule) (r : FileRule) (rule : rule_at g.nodes v ≡ Some n) (kind : n.kind ≡ File r)
+      (P : Past) (history : is_history (run_setting g stack) P ≡ true) where
     legal : is_legal (run_setting g stack) P ≡ true
     legal = (and_parts (is_legal (run_setting g stack) P) _ history).0
 
@@ -135,8 +144,10 @@ module _ (g : Graph) (stack : StackValue) (sound : IsGraph g) (kept : IsKeptStac
         let work = (known g (makers_of g.nodes stack.shape) stack.arrays v n (File r) rule kind).work in
         let input = puts-named g (makers_of g.nodes stack.shape) stack.arrays P v n sound rule (ap makes work) history in
         let own : maker_at g.nodes v ≡ maker_at g.nodes n.input = maker_of_other g v n sound (sym rule) (ap makes_arrays kind) in
-        let all : All (λ (m : FrameName). m.maker ≡ maker_at g.nodes v) (puts v P) = subst (λ (w : ℕ). All (λ (m : FrameName). m.maker ≡ w) (puts v P)) (sym own) input in
-        subst (λ (ns : List FrameName). All (λ (m : FrameName). m.maker ≡ maker_at g.nodes v) ns) (sym firsts) (All-take (λ (m : FrameName). m.maker ≡ maker_at g.nodes v) (saved_count v P) (puts v P) all)
+        let all : All (λ (m : FrameName). m.maker ≡ maker_at g.nodes v) (puts v P) =
+        subst (λ (w : ℕ). All (λ (m : FrameName). m.maker ≡ w) (puts v P)) (sym own) input in
+        subst (λ (ns : List FrameName). All (λ (m : FrameName). m.maker ≡ maker_at g.nodes v) ns) (sym firsts)
+        (All-take (λ (m : FrameName). m.maker ≡ maker_at g.nodes v) (saved_count v P) (puts v P) all)
 
     few-names : length names ≤ length stack.arrays
     few-names =
@@ -148,7 +159,8 @@ module _ (g : Graph) (stack : StackValue) (sound : IsGraph g) (kept : IsKeptStac
     some-arrays [] h = absurd (h refl)
     some-arrays (a ∷ zs) h = omega arith
 
-    pub group-back : (i : ℕ) → limit_fault g stack ≡ None → group_of r.count i (contents g.nodes stack.arrays names) ≢ [] → ReadsBack shape (group_of r.count i (contents g.nodes stack.arrays names))
+    pub group-back : (i : ℕ) → limit_fault g stack ≡ None → group_of r.count i (contents g.nodes stack.arrays names) ≢ []
+        → ReadsBack shape (group_of r.count i (contents g.nodes stack.arrays names))
     group-back i none_ some =
         let all = contents g.nodes stack.arrays names in
         let group = group_of r.count i all in

@@ -44,7 +44,8 @@ module _ (g : Graph) (stack : StackValue) (b new : BoardState) where
   abbrev drain : ℕ
   drain = last_role rules
 
-  module _ (prefix : List ℕ) (before : Option Files) (xs : List NodeFile) (fault : Bool) (held : Option Files) (piece : Sealed) (h : IsToGiveBackAlone g stack prefix before b xs fault held piece) where
+  module _ (prefix : List ℕ) (before : Option Files) (xs : List NodeFile) (fault : Bool) (held : Option Files)
+      (piece : Sealed) (h : IsToGiveBackAlone g stack prefix before b xs fault held piece) where
     pub return-may : MaySaved name_of parts_of b drain piece
     return-may is = sym (sym (moves-tell b drain).1 ∙ h.to_give.lent)
 
@@ -57,7 +58,8 @@ module _ (g : Graph) (stack : StackValue) (b new : BoardState) where
         never-refused g stack origin drain (alone rules b) (alone rules new) xs fault held piece Other h.to_give (Unit {0}) e
         (called-alone rules b new refl h.legal h.drained gives c (saveds-add rules b new refl h.legal h.drained piece (Err e) return-may c))
 
-    pub return-given : (u : Unit {0}) → SavedGives {F = Sealed} {E = Unit {0}} name_of rules b drain piece (Ok u) new → IsSavingAlone g stack prefix before new xs fault held
+    pub return-given : (u : Unit {0}) → SavedGives {F = Sealed} {E = Unit {0}} name_of rules b drain piece (Ok u) new
+        → IsSavingAlone g stack prefix before new xs fault held
     return-given u c =
         let gives : BoardState → BoardState → Type 0 = λ old n. SavedGives {F = Sealed} {E = Unit {0}} name_of rules old drain piece (Ok u) n in
         let a = saveds-add rules b new refl h.legal h.drained piece (Ok u) return-may c in
@@ -65,17 +67,23 @@ module _ (g : Graph) (stack : StackValue) (b new : BoardState) where
           legal = a.legal;
           drained = a.drained;
           made = h.made;
-          saving = given-back g stack origin drain (alone rules b) (alone rules new) xs fault held piece Other h.to_give (Unit {0}) u (called-alone rules b new refl h.legal h.drained gives c a);
+          saving =
+              given-back g stack origin drain (alone rules b) (alone rules new) xs fault held piece Other h.to_give (Unit {0}) u
+              (called-alone rules b new refl h.legal h.drained gives c a);
         }
 
-  pub return-logged : (piece : Sealed) (u : Unit {0}) → SavedGives {F = Sealed} {E = Unit {0}} name_of rules b drain piece (Ok u) new → (v m k i : ℕ) → hand drain (past b) ≡ Some (entry.Save drain v m k i)
+  pub return-logged : (piece : Sealed) (u : Unit {0}) → SavedGives {F = Sealed} {E = Unit {0}} name_of rules b drain piece (Ok u) new → (v m k i : ℕ)
+      → hand drain (past b) ≡ Some (entry.Save drain v m k i)
       → new ≡ plain (back_of drain v piece.name) ∷ b
-  return-logged piece u c v m k i in_hand = c.1 ∙ ap (λ (o : Option Entry). plain (entry.Saved drain (hand_node o) piece.name.maker piece.name.index) ∷ b) in_hand
+  return-logged piece u c v m k i in_hand =
+      c.1 ∙ ap (λ (o : Option Entry). plain (entry.Saved drain (hand_node o) piece.name.maker piece.name.index) ∷ b) in_hand
 
 -- ONE SAVE
 
-module _ (g : Graph) (stack : StackValue) (sound : IsGraph g) (prefix : List ℕ) (before : Option Files) (b mid : BoardState) (xs : List NodeFile) (fault : Bool) (held : Option Files)
-    (h : IsSavingAlone g stack prefix before b xs fault held) (k v : ℕ) (node : (x : NodeFile) → slice_get xs k ≡ Some x → v ≡ x.node) (within : k < length xs) where
+module _ (g : Graph) (stack : StackValue) (sound : IsGraph g) (prefix : List ℕ) (before : Option Files) (b mid : BoardState) (xs : List NodeFile)
+    (fault : Bool) (held : Option Files)
+    (h : IsSavingAlone g stack prefix before b xs fault held)
+    (k v : ℕ) (node : (x : NodeFile) → slice_get xs k ≡ Some x → v ≡ x.node) (within : k < length xs) where
   abbrev s : Setting
   s = run_setting g stack
 
@@ -113,14 +121,17 @@ module _ (g : Graph) (stack : StackValue) (sound : IsGraph g) (prefix : List ℕ
     pub next-legal : is_history s (past mid) ≡ true
     next-legal = adds.legal
 
-    pub next-taken : length stack.arrays ≤ 65536 → HasUnsavedAlone g stack prefix before mid xs fault held (record { piece = input; at = k; group = group; place = place; of = of })
+    pub next-taken : length stack.arrays ≤ 65536
+        → HasUnsavedAlone g stack prefix before mid xs fault held (record { piece = input; at = k; group = group; place = place; of = of })
     next-taken small =
         let gives : BoardState → BoardState → Type 0 = λ old n. SaveGives {F = Sealed} name_of parts_of s old r v (Piece input group place of) n in
         record {
           legal = adds.legal;
           drained = adds.drained;
           made = h.made;
-          unsaved = one-taken g stack sound begun r refl (alone s b) (alone s mid) xs fault held Other h.saving k v node within small input group place of (called-alone s b mid refl h.legal h.drained gives c adds);
+          unsaved =
+              one-taken g stack sound begun r refl (alone s b) (alone s mid) xs fault held Other h.saving k v node within small input group place of
+              (called-alone s b mid refl h.legal h.drained gives c adds);
         }
 
     -- and once it is back
@@ -128,10 +139,12 @@ module _ (g : Graph) (stack : StackValue) (sound : IsGraph g) (prefix : List ℕ
         → new ≡ plain (back_of r v input.name) ∷ lends (entry.Save r v input.name.maker input.name.index group) (parts_of input) ∷ b
     next-back new logged =
         let in_hand : hand r (past mid) ≡ Some (entry.Save r v input.name.maker input.name.index group) =
-        ap (λ (x : BoardState). hand r (past x)) next-logged ∙ hand_laws.up r (entry.Save r v input.name.maker input.name.index group) (past b) (eq-eqb r r refl) in
+        ap (λ (x : BoardState). hand r (past x)) next-logged
+        ∙ hand_laws.up r (entry.Save r v input.name.maker input.name.index group) (past b) (eq-eqb r r refl) in
         logged v input.name.maker input.name.index group in_hand ∙ ap (λ (x : BoardState). plain (back_of r v input.name) ∷ x) next-logged
 
-    module _ (new : BoardState) (is : new ≡ plain (back_of r v input.name) ∷ lends (entry.Save r v input.name.maker input.name.index group) (parts_of input) ∷ b) where
+    module _ (new : BoardState) (is : new
+        ≡ plain (back_of r v input.name) ∷ lends (entry.Save r v input.name.maker input.name.index group) (parts_of input) ∷ b) where
       pub next-drained : is_history s (past new) ≡ true → IsDrained s (past b) → IsDrained s (past new)
       next-drained legal d =
           subst (λ (x : BoardState). IsDrained s (past x)) (sym is)
@@ -144,12 +157,15 @@ module _ (g : Graph) (stack : StackValue) (sound : IsGraph g) (prefix : List ℕ
       next-others w apart = ap (λ (x : BoardState). unsaved s w (past x)) is ∙ others-after s r v input.name.maker input.name.index group w (past b) apart
 
     pub next-moves : (new : BoardState) → RestMoves s mid new → RestMoves s b new
-    next-moves new m = rest-on s b mid new (rest-one s (lends (entry.Save r v input.name.maker input.name.index group) (parts_of input)) b mid (eq-eqb r r refl) next-logged) m
+    next-moves new m =
+        rest-on s b mid new (rest-one s (lends (entry.Save r v input.name.maker input.name.index group) (parts_of input)) b mid (eq-eqb r r refl) next-logged) m
 
 -- what was written can be given back
-pub to-give-alone : (g : Graph) (stack : StackValue) (prefix : List ℕ) (before : Option Files) (b : BoardState) (xs ys : List NodeFile) (fault torn : Bool) (held stands : Option Files) (due : DuePiece Sealed)
+pub to-give-alone : (g : Graph) (stack : StackValue) (prefix : List ℕ) (before : Option Files) (b : BoardState) (xs ys : List NodeFile)
+    (fault torn : Bool) (held stands : Option Files) (due : DuePiece Sealed)
     → HasUnsavedAlone g stack prefix before b xs fault held due
-    → ((start : Start) (role : ℕ) (pass : Pass) → HasUnsaved g stack start role pass xs fault held due → IsToGiveBack g stack start role pass ys torn stands due.piece)
+    → ((start : Start) (role : ℕ) (pass : Pass) → HasUnsaved g stack start role pass xs fault held due
+    → IsToGiveBack g stack start role pass ys torn stands due.piece)
     → IsToGiveBackAlone g stack prefix before b ys torn stands due.piece
 to-give-alone g stack prefix before b xs ys fault torn held stands due h ok = record {
   legal = h.legal;
@@ -159,7 +175,8 @@ to-give-alone g stack prefix before b xs ys fault torn held stands due h ok = re
 }
 
 -- and what wasn't is still in hand
-pub unsaved-still : (g : Graph) (stack : StackValue) (prefix : List ℕ) (before : Option Files) (b : BoardState) (xs ys : List NodeFile) (fault torn : Bool) (held stands : Option Files) (due : DuePiece Sealed)
+pub unsaved-still : (g : Graph) (stack : StackValue) (prefix : List ℕ) (before : Option Files) (b : BoardState) (xs ys : List NodeFile)
+    (fault torn : Bool) (held stands : Option Files) (due : DuePiece Sealed)
     → HasUnsavedAlone g stack prefix before b xs fault held due
     → ((start : Start) (role : ℕ) (pass : Pass) → HasUnsaved g stack start role pass xs fault held due → HasUnsaved g stack start role pass ys torn stands due)
     → HasUnsavedAlone g stack prefix before b ys torn stands due

@@ -32,8 +32,10 @@ use Rattle.flow_saver.proofs.Resting.{finished-by}
 -- WHICH NODES
 
 -- the same files, whatever is open
-pub same-files : (xs ys : List NodeFile) (k : ℕ) (x : NodeFile) → map closed ys ≡ map closed xs → slice_get xs k ≡ Some x → (y : NodeFile) × (slice_get ys k ≡ Some y) × (closed y ≡ closed x)
-same-files xs ys k x same at = of-closed ys k (closed x) (ap (λ (zs : List NodeFile). slice_get zs k) same ∙ slice_get-map closed xs k ∙ ap (option_map closed) at)
+pub same-files : (xs ys : List NodeFile) (k : ℕ) (x : NodeFile) → map closed ys ≡ map closed xs → slice_get xs k ≡ Some x
+    → (y : NodeFile) × (slice_get ys k ≡ Some y) × (closed y ≡ closed x)
+same-files xs ys k x same at =
+    of-closed ys k (closed x) (ap (λ (zs : List NodeFile). slice_get zs k) same ∙ slice_get-map closed xs k ∙ ap (option_map closed) at)
   where
     of-closed : (zs : List NodeFile) (j : ℕ) (w : NodeFile) → slice_get (map closed zs) j ≡ Some w → (z : NodeFile) × (slice_get zs j ≡ Some z) × (closed z ≡ w)
     of-closed zs j w h = by (slice_get zs j) refl (sym (slice_get-map closed zs j) ∙ h)
@@ -59,11 +61,14 @@ module _ (g : Graph) (stack : StackValue) (sound : IsGraph g) (prefix : List ℕ
   none-unsaved : (P : Past) (v : ℕ) → is_file (node s v).work ≡ false → unsaved s v P ≡ []
   none-unsaved P v h = ap (λ (f : Bool). if f then minus (puts v P) (standing_saves v P) else []) h
 
-  by-kind : (P : Past) → ((k : ℕ) (x : NodeFile) → slice_get xs k ≡ Some x → unsaved s x.node P ≡ []) → (v : ℕ) (n : NodeRule) → rule_at g.nodes v ≡ Some n → (c : Kind) → n.kind ≡ c → unsaved s v P ≡ []
-  by-kind P each v n rule (File r) kind = let f = open-files-of g stack prefix xs nodes v n r rule kind in subst (λ (w : ℕ). unsaved s w P ≡ []) f.node (each f.at f.files f.listed)
+  by-kind : (P : Past) → ((k : ℕ) (x : NodeFile) → slice_get xs k ≡ Some x → unsaved s x.node P ≡ []) → (v : ℕ) (n : NodeRule) → rule_at g.nodes v ≡ Some n
+      → (c : Kind) → n.kind ≡ c → unsaved s v P ≡ []
+  by-kind P each v n rule (File r) kind =
+      let f = open-files-of g stack prefix xs nodes v n r rule kind in subst (λ (w : ℕ). unsaved s w P ≡ []) f.node (each f.at f.files f.listed)
   by-kind P each v n rule (Roi r) kind = none-unsaved P v (ap is_file (known g (makers_of g.nodes stack.shape) stack.arrays v n (Roi r) rule kind).work)
   by-kind P each v n rule (Stats r) kind = none-unsaved P v (ap is_file (known g (makers_of g.nodes stack.shape) stack.arrays v n (Stats r) rule kind).work)
-  by-kind P each v n rule (Circular r) kind = none-unsaved P v (ap is_file (known g (makers_of g.nodes stack.shape) stack.arrays v n (Circular r) rule kind).work)
+  by-kind P each v n rule (Circular r) kind =
+      none-unsaved P v (ap is_file (known g (makers_of g.nodes stack.shape) stack.arrays v n (Circular r) rule kind).work)
   by-kind P each v n rule Scatter kind = none-unsaved P v (ap is_file (known g (makers_of g.nodes stack.shape) stack.arrays v n Scatter rule kind).work)
 
   -- where nothing is left at any file node, the run is finished
@@ -76,7 +81,8 @@ pub step-first : (fault : Bool) (count : ℕ) (held : Option Files) → CountsSt
 step-first true count held = (refl, refl, refl)
 step-first false count held = refl
 
-pub step-then : (old mid new : Bool) (first before now : ℕ) (then_held held held_now : Option Files) → CountsStep old mid first before then_held held → CountsStep mid new before now held held_now → CountsStep old new first now then_held held_now
+pub step-then : (old mid new : Bool) (first before now : ℕ) (then_held held held_now : Option Files) → CountsStep old mid first before then_held held
+    → CountsStep mid new before now held held_now → CountsStep old new first now then_held held_now
 step-then true mid new first before now then_held held held_now h step = after mid h.0 step
   where
     after : (m : Bool) → m ≡ true → CountsStep m new before now held held_now → CountsStep true new first now then_held held_now

@@ -40,14 +40,16 @@ hands-after r v m k g P none_ =
     ap (λ (hs : Past). let_go r (entry.Save r v m k g ∷ let_go r hs)) none_ ∙ ap (λ (b : Bool). if b then [] else entry.Save r v m k g ∷ []) (eq-eqb r r refl)
 
 -- the log is drained still
-pub drained-after : (s : Setting) (r v m k g : ℕ) (P : Past) → is_history s (taken_and_back r v m k g P) ≡ true → IsDrained s P → IsDrained s (taken_and_back r v m k g P)
+pub drained-after : (s : Setting) (r v m k g : ℕ) (P : Past) → is_history s (taken_and_back r v m k g P) ≡ true → IsDrained s P
+    → IsDrained s (taken_and_back r v m k g P)
 drained-after s r v m k g P legal d =
     drained-by s (taken_and_back r v m k g P) legal (hands-after r v m k g P d.free) d.closed d.offered (λ w here. d.settled w here)
 
 -- and nothing changed at other nodes
 pub others-after : (s : Setting) (r v m k g w : ℕ) (P : Past) → w ≢ v → unsaved s w (taken_and_back r v m k g P) ≡ unsaved s w P
 others-after s r v m k g w P apart =
-    ap (λ (b : Bool). if is_file (node s w).work then minus (puts w P) (if b then saves w (standing P) ++ frame m k ∷ [] else saves w (standing P)) else []) (ne_eqb v w (λ e. apart (sym e)))
+    ap (λ (b : Bool). if is_file (node s w).work then minus (puts w P) (if b then saves w (standing P) ++ frame m k ∷ [] else saves w (standing P))
+    else []) (ne_eqb v w (λ e. apart (sym e)))
 
 -- NOTHING IS DUE
 
@@ -61,7 +63,8 @@ settled-due false true c h = refl
 settled-due a false c h = absurd (false≢true h)
 
 due-when : (w : Work) (v : ℕ) (P : Past) → is_file w ≡ true → is_settled v P ≡ true → is_due w v P ≡ true
-due-when (Saves whole count) v P file settled = settled-due whole (is_settled v P) (leb ((length (standing_saves v P) / count + 1) * count) (length (puts v P))) settled
+due-when (Saves whole count) v P file settled =
+    settled-due whole (is_settled v P) (leb ((length (standing_saves v P) / count + 1) * count) (length (puts v P))) settled
 due-when Makes v P file settled = absurd (false≢true file)
 due-when (Passes deals) v P file settled = absurd (false≢true file)
 due-when (Watches pre post preset) v P file settled = absurd (false≢true file)
@@ -74,7 +77,8 @@ early-none false true true is off h = absurd (true≢false off)
 
 module _ (s : Setting) (b new : BoardState) (v : ℕ) (drained : IsDrained s (past b)) (number : is_node s v ≡ true) where
   empty-by : (busy early : Bool) → busy ≡ false → (early ≡ true → unsaved s v (past b) ≡ [])
-      → SaveAnswers {F = Sealed} name_of parts_of s b (last_role s) v (if busy then Some Busy else if early then Some NotYet else None) NotYet new → unsaved s v (past b) ≡ []
+      → SaveAnswers {F = Sealed} name_of parts_of s b (last_role s) v (if busy then Some Busy else if early then Some NotYet else None) NotYet new
+      → unsaved s v (past b) ≡ []
   empty-by true early free then_ c = absurd (true≢false free)
   empty-by false true free then_ c = then_ refl
   empty-by false false free then_ c = absurd c
@@ -95,7 +99,8 @@ module _ (s : Setting) (b new : BoardState) (v : ℕ) (drained : IsDrained s (pa
         | inr other ↦ none-unsaved other
         | inl file ↦
             empty-by (not (is_free (last_role s) (past b))) (not (has_due s v (past b)) || list_any (is_piece v) (hands (past b))) free-now
-            (λ early. none-is (unsaved s v (past b)) (early-none (none_left (unsaved s v (past b))) (is_due (node s v).work v (past b)) (list_any (is_piece v) (hands (past b)))
+            (λ early. none-is (unsaved s v (past b))
+            (early-none (none_left (unsaved s v (past b))) (is_due (node s v).work v (past b)) (list_any (is_piece v) (hands (past b)))
             (due-when (node s v).work v (past b) file (drained.settled v number)) no-pieces early)) c
       ]
 
@@ -119,7 +124,8 @@ rest-one s t old new is made = (t ∷ [], made, and_from _ _ is refl)
 
 numbers-all : (p : ℕ → Bool) (from : ℕ) (ns : List Node) → ((v : ℕ) → from ≤ v → v < from + length ns → p v ≡ true) → list_all p (numbers_from from ns) ≡ true
 numbers-all p from [] h = refl
-numbers-all p from (n ∷ ns) h = and_from _ _ (h from (omega arith) (omega arith)) (numbers-all p (from + 1) ns (λ v low high. h v (omega (arith, low)) (omega (arith, high))))
+numbers-all p from (n ∷ ns) h =
+    and_from _ _ (h from (omega arith) (omega arith)) (numbers-all p (from + 1) ns (λ v low high. h v (omega (arith, low)) (omega (arith, high))))
 
 none-both : {X : Type 0} (xs ys : List X) → xs ≡ [] → ys ≡ [] → xs ++ ys ≡ []
 none-both xs ys hx hy = ap (λ zs. zs ++ ys) hx ∙ hy
@@ -131,6 +137,8 @@ finished-by s P d none_ =
     let empty : arrays_at s P v ≡ [] =
     none-both (queued v P ++ map (λ (w : Waiting). w.array) (waiting s v P) ++ ring s v P) (unsaved s v P)
     (none-both (queued v P ++ map (λ (w : Waiting). w.array) (waiting s v P)) (ring s v P)
-    (none-both (queued v P) (map (λ (w : Waiting). w.array) (waiting s v P)) (d.queues v here) (ap (λ (ws : List Waiting). map (λ (w : Waiting). w.array) ws) (d.lists v here))) (d.rings v here)) (none_ v here) in
+    (none-both (queued v P) (map (λ (w : Waiting). w.array) (waiting s v P)) (d.queues v here)
+    (ap (λ (ws : List Waiting). map (λ (w : Waiting). w.array) ws) (d.lists v here))) (d.rings v here)) (none_ v here) in
     and_from _ _ (d.settled v here) (ap (λ (xs : List FrameName). none_left xs) empty) in
-    and_from _ _ (and_from _ _ (and_from _ _ d.closed (eq-eqb (next_index P) (length s.ids) d.offered)) (ap (λ (hs : Past). none_left hs) d.free)) (numbers-all (is_done s P) 1 s.nodes done)
+    and_from _ _ (and_from _ _ (and_from _ _ d.closed (eq-eqb (next_index P) (length s.ids) d.offered)) (ap (λ (hs : Past). none_left hs) d.free))
+    (numbers-all (is_done s P) 1 s.nodes done)

@@ -30,7 +30,8 @@ pub record IsPieceRow (g : Graph) (stack : StackValue) (x : NodeFile) (name : Fr
 
 module _ (g : Graph) (stack : StackValue) (sound : IsGraph g) (kept : IsKeptStack stack) (x : NodeFile) (shape : x.shape ≡ file_shape g stack x.node)
     (name : FrameName) (maker : name.maker ≡ maker_at g.nodes x.node) (head : Head) (bytes : List ℕ) where
-  facts : (o : Option Array) → slice_get stack.arrays name.index ≡ o → IsSomeAnd (option_map (out_of region g.nodes name.maker) o) (λ a. AreSamples a bytes) → IfSome o (λ a. head_of a ≡ head)
+  facts : (o : Option Array) → slice_get stack.arrays name.index ≡ o
+      → IsSomeAnd (option_map (out_of region g.nodes name.maker) o) (λ a. AreSamples a bytes) → IfSome o (λ a. head_of a ≡ head)
       → IsPieceRow g stack x name head bytes
   facts None is holds heads = absurd holds
   facts (Some b) is holds heads =

@@ -42,7 +42,8 @@ some-and : (P : Array → Type 0) (o : Option Array) → IsSomeAnd o P → (a : 
 some-and P None h = absurd h
 some-and P (Some a) h = (a, refl)
 
-pub content-some : (g : Graph) (stack : StackValue) (name : FrameName) (bytes : List ℕ) → IsContent g stack name bytes → (a : Array) × (content_of g stack name ≡ Some a)
+pub content-some : (g : Graph) (stack : StackValue) (name : FrameName) (bytes : List ℕ) → IsContent g stack name bytes
+    → (a : Array) × (content_of g stack name ≡ Some a)
 content-some g stack name bytes h = some-and (λ a. AreSamples a bytes) (content_of g stack name) h
 
 pub length-put : {X : Type 0} (xs : List X) (k : ℕ) (y : X) → length (set xs k y) ≡ length xs
@@ -50,8 +51,10 @@ length-put [] k y = refl
 length-put (x ∷ xs) zero y = refl
 length-put (x ∷ xs) (suc k) y = ap suc (length-put xs k y)
 
-module _ (g : Graph) (stack : StackValue) (sound : IsGraph g) (start : Start) (r : ℕ) (drain : r ≡ last_role (run_setting g stack)) (p q : Pass) (xs : List NodeFile) (fault : Bool) (held : Option Files) (answered : Last)
-    (st : IsSaving g stack start r p xs fault held) (k : ℕ) (v : ℕ) (node : (x : NodeFile) → slice_get xs k ≡ Some x → v ≡ x.node) (within : k < length xs) where
+module _ (g : Graph) (stack : StackValue) (sound : IsGraph g) (start : Start) (r : ℕ) (drain : r ≡ last_role (run_setting g stack))
+    (p q : Pass) (xs : List NodeFile) (fault : Bool) (held : Option Files) (answered : Last)
+    (st : IsSaving g stack start r p xs fault held)
+    (k : ℕ) (v : ℕ) (node : (x : NodeFile) → slice_get xs k ≡ Some x → v ≡ x.node) (within : k < length xs) where
   abbrev s : Setting
   s = run_setting g stack
 
@@ -72,7 +75,8 @@ module _ (g : Graph) (stack : StackValue) (sound : IsGraph g) (start : Start) (r
       saving-still g stack start r gives answered p q xs fault held st c (not_yet-still s (c.between ++ p.seen) q.seen r v c.answer)
 
   -- a piece that was handed out is in hand
-  pub one-taken : length stack.arrays ≤ 65536 → (input : Sealed) (group place : ℕ) (of : Option ℕ) → Called s (λ old new. SaveGives name_of parts_of s old r v (Piece input group place of) new) answered p q
+  pub one-taken : length stack.arrays ≤ 65536 → (input : Sealed) (group place : ℕ) (of : Option ℕ)
+      → Called s (λ old new. SaveGives name_of parts_of s old r v (Piece input group place of) new) answered p q
       → HasUnsaved g stack start r q xs fault held (record { piece = input; at = k; group = group; place = place; of = of })
   one-taken small input group place of call =
       let i = item xs k within in
@@ -81,7 +85,8 @@ module _ (g : Graph) (stack : StackValue) (sound : IsGraph g) (start : Start) (r
 
 -- A PIECE'S WRITE
 
-module _ (g : Graph) (stack : StackValue) (sound : IsGraph g) (start : Start) (r : ℕ) (p : Pass) (xs : List NodeFile) (fault : Bool) (held : Option Files) (due : DuePiece Sealed)
+module _ (g : Graph) (stack : StackValue) (sound : IsGraph g) (start : Start) (r : ℕ) (p : Pass) (xs : List NodeFile)
+    (fault : Bool) (held : Option Files) (due : DuePiece Sealed)
     (st : HasUnsaved g stack start r p xs fault held due) where
   same-node : (x : NodeFile) → slice_get xs due.at ≡ Some x → st.node ≡ x
   same-node x at = same_Some st.node x (sym st.listed ∙ at)
@@ -93,7 +98,8 @@ module _ (g : Graph) (stack : StackValue) (sound : IsGraph g) (start : Start) (r
     pub one-due : fault ≡ false → (x : NodeFile) → slice_get xs due.at ≡ Some x → IsDuePiece g stack x due.piece.name due.group due.place due.of held
     one-due fine x at =
         let a = content-some g stack due.piece.name bytes content_ in
-        subst (λ (z : NodeFile). IsDuePiece g stack z due.piece.name due.group due.place due.of held) (same-node x at) (due-piece g stack sound start r p xs fault held due st a.0 a.1 fine)
+        subst (λ (z : NodeFile). IsDuePiece g stack z due.piece.name due.group due.place due.of held) (same-node x at)
+        (due-piece g stack sound start r p xs fault held due st a.0 a.1 fine)
 
     pub one-skipped : fault ≡ true → IsToGiveBack g stack start r p xs true held due.piece
     one-skipped torn = let a = content-some g stack due.piece.name bytes content_ in skipped g stack sound start r p xs fault held due st a.0 a.1 torn
@@ -102,8 +108,10 @@ module _ (g : Graph) (stack : StackValue) (sound : IsGraph g) (start : Start) (r
       saved : AreSaved g stack start.held (past p.made) (past p.seen) xs false held
       saved = subst (λ (b : Bool). AreSaved g stack start.held (past p.made) (past p.seen) xs b held) fine st.saved
 
-      pub one-wrote : ((before : Option Files) (written : ℕ → List Array) (x : NodeFile) (a : Array) → slice_get xs due.at ≡ Some x → content_of g stack due.piece.name ≡ Some a → length (written x.node) + 1 < 2 ^ 64
-          → IsPlaceAfter x.count (written x.node) due.group due.place → AllWritten before xs written held → AllWritten before ys (with_array written x.node a) stands)
+      pub one-wrote : ((before : Option Files) (written : ℕ → List Array) (x : NodeFile) (a : Array) → slice_get xs due.at ≡ Some x
+          → content_of g stack due.piece.name ≡ Some a → length (written x.node) + 1 < 2 ^ 64
+          → IsPlaceAfter x.count (written x.node) due.group due.place → AllWritten before xs written held
+          → AllWritten before ys (with_array written x.node a) stands)
           → ((x : NodeFile) → slice_get xs due.at ≡ Some x → due.place + 1 ≡ x.count → (y : NodeFile) → slice_get ys due.at ≡ Some y → y.current ≡ None)
           → IsToGiveBack g stack start r p ys false stands due.piece
       one-wrote ok ended =
@@ -113,9 +121,12 @@ module _ (g : Graph) (stack : StackValue) (sound : IsGraph g) (start : Start) (r
           wrote g stack sound start r p xs fault held due st a.0 a.1 ys n.0 n.1 n.2 fine stands
           (ok start.held (written_by g stack (past p.made)) x a.0 st.listed a.1 st.few st.place saved.0) (ended x st.listed)
 
-      module _ (fault_ : SaveFault) (stops : (before : Option Files) (written : ℕ → List Array) (x : NodeFile) (a : Array) → slice_get xs due.at ≡ Some x → content_of g stack due.piece.name ≡ Some a
-          → IsPlaceAfter x.count (written x.node) due.group due.place → AllWritten before xs written held → AllStops fault_ before x ys written due.group (first_count x.late due.of) a held stands) where
-        stopped : (a : Array) → content_of g stack due.piece.name ≡ Some a → AllStops fault_ start.held st.node ys (written_by g stack (past p.made)) due.group (first_count st.node.late due.of) a held stands
+      module _ (fault_ : SaveFault) (stops : (before : Option Files) (written : ℕ → List Array) (x : NodeFile) (a : Array) → slice_get xs due.at ≡ Some x
+          → content_of g stack due.piece.name ≡ Some a
+          → IsPlaceAfter x.count (written x.node) due.group due.place → AllWritten before xs written held
+          → AllStops fault_ before x ys written due.group (first_count x.late due.of) a held stands) where
+        stopped : (a : Array) → content_of g stack due.piece.name ≡ Some a
+            → AllStops fault_ start.held st.node ys (written_by g stack (past p.made)) due.group (first_count st.node.late due.of) a held stands
         stopped a holds = stops start.held (written_by g stack (past p.made)) st.node a st.listed holds st.place saved.0
 
         pub one-tore : fault_ ≡ Failed → IsToGiveBack g stack start r p ys true stands due.piece
@@ -124,7 +135,8 @@ module _ (g : Graph) (stack : StackValue) (sound : IsGraph g) (start : Start) (r
             let a = content-some g stack due.piece.name bytes content_ in
             let n = nodes x st.listed in
             tore g stack sound start r p xs fault held due st a.0 a.1 ys n.0 n.1 n.2 fine stands
-            (subst (λ (f : SaveFault). AllStops f start.held x ys (written_by g stack (past p.made)) due.group (first_count x.late due.of) a.0 held stands) is (stopped a.0 a.1))
+            (subst (λ (f : SaveFault). AllStops f start.held x ys (written_by g stack (past p.made)) due.group (first_count x.late due.of) a.0 held stands) is
+            (stopped a.0 a.1))
 
         pub one-wanted : fault_ ≡ OutOfMemory → HasUnsaved g stack start r p ys false stands due
         one-wanted is =
@@ -132,7 +144,8 @@ module _ (g : Graph) (stack : StackValue) (sound : IsGraph g) (start : Start) (r
             let a = content-some g stack due.piece.name bytes content_ in
             let n = nodes x st.listed in
             wanted g stack sound start r p xs fault held due st a.0 a.1 ys n.0 n.1 n.2 fine stands
-            (subst (λ (f : SaveFault). AllStops f start.held x ys (written_by g stack (past p.made)) due.group (first_count x.late due.of) a.0 held stands) is (stopped a.0 a.1))
+            (subst (λ (f : SaveFault). AllStops f start.held x ys (written_by g stack (past p.made)) due.group (first_count x.late due.of) a.0 held stands) is
+            (stopped a.0 a.1))
 
 -- the files are as many as before
 pub count-kept : (xs ys : List NodeFile) (k : ℕ) (of : Option ℕ) → k < length xs → IsReopened xs k of ys → length ys ≡ length xs

@@ -43,7 +43,8 @@ standing-all p [] all = refl
 standing-all p (Reclaim r ∷ P) all =
     let parts = and_parts (p (Reclaim r)) (list_all p P) all in
     let rest = standing-all p P parts.1 in
-    elim (cases_Bool (is_free r P)) [ inl yes_ ↦ rw yes_ (and_from _ _ parts.0 rest) | inr no_ ↦ rw no_ (and_from _ _ parts.0 (let_go-all p r (standing P) rest)) ]
+    elim (cases_Bool (is_free r P)) [ inl yes_ ↦ rw yes_ (and_from _ _ parts.0 rest)
+    | inr no_ ↦ rw no_ (and_from _ _ parts.0 (let_go-all p r (standing P) rest)) ]
 standing-all p (e ∷ P) all = let parts = and_parts (p e) (list_all p P) all in and_from _ _ parts.0 (standing-all p P parts.1)
 
 -- the hand of another role is no piece
@@ -72,7 +73,9 @@ saves-stand s v (Reclaim r ∷ P) h d =
     let drain = find-all (saved_by_drain s) (takes_up r) (standing P) e.0 (standing-all (saved_by_drain s) P d) taken in
     let piece = no-piece s r v e.0 drain (found_up (takes_up r) e.0 (standing P) taken) (reclaims-others s r P h) in
     elim (cases_Bool (is_free r P)) [ inl yes_ ↦ rw yes_ before | inr no_ ↦ rw no_ (saves-let_go v r e.0 (standing P) taken piece ∙ before) ]
-saves-stand s v (Save r w m k g ∷ P) h d = ap (comes_at v w (frame m k)) (saves-stand s v P (and_parts (is_legal s P) _ h).0 (and_parts (saved_by_drain s (Save r w m k g)) (only_drain_saves s P) d).1)
+saves-stand s v (Save r w m k g ∷ P) h d =
+    ap (comes_at v w (frame m k))
+    (saves-stand s v P (and_parts (is_legal s P) _ h).0 (and_parts (saved_by_drain s (Save r w m k g)) (only_drain_saves s P) d).1)
 saves-stand s v (e ∷ P) h d = saves-stand s v P (and_parts (is_legal s P) _ h).0 (and_parts (saved_by_drain s e) (only_drain_saves s P) d).1
 
 -- and is among the drain's own moves
@@ -80,7 +83,8 @@ saves-then : (v : ℕ) (e : Entry) (P Q : Past) → saves v P ≡ saves v Q → 
 saves-then v (Save r w m k g) P Q same = ap (comes_at v w (frame m k)) same
 saves-then v _ P Q same = same
 
-saves-skip : (s : Setting) (v : ℕ) (e : Entry) (o : Option ℕ) (P : Past) → saved_by_drain s e ≡ true → is_role_of (last_role s) (first_some (begins e) o) ≡ false → saves v (e ∷ P) ≡ saves v P
+saves-skip : (s : Setting) (v : ℕ) (e : Entry) (o : Option ℕ) (P : Past) → saved_by_drain s e ≡ true
+    → is_role_of (last_role s) (first_some (begins e) o) ≡ false → saves v (e ∷ P) ≡ saves v P
 saves-skip s v (Save r w m k g) o P drain not_mine = absurd (false≢true (sym not_mine ∙ drain))
 saves-skip s v _ o P drain not_mine = refl
 
@@ -100,7 +104,8 @@ given-then : (v : ℕ) (e : Entry) (P Q : Past) → given_back v P ≡ given_bac
 given-then v (Saved r w m k) P Q same = ap (comes_at v w (frame m k)) same
 given-then v _ P Q same = same
 
-given-skip : (s : Setting) (v : ℕ) (e : Entry) (o : Option ℕ) (P : Past) → is_legal s (e ∷ P) ≡ true → only_drain_saves s P ≡ true → is_role_of (last_role s) (first_some (begins e) o) ≡ false → given_back v (e ∷ P) ≡ given_back v P
+given-skip : (s : Setting) (v : ℕ) (e : Entry) (o : Option ℕ) (P : Past) → is_legal s (e ∷ P) ≡ true → only_drain_saves s P ≡ true
+    → is_role_of (last_role s) (first_some (begins e) o) ≡ false → given_back v (e ∷ P) ≡ given_back v P
 given-skip s v (Saved r w m k) o P h d not_mine =
     let piece = (row_laws.saved s P r w m k).0 (row_of s (Saved r w m k) P (λ d. refl) h) in
     let taken = hand-standing s P r (Save r w m k piece.0) (and_parts (is_legal s P) _ h).0 piece.1 in
@@ -109,7 +114,8 @@ given-skip s v (Saved r w m k) o P h d not_mine =
 given-skip s v _ o P h d not_mine = refl
 
 -- the drain gave it back
-pub given-mine : (s : Setting) (v : ℕ) (b : BoardState) → is_legal s (past b) ≡ true → only_drain_saves s (past b) ≡ true → given_back v (past b) ≡ given_back v (past (moves_by (last_role s) b))
+pub given-mine : (s : Setting) (v : ℕ) (b : BoardState) → is_legal s (past b) ≡ true → only_drain_saves s (past b) ≡ true
+    → given_back v (past b) ≡ given_back v (past (moves_by (last_role s) b))
 given-mine s v [] h d = refl
 given-mine s v (t ∷ b) h d =
     let drained = (and_parts (saved_by_drain s t.entry) (only_drain_saves s (past b)) d).1 in
@@ -130,7 +136,8 @@ one-more : (t : Told) (b : BoardState) (front : Past) → GivenAt b front → Gi
 one-more t b front g = record { later = t ∷ g.later; before = g.before; board = ap (λ (c : BoardState). t ∷ c) g.board; given = g.given }
 
 -- a front of the drain's own moves is that of the board there
-pub given-at : (s : Setting) (b : BoardState) → is_legal s (past b) ≡ true → only_drain_saves s (past b) ≡ true → (later front : Past) → past (moves_by (last_role s) b) ≡ later ++ front → GivenAt b front
+pub given-at : (s : Setting) (b : BoardState) → is_legal s (past b) ≡ true → only_drain_saves s (past b) ≡ true → (later front : Past)
+    → past (moves_by (last_role s) b) ≡ later ++ front → GivenAt b front
 given-at s b h d [] front is = record { later = []; before = b; board = refl; given = λ v. given-mine s v b h d ∙ ap (given_back v) is }
 given-at s [] h d (e ∷ later) front is = absurd (cc)
 given-at s (t ∷ b) h d (e ∷ later) front is =

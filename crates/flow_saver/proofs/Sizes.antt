@@ -11,7 +11,8 @@ use Rattle.flow_saver.specs.Saver.{IsGroupSize, IsFirstCount, AreBegunSo}
 use Rattle.flow_saver.proofs.Puts.{puts-more, puts-stay, settled-more}
 
 -- it stays as the log grows
-pub size-more : (s : Setting) (more b : BoardState) (v count group size : ℕ) → is_legal s (past (more ++ b)) ≡ true → IsGroupSize (past b) v count group size → IsGroupSize (past (more ++ b)) v count group size
+pub size-more : (s : Setting) (more b : BoardState) (v count group size : ℕ) → is_legal s (past (more ++ b)) ≡ true → IsGroupSize (past b) v count group size
+    → IsGroupSize (past (more ++ b)) v count group size
 size-more s more b v count group size legal h =
     elim h [
       | inl whole ↦ inl (omega (arith, whole.0, puts-more v more b), whole.1)
@@ -28,10 +29,13 @@ size-one P v count group m n h k =
       | inr a ↦ elim k [ inl b ↦ absurd (omega (arith, b.0, a.1)) | inr b ↦ omega (arith, a.2, b.2) ]
     ]
 
-pub first-more : (s : Setting) (more b : BoardState) (v count group : ℕ) (late : Bool) (numrecs : Option ℕ) → is_legal s (past (more ++ b)) ≡ true → IsFirstCount (past b) v count group late numrecs
+pub first-more : (s : Setting) (more b : BoardState) (v count group : ℕ) (late : Bool) (numrecs : Option ℕ) → is_legal s (past (more ++ b)) ≡ true
+    → IsFirstCount (past b) v count group late numrecs
     → IsFirstCount (past (more ++ b)) v count group late numrecs
 first-more s more b v count group true numrecs legal h = h
 first-more s more b v count group false numrecs legal h = (h.0, h.1, size-more s more b v count group h.0 legal h.2)
 
-pub begun-more : (s : Setting) (more b : BoardState) (written : ℕ → List Array) (xs : List NodeFile) → is_legal s (past (more ++ b)) ≡ true → AreBegunSo (past b) written xs → AreBegunSo (past (more ++ b)) written xs
-begun-more s more b written xs legal h k x f at is = first-more s more b x.node x.count (length (written x.node) / x.count) x.late f.numrecs legal (h k x f at is)
+pub begun-more : (s : Setting) (more b : BoardState) (written : ℕ → List Array) (xs : List NodeFile) → is_legal s (past (more ++ b)) ≡ true
+    → AreBegunSo (past b) written xs → AreBegunSo (past (more ++ b)) written xs
+begun-more s more b written xs legal h k x f at is =
+    first-more s more b x.node x.count (length (written x.node) / x.count) x.late f.numrecs legal (h k x f at is)

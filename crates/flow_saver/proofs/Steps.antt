@@ -43,7 +43,8 @@ use Rattle.flow_saver.proofs.Sizes.{first-more, begun-more}
 
 -- CALLS
 
-module _ (s : Setting) (gives : BoardState → BoardState → Type 0) (answered : Last) (p q : Pass) (r : ℕ) (is : p.role ≡ r) (c : Called s gives answered p q) (t : Told)
+module _ (s : Setting) (gives : BoardState → BoardState → Type 0)
+    (answered : Last) (p q : Pass) (r : ℕ) (is : p.role ≡ r) (c : Called s gives answered p q) (t : Told)
     (first : begins t.entry ≡ Some r) (logged : q.seen ≡ t ∷ (c.between ++ p.seen)) where
   pub one-entry : q.made ≡ t ∷ p.made
   one-entry =
@@ -73,7 +74,8 @@ nothing_owed s P r v m k g [] h = refl
 nothing_owed s P r v m k g (d ∷ ds) h = absurd (false≢true h)
 
 -- what is saved stays so as the log grows
-pub saved-more : (g : Graph) (stack : StackValue) (start : Start) (P : Past) (more b : BoardState) (xs : List NodeFile) (fault : Bool) (held : Option Files) → is_legal (run_setting g stack) (past (more ++ b)) ≡ true
+pub saved-more : (g : Graph) (stack : StackValue) (start : Start) (P : Past) (more b : BoardState) (xs : List NodeFile) (fault : Bool) (held : Option Files)
+    → is_legal (run_setting g stack) (past (more ++ b)) ≡ true
     → AreSaved g stack start.held P (past b) xs fault held → AreSaved g stack start.held P (past (more ++ b)) xs fault held
 saved-more g stack start P more b xs true held legal h = record {
   later = h.later;
@@ -103,7 +105,8 @@ saved-more g stack start P more b xs true held legal h = record {
 saved-more g stack start P more b xs false held legal h = (h.0, begun-more (run_setting g stack) more b (written_by g stack P) xs legal h.1)
 
 -- and as the role takes a piece
-pub saved-taken : (g : Graph) (stack : StackValue) (before : Option Files) (r v m k i : ℕ) (P seen : Past) (xs : List NodeFile) (fault : Bool) (held : Option Files)
+pub saved-taken : (g : Graph) (stack : StackValue) (before : Option Files) (r v m k i : ℕ) (P seen : Past) (xs : List NodeFile)
+    (fault : Bool) (held : Option Files)
     → AreSaved g stack before P seen xs fault held → AreSaved g stack before (entry.Save r v m k i ∷ P) seen xs fault held
 saved-taken g stack before r v m k i P seen xs true held h = record {
   later = entry.Save r v m k i ∷ h.later;
@@ -133,7 +136,8 @@ saved-taken g stack before r v m k i P seen xs true held h = record {
 saved-taken g stack before r v m k i P seen xs false held h = (h.0, h.1)
 
 -- a role that made one move more that saves
-pub saved-since : (then_made made new : BoardState) (t : Told) → saver_logs t.entry ≡ true → new ≡ t ∷ made → HasSavedSince then_made made → HasSavedSince then_made new
+pub saved-since : (then_made made new : BoardState) (t : Told) → saver_logs t.entry ≡ true → new ≡ t ∷ made
+    → HasSavedSince then_made made → HasSavedSince then_made new
 saved-since then_made made new t logs is h = (t ∷ h.0, is ∙ ap (λ (b : BoardState). t ∷ b) h.1, and_from _ _ logs h.2)
 
 -- what a move with no condition on its entries says
@@ -141,13 +145,17 @@ all-true : (P : Past) → list_all (λ (e : Entry). true) P ≡ true
 all-true [] = refl
 all-true (e ∷ P) = all-true P
 
-pub any-moved : (s : Setting) (gives : BoardState → BoardState → Type 0) (answered : Last) (p q : Pass) (r : ℕ) → p.role ≡ r → (c : Called s gives answered p q) (t : Told)
+pub any-moved : (s : Setting) (gives : BoardState → BoardState → Type 0) (answered : Last) (p q : Pass) (r : ℕ) → p.role ≡ r
+    → (c : Called s gives answered p q) (t : Told)
     → begins t.entry ≡ Some r → q.seen ≡ moved_at s 0 t (c.between ++ p.seen) → Moved s (λ (e : Entry). true) r t (c.between ++ p.seen) p q
-any-moved s gives answered p q r is c t first logged = moved s gives answered p q r is c (λ (e : Entry). true) 0 t logged first (λ e h. refl) refl (all-true (past p.made))
+any-moved s gives answered p q r is c t first logged =
+    moved s gives answered p q r is c (λ (e : Entry). true) 0 t logged first (λ e h. refl) refl (all-true (past p.made))
 
 -- a call that changed nothing
-pub saving-still : (g : Graph) (stack : StackValue) (start : Start) (r : ℕ) (gives : BoardState → BoardState → Type 0) (answered : Last) (p q : Pass) (xs : List NodeFile) (fault : Bool) (held : Option Files)
-    (st : IsSaving g stack start r p xs fault held) (c : Called (run_setting g stack) gives answered p q) → q.seen ≡ c.between ++ p.seen → IsSaving g stack start r q xs fault held
+pub saving-still : (g : Graph) (stack : StackValue) (start : Start) (r : ℕ) (gives : BoardState → BoardState → Type 0)
+    (answered : Last) (p q : Pass) (xs : List NodeFile) (fault : Bool) (held : Option Files)
+    (st : IsSaving g stack start r p xs fault held) (c : Called (run_setting g stack) gives answered p q) → q.seen ≡ c.between ++ p.seen
+    → IsSaving g stack start r q xs fault held
 saving-still g stack start r gives answered p q xs fault held st c still =
     let s = run_setting g stack in
     let made = unmoved s gives answered p q r st.role c still in
@@ -166,7 +174,8 @@ saving-still g stack start r gives answered p q xs fault held st c still =
     }
 
 -- what was given back is what the saves of the log took
-pub all-given : (s : Setting) (gives : BoardState → BoardState → Type 0) (answered : Last) (p q : Pass) (r : ℕ) → p.role ≡ r → r ≡ last_role s → Called s gives answered p q
+pub all-given : (s : Setting) (gives : BoardState → BoardState → Type 0) (answered : Last) (p q : Pass) (r : ℕ) → p.role ≡ r
+    → r ≡ last_role s → Called s gives answered p q
     → ((v : ℕ) → saves v (past q.made) ≡ given_back v (past q.made)) → (v : ℕ) → standing_saves v (past q.seen) ≡ given_back v (past q.made)
 all-given s gives answered p q r is drain c alike v =
     let legal = (and_parts (is_legal s (past q.seen)) _ c.legal).0 in
@@ -175,9 +184,11 @@ all-given s gives answered p q r is drain c alike v =
 
 -- A PIECE
 
-module _ (g : Graph) (stack : StackValue) (sound : IsGraph g) (start : Start) (r : ℕ) (drain : r ≡ last_role (run_setting g stack)) (p q : Pass) (xs : List NodeFile) (fault : Bool) (held : Option Files) (answered : Last)
+module _ (g : Graph) (stack : StackValue) (sound : IsGraph g) (start : Start) (r : ℕ) (drain : r ≡ last_role (run_setting g stack))
+    (p q : Pass) (xs : List NodeFile) (fault : Bool) (held : Option Files) (answered : Last)
     (st : IsSaving g stack start r p xs fault held) (k : ℕ) (x : NodeFile) (at : slice_get xs k ≡ Some x) (input : Sealed) (group place : ℕ) (of : Option ℕ)
-    (c : Called (run_setting g stack) (λ old new. SaveGives name_of parts_of (run_setting g stack) old r x.node (Piece input group place of) new) answered p q) where
+    (c : Called (run_setting g stack)
+    (λ old new. SaveGives name_of parts_of (run_setting g stack) old r x.node (Piece input group place of) new) answered p q) where
   abbrev s : Setting
   s = run_setting g stack
 
@@ -211,7 +222,8 @@ module _ (g : Graph) (stack : StackValue) (sound : IsGraph g) (start : Start) (r
   pub many : length (standing_saves x.node (past here)) ≡ length (written_by g stack (past p.made) x.node)
   many =
       let drained = drained-here s gives answered p q r st.role c t refl given.logged in
-      ap length (saves-stand s x.node (past here) legal drained ∙ saves-mine s x.node here drained ∙ ap (λ (j : ℕ). saves x.node (past (moves_by j here))) (sym drain)
+      ap length (saves-stand s x.node (past here) legal drained ∙ saves-mine s x.node here drained
+      ∙ ap (λ (j : ℕ). saves x.node (past (moves_by j here))) (sym drain)
       ∙ ap (λ (b : BoardState). saves x.node (past b)) (mine-before s gives answered p q r st.role c t refl given.logged) ∙ st.alike x.node)
       ∙ sym (st.whole x.node)
 
@@ -219,7 +231,8 @@ module _ (g : Graph) (stack : StackValue) (sound : IsGraph g) (start : Start) (r
   upcoming =
       let due = and_parts _ _ given.due in
       subst (λ (n : ℕ). IsNext g stack x (past here) n input.name group place of) many
-      (next-piece g stack x file (past here) (length (standing_saves x.node (past here))) input.name group place of sound history refl due.1 given.next given.group_is given.place_is given.of_is)
+      (next-piece g stack x file (past here)
+      (length (standing_saves x.node (past here))) input.name group place of sound history refl due.1 given.next given.group_is given.place_is given.of_is)
 
   pub place-after : IsPlaceAfter x.count (written_by g stack (past p.made) x.node) group place
   place-after =
@@ -227,7 +240,8 @@ module _ (g : Graph) (stack : StackValue) (sound : IsGraph g) (start : Start) (r
       let some : 0 < x.count = omega (arith, file.count, file.sound.count.0) in
       record {
         within = omega (arith, mod-lt n some, upcoming.place_is);
-        all = sym (div-add-mod' n x.count) ∙ ap (λ i. i * x.count + n % x.count) (sym upcoming.group_is) ∙ ap (λ j. group * x.count + j) (sym upcoming.place_is);
+        all =
+            sym (div-add-mod' n x.count) ∙ ap (λ i. i * x.count + n % x.count) (sym upcoming.group_is) ∙ ap (λ j. group * x.count + j) (sym upcoming.place_is);
       }
 
   pub few : length stack.arrays ≤ 65536 → length (written_by g stack (past p.made) x.node) + 1 < 2 ^ 64
@@ -262,9 +276,11 @@ module _ (g : Graph) (stack : StackValue) (sound : IsGraph g) (start : Start) (r
   pub in-hand : length stack.arrays ≤ 65536 → HasUnsaved g stack start r q xs fault held due
   in-hand small =
       let saved : AreSaved g stack start.held (past (t ∷ p.made)) (past (t ∷ here)) xs fault held =
-      saved-taken g stack start.held r x.node input.name.maker input.name.index group (past p.made) (past (t ∷ here)) xs fault held (saved-more g stack start (past p.made) (t ∷ c.between) p.seen xs fault held legal-then st.saved) in
+      saved-taken g stack start.held r x.node input.name.maker input.name.index group (past p.made) (past (t ∷ here)) xs fault held
+      (saved-more g stack start (past p.made) (t ∷ c.between) p.seen xs fault held legal-then st.saved) in
       let first_ : IsFirstCount (past (t ∷ here)) x.node x.count group x.late (first_count x.late of) =
-      first-more s (t ∷ []) here x.node x.count group x.late (first_count x.late of) legal-then (next-first g stack x (past here) (length (written_by g stack (past p.made) x.node)) input.name group place of upcoming) in
+      first-more s (t ∷ []) here x.node x.count group x.late (first_count x.late of) legal-then
+      (next-first g stack x (past here) (length (written_by g stack (past p.made) x.node)) input.name group place of upcoming) in
       record {
         role = role-after s gives answered p q r st.role c;
         moves = saved-since start.made p.made q.made t refl taken-made st.moves;
@@ -279,7 +295,9 @@ module _ (g : Graph) (stack : StackValue) (sound : IsGraph g) (start : Start) (r
         sized = next-sized g stack x file (past here) (length (written_by g stack (past p.made) x.node)) input.name group place of upcoming;
         first = subst (λ (b : BoardState). IsFirstCount (past b) x.node x.count group x.late (first_count x.late of)) (sym given.logged) first_;
         numrecs = numrecs-by fault refl;
-        alike = subst (λ (b : BoardState). (v : ℕ) → saves v (past b) ≡ given_back v (back ∷ past b)) (sym taken-made) (λ v. ap (comes_at v x.node input.name) (st.alike v));
+        alike =
+            subst (λ (b : BoardState). (v : ℕ) → saves v (past b) ≡ given_back v (back ∷ past b)) (sym taken-made)
+            (λ v. ap (comes_at v x.node input.name) (st.alike v));
         whole = subst (λ (b : BoardState). (v : ℕ) → length (written_by g stack (past b) v) ≡ length (given_back v (past b))) (sym taken-made) st.whole;
         nodes = st.nodes;
         rows = λ fine j y f off. st.rows fine j y f (λ e. let none_ : None ≡ Some j = e in absurd (cc));

@@ -41,7 +41,8 @@ use Rattle.flow_saver.proofs.Saves.{given-mine}
 use Rattle.flow_saver.proofs.TornHistory.{full-file, one-index, told-file, whole-bytes, whole-some, file-some, count-by}
 
 -- a node's files among those that have ended so far
-ended-at : (n : ℕ) (xs : List NodeFile) (j : ℕ) (x : NodeFile) → slice_get xs j ≡ Some x → (slice_get (ended_to n xs) j ≡ Some (closed x)) ⊎ ((n ≤ j) × (slice_get (ended_to n xs) j ≡ Some x))
+ended-at : (n : ℕ) (xs : List NodeFile) (j : ℕ) (x : NodeFile) → slice_get xs j ≡ Some x
+    → (slice_get (ended_to n xs) j ≡ Some (closed x)) ⊎ ((n ≤ j) × (slice_get (ended_to n xs) j ≡ Some x))
 ended-at n [] j x at = let none_ : None ≡ Some x = at in absurd (cc)
 ended-at zero (y ∷ xs) j x at = inr (omega arith, at)
 ended-at (suc n) (y ∷ xs) zero x at = inl (ap (λ (z : NodeFile). Some (closed z)) (same_Some y x at))
@@ -57,7 +58,8 @@ whole-is shape (a ∷ zs) some = refl
 whole-long : (shape : FileShape) (zs : List Array) → IsSome (whole_file shape zs) → 1 ≤ length zs
 whole-long shape zs h = let o = some-is (whole_file shape zs) h in (whole-bytes shape zs o.0 o.1).1
 
-module _ (g : Graph) (stack : StackValue) (sound : IsGraph g) (prefix : List ℕ) (before : Option Files) (b : BoardState) (xs : List NodeFile) (held now : Option Files)
+module _ (g : Graph) (stack : StackValue) (sound : IsGraph g) (prefix : List ℕ) (before : Option Files)
+    (b : BoardState) (xs : List NodeFile) (held now : Option Files)
     (h : IsSavingAlone g stack prefix before b xs false held) (finished : is_finished (run_setting g stack) (past b) ≡ true) where
   abbrev s : Setting
   s = run_setting g stack
@@ -91,55 +93,71 @@ module _ (g : Graph) (stack : StackValue) (sound : IsGraph g) (prefix : List ℕ
     abbrev Goal : NodeFile → ℕ → Type 0
     Goal x i = IsBegunAs x.late (layout x.shape (group_of x.count i (F x.node))) (file_at before (name_of x i)) (file_at now (name_of x i))
 
-    open-goal : (x : NodeFile) (i : ℕ) (f : Stream) (is : Option (List ℕ)) → length (puts x.node (past b)) ≡ length (F x.node) → IsFirstCount (past b) x.node x.count i x.late f.numrecs
-        → is ≡ Some (begun_file x.shape f.numrecs (group_of x.count i (F x.node))) → IsBegunAs x.late (layout x.shape (group_of x.count i (F x.node))) (file_at before (name_of x i)) is
+    open-goal : (x : NodeFile) (i : ℕ) (f : Stream) (is : Option (List ℕ)) → length (puts x.node (past b)) ≡ length (F x.node)
+        → IsFirstCount (past b) x.node x.count i x.late f.numrecs
+        → is ≡ Some (begun_file x.shape f.numrecs (group_of x.count i (F x.node)))
+        → IsBegunAs x.late (layout x.shape (group_of x.count i (F x.node))) (file_at before (name_of x i)) is
     open-goal x i f is all first made =
         let zs = group_of x.count i (F x.node) in
-        begun-front x.shape zs [] zs (sym (append-nil zs)) (file_at before (name_of x i)) x.late f.numrecs (begun_file x.shape f.numrecs zs) [] is (count-by (past b) x i (F x.node) x.late f.numrecs all first) (sym (append-nil (begun_file x.shape f.numrecs zs))) made
+        begun-front x.shape zs [] zs (sym (append-nil zs)) (file_at before (name_of x i)) x.late f.numrecs (begun_file x.shape f.numrecs zs) [] is
+        (count-by (past b) x i (F x.node) x.late f.numrecs all first) (sym (append-nil (begun_file x.shape f.numrecs zs))) made
 
     module _ (told : is_some now ≡ true) where
       told-then : is_some held ≡ true
       told-then = h.saving.saved.0.told ∙ sym e.stops.0.told ∙ told
 
-      whole-goal : (x : NodeFile) (i : ℕ) (o : Option (List ℕ)) → HasBytes now (name_of x i) o → o ≡ Some (layout x.shape (group_of x.count i (F x.node))) → Goal x i
+      whole-goal : (x : NodeFile) (i : ℕ) (o : Option (List ℕ)) → HasBytes now (name_of x i) o
+          → o ≡ Some (layout x.shape (group_of x.count i (F x.node))) → Goal x i
       whole-goal x i o has is =
           begun-whole x.late (layout x.shape (group_of x.count i (F x.node))) (file_at before (name_of x i)) (file_at now (name_of x i))
           (told-file now (name_of x i) (layout x.shape (group_of x.count i (F x.node))) told (subst (HasBytes now (name_of x i)) is has))
 
-      has-goal : (j : ℕ) (x : NodeFile) (at : slice_get xs j ≡ Some x) (i : ℕ) → 1 ≤ length (group_of x.count i (F x.node)) → HasBytes now (name_of x i) (group_file x (F x.node) i) → GroupHas x (F x.node) i → Goal x i
+      has-goal : (j : ℕ) (x : NodeFile) (at : slice_get xs j ≡ Some x) (i : ℕ) → 1 ≤ length (group_of x.count i (F x.node))
+          → HasBytes now (name_of x i) (group_file x (F x.node) i) → GroupHas x (F x.node) i → Goal x i
       has-goal j x at i some has (Nothing none_) = absurd (file-some (open_at x (length (F x.node)) i) x.shape (group_of x.count i (F x.node)) some none_)
       has-goal j x at i some has (Whole full is) = whole-goal x i (group_file x (F x.node) i) has is
       has-goal j x at i some has (Opened f open_ here is) =
           let first = subst (λ (w : ℕ). IsFirstCount (past b) x.node x.count w x.late f.numrecs) (sym here) (h.saving.saved.1 j x f at open_) in
-          open-goal x i f (file_at now (name_of x i)) (all-written j x at) first (told-file now (name_of x i) (begun_file x.shape f.numrecs (group_of x.count i (F x.node))) told (subst (HasBytes now (name_of x i)) is has))
+          open-goal x i f (file_at now (name_of x i)) (all-written j x at) first
+          (told-file now (name_of x i) (begun_file x.shape f.numrecs (group_of x.count i (F x.node))) told (subst (HasBytes now (name_of x i)) is has))
 
-      off-goal : (j : ℕ) (x : NodeFile) (at : slice_get xs j ≡ Some x) (i : ℕ) → 1 ≤ length (group_of x.count i (F x.node)) → (off : (j ≢ e.at) ⊎ (i ≢ torn)) → Goal x i
+      off-goal : (j : ℕ) (x : NodeFile) (at : slice_get xs j ≡ Some x) (i : ℕ) → 1 ≤ length (group_of x.count i (F x.node))
+          → (off : (j ≢ e.at) ⊎ (i ≢ torn)) → Goal x i
       off-goal j x at i some off =
           elim (ended-at (e.at + 1) xs j x at) [
             | inl ended ↦
-                whole-goal x i (group_file (closed x) (F x.node) i) (e.stops.0.each j (closed x) i ended (off-node j x at i off)) (closed-file x (F x.node) i ∙ whole-is x.shape (group_of x.count i (F x.node)) some)
+                whole-goal x i (group_file (closed x) (F x.node) i) (e.stops.0.each j (closed x) i ended (off-node j x at i off))
+                (closed-file x (F x.node) i ∙ whole-is x.shape (group_of x.count i (F x.node)) some)
             | inr open_ ↦
-                has-goal j x at i some (e.stops.0.each j x i open_.1 (off-node j x at i off)) (group-has x (F x.node) (some-at j x at) (h.saving.saved.0.each j x at).begun i)
+                has-goal j x at i some (e.stops.0.each j x i open_.1 (off-node j x at i off))
+                (group-has x (F x.node) (some-at j x at) (h.saving.saved.0.each j x at).begun i)
           ]
 
-      then-goal : GroupHas node (F node.node) torn → 1 ≤ length (group_of node.count torn (F node.node)) → (is : Option (List ℕ)) → is ≡ file_at held (name_of node torn)
+      then-goal : GroupHas node (F node.node) torn → 1 ≤ length (group_of node.count torn (F node.node)) → (is : Option (List ℕ))
+          → is ≡ file_at held (name_of node torn)
           → IsBegunAs node.late (layout node.shape (group_of node.count torn (F node.node))) (file_at before (name_of node torn)) is
-      then-goal (Nothing none_) some is same = absurd (file-some (open_at node (length (F node.node)) torn) node.shape (group_of node.count torn (F node.node)) some none_)
+      then-goal (Nothing none_) some is same =
+          absurd (file-some (open_at node (length (F node.node)) torn) node.shape (group_of node.count torn (F node.node)) some none_)
       then-goal (Whole full made) some is same =
           begun-whole node.late (layout node.shape (group_of node.count torn (F node.node))) (file_at before (name_of node torn)) is
-          (same ∙ told-file held (name_of node torn) (layout node.shape (group_of node.count torn (F node.node))) told-then (subst (HasBytes held (name_of node torn)) made ((h.saving.saved.0.each e.at node e.listed).each torn)))
+          (same ∙ told-file held (name_of node torn) (layout node.shape (group_of node.count torn (F node.node))) told-then
+          (subst (HasBytes held (name_of node torn)) made ((h.saving.saved.0.each e.at node e.listed).each torn)))
       then-goal (Opened f open_ here made) some is same =
           open-goal node torn f is (all-written e.at node e.listed) (h.saving.saved.1 e.at node f e.listed open_)
-          (same ∙ told-file held (name_of node torn) (begun_file node.shape f.numrecs (group_of node.count torn (F node.node))) told-then (subst (HasBytes held (name_of node torn)) made ((h.saving.saved.0.each e.at node e.listed).each torn)))
+          (same ∙ told-file held (name_of node torn) (begun_file node.shape f.numrecs (group_of node.count torn (F node.node))) told-then
+          (subst (HasBytes held (name_of node torn)) made ((h.saving.saved.0.each e.at node e.listed).each torn)))
 
-      torn-by : (o : Option Stream) → node.current ≡ o → 1 ≤ length (group_of node.count torn (F node.node)) → EndTorn o node torn (group_of node.count torn (F node.node)) held now → Goal node torn
+      torn-by : (o : Option Stream) → node.current ≡ o → 1 ≤ length (group_of node.count torn (F node.node))
+          → EndTorn o node torn (group_of node.count torn (F node.node)) held now → Goal node torn
       torn-by None is some t = absurd t
       torn-by (Some f) is some t =
           let zs = group_of node.count torn (F node.node) in
           let first = h.saving.saved.1 e.at node f e.listed is in
-          begun-torn node.shape zs [] zs (sym (append-nil zs)) (file_at before (name_of node torn)) node.late f.numrecs (file_at held (name_of node torn)) (file_at now (name_of node torn))
+          begun-torn node.shape zs [] zs (sym (append-nil zs)) (file_at before (name_of node torn)) node.late f.numrecs
+          (file_at held (name_of node torn)) (file_at now (name_of node torn))
           (count-by (past b) node torn (F node.node) node.late f.numrecs (all-written e.at node e.listed) first)
-          (then-goal (group-has node (F node.node) (some-at e.at node e.listed) (h.saving.saved.0.each e.at node e.listed).begun torn) some (file_at now (name_of node torn))) t
+          (then-goal (group-has node (F node.node) (some-at e.at node e.listed) (h.saving.saved.0.each e.at node e.listed).begun torn) some
+          (file_at now (name_of node torn))) t
 
       each-goal : (j : ℕ) (x : NodeFile) → slice_get xs j ≡ Some x → (i : ℕ) → 1 ≤ length (group_of x.count i (F x.node)) → Goal x i
       each-goal j x at i some =
@@ -149,17 +167,22 @@ module _ (g : Graph) (stack : StackValue) (sound : IsGraph g) (prefix : List ℕ
               | inr apart ↦ off-goal j x at i some (inr apart)
               | inl last ↦
                   let same = torn-here j x at here in
-                  let some_ : 1 ≤ length (group_of node.count torn (F node.node)) = subst (λ (w : ℕ). 1 ≤ length (group_of node.count w (F node.node))) last (subst (λ (z : NodeFile). 1 ≤ length (group_of z.count i (F z.node))) same some) in
+                  let some_ : 1 ≤ length (group_of node.count torn (F node.node)) =
+                  subst (λ (w : ℕ). 1 ≤ length (group_of node.count w (F node.node))) last
+                  (subst (λ (z : NodeFile). 1 ≤ length (group_of z.count i (F z.node))) same some) in
                   subst (λ (z : NodeFile). Goal z i) (sym same) (subst (λ (w : ℕ). Goal node w) (sym last) (torn-by node.current refl some_ e.stops.1))
             ]
           ]
 
-    at-by : (late : Bool) (bytes name : List ℕ) → (is_some now ≡ true → IsBegunAs late bytes (file_at before name) (file_at now name)) → (o : Option Files) → now ≡ o → IsBegunAt late bytes before o name
+    at-by : (late : Bool) (bytes name : List ℕ) → (is_some now ≡ true → IsBegunAs late bytes (file_at before name) (file_at now name)) → (o : Option Files)
+        → now ≡ o → IsBegunAt late bytes before o name
     at-by late bytes name goal None is = tt
     at-by late bytes name goal (Some m) is =
         subst (λ (o : Option Files). IsBegunAs late bytes (file_at before name) (file_at o name)) is (goal (ap (λ (o : Option Files). is_some o) is))
 
-    not-named : (q : List ℕ) → ((v i : ℕ) (n : NodeRule) (bytes : List ℕ) → rule_at g.nodes v ≡ Some n → kind_group g stack (past b) v n.kind i ≡ Some bytes → q ≢ group_name prefix n.name i)
+    not-named : (q : List ℕ)
+        → ((v i : ℕ) (n : NodeRule) (bytes : List ℕ) → rule_at g.nodes v ≡ Some n
+        → kind_group g stack (past b) v n.kind i ≡ Some bytes → q ≢ group_name prefix n.name i)
         → (j : ℕ) (x : NodeFile) → slice_get xs j ≡ Some x → (i : ℕ) → 1 ≤ length (group_of x.count i (F x.node)) → q ≢ name_of x i
     not-named q away j x at i some same =
         let f = groups.file g stack sound prefix before b xs false held h finished j x at in
@@ -171,9 +194,12 @@ module _ (g : Graph) (stack : StackValue) (sound : IsGraph g) (prefix : List ℕ
     open-long : (j : ℕ) (x : NodeFile) (at : slice_get xs j ≡ Some x) (i : ℕ) → IsSome (group_file x (F x.node) i) → 1 ≤ length (group_of x.count i (F x.node))
     open-long j x at i named = groups.named-long g stack sound prefix before b xs held h finished j x at i named
 
-    torn-some : (o : Option Stream) → node.current ≡ o → EndTorn o node torn (group_of node.count torn (F node.node)) held now → IsSome (group_file node (F node.node) torn)
+    torn-some : (o : Option Stream) → node.current ≡ o → EndTorn o node torn (group_of node.count torn (F node.node)) held now
+        → IsSome (group_file node (F node.node) torn)
     torn-some None is t = absurd t
-    torn-some (Some f) is t = ap (λ (w : Option (List ℕ)). is_some w) (ap (λ w. file_of w node.shape (group_of node.count torn (F node.node))) (open-here node (length (F node.node)) torn refl ∙ is))
+    torn-some (Some f) is t =
+        ap (λ (w : Option (List ℕ)). is_some w)
+        (ap (λ w. file_of w node.shape (group_of node.count torn (F node.node))) (open-here node (length (F node.node)) torn refl ∙ is))
 
     pub torn-end : IsTornHistory g stack prefix (past b) before now
     torn-end = record {
@@ -181,7 +207,8 @@ module _ (g : Graph) (stack : StackValue) (sound : IsGraph g) (prefix : List ℕ
           let f = groups.files-of-rule g stack sound prefix before b xs false held h v n r rule kind in
           let x = f.files in
           let file_ : whole_file x.shape (group_of x.count i (F x.node)) ≡ Some bytes =
-          sym (groups.group-is g stack sound prefix before b xs false held h f.at x f.listed n i f.rule) ∙ ap (λ (w : ℕ). kind_group g stack (past b) w n.kind i) f.node ∙ is in
+          sym (groups.group-is g stack sound prefix before b xs false held h f.at x f.listed n i f.rule)
+          ∙ ap (λ (w : ℕ). kind_group g stack (past b) w n.kind i) f.node ∙ is in
           let final = whole-bytes x.shape (group_of x.count i (F x.node)) bytes file_ in
           at-by (is_stream r.mode) bytes (group_name prefix n.name i) (λ told.
           subst (λ (name : List ℕ). IsBegunAs (is_stream r.mode) bytes (file_at before name) (file_at now name)) (f.named i)
@@ -198,7 +225,8 @@ module _ (g : Graph) (stack : StackValue) (sound : IsGraph g) (prefix : List ℕ
       front = past b;
       log = refl;
       written = F;
-      given = λ v. ap (λ (ns : List FrameName). contents g.nodes stack.arrays ns) (sym (given-mine s v b (and_parts (is_legal s (past b)) _ h.legal).0 h.drained));
+      given =
+          λ v. ap (λ (ns : List FrameName). contents g.nodes stack.arrays ns) (sym (given-mine s v b (and_parts (is_legal s (past b)) _ h.legal).0 h.drained));
       first = λ v. ([], sym (groups.written-is g stack sound prefix before b xs false held h v) ∙ sym (append-nil (F v)));
       node = node.node;
       group = torn;
@@ -217,11 +245,14 @@ module _ (g : Graph) (stack : StackValue) (sound : IsGraph g) (prefix : List ℕ
           let f = groups.files-of-rule g stack sound prefix before b xs false held h v n r rule kind in
           let x = f.files in
           let off_ : (x.node ≢ node.node) ⊎ (i ≢ torn) = elim off [ inl ne ↦ inl (λ eq. ne (sym f.node ∙ eq)) | inr ne ↦ inr ne ] in
-          let same : group_of x.count i (F x.node) ≡ group_of r.count i (F v) = ap (λ (c : ℕ). group_of c i (F x.node)) f.count ∙ ap (λ (w : ℕ). group_of r.count i (F w)) f.node in
-          let all : group_of x.count i (F x.node) ≡ group_of r.count i (contents g.nodes stack.arrays (standing_saves v (past b))) = same ∙ ap (group_of r.count i) (groups.written-is g stack sound prefix before b xs false held h v) in
+          let same : group_of x.count i (F x.node) ≡ group_of r.count i (F v) =
+          ap (λ (c : ℕ). group_of c i (F x.node)) f.count ∙ ap (λ (w : ℕ). group_of r.count i (F w)) f.node in
+          let all : group_of x.count i (F x.node) ≡ group_of r.count i (contents g.nodes stack.arrays (standing_saves v (past b))) =
+          same ∙ ap (group_of r.count i) (groups.written-is g stack sound prefix before b xs false held h v) in
           let is = begun-has f.at x f.listed i off_ (subst (λ (zs : List Array). 1 ≤ length zs) (sym same) some) in (
             is.0,
-            subst (λ (late : Bool). StandsAsCount late (group_of r.count i (contents g.nodes stack.arrays (standing_saves v (past b)))) (group_of r.count i (F v)) is.0) f.late
+            subst (λ (late : Bool). StandsAsCount late (group_of r.count i (contents g.nodes stack.arrays (standing_saves v (past b))))
+            (group_of r.count i (F v)) is.0) f.late
                 (subst (λ (zs : List Array). StandsAsCount x.late zs (group_of r.count i (F v)) is.0) all
                 (subst (λ (zs : List Array). StandsAsCount x.late (group_of x.count i (F x.node)) zs is.0) same is.1)),
             subst (λ (name : List ℕ). HasFile now name (begun_file (file_shape g stack v) is.0 (group_of r.count i (F v)))) (f.named i)
@@ -231,25 +262,36 @@ module _ (g : Graph) (stack : StackValue) (sound : IsGraph g) (prefix : List ℕ
       untouched = λ v i n r bytes rule kind is off none_.
           let f = groups.files-of-rule g stack sound prefix before b xs false held h v n r rule kind in
           let x = f.files in
-          let same : group_of x.count i (F x.node) ≡ group_of r.count i (F v) = ap (λ (c : ℕ). group_of c i (F x.node)) f.count ∙ ap (λ (w : ℕ). group_of r.count i (F w)) f.node in
+          let same : group_of x.count i (F x.node) ≡ group_of r.count i (F v) =
+          ap (λ (c : ℕ). group_of c i (F x.node)) f.count ∙ ap (λ (w : ℕ). group_of r.count i (F w)) f.node in
           let file_ : whole_file x.shape (group_of x.count i (F x.node)) ≡ Some bytes =
-          sym (groups.group-is g stack sound prefix before b xs false held h f.at x f.listed n i f.rule) ∙ ap (λ (w : ℕ). kind_group g stack (past b) w n.kind i) f.node ∙ is in
+          sym (groups.group-is g stack sound prefix before b xs false held h f.at x f.listed n i f.rule)
+          ∙ ap (λ (w : ℕ). kind_group g stack (past b) w n.kind i) f.node ∙ is in
           absurd (omega (arith, (whole-bytes x.shape (group_of x.count i (F x.node)) bytes file_).1, ap (λ (zs : List Array). length zs) (same ∙ none_)));
       torn = λ n r rule kind.
           let f = groups.files-of-rule g stack sound prefix before b xs false held h node.node n r rule kind in
           let x = f.files in
           let here : x ≡ node = torn-here f.at x f.listed (one-index g stack sound prefix xs h.saving.nodes f.at e.at x node f.listed e.listed f.node) in
           let final = ap (group_of r.count torn) (groups.written-is g stack sound prefix before b xs false held h node.node) in
-          torn-at (is_stream r.mode) (file_shape g stack node.node) (group_of r.count torn (contents g.nodes stack.arrays (standing_saves node.node (past b)))) (group_of r.count torn (F node.node))
+          torn-at (is_stream r.mode) (file_shape g stack node.node) (group_of r.count torn (contents g.nodes stack.arrays (standing_saves node.node (past b))))
+          (group_of r.count torn (F node.node))
           (group_name prefix n.name torn) (λ told.
-          let Q : NodeFile → Type 0 = λ z. IsTornName z.late z.shape (group_of z.count torn (F z.node)) (group_of z.count torn (F z.node)) (file_at before (name_of z torn)) (file_at now (name_of z torn)) in
+          let Q : NodeFile → Type 0 =
+          λ z. IsTornName z.late z.shape (group_of z.count torn (F z.node)) (group_of z.count torn (F z.node))
+          (file_at before (name_of z torn)) (file_at now (name_of z torn)) in
           let q = subst Q (sym here) (torn-name told node.current refl e.stops.1) in
-          subst (λ (name : List ℕ). IsTornName (is_stream r.mode) (file_shape g stack node.node) (group_of r.count torn (contents g.nodes stack.arrays (standing_saves node.node (past b)))) (group_of r.count torn (F node.node)) (file_at before name) (file_at now name)) (f.named torn)
-          (subst (λ (zs : List Array). IsTornName (is_stream r.mode) (file_shape g stack node.node) zs (group_of r.count torn (F node.node)) (file_at before (name_of x torn)) (file_at now (name_of x torn))) final
-          (subst (λ (w : ℕ). IsTornName (is_stream r.mode) (file_shape g stack node.node) (group_of r.count torn (F w)) (group_of r.count torn (F w)) (file_at before (name_of x torn)) (file_at now (name_of x torn))) f.node
-          (subst (λ (c : ℕ). IsTornName (is_stream r.mode) (file_shape g stack node.node) (group_of c torn (F x.node)) (group_of c torn (F x.node)) (file_at before (name_of x torn)) (file_at now (name_of x torn))) f.count
-          (subst (λ (sh : FileShape). IsTornName (is_stream r.mode) sh (group_of x.count torn (F x.node)) (group_of x.count torn (F x.node)) (file_at before (name_of x torn)) (file_at now (name_of x torn))) f.shape
-          (subst (λ (late : Bool). IsTornName late x.shape (group_of x.count torn (F x.node)) (group_of x.count torn (F x.node)) (file_at before (name_of x torn)) (file_at now (name_of x torn))) f.late q)))))) now refl;
+          subst (λ (name : List ℕ). IsTornName (is_stream r.mode) (file_shape g stack node.node) (group_of r.count torn (contents g.nodes stack.arrays
+          (standing_saves node.node (past b)))) (group_of r.count torn (F node.node)) (file_at before name) (file_at now name)) (f.named torn)
+          (subst (λ (zs : List Array). IsTornName (is_stream r.mode) (file_shape g stack node.node) zs (group_of r.count torn (F node.node))
+          (file_at before (name_of x torn)) (file_at now (name_of x torn))) final
+          (subst (λ (w : ℕ). IsTornName (is_stream r.mode) (file_shape g stack node.node) (group_of r.count torn (F w)) (group_of r.count torn (F w))
+          (file_at before (name_of x torn)) (file_at now (name_of x torn))) f.node
+          (subst (λ (c : ℕ). IsTornName (is_stream r.mode) (file_shape g stack node.node) (group_of c torn (F x.node)) (group_of c torn (F x.node))
+          (file_at before (name_of x torn)) (file_at now (name_of x torn))) f.count
+          (subst (λ (sh : FileShape). IsTornName (is_stream r.mode) sh (group_of x.count torn (F x.node)) (group_of x.count torn (F x.node))
+          (file_at before (name_of x torn)) (file_at now (name_of x torn))) f.shape
+          (subst (λ (late : Bool). IsTornName late x.shape (group_of x.count torn (F x.node)) (group_of x.count torn (F x.node))
+          (file_at before (name_of x torn)) (file_at now (name_of x torn))) f.late q)))))) now refl;
     }
       where
         ended-back : (n : ℕ) (zs : List NodeFile) (k : ℕ) (y : NodeFile) → slice_get (ended_to n zs) k ≡ Some y → slice_get (map closed zs) k ≡ Some (closed y)
@@ -267,29 +309,36 @@ module _ (g : Graph) (stack : StackValue) (sound : IsGraph g) (prefix : List ℕ
         ended-back (suc n) (z ∷ zs) zero y at_y = ap (λ (q : NodeFile). Some (closed q)) (same_Some (closed z) y at_y)
         ended-back (suc n) (z ∷ zs) (suc k) y at_y = ended-back n zs k y at_y
 
-        ended-long : (k : ℕ) (x y : NodeFile) (l : ℕ) → slice_get xs k ≡ Some x → closed x ≡ closed y → slice_get (ended_to (e.at + 1) xs) k ≡ Some y → IsSome (group_file y (F y.node) l) → 1 ≤ length (group_of x.count l (F x.node))
+        ended-long : (k : ℕ) (x y : NodeFile) (l : ℕ) → slice_get xs k ≡ Some x → closed x ≡ closed y → slice_get (ended_to (e.at + 1) xs) k ≡ Some y
+            → IsSome (group_file y (F y.node) l) → 1 ≤ length (group_of x.count l (F x.node))
         ended-long k x y l at same at_y named =
             elim (ended-at (e.at + 1) xs k x at) [
               | inl ended ↦
                   let is : closed x ≡ y = same_Some (closed x) y (sym ended ∙ at_y) in
                   whole-long x.shape (group_of x.count l (F x.node))
-                  (subst (λ (o : Option (List ℕ)). IsSome o) (closed-file x (F x.node) l) (subst (λ (z : NodeFile). IsSome (group_file z (F z.node) l)) (sym is) named))
+                  (subst (λ (o : Option (List ℕ)). IsSome o) (closed-file x (F x.node) l)
+                  (subst (λ (z : NodeFile). IsSome (group_file z (F z.node) l)) (sym is) named))
               | inr open_ ↦
                   let is : x ≡ y = same_Some x y (sym open_.1 ∙ at_y) in
                   open-long k x at l (subst (λ (z : NodeFile). IsSome (group_file z (F z.node) l)) (sym is) named)
             ]
 
-        whole-has : (j : ℕ) (x : NodeFile) → slice_get xs j ≡ Some x → (i : ℕ) → (x.node ≢ node.node) ⊎ (i ≢ torn) → length (group_of x.count i (F x.node)) ≡ x.count → HasFile now (name_of x i) (layout x.shape (group_of x.count i (F x.node)))
+        whole-has : (j : ℕ) (x : NodeFile) → slice_get xs j ≡ Some x → (i : ℕ) → (x.node ≢ node.node) ⊎ (i ≢ torn)
+            → length (group_of x.count i (F x.node)) ≡ x.count → HasFile now (name_of x i) (layout x.shape (group_of x.count i (F x.node)))
         whole-has j x at i off full =
             let some : 1 ≤ length (group_of x.count i (F x.node)) = omega (arith, full, some-at j x at) in
             elim (ended-at (e.at + 1) xs j x at) [
-              | inl ended ↦ subst (HasBytes now (name_of x i)) (closed-file x (F x.node) i ∙ whole-is x.shape (group_of x.count i (F x.node)) some) (e.stops.0.each j (closed x) i ended off)
+              | inl ended ↦
+                  subst (HasBytes now (name_of x i)) (closed-file x (F x.node) i ∙ whole-is x.shape (group_of x.count i (F x.node)) some)
+                  (e.stops.0.each j (closed x) i ended off)
               | inr open_ ↦
-                  subst (HasBytes now (name_of x i)) (full-file x (F x.node) i (some-at j x at) full (group-has x (F x.node) (some-at j x at) (h.saving.saved.0.each j x at).begun i)) (e.stops.0.each j x i open_.1 off)
+                  subst (HasBytes now (name_of x i)) (full-file x (F x.node) i (some-at j x at) full
+                  (group-has x (F x.node) (some-at j x at) (h.saving.saved.0.each j x at).begun i)) (e.stops.0.each j x i open_.1 off)
             ]
 
         open-count : (j : ℕ) (x : NodeFile) (at : slice_get xs j ≡ Some x) (i : ℕ) → 1 ≤ length (group_of x.count i (F x.node)) → GroupHas x (F x.node) i
-            → (numrecs : Option ℕ) × StandsAsCount x.late (group_of x.count i (F x.node)) (group_of x.count i (F x.node)) numrecs × (group_file x (F x.node) i ≡ Some (begun_file x.shape numrecs (group_of x.count i (F x.node))))
+            → (numrecs : Option ℕ) × StandsAsCount x.late (group_of x.count i (F x.node)) (group_of x.count i (F x.node)) numrecs
+            × (group_file x (F x.node) i ≡ Some (begun_file x.shape numrecs (group_of x.count i (F x.node))))
         open-count j x at i some (Nothing none_) = absurd (file-some (open_at x (length (F x.node)) i) x.shape (group_of x.count i (F x.node)) some none_)
         open-count j x at i some (Whole full is) = (Some (length (group_of x.count i (F x.node))), inr (refl, refl), is)
         open-count j x at i some (Opened f open_ here is) =
@@ -297,13 +346,15 @@ module _ (g : Graph) (stack : StackValue) (sound : IsGraph g) (prefix : List ℕ
             (f.numrecs, inl (count-by (past b) x i (F x.node) x.late f.numrecs (all-written j x at) first), is)
 
         begun-has : (j : ℕ) (x : NodeFile) → slice_get xs j ≡ Some x → (i : ℕ) → (x.node ≢ node.node) ⊎ (i ≢ torn) → 1 ≤ length (group_of x.count i (F x.node))
-            → (numrecs : Option ℕ) × StandsAsCount x.late (group_of x.count i (F x.node)) (group_of x.count i (F x.node)) numrecs × HasFile now (name_of x i) (begun_file x.shape numrecs (group_of x.count i (F x.node)))
+            → (numrecs : Option ℕ) × StandsAsCount x.late (group_of x.count i (F x.node)) (group_of x.count i (F x.node)) numrecs
+            × HasFile now (name_of x i) (begun_file x.shape numrecs (group_of x.count i (F x.node)))
         begun-has j x at i off some =
             elim (ended-at (e.at + 1) xs j x at) [
               | inl ended ↦ (
                 Some (length (group_of x.count i (F x.node))),
                 inr (refl, refl),
-                subst (HasBytes now (name_of x i)) (closed-file x (F x.node) i ∙ whole-is x.shape (group_of x.count i (F x.node)) some) (e.stops.0.each j (closed x) i ended off),
+                subst (HasBytes now (name_of x i)) (closed-file x (F x.node) i ∙ whole-is x.shape (group_of x.count i (F x.node)) some)
+                (e.stops.0.each j (closed x) i ended off),
               )
               | inr open_ ↦
                   let is = open-count j x at i some (group-has x (F x.node) (some-at j x at) (h.saving.saved.0.each j x at).begun i) in
@@ -311,11 +362,13 @@ module _ (g : Graph) (stack : StackValue) (sound : IsGraph g) (prefix : List ℕ
             ]
 
         torn-name : is_some now ≡ true → (o : Option Stream) → node.current ≡ o → EndTorn o node torn (group_of node.count torn (F node.node)) held now
-            → IsTornName node.late node.shape (group_of node.count torn (F node.node)) (group_of node.count torn (F node.node)) (file_at before (name_of node torn)) (file_at now (name_of node torn))
+            → IsTornName node.late node.shape (group_of node.count torn (F node.node)) (group_of node.count torn (F node.node))
+            (file_at before (name_of node torn)) (file_at now (name_of node torn))
         torn-name told None is t = absurd t
         torn-name told (Some f) is t =
             let zs = group_of node.count torn (F node.node) in
-            let made : group_file node (F node.node) torn ≡ Some (begun_file node.shape f.numrecs zs) = ap (λ w. file_of w node.shape zs) (open-here node (length (F node.node)) torn refl ∙ is) in
+            let made : group_file node (F node.node) torn ≡ Some (begun_file node.shape f.numrecs zs) =
+            ap (λ w. file_of w node.shape zs) (open-here node (length (F node.node)) torn refl ∙ is) in
             let has = subst (HasBytes held (name_of node torn)) made ((h.saving.saved.0.each e.at node e.listed).each torn) in
             record {
               piece = None;
@@ -325,10 +378,15 @@ module _ (g : Graph) (stack : StackValue) (sound : IsGraph g) (prefix : List ℕ
               count = count-by (past b) node torn (F node.node) node.late f.numrecs (all-written e.at node e.listed) (h.saving.saved.1 e.at node f e.listed is);
               was = file_at held (name_of node torn);
               stood = inr (told-file held (name_of node torn) (begun_file node.shape f.numrecs zs) (told-then told) has);
-              torn = subst (λ (ws : List Array). IsTorn (file_at held (name_of node torn)) node.shape f.numrecs ws (file_at now (name_of node torn))) (sym (append-nil zs)) t;
+              torn =
+                  subst (λ (ws : List Array). IsTorn (file_at held (name_of node torn)) node.shape f.numrecs ws (file_at now (name_of node torn)))
+                  (sym (append-nil zs)) t;
             }
 
-        torn-at : (late : Bool) (shape : FileShape) (final written : List Array) (name : List ℕ) → (is_some now ≡ true → IsTornName late shape final written (file_at before name) (file_at now name)) → (o : Option Files) → now ≡ o → IsTornAt late shape final written before o name
+        torn-at : (late : Bool) (shape : FileShape) (final written : List Array) (name : List ℕ)
+            → (is_some now ≡ true → IsTornName late shape final written (file_at before name) (file_at now name)) → (o : Option Files) → now ≡ o
+            → IsTornAt late shape final written before o name
         torn-at late shape final written name goal None is = tt
         torn-at late shape final written name goal (Some m) is =
-            subst (λ (o : Option Files). IsTornName late shape final written (file_at before name) (file_at o name)) is (goal (ap (λ (o : Option Files). is_some o) is))
+            subst (λ (o : Option Files). IsTornName late shape final written (file_at before name) (file_at o name)) is
+            (goal (ap (λ (o : Option Files). is_some o) is))

@@ -62,10 +62,12 @@ comes-more v w a xs ys more is =
 
 given-more : (v : ℕ) (later Q : Past) → (more : List FrameName) × (given_back v (later ++ Q) ≡ given_back v Q ++ more)
 given-more v [] Q = ([], sym (append-nil (given_back v Q)))
-given-more v (Saved r w m k ∷ later) Q = let rest = given-more v later Q in comes-more v w (frame m k) (given_back v (later ++ Q)) (given_back v Q) rest.0 rest.1
+given-more v (Saved r w m k ∷ later) Q =
+    let rest = given-more v later Q in comes-more v w (frame m k) (given_back v (later ++ Q)) (given_back v Q) rest.0 rest.1
 given-more v (e ∷ later) Q = given-more v later Q
 
-contents-append : (g : Graph) (stack : StackValue) (xs ys : List FrameName) → contents g.nodes stack.arrays (xs ++ ys) ≡ contents g.nodes stack.arrays xs ++ contents g.nodes stack.arrays ys
+contents-append : (g : Graph) (stack : StackValue) (xs ys : List FrameName)
+    → contents g.nodes stack.arrays (xs ++ ys) ≡ contents g.nodes stack.arrays xs ++ contents g.nodes stack.arrays ys
 contents-append g stack xs ys = flat_map-append (λ (n : FrameName). listed (content g.nodes stack.arrays n)) xs ys
 
 -- BYTES
@@ -91,7 +93,8 @@ none-some None h s = false≢true s
 none-some (Some x) h s = false≢true (sym (ap (λ (w : Option (List ℕ)). is_some w) h))
 
 -- how many arrays a group has, by its header
-pub count-by : (P : Past) (x : NodeFile) (i : ℕ) (arrays : List Array) (late : Bool) (numrecs : Option ℕ) → length (puts x.node P) ≡ length arrays → IsFirstCount P x.node x.count i late numrecs → IsCountOf late (length (group_of x.count i arrays)) numrecs
+pub count-by : (P : Past) (x : NodeFile) (i : ℕ) (arrays : List Array) (late : Bool) (numrecs : Option ℕ) → length (puts x.node P) ≡ length arrays
+    → IsFirstCount P x.node x.count i late numrecs → IsCountOf late (length (group_of x.count i arrays)) numrecs
 count-by P x i arrays true numrecs all first = first
 count-by P x i arrays false numrecs all z =
     let taken = length-take x.count (drop (i * x.count) arrays) in
@@ -106,8 +109,10 @@ open-count y n None f is begun = let none_ : None ≡ Some f = is in absurd (cc)
 open-count y n (Some e) f is begun = ap (λ (d : Stream). d.count) (same_Some f e (sym is) ∙ begun)
 
 -- a full group is a whole file
-pub full-file : (x : NodeFile) (arrays : List Array) (i : ℕ) → 1 ≤ x.count → length (group_of x.count i arrays) ≡ x.count → GroupHas x arrays i → group_file x arrays i ≡ Some (layout x.shape (group_of x.count i arrays))
-full-file x arrays i some full (Nothing none_) = absurd (file-some (open_at x (length arrays) i) x.shape (group_of x.count i arrays) (omega (arith, full, some)) none_)
+pub full-file : (x : NodeFile) (arrays : List Array) (i : ℕ) → 1 ≤ x.count → length (group_of x.count i arrays) ≡ x.count → GroupHas x arrays i
+    → group_file x arrays i ≡ Some (layout x.shape (group_of x.count i arrays))
+full-file x arrays i some full (Nothing none_) =
+    absurd (file-some (open_at x (length arrays) i) x.shape (group_of x.count i arrays) (omega (arith, full, some)) none_)
 full-file x arrays i some full (Whole also is) = is
 full-file x arrays i some full (Opened f open_ here is) =
     let long = length-group x.count arrays (length arrays / x.count) (length arrays % x.count) (next-place x.count arrays some) in
@@ -120,14 +125,16 @@ module _ (g : Graph) (stack : StackValue) (sound : IsGraph g) (prefix : List ℕ
   in-graph : (j : ℕ) (x : NodeFile) → slice_get xs j ≡ Some x → slice_get (file_nodes g stack prefix) j ≡ Some (closed x)
   in-graph j x at = ap (λ (ys : List NodeFile). slice_get ys j) (sym nodes) ∙ slice_get-map closed xs j ∙ ap (option_map closed) at
 
-  apart-names : (j k : ℕ) (x y : NodeFile) → slice_get xs j ≡ Some x → slice_get xs k ≡ Some y → j ≢ k → (x.node ≢ y.node) × ((i l : ℕ) → i < 2 ^ 64 → l < 2 ^ 64 → name_of x i ≢ name_of y l)
+  apart-names : (j k : ℕ) (x y : NodeFile) → slice_get xs j ≡ Some x → slice_get xs k ≡ Some y → j ≢ k
+      → (x.node ≢ y.node) × ((i l : ℕ) → i < 2 ^ 64 → l < 2 ^ 64 → name_of x i ≢ name_of y l)
   apart-names j k x y hx hy ne = let r = file_nodes-apart g stack prefix sound j k (closed x) (closed y) (in-graph j x hx) (in-graph k y hy) ne in (r.0, r.1)
 
   pub one-index : (j k : ℕ) (x y : NodeFile) → slice_get xs j ≡ Some x → slice_get xs k ≡ Some y → x.node ≡ y.node → j ≡ k
   one-index j k x y hx hy same = elim (cases_eq j k) [ inl e ↦ e | inr ne ↦ absurd ((apart-names j k x y hx hy ne).0 same) ]
 
   -- a name that has nothing is none of the others'
-  none-elsewhere : (W : ℕ → List Array) → ((k : ℕ) (x : NodeFile) → slice_get xs k ≡ Some x → length (W x.node) < 2 ^ 64) → (j : ℕ) (x : NodeFile) → slice_get xs j ≡ Some x → (i : ℕ) → i < 2 ^ 64
+  none-elsewhere : (W : ℕ → List Array) → ((k : ℕ) (x : NodeFile) → slice_get xs k ≡ Some x → length (W x.node) < 2 ^ 64) → (j : ℕ) (x : NodeFile)
+      → slice_get xs j ≡ Some x → (i : ℕ) → i < 2 ^ 64
       → group_file x (W x.node) i ≡ None → IsElsewhere xs W (name_of x i)
   none-elsewhere W few j x at i small none_ k y l at_y named same =
       elim (cases_lt l (2 ^ 64)) [
@@ -137,13 +144,15 @@ module _ (g : Graph) (stack : StackValue) (sound : IsGraph g) (prefix : List ℕ
           | inl here ↦
               let one : y ≡ x = same_Some y x (sym at_y ∙ ap (λ (w : ℕ). slice_get xs w) here ∙ at) in
               let number : i ≡ l = groups-differ x i l small low (same ∙ ap (λ (z : NodeFile). name_of z l) one) in
-              none-some (group_file x (W x.node) i) none_ (subst (λ (w : ℕ). IsSome (group_file x (W x.node) w)) (sym number) (subst (λ (z : NodeFile). IsSome (group_file z (W z.node) l)) one named))
+              none-some (group_file x (W x.node) i) none_
+              (subst (λ (w : ℕ). IsSome (group_file x (W x.node) w)) (sym number) (subst (λ (z : NodeFile). IsSome (group_file z (W z.node) l)) one named))
         ]
       ]
 
 -- A FAULT ON A PIECE
 
-module _ (g : Graph) (stack : StackValue) (sound : IsGraph g) (prefix : List ℕ) (before : Option Files) (b : BoardState) (xs : List NodeFile) (held : Option Files)
+module _ (g : Graph) (stack : StackValue) (sound : IsGraph g) (prefix : List ℕ) (before : Option Files)
+    (b : BoardState) (xs : List NodeFile) (held : Option Files)
     (h : IsSavingAlone g stack prefix before b xs true held) (finished : is_finished (run_setting g stack) (past b) ≡ true) where
   abbrev s : Setting
   s = run_setting g stack
@@ -175,18 +184,22 @@ module _ (g : Graph) (stack : StackValue) (sound : IsGraph g) (prefix : List ℕ
   -- the piece that the shelf failed on comes next at its node
   back-here : back t.node.node ≡ W t.node.node ++ t.array ∷ []
   back-here =
-      ap (λ (w : Bool). contents g.nodes stack.arrays (if w then given_back t.node.node t.front ++ t.name ∷ [] else given_back t.node.node t.front)) (eq-eqb t.node.node t.node.node refl)
+      ap (λ (w : Bool). contents g.nodes stack.arrays (if w then given_back t.node.node t.front ++ t.name ∷ [] else given_back t.node.node t.front))
+      (eq-eqb t.node.node t.node.node refl)
       ∙ contents-more g stack (given_back t.node.node t.front) t.name t.array t.holds
 
   back-other : (v : ℕ) → v ≢ t.node.node → back v ≡ W v
   back-other v apart =
-      ap (λ (w : Bool). contents g.nodes stack.arrays (if w then given_back v t.front ++ t.name ∷ [] else given_back v t.front)) (ne_eqb t.node.node v (λ e. apart (sym e)))
+      ap (λ (w : Bool). contents g.nodes stack.arrays (if w then given_back v t.front ++ t.name ∷ [] else given_back v t.front))
+      (ne_eqb t.node.node v (λ e. apart (sym e)))
 
   fronts : (v : ℕ) → (rest : List Array) × (F v ≡ W v ++ rest)
   fronts v =
       let r = back-then v in
       elim (cases_eq v t.node.node) [
-        | inl here ↦ (t.array ∷ [] ++ r.0, r.1 ∙ ap (λ zs. zs ++ r.0) (ap back here ∙ back-here ∙ ap (λ (w : ℕ). W w ++ t.array ∷ []) (sym here)) ∙ append_assoc (W v) (t.array ∷ []) r.0)
+        | inl here ↦
+            (t.array ∷ [] ++ r.0,
+            r.1 ∙ ap (λ zs. zs ++ r.0) (ap back here ∙ back-here ∙ ap (λ (w : ℕ). W w ++ t.array ∷ []) (sym here)) ∙ append_assoc (W v) (t.array ∷ []) r.0)
         | inr apart ↦ (r.0, r.1 ∙ ap (λ zs. zs ++ r.0) (back-other v apart))
       ]
 
@@ -201,7 +214,9 @@ module _ (g : Graph) (stack : StackValue) (sound : IsGraph g) (prefix : List ℕ
 
   before-at : (j : ℕ) (x : NodeFile) → slice_get xs j ≡ Some x → Before j x
   before-at j x at =
-      let f = groups.of-open g stack prefix t.files j (closed x) (ap (λ (ys : List NodeFile). slice_get ys j) (sym t.nodes) ∙ slice_get-map closed xs j ∙ ap (option_map closed) at) in
+      let f =
+      groups.of-open g stack prefix t.files j (closed x)
+      (ap (λ (ys : List NodeFile). slice_get ys j) (sym t.nodes) ∙ slice_get-map closed xs j ∙ ap (option_map closed) at) in
       record { files = f.0; listed = f.1; same = f.2 }
 
   few : (k : ℕ) (x : NodeFile) → slice_get xs k ≡ Some x → length (W x.node) < 2 ^ 64
@@ -218,7 +233,9 @@ module _ (g : Graph) (stack : StackValue) (sound : IsGraph g) (prefix : List ℕ
 
   now-at : Now
   now-at =
-      let f = groups.of-open g stack prefix xs t.at (closed t.node) (ap (λ (ys : List NodeFile). slice_get ys t.at) t.nodes ∙ slice_get-map closed t.files t.at ∙ ap (option_map closed) t.listed) in
+      let f =
+      groups.of-open g stack prefix xs t.at (closed t.node)
+      (ap (λ (ys : List NodeFile). slice_get ys t.at) t.nodes ∙ slice_get-map closed t.files t.at ∙ ap (option_map closed) t.listed) in
       record { files = f.0; listed = f.1; same = f.2 }
 
   some-at : (j : ℕ) (x : NodeFile) → slice_get xs j ≡ Some x → 1 ≤ x.count
@@ -247,7 +264,8 @@ module _ (g : Graph) (stack : StackValue) (sound : IsGraph g) (prefix : List ℕ
 
   off-node : (j : ℕ) (x : NodeFile) → slice_get xs j ≡ Some x → (i : ℕ) → (j ≢ t.at) ⊎ (i ≢ t.group) → (x.node ≢ t.node.node) ⊎ (i ≢ t.group)
   off-node j x at i (inr ne) = inr ne
-  off-node j x at i (inl other) = inl (λ e. other (one-index g stack sound prefix xs nodes j t.at x now-at.files at now-at.listed (e ∙ sym (ap (λ (z : NodeFile). z.node) now-at.same))))
+  off-node j x at i (inl other) =
+      inl (λ e. other (one-index g stack sound prefix xs nodes j t.at x now-at.files at now-at.listed (e ∙ sym (ap (λ (z : NodeFile). z.node) now-at.same))))
 
   torn-small : t.group < 2 ^ 64
   torn-small =
@@ -258,7 +276,9 @@ module _ (g : Graph) (stack : StackValue) (sound : IsGraph g) (prefix : List ℕ
   off-name : (j : ℕ) (x : NodeFile) → slice_get xs j ≡ Some x → (i : ℕ) → i < 2 ^ 64 → (j ≢ t.at) ⊎ (i ≢ t.group) → name_of x i ≢ name_of t.node t.group
   off-name j x at i small off e =
       elim (cases_eq j t.at) [
-        | inr ne ↦ (apart-names g stack sound prefix xs nodes j t.at x now-at.files at now-at.listed ne).1 i t.group small torn-small (e ∙ ap (λ (z : NodeFile). name_of z t.group) (sym now-at.same))
+        | inr ne ↦
+            (apart-names g stack sound prefix xs nodes j t.at x now-at.files at now-at.listed ne).1 i t.group small torn-small
+            (e ∙ ap (λ (z : NodeFile). name_of z t.group) (sym now-at.same))
         | inl here ↦
             let apart : i ≢ t.group = elim off [ inl other ↦ absurd (other here) | inr ne ↦ ne ] in
             apart (groups-differ x i t.group small torn-small (e ∙ ap (λ (z : NodeFile). name_of z t.group) (sym (torn-here j x at here))))
@@ -271,21 +291,27 @@ module _ (g : Graph) (stack : StackValue) (sound : IsGraph g) (prefix : List ℕ
     abbrev Goal : NodeFile → ℕ → Type 0
     Goal x i = IsBegunAs x.late (layout x.shape (group_of x.count i (F x.node))) (file_at before (name_of x i)) (file_at held (name_of x i))
 
-    open-goal : (x : NodeFile) (i : ℕ) (f : Stream) (now : Option (List ℕ)) → length (puts x.node (past b)) ≡ length (F x.node) → IsFirstCount (past b) x.node x.count i x.late f.numrecs
-        → now ≡ Some (begun_file x.shape f.numrecs (group_of x.count i (W x.node))) → IsBegunAs x.late (layout x.shape (group_of x.count i (F x.node))) (file_at before (name_of x i)) now
+    open-goal : (x : NodeFile) (i : ℕ) (f : Stream) (now : Option (List ℕ)) → length (puts x.node (past b)) ≡ length (F x.node)
+        → IsFirstCount (past b) x.node x.count i x.late f.numrecs
+        → now ≡ Some (begun_file x.shape f.numrecs (group_of x.count i (W x.node)))
+        → IsBegunAs x.late (layout x.shape (group_of x.count i (F x.node))) (file_at before (name_of x i)) now
     open-goal x i f now all first made =
         let r = fronts x.node in
         let front = group-front x.count i (W x.node) r.0 in
-        begun-front x.shape (group_of x.count i (W x.node)) front.0 (group_of x.count i (F x.node)) (ap (group_of x.count i) r.1 ∙ front.1) (file_at before (name_of x i)) x.late f.numrecs
-        (begun_file x.shape f.numrecs (group_of x.count i (W x.node))) [] now (count-by (past b) x i (F x.node) x.late f.numrecs all first) (sym (append-nil (begun_file x.shape f.numrecs (group_of x.count i (W x.node))))) made
+        begun-front x.shape (group_of x.count i (W x.node)) front.0 (group_of x.count i (F x.node))
+        (ap (group_of x.count i) r.1 ∙ front.1) (file_at before (name_of x i)) x.late f.numrecs
+        (begun_file x.shape f.numrecs (group_of x.count i (W x.node))) [] now (count-by (past b) x i (F x.node) x.late f.numrecs all first)
+        (sym (append-nil (begun_file x.shape f.numrecs (group_of x.count i (W x.node))))) made
 
-    off-goal : (j : ℕ) (x : NodeFile) (at : slice_get xs j ≡ Some x) (i : ℕ) → i < 2 ^ 64 → (off : (j ≢ t.at) ⊎ (i ≢ t.group)) → GroupHas x (W x.node) i → Goal x i
+    off-goal : (j : ℕ) (x : NodeFile) (at : slice_get xs j ≡ Some x) (i : ℕ) → i < 2 ^ 64 → (off : (j ≢ t.at) ⊎ (i ≢ t.group))
+        → GroupHas x (W x.node) i → Goal x i
     off-goal j x at i small off (Nothing none_) =
         AsBefore (t.stops.0.others (name_of x i) (off-name j x at i small off) (none-elsewhere g stack sound prefix xs nodes W few j x at i small none_))
     off-goal j x at i small off (Whole full is) =
         let has = subst (HasBytes held (name_of x i)) is (t.stops.0.each j x i at (off-node j x at i off)) in
         let r = fronts x.node in
-        let same : group_of x.count i (F x.node) ≡ group_of x.count i (W x.node) = ap (group_of x.count i) r.1 ∙ group-full x.count i (W x.node) r.0 (some-at j x at) full in
+        let same : group_of x.count i (F x.node) ≡ group_of x.count i (W x.node) =
+        ap (group_of x.count i) r.1 ∙ group-full x.count i (W x.node) r.0 (some-at j x at) full in
         begun-whole x.late (layout x.shape (group_of x.count i (F x.node))) (file_at before (name_of x i)) (file_at held (name_of x i))
         (told-file held (name_of x i) (layout x.shape (group_of x.count i (W x.node))) told has ∙ ap (λ zs. Some (layout x.shape zs)) (sym same))
     off-goal j x at i small off (Opened f open_ here is) =
@@ -295,11 +321,14 @@ module _ (g : Graph) (stack : StackValue) (sound : IsGraph g) (prefix : List ℕ
           | inr apart ↦ (λ e. apart (here ∙ ap (λ (z : NodeFile). length (W z.node) / z.count) (torn-here j x at e) ∙ torn-group))
         ] in
         let first = subst (λ (w : ℕ). IsFirstCount (past b) x.node x.count w x.late f.numrecs) (sym here) (t.begun j x f (others-before j x at ne) open_) in
-        open-goal x i f (file_at held (name_of x i)) (all-written j x at) first (told-file held (name_of x i) (begun_file x.shape f.numrecs (group_of x.count i (W x.node))) told has)
+        open-goal x i f (file_at held (name_of x i)) (all-written j x at) first
+        (told-file held (name_of x i) (begun_file x.shape f.numrecs (group_of x.count i (W x.node))) told has)
 
     -- the torn name
     torn-node : length (puts t.node.node (past b)) ≡ length (F t.node.node)
-    torn-node = let v = ap (λ (z : NodeFile). z.node) now-at.same in subst (λ (w : ℕ). length (puts w (past b)) ≡ length (F w)) v (all-written t.at now-at.files now-at.listed)
+    torn-node =
+        let v = ap (λ (z : NodeFile). z.node) now-at.same in
+        subst (λ (w : ℕ). length (puts w (past b)) ≡ length (F w)) v (all-written t.at now-at.files now-at.listed)
 
     torn-some : 1 ≤ t.node.count
     torn-some = omega (arith, t.place_is.within)
@@ -313,8 +342,10 @@ module _ (g : Graph) (stack : StackValue) (sound : IsGraph g) (prefix : List ℕ
         absurd (omega (arith, full, length-group t.node.count (W t.node.node) t.group t.place t.place_is, t.place_is.within))
     then-goal (Opened f open_ here e) now is =
         let has = subst (HasBytes t.then_held (name_of t.node t.group)) e ((t.written.each t.at t.node t.listed).each t.group) in
-        let first = subst (λ (w : ℕ). IsFirstCount (past b) t.node.node t.node.count w t.node.late f.numrecs) (sym here) (t.begun t.at t.node f t.listed open_) in
-        open-goal t.node t.group f now torn-node first (is ∙ told-file t.then_held (name_of t.node t.group) (begun_file t.node.shape f.numrecs (group_of t.node.count t.group (W t.node.node))) told-then has)
+        let first =
+        subst (λ (w : ℕ). IsFirstCount (past b) t.node.node t.node.count w t.node.late f.numrecs) (sym here) (t.begun t.at t.node f t.listed open_) in
+        open-goal t.node t.group f now torn-node first
+        (is ∙ told-file t.then_held (name_of t.node t.group) (begun_file t.node.shape f.numrecs (group_of t.node.count t.group (W t.node.node))) told-then has)
 
     torn-goal : Goal t.node t.group
     torn-goal =
@@ -324,8 +355,10 @@ module _ (g : Graph) (stack : StackValue) (sound : IsGraph g) (prefix : List ℕ
         let more = group-more t.node.count (W t.node.node) t.array t.group t.place t.place_is in
         begun-torn t.node.shape (group_of t.node.count t.group (W t.node.node) ++ t.array ∷ []) front.0 (group_of t.node.count t.group (F t.node.node))
         (ap (group_of t.node.count t.group) all ∙ front.1 ∙ ap (λ zs. zs ++ front.0) more) (file_at before (name_of t.node t.group)) t.node.late t.numrecs
-        (file_at t.then_held (name_of t.node t.group)) (file_at held (name_of t.node t.group)) (count-by (past b) t.node t.group (F t.node.node) t.node.late t.numrecs torn-node t.first)
-        (then-goal (group-has t.node (W t.node.node) torn-some (t.written.each t.at t.node t.listed).begun t.group) (file_at held (name_of t.node t.group))) t.stops.1
+        (file_at t.then_held (name_of t.node t.group)) (file_at held (name_of t.node t.group))
+        (count-by (past b) t.node t.group (F t.node.node) t.node.late t.numrecs torn-node t.first)
+        (then-goal (group-has t.node (W t.node.node) torn-some (t.written.each t.at t.node t.listed).begun t.group) (file_at held (name_of t.node t.group)))
+        t.stops.1
 
     each-goal : (j : ℕ) (x : NodeFile) → slice_get xs j ≡ Some x → (i : ℕ) → i < 2 ^ 64 → Goal x i
     each-goal j x at i small =
@@ -348,7 +381,8 @@ module _ (g : Graph) (stack : StackValue) (sound : IsGraph g) (prefix : List ℕ
       let front = group-front t.node.count t.group (W t.node.node ++ t.array ∷ []) r.0 in
       let more = group-more t.node.count (W t.node.node) t.array t.group t.place t.place_is in
       let whole = ap length (ap (group_of t.node.count t.group) all ∙ front.1 ∙ ap (λ zs. zs ++ front.0) more) in
-      omega (arith, whole, length-append (group_of t.node.count t.group (W t.node.node) ++ t.array ∷ []) front.0, length-append (group_of t.node.count t.group (W t.node.node)) (t.array ∷ []))
+      omega (arith, whole, length-append (group_of t.node.count t.group (W t.node.node) ++ t.array ∷ []) front.0,
+      length-append (group_of t.node.count t.group (W t.node.node)) (t.array ∷ []))
 
   front-long : (x : NodeFile) (i : ℕ) → 1 ≤ length (group_of x.count i (W x.node)) → 1 ≤ length (group_of x.count i (F x.node))
   front-long x i some =
@@ -356,7 +390,8 @@ module _ (g : Graph) (stack : StackValue) (sound : IsGraph g) (prefix : List ℕ
       let front = group-front x.count i (W x.node) r.0 in
       omega (arith, ap length (ap (group_of x.count i) r.1 ∙ front.1), length-append (group_of x.count i (W x.node)) front.0, some)
 
-  off-long : (j : ℕ) (x : NodeFile) (at : slice_get xs j ≡ Some x) (i : ℕ) → (j ≢ t.at) ⊎ (i ≢ t.group) → IsSome (group_file x (W x.node) i) → GroupHas x (W x.node) i → 1 ≤ length (group_of x.count i (F x.node))
+  off-long : (j : ℕ) (x : NodeFile) (at : slice_get xs j ≡ Some x) (i : ℕ) → (j ≢ t.at) ⊎ (i ≢ t.group) → IsSome (group_file x (W x.node) i)
+      → GroupHas x (W x.node) i → 1 ≤ length (group_of x.count i (F x.node))
   off-long j x at i off named (Nothing none_) = absurd (none-some (group_file x (W x.node) i) none_ named)
   off-long j x at i off named (Whole full is) = front-long x i (omega (arith, full, some-at j x at))
   off-long j x at i off named (Opened f open_ here is) =
@@ -383,7 +418,9 @@ module _ (g : Graph) (stack : StackValue) (sound : IsGraph g) (prefix : List ℕ
       ]
 
   -- a name that is none of the history's is none of these
-  not-named : (q : List ℕ) → ((v i : ℕ) (n : NodeRule) (bytes : List ℕ) → rule_at g.nodes v ≡ Some n → kind_group g stack (past b) v n.kind i ≡ Some bytes → q ≢ group_name prefix n.name i)
+  not-named : (q : List ℕ)
+      → ((v i : ℕ) (n : NodeRule) (bytes : List ℕ) → rule_at g.nodes v ≡ Some n
+      → kind_group g stack (past b) v n.kind i ≡ Some bytes → q ≢ group_name prefix n.name i)
       → (j : ℕ) (x : NodeFile) → slice_get xs j ≡ Some x → (i : ℕ) → 1 ≤ length (group_of x.count i (F x.node)) → q ≢ name_of x i
   not-named q away j x at i some e =
       let f = groups.file g stack sound prefix before b xs true held h finished j x at in
@@ -391,7 +428,8 @@ module _ (g : Graph) (stack : StackValue) (sound : IsGraph g) (prefix : List ℕ
       away x.node i f.rule o.0 f.at (groups.group-is g stack sound prefix before b xs true held h j x at f.rule i f.at ∙ o.1)
       (e ∙ groups.group-named g stack prefix xs nodes j x f.rule at f.at i)
 
-  at-by : (late : Bool) (bytes name : List ℕ) → (is_some held ≡ true → IsBegunAs late bytes (file_at before name) (file_at held name)) → (o : Option Files) → held ≡ o → IsBegunAt late bytes before o name
+  at-by : (late : Bool) (bytes name : List ℕ) → (is_some held ≡ true → IsBegunAs late bytes (file_at before name) (file_at held name)) → (o : Option Files)
+      → held ≡ o → IsBegunAt late bytes before o name
   at-by late bytes name goal None is = tt
   at-by late bytes name goal (Some m) is =
       subst (λ (o : Option Files). IsBegunAs late bytes (file_at before name) (file_at o name)) is (goal (ap (λ (o : Option Files). is_some o) is))
@@ -407,12 +445,15 @@ module _ (g : Graph) (stack : StackValue) (sound : IsGraph g) (prefix : List ℕ
       omega (arith, some, taken, dropped, all-written j x at, put, ids, kept.few, least)
 
   -- the number in the header of a group that has an array
-  begun-count : (j : ℕ) (x : NodeFile) (at : slice_get xs j ≡ Some x) (i : ℕ) → (j ≢ t.at) ⊎ (i ≢ t.group) → 1 ≤ length (group_of x.count i (W x.node)) → GroupHas x (W x.node) i
-      → (numrecs : Option ℕ) × StandsAsCount x.late (group_of x.count i (F x.node)) (group_of x.count i (W x.node)) numrecs × (group_file x (W x.node) i ≡ Some (begun_file x.shape numrecs (group_of x.count i (W x.node))))
+  begun-count : (j : ℕ) (x : NodeFile) (at : slice_get xs j ≡ Some x) (i : ℕ) → (j ≢ t.at) ⊎ (i ≢ t.group)
+      → 1 ≤ length (group_of x.count i (W x.node)) → GroupHas x (W x.node) i
+      → (numrecs : Option ℕ) × StandsAsCount x.late (group_of x.count i (F x.node)) (group_of x.count i (W x.node)) numrecs
+      × (group_file x (W x.node) i ≡ Some (begun_file x.shape numrecs (group_of x.count i (W x.node))))
   begun-count j x at i off some (Nothing none_) = absurd (file-some (open_at x (length (W x.node)) i) x.shape (group_of x.count i (W x.node)) some none_)
   begun-count j x at i off some (Whole full is) =
       let r = fronts x.node in
-      let same : group_of x.count i (F x.node) ≡ group_of x.count i (W x.node) = ap (group_of x.count i) r.1 ∙ group-full x.count i (W x.node) r.0 (some-at j x at) full in
+      let same : group_of x.count i (F x.node) ≡ group_of x.count i (W x.node) =
+      ap (group_of x.count i) r.1 ∙ group-full x.count i (W x.node) r.0 (some-at j x at) full in
       (Some (length (group_of x.count i (W x.node))), inr (sym same, ap (λ (zs : List Array). Some (length zs)) (sym same)), is)
   begun-count j x at i off some (Opened f open_ here is) =
       let ne : j ≢ t.at = elim off [
@@ -423,8 +464,10 @@ module _ (g : Graph) (stack : StackValue) (sound : IsGraph g) (prefix : List ℕ
       (f.numrecs, inl (count-by (past b) x i (F x.node) x.late f.numrecs (all-written j x at) first), is)
 
   -- a group that has none is untouched
-  none-touched : (j : ℕ) (x : NodeFile) (at : slice_get xs j ≡ Some x) (i : ℕ) → i < 2 ^ 64 → (off : (j ≢ t.at) ⊎ (i ≢ t.group)) → group_of x.count i (W x.node) ≡ [] → GroupHas x (W x.node) i → file_at held (name_of x i) ≡ file_at before (name_of x i)
-  none-touched j x at i small off empty_ (Nothing none_) = t.stops.0.others (name_of x i) (off-name j x at i small off) (none-elsewhere g stack sound prefix xs nodes W few j x at i small none_)
+  none-touched : (j : ℕ) (x : NodeFile) (at : slice_get xs j ≡ Some x) (i : ℕ) → i < 2 ^ 64 → (off : (j ≢ t.at) ⊎ (i ≢ t.group))
+      → group_of x.count i (W x.node) ≡ [] → GroupHas x (W x.node) i → file_at held (name_of x i) ≡ file_at before (name_of x i)
+  none-touched j x at i small off empty_ (Nothing none_) =
+      t.stops.0.others (name_of x i) (off-name j x at i small off) (none-elsewhere g stack sound prefix xs nodes W few j x at i small none_)
   none-touched j x at i small off empty_ (Whole full is) = absurd (omega (arith, full, some-at j x at, ap (λ (zs : List Array). length zs) empty_))
   none-touched j x at i small off empty_ (Opened f open_ here is) =
       let ne : j ≢ t.at = elim off [
@@ -435,24 +478,31 @@ module _ (g : Graph) (stack : StackValue) (sound : IsGraph g) (prefix : List ℕ
       let row = t.rows j x f (λ e. ne (sym (same_Some t.at j e))) was open_ in
       let begun = open-count x (length (W x.node)) x.current f open_ (t.written.each j x was).begun in
       let long = length-group x.count (W x.node) (length (W x.node) / x.count) (length (W x.node) % x.count) (next-place x.count (W x.node) (some-at j x at)) in
-      let none_ : length (group_of x.count (length (W x.node) / x.count) (W x.node)) ≡ 0 = ap (λ (w : ℕ). length (group_of x.count w (W x.node))) (sym here) ∙ ap (λ (zs : List Array). length zs) empty_ in
+      let none_ : length (group_of x.count (length (W x.node) / x.count) (W x.node)) ≡ 0 =
+      ap (λ (w : ℕ). length (group_of x.count w (W x.node))) (sym here) ∙ ap (λ (zs : List Array). length zs) empty_ in
       absurd (omega (arith, long, begun, row, none_))
 
   -- the torn name
   stood-by : is_some held ≡ true → GroupHas t.node (W t.node.node) t.group
-      → (file_at t.then_held (name_of t.node t.group) ≡ file_at before (name_of t.node t.group)) ⊎ (file_at t.then_held (name_of t.node t.group) ≡ Some (begun_file t.node.shape t.numrecs (group_of t.node.count t.group (W t.node.node))))
+      → (file_at t.then_held (name_of t.node t.group) ≡ file_at before (name_of t.node t.group))
+      ⊎ (file_at t.then_held (name_of t.node t.group) ≡ Some (begun_file t.node.shape t.numrecs (group_of t.node.count t.group (W t.node.node))))
   stood-by told (Nothing none_) =
-      inl (t.written.others (name_of t.node t.group) (none-elsewhere g stack sound prefix t.files (sym t.nodes ∙ nodes) W t.written.few t.at t.node t.listed t.group torn-small none_))
+      inl (t.written.others (name_of t.node t.group)
+      (none-elsewhere g stack sound prefix t.files (sym t.nodes ∙ nodes) W t.written.few t.at t.node t.listed t.group torn-small none_))
   stood-by told (Whole full e) = absurd (omega (arith, full, length-group t.node.count (W t.node.node) t.group t.place t.place_is, t.place_is.within))
   stood-by told (Opened f open_ here e) =
       let has = subst (HasBytes t.then_held (name_of t.node t.group)) e ((t.written.each t.at t.node t.listed).each t.group) in
       let first = subst (λ (w : ℕ). IsFirstCount (past b) t.node.node t.node.count w t.node.late f.numrecs) (sym here) (t.begun t.at t.node f t.listed open_) in
       let n = length (group_of t.node.count t.group (F t.node.node)) in
-      let same : f.numrecs ≡ t.numrecs = count-one t.node.late n f.numrecs t.numrecs (count-by (past b) t.node t.group (F t.node.node) t.node.late f.numrecs (torn-node told) first)
+      let same : f.numrecs ≡ t.numrecs =
+      count-one t.node.late n f.numrecs t.numrecs (count-by (past b) t.node t.group (F t.node.node) t.node.late f.numrecs (torn-node told) first)
       (count-by (past b) t.node t.group (F t.node.node) t.node.late t.numrecs (torn-node told) t.first) in
-      inr (told-file t.then_held (name_of t.node t.group) (begun_file t.node.shape f.numrecs (group_of t.node.count t.group (W t.node.node))) (told-then told) has ∙ ap (λ (m : Option ℕ). Some (begun_file t.node.shape m (group_of t.node.count t.group (W t.node.node)))) same)
+      inr (told-file t.then_held (name_of t.node t.group) (begun_file t.node.shape f.numrecs (group_of t.node.count t.group (W t.node.node)))
+      (told-then told) has ∙ ap (λ (m : Option ℕ). Some (begun_file t.node.shape m (group_of t.node.count t.group (W t.node.node)))) same)
 
-  torn-name : is_some held ≡ true → IsTornName t.node.late t.node.shape (group_of t.node.count t.group (F t.node.node)) (group_of t.node.count t.group (W t.node.node)) (file_at before (name_of t.node t.group)) (file_at held (name_of t.node t.group))
+  torn-name : is_some held ≡ true
+      → IsTornName t.node.late t.node.shape (group_of t.node.count t.group (F t.node.node)) (group_of t.node.count t.group (W t.node.node))
+      (file_at before (name_of t.node t.group)) (file_at held (name_of t.node t.group))
   torn-name told =
       let r = back-then t.node.node in
       let all : F t.node.node ≡ (W t.node.node ++ t.array ∷ []) ++ r.0 = r.1 ∙ ap (λ zs. zs ++ r.0) back-here in
@@ -469,10 +519,13 @@ module _ (g : Graph) (stack : StackValue) (sound : IsGraph g) (prefix : List ℕ
         torn = t.stops.1;
       }
 
-  torn-at : (late : Bool) (shape : FileShape) (final written : List Array) (name : List ℕ) → (is_some held ≡ true → IsTornName late shape final written (file_at before name) (file_at held name)) → (o : Option Files) → held ≡ o → IsTornAt late shape final written before o name
+  torn-at : (late : Bool) (shape : FileShape) (final written : List Array) (name : List ℕ)
+      → (is_some held ≡ true → IsTornName late shape final written (file_at before name) (file_at held name)) → (o : Option Files) → held ≡ o
+      → IsTornAt late shape final written before o name
   torn-at late shape final written name goal None is = tt
   torn-at late shape final written name goal (Some m) is =
-      subst (λ (o : Option Files). IsTornName late shape final written (file_at before name) (file_at o name)) is (goal (ap (λ (o : Option Files). is_some o) is))
+      subst (λ (o : Option Files). IsTornName late shape final written (file_at before name) (file_at o name)) is
+      (goal (ap (λ (o : Option Files). is_some o) is))
 
   -- where the shelf failed
   place : GivenAt b t.front
@@ -486,7 +539,8 @@ module _ (g : Graph) (stack : StackValue) (sound : IsGraph g) (prefix : List ℕ
         let f = groups.files-of-rule g stack sound prefix before b xs true held h v n r rule kind in
         let x = f.files in
         let file_ : whole_file x.shape (group_of x.count i (F x.node)) ≡ Some bytes =
-        sym (groups.group-is g stack sound prefix before b xs true held h f.at x f.listed n i f.rule) ∙ ap (λ (w : ℕ). kind_group g stack (past b) w n.kind i) f.node ∙ is in
+        sym (groups.group-is g stack sound prefix before b xs true held h f.at x f.listed n i f.rule)
+        ∙ ap (λ (w : ℕ). kind_group g stack (past b) w n.kind i) f.node ∙ is in
         let final = whole-bytes x.shape (group_of x.count i (F x.node)) bytes file_ in
         at-by (is_stream r.mode) bytes (group_name prefix n.name i) (λ told.
         subst (λ (name : List ℕ). IsBegunAs (is_stream r.mode) bytes (file_at before name) (file_at held name)) (f.named i)
@@ -526,7 +580,8 @@ module _ (g : Graph) (stack : StackValue) (sound : IsGraph g) (prefix : List ℕ
         let f = groups.files-of-rule g stack sound prefix before b xs true held h v n r rule kind in
         let x = f.files in
         let off_ : (x.node ≢ t.node.node) ⊎ (i ≢ t.group) = elim off [ inl ne ↦ inl (λ e. ne (sym f.node ∙ e)) | inr ne ↦ inr ne ] in
-        let same : group_of x.count i (W x.node) ≡ group_of r.count i (W v) = ap (λ (c : ℕ). group_of c i (W x.node)) f.count ∙ ap (λ (w : ℕ). group_of r.count i (W w)) f.node in
+        let same : group_of x.count i (W x.node) ≡ group_of r.count i (W v) =
+        ap (λ (c : ℕ). group_of c i (W x.node)) f.count ∙ ap (λ (w : ℕ). group_of r.count i (W w)) f.node in
         let off_at : (f.at ≢ t.at) ⊎ (i ≢ t.group) = elim off_ [
           | inl ne ↦ inl (λ e. ne (ap (λ (z : NodeFile). z.node) (torn-here f.at x f.listed e)))
           | inr ne ↦ inr ne
@@ -534,10 +589,12 @@ module _ (g : Graph) (stack : StackValue) (sound : IsGraph g) (prefix : List ℕ
         let some_ = subst (λ (zs : List Array). 1 ≤ length zs) (sym same) some in
         let is = begun-count f.at x f.listed i off_at some_ (has-at f.at x f.listed i off_at) in
         let all : group_of x.count i (F x.node) ≡ group_of r.count i (contents g.nodes stack.arrays (standing_saves v (past b))) =
-        ap (λ (c : ℕ). group_of c i (F x.node)) f.count ∙ ap (λ (w : ℕ). group_of r.count i (F w)) f.node ∙ ap (group_of r.count i) (groups.written-is g stack sound prefix before b xs true held h v) in
+        ap (λ (c : ℕ). group_of c i (F x.node)) f.count ∙ ap (λ (w : ℕ). group_of r.count i (F w)) f.node
+        ∙ ap (group_of r.count i) (groups.written-is g stack sound prefix before b xs true held h v) in
         let has = subst (HasBytes held (name_of x i)) is.2 (t.stops.0.each f.at x i f.listed off_) in (
           is.0,
-          subst (λ (late : Bool). StandsAsCount late (group_of r.count i (contents g.nodes stack.arrays (standing_saves v (past b)))) (group_of r.count i (W v)) is.0) f.late
+          subst (λ (late : Bool). StandsAsCount late (group_of r.count i (contents g.nodes stack.arrays (standing_saves v (past b))))
+          (group_of r.count i (W v)) is.0) f.late
               (subst (λ (zs : List Array). StandsAsCount x.late zs (group_of r.count i (W v)) is.0) all
               (subst (λ (zs : List Array). StandsAsCount x.late (group_of x.count i (F x.node)) zs is.0) same is.1)),
           subst (λ (name : List ℕ). HasFile held name (begun_file (file_shape g stack v) is.0 (group_of r.count i (W v)))) (f.named i)
@@ -552,25 +609,38 @@ module _ (g : Graph) (stack : StackValue) (sound : IsGraph g) (prefix : List ℕ
           | inl ne ↦ inl (λ e. ne (ap (λ (z : NodeFile). z.node) (torn-here f.at x f.listed e)))
           | inr ne ↦ inr ne
         ] in
-        let same : group_of x.count i (W x.node) ≡ group_of r.count i (W v) = ap (λ (c : ℕ). group_of c i (W x.node)) f.count ∙ ap (λ (w : ℕ). group_of r.count i (W w)) f.node in
+        let same : group_of x.count i (W x.node) ≡ group_of r.count i (W v) =
+        ap (λ (c : ℕ). group_of c i (W x.node)) f.count ∙ ap (λ (w : ℕ). group_of r.count i (W w)) f.node in
         let file_ : whole_file x.shape (group_of x.count i (F x.node)) ≡ Some bytes =
-        sym (groups.group-is g stack sound prefix before b xs true held h f.at x f.listed n i f.rule) ∙ ap (λ (w : ℕ). kind_group g stack (past b) w n.kind i) f.node ∙ is in
+        sym (groups.group-is g stack sound prefix before b xs true held h f.at x f.listed n i f.rule)
+        ∙ ap (λ (w : ℕ). kind_group g stack (past b) w n.kind i) f.node ∙ is in
         let small = group-low kept f.at x f.listed i (whole-bytes x.shape (group_of x.count i (F x.node)) bytes file_).1 in
         subst (λ (name : List ℕ). file_at held name ≡ file_at before name) (f.named i)
         (none-touched f.at x f.listed i small off_at (same ∙ none_) (has-at f.at x f.listed i off_at));
     torn = λ n r rule kind.
         let f = groups.files-of-rule g stack sound prefix before b xs true held h t.node.node n r rule kind in
         let x = f.files in
-        let here = torn-here f.at x f.listed (one-index g stack sound prefix xs nodes f.at t.at x now-at.files f.listed now-at.listed (f.node ∙ sym (ap (λ (z : NodeFile). z.node) now-at.same))) in
+        let here =
+        torn-here f.at x f.listed
+        (one-index g stack sound prefix xs nodes f.at t.at x now-at.files f.listed now-at.listed (f.node ∙ sym (ap (λ (z : NodeFile). z.node) now-at.same))) in
         let final = ap (group_of r.count t.group) (groups.written-is g stack sound prefix before b xs true held h t.node.node) in
-        torn-at (is_stream r.mode) (file_shape g stack t.node.node) (group_of r.count t.group (contents g.nodes stack.arrays (standing_saves t.node.node (past b)))) (group_of r.count t.group (W t.node.node))
+        torn-at (is_stream r.mode) (file_shape g stack t.node.node)
+        (group_of r.count t.group (contents g.nodes stack.arrays (standing_saves t.node.node (past b)))) (group_of r.count t.group (W t.node.node))
         (group_name prefix n.name t.group) (λ told.
-        let Q : NodeFile → Type 0 = λ z. IsTornName z.late z.shape (group_of z.count t.group (F z.node)) (group_of z.count t.group (W z.node)) (file_at before (name_of z t.group)) (file_at held (name_of z t.group)) in
+        let Q : NodeFile → Type 0 =
+        λ z. IsTornName z.late z.shape (group_of z.count t.group (F z.node)) (group_of z.count t.group (W z.node)) (file_at before (name_of z t.group))
+        (file_at held (name_of z t.group)) in
         let q = subst Q (sym here) (torn-name told) in
-        subst (λ (name : List ℕ). IsTornName (is_stream r.mode) (file_shape g stack t.node.node) (group_of r.count t.group (contents g.nodes stack.arrays (standing_saves t.node.node (past b)))) (group_of r.count t.group (W t.node.node)) (file_at before name) (file_at held name)) (f.named t.group)
-        (subst (λ (zs : List Array). IsTornName (is_stream r.mode) (file_shape g stack t.node.node) zs (group_of r.count t.group (W t.node.node)) (file_at before (name_of x t.group)) (file_at held (name_of x t.group))) final
-        (subst (λ (w : ℕ). IsTornName (is_stream r.mode) (file_shape g stack t.node.node) (group_of r.count t.group (F w)) (group_of r.count t.group (W w)) (file_at before (name_of x t.group)) (file_at held (name_of x t.group))) f.node
-        (subst (λ (c : ℕ). IsTornName (is_stream r.mode) (file_shape g stack t.node.node) (group_of c t.group (F x.node)) (group_of c t.group (W x.node)) (file_at before (name_of x t.group)) (file_at held (name_of x t.group))) f.count
-        (subst (λ (sh : FileShape). IsTornName (is_stream r.mode) sh (group_of x.count t.group (F x.node)) (group_of x.count t.group (W x.node)) (file_at before (name_of x t.group)) (file_at held (name_of x t.group))) f.shape
-        (subst (λ (late : Bool). IsTornName late x.shape (group_of x.count t.group (F x.node)) (group_of x.count t.group (W x.node)) (file_at before (name_of x t.group)) (file_at held (name_of x t.group))) f.late q)))))) held refl;
+        subst (λ (name : List ℕ). IsTornName (is_stream r.mode) (file_shape g stack t.node.node) (group_of r.count t.group (contents g.nodes stack.arrays
+        (standing_saves t.node.node (past b)))) (group_of r.count t.group (W t.node.node)) (file_at before name) (file_at held name)) (f.named t.group)
+        (subst (λ (zs : List Array). IsTornName (is_stream r.mode) (file_shape g stack t.node.node) zs (group_of r.count t.group (W t.node.node))
+        (file_at before (name_of x t.group)) (file_at held (name_of x t.group))) final
+        (subst (λ (w : ℕ). IsTornName (is_stream r.mode) (file_shape g stack t.node.node) (group_of r.count t.group (F w)) (group_of r.count t.group (W w))
+        (file_at before (name_of x t.group)) (file_at held (name_of x t.group))) f.node
+        (subst (λ (c : ℕ). IsTornName (is_stream r.mode) (file_shape g stack t.node.node) (group_of c t.group (F x.node)) (group_of c t.group (W x.node))
+        (file_at before (name_of x t.group)) (file_at held (name_of x t.group))) f.count
+        (subst (λ (sh : FileShape). IsTornName (is_stream r.mode) sh (group_of x.count t.group (F x.node)) (group_of x.count t.group (W x.node))
+        (file_at before (name_of x t.group)) (file_at held (name_of x t.group))) f.shape
+        (subst (λ (late : Bool). IsTornName late x.shape (group_of x.count t.group (F x.node)) (group_of x.count t.group (W x.node))
+        (file_at before (name_of x t.group)) (file_at held (name_of x t.group))) f.late q)))))) held refl;
   }

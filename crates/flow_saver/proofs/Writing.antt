@@ -34,12 +34,15 @@ use Rattle.flow_saver.proofs.Due.{of_file}
 
 -- LISTS OF ARRAYS
 
-pub contents-more : (g : Graph) (stack : StackValue) (xs : List FrameName) (a : FrameName) (b : Array) → content_of g stack a ≡ Some b → contents g.nodes stack.arrays (xs ++ a ∷ []) ≡ contents g.nodes stack.arrays xs ++ b ∷ []
+pub contents-more : (g : Graph) (stack : StackValue) (xs : List FrameName) (a : FrameName) (b : Array) → content_of g stack a ≡ Some b
+    → contents g.nodes stack.arrays (xs ++ a ∷ []) ≡ contents g.nodes stack.arrays xs ++ b ∷ []
 contents-more g stack xs a b is =
-    flat_map-append (λ (n : FrameName). listed (content g.nodes stack.arrays n)) xs (a ∷ []) ∙ ap (λ (o : Option Array). contents g.nodes stack.arrays xs ++ (listed o ++ [])) is
+    flat_map-append (λ (n : FrameName). listed (content g.nodes stack.arrays n)) xs (a ∷ [])
+    ∙ ap (λ (o : Option Array). contents g.nodes stack.arrays xs ++ (listed o ++ [])) is
 
 -- the same arrays, said otherwise
-pub all-same : (before : Option Files) (xs : List NodeFile) (f h : ℕ → List Array) (held : Option Files) → ((v : ℕ) → f v ≡ h v) → AllWritten before xs f held → AllWritten before xs h held
+pub all-same : (before : Option Files) (xs : List NodeFile) (f h : ℕ → List Array) (held : Option Files) → ((v : ℕ) → f v ≡ h v)
+    → AllWritten before xs f held → AllWritten before xs h held
 all-same before xs f h held same all = record {
   told = all.told;
   each = λ k x at. subst (λ (zs : List Array). AreWritten x zs held) (same x.node) (all.each k x at);
@@ -54,9 +57,12 @@ numrecs-is numrecs (Some e) f is h = ap (λ (k : Stream). k.numrecs) (same_Some 
 -- a file that is open after so many arrays has that many rows of its group
 open-row : (y : NodeFile) (n : ℕ) (o : Option Stream) (f : Stream) → o ≡ Some f → IsOpenAfter y n o → 1 ≤ n % y.count → 1 ≤ f.count
 open-row y n None f is begun some = let none_ : None ≡ Some f = is in absurd (cc)
-open-row y n (Some e) f is begun some = let rows : e.count ≡ n % y.count = ap (λ (d : Stream). d.count) begun in let same : e.count ≡ f.count = ap (λ (d : Stream). d.count) (same_Some e f is) in omega (arith, rows, same, some)
+open-row y n (Some e) f is begun some =
+    let rows : e.count ≡ n % y.count = ap (λ (d : Stream). d.count) begun in
+    let same : e.count ≡ f.count = ap (λ (d : Stream). d.count) (same_Some e f is) in omega (arith, rows, same, some)
 
-module _ (g : Graph) (stack : StackValue) (sound : IsGraph g) (start : Start) (r : ℕ) (p : Pass) (xs : List NodeFile) (fault : Bool) (held : Option Files) (due : DuePiece Sealed)
+module _ (g : Graph) (stack : StackValue) (sound : IsGraph g) (start : Start) (r : ℕ) (p : Pass) (xs : List NodeFile)
+    (fault : Bool) (held : Option Files) (due : DuePiece Sealed)
     (st : HasUnsaved g stack start r p xs fault held due) (a : Array) (holds : content_of g stack due.piece.name ≡ Some a) where
   abbrev x : NodeFile
   x = st.node
@@ -102,7 +108,8 @@ module _ (g : Graph) (stack : StackValue) (sound : IsGraph g) (start : Start) (r
       ]
 
   -- it can be given back once the files are so
-  pub to-give-back : (ys : List NodeFile) (torn : Bool) (stands : Option Files) → map closed ys ≡ file_nodes g stack start.prefix → (torn ≡ false → HaveRowsBut None ys)
+  pub to-give-back : (ys : List NodeFile) (torn : Bool) (stands : Option Files) → map closed ys ≡ file_nodes g stack start.prefix
+      → (torn ≡ false → HaveRowsBut None ys)
       → AreSaved g stack start.held (back ∷ past p.made) (past p.seen) ys torn stands → IsToGiveBack g stack start r p ys torn stands due.piece
   to-give-back ys torn stands nodes rows saved = record {
     role = st.role;
@@ -132,14 +139,18 @@ module _ (g : Graph) (stack : StackValue) (sound : IsGraph g) (start : Start) (r
       }
 
   -- the same files, one of them open otherwise
-  module _ (ys : List NodeFile) (o : Option Stream) (set_ : ys ≡ set xs due.at (record x { current = o })) (numrecs : HasNumrecs (first_count x.late due.of) o) where
+  module _ (ys : List NodeFile) (o : Option Stream) (set_ : ys ≡ set xs due.at (record x { current = o }))
+      (numrecs : HasNumrecs (first_count x.late due.of) o) where
     pub nodes-kept : map closed ys ≡ file_nodes g stack start.prefix
     nodes-kept =
-        ap (map closed) set_ ∙ map-set_same closed xs due.at (record x { current = o }) x (ap closed (sym (get_or_from_slice_get xs due.at x x st.listed))) ∙ st.nodes
+        ap (map closed) set_
+        ∙ map-set_same closed xs due.at (record x { current = o }) x (ap closed (sym (get_or_from_slice_get xs due.at x x st.listed))) ∙ st.nodes
 
     apart-nodes : (j : ℕ) (y : NodeFile) → slice_get xs j ≡ Some y → j ≢ due.at → y.node ≢ x.node
     apart-nodes j y is ne =
-        let one = λ (i : ℕ) (z : NodeFile) (h : slice_get xs i ≡ Some z). ap (λ (zs : List NodeFile). slice_get zs i) (sym st.nodes) ∙ slice_get-map closed xs i ∙ ap (λ (w : Option NodeFile). some_closed w) h in
+        let one =
+        λ (i : ℕ) (z : NodeFile) (h : slice_get xs i ≡ Some z). ap (λ (zs : List NodeFile). slice_get zs i) (sym st.nodes) ∙ slice_get-map closed xs i
+        ∙ ap (λ (w : Option NodeFile). some_closed w) h in
         (file_nodes-apart g stack start.prefix sound j due.at (closed y) (closed x) (one j y is) (one due.at x st.listed) ne).0
       where
         some_closed : Option NodeFile → Option NodeFile
@@ -148,12 +159,14 @@ module _ (g : Graph) (stack : StackValue) (sound : IsGraph g) (start : Start) (r
 
     this : (y : NodeFile) (j : ℕ) → j ≡ due.at → slice_get ys j ≡ Some y → record x { current = o } ≡ y
     this y j here_ is =
-        same_Some (record x { current = o }) y (sym (get-set_same xs due.at x (record x { current = o }) st.listed) ∙ ap (slice_get (set xs due.at (record x { current = o }))) (sym here_) ∙ ap (λ (zs : List NodeFile). slice_get zs j) (sym set_) ∙ is)
+        same_Some (record x { current = o }) y (sym (get-set_same xs due.at x (record x { current = o }) st.listed)
+        ∙ ap (slice_get (set xs due.at (record x { current = o }))) (sym here_) ∙ ap (λ (zs : List NodeFile). slice_get zs j) (sym set_) ∙ is)
 
     other : (y : NodeFile) (j : ℕ) → j ≢ due.at → slice_get ys j ≡ Some y → slice_get xs j ≡ Some y
     other y j ne is = sym (get-set_other xs due.at j (record x { current = o }) ne) ∙ ap (λ (zs : List NodeFile). slice_get zs j) (sym set_) ∙ is
 
-    pub begun-then : (saved : AreSaved g stack start.held (past p.made) (past p.seen) xs false held) (then_ : ℕ → List Array) → ((v : ℕ) → v ≢ x.node → then_ v ≡ were v)
+    pub begun-then : (saved : AreSaved g stack start.held (past p.made) (past p.seen) xs false held) (then_ : ℕ → List Array)
+        → ((v : ℕ) → v ≢ x.node → then_ v ≡ were v)
         → ((f : Stream) → o ≡ Some f → length (then_ x.node) / x.count ≡ due.group) → AreBegunSo (past p.seen) then_ ys
     begun-then saved then_ still mine j y f is current_ =
         elim (cases_eq j due.at) [
@@ -161,12 +174,14 @@ module _ (g : Graph) (stack : StackValue) (sound : IsGraph g) (start : Start) (r
               let same : record x { current = o } ≡ y = this y j here_ is in
               let open_ : o ≡ Some f = ap (λ (z : NodeFile). z.current) same ∙ current_ in
               let of_file_ : IsFirstCount (past p.seen) x.node x.count (length (then_ x.node) / x.count) x.late f.numrecs =
-              subst (λ (n : Option ℕ). IsFirstCount (past p.seen) x.node x.count (length (then_ x.node) / x.count) x.late n) (sym (numrecs-is (first_count x.late due.of) o f open_ numrecs))
+              subst (λ (n : Option ℕ). IsFirstCount (past p.seen) x.node x.count (length (then_ x.node) / x.count) x.late n)
+              (sym (numrecs-is (first_count x.late due.of) o f open_ numrecs))
               (subst (λ (i : ℕ). IsFirstCount (past p.seen) x.node x.count i x.late (first_count x.late due.of)) (sym (mine f open_)) st.first) in
               subst (λ (z : NodeFile). IsFirstCount (past p.seen) z.node z.count (length (then_ z.node) / z.count) z.late f.numrecs) same of_file_
           | inr ne ↦
               let old : slice_get xs j ≡ Some y = other y j ne is in
-              subst (λ (zs : List Array). IsFirstCount (past p.seen) y.node y.count (length zs / y.count) y.late f.numrecs) (sym (still y.node (apart-nodes j y old ne))) (saved.1 j y f old current_)
+              subst (λ (zs : List Array). IsFirstCount (past p.seen) y.node y.count (length zs / y.count) y.late f.numrecs)
+              (sym (still y.node (apart-nodes j y old ne))) (saved.1 j y f old current_)
         ]
 
     still-now : (v : ℕ) → v ≢ x.node → now v ≡ were v
@@ -174,25 +189,31 @@ module _ (g : Graph) (stack : StackValue) (sound : IsGraph g) (start : Start) (r
 
     long : length (now x.node) ≡ due.group * x.count + (due.place + 1)
     long =
-        ap length (now-is x.node ∙ ap (λ (b : Bool). if b then were x.node ++ a ∷ [] else were x.node) (eq-eqb x.node x.node refl)) ∙ length-append (were x.node) (a ∷ []) ∙ omega (arith, st.place.all)
+        ap length (now-is x.node ∙ ap (λ (b : Bool). if b then were x.node ++ a ∷ [] else were x.node) (eq-eqb x.node x.node refl))
+        ∙ length-append (were x.node) (a ∷ []) ∙ omega (arith, st.place.all)
 
     -- what is still open got a row
     row-of : (stands : Option Files) → AllWritten start.held ys now stands → (f : Stream) → o ≡ Some f → due.place + 1 < x.count → 1 ≤ f.count
     row-of stands all f open_ more =
-        let at_ : slice_get ys due.at ≡ Some (record x { current = o }) = ap (λ (zs : List NodeFile). slice_get zs due.at) set_ ∙ get-set_same xs due.at x (record x { current = o }) st.listed in
+        let at_ : slice_get ys due.at ≡ Some (record x { current = o }) =
+        ap (λ (zs : List NodeFile). slice_get zs due.at) set_ ∙ get-set_same xs due.at x (record x { current = o }) st.listed in
         let begun = (all.each due.at (record x { current = o }) at_).begun in
-        open-row (record x { current = o }) (length (now x.node)) o f open_ begun (omega (arith, ap (λ n. n % x.count) long, mod-mul-add due.group x.count (due.place + 1) more))
+        open-row (record x { current = o }) (length (now x.node)) o f open_ begun
+        (omega (arith, ap (λ n. n % x.count) long, mod-mul-add due.group x.count (due.place + 1) more))
 
     -- written
     pub wrote : fault ≡ false → (stands : Option Files) → AllWritten start.held ys (with_array were x.node a) stands
-        → (due.place + 1 ≡ x.count → (y : NodeFile) → slice_get ys due.at ≡ Some y → y.current ≡ None) → IsToGiveBack g stack start r p ys false stands due.piece
+        → (due.place + 1 ≡ x.count → (y : NodeFile) → slice_get ys due.at ≡ Some y → y.current ≡ None)
+        → IsToGiveBack g stack start r p ys false stands due.piece
     wrote fine stands all ended =
         let saved = subst (λ (b : Bool). AreSaved g stack start.held (past p.made) (past p.seen) xs b held) fine st.saved in
         let all_ : AllWritten start.held ys now stands = all-same start.held ys (with_array were x.node a) now stands (λ v. sym (now-is v)) all in
         let more = λ (f : Stream) (open_ : o ≡ Some f).
         let within : due.place + 1 < x.count = elim (cases_eq (due.place + 1) x.count) [
           | inl last ↦
-              let none_ : o ≡ None = ended last (record x { current = o }) (ap (λ (zs : List NodeFile). slice_get zs due.at) set_ ∙ get-set_same xs due.at x (record x { current = o }) st.listed) in
+              let none_ : o ≡ None =
+              ended last (record x { current = o })
+              (ap (λ (zs : List NodeFile). slice_get zs due.at) set_ ∙ get-set_same xs due.at x (record x { current = o }) st.listed) in
               let clash : Some f ≡ None = sym open_ ∙ none_ in absurd (cc)
           | inr off ↦ omega (arith, st.place.within, off)
         ] in within in
@@ -204,7 +225,8 @@ module _ (g : Graph) (stack : StackValue) (sound : IsGraph g) (start : Start) (r
         to-give-back ys false stands nodes-kept (λ b. rows) (all_, begun-then saved now still-now mine)
 
     -- the shelf failed
-    pub tore : fault ≡ false → (stands : Option Files) → AllStops Failed start.held x ys were due.group (first_count x.late due.of) a held stands → IsToGiveBack g stack start r p ys true stands due.piece
+    pub tore : fault ≡ false → (stands : Option Files) → AllStops Failed start.held x ys were due.group (first_count x.late due.of) a held stands
+        → IsToGiveBack g stack start r p ys true stands due.piece
     tore fine stands stops =
         let saved = subst (λ (b : Bool). AreSaved g stack start.held (past p.made) (past p.seen) xs b held) fine st.saved in
         to-give-back ys true stands nodes-kept (λ clash. absurd (true≢false clash))
@@ -235,7 +257,8 @@ module _ (g : Graph) (stack : StackValue) (sound : IsGraph g) (start : Start) (r
         })
 
     -- memory was wanting
-    pub wanted : fault ≡ false → (stands : Option Files) → AllStops OutOfMemory start.held x ys were due.group (first_count x.late due.of) a held stands → HasUnsaved g stack start r p ys false stands due
+    pub wanted : fault ≡ false → (stands : Option Files) → AllStops OutOfMemory start.held x ys were due.group (first_count x.late due.of) a held stands
+        → HasUnsaved g stack start r p ys false stands due
     wanted fine stands all =
         let saved = subst (λ (b : Bool). AreSaved g stack start.held (past p.made) (past p.seen) xs b held) fine st.saved in
         let mine = λ (f : Stream) (open_ : o ≡ Some f). ap (λ n. n / x.count) st.place.all ∙ div-mul-add due.group x.count due.place st.place.within in

@@ -67,9 +67,11 @@ IsTornAt late shape final written before (Some files) name = IsTornName late sha
 -- saved up to one place of the log was written, which are the first arrays of each node. But for the name on which the shelf failed, each group of
 -- which all were written is whole, any other of which some were has its header and their rows, and one of which none was is as before the run.
 pub record IsTornHistory (g : Graph) (stack : StackValue) (prefix : List ℕ) (P : Past) (before held : Option Files) : Type 0 where
-  pub each : (v i : ℕ) (n : NodeRule) (r : FileRule) (bytes : List ℕ) → rule_at g.nodes v ≡ Some n → n.kind ≡ File r → kind_group g stack P v n.kind i ≡ Some bytes
+  pub each : (v i : ℕ) (n : NodeRule) (r : FileRule) (bytes : List ℕ) → rule_at g.nodes v ≡ Some n → n.kind ≡ File r
+      → kind_group g stack P v n.kind i ≡ Some bytes
       → IsBegunAt (is_stream r.mode) bytes before held (group_name prefix n.name i)
-  pub others : (q : List ℕ) → ((v i : ℕ) (n : NodeRule) (bytes : List ℕ) → rule_at g.nodes v ≡ Some n → kind_group g stack P v n.kind i ≡ Some bytes → q ≢ group_name prefix n.name i)
+  pub others : (q : List ℕ)
+      → ((v i : ℕ) (n : NodeRule) (bytes : List ℕ) → rule_at g.nodes v ≡ Some n → kind_group g stack P v n.kind i ≡ Some bytes → q ≢ group_name prefix n.name i)
       → file_at held q ≡ file_at before q
   -- the place of the log, and what was given back up to there
   pub later : Past
@@ -82,13 +84,18 @@ pub record IsTornHistory (g : Graph) (stack : StackValue) (prefix : List ℕ) (P
   pub node : ℕ
   pub group : ℕ
   pub torn : (n : NodeRule) (r : FileRule) → rule_at g.nodes node ≡ Some n → n.kind ≡ File r
-      → IsTornAt (is_stream r.mode) (file_shape g stack node) (group_of r.count group (contents g.nodes stack.arrays (standing_saves node P))) (group_of r.count group (written node)) before held (group_name prefix n.name group)
-  pub untouched : (v i : ℕ) (n : NodeRule) (r : FileRule) (bytes : List ℕ) → rule_at g.nodes v ≡ Some n → n.kind ≡ File r → kind_group g stack P v n.kind i ≡ Some bytes → (v ≢ node) ⊎ (i ≢ group)
+      → IsTornAt (is_stream r.mode) (file_shape g stack node) (group_of r.count group (contents g.nodes stack.arrays (standing_saves node P)))
+      (group_of r.count group (written node)) before held (group_name prefix n.name group)
+  pub untouched : (v i : ℕ) (n : NodeRule) (r : FileRule) (bytes : List ℕ) → rule_at g.nodes v ≡ Some n → n.kind ≡ File r
+      → kind_group g stack P v n.kind i ≡ Some bytes → (v ≢ node) ⊎ (i ≢ group)
       → group_of r.count i (written v) ≡ [] → file_at held (group_name prefix n.name i) ≡ file_at before (group_name prefix n.name i)
-  pub whole : (v i : ℕ) (n : NodeRule) (r : FileRule) → rule_at g.nodes v ≡ Some n → n.kind ≡ File r → (v ≢ node) ⊎ (i ≢ group) → length (group_of r.count i (written v)) ≡ r.count
+  pub whole : (v i : ℕ) (n : NodeRule) (r : FileRule) → rule_at g.nodes v ≡ Some n → n.kind ≡ File r → (v ≢ node) ⊎ (i ≢ group)
+      → length (group_of r.count i (written v)) ≡ r.count
       → HasFile held (group_name prefix n.name i) (layout (file_shape g stack v) (group_of r.count i (written v)))
-  pub begun : (v i : ℕ) (n : NodeRule) (r : FileRule) → rule_at g.nodes v ≡ Some n → n.kind ≡ File r → (v ≢ node) ⊎ (i ≢ group) → 1 ≤ length (group_of r.count i (written v))
-      → (numrecs : Option ℕ) × StandsAsCount (is_stream r.mode) (group_of r.count i (contents g.nodes stack.arrays (standing_saves v P))) (group_of r.count i (written v)) numrecs
+  pub begun : (v i : ℕ) (n : NodeRule) (r : FileRule) → rule_at g.nodes v ≡ Some n → n.kind ≡ File r → (v ≢ node) ⊎ (i ≢ group)
+      → 1 ≤ length (group_of r.count i (written v))
+      → (numrecs : Option ℕ)
+      × StandsAsCount (is_stream r.mode) (group_of r.count i (contents g.nodes stack.arrays (standing_saves v P))) (group_of r.count i (written v)) numrecs
       × HasFile held (group_name prefix n.name i) (begun_file (file_shape g stack v) numrecs (group_of r.count i (written v)))
 
 -- An end that comes after a fault changes nothing on the shelf, and any other answers a fault where the count rose, and nowhere else.

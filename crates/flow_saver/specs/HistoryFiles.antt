@@ -36,8 +36,10 @@ kind_rows g stack P v Scatter = None
 
 -- these bytes stand under this name after the run, by its log
 pub data IsFileOf (g : Graph) (stack : StackValue) (prefix : List ℕ) (P : Past) : (name bytes : List ℕ) → Type 0 where
-  Group : (v i : ℕ) (n : NodeRule) (bytes : List ℕ) → rule_at g.nodes v ≡ Some n → kind_group g stack P v n.kind i ≡ Some bytes → IsFileOf g stack prefix P (group_name prefix n.name i) bytes
-  Rows : (v : ℕ) (n : NodeRule) (bytes : List ℕ) → rule_at g.nodes v ≡ Some n → kind_rows g stack P v n.kind ≡ Some bytes → IsFileOf g stack prefix P (stats_name prefix n.name) bytes
+  Group : (v i : ℕ) (n : NodeRule) (bytes : List ℕ) → rule_at g.nodes v ≡ Some n → kind_group g stack P v n.kind i ≡ Some bytes
+      → IsFileOf g stack prefix P (group_name prefix n.name i) bytes
+  Rows : (v : ℕ) (n : NodeRule) (bytes : List ℕ) → rule_at g.nodes v ≡ Some n → kind_rows g stack P v n.kind ≡ Some bytes
+      → IsFileOf g stack prefix P (stats_name prefix n.name) bytes
 
 -- the shelf holds the files of the history, and every other name is as before
 pub record HoldsFilesOf (g : Graph) (stack : StackValue) (prefix : List ℕ) (P : Past) (before held : Option Files) : Type 0 where
@@ -48,8 +50,10 @@ pub record HoldsFilesOf (g : Graph) (stack : StackValue) (prefix : List ℕ) (P 
 
 -- the shelf holds the groups' files of the history, and every other name is as before
 pub record HoldsGroupsOf (g : Graph) (stack : StackValue) (prefix : List ℕ) (P : Past) (before held : Option Files) : Type 0 where
-  pub each : (v i : ℕ) (n : NodeRule) (bytes : List ℕ) → rule_at g.nodes v ≡ Some n → kind_group g stack P v n.kind i ≡ Some bytes → HasFile held (group_name prefix n.name i) bytes
-  pub others : (q : List ℕ) → ((v i : ℕ) (n : NodeRule) (bytes : List ℕ) → rule_at g.nodes v ≡ Some n → kind_group g stack P v n.kind i ≡ Some bytes → q ≢ group_name prefix n.name i)
+  pub each : (v i : ℕ) (n : NodeRule) (bytes : List ℕ) → rule_at g.nodes v ≡ Some n → kind_group g stack P v n.kind i ≡ Some bytes
+      → HasFile held (group_name prefix n.name i) bytes
+  pub others : (q : List ℕ)
+      → ((v i : ℕ) (n : NodeRule) (bytes : List ℕ) → rule_at g.nodes v ≡ Some n → kind_group g stack P v n.kind i ≡ Some bytes → q ≢ group_name prefix n.name i)
       → file_at held q ≡ file_at before q
 
 -- the file of a node's rows, where it has any
@@ -68,5 +72,6 @@ rows_files g stack prefix P = rows_from g stack prefix P 1 g.nodes
 
 -- the groups' files, and then those of the rows, are the files of the history
 abbrev pub RowsComplete : Type 0
-RowsComplete = (g : Graph) (stack : StackValue) (prefix : List ℕ) (P : Past) (before held : Option Files) → IsGraph g → HoldsGroupsOf g stack prefix P before held
+RowsComplete =
+    (g : Graph) (stack : StackValue) (prefix : List ℕ) (P : Past) (before held : Option Files) → IsGraph g → HoldsGroupsOf g stack prefix P before held
     → HoldsFilesOf g stack prefix P before (with_files held (rows_files g stack prefix P))

@@ -19,6 +19,8 @@ use Rattle.graph_files.specs.OutFiles.{file_shape}
 
 -- in every history of a run that no limit refuses, each group of a file node that has an array
 abbrev pub GroupsReadBack : Type 0
-GroupsReadBack = (g : Graph) (stack : StackValue) (P : Past) (v i : ℕ) (n : NodeRule) (r : FileRule) → IsGraph g → IsKeptStack stack → limit_fault g stack ≡ None
-    → is_history (run_setting g stack) P ≡ true → rule_at g.nodes v ≡ Some n → n.kind ≡ File r → group_of r.count i (contents g.nodes stack.arrays (standing_saves v P)) ≢ []
+GroupsReadBack =
+    (g : Graph) (stack : StackValue) (P : Past) (v i : ℕ) (n : NodeRule) (r : FileRule) → IsGraph g → IsKeptStack stack → limit_fault g stack ≡ None
+    → is_history (run_setting g stack) P ≡ true → rule_at g.nodes v ≡ Some n → n.kind ≡ File r
+    → group_of r.count i (contents g.nodes stack.arrays (standing_saves v P)) ≢ []
     → ReadsBack (file_shape g stack v) (group_of r.count i (contents g.nodes stack.arrays (standing_saves v P)))

@@ -42,28 +42,35 @@ alone s b = record { role = last_role s; last = Other; seen = b; made = moves_by
 
 -- Between two pieces: the files are those of the pieces that the log gave back, since the shelf had these. After a fault they are those of what was
 -- given back before it, and the torn name.
-pub record IsSavingAlone (g : Graph) (stack : StackValue) (prefix : List ℕ) (before : Option Files) (b : BoardState) (xs : List NodeFile) (fault : Bool) (held : Option Files) : Type 0 where
+pub record IsSavingAlone (g : Graph) (stack : StackValue) (prefix : List ℕ) (before : Option Files) (b : BoardState) (xs : List NodeFile)
+    (fault : Bool) (held : Option Files) : Type 0 where
   pub legal : is_history (run_setting g stack) (past b) ≡ true
   pub drained : only_drain_saves (run_setting g stack) (past b) ≡ true
   pub made : BoardState
-  pub saving : IsSaving g stack (record { prefix = prefix; made = made; held = before }) (last_role (run_setting g stack)) (alone (run_setting g stack) b) xs fault held
+  pub saving : IsSaving g stack (record { prefix = prefix; made = made; held = before }) (last_role (run_setting g stack))
+      (alone (run_setting g stack) b) xs fault held
 
 -- with a piece in hand that isn't written
-pub record HasUnsavedAlone (g : Graph) (stack : StackValue) (prefix : List ℕ) (before : Option Files) (b : BoardState) (xs : List NodeFile) (fault : Bool) (held : Option Files) (due : DuePiece Sealed) : Type 0 where
+pub record HasUnsavedAlone (g : Graph) (stack : StackValue) (prefix : List ℕ) (before : Option Files) (b : BoardState) (xs : List NodeFile)
+    (fault : Bool) (held : Option Files) (due : DuePiece Sealed) : Type 0 where
   pub legal : is_history (run_setting g stack) (past b) ≡ true
   pub drained : only_drain_saves (run_setting g stack) (past b) ≡ true
   pub made : BoardState
-  pub unsaved : HasUnsaved g stack (record { prefix = prefix; made = made; held = before }) (last_role (run_setting g stack)) (alone (run_setting g stack) b) xs fault held due
+  pub unsaved : HasUnsaved g stack (record { prefix = prefix; made = made; held = before }) (last_role (run_setting g stack))
+      (alone (run_setting g stack) b) xs fault held due
 
 -- with a piece in hand that is to be given back
-pub record IsToGiveBackAlone (g : Graph) (stack : StackValue) (prefix : List ℕ) (before : Option Files) (b : BoardState) (xs : List NodeFile) (fault : Bool) (held : Option Files) (piece : Sealed) : Type 0 where
+pub record IsToGiveBackAlone (g : Graph) (stack : StackValue) (prefix : List ℕ) (before : Option Files) (b : BoardState) (xs : List NodeFile)
+    (fault : Bool) (held : Option Files) (piece : Sealed) : Type 0 where
   pub legal : is_history (run_setting g stack) (past b) ≡ true
   pub drained : only_drain_saves (run_setting g stack) (past b) ≡ true
   pub made : BoardState
-  pub to_give : IsToGiveBack g stack (record { prefix = prefix; made = made; held = before }) (last_role (run_setting g stack)) (alone (run_setting g stack) b) xs fault held piece
+  pub to_give : IsToGiveBack g stack (record { prefix = prefix; made = made; held = before }) (last_role (run_setting g stack))
+      (alone (run_setting g stack) b) xs fault held piece
 
 -- what one save at a node leaves
-abbrev pub StepLeavesAlone : (g : Graph) (stack : StackValue) (prefix : List ℕ) (before : Option Files) → Step Sealed → (b : BoardState) (xs : List NodeFile) (fault : Bool) (held : Option Files) → Type 0
+abbrev pub StepLeavesAlone : (g : Graph) (stack : StackValue) (prefix : List ℕ) (before : Option Files) → Step Sealed
+    → (b : BoardState) (xs : List NodeFile) (fault : Bool) (held : Option Files) → Type 0
 StepLeavesAlone g stack prefix before Nothing b xs fault held = IsSavingAlone g stack prefix before b xs fault held
 StepLeavesAlone g stack prefix before Wrote b xs fault held = IsSavingAlone g stack prefix before b xs fault held
 StepLeavesAlone g stack prefix before (Wants due) b xs fault held = HasUnsavedAlone g stack prefix before b xs fault held due

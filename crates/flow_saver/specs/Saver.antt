@@ -64,7 +64,9 @@ IsFirstCount P v count group false numrecs = (size : ℕ) × (numrecs ≡ Some s
 
 -- each open file was begun with the number of its group's arrays, or in mode stream with none
 abbrev pub AreBegunSo : (P : Past) → (written : ℕ → List Array) → List NodeFile → Type 0
-AreBegunSo P written xs = (k : ℕ) (x : NodeFile) (f : _) → slice_get xs k ≡ Some x → x.current ≡ Some f → IsFirstCount P x.node x.count (length (written x.node) / x.count) x.late f.numrecs
+AreBegunSo P written xs =
+    (k : ℕ) (x : NodeFile) (f : _) → slice_get xs k ≡ Some x → x.current ≡ Some f
+    → IsFirstCount P x.node x.count (length (written x.node) / x.count) x.late f.numrecs
 
 -- each open file has a row, but for that of node k, if there is one
 abbrev pub HaveRowsBut : Option ℕ → List NodeFile → Type 0
@@ -135,7 +137,8 @@ pub record IsSaving (g : Graph) (stack : StackValue) (start : Start) (r : ℕ) (
   pub saved : AreSaved g stack start.held (past p.made) (past p.seen) xs fault held
 
 -- with a piece in hand that isn't written
-pub record HasUnsaved (g : Graph) (stack : StackValue) (start : Start) (r : ℕ) (p : Pass) (xs : List NodeFile) (fault : Bool) (held : Option Files) (due : DuePiece Sealed) : Type 0 where
+pub record HasUnsaved (g : Graph) (stack : StackValue) (start : Start) (r : ℕ) (p : Pass) (xs : List NodeFile) (fault : Bool) (held : Option Files)
+    (due : DuePiece Sealed) : Type 0 where
   pub role : p.role ≡ r
   pub moves : HasSavedSince start.made p.made
   pub node : NodeFile
@@ -156,7 +159,8 @@ pub record HasUnsaved (g : Graph) (stack : StackValue) (start : Start) (r : ℕ)
   pub saved : AreSaved g stack start.held (past p.made) (past p.seen) xs fault held
 
 -- with a piece in hand that is to be given back
-pub record IsToGiveBack (g : Graph) (stack : StackValue) (start : Start) (r : ℕ) (p : Pass) (xs : List NodeFile) (fault : Bool) (held : Option Files) (piece : Sealed) : Type 0 where
+pub record IsToGiveBack (g : Graph) (stack : StackValue) (start : Start) (r : ℕ) (p : Pass) (xs : List NodeFile)
+    (fault : Bool) (held : Option Files) (piece : Sealed) : Type 0 where
   pub role : p.role ≡ r
   pub moves : HasSavedSince start.made p.made
   pub node : ℕ
@@ -164,19 +168,22 @@ pub record IsToGiveBack (g : Graph) (stack : StackValue) (start : Start) (r : �
   pub hand : hand r (past p.made) ≡ Some (entry.Save r node piece.name.maker piece.name.index group)
   pub lent : lent_to r p.made ≡ parts_of piece
   pub alike : (v : ℕ) → saves v (past p.made) ≡ given_back v (back_of r node piece.name ∷ past p.made)
-  pub whole : (v : ℕ) → length (written_by g stack (back_of r node piece.name ∷ past p.made) v) ≡ length (given_back v (back_of r node piece.name ∷ past p.made))
+  pub whole : (v : ℕ)
+      → length (written_by g stack (back_of r node piece.name ∷ past p.made) v) ≡ length (given_back v (back_of r node piece.name ∷ past p.made))
   pub nodes : map closed xs ≡ file_nodes g stack start.prefix
   pub rows : fault ≡ false → HaveRowsBut None xs
   pub saved : AreSaved g stack start.held (back_of r node piece.name ∷ past p.made) (past p.seen) xs fault held
 
 -- what one save at a node leaves
-abbrev pub StepLeaves : (g : Graph) (stack : StackValue) (start : Start) (r : ℕ) → Step Sealed → (p : Pass) (xs : List NodeFile) (fault : Bool) (held : Option Files) → Type 0
+abbrev pub StepLeaves : (g : Graph) (stack : StackValue) (start : Start) (r : ℕ) → Step Sealed
+    → (p : Pass) (xs : List NodeFile) (fault : Bool) (held : Option Files) → Type 0
 StepLeaves g stack start r Nothing p xs fault held = IsSaving g stack start r p xs fault held
 StepLeaves g stack start r Wrote p xs fault held = IsSaving g stack start r p xs fault held
 StepLeaves g stack start r (Wants due) p xs fault held = HasUnsaved g stack start r p xs fault held due
 
 -- and the role that saves, with this piece in hand
-abbrev pub RoleLeaves : (g : Graph) (stack : StackValue) (start : Start) (r : ℕ) → Option (DuePiece Sealed) → (p : Pass) (xs : List NodeFile) (fault : Bool) (held : Option Files) → Type 0
+abbrev pub RoleLeaves : (g : Graph) (stack : StackValue) (start : Start) (r : ℕ) → Option (DuePiece Sealed)
+    → (p : Pass) (xs : List NodeFile) (fault : Bool) (held : Option Files) → Type 0
 RoleLeaves g stack start r None p xs fault held = IsSaving g stack start r p xs fault held
 RoleLeaves g stack start r (Some due) p xs fault held = HasUnsaved g stack start r p xs fault held due
 

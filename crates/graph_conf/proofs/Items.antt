@@ -16,7 +16,8 @@ one_more front x None = refl
 one_more front x (Some xs) = ap Some (sym (append_assoc front (x ∷ []) xs))
 
 -- an item of the form is one more value
-pub all_of-more : {A : Type 0} (form : Data → Option A) (front : List A) (vs : List Value) (i : ℕ) (d : Value) (x : A) → i < length vs → form (view (get_or vs i d)) ≡ Some x →
+pub all_of-more : {A : Type 0} (form : Data → Option A) (front : List A) (vs : List Value) (i : ℕ) (d : Value) (x : A) → i < length vs
+    → form (view (get_or vs i d)) ≡ Some x →
     behind front (all_of form (items_view (drop i vs))) ≡ behind (front ++ x ∷ []) (all_of form (items_view (drop (i + 1) vs)))
 all_of-more form front vs i d x within is =
     ap (λ ds. behind front (all_of form ds)) (items_view-drop vs i d within)
@@ -24,7 +25,8 @@ all_of-more form front vs i d x within is =
     ∙ one_more front x (all_of form (items_view (drop (i + 1) vs)))
 
 -- an item of another form leaves none
-pub all_of-none : {A : Type 0} (form : Data → Option A) (front : List A) (vs : List Value) (i : ℕ) (d : Value) → i < length vs → form (view (get_or vs i d)) ≡ None →
+pub all_of-none : {A : Type 0} (form : Data → Option A) (front : List A) (vs : List Value) (i : ℕ) (d : Value) → i < length vs
+    → form (view (get_or vs i d)) ≡ None →
     behind front (all_of form (items_view (drop i vs))) ≡ None
 all_of-none form front vs i d within is =
     ap (λ ds. behind front (all_of form ds)) (items_view-drop vs i d within)

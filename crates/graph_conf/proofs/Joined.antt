@@ -18,7 +18,8 @@ pub is_double-at : (ns : List NamedNode) (k : ℕ) (d : NamedNode) → k < lengt
     is_double ns k ≡ list_any (λ n. bytes_eq n.rule.name (get_or ns k d).rule.name) (take k ns)
 is_double-at ns k d within = ap (λ o. option_map_or (λ n. list_any (has_name n.rule.name) (take k ns)) o false) (slice_get-get_or ns k d within)
 
-found_later : (here : Bool) (i : ℕ) (more less : Option ℕ) → more ≡ option_map (λ k. k + 1) less → cond here (Some (i + 1)) more ≡ option_map (λ k. k + 1) (cond here (Some i) less)
+found_later : (here : Bool) (i : ℕ) (more less : Option ℕ) → more ≡ option_map (λ k. k + 1) less
+    → cond here (Some (i + 1)) more ≡ option_map (λ k. k + 1) (cond here (Some i) less)
 found_later true i more less same = refl
 found_later false i more less same = same
 
@@ -29,10 +30,13 @@ position_from-suc test i (x ∷ xs) = found_later (test x) i _ _ (position_from-
 
 -- a place at which the test fails leaves the search to those after it
 pub place_past : (test : ℕ → Bool) (k n : ℕ) → k < n → test k ≡ false → first_place test (k + 1) (n - (k + 1)) ≡ first_place test k (n - k)
-place_past test k n within fails = let e : n - k ≡ suc (n - (k + 1)) = omega arith in sym (ap (first_place test k) e ∙ ap (λ b. cond b (Some k) (first_place test (k + 1) (n - (k + 1)))) fails)
+place_past test k n within fails =
+    let e : n - k ≡ suc (n - (k + 1)) = omega arith in
+    sym (ap (first_place test k) e ∙ ap (λ b. cond b (Some k) (first_place test (k + 1) (n - (k + 1)))) fails)
 
 pub place_here : (test : ℕ → Bool) (k n : ℕ) → k < n → test k ≡ true → first_place test k (n - k) ≡ Some k
-place_here test k n within holds = let e : n - k ≡ suc (n - (k + 1)) = omega arith in ap (first_place test k) e ∙ ap (λ b. cond b (Some k) (first_place test (k + 1) (n - (k + 1)))) holds
+place_here test k n within holds =
+    let e : n - k ≡ suc (n - (k + 1)) = omega arith in ap (first_place test k) e ∙ ap (λ b. cond b (Some k) (first_place test (k + 1) (n - (k + 1)))) holds
 
 pub place_none : (test : ℕ → Bool) (n : ℕ) → first_place test n (n - n) ≡ None
 place_none test n = let e : n - n ≡ 0 = omega arith in ap (first_place test n) e
@@ -54,13 +58,15 @@ pub nodes_more : (front : List NamedNode) (v : ℕ) (t : Members) (ts : List Mem
 nodes_more front v t ts n is =
     ap (λ r. in_front front (r >>= λ m. nodes_from (v + 1) ts >>= λ more. Ok (m ∷ more))) is ∙ front_cons front n (nodes_from (v + 1) ts)
 
-pub nodes_stop : (front : List NamedNode) (v : ℕ) (t : Members) (ts : List Members) (e : GraphFault) → node_of v t ≡ Err e → in_front front (nodes_from v (t ∷ ts)) ≡ Err e
+pub nodes_stop : (front : List NamedNode) (v : ℕ) (t : Members) (ts : List Members) (e : GraphFault) → node_of v t ≡ Err e
+    → in_front front (nodes_from v (t ∷ ts)) ≡ Err e
 nodes_stop front v t ts e is = ap (λ r. in_front front (r >>= λ m. nodes_from (v + 1) ts >>= λ more. Ok (m ∷ more))) is
 
 pub inputs_more : (all : List NamedNode) (front : List ℕ) (v : ℕ) (n : NamedNode) (ns : List NamedNode) (k : ℕ) → input_number all n.input ≡ Some k →
     in_front front (input_numbers all v (n ∷ ns)) ≡ in_front (front ++ k ∷ []) (input_numbers all (v + 1) ns)
 inputs_more all front v n ns k is =
-    ap (λ o. in_front front (known_input v o >>= λ m. input_numbers all (v + 1) ns >>= λ more. Ok (m ∷ more))) is ∙ front_cons front k (input_numbers all (v + 1) ns)
+    ap (λ o. in_front front (known_input v o >>= λ m. input_numbers all (v + 1) ns >>= λ more. Ok (m ∷ more))) is
+    ∙ front_cons front k (input_numbers all (v + 1) ns)
 
 pub inputs_stop : (all : List NamedNode) (front : List ℕ) (v : ℕ) (n : NamedNode) (ns : List NamedNode) → input_number all n.input ≡ None →
     in_front front (input_numbers all v (n ∷ ns)) ≡ Err (UnknownInput v)

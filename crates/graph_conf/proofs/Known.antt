@@ -18,7 +18,8 @@ list_any_map test f [] = refl
 list_any_map test f (x ∷ xs) = ap (λ b. test (f x) || b) (list_any_map test f xs)
 
 -- of two keys above a third, the lesser is above it
-lesser_above : (k key : List ℕ) (o : Option (List ℕ)) → slice_cmp nat_cmp k key ≡ Less → IfSome o (λ other. slice_cmp nat_cmp k other ≡ Less) → slice_cmp nat_cmp k (lesser key o) ≡ Less
+lesser_above : (k key : List ℕ) (o : Option (List ℕ)) → slice_cmp nat_cmp k key ≡ Less → IfSome o (λ other. slice_cmp nat_cmp k other ≡ Less)
+    → slice_cmp nat_cmp k (lesser key o) ≡ Less
 lesser_above k key None here more = here
 lesser_above k key (Some other) here more =
     elim (cases_Bool (is_lt (slice_cmp nat_cmp other key))) [
@@ -36,7 +37,8 @@ unknown_above : (known : List (List ℕ)) (k : String Global) (es : List Entry) 
     IfSome (first_unknown known (members_view es)) (λ other. slice_cmp nat_cmp (string_bytes k) other ≡ Less)
 unknown_above known k [] above = tt
 unknown_above known k (e ∷ es) above =
-    found_above (string_bytes k) (string_bytes e.0) (first_unknown known (members_view es)) (list_any (bytes_eq (string_bytes e.0)) known) above.0 (unknown_above known k es above.1)
+    found_above (string_bytes k) (string_bytes e.0) (first_unknown known (members_view es))
+    (list_any (bytes_eq (string_bytes e.0)) known) above.0 (unknown_above known k es above.1)
 
 lesser_first : (key : List ℕ) (o : Option (List ℕ)) → IfSome o (λ other. slice_cmp nat_cmp key other ≡ Less) → lesser key o ≡ key
 lesser_first key None above = refl
@@ -46,9 +48,11 @@ lesser_first key (Some other) above =
 
 first_key : (known : List (Bor (List ℕ))) (e : Entry) (rest : List Entry) (is : Bool) → list_any (λ k. bytes_eq (string_bytes e.0) k.now) known ≡ is →
     first_unknown (map (λ k. k.now) known) (members_view (e ∷ rest))
-    ≡ cond is (first_unknown (map (λ k. k.now) known) (members_view rest)) (Some (lesser (string_bytes e.0) (first_unknown (map (λ k. k.now) known) (members_view rest))))
+    ≡ cond is (first_unknown (map (λ k. k.now) known) (members_view rest))
+    (Some (lesser (string_bytes e.0) (first_unknown (map (λ k. k.now) known) (members_view rest))))
 first_key known e rest is h =
-    ap (λ b. cond b (first_unknown (map (λ k. k.now) known) (members_view rest)) (Some (lesser (string_bytes e.0) (first_unknown (map (λ k. k.now) known) (members_view rest)))))
+    ap (λ b. cond b (first_unknown (map (λ k. k.now) known) (members_view rest))
+    (Some (lesser (string_bytes e.0) (first_unknown (map (λ k. k.now) known) (members_view rest)))))
     (list_any_map (bytes_eq (string_bytes e.0)) (λ k. k.now) known ∙ h)
 
 -- a key that is known leaves the search to those after it
@@ -57,7 +61,8 @@ pub past_known : (known : List (Bor (List ℕ))) (e : Entry) (rest : List Entry)
 past_known known e rest h = first_key known e rest true h
 
 -- one that isn't is the first, where those after it are above it
-pub at_unknown : (known : List (Bor (List ℕ))) (e : Entry) (rest : List Entry) → list_any (λ k. bytes_eq (string_bytes e.0) k.now) known ≡ false → AllByRecursion (λ y. string_cmp e.0 y ≡ Less) (keys_of rest) →
+pub at_unknown : (known : List (Bor (List ℕ))) (e : Entry) (rest : List Entry) → list_any (λ k. bytes_eq (string_bytes e.0) k.now) known ≡ false
+    → AllByRecursion (λ y. string_cmp e.0 y ≡ Less) (keys_of rest) →
     first_unknown (map (λ k. k.now) known) (members_view (e ∷ rest)) ≡ Some (string_bytes e.0)
 at_unknown known e rest h above =
     first_key known e rest false h ∙ ap Some (lesser_first (string_bytes e.0) _ (unknown_above (map (λ k. k.now) known) e.0 rest above))

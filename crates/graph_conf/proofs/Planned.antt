@@ -23,7 +23,8 @@ use Rattle.graph_conf.specs.Loads.{kept_by, kept_from, file_bytes, file_bytes_at
 use Rattle.graph_conf.specs.declared.load.LimitFault.TheVariants.{FileTooLarge}
 use Rattle.chain_plain.specs.Plans.{region_shape, stack_shape, shape_at, maker_of, plan_of}
 
-found_map : {X Y : Type 0} (f : X → Y) (here : Bool) (x : X) (later : Option Y) (rest : Option X) → later ≡ option_map f rest → cond here (Some (f x)) later ≡ option_map f (cond here (Some x) rest)
+found_map : {X Y : Type 0} (f : X → Y) (here : Bool) (x : X) (later : Option Y) (rest : Option X) → later ≡ option_map f rest
+    → cond here (Some (f x)) later ≡ option_map f (cond here (Some x) rest)
 found_map f true x later rest same = refl
 found_map f false x later rest same = same
 
@@ -56,7 +57,8 @@ found_number p k (x ∷ xs) passes among =
           ]
     ]
 
-region_known : (nodes : List NodeRule) (k : ℕ) (o : Option NodeRule) → o ≡ rule_at nodes k → option_map_or (λ n. makes_arrays n.kind) o false ≡ true → k ≤ length nodes
+region_known : (nodes : List NodeRule) (k : ℕ) (o : Option NodeRule) → o ≡ rule_at nodes k
+    → option_map_or (λ n. makes_arrays n.kind) o false ≡ true → k ≤ length nodes
 region_known nodes k None same h = absurd (cc)
 region_known nodes k (Some n) same h = rule_within nodes k n same
 
@@ -96,10 +98,12 @@ found_holds P test (y ∷ ys) x all h =
 node_dims : (g : Graph) (s : StackValue) (v : ℕ) → IsGraph g → IsStack s → IsArrayShape (shape_at g.nodes s.shape v).dims
 node_dims g s v sound stack =
     subst (λ made. IsArrayShape made.dims) (maker_shape g s v sound)
-    (found_holds (λ m. IsArrayShape m.dims) (λ m. m.node == maker_at g.nodes v) (plan_of g s).makers _ (recursion_from_All (λ m. IsArrayShape m.dims) (plan_of g s).makers (plans-sound g s stack)) (planned_maker g s v))
+    (found_holds (λ m. IsArrayShape m.dims) (λ m. m.node == maker_at g.nodes v) (plan_of g s).makers _
+    (recursion_from_All (λ m. IsArrayShape m.dims) (plan_of g s).makers (plans-sound g s stack)) (planned_maker g s v))
 
 -- and so a file of its arrays can be spelled
-pub node_writable : (g : Graph) (s : StackValue) (v : ℕ) (kind : SampleType) (dims : List Dim) → IsGraph g → IsStack s → IsWritable s.shape → dims ≡ (shape_at g.nodes s.shape v).dims → IsWritable (record s.shape { kind = kind; dims = dims })
+pub node_writable : (g : Graph) (s : StackValue) (v : ℕ) (kind : SampleType) (dims : List Dim) → IsGraph g → IsStack s → IsWritable s.shape
+    → dims ≡ (shape_at g.nodes s.shape v).dims → IsWritable (record s.shape { kind = kind; dims = dims })
 node_writable g s v kind dims sound stack shape same =
     let array = subst IsArrayShape (sym same) (node_dims g s v sound stack) in
     shape_for-IsWritable s.shape s.shape.form kind dims shape array.dimensions array.few
@@ -113,7 +117,8 @@ pub kept_next : (g : Graph) (s : StackValue) (k n : ℕ) (node : NodeRule) → k
 kept_next g s k n node within is =
     let e : n - k ≡ suc (n - (k + 1)) = omega arith in
     ap (kept_from g s (k + 1)) e
-    ∙ ap (λ o. length s.arrays * option_map_or (λ m. kept_by m.kind (shape_at g.nodes s.shape (k + 1)).dims) o 0 + kept_from g s (k + 1 + 1) (n - (k + 1))) (rule_after g.nodes k ∙ is)
+    ∙ ap (λ o. length s.arrays * option_map_or (λ m. kept_by m.kind (shape_at g.nodes s.shape (k + 1)).dims) o 0 + kept_from g s (k + 1 + 1) (n - (k + 1)))
+    (rule_after g.nodes k ∙ is)
 
 pub kept_none : (g : Graph) (s : StackValue) (v n : ℕ) → kept_from g s v (n - n) ≡ 0
 kept_none g s v n = let e : n - n ≡ 0 = omega arith in ap (kept_from g s v) e
@@ -126,7 +131,8 @@ pub few_numbers : (frames numbers : ℕ) → frames ≤ 1048576 → numbers ≤ 
 few_numbers frames numbers few small = mul-le-mul few small
 
 pub bytes_at : (g : Graph) (s : StackValue) (k : ℕ) (node : NodeRule) → slice_get g.nodes k ≡ Some node →
-    file_bytes_at g s (k + 1) ≡ file_bytes node.kind (record s.shape { kind = (shape_at g.nodes s.shape (k + 1)).kind; dims = (shape_at g.nodes s.shape (k + 1)).dims }) (length s.arrays)
+    file_bytes_at g s (k + 1)
+    ≡ file_bytes node.kind (record s.shape { kind = (shape_at g.nodes s.shape (k + 1)).kind; dims = (shape_at g.nodes s.shape (k + 1)).dims }) (length s.arrays)
 bytes_at g s k node is =
     let shape = record s.shape { kind = (shape_at g.nodes s.shape (k + 1)).kind; dims = (shape_at g.nodes s.shape (k + 1)).dims } in
     ap (λ o. option_map_or (λ m. file_bytes m.kind shape (length s.arrays)) o 0) (rule_after g.nodes k ∙ is)
@@ -134,7 +140,8 @@ bytes_at g s k node is =
 pub most_at : (g : Graph) (k : ℕ) (node : NodeRule) → slice_get g.nodes k ≡ Some node → most_bytes_at g (k + 1) ≡ most_bytes node.kind
 most_at g k node is = ap (λ o. option_map_or (λ m. most_bytes m.kind) o 0) (rule_after g.nodes k ∙ is)
 
-pub too_long_next : (g : Graph) (s : StackValue) (k n bytes most : ℕ) (b : Bool) → k < n → bytes ≡ file_bytes_at g s (k + 1) → most ≡ most_bytes_at g (k + 1) → nat_lt most bytes ≡ b →
+pub too_long_next : (g : Graph) (s : StackValue) (k n bytes most : ℕ) (b : Bool) → k < n → bytes ≡ file_bytes_at g s (k + 1)
+    → most ≡ most_bytes_at g (k + 1) → nat_lt most bytes ≡ b →
     first_too_long g s (k + 1) (n - k) ≡ cond b (Some (FileTooLarge (k + 1) bytes)) (first_too_long g s (k + 1 + 1) (n - (k + 1)))
 too_long_next g s k n bytes most b within is limit long =
     let e : n - k ≡ suc (n - (k + 1)) = omega arith in

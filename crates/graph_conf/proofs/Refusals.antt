@@ -5,7 +5,8 @@ use Rattle.graph_conf.specs.declared.fault.GraphFault.TheVariants.{Text, Unknown
 use Rattle.graph_conf.specs.Answers.{Refuses}
 
 -- a fault of a part is one of the whole, where the whole has each fault of the part
-pub handed_on : {X Y : Type 0} (e : GraphFault) (part : Result X GraphFault) (whole : Result Y GraphFault) → ((f : GraphFault) → part ≡ Err f → whole ≡ Err f) → Refuses e part → Refuses e whole
+pub handed_on : {X Y : Type 0} (e : GraphFault) (part : Result X GraphFault) (whole : Result Y GraphFault)
+    → ((f : GraphFault) → part ≡ Err f → whole ≡ Err f) → Refuses e part → Refuses e whole
 handed_on Text part whole on refused = on Text refused
 handed_on (UnknownKey key) part whole on refused = on (UnknownKey key) refused
 handed_on (KeyType key) part whole on refused = on (KeyType key) refused

@@ -79,15 +79,20 @@ distinct_names ns single i j e before within same =
     let d = some_named ns j within in
     let first = get_or-map (λ n. n.rule.name) ns i d e (omega arith) in
     let second = get_or-map (λ n. n.rule.name) ns j d e within in
-    let names : (get_or (take j ns) i d).rule.name ≡ (get_or ns j d).rule.name = ap (λ n. n.rule.name) (get_or-take j ns i d before) ∙ sym first ∙ same ∙ second in
-    let found = list_any_at (λ n. bytes_eq n.rule.name (get_or ns j d).rule.name) (take j ns) i d (omega (arith, length-take-le j ns (omega arith))) (same_text _ _ names) in
+    let names : (get_or (take j ns) i d).rule.name ≡ (get_or ns j d).rule.name =
+    ap (λ n. n.rule.name) (get_or-take j ns i d before) ∙ sym first ∙ same ∙ second in
+    let found =
+    list_any_at (λ n. bytes_eq n.rule.name (get_or ns j d).rule.name) (take j ns) i d
+    (omega (arith, length-take-le j ns (omega arith))) (same_text _ _ names) in
     let none = sym (is_double-at ns j d within) ∙ single j within in
     absurd (cc)
 
-single_names : (ns : List NamedNode) → refused_node DoubleName (first_place (is_double ns) 0 (length ns)) ≡ Ok tt → (k : ℕ) → k < length ns → is_double ns k ≡ false
+single_names : (ns : List NamedNode) → refused_node DoubleName (first_place (is_double ns) 0 (length ns)) ≡ Ok tt → (k : ℕ)
+    → k < length ns → is_double ns k ≡ false
 single_names ns h k within = none_found (is_double ns) 0 (length ns) (not_refused DoubleName _ h) k (omega arith) (omega arith)
 
-names_differ : (ns : List NamedNode) (ks : List ℕ) → length ks ≡ length ns → ((k : ℕ) → k < length ns → is_double ns k ≡ false) → AllPairs (λ m n. m.name ≢ n.name) (with_inputs ns ks)
+names_differ : (ns : List NamedNode) (ks : List ℕ) → length ks ≡ length ns → ((k : ℕ) → k < length ns → is_double ns k ≡ false)
+    → AllPairs (λ m n. m.name ≢ n.name) (with_inputs ns ks)
 names_differ ns ks same single i j d before within =
     let rs = with_inputs ns ks in
     let inside : j < length ns = omega (arith, length-with_inputs ns ks same) in
@@ -102,7 +107,8 @@ names_differ ns ks same single i j d before within =
 abbrev Fed : List NamedNode → ℕ → Type 0
 Fed all k = (name : List ℕ) × (input_number all name ≡ Some k)
 
-known : (v : ℕ) (o : Option ℕ) (next : ℕ → Result (List ℕ) GraphFault) (ks : List ℕ) → (known_input v o >>= next) ≡ Ok ks → (k : ℕ) × (o ≡ Some k) × (next k ≡ Ok ks)
+known : (v : ℕ) (o : Option ℕ) (next : ℕ → Result (List ℕ) GraphFault) (ks : List ℕ) → (known_input v o >>= next) ≡ Ok ks
+    → (k : ℕ) × (o ≡ Some k) × (next k ≡ Ok ks)
 known v None next ks h = absurd (cc)
 known v (Some k) next ks h = (k, refl, h)
 
@@ -118,7 +124,8 @@ all_fed all v (m ∷ ms) ks h =
     rw e ((m.input, is), all_fed all (v + 1) ms more read)
 
 -- a node that is found by name and may have children is a source
-found_feeds : (name : List ℕ) (ns : List NamedNode) (ks : List ℕ) (i k : ℕ) → length ks ≡ length ns → position_from (λ n. has_name name n && may_feed n.rule.kind) i ns ≡ Some k →
+found_feeds : (name : List ℕ) (ns : List NamedNode) (ks : List ℕ) (i k : ℕ) → length ks ≡ length ns
+    → position_from (λ n. has_name name n && may_feed n.rule.kind) i ns ≡ Some k →
     (j : ℕ) × (k ≡ i + j) × (option_map_or (λ n. may_feed n.kind) (slice_get (with_inputs ns ks) j) false ≡ true)
 found_feeds name [] ks i k same h = absurd (cc)
 found_feeds name (n ∷ ns) [] i k same h = absurd (omega arith)
@@ -161,7 +168,8 @@ each P Q f (x ∷ xs) h = (f x h.0, each P Q f xs h.1)
 
 -- CYCLES
 
-input_at : (ns : List NamedNode) (ks : List ℕ) (j : ℕ) → length ks ≡ length ns → option_map_or (λ r. r.input) (slice_get (with_inputs ns ks) j) 0 ≡ unwrap_or (slice_get ks j) 0
+input_at : (ns : List NamedNode) (ks : List ℕ) (j : ℕ) → length ks ≡ length ns
+    → option_map_or (λ r. r.input) (slice_get (with_inputs ns ks) j) 0 ≡ unwrap_or (slice_get ks j) 0
 input_at [] [] j same = refl
 input_at [] (k ∷ ks) j same = absurd (omega arith)
 input_at (n ∷ ns) [] j same = absurd (omega arith)
@@ -172,7 +180,8 @@ same_input : (ns : List NamedNode) (ks : List ℕ) (v : ℕ) → length ks ≡ l
 same_input ns ks zero same = refl
 same_input ns ks (suc j) same = input_at ns ks j same
 
-same_source : (ns : List NamedNode) (ks : List ℕ) (steps v : ℕ) → length ks ≡ length ns → graph_rules.source_of (with_inputs ns ks) steps v ≡ source_of ks steps v
+same_source : (ns : List NamedNode) (ks : List ℕ) (steps v : ℕ) → length ks ≡ length ns
+    → graph_rules.source_of (with_inputs ns ks) steps v ≡ source_of ks steps v
 same_source ns ks zero v same = refl
 same_source ns ks (suc steps) v same =
     ap (graph_rules.source_of (with_inputs ns ks) steps) (same_input ns ks v same) ∙ same_source ns ks steps (input_of ks v) same
@@ -185,7 +194,9 @@ leads_up : (ks : List ℕ) → refused_node Cycle (first_place (is_circular ks) 
 leads_up ks h zero within = driver_stays ks (length ks)
 leads_up ks h (suc k) within =
     let e : k + 1 ≡ suc k = omega arith in
-    let straight : not (source_of ks (length ks) (suc k) == 0) ≡ false = subst (λ v. not (source_of ks (length ks) v == 0) ≡ false) e (none_found (is_circular ks) 0 (length ks) (not_refused Cycle _ h) k (omega arith) (omega arith)) in
+    let straight : not (source_of ks (length ks) (suc k) == 0) ≡ false =
+    subst (λ v. not (source_of ks (length ks) v == 0) ≡ false) e
+    (none_found (is_circular ks) 0 (length ks) (not_refused Cycle _ h) k (omega arith) (omega arith)) in
     grind (arith, nat_tests)
 
 -- what the tests let through is a graph's nodes
@@ -202,7 +213,8 @@ are_linked ns ks nodes few same distinct numbers acyclic threads =
       nodes = All-from_recursion IsNode rs (nodes_with ns ks (recursion_from_All (λ n. IsNode n.rule) ns nodes));
       names = names_differ ns ks same (single_names ns distinct);
       inputs = All-from_recursion (λ n. IsTrue (is_source rs n.input)) rs
-          (inputs_with (λ k. IsTrue (is_source rs k)) ns ks (each (Fed ns) (λ k. IsTrue (is_source rs k)) (λ k fed. fed_is_source ns ks k same fed) ks (all_fed ns 1 ns ks numbers)));
+          (inputs_with (λ k. IsTrue (is_source rs k)) ns ks
+          (each (Fed ns) (λ k. IsTrue (is_source rs k)) (λ k fed. fed_is_source ns ks k same fed) ks (all_fed ns 1 ns ks numbers)));
       acyclic = λ v within.
           let e : length rs ≡ length ks = count ∙ sym same in
           ap (λ s. graph_rules.source_of rs s v) e ∙ same_source ns ks (length ks) v same ∙ leads_up ks acyclic v (omega arith);

@@ -53,7 +53,8 @@ file_bytes Scatter shape frames = 0
 
 abbrev pub file_bytes_at : Graph → StackValue → ℕ → ℕ
 file_bytes_at g s v =
-    option_map_or (λ n. file_bytes n.kind (record s.shape { kind = (shape_at g.nodes s.shape v).kind; dims = (shape_at g.nodes s.shape v).dims }) (length s.arrays)) (rule_at g.nodes v) 0
+    option_map_or (λ n. file_bytes n.kind (record s.shape { kind = (shape_at g.nodes s.shape v).kind; dims = (shape_at g.nodes s.shape v).dims })
+    (length s.arrays)) (rule_at g.nodes v) 0
 
 -- the most bytes that a file of a node may have; 0 at other kinds, which write none
 abbrev pub most_bytes : Kind → ℕ

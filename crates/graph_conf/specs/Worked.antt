@@ -26,11 +26,13 @@ file_node lines = codes "[[node]]\nname = 'cap'\nkind = 'file'\ninput = 'driver'
 abbrev stats_node : List ℕ → List ℕ
 stats_node lines = codes "[[node]]\nname = 'st'\nkind = 'stats'\ninput = 'driver'\n" ++ lines
 
-one_file_node : of_text (file_node (codes "count = 5\n")) ≡ Ok (record { wait = false; limit = 0; nodes = record { name = codes "cap"; kind = File (record { mode = Capture; count = 5; form = Classic }); input = 0; queue = 20; threads = 1; sort = 0; sort_time = 100 } ∷ [] })
+one_file_node : of_text (file_node (codes "count = 5\n")) ≡ Ok (record { wait = false; limit = 0; nodes = record { name = codes "cap";
+    kind = File (record { mode = Capture; count = 5; form = Classic }); input = 0; queue = 20; threads = 1; sort = 0; sort_time = 100 } ∷ [] })
 unfolding toml_on_literals graph_of run_table node_key linked node_of roi_rule stats_rule circular_rule file_rule
 one_file_node = refl
 
-wide_file_node : of_text (file_node (codes "cdf = 2\n")) ≡ Ok (record { wait = false; limit = 0; nodes = record { name = codes "cap"; kind = File (record { mode = Capture; count = 1; form = Wide }); input = 0; queue = 20; threads = 1; sort = 0; sort_time = 100 } ∷ [] })
+wide_file_node : of_text (file_node (codes "cdf = 2\n")) ≡ Ok (record { wait = false; limit = 0; nodes = record { name = codes "cap";
+    kind = File (record { mode = Capture; count = 1; form = Wide }); input = 0; queue = 20; threads = 1; sort = 0; sort_time = 100 } ∷ [] })
 unfolding toml_on_literals graph_of run_table node_key linked node_of roi_rule stats_rule circular_rule file_rule
 wide_file_node = refl
 
@@ -102,16 +104,20 @@ histogram_of_one_value : of_text (stats_node (codes "hist_size = 4\nhist_lo = 7\
 unfolding toml_on_literals graph_of run_table node_key linked node_of roi_rule stats_rule circular_rule file_rule
 histogram_of_one_value = refl
 
-no_histogram : of_text (stats_node (codes "hist_lo = 7\nhist_hi = 7\n")) ≡ Ok (record { wait = false; limit = 0; nodes = record { name = codes "st"; kind = Stats (record { threshold = pos 0; border = 0; hist_size = 0; hist_lo = pos 7; hist_hi = pos 7; profiles = false }); input = 0; queue = 20; threads = 1; sort = 0; sort_time = 100 } ∷ [] })
+no_histogram : of_text (stats_node (codes "hist_lo = 7\nhist_hi = 7\n"))
+    ≡ Ok (record { wait = false; limit = 0; nodes = record { name = codes "st"; kind = Stats (record { threshold = pos 0; border = 0; hist_size = 0;
+    hist_lo = pos 7; hist_hi = pos 7; profiles = false }); input = 0; queue = 20; threads = 1; sort = 0; sort_time = 100 } ∷ [] })
 unfolding toml_on_literals graph_of run_table node_key linked node_of roi_rule stats_rule circular_rule file_rule
 no_histogram = refl
 
 trigger_that_ends_too_early : of_text (codes "[[node]]\nname = 'c'\nkind = 'circular'\ninput = 'driver'\ntrigger = 'A>'\n") ≡ Err (Calc (Unexpected 2))
-unfolding toml_on_literals graph_of run_table node_key linked node_of roi_rule stats_rule circular_rule file_rule expression_of sign_in parts chain tokens_from symbol_at
+unfolding toml_on_literals graph_of run_table node_key linked node_of roi_rule stats_rule circular_rule file_rule expression_of
+    sign_in parts chain tokens_from symbol_at
 trigger_that_ends_too_early = refl
 
 -- a list's length comes before its items
-eleven_sizes : of_text (codes "[[node]]\nname = 'r'\nkind = 'roi'\ninput = 'driver'\nsize = [1, 1, 1, 1, 1, 1, 1, 1, 1, 1, 4294967296]\n") ≡ Err (Range (codes "size") (pos 11))
+eleven_sizes : of_text (codes "[[node]]\nname = 'r'\nkind = 'roi'\ninput = 'driver'\nsize = [1, 1, 1, 1, 1, 1, 1, 1, 1, 1, 4294967296]\n")
+    ≡ Err (Range (codes "size") (pos 11))
 unfolding toml_on_literals graph_of run_table node_key linked node_of roi_rule stats_rule circular_rule file_rule
 eleven_sizes = refl
 
@@ -120,8 +126,10 @@ region_of_a_region : of_text (codes "[run]\nfeed = 'wait'\npool = 64\n[[node]]\n
   wait = true;
   limit = 64;
   nodes =
-      record { name = codes "r"; kind = Roi (record { min = []; size = []; bin = pos 2 ∷ pos 2 ∷ []; reverse = []; auto = []; scale = 1; out = Some UInt16 }); input = 2; queue = 20; threads = 1; sort = 0; sort_time = 100 }
-      ∷ record { name = codes "q"; kind = Roi (record { min = []; size = []; bin = []; reverse = []; auto = []; scale = 1; out = None }); input = 0; queue = 20; threads = 1; sort = 0; sort_time = 100 } ∷ [];
+      record { name = codes "r"; kind = Roi (record { min = []; size = []; bin = pos 2 ∷ pos 2 ∷ []; reverse = []; auto = []; scale = 1; out = Some UInt16 });
+      input = 2; queue = 20; threads = 1; sort = 0; sort_time = 100 }
+      ∷ record { name = codes "q"; kind = Roi (record { min = []; size = []; bin = []; reverse = []; auto = []; scale = 1; out = None }); input = 0; queue = 20;
+      threads = 1; sort = 0; sort_time = 100 } ∷ [];
 })
 unfolding toml_on_literals graph_of run_table node_key linked node_of roi_rule stats_rule circular_rule file_rule
 region_of_a_region = refl

@@ -70,14 +70,16 @@ none-file : (x : NodeFile) (arrays : List Array) (i : ℕ) → x.current ≡ Non
 none-file x arrays i none_ = ap (λ o. file_of o x.shape (group_of x.count i arrays)) (none-open x (length arrays) i none_)
 
 -- an open file that has a row is one of a group that has an array
-filled-some : (x : NodeFile) (t : Option Files) (some : 1 ≤ x.count) (arrays : List Array) → AreWritten x arrays t → (f : Stream) → x.current ≡ Some f → IsFilled x.current
+filled-some : (x : NodeFile) (t : Option Files) (some : 1 ≤ x.count) (arrays : List Array) → AreWritten x arrays t → (f : Stream)
+    → x.current ≡ Some f → IsFilled x.current
     → IsSome (whole_file x.shape (group_of x.count (length arrays / x.count) arrays))
 filled-some x t some arrays h f is filled =
     let rows = end-rows x t t some arrays h f is (Same refl) in
     let full = subst IsFilled is filled in
     whole-some x.shape (group_of x.count (length arrays / x.count) arrays) (omega (arith, rows.all, full.0))
 
-stands-closed : (x : NodeFile) (t : Option Files) (some : 1 ≤ x.count) (arrays : List Array) → AreWritten x arrays t → IsFilled x.current → (i : ℕ) → IsSome (group_file x arrays i)
+stands-closed : (x : NodeFile) (t : Option Files) (some : 1 ≤ x.count) (arrays : List Array) → AreWritten x arrays t → IsFilled x.current
+    → (i : ℕ) → IsSome (group_file x arrays i)
     → IsSome (group_file (closed x) arrays i)
 stands-closed x t some arrays h filled i named =
     some-by (sym (closed-file x arrays i)) (elim (cases_eq i (length arrays / x.count)) [
@@ -89,8 +91,10 @@ stands-closed x t some arrays h filled i named =
     by_open None is here = some-by (none-file x arrays i is) named
     by_open (Some f) is here = subst (λ (j : ℕ). IsSome (whole_file x.shape (group_of x.count j arrays))) (sym here) (filled-some x t some arrays h f is filled)
 
-module _ (before : Option Files) (xs : List NodeFile) (written : ℕ → List Array) (k : ℕ) (x : NodeFile) (at : slice_get xs k ≡ Some x) (apart : AreApart xs) (some : 1 ≤ x.count)
-    (t u : Option Files) (h : AllStand before xs written t) (here : AreWritten x (written x.node) t) (changed : IsChangedAt t (name_of x (open_group x written)) u) where
+module _ (before : Option Files) (xs : List NodeFile) (written : ℕ → List Array) (k : ℕ) (x : NodeFile) (at : slice_get xs k ≡ Some x)
+    (apart : AreApart xs) (some : 1 ≤ x.count)
+    (t u : Option Files) (h : AllStand before xs written t) (here : AreWritten x (written x.node) t)
+    (changed : IsChangedAt t (name_of x (open_group x written)) u) where
   abbrev ys : List NodeFile
   ys = set xs k (closed x)
 
@@ -103,7 +107,9 @@ module _ (before : Option Files) (xs : List NodeFile) (written : ℕ → List Ar
   other-bytes : (j : ℕ) (y : NodeFile) → slice_get xs j ≡ Some y → j ≢ k → (i : ℕ) → HasBytes u (name_of y i) (group_file y (written y.node) i)
   other-bytes j y is ne i =
       elim (cases_lt i (2 ^ 64)) [
-        | inl low ↦ changed-HasBytes t u (name_of x g) (name_of y i) (group_file y (written y.node) i) changed ((apart j k y x is at ne).1 i g low small) (h.each j y i is)
+        | inl low ↦
+            changed-HasBytes t u (name_of x g) (name_of y i) (group_file y (written y.node) i) changed
+            ((apart j k y x is at ne).1 i g low small) (h.each j y i is)
         | inr high ↦ subst (HasBytes u (name_of y i)) (sym (far-none y (written y.node) i (omega (arith, high, h.few j y is)))) tt
       ]
 
@@ -125,7 +131,8 @@ module _ (before : Option Files) (xs : List NodeFile) (written : ℕ → List Ar
           | inl there ↦
               let same : y ≡ x = some-same (sym is ∙ ap (slice_get xs) there ∙ at) in
               let has : IsSome (group_file x (written x.node) i) = subst (λ (z : NodeFile). IsSome (group_file z (written z.node) i)) same named in
-              (λ e. away k (closed x) i (get-set_same xs k x (closed x) at) (stands-closed x t some (written x.node) here filled i has) (e ∙ ap (λ (z : NodeFile). name_of z i) same))
+              (λ e. away k (closed x) i (get-set_same xs k x (closed x) at) (stands-closed x t some (written x.node) here filled i has)
+              (e ∙ ap (λ (z : NodeFile). name_of z i) same))
           | inr ne ↦ away j y i (get-set_other xs k j (closed x) ne ∙ is) named
         ]
 
@@ -133,7 +140,8 @@ module _ (before : Option Files) (xs : List NodeFile) (written : ℕ → List Ar
     others-by None is still q away = ap (λ (w : Option Files). file_at w q) (still is) ∙ h.others q (elsewhere q away)
     others-by (Some f) is still q away =
         changed-file_at t u (name_of x g) q changed
-        (away k (closed x) g (get-set_same xs k x (closed x) at) (some-by (sym (closed-file x (written x.node) g)) (filled-some x t some (written x.node) here f is filled)))
+        (away k (closed x) g (get-set_same xs k x (closed x) at)
+        (some-by (sym (closed-file x (written x.node) g)) (filled-some x t some (written x.node) here f is filled)))
         ∙ h.others q (elsewhere q away)
 
     -- it ended
@@ -143,7 +151,8 @@ module _ (before : Option Files) (xs : List NodeFile) (written : ℕ → List Ar
       each = λ j y i is. elim (cases_eq j k) [
         | inl there ↦
             let same : closed x ≡ y = this y (ap (slice_get ys) (sym there) ∙ is) in
-            subst (λ (z : NodeFile). HasBytes u (name_of z i) (group_file z (written z.node) i)) same (subst (HasBytes u (name_of x i)) (sym (closed-file x (written x.node) i)) (ended i))
+            subst (λ (z : NodeFile). HasBytes u (name_of z i) (group_file z (written z.node) i)) same
+            (subst (HasBytes u (name_of x i)) (sym (closed-file x (written x.node) i)) (ended i))
         | inr ne ↦ other-bytes j y (old j y ne is) ne i
       ];
       few = λ j y is. elim (cases_eq j k) [
@@ -164,7 +173,8 @@ module _ (before : Option Files) (xs : List NodeFile) (written : ℕ → List Ar
           | inl there ↦
               let same : closed x ≡ y = this y (ap (slice_get ys) (sym there) ∙ is) in
               let away : i ≢ g = elim off [ inl other ↦ absurd (other (ap (λ (z : NodeFile). z.node) (sym same))) | inr ne ↦ ne ] in
-              let e : group_file x (written x.node) i ≡ group_file (closed x) (written x.node) i = other-file x (written x.node) i away ∙ sym (closed-file x (written x.node) i) in
+              let e : group_file x (written x.node) i ≡ group_file (closed x) (written x.node) i =
+              other-file x (written x.node) i away ∙ sym (closed-file x (written x.node) i) in
               subst (λ (z : NodeFile). HasBytes u (name_of z i) (group_file z (written z.node) i)) same (subst (HasBytes u (name_of x i)) e (stops.0 i away))
           | inr ne ↦ other-bytes j y (old j y ne is) ne i
         ];
@@ -176,14 +186,18 @@ module _ (before : Option Files) (xs : List NodeFile) (written : ℕ → List Ar
 -- ALL NODES
 
 -- at the beginning
-pub all-stand : (before : Option Files) (xs : List NodeFile) (written : ℕ → List Array) (t : Option Files) → AllWritten before xs written t → AllStand before (ended_to 0 xs) written t
+pub all-stand : (before : Option Files) (xs : List NodeFile) (written : ℕ → List Array) (t : Option Files) → AllWritten before xs written t
+    → AllStand before (ended_to 0 xs) written t
 all-stand before xs written t h =
-    subst (λ (zs : List NodeFile). AllStand before zs written t) (sym (ended_to-first xs)) (record { told = h.told; each = λ k x i is. (h.each k x is).each i; few = h.few; others = h.others })
+    subst (λ (zs : List NodeFile). AllStand before zs written t) (sym (ended_to-first xs))
+    (record { told = h.told; each = λ k x i is. (h.each k x is).each i; few = h.few; others = h.others })
 
 -- at the end
-pub all-ended : (before : Option Files) (xs : List NodeFile) (written : ℕ → List Array) (n : ℕ) (u : Option Files) → n ≡ length xs → AllStand before (ended_to n xs) written u → AllEnded before xs written u
+pub all-ended : (before : Option Files) (xs : List NodeFile) (written : ℕ → List Array) (n : ℕ) (u : Option Files) → n ≡ length xs
+    → AllStand before (ended_to n xs) written u → AllEnded before xs written u
 all-ended before xs written n u whole stand =
-    let h : AllStand before (map closed xs) written u = subst (λ (zs : List NodeFile). AllStand before zs written u) (ap (λ (m : ℕ). ended_to m xs) whole ∙ ended_to-all xs) stand in
+    let h : AllStand before (map closed xs) written u =
+    subst (λ (zs : List NodeFile). AllStand before zs written u) (ap (λ (m : ℕ). ended_to m xs) whole ∙ ended_to-all xs) stand in
     record {
       told = h.told;
       each = λ k x is i. subst (HasBytes u (name_of x i)) (closed-file x (written x.node) i) (h.each k (closed x) i (closed-at xs k x is));
@@ -195,12 +209,14 @@ all-ended before xs written n u whole stand =
     }
 
 -- a torn name, whatever was called before
-torn-from : (o : Option Stream) (x : NodeFile) (i : ℕ) (arrays : List Array) (first t u : Option Files) → file_at t (name_of x i) ≡ file_at first (name_of x i) → EndTorn o x i arrays t u
+torn-from : (o : Option Stream) (x : NodeFile) (i : ℕ) (arrays : List Array) (first t u : Option Files)
+    → file_at t (name_of x i) ≡ file_at first (name_of x i) → EndTorn o x i arrays t u
     → EndTorn o x i arrays first u
 torn-from None x i arrays first t u same torn = torn
 torn-from (Some f) x i arrays first t u same torn = subst (λ (b : Option (List ℕ)). IsTorn b x.shape f.numrecs arrays (file_at u (name_of x i))) same torn
 
-pub stops-then : (before : Option Files) (xs zs : List NodeFile) (written : ℕ → List Array) (n : ℕ) (x : NodeFile) (first t u : Option Files) → slice_get xs n ≡ Some x
+pub stops-then : (before : Option Files) (xs zs : List NodeFile) (written : ℕ → List Array) (n : ℕ) (x : NodeFile) (first t u : Option Files)
+    → slice_get xs n ≡ Some x
     → file_at t (name_of x (open_group x written)) ≡ file_at first (name_of x (open_group x written))
     → zs ≡ set (ended_to n xs) n (closed x) → OneEndStops before x zs written t u → AllEndStops before xs written first u
 stops-then before xs zs written n x first t u listed name made stops =
@@ -209,7 +225,9 @@ stops-then before xs zs written n x first t u listed name made stops =
       at = n;
       node = x;
       listed = listed;
-      stops = (subst (λ (ws : List NodeFile). AllWrittenBut before ws written x (open_group x written) u) done stops.0, torn-from x.current x (open_group x written) (group_of x.count (open_group x written) (written x.node)) first t u name stops.1);
+      stops =
+          (subst (λ (ws : List NodeFile). AllWrittenBut before ws written x (open_group x written) u) done stops.0,
+          torn-from x.current x (open_group x written) (group_of x.count (open_group x written) (written x.node)) first t u name stops.1);
     }
 
 pub ended_to-more : (n : ℕ) (xs zs : List NodeFile) (x : NodeFile) → slice_get xs n ≡ Some x → zs ≡ set (ended_to n xs) n (closed x) → zs ≡ ended_to (n + 1) xs
@@ -241,12 +259,14 @@ next-at n xs files x is h = sym (ended_to-later n n xs (let same : n ≤ n = ome
 pub at-next : (n : ℕ) (xs files : List NodeFile) (x : NodeFile) → files ≡ ended_to n xs → slice_get xs n ≡ Some x → slice_get files n ≡ Some x
 at-next n xs files x is h = ap (λ (zs : List NodeFile). slice_get zs n) is ∙ ended_to-later n n xs (let same : n ≤ n = omega arith in same) ∙ h
 
-pub next-written : (before : Option Files) (xs : List NodeFile) (written : ℕ → List Array) (n : ℕ) (x : NodeFile) (first t : Option Files) → slice_get xs n ≡ Some x → AllWritten before xs written first
+pub next-written : (before : Option Files) (xs : List NodeFile) (written : ℕ → List Array) (n : ℕ) (x : NodeFile) (first t : Option Files)
+    → slice_get xs n ≡ Some x → AllWritten before xs written first
     → AllStand before (ended_to n xs) written t → AreWritten x (written x.node) t
 next-written before xs written n x first t is all stand = record { begun = (all.each n x is).begun; each = λ i. stand.each n x i (ended_to-get n xs x is) }
 
 -- the names of open files after one more
-pub names-more : (xs files : List NodeFile) (n k : ℕ) (written : ℕ → List Array) (t u : Option Files) (y : NodeFile) → files ≡ ended_to n xs → n + 1 ≤ k → slice_get xs k ≡ Some y → AreOthersAsBefore files n written t u
+pub names-more : (xs files : List NodeFile) (n k : ℕ) (written : ℕ → List Array) (t u : Option Files) (y : NodeFile) → files ≡ ended_to n xs → n + 1 ≤ k
+    → slice_get xs k ≡ Some y → AreOthersAsBefore files n written t u
     → file_at u (name_of y (open_group y written)) ≡ file_at t (name_of y (open_group y written))
 names-more xs files n k written t u y is after at others =
     others k y (λ e. absurd (omega (arith, after, e))) (ap (λ (zs : List NodeFile). slice_get zs k) is ∙ ended_to-later n k xs (omega (arith, after)) ∙ at)

@@ -24,10 +24,12 @@ row-torn (Some m) u f arrays a has may =
     let piece = row f.shape a in
     let done = begun_file f.shape f.numrecs arrays in
     Front (done ++ take may.0 piece) (drop may.0 piece)
-    (begun_file-more f.shape f.numrecs arrays a ∙ ap (λ p. done ++ p) (sym (take-append-drop may.0 piece)) ∙ sym (append_assoc done (take may.0 piece) (drop may.0 piece)))
+    (begun_file-more f.shape f.numrecs arrays a ∙ ap (λ p. done ++ p) (sym (take-append-drop may.0 piece))
+    ∙ sym (append_assoc done (take may.0 piece) (drop may.0 piece)))
     (ap (λ w. file_at w f.name) may.1 ∙ file_at-with_more_same (Some m) f.name (take may.0 piece) done has.bytes)
 
-pub torn-add : (t u : Option Files) (f : Stream) (arrays : List Array) (a : Array) (fault : SaveFault) → fault ≡ Failed → HasRows t f arrays → AddStops fault t f.name (row f.shape a) u
+pub torn-add : (t u : Option Files) (f : Stream) (arrays : List Array) (a : Array) (fault : SaveFault) → fault ≡ Failed → HasRows t f arrays
+    → AddStops fault t f.name (row f.shape a) u
     → IsTorn (file_at t f.name) f.shape f.numrecs (arrays ++ a ∷ []) (file_at u f.name)
 torn-add t u f arrays a Failed is has stops = row-torn t u f arrays a has stops
 torn-add t u f arrays a OutOfMemory is has stops = absurd (cc)
@@ -44,19 +46,23 @@ same-untold : (u : Option Files) (name : List ℕ) (numrecs : Option ℕ) (n : �
 same-untold u name None n may = may.2
 same-untold u name (Some k) n may = may
 
-told-rows : (t : Option Files) (name bytes file : List ℕ) → HasFile (with_more t name bytes) name file → t ≢ None → file_at (with_more t name bytes) name ≡ Some file
+told-rows : (t : Option Files) (name bytes file : List ℕ) → HasFile (with_more t name bytes) name file → t ≢ None
+    → file_at (with_more t name bytes) name ≡ Some file
 told-rows None name bytes file has told = absurd (told refl)
 told-rows (Some m) name bytes file has told = has
 
-pub torn-ended : (t u w : Option Files) (f : Stream) (n : ℕ) (bytes : List ℕ) (arrays : List Array) → u ≡ with_more t f.name bytes → HasRows u (record f { count = n }) arrays
+pub torn-ended : (t u w : Option Files) (f : Stream) (n : ℕ) (bytes : List ℕ) (arrays : List Array) → u ≡ with_more t f.name bytes
+    → HasRows u (record f { count = n }) arrays
     → MayCount u f.name f.numrecs n w → IsTorn (file_at t f.name) f.shape f.numrecs arrays (file_at w f.name)
 torn-ended None u w f n bytes arrays made has may =
-    Untouched (ap (λ (x : Option Files). file_at x f.name) (same-untold w f.name f.numrecs n (subst (λ (x : Option Files). MayCount x f.name f.numrecs n w) made may)))
+    Untouched (ap (λ (x : Option Files). file_at x f.name)
+    (same-untold w f.name f.numrecs n (subst (λ (x : Option Files). MayCount x f.name f.numrecs n w) made may)))
 torn-ended (Some m) u w f n bytes arrays made has may =
     let file = begun_file f.shape f.numrecs arrays in
     let stands = subst (λ (x : Option Files). HasFile x f.name file) made has.bytes in
     let told : Some m ≢ None = λ e. absurd (cc) in
-    miscounted u w (file_at (Some m) f.name) f.name f.shape f.numrecs n arrays (ap (λ x. file_at x f.name) made ∙ told-rows (Some m) f.name bytes file stands told) may
+    miscounted u w (file_at (Some m) f.name) f.name f.shape f.numrecs n arrays
+    (ap (λ x. file_at x f.name) made ∙ told-rows (Some m) f.name bytes file stands told) may
 
 pub torn-count : (t u : Option Files) (f : Stream) (arrays : List Array) (n : ℕ) → HasRows t f arrays → MayCount t f.name f.numrecs n u
     → IsTorn (file_at t f.name) f.shape f.numrecs arrays (file_at u f.name)
@@ -72,7 +78,8 @@ begun-torn (Some m) u name shape numrecs arrays (saving.Front front rest is made
     let rows = flat_map (row shape) arrays in
     Front front (rest ++ rows) (ap (λ h. h ++ rows) is ∙ append_assoc front rest rows) (ap (λ w. file_at w name) made ∙ file_at-with_file_same m name front)
 
-pub torn-begin : (t u : Option Files) (name : List ℕ) (shape : FileShape) (numrecs : Option ℕ) (arrays : List Array) → BeginStops Failed t name (header shape numrecs) u
+pub torn-begin : (t u : Option Files) (name : List ℕ) (shape : FileShape) (numrecs : Option ℕ) (arrays : List Array)
+    → BeginStops Failed t name (header shape numrecs) u
     → IsTorn (file_at t name) shape numrecs arrays (file_at u name)
 torn-begin t u name shape numrecs arrays stops = begun-torn t u name shape numrecs arrays stops
 

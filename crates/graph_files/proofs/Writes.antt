@@ -19,25 +19,31 @@ use Rattle.graph_files.specs.NodeFiles.{NodeFile, IsChangedAt, Wrote, IsTorn, Un
 use Rattle.graph_files.specs.NodeFileLaws.{open-is, open-has, none-is, empty, written-begun, written-more, written-whole, written-but, open-but, none-open, cases_eq, changed-then}
 use Rattle.graph_files.proofs.Torn.{torn-begin, torn-count, changed-begin}
 
-pub either : {T : Type 0} {P C : Type 0} {Q : SaveFault → Type 0} (r : Result T SaveFault) → OnOk r P → IfErr r Q → (P → C) → ((fault : SaveFault) → Q fault → C) → C
+pub either : {T : Type 0} {P C : Type 0} {Q : SaveFault → Type 0} (r : Result T SaveFault) → OnOk r P → IfErr r Q → (P → C)
+    → ((fault : SaveFault) → Q fault → C) → C
 either (Ok x) ok err f h = f ok
 either (Err e) ok err f h = h e err
 
 -- the number of records of what is open
-numrecs-goes : (b : Bool) (f : Stream) (rows : List Array) (o : Option Stream) (u : Option Files) (numrecs : Option ℕ) → f.numrecs ≡ numrecs → RowGoes b f rows o u → HasNumrecs numrecs o
+numrecs-goes : (b : Bool) (f : Stream) (rows : List Array) (o : Option Stream) (u : Option Files) (numrecs : Option ℕ) → f.numrecs ≡ numrecs
+    → RowGoes b f rows o u → HasNumrecs numrecs o
 numrecs-goes true f rows o u numrecs is goes = subst (HasNumrecs numrecs) (sym goes.0) is
 numrecs-goes false f rows o u numrecs is goes = subst (HasNumrecs numrecs) (sym goes.0) tt
 
-numrecs-stops : (fault : SaveFault) (f : Stream) (a : Array) (o : Option Stream) (t u : Option Files) (numrecs : Option ℕ) → f.numrecs ≡ numrecs → RowStops fault f a o t u → HasNumrecs numrecs o
+numrecs-stops : (fault : SaveFault) (f : Stream) (a : Array) (o : Option Stream) (t u : Option Files) (numrecs : Option ℕ) → f.numrecs ≡ numrecs
+    → RowStops fault f a o t u → HasNumrecs numrecs o
 numrecs-stops OutOfMemory f a o t u numrecs is stops = subst (HasNumrecs numrecs) (sym stops.0) is
 numrecs-stops Failed f a o t u numrecs is stops = subst (HasNumrecs numrecs) (sym stops.0) tt
 
-pub numrecs-after : {T : Type 0} (r : Result T SaveFault) (b : Bool) (f : Stream) (rows : List Array) (a : Array) (o : Option Stream) (t u : Option Files) (numrecs : Option ℕ) → f.numrecs ≡ numrecs
-    → HasRows t f rows → OnOk r ((arrays : List Array) → HasRows t f arrays → RowGoes b f (arrays ++ a ∷ []) o u) → IfErr r (λ fault. RowStops fault f a o t u) → HasNumrecs numrecs o
+pub numrecs-after : {T : Type 0} (r : Result T SaveFault) (b : Bool) (f : Stream) (rows : List Array) (a : Array) (o : Option Stream) (t u : Option Files)
+    (numrecs : Option ℕ) → f.numrecs ≡ numrecs
+    → HasRows t f rows → OnOk r ((arrays : List Array) → HasRows t f arrays → RowGoes b f (arrays ++ a ∷ []) o u)
+    → IfErr r (λ fault. RowStops fault f a o t u) → HasNumrecs numrecs o
 numrecs-after r b f rows a o t u numrecs is has ok err =
     either r ok err (λ goes. numrecs-goes b f (rows ++ a ∷ []) o u numrecs is (goes rows has)) (λ fault stops. numrecs-stops fault f a o t u numrecs is stops)
 
-pub ended-by : (b : Bool) (f : Stream) (rows : List Array) (o : Option Stream) (u : Option Files) (n count : ℕ) → ltb n count ≡ b → n ≡ count → RowGoes b f rows o u → o ≡ None
+pub ended-by : (b : Bool) (f : Stream) (rows : List Array) (o : Option Stream) (u : Option Files) (n count : ℕ) → ltb n count ≡ b
+    → n ≡ count → RowGoes b f rows o u → o ≡ None
 ended-by true f rows o u n count is last goes = absurd (omega (arith, ltb-true n count is, last))
 ended-by false f rows o u n count is last goes = goes.0
 
@@ -64,7 +70,9 @@ module _ (x y : NodeFile) (g p : ℕ) (small : g < 2 ^ 64) (make : FileShape →
       (written-whole x arrays g p t u place small h changed (make x.shape) last goes.1)
 
   but : y.current ≡ None → IsChangedAt t (name_of x g) u → AreWrittenBut y arrays g u
-  but none_ changed = subst (λ (z : NodeFile). AreWrittenBut z arrays g u) (sym (node ∙ ap (λ o. record x { current = o }) none_)) (written-but x arrays g p t u place small h changed)
+  but none_ changed =
+      subst (λ (z : NodeFile). AreWrittenBut z arrays g u) (sym (node ∙ ap (λ o. record x { current = o }) none_))
+      (written-but x arrays g p t u place small h changed)
 
   -- with a file that is open
   module _ (f : Stream) (is : x.current ≡ Some f) (changed : IsChangedAt t f.name u) where
@@ -77,22 +85,27 @@ module _ (x y : NodeFile) (g p : ℕ) (small : g < 2 ^ 64) (make : FileShape →
     changed-here : IsChangedAt t (name_of x g) u
     changed-here = subst (λ (k : Stream). IsChangedAt t k.name u) this changed
 
-    pub some-goes : (n : ℕ) → n ≡ x.count → ((rows : List Array) → HasRows t f rows → RowGoes (ltb (p + 1) n) f (rows ++ make f.shape ∷ []) y.current u) → AreWritten y (arrays ++ make x.shape ∷ []) u
+    pub some-goes : (n : ℕ) → n ≡ x.count → ((rows : List Array) → HasRows t f rows → RowGoes (ltb (p + 1) n) f (rows ++ make f.shape ∷ []) y.current u)
+        → AreWritten y (arrays ++ make x.shape ∷ []) u
     some-goes n many given =
         let ok = subst (λ (k : ℕ). (rows : List Array) → HasRows t f rows → RowGoes (ltb (p + 1) k) f (rows ++ make f.shape ∷ []) y.current u) many given in
         goes-by (ltb (p + 1) x.count) refl f.numrecs changed-here
-        (subst (λ (k : Stream). RowGoes (ltb (p + 1) x.count) k (group_of x.count g arrays ++ make k.shape ∷ []) y.current u) this (ok (group_of x.count g arrays) rows))
+        (subst (λ (k : Stream). RowGoes (ltb (p + 1) x.count) k (group_of x.count g arrays ++ make k.shape ∷ []) y.current u) this
+        (ok (group_of x.count g arrays) rows))
 
-    pub some-stops : (fault : SaveFault) (numrecs : Option ℕ) → f.numrecs ≡ numrecs → RowStops fault f (make f.shape) y.current t u → WriteStops fault x arrays g numrecs (make x.shape) y t u
+    pub some-stops : (fault : SaveFault) (numrecs : Option ℕ) → f.numrecs ≡ numrecs → RowStops fault f (make f.shape) y.current t u
+        → WriteStops fault x arrays g numrecs (make x.shape) y t u
     some-stops OutOfMemory numrecs given stops =
         let same : y ≡ x = node ∙ ap (λ o. record x { current = o }) (stops.0 ∙ sym is) in
-        (subst (λ (z : NodeFile). AreWritten z arrays u) (sym same) (subst (λ (w : Option Files). AreWritten x arrays w) (sym stops.1) h), subst (λ (o : Option Stream). IsHeldBack o y.current t u) (sym is) (stops.0, stops.1))
+        (subst (λ (z : NodeFile). AreWritten z arrays u) (sym same) (subst (λ (w : Option Files). AreWritten x arrays w) (sym stops.1) h),
+        subst (λ (o : Option Stream). IsHeldBack o y.current t u) (sym is) (stops.0, stops.1))
     some-stops Failed numrecs given stops =
         let zs : List Array = group_of x.count g arrays ++ make x.shape ∷ [] in (
           stops.0,
           but stops.0 changed-here,
           subst (λ (n : Option ℕ). IsTorn (file_at t (name_of x g)) x.shape n zs (file_at u (name_of x g))) given
-              (subst (λ (k : Stream). IsTorn (file_at t k.name) k.shape k.numrecs (group_of x.count g arrays ++ make k.shape ∷ []) (file_at u k.name)) this (stops.1 (group_of x.count g arrays) rows)),
+              (subst (λ (k : Stream). IsTorn (file_at t k.name) k.shape k.numrecs (group_of x.count g arrays ++ make k.shape ∷ []) (file_at u k.name)) this
+              (stops.1 (group_of x.count g arrays) rows)),
         )
 
   -- with a file that has to be begun
@@ -103,19 +116,24 @@ module _ (x y : NodeFile) (g p : ℕ) (small : g < 2 ^ 64) (make : FileShape →
     no_rows : group_of x.count g arrays ≡ []
     no_rows = empty (group_of x.count g arrays) (length-group x.count arrays g p place ∙ first)
 
-    pub begin-stops : (fault : SaveFault) → y.current ≡ None → BeginStops fault t (name_of x g) (header x.shape numrecs) u → WriteStops fault x arrays g numrecs (make x.shape) y t u
+    pub begin-stops : (fault : SaveFault) → y.current ≡ None → BeginStops fault t (name_of x g) (header x.shape numrecs) u
+        → WriteStops fault x arrays g numrecs (make x.shape) y t u
     begin-stops OutOfMemory still stops =
         let same : y ≡ x = node ∙ ap (λ o. record x { current = o }) (still ∙ sym none_) in
-        (subst (λ (z : NodeFile). AreWritten z arrays u) (sym same) (subst (λ (w : Option Files). AreWritten x arrays w) (sym stops) h), subst (λ (o : Option Stream). IsHeldBack o y.current t u) (sym none_) (subst (λ (o : Option Stream). IsHeldBack None o t u) (sym still) stops))
+        (subst (λ (z : NodeFile). AreWritten z arrays u) (sym same) (subst (λ (w : Option Files). AreWritten x arrays w) (sym stops) h),
+        subst (λ (o : Option Stream). IsHeldBack o y.current t u) (sym none_) (subst (λ (o : Option Stream). IsHeldBack None o t u) (sym still) stops))
     begin-stops Failed still stops =
-        (still, but still (changed-begin Failed t u (name_of x g) (header x.shape numrecs) stops), torn-begin t u (name_of x g) x.shape numrecs (group_of x.count g arrays ++ make x.shape ∷ []) stops)
+        (still, but still (changed-begin Failed t u (name_of x g) (header x.shape numrecs) stops),
+        torn-begin t u (name_of x g) x.shape numrecs (group_of x.count g arrays ++ make x.shape ∷ []) stops)
 
-    module _ (f : Stream) (is : f ≡ stream_of x g 0 numrecs) (v : Option Files) (made : v ≡ with_file t (name_of x g) (header x.shape numrecs)) (has : HasRows v f [])
+    module _ (f : Stream) (is : f ≡ stream_of x g 0 numrecs) (v : Option Files)
+        (made : v ≡ with_file t (name_of x g) (header x.shape numrecs)) (has : HasRows v f [])
         (changed : IsChangedAt v f.name u) where
       all-changed : IsChangedAt t (name_of x g) u
       all-changed = changed-then t v u (name_of x g) (Wrote (header x.shape numrecs) made) (subst (λ (k : Stream). IsChangedAt v k.name u) is changed)
 
-      pub none-goes : (n : ℕ) → n ≡ x.count → ((rows : List Array) → HasRows v f rows → RowGoes (ltb (p + 1) n) f (rows ++ make f.shape ∷ []) y.current u) → AreWritten y (arrays ++ make x.shape ∷ []) u
+      pub none-goes : (n : ℕ) → n ≡ x.count → ((rows : List Array) → HasRows v f rows → RowGoes (ltb (p + 1) n) f (rows ++ make f.shape ∷ []) y.current u)
+          → AreWritten y (arrays ++ make x.shape ∷ []) u
       none-goes n many given =
           let ok = subst (λ (k : ℕ). (rows : List Array) → HasRows v f rows → RowGoes (ltb (p + 1) k) f (rows ++ make f.shape ∷ []) y.current u) many given in
           let at : f ≡ stream_of x g p numrecs = is ∙ ap (λ k. stream_of x g k numrecs) (sym first) in
@@ -123,12 +141,16 @@ module _ (x y : NodeFile) (g p : ℕ) (small : g < 2 ^ 64) (make : FileShape →
           (subst (λ (k : Stream). RowGoes (ltb (p + 1) x.count) k (group_of x.count g arrays ++ make k.shape ∷ []) y.current u) at
           (subst (λ (zs : List Array). RowGoes (ltb (p + 1) x.count) f (zs ++ make f.shape ∷ []) y.current u) (sym no_rows) (ok [] has)))
 
-      torn-then : (w : Option Files) → IsTorn (file_at v (name_of x g)) x.shape numrecs (make x.shape ∷ []) (file_at w (name_of x g)) → IsTorn (file_at t (name_of x g)) x.shape numrecs (make x.shape ∷ []) (file_at w (name_of x g))
+      torn-then : (w : Option Files) → IsTorn (file_at v (name_of x g)) x.shape numrecs (make x.shape ∷ []) (file_at w (name_of x g))
+          → IsTorn (file_at t (name_of x g)) x.shape numrecs (make x.shape ∷ []) (file_at w (name_of x g))
       torn-then w (Untouched same) = header-torn t same made
         where
-          header-torn : (s : Option Files) → file_at w (name_of x g) ≡ file_at v (name_of x g) → v ≡ with_file s (name_of x g) (header x.shape numrecs) → IsTorn (file_at s (name_of x g)) x.shape numrecs (make x.shape ∷ []) (file_at w (name_of x g))
+          header-torn : (s : Option Files) → file_at w (name_of x g) ≡ file_at v (name_of x g) → v ≡ with_file s (name_of x g) (header x.shape numrecs)
+              → IsTorn (file_at s (name_of x g)) x.shape numrecs (make x.shape ∷ []) (file_at w (name_of x g))
           header-torn None same made_ = Untouched (same ∙ ap (λ (k : Option Files). file_at k (name_of x g)) made_)
-          header-torn (Some m) same made_ = Front (header x.shape numrecs) (flat_map (row x.shape) (make x.shape ∷ [])) refl (same ∙ ap (λ (k : Option Files). file_at k (name_of x g)) made_ ∙ file_at-with_file_same m (name_of x g) (header x.shape numrecs))
+          header-torn (Some m) same made_ =
+              Front (header x.shape numrecs) (flat_map (row x.shape) (make x.shape ∷ [])) refl
+              (same ∙ ap (λ (k : Option Files). file_at k (name_of x g)) made_ ∙ file_at-with_file_same m (name_of x g) (header x.shape numrecs))
       torn-then w (Front front rest parts now) = Front front rest parts now
       torn-then w (Miscounted late any four now) = Miscounted late any four now
 
@@ -138,14 +160,16 @@ module _ (x y : NodeFile) (g p : ℕ) (small : g < 2 ^ 64) (make : FileShape →
           let same : y ≡ record x { current = Some f_ } = node ∙ ap (λ o. record x { current = o }) (stops.0 ∙ ap Some is) in (
             subst (λ (z : NodeFile). AreWritten z arrays u) (sym same)
                 (written-begun x arrays g p t u place small h all-changed numrecs first
-                (subst (λ (w : Option Files). HasFile w (name_of x g) (begun_file x.shape numrecs [])) (sym stops.1) (subst (λ (k : Stream). HasRows v k []) is has).bytes)),
+                (subst (λ (w : Option Files). HasFile w (name_of x g) (begun_file x.shape numrecs [])) (sym stops.1)
+                (subst (λ (k : Stream). HasRows v k []) is has).bytes)),
             subst (λ (o : Option Stream). IsHeldBack o y.current t u) (sym none_) (subst (λ (o : Option Stream). IsHeldBack None o t u) (sym stops.0) tt),
           )
       none-stops Failed stops =
           let torn = subst (λ (k : Stream). IsTorn (file_at v k.name) k.shape k.numrecs (make k.shape ∷ []) (file_at u k.name)) is (stops.1 [] has) in (
             stops.0,
             but stops.0 all-changed,
-            subst (λ (zs : List Array). IsTorn (file_at t (name_of x g)) x.shape numrecs (zs ++ make x.shape ∷ []) (file_at u (name_of x g))) (sym no_rows) (torn-then u torn),
+            subst (λ (zs : List Array). IsTorn (file_at t (name_of x g)) x.shape numrecs (zs ++ make x.shape ∷ []) (file_at u (name_of x g)))
+            (sym no_rows) (torn-then u torn),
           )
 
 -- THE END
@@ -186,20 +210,26 @@ module _ (x : NodeFile) (t u : Option Files) (some : 1 ≤ x.count) (arrays : Li
     pub end-changed : IsChangedAt t (name_of x g) u
     end-changed = subst (λ (k : Stream). IsChangedAt t k.name u) end-this changed
 
-    pub end-some : length arrays < 2 ^ 64 → 1 ≤ f.count → ((rows : List Array) → HasRows t f rows → HasFile u f.name (layout f.shape rows)) → AreEnded x arrays u
+    pub end-some : length arrays < 2 ^ 64 → 1 ≤ f.count
+        → ((rows : List Array) → HasRows t f rows → HasFile u f.name (layout f.shape rows)) → AreEnded x arrays u
     end-some few filled layout_ i =
         elim (cases_eq i g) [
           | inl here ↦
               let many : length (group_of x.count g arrays) ≡ f.count = end-rows.all in
-              let file = subst (λ (k : Stream). HasFile u k.name (layout k.shape (group_of x.count g arrays))) end-this (layout_ (group_of x.count g arrays) end-rows) in
+              let file =
+              subst (λ (k : Stream). HasFile u k.name (layout k.shape (group_of x.count g arrays))) end-this (layout_ (group_of x.count g arrays) end-rows) in
               subst (λ (j : ℕ). HasBytes u (name_of x j) (whole_file x.shape (group_of x.count j arrays))) (sym here)
               (subst (HasBytes u (name_of x g)) (sym (whole x.shape (group_of x.count g arrays) (omega (arith, many, filled)))) file)
           | inr apart ↦
-              subst (λ (o : Option Stream). HasBytes u (name_of x i) (file_of o x.shape (group_of x.count i arrays))) (none-open (record x { current = None }) (length arrays) i refl)
+              subst (λ (o : Option Stream). HasBytes u (name_of x i) (file_of o x.shape (group_of x.count i arrays)))
+              (none-open (record x { current = None }) (length arrays) i refl)
               (written-but x arrays g p t u place (small-group x.count arrays few) h end-changed i apart)
         ]
 
     pub end-stops : length arrays < 2 ^ 64 → MayCount t f.name f.numrecs f.count u → EndStops x arrays t u
     end-stops few may =
-        let torn = subst (λ (k : Stream). IsTorn (file_at t k.name) k.shape k.numrecs (group_of x.count g arrays) (file_at u k.name)) end-this (torn-count t u f (group_of x.count g arrays) f.count end-rows may) in
-        (open-but x arrays g p t u place (small-group x.count arrays few) h end-changed, subst (λ (o : Option Stream). EndTorn o x g (group_of x.count g arrays) t u) (sym is) torn)
+        let torn =
+        subst (λ (k : Stream). IsTorn (file_at t k.name) k.shape k.numrecs (group_of x.count g arrays) (file_at u k.name)) end-this
+        (torn-count t u f (group_of x.count g arrays) f.count end-rows may) in
+        (open-but x arrays g p t u place (small-group x.count arrays few) h end-changed,
+        subst (λ (o : Option Stream). EndTorn o x g (group_of x.count g arrays) t u) (sym is) torn)

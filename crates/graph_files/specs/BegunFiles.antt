@@ -17,7 +17,8 @@ unended_bytes late final = if late then overwritten final count_place open_count
 -- four bytes in the whole file, after a patch that failed.
 pub data IsFileBegun (held : Option Files) (f : OutFile) (now : Option Files) : Type 0 where
   Unended : IsBegun held f.name (unended_bytes f.late f.bytes) now → IsFileBegun held f now
-  Miscounted : f.late ≡ true → (count : List ℕ) → length count ≡ 4 → now ≡ with_file held f.name (overwritten f.bytes count_place count) → IsFileBegun held f now
+  Miscounted : f.late ≡ true → (count : List ℕ) → length count ≡ 4
+      → now ≡ with_file held f.name (overwritten f.bytes count_place count) → IsFileBegun held f now
 
 -- the first of the files are there, and the next one is begun, or there is none
 abbrev pub AreBegun : Option Files → List OutFile → Option Files → Type 0

@@ -8,7 +8,8 @@ use Rattle.graph_files.specs.OpenFiles.{closed, IsElsewhere, AllWrittenBut}
 
 -- the name is that of no group of these nodes, where these arrays were written at each node
 abbrev pub IsNoGroup : List NodeFile → (written : ℕ → List Array) → List ℕ → Type 0
-IsNoGroup xs written q = (k : ℕ) (x : NodeFile) (i : ℕ) → slice_get xs k ≡ Some x → IsSome (whole_file x.shape (group_of x.count i (written x.node))) → q ≢ name_of x i
+IsNoGroup xs written q =
+    (k : ℕ) (x : NodeFile) (i : ℕ) → slice_get xs k ≡ Some x → IsSome (whole_file x.shape (group_of x.count i (written x.node))) → q ≢ name_of x i
 
 -- Since the shelf had these files, just these arrays were written at each node and all files ended: each name of a group has its whole file, and
 -- every other name is as it was.

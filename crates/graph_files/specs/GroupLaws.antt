@@ -63,11 +63,13 @@ module _ (count : ℕ) (xs : List Array) (a : Array) (g p : ℕ) (h : IsPlaceAft
             let rows : (i + 1) * count ≤ g * count = mul-le-mul_right count (let le : i + 1 ≤ g = omega (arith, before) in le) in
             let one : (i + 1) * count ≡ i * count + 1 * count = add-mul i 1 count in
             let room : count ≤ length (drop (i * count) xs) = omega (arith, length-drop (i * count) xs, rows, one, h.all) in
-            ap (take count) (drop-append-le (i * count) xs (a ∷ []) (omega (arith, rows, one, h.all))) ∙ take-append-le count (drop (i * count) xs) (a ∷ []) room
+            ap (take count) (drop-append-le (i * count) xs (a ∷ []) (omega (arith, rows, one, h.all)))
+            ∙ take-append-le count (drop (i * count) xs) (a ∷ []) room
         | inr later ↦
             let rows : (g + 1) * count ≤ i * count = mul-le-mul_right count (let le : g + 1 ≤ i = omega (arith, later) in le) in
             let one : (g + 1) * count ≡ g * count + 1 * count = add-mul g 1 count in
-            ap (take count) (drop_all (i * count) (xs ++ a ∷ []) (omega (arith, after xs a, rows, one, h.all, h.within)) ∙ sym (drop_all (i * count) xs (omega (arith, rows, one, h.all, h.within))))
+            ap (take count) (drop_all (i * count) (xs ++ a ∷ []) (omega (arith, after xs a, rows, one, h.all, h.within))
+            ∙ sym (drop_all (i * count) xs (omega (arith, rows, one, h.all, h.within))))
       ]
     where
       order : (i g : ℕ) → i ≢ g → (i < g) ⊎ (g < i)

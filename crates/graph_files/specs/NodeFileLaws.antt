@@ -58,7 +58,8 @@ changed-told t u name (Wrote bytes e) = ap (λ (w : Option Files). is_some w) e 
 
 pub groups-differ : (x : NodeFile) (i j : ℕ) → i < 2 ^ 64 → j < 2 ^ 64 → name_of x i ≡ name_of x j → i ≡ j
 groups-differ x i j hi hj same =
-    numbers-differ i j hi hj (append_cancel_left x.stem (group_number i) (group_number j) (append_cancel_right (x.stem ++ group_number i) (x.stem ++ group_number j) (codes ".nc") same))
+    numbers-differ i j hi hj
+    (append_cancel_left x.stem (group_number i) (group_number j) (append_cancel_right (x.stem ++ group_number i) (x.stem ++ group_number j) (codes ".nc") same))
 
 -- OPEN FILES
 
@@ -96,7 +97,8 @@ module _ (x : NodeFile) (arrays : List Array) (g p : ℕ) (t : Option Files) (pl
   opened f (Some e) is after =
       let same : e ≡ f = let both : Some e ≡ Some f = is in cc in
       subst (λ (d : Stream). d ≡ stream_of x g p d.numrecs) same
-      (after ∙ ap (λ i. stream_of x i (length arrays % x.count) e.numrecs) (group-is x.count arrays g p place) ∙ ap (λ k. stream_of x g k e.numrecs) (place-is x.count arrays g p place))
+      (after ∙ ap (λ i. stream_of x i (length arrays % x.count) e.numrecs) (group-is x.count arrays g p place)
+      ∙ ap (λ k. stream_of x g k e.numrecs) (place-is x.count arrays g p place))
 
   -- the open file is that of the group that the next array goes to, with as many rows
   pub open-is : (f : Stream) → x.current ≡ Some f → f ≡ stream_of x g p f.numrecs
@@ -132,15 +134,18 @@ module _ (x : NodeFile) (arrays : List Array) (g p : ℕ) (t u : Option Files) (
       subst (HasBytes u (name_of x i)) (sym e) (elim (cases_lt i g) [
         | inl before ↦
             let was : group_file x arrays i ≡ whole_file x.shape (group_of x.count i arrays) =
-            ap (λ w. file_of w x.shape (group_of x.count i arrays)) (open-elsewhere x (length arrays) i (λ at. apart (at ∙ group-is x.count arrays g p place))) in
+            ap (λ w. file_of w x.shape (group_of x.count i arrays))
+            (open-elsewhere x (length arrays) i (λ at. apart (at ∙ group-is x.count arrays g p place))) in
             changed-HasBytes t u (name_of x g) (name_of x i) (whole_file x.shape (group_of x.count i arrays)) changed
             (λ names. apart (groups-differ x i g (omega (arith, before, small)) small names)) (subst (HasBytes t (name_of x i)) was (h.each i))
         | inr later ↦
-            subst (HasBytes u (name_of x i)) (sym (whole-none x.shape (group_of x.count i arrays) (group-later x.count arrays g p place i (omega (arith, later, apart))))) tt
+            subst (HasBytes u (name_of x i))
+            (sym (whole-none x.shape (group_of x.count i arrays) (group-later x.count arrays g p place i (omega (arith, later, apart))))) tt
       ])
 
   -- a file that was begun
-  pub written-begun : (numrecs : Option ℕ) → p ≡ 0 → HasFile u (name_of x g) (begun_file x.shape numrecs []) → AreWritten (record x { current = Some (stream_of x g 0 numrecs) }) arrays u
+  pub written-begun : (numrecs : Option ℕ) → p ≡ 0 → HasFile u (name_of x g) (begun_file x.shape numrecs [])
+      → AreWritten (record x { current = Some (stream_of x g 0 numrecs) }) arrays u
   written-begun numrecs first has =
       let at : length arrays / x.count ≡ g = group-is x.count arrays g p place in
       let rows : length arrays % x.count ≡ 0 = place-is x.count arrays g p place ∙ first in
@@ -151,13 +156,15 @@ module _ (x : NodeFile) (arrays : List Array) (g p : ℕ) (t u : Option Files) (
         each = λ i. elim (cases_eq i g) [
           | inl here ↦
               subst (λ j. HasBytes u (name_of x j) (group_file (record x { current = Some f }) arrays j)) (sym here)
-              (subst (HasBytes u (name_of x g)) (sym (ap (λ o. file_of o x.shape (group_of x.count g arrays)) (open-here (record x { current = Some f }) (length arrays) g (sym at)) ∙ ap (λ (ys : List Array). Some (begun_file x.shape numrecs ys)) none_)) has)
+              (subst (HasBytes u (name_of x g)) (sym (ap (λ o. file_of o x.shape (group_of x.count g arrays)) (open-here (record x { current = Some f })
+              (length arrays) g (sym at)) ∙ ap (λ (ys : List Array). Some (begun_file x.shape numrecs ys)) none_)) has)
           | inr apart ↦ other i apart (Some f) arrays (open-elsewhere (record x { current = Some f }) (length arrays) i (λ e. apart (e ∙ at))) refl
         ];
       }
 
   -- an array more, which isn't the group's last
-  pub written-more : (a : Array) (numrecs : Option ℕ) → p + 1 < x.count → HasFile u (name_of x g) (begun_file x.shape numrecs (group_of x.count g arrays ++ a ∷ []))
+  pub written-more : (a : Array) (numrecs : Option ℕ) → p + 1 < x.count
+      → HasFile u (name_of x g) (begun_file x.shape numrecs (group_of x.count g arrays ++ a ∷ []))
       → AreWritten (record x { current = Some (stream_of x g (p + 1) numrecs) }) (arrays ++ a ∷ []) u
   written-more a numrecs more has =
       let ys : List Array = arrays ++ a ∷ [] in
@@ -170,13 +177,17 @@ module _ (x : NodeFile) (arrays : List Array) (g p : ℕ) (t u : Option Files) (
         each = λ i. elim (cases_eq i g) [
           | inl here ↦
               subst (λ j. HasBytes u (name_of x j) (group_file (record x { current = Some f }) ys j)) (sym here)
-              (subst (HasBytes u (name_of x g)) (sym (ap (λ o. file_of o x.shape (group_of x.count g ys)) (open-here (record x { current = Some f }) (length ys) g (sym at)) ∙ ap (λ (zs : List Array). Some (begun_file x.shape numrecs zs)) (group-more x.count arrays a g p place))) has)
-          | inr apart ↦ other i apart (Some f) ys (open-elsewhere (record x { current = Some f }) (length ys) i (λ e. apart (e ∙ at))) (group-other x.count arrays a g p place i apart)
+              (subst (HasBytes u (name_of x g)) (sym (ap (λ o. file_of o x.shape (group_of x.count g ys)) (open-here (record x { current = Some f })
+              (length ys) g (sym at)) ∙ ap (λ (zs : List Array). Some (begun_file x.shape numrecs zs)) (group-more x.count arrays a g p place))) has)
+          | inr apart ↦
+              other i apart (Some f) ys
+              (open-elsewhere (record x { current = Some f }) (length ys) i (λ e. apart (e ∙ at))) (group-other x.count arrays a g p place i apart)
         ];
       }
 
   -- the last array of a group
-  pub written-whole : (a : Array) → p + 1 ≡ x.count → HasFile u (name_of x g) (layout x.shape (group_of x.count g arrays ++ a ∷ [])) → AreWritten (record x { current = None }) (arrays ++ a ∷ []) u
+  pub written-whole : (a : Array) → p + 1 ≡ x.count → HasFile u (name_of x g) (layout x.shape (group_of x.count g arrays ++ a ∷ []))
+      → AreWritten (record x { current = None }) (arrays ++ a ∷ []) u
   written-whole a last has =
       let ys : List Array = arrays ++ a ∷ [] in
       record {
@@ -184,7 +195,8 @@ module _ (x : NodeFile) (arrays : List Array) (g p : ℕ) (t u : Option Files) (
         each = λ i. elim (cases_eq i g) [
           | inl here ↦
               subst (λ j. HasBytes u (name_of x j) (group_file (record x { current = None }) ys j)) (sym here)
-              (subst (HasBytes u (name_of x g)) (sym (ap (λ o. file_of o x.shape (group_of x.count g ys)) (none-open (record x { current = None }) (length ys) g refl)
+              (subst (HasBytes u (name_of x g))
+              (sym (ap (λ o. file_of o x.shape (group_of x.count g ys)) (none-open (record x { current = None }) (length ys) g refl)
               ∙ ap (whole_file x.shape) (group-more x.count arrays a g p place) ∙ whole-some x.shape (group_of x.count g arrays) a)) has)
           | inr apart ↦ other i apart None ys (none-open (record x { current = None }) (length ys) i refl) (group-other x.count arrays a g p place i apart)
         ];

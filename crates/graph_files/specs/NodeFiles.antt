@@ -103,7 +103,8 @@ HasNumrecs numrecs (Some f) = f.numrecs ≡ numrecs
 pub data IsTorn (before : Option (List ℕ)) (shape : FileShape) (numrecs : Option ℕ) (arrays : List Array) (now : Option (List ℕ)) : Type 0 where
   Untouched : now ≡ before → IsTorn before shape numrecs arrays now
   Front : (front rest : List ℕ) → begun_file shape numrecs arrays ≡ front ++ rest → now ≡ Some front → IsTorn before shape numrecs arrays now
-  Miscounted : numrecs ≡ None → (any : List ℕ) → length any ≡ 4 → now ≡ Some (overwritten (begun_file shape numrecs arrays) count_place any) → IsTorn before shape numrecs arrays now
+  Miscounted : numrecs ≡ None → (any : List ℕ) → length any ≡ 4 → now ≡ Some (overwritten (begun_file shape numrecs arrays) count_place any)
+      → IsTorn before shape numrecs arrays now
 
 -- these arrays are in the node's files, but for the group whose name the shelf has failed on
 abbrev pub AreWrittenBut : NodeFile → List Array → (group : ℕ) → Option Files → Type 0
@@ -116,7 +117,8 @@ IsHeldBack None None held now = now ≡ held
 IsHeldBack None (Some f) held now = Unit {0}
 
 -- what a write that stopped leaves: want of memory nothing new in the files, and a fault of the shelf the name of the group as it is torn
-abbrev pub WriteStops : SaveFault → (x : NodeFile) → List Array → (group : ℕ) → (numrecs : Option ℕ) → (a : Array) → (y : NodeFile) → (held now : Option Files) → Type 0
+abbrev pub WriteStops : SaveFault → (x : NodeFile) → List Array → (group : ℕ) → (numrecs : Option ℕ) → (a : Array) → (y : NodeFile)
+    → (held now : Option Files) → Type 0
 WriteStops OutOfMemory x arrays group numrecs a y held now = AreWritten y arrays now × IsHeldBack x.current y.current held now
 WriteStops Failed x arrays group numrecs a y held now =
     (y.current ≡ None) × AreWrittenBut y arrays group now

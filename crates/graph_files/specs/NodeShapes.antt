@@ -37,7 +37,8 @@ region_sound r s t h =
 -- what goes out of a node has dimensions that an array may have
 node_sound : (g : Graph) (s : StackValue) (v : ℕ) → IsWritable s.shape → IsArrayShape (shape_at g.nodes s.shape v).dims
 node_sound g s v h =
-    passed_on-both (λ (t u : Shape). IsArrayShape t.dims) region_shape region_shape region_sound g.nodes (length g.nodes) v (stack_shape s.shape) (stack_shape s.shape)
+    passed_on-both (λ (t u : Shape). IsArrayShape t.dims) region_shape region_shape region_sound g.nodes (length g.nodes) v
+    (stack_shape s.shape) (stack_shape s.shape)
     (record { dimensions = h.dimensions; few = h.samples })
 
 -- and its files can be spelled
@@ -49,7 +50,8 @@ file_shape-IsWritable g s v h =
 -- a file of fewer arrays is no longer
 pub length_of-le : (shape : FileShape) (m n : ℕ) → m ≤ n → length_of shape m ≤ length_of shape n
 length_of-le shape m n h =
-    let rows : m * row_length shape ≤ n * row_length shape = mul-le m (row_length shape) n (row_length shape) h (let same : row_length shape ≤ row_length shape = omega arith in same) in
+    let rows : m * row_length shape ≤ n * row_length shape =
+    mul-le m (row_length shape) n (row_length shape) h (let same : row_length shape ≤ row_length shape = omega arith in same) in
     omega (arith, rows)
 
 -- A FILE NODE'S LONGEST FILE

@@ -58,13 +58,18 @@ pub record IsOfNode (g : Graph) (s : StackValue) (prefix : List ℕ) (v : ℕ) (
 
 module _ (g : Graph) (s : StackValue) (prefix : List ℕ) where
   later : (v : ℕ) (n : NodeRule) (ns : List NodeRule) (x : NodeFile) → IsOfNode g s prefix (v + 1) ns x → IsOfNode g s prefix v (n ∷ ns) x
-  later v n ns x h = record { place = suc h.place; rule = h.rule; file = h.file; at = h.at; kind = h.kind; node = h.node ∙ omega arith; stem = h.stem; whole = h.whole ∙ ap (λ (w : ℕ). node_file g s prefix w h.file h.rule.name) (let e : v + 1 + h.place ≡ v + suc h.place = omega arith in e) }
+  later v n ns x h =
+      record { place = suc h.place; rule = h.rule; file = h.file; at = h.at; kind = h.kind; node = h.node ∙ omega arith; stem = h.stem;
+      whole = h.whole ∙ ap (λ (w : ℕ). node_file g s prefix w h.file h.rule.name) (let e : v + 1 + h.place ≡ v + suc h.place = omega arith in e) }
 
-  by_kind : (v : ℕ) (n : NodeRule) (ns : List NodeRule) → ((k : ℕ) (x : NodeFile) → slice_get (nodes_from g s prefix (v + 1) ns) k ≡ Some x → IsOfNode g s prefix (v + 1) ns x) → (c : Kind) → n.kind ≡ c
+  by_kind : (v : ℕ) (n : NodeRule) (ns : List NodeRule)
+      → ((k : ℕ) (x : NodeFile) → slice_get (nodes_from g s prefix (v + 1) ns) k ≡ Some x → IsOfNode g s prefix (v + 1) ns x) → (c : Kind) → n.kind ≡ c
       → (k : ℕ) (x : NodeFile) → slice_get (kind_node g s prefix v n.name c ++ nodes_from g s prefix (v + 1) ns) k ≡ Some x → IsOfNode g s prefix v (n ∷ ns) x
   by_kind v n ns rest (File r) is zero x h =
       let same : node_file g s prefix v r n.name ≡ x = some-same h in
-      record { place = 0; rule = n; file = r; at = refl; kind = is; node = ap (λ (y : NodeFile). y.node) (sym same) ∙ omega arith; stem = ap (λ (y : NodeFile). y.stem) (sym same); whole = sym same ∙ ap (λ (w : ℕ). node_file g s prefix w r n.name) (let e : v ≡ v + 0 = omega arith in e) }
+      record { place = 0; rule = n; file = r; at = refl; kind = is; node = ap (λ (y : NodeFile). y.node) (sym same) ∙ omega arith;
+      stem = ap (λ (y : NodeFile). y.stem) (sym same);
+      whole = sym same ∙ ap (λ (w : ℕ). node_file g s prefix w r n.name) (let e : v ≡ v + 0 = omega arith in e) }
   by_kind v n ns rest (File r) is (suc k) x h = later v n ns x (rest k x h)
   by_kind v n ns rest (Roi r) is k x h = later v n ns x (rest k x h)
   by_kind v n ns rest (Stats r) is k x h = later v n ns x (rest k x h)
@@ -78,7 +83,8 @@ module _ (g : Graph) (s : StackValue) (prefix : List ℕ) where
   abbrev Apart : List NodeFile → Type 0
   Apart xs = (j k : ℕ) (x y : NodeFile) → slice_get xs j ≡ Some x → slice_get xs k ≡ Some y → j ≢ k → x.node ≢ y.node
 
-  apart-kind : (v : ℕ) (n : NodeRule) (ns : List NodeRule) → Apart (nodes_from g s prefix (v + 1) ns) → (c : Kind) → Apart (kind_node g s prefix v n.name c ++ nodes_from g s prefix (v + 1) ns)
+  apart-kind : (v : ℕ) (n : NodeRule) (ns : List NodeRule) → Apart (nodes_from g s prefix (v + 1) ns) → (c : Kind)
+      → Apart (kind_node g s prefix v n.name c ++ nodes_from g s prefix (v + 1) ns)
   apart-kind v n ns rest (File r) zero zero x y hx hy ne = absurd (ne refl)
   apart-kind v n ns rest (File r) zero (suc k) x y hx hy ne =
       let same : v ≡ x.node = ap (λ (z : NodeFile). z.node) (some-same {X = NodeFile} {x = node_file g s prefix v r n.name} {y = x} hx) in
@@ -98,17 +104,22 @@ module _ (g : Graph) (s : StackValue) (prefix : List ℕ) where
   nodes-apart v [] j k x y hx hy ne = let none_ : None ≡ Some x = hx in absurd (cc)
   nodes-apart v (n ∷ ns) j k x y hx hy ne = apart-kind v n ns (λ a b z w hz hw off. nodes-apart (v + 1) ns a b z w hz hw off) n.kind j k x y hx hy ne
 
-rules-apart : (ns : List NodeRule) → AllPairs (λ (m n : NodeRule). m.name ≢ n.name) ns → (j k : ℕ) (m n : NodeRule) → slice_get ns j ≡ Some m → slice_get ns k ≡ Some n → j ≢ k → m.name ≢ n.name
+rules-apart : (ns : List NodeRule) → AllPairs (λ (m n : NodeRule). m.name ≢ n.name) ns → (j k : ℕ) (m n : NodeRule) → slice_get ns j ≡ Some m
+    → slice_get ns k ≡ Some n → j ≢ k → m.name ≢ n.name
 rules-apart ns pairs j k m n hm hn ne =
     let is_m = get_or_from_slice_get ns j m m hm in
     let is_n = get_or_from_slice_get ns k n m hn in
     let is_m' = get_or_from_slice_get ns j m n hm in
     let is_n' = get_or_from_slice_get ns k n n hn in
     elim (cases_lt j k) [
-      | inl below ↦ subst (λ (r : NodeRule). m.name ≢ r.name) is_n (subst (λ (q : NodeRule). q.name ≢ (get_or ns k m).name) is_m (pairs j k m below (slice_get_within ns k n hn)))
+      | inl below ↦
+          subst (λ (r : NodeRule). m.name ≢ r.name) is_n
+          (subst (λ (q : NodeRule). q.name ≢ (get_or ns k m).name) is_m (pairs j k m below (slice_get_within ns k n hn)))
       | inr above ↦
           let under : k < j = omega (arith, above, ne) in
-          let other : n.name ≢ m.name = subst (λ (r : NodeRule). n.name ≢ r.name) is_m' (subst (λ (q : NodeRule). q.name ≢ (get_or ns j n).name) is_n' (pairs k j n under (slice_get_within ns j m hm))) in
+          let other : n.name ≢ m.name =
+          subst (λ (r : NodeRule). n.name ≢ r.name) is_m'
+          (subst (λ (q : NodeRule). q.name ≢ (get_or ns j n).name) is_n' (pairs k j n under (slice_get_within ns j m hm))) in
           (λ e. other (sym e))
     ]
 
@@ -140,7 +151,8 @@ far-group (suc c) i arrays far =
 pub far-none : (x : NodeFile) (arrays : List Array) (i : ℕ) → length arrays < i → group_file x arrays i ≡ None
 far-none x arrays i far =
     let elsewhere : i ≢ length arrays / x.count = λ e. absurd (omega (arith, far, e, div-le_self (length arrays) x.count)) in
-    ap (λ o. file_of o x.shape (group_of x.count i arrays)) (open-elsewhere x (length arrays) i elsewhere) ∙ ap (whole_file x.shape) (far-group x.count i arrays far)
+    ap (λ o. file_of o x.shape (group_of x.count i arrays)) (open-elsewhere x (length arrays) i elsewhere)
+    ∙ ap (whole_file x.shape) (far-group x.count i arrays far)
 
 -- NAMES THAT STAND
 
@@ -153,7 +165,8 @@ some-by {X} e h = subst (λ (o : Option X). IsSome o) e h
 
 module _ (x : NodeFile) (o : Option Stream) (arrays : List Array) (g p : ℕ) (place : IsPlaceAfter x.count arrays g p) where
   -- a group's name that stood stands, whatever is written of the group that the next array goes to
-  stands-on : (ys : List Array) (i : ℕ) → i ≢ g → group_of x.count i ys ≡ group_of x.count i arrays → IsSome (group_file x arrays i) → IsSome (group_file (record x { current = o }) ys i)
+  stands-on : (ys : List Array) (i : ℕ) → i ≢ g → group_of x.count i ys ≡ group_of x.count i arrays → IsSome (group_file x arrays i)
+      → IsSome (group_file (record x { current = o }) ys i)
   stands-on ys i apart same h =
       let was : group_file x arrays i ≡ whole_file x.shape (group_of x.count i arrays) =
       ap (λ w. file_of w x.shape (group_of x.count i arrays)) (open-elsewhere x (length arrays) i (λ e. apart (e ∙ group-is x.count arrays g p place))) in
@@ -182,7 +195,8 @@ module _ (xs : List NodeFile) (k : ℕ) (x : NodeFile) (o : Option Stream) (at :
       elim (cases_eq j k) [
         | inl here ↦
             let same : record x { current = o } ≡ y = some-same (sym (get-set_same xs k x (record x { current = o }) at) ∙ ap (slice_get ys) (sym here) ∙ h) in
-            record { old = x; is = ap (slice_get xs) here ∙ at; node = ap (λ (z : NodeFile). z.node) (sym same); names = λ i. ap (λ (z : NodeFile). name_of z i) (sym same) }
+            record { old = x; is = ap (slice_get xs) here ∙ at; node = ap (λ (z : NodeFile). z.node) (sym same);
+            names = λ i. ap (λ (z : NodeFile). name_of z i) (sym same) }
         | inr apart ↦ record { old = y; is = sym (get-set_other xs k j (record x { current = o }) apart) ∙ h; node = refl; names = λ i. refl }
       ]
 
@@ -199,7 +213,9 @@ module _ (xs : List NodeFile) (k : ℕ) (x : NodeFile) (o : Option Stream) (at :
     other-bytes : (j : ℕ) (y : NodeFile) → slice_get xs j ≡ Some y → j ≢ k → (i : ℕ) → HasBytes u (name_of y i) (group_file y (written y.node) i)
     other-bytes j y is ne i =
         elim (cases_lt i (2 ^ 64)) [
-          | inl low ↦ changed-HasBytes t u (name_of x g) (name_of y i) (group_file y (written y.node) i) changed ((apart j k y x is at ne).1 i g low small) ((h.each j y is).each i)
+          | inl low ↦
+              changed-HasBytes t u (name_of x g) (name_of y i) (group_file y (written y.node) i) changed
+              ((apart j k y x is at ne).1 i g low small) ((h.each j y is).each i)
           | inr high ↦ subst (HasBytes u (name_of y i)) (sym (far-none y (written y.node) i (omega (arith, high, h.few j y is)))) tt
         ]
 
@@ -214,23 +230,28 @@ module _ (xs : List NodeFile) (k : ℕ) (x : NodeFile) (o : Option Stream) (at :
             | inl here ↦
                 let same : y ≡ x = some-same (sym is ∙ ap (slice_get xs) here ∙ at) in
                 let has : IsSome (group_file x (written x.node) i) = subst (λ (z : NodeFile). IsSome (group_file z (written z.node) i)) same named in
-                (λ e. away k (record x { current = o }) i (get-set_same xs k x (record x { current = o }) at) (mono i has) (e ∙ ap (λ (z : NodeFile). name_of z i) same))
+                (λ e. away k (record x { current = o }) i (get-set_same xs k x (record x { current = o }) at) (mono i has)
+                (e ∙ ap (λ (z : NodeFile). name_of z i) same))
             | inr ne ↦
                 away j y i (get-set_other xs k j (record x { current = o }) ne ∙ is)
                 (subst (λ (zs : List Array). IsSome (group_file y zs i)) (sym (still y.node (apart j k y x is at ne).0)) named)
           ]
 
-      others-by : (changed_ : IsChangedAt t (name_of x g) u) → (IsSome (group_file (record x { current = o }) (now x.node) g) ⊎ (u ≡ t)) → (q : List ℕ) → IsElsewhere ys now q → file_at u q ≡ file_at before q
+      others-by : (changed_ : IsChangedAt t (name_of x g) u) → (IsSome (group_file (record x { current = o }) (now x.node) g) ⊎ (u ≡ t)) → (q : List ℕ)
+          → IsElsewhere ys now q → file_at u q ≡ file_at before q
       others-by changed_ (inr same) q away = ap (λ w. file_at w q) same ∙ h.others q (elsewhere q away)
       others-by changed_ (inl named) q away =
-          changed-file_at t u (name_of x g) q changed_ (away k (record x { current = o }) g (get-set_same xs k x (record x { current = o }) at) named) ∙ h.others q (elsewhere q away)
+          changed-file_at t u (name_of x g) q changed_ (away k (record x { current = o }) g (get-set_same xs k x (record x { current = o }) at) named)
+          ∙ h.others q (elsewhere q away)
 
-      pub all-then : AreWritten (record x { current = o }) (now x.node) u → (IsSome (group_file (record x { current = o }) (now x.node) g) ⊎ (u ≡ t)) → AllWritten before ys now u
+      pub all-then : AreWritten (record x { current = o }) (now x.node) u
+          → (IsSome (group_file (record x { current = o }) (now x.node) g) ⊎ (u ≡ t)) → AllWritten before ys now u
       all-then mine named = record {
         told = changed-told t u (name_of x g) changed ∙ h.told;
         each = λ j y is. elim (cases_eq j k) [
           | inl here ↦
-              let same : record x { current = o } ≡ y = some-same (sym (get-set_same xs k x (record x { current = o }) at) ∙ ap (slice_get ys) (sym here) ∙ is) in
+              let same : record x { current = o } ≡ y =
+              some-same (sym (get-set_same xs k x (record x { current = o }) at) ∙ ap (slice_get ys) (sym here) ∙ is) in
               subst (λ (z : NodeFile). AreWritten z (now z.node) u) same mine
           | inr ne ↦
               let old = sym (get-set_other xs k j (record x { current = o }) ne) ∙ is in
@@ -238,7 +259,8 @@ module _ (xs : List NodeFile) (k : ℕ) (x : NodeFile) (o : Option Stream) (at :
         ];
         few = λ j y is. elim (cases_eq j k) [
           | inl here ↦
-              let same : record x { current = o } ≡ y = some-same (sym (get-set_same xs k x (record x { current = o }) at) ∙ ap (slice_get ys) (sym here) ∙ is) in
+              let same : record x { current = o } ≡ y =
+              some-same (sym (get-set_same xs k x (record x { current = o }) at) ∙ ap (slice_get ys) (sym here) ∙ is) in
               subst (λ (z : NodeFile). length (now z.node) < 2 ^ 64) same more
           | inr ne ↦
               let old = sym (get-set_other xs k j (record x { current = o }) ne) ∙ is in
@@ -248,7 +270,8 @@ module _ (xs : List NodeFile) (k : ℕ) (x : NodeFile) (o : Option Stream) (at :
       }
 
     pub all-but : AreWrittenBut (record x { current = o }) (written x.node) g u
-        → ((i : ℕ) → i ≢ g → IsSome (group_file x (written x.node) i) → IsSome (group_file (record x { current = o }) (written x.node) i)) → AllWrittenBut before ys written x g u
+        → ((i : ℕ) → i ≢ g → IsSome (group_file x (written x.node) i) → IsSome (group_file (record x { current = o }) (written x.node) i))
+        → AllWrittenBut before ys written x g u
     all-but mine mono = record {
       told = changed-told t u (name_of x g) changed ∙ h.told;
       each = λ j y i is off. elim (cases_eq j k) [
@@ -264,7 +287,9 @@ module _ (xs : List NodeFile) (k : ℕ) (x : NodeFile) (o : Option Stream) (at :
             let has : IsSome (group_file x (written x.node) i) = subst (λ (z : NodeFile). IsSome (group_file z (written z.node) i)) same named in
             (λ e. elim (cases_eq i g) [
               | inl torn ↦ off (e ∙ ap (λ (z : NodeFile). name_of z i) same ∙ ap (name_of x) torn)
-              | inr ne ↦ away k (record x { current = o }) i (get-set_same xs k x (record x { current = o }) at) (mono i ne has) (e ∙ ap (λ (z : NodeFile). name_of z i) same)
+              | inr ne ↦
+                  away k (record x { current = o }) i (get-set_same xs k x (record x { current = o }) at) (mono i ne has)
+                  (e ∙ ap (λ (z : NodeFile). name_of z i) same)
             ])
         | inr ne ↦ away j y i (get-set_other xs k j (record x { current = o }) ne ∙ is) named
       ]);
@@ -278,27 +303,36 @@ module _ (xs : List NodeFile) (k : ℕ) (x : NodeFile) (o : Option Stream) (at :
       elsewhere-is v ne = ap (λ b. if b then written v ++ a ∷ [] else written v) (ne_eqb v x.node ne)
 
       -- an array more
-      pub all-more : length (written x.node ++ a ∷ []) < 2 ^ 64 → AreWritten (record x { current = o }) (written x.node ++ a ∷ []) u → AllWritten before ys (with_array written x.node a) u
+      pub all-more : length (written x.node ++ a ∷ []) < 2 ^ 64 → AreWritten (record x { current = o }) (written x.node ++ a ∷ []) u
+          → AllWritten before ys (with_array written x.node a) u
       all-more few mine =
           let P = λ (zs : List Array). IsSome (group_file (record x { current = o }) zs g) in
           all-then (with_array written x.node a) elsewhere-is (subst (λ (zs : List Array). length zs < 2 ^ 64) (sym here-is) few)
           (λ i named. elim (cases_eq i g) [
-            | inl at_ ↦ subst (λ (n : ℕ). IsSome (group_file (record x { current = o }) (with_array written x.node a x.node) n)) (sym at_) (subst P (sym here-is) (stands-more x o (written x.node) g p place a))
+            | inl at_ ↦
+                subst (λ (n : ℕ). IsSome (group_file (record x { current = o }) (with_array written x.node a x.node) n)) (sym at_)
+                (subst P (sym here-is) (stands-more x o (written x.node) g p place a))
             | inr ne ↦ subst (λ (zs : List Array). IsSome (group_file (record x { current = o }) zs i)) (sym here-is)
                 (stands-on x o (written x.node) g p place (written x.node ++ a ∷ []) i ne (group-other x.count (written x.node) a g p place i ne) named)
           ])
-          (subst (λ (zs : List Array). AreWritten (record x { current = o }) zs u) (sym here-is) mine) (inl (subst P (sym here-is) (stands-more x o (written x.node) g p place a)))
+          (subst (λ (zs : List Array). AreWritten (record x { current = o }) zs u) (sym here-is) mine)
+          (inl (subst P (sym here-is) (stands-more x o (written x.node) g p place a)))
 
       here-some : (f : Stream) → o ≡ Some f → IsSome (group_file (record x { current = o }) (written x.node) g)
-      here-some f is = some-by (sym (ap (λ w. file_of w x.shape (group_of x.count g (written x.node))) (open-here (record x { current = o }) (length (written x.node)) g (sym (group-is x.count (written x.node) g p place)) ∙ is))) refl
+      here-some f is =
+          some-by (sym (ap (λ w. file_of w x.shape (group_of x.count g (written x.node)))
+          (open-here (record x { current = o }) (length (written x.node)) g (sym (group-is x.count (written x.node) g p place)) ∙ is))) refl
 
-      held-back : (old : Option Stream) → old ≡ x.current → (new : Option Stream) → new ≡ o → IsHeldBack old new t u → AreWritten (record x { current = o }) (written x.node) u → AllWritten before ys written u
+      held-back : (old : Option Stream) → old ≡ x.current → (new : Option Stream) → new ≡ o → IsHeldBack old new t u
+          → AreWritten (record x { current = o }) (written x.node) u → AllWritten before ys written u
       held-back (Some f) was_ new is back mine =
           let same : o ≡ x.current = sym is ∙ back.0 ∙ was_ in
-          all-then written (λ v ne. refl) (h.few k x at) (λ i named. subst (λ (w : Option Stream). IsSome (group_file (record x { current = w }) (written x.node) i)) (sym same) named) mine (inr back.1)
+          all-then written (λ v ne. refl) (h.few k x at)
+          (λ i named. subst (λ (w : Option Stream). IsSome (group_file (record x { current = w }) (written x.node) i)) (sym same) named) mine (inr back.1)
       held-back None was_ None is back mine =
           let same : o ≡ x.current = sym is ∙ was_ in
-          all-then written (λ v ne. refl) (h.few k x at) (λ i named. subst (λ (w : Option Stream). IsSome (group_file (record x { current = w }) (written x.node) i)) (sym same) named) mine (inr back)
+          all-then written (λ v ne. refl) (h.few k x at)
+          (λ i named. subst (λ (w : Option Stream). IsSome (group_file (record x { current = w }) (written x.node) i)) (sym same) named) mine (inr back)
       held-back None was_ (Some f) is back mine =
           all-then written (λ v ne. refl) (h.few k x at)
           (λ i named. elim (cases_eq i g) [
@@ -307,6 +341,7 @@ module _ (xs : List NodeFile) (k : ℕ) (x : NodeFile) (o : Option Stream) (at :
           ]) mine (inl (here-some f (sym is)))
 
       -- a write that stopped
-      pub all-stops : (fault : SaveFault) (numrecs : Option ℕ) → WriteStops fault x (written x.node) g numrecs a (record x { current = o }) t u → AllStops fault before x ys written g numrecs a t u
+      pub all-stops : (fault : SaveFault) (numrecs : Option ℕ) → WriteStops fault x (written x.node) g numrecs a (record x { current = o }) t u
+          → AllStops fault before x ys written g numrecs a t u
       all-stops OutOfMemory numrecs stops = held-back x.current refl o refl stops.1 stops.0
       all-stops Failed numrecs stops = (all-but stops.1 (λ i ne named. stands-on x o (written x.node) g p place (written x.node) i ne refl named), stops.2)

@@ -52,9 +52,11 @@ pub record AllWritten (before : Option Files) (xs : List NodeFile) (written : �
   pub others : (q : List ℕ) → IsElsewhere xs written q → file_at held q ≡ file_at before q
 
 -- the same, but for the name of this group of this node
-pub record AllWrittenBut (before : Option Files) (xs : List NodeFile) (written : ℕ → List Array) (at : NodeFile) (group : ℕ) (held : Option Files) : Type 0 where
+pub record AllWrittenBut (before : Option Files) (xs : List NodeFile) (written : ℕ → List Array)
+    (at : NodeFile) (group : ℕ) (held : Option Files) : Type 0 where
   pub told : is_some held ≡ is_some before
-  pub each : (k : ℕ) (x : NodeFile) (i : ℕ) → slice_get xs k ≡ Some x → (x.node ≢ at.node) ⊎ (i ≢ group) → HasBytes held (name_of x i) (group_file x (written x.node) i)
+  pub each : (k : ℕ) (x : NodeFile) (i : ℕ) → slice_get xs k ≡ Some x → (x.node ≢ at.node) ⊎ (i ≢ group)
+      → HasBytes held (name_of x i) (group_file x (written x.node) i)
   pub others : (q : List ℕ) → q ≢ name_of at group → IsElsewhere xs written q → file_at held q ≡ file_at before q
 
 -- with one array more at this node
@@ -71,10 +73,12 @@ pub record IsReady (x : NodeFile) (group place : ℕ) (of : Option ℕ) (head : 
 
 -- the files of node k may be open otherwise, with this number of records; nothing else of the list changed
 abbrev pub IsReopened : (xs : List NodeFile) → (k : ℕ) → (of : Option ℕ) → (ys : List NodeFile) → Type 0
-IsReopened xs k of ys = (x : NodeFile) → slice_get xs k ≡ Some x → (o : Option Stream) × (ys ≡ slice_set xs k (record x { current = o })) × HasNumrecs (first_count x.late of) o
+IsReopened xs k of ys =
+    (x : NodeFile) → slice_get xs k ≡ Some x → (o : Option Stream) × (ys ≡ slice_set xs k (record x { current = o })) × HasNumrecs (first_count x.late of) o
 
 -- what a write that stopped leaves
-abbrev pub AllStops : SaveFault → (before : Option Files) → (x : NodeFile) → (ys : List NodeFile) → (written : ℕ → List Array) → (group : ℕ) → (numrecs : Option ℕ) → Array → (held now : Option Files) → Type 0
+abbrev pub AllStops : SaveFault → (before : Option Files) → (x : NodeFile) → (ys : List NodeFile) → (written : ℕ → List Array) → (group : ℕ)
+    → (numrecs : Option ℕ) → Array → (held now : Option Files) → Type 0
 AllStops OutOfMemory before x ys written group numrecs a held now = AllWritten before ys written now
 AllStops Failed before x ys written group numrecs a held now =
     AllWrittenBut before ys written x group now

@@ -25,7 +25,8 @@ module _ (nodes : List NodeRule) (arrays : List Array) (v : ℕ) where
   arrays_out-append ks ls = flat_map-append (λ (k : ℕ). listed (content nodes arrays (frame v k))) ks ls
 
   -- one position more
-  pub arrays_out-more : (ks : List ℕ) (k : ℕ) (a : Array) → content nodes arrays (frame v k) ≡ Some a → arrays_out nodes arrays v (ks ++ k ∷ []) ≡ arrays_out nodes arrays v ks ++ a ∷ []
+  pub arrays_out-more : (ks : List ℕ) (k : ℕ) (a : Array) → content nodes arrays (frame v k) ≡ Some a
+      → arrays_out nodes arrays v (ks ++ k ∷ []) ≡ arrays_out nodes arrays v ks ++ a ∷ []
   arrays_out-more ks k a is =
       arrays_out-append ks (k ∷ []) ∙ ap (λ o. arrays_out nodes arrays v ks ++ (listed o ++ [])) is
 
@@ -50,10 +51,12 @@ module _ (P : Array → Type 0) where
   listed-all f (a ∷ arrays) zero all = All-cons P (f a) [] (All-head (λ (b : Array). P (f b)) a arrays all) (All-nil P)
   listed-all f (a ∷ arrays) (suc k) all = listed-all f arrays k (All-tail (λ (b : Array). P (f b)) a arrays all)
 
-  pub arrays_out-all : (nodes : List NodeRule) (arrays : List Array) (v : ℕ) (ks : List ℕ) → All (λ a. P (out_of region nodes v a)) arrays → All P (arrays_out nodes arrays v ks)
+  pub arrays_out-all : (nodes : List NodeRule) (arrays : List Array) (v : ℕ) (ks : List ℕ) → All (λ a. P (out_of region nodes v a)) arrays
+      → All P (arrays_out nodes arrays v ks)
   arrays_out-all nodes arrays v [] all = All-nil P
   arrays_out-all nodes arrays v (k ∷ ks) all =
-      All-append P (listed (content nodes arrays (frame v k))) (arrays_out nodes arrays v ks) (listed-all (out_of region nodes v) arrays k all) (arrays_out-all nodes arrays v ks all)
+      All-append P (listed (content nodes arrays (frame v k))) (arrays_out nodes arrays v ks) (listed-all (out_of region nodes v) arrays k all)
+      (arrays_out-all nodes arrays v ks all)
 
 columns_of : (g : Graph) (s : StackValue) (v : ℕ) (attrs : List Attr) → HasColumns s.shape attrs → HasColumns (file_shape g s v) attrs
 columns_of g s v attrs h = record { same = h.same; texts = h.texts }
@@ -66,10 +69,13 @@ out_has_shape g s v b h =
       kind = made.kind;
       dims = made.dims;
       count = made.count;
-      attrs = subst (HasColumns (file_shape g s v)) (sym (ap (λ (head : Head). head.attrs) (out_of-head g.nodes (length g.nodes) v b))) (columns_of g s v b.attrs h.attrs);
+      attrs =
+          subst (HasColumns (file_shape g s v)) (sym (ap (λ (head : Head). head.attrs) (out_of-head g.nodes (length g.nodes) v b)))
+          (columns_of g s v b.attrs h.attrs);
     }
 
-shaped : (g : Graph) (s : StackValue) (v k : ℕ) (o : Option Array) (a : Array) → IsKeptStack s → slice_get s.arrays k ≡ o → option_map (out_of region g.nodes v) o ≡ Some a → HasShape (file_shape g s v) a
+shaped : (g : Graph) (s : StackValue) (v k : ℕ) (o : Option Array) (a : Array) → IsKeptStack s → slice_get s.arrays k ≡ o
+    → option_map (out_of region g.nodes v) o ≡ Some a → HasShape (file_shape g s v) a
 shaped g s v k None a kept is made = absurd (cc)
 shaped g s v k (Some b) a kept is made =
     let same : out_of region g.nodes v b ≡ a = cc in
@@ -77,5 +83,6 @@ shaped g s v k (Some b) a kept is made =
     subst (HasShape (file_shape g s v)) same (out_has_shape g s v b has)
 
 -- a content has the shape of the node's file
-pub content-HasShape : (g : Graph) (s : StackValue) (v k : ℕ) (a : Array) → IsKeptStack s → content g.nodes s.arrays (frame v k) ≡ Some a → HasShape (file_shape g s v) a
+pub content-HasShape : (g : Graph) (s : StackValue) (v k : ℕ) (a : Array) → IsKeptStack s
+    → content g.nodes s.arrays (frame v k) ≡ Some a → HasShape (file_shape g s v) a
 content-HasShape g s v k a kept made = shaped g s v k (slice_get s.arrays k) a kept refl made

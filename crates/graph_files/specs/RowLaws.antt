@@ -28,14 +28,17 @@ head_is a h id stamp sec nsec attrs =
     ∙ ap (λ i. record { id = h.id; stamp = h.stamp; sec = h.sec; nsec = h.nsec; attrs = i }) (sym attrs)
 
 -- the array of its head and its bytes is the array
-array_of-parts : (a : Array) (shape : FileShape) (head : Head) (bytes : List ℕ) → HasShape shape a → head_of a ≡ head → samples_of a.kind bytes ≡ a.samples → array_of head shape.kind shape.dims bytes ≡ a
+array_of-parts : (a : Array) (shape : FileShape) (head : Head) (bytes : List ℕ) → HasShape shape a → head_of a ≡ head → samples_of a.kind bytes ≡ a.samples
+    → array_of head shape.kind shape.dims bytes ≡ a
 array_of-parts a shape head bytes has is samples =
     let same : samples_of shape.kind bytes ≡ a.samples = ap (λ kind. samples_of kind bytes) (sym has.kind) ∙ samples in
-    let all : All (stacks.HasShape shape) (a ∷ []) = All-cons (stacks.HasShape shape) a [] (record { kind = has.kind; dims = has.dims; count = has.count }) (All-nil (stacks.HasShape shape)) in
+    let all : All (stacks.HasShape shape) (a ∷ []) =
+    All-cons (stacks.HasShape shape) a [] (record { kind = has.kind; dims = has.dims; count = has.count }) (All-nil (stacks.HasShape shape)) in
     let one : Some a ≡ Some (array_of head shape.kind shape.dims bytes) = frame-rebuilt (a ∷ []) shape 0 head bytes (omega arith) all is same in
     cc
 
-module _ (g : Graph) (s : StackValue) (v k : ℕ) (a : Array) (shape : FileShape) (head : Head) (bytes : List ℕ) (kept : IsKeptStack s) (same : shape ≡ file_shape g s v) (made : content g.nodes s.arrays (frame v k) ≡ Some a) where
+module _ (g : Graph) (s : StackValue) (v k : ℕ) (a : Array) (shape : FileShape) (head : Head) (bytes : List ℕ) (kept : IsKeptStack s)
+    (same : shape ≡ file_shape g s v) (made : content g.nodes s.arrays (frame v k) ≡ Some a) where
   has_shape : HasShape shape a
   has_shape = subst (λ (sh : FileShape). HasShape sh a) (sym same) (content-HasShape g s v k a kept made)
 

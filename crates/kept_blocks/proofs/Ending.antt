@@ -40,11 +40,13 @@ some-same h = cc
 -- NO PART
 
 -- where arrays on the block are in no hand that has a part, no hand has one of the block
-none-of : (P : Past) (b : ℕ) (hs : List Entry) → ((x : FrameName) → block_of P x ≡ b ∷ [] → count (holds_by no_frame (is_frame x)) hs ≡ 0) → count (has_part P b) hs ≡ 0
+none-of : (P : Past) (b : ℕ) (hs : List Entry)
+    → ((x : FrameName) → block_of P x ≡ b ∷ [] → count (holds_by no_frame (is_frame x)) hs ≡ 0) → count (has_part P b) hs ≡ 0
 none-of P b [] none = refl
 none-of P b (e ∷ hs) none =
     let rest = none-of P b hs (λ x on. omega (arith, none x on, count-cons (holds_by no_frame (is_frame x)) e hs)) in
-    omega (arith, rest, count-cons (has_part P b) e hs, ap bit (off e (λ x on. bit-none (holds_by no_frame (is_frame x) e) (omega (arith, none x on, count-cons (holds_by no_frame (is_frame x)) e hs)))))
+    omega (arith, rest, count-cons (has_part P b) e hs,
+    ap bit (off e (λ x on. bit-none (holds_by no_frame (is_frame x) e) (omega (arith, none x on, count-cons (holds_by no_frame (is_frame x)) e hs)))))
   where
     one-block : (bs : List ℕ) → length bs ≤ 1 → is_among b bs ≡ true → bs ≡ b ∷ []
     one-block [] few h = absurd (false≢true h)
@@ -68,7 +70,8 @@ pub no-parts : (s : Setting) (P : Past) (b : ℕ) → ((x : FrameName) → block
 no-parts s P b clear = none-of P b (hands P) (λ x on. (clear x on).roles)
 
 -- of a block with which an array is made no hand has a part
-pub no-parts-making : (s : Setting) (P : Past) (r b n : ℕ) (a : FrameName) → s.pooled ≡ true → is_legal s P ≡ true → last_grant b P ≡ InMaking r a n → parts_in_hand P b ≡ 0
+pub no-parts-making : (s : Setting) (P : Past) (r b n : ℕ) (a : FrameName) → s.pooled ≡ true → is_legal s P ≡ true
+    → last_grant b P ≡ InMaking r a n → parts_in_hand P b ≡ 0
 no-parts-making s P r b n a pooled legal making =
     no-parts s P b (λ x on. elim (tied s P b x pooled legal on) [
       | inl mine ↦
@@ -97,7 +100,8 @@ pub record EndsHand (s : Setting) (P : Past) (w : FrameName → Bool) (r : ℕ) 
 abbrev pub ends : Entry → List ℕ → Told
 ends e L = record { entry = e; lent = None; lost = L }
 
-pub fewer-parts : (s : Setting) (P : Past) (w : FrameName → Bool) (r : ℕ) (d e : Entry) → EndsHand s P w r d e → (b : ℕ) → parts_in_hand P b ≡ bit (has_part P b d) + parts_in_hand (e ∷ P) b
+pub fewer-parts : (s : Setting) (P : Past) (w : FrameName → Bool) (r : ℕ) (d e : Entry) → EndsHand s P w r d e → (b : ℕ)
+    → parts_in_hand P b ≡ bit (has_part P b d) + parts_in_hand (e ∷ P) b
 fewer-parts s P w r d e l b =
     let Q = e ∷ P in
     let after : parts_in_hand Q b ≡ count (has_part Q b) (let_go r (hands P)) = ap (count (has_part Q b)) l.fewer in
@@ -110,16 +114,20 @@ pub away-then : (b : ℕ) (e : Entry) (L : List ℕ) (B : BoardState) → grants
 away-then b e L B none = ap (λ (y : Bool). if y then false else (is_among b L || is_away b B)) none
 
 -- a block of which the hand had nothing
-pub other-block : {F : Type 0} (parts : F → Option Parts) (s : Setting) (B : BoardState) (w : FrameName → Bool) (r b : ℕ) (d e : Entry) (L : List ℕ) (k : Kept) → EndsHand s (past B) w r d e
-    → has_part (past B) b d ≡ false → is_among b (granted_block (Some d)) ≡ false → is_among b L ≡ false → IsKeptIn parts s B b (last_grant b (past B)) k → IsKeptIn parts s (ends e L ∷ B) b (last_grant b (e ∷ past B)) k
+pub other-block : {F : Type 0} (parts : F → Option Parts) (s : Setting) (B : BoardState) (w : FrameName → Bool) (r b : ℕ) (d e : Entry) (L : List ℕ) (k : Kept)
+    → EndsHand s (past B) w r d e
+    → has_part (past B) b d ≡ false → is_among b (granted_block (Some d)) ≡ false → is_among b L ≡ false → IsKeptIn parts s B b (last_grant b (past B)) k
+    → IsKeptIn parts s (ends e L ∷ B) b (last_grant b (e ∷ past B)) k
 other-block parts s B w r b d e L k l no_part no_grant unlost x =
     let P = past B in
     let new = ends e L ∷ B in
     let none_lost : count (λ c. eqb c b) L ≡ 0 = none_counted (λ c. eqb c b) L unlost in
-    let as_gone : parts_away b new ≡ parts_away b B = gone-then b e L B (l.none b) ∙ (ap (λ (i : ℕ). i + parts_away b B) none_lost ∙ none-more (parts_away b B)) in
+    let as_gone : parts_away b new ≡ parts_away b B =
+    gone-then b e L B (l.none b) ∙ (ap (λ (i : ℕ). i + parts_away b B) none_lost ∙ none-more (parts_away b B)) in
     let as_away : is_away b new ≡ is_away b B = away-then b e L B (l.none b) ∙ ap (λ (y : Bool). y || is_away b B) unlost in
     let as_many : parts_in_hand (e ∷ P) b ≡ parts_in_hand P b = omega (arith, fewer-parts s P w r d e l b, ap bit no_part) in
-    let as_here : parts_here new b ≡ parts_here B b = ap (λ (i : ℕ). 2 ^ 32 - (i + parts_away b new)) as_many ∙ ap (λ (i : ℕ). 2 ^ 32 - (parts_in_hand P b + i)) as_gone in
+    let as_here : parts_here new b ≡ parts_here B b =
+    ap (λ (i : ℕ). 2 ^ 32 - (i + parts_away b new)) as_many ∙ ap (λ (i : ℕ). 2 ^ 32 - (parts_in_hand P b + i)) as_gone in
     subst (λ (g : LastGrant). IsKeptIn parts s new b g k) (sym (l.same_grant b no_grant))
     (keeps parts s B new b (last_grant b P) k as_here as_away as_gone (λ a n made gone. l.clear a gone) x)
 
@@ -135,7 +143,8 @@ more-tells : (p : Option Parts) → IsSome p → IsSome (together p (one_part p)
 more-tells None some = absurd (true≢false (sym some))
 more-tells (Some p) some = refl
 
-more-here : (p : Option Parts) (n m : ℕ) → 1 ≤ m → m ≤ 300 → OfSome (λ q. (q.size ≡ n) × (q.here ≡ 2 ^ 32 - m)) p → OfSome (λ q. (q.size ≡ n) × (q.here ≡ 2 ^ 32 - (m - 1))) (together p (one_part p))
+more-here : (p : Option Parts) (n m : ℕ) → 1 ≤ m → m ≤ 300 → OfSome (λ q. (q.size ≡ n) × (q.here ≡ 2 ^ 32 - m)) p
+    → OfSome (λ q. (q.size ≡ n) × (q.here ≡ 2 ^ 32 - (m - 1))) (together p (one_part p))
 more-here None n m some few here = tt
 more-here (Some p) n m some few here = (here.0, omega (arith, here.1, few, some))
 
@@ -143,8 +152,10 @@ part-is : (k : Kept) (a c : FrameName) (p q : Option Parts) → k ≡ Frame c p 
 part-is k a c p q is part = let here : IsPartOf (Frame c p) a q = subst (λ (x : Kept). IsPartOf x a q) is part in here.1
 
 -- the frame once a part came back
-more-frame : {F : Type 0} (parts : F → Option Parts) (B new : BoardState) (b n : ℕ) (a : FrameName) (q : Option Parts) (k : Kept) → parts_in_hand (past B) b + parts_away b B ≤ 300
-    → parts_in_hand (past B) b ≡ 1 + parts_in_hand (past new) b → parts_away b new ≡ parts_away b B → IsPartOf k a q → IsFrameOn parts B b a n k → IsFrameOn parts new b a n (united k q)
+more-frame : {F : Type 0} (parts : F → Option Parts) (B new : BoardState) (b n : ℕ) (a : FrameName) (q : Option Parts) (k : Kept)
+    → parts_in_hand (past B) b + parts_away b B ≤ 300
+    → parts_in_hand (past B) b ≡ 1 + parts_in_hand (past new) b → parts_away b new ≡ parts_away b B → IsPartOf k a q → IsFrameOn parts B b a n k
+    → IsFrameOn parts new b a n (united k q)
 more-frame parts B new b n a q k few less gone part f =
     let p = f.its_parts in
     let m = parts_in_hand (past B) b + parts_away b B in
@@ -154,10 +165,13 @@ more-frame parts B new b n a q k few less gone part f =
       its_parts = together p (one_part p);
       is = ap (λ (x : Kept). united x q) f.is ∙ ap (λ (o : Option Parts). Frame a (together p o)) own;
       tells = λ tell. more-tells p (f.tells tell);
-      here = subst (λ (i : ℕ). OfSome (λ z. (z.size ≡ n) × (z.here ≡ 2 ^ 32 - i)) (together p (one_part p))) sum (more-here p n m (omega (arith, less)) few f.here);
+      here =
+          subst (λ (i : ℕ). OfSome (λ z. (z.size ≡ n) × (z.here ≡ 2 ^ 32 - i)) (together p (one_part p))) sum
+          (more-here p n m (omega (arith, less)) few f.here);
     }
 
-same-frame : {F : Type 0} (parts : F → Option Parts) (B new : BoardState) (b n : ℕ) (a : FrameName) (k : Kept) → parts_here new b ≡ parts_here B b → IsFrameOn parts B b a n k → IsFrameOn parts new b a n k
+same-frame : {F : Type 0} (parts : F → Option Parts) (B new : BoardState) (b n : ℕ) (a : FrameName) (k : Kept) → parts_here new b ≡ parts_here B b
+    → IsFrameOn parts B b a n k → IsFrameOn parts new b a n k
 same-frame parts B new b n a k here f = record {
   its_parts = f.its_parts;
   is = f.is;
@@ -166,7 +180,8 @@ same-frame parts B new b n a k here f = record {
 }
 
 -- what is granted with a hand is in the making
-pub granted-making : (s : Setting) (P : Past) (r b : ℕ) (d : Entry) → s.pooled ≡ true → is_legal s P ≡ true → hand r P ≡ Some d → is_among b (granted_block (Some d)) ≡ true → (a : FrameName) × (n : ℕ) × (last_grant b P ≡ InMaking r a n) × Makes b a n d
+pub granted-making : (s : Setting) (P : Past) (r b : ℕ) (d : Entry) → s.pooled ≡ true → is_legal s P ≡ true → hand r P ≡ Some d
+    → is_among b (granted_block (Some d)) ≡ true → (a : FrameName) × (n : ℕ) × (last_grant b P ≡ InMaking r a n) × Makes b a n d
 granted-making s P r b (Load q k c z f g x) pooled legal held is =
     let one : c ≡ b = eqb-true c b (sym (among-one b c) ∙ is) in
     (frame 0 k, z, making-granted s P r b z (frame 0 k) (Load q k c z f g x) pooled legal held (one, refl, refl), (one, refl, refl))
@@ -176,7 +191,8 @@ granted-making s P r b (TakeBlock f x q v m k c z g) pooled legal held is =
 granted-making s P r b _ pooled legal held is = absurd (false≢true is)
 
 -- the array of the hand isn't on the block that was granted with it
-pub part-apart : (s : Setting) (P : Past) (r c n : ℕ) (a : FrameName) (d : Entry) → s.pooled ≡ true → is_legal s P ≡ true → hand r P ≡ Some d → last_grant c P ≡ Made a n → is_among c (granted_block (Some d)) ≡ false
+pub part-apart : (s : Setting) (P : Past) (r c n : ℕ) (a : FrameName) (d : Entry) → s.pooled ≡ true → is_legal s P ≡ true → hand r P ≡ Some d
+    → last_grant c P ≡ Made a n → is_among c (granted_block (Some d)) ≡ false
 part-apart s P r c n a d pooled legal held made =
     elim (cases_Bool (is_among c (granted_block (Some d)))) [
       | inl is ↦
@@ -187,21 +203,26 @@ part-apart s P r c n a d pooled legal held made =
     ]
 
 -- the array of the hand, whose part came back
-pub given-back : {F : Type 0} (parts : F → Option Parts) (s : Setting) (B : BoardState) (w : FrameName → Bool) (r c n : ℕ) (a : FrameName) (q : Option Parts) (d e : Entry) (L : List ℕ) (k : Kept) → IsRunOf s B → LoseFew B → EndsHand s (past B) w r d e
-    → has_part (past B) c d ≡ true → is_among c L ≡ false → last_grant c (past B) ≡ Made a n → IsFrameOn parts B c a n k → IsPartOf k a q → IsKeptIn parts s (ends e L ∷ B) c (last_grant c (e ∷ past B)) (united k q)
+pub given-back : {F : Type 0} (parts : F → Option Parts) (s : Setting) (B : BoardState) (w : FrameName → Bool) (r c n : ℕ) (a : FrameName) (q : Option Parts)
+    (d e : Entry) (L : List ℕ) (k : Kept) → IsRunOf s B → LoseFew B → EndsHand s (past B) w r d e
+    → has_part (past B) c d ≡ true → is_among c L ≡ false → last_grant c (past B) ≡ Made a n → IsFrameOn parts B c a n k → IsPartOf k a q
+    → IsKeptIn parts s (ends e L ∷ B) c (last_grant c (e ∷ past B)) (united k q)
 given-back parts s B w r c n a q d e L k run lost l has unlost made f part =
     let P = past B in
     let new = ends e L ∷ B in
     let legal = legal-of s B run in
     let none_lost : count (λ i. eqb i c) L ≡ 0 = none_counted (λ i. eqb i c) L unlost in
-    let as_gone : parts_away c new ≡ parts_away c B = gone-then c e L B (l.none c) ∙ (ap (λ (i : ℕ). i + parts_away c B) none_lost ∙ none-more (parts_away c B)) in
+    let as_gone : parts_away c new ≡ parts_away c B =
+    gone-then c e L B (l.none c) ∙ (ap (λ (i : ℕ). i + parts_away c B) none_lost ∙ none-more (parts_away c B)) in
     let less : parts_in_hand P c ≡ 1 + parts_in_hand (e ∷ P) c = fewer-parts s P w r d e l c ∙ ap (λ (y : Bool). bit y + parts_in_hand (e ∷ P) c) has in
     subst (λ (g : LastGrant). IsKeptIn parts s new c g (united k q)) (sym (l.same_grant c (part-apart s P r c n a d run.pooled legal l.held made) ∙ made))
     (inl (more-frame parts B new c n a q k (few-parts s B c run.few legal lost) less as_gone part f))
 
 -- and whose part stayed away
-pub stayed-away : {F : Type 0} (parts : F → Option Parts) (s : Setting) (B : BoardState) (w : FrameName → Bool) (r c n : ℕ) (a : FrameName) (d e : Entry) (L : List ℕ) (k : Kept) → IsRunOf s B → EndsHand s (past B) w r d e
-    → has_part (past B) c d ≡ true → count (λ i. eqb i c) L ≡ 1 → last_grant c (past B) ≡ Made a n → IsFrameOn parts B c a n k → IsKeptIn parts s (ends e L ∷ B) c (last_grant c (e ∷ past B)) k
+pub stayed-away : {F : Type 0} (parts : F → Option Parts) (s : Setting) (B : BoardState) (w : FrameName
+    → Bool) (r c n : ℕ) (a : FrameName) (d e : Entry) (L : List ℕ) (k : Kept) → IsRunOf s B → EndsHand s (past B) w r d e
+    → has_part (past B) c d ≡ true → count (λ i. eqb i c) L ≡ 1 → last_grant c (past B) ≡ Made a n → IsFrameOn parts B c a n k
+    → IsKeptIn parts s (ends e L ∷ B) c (last_grant c (e ∷ past B)) k
 stayed-away parts s B w r c n a d e L k run l has one_lost made f =
     let P = past B in
     let new = ends e L ∷ B in
@@ -220,9 +241,11 @@ part-off w x (TakeBlock f y r v m k b n g) has off = ap w (same-true x (frame m 
 part-off w x (Save r v m k g) has off = ap w (same-true x (frame m k) has) ∙ off
 part-off w x _ has off = absurd (false≢true has)
 
-pub lent-then : {F : Type 0} (parts : F → Option Parts) (s : Setting) (B : BoardState) (t new : List Kept) (w : FrameName → Bool) (r : ℕ) (d e : Entry) (L : List ℕ) → IsRunOf s B → EndsHand s (past B) w r d e
+pub lent-then : {F : Type 0} (parts : F → Option Parts) (s : Setting) (B : BoardState) (t new : List Kept)
+    (w : FrameName → Bool) (r : ℕ) (d e : Entry) (L : List ℕ) → IsRunOf s B → EndsHand s (past B) w r d e
     → ((b : ℕ) (x : FrameName) (q : Option Parts) → is_among b (granted_block (Some d)) ≡ false → IsPartOf (kept_at t b) x q → IsPartOf (kept_at new b) x q)
-    → Holds parts s B t → (p b : ℕ) (x : FrameName) → has_part_of x (hand p (e ∷ past B)) ≡ true → block_of (e ∷ past B) x ≡ b ∷ [] → IsPartOf (kept_at new b) x (lent_to p (ends e L ∷ B))
+    → Holds parts s B t → (p b : ℕ) (x : FrameName) → has_part_of x (hand p (e ∷ past B)) ≡ true → block_of (e ∷ past B) x ≡ b ∷ []
+    → IsPartOf (kept_at new b) x (lent_to p (ends e L ∷ B))
 lent-then parts s B t new w r d e L run l tables h p b x has on = by (hand p (e ∷ past B)) refl has
   where
     by : (o : Option Entry) → hand p (e ∷ past B) ≡ o → has_part_of x o ≡ true → IsPartOf (kept_at new b) x (lent_to p (ends e L ∷ B))

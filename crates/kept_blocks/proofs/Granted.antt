@@ -91,7 +91,8 @@ not-up s r d e P h held =
     ]
 
 -- a hand that the entry didn't give was there before, and isn't let go
-pub hand-before : (s : Setting) (r : ℕ) (d e : Entry) (P : Past) → is_legal s (e ∷ P) ≡ true → takes_up r e ≡ false → hand r (e ∷ P) ≡ Some d → (hand r P ≡ Some d) × (lets_go r e ≡ false)
+pub hand-before : (s : Setting) (r : ℕ) (d e : Entry) (P : Past) → is_legal s (e ∷ P) ≡ true → takes_up r e ≡ false → hand r (e ∷ P) ≡ Some d
+    → (hand r P ≡ Some d) × (lets_go r e ≡ false)
 hand-before s r d e P h up held =
     elim (cases_Bool (lets_go r e)) [
       | inl down ↦ let never : None ≡ Some d = sym (hand_laws.down s r e P h down) ∙ held in cc
@@ -109,7 +110,8 @@ Makes b a n _ = ⊥
 abbrev pub MakesIn : ℕ → ℕ → FrameName → ℕ → Past → Type 0
 MakesIn r b a n P = (e : Entry) × (hand r P ≡ Some e) × Makes b a n e
 
-stays-in : (s : Setting) (r b n : ℕ) (a : FrameName) (e : Entry) (P : Past) → is_legal s (e ∷ P) ≡ true → lets_go r e ≡ false → MakesIn r b a n P → MakesIn r b a n (e ∷ P)
+stays-in : (s : Setting) (r b n : ℕ) (a : FrameName) (e : Entry) (P : Past) → is_legal s (e ∷ P) ≡ true → lets_go r e ≡ false
+    → MakesIn r b a n P → MakesIn r b a n (e ∷ P)
 stays-in s r b n a e P h down m = (m.0, hand_laws.others r e P (not-up s r m.0 e P h m.1) down ∙ m.1, m.2)
 
 -- a hand that makes an array isn't saved
@@ -151,7 +153,8 @@ held-making s (TakeBlock f x q v m k c z g ∷ P) r b n a h is =
           let size : z ≡ n = cc in
           (TakeBlock f x q v m k c z g, hand_laws.up r (TakeBlock f x q v m k c z g) P (eq-eqb q r role), (eqb-true c b here, array, size))
       | inr other ↦
-          stays-in s r b n a (TakeBlock f x q v m k c z g) P h refl (held-making s P r b n a (legal-before s (TakeBlock f x q v m k c z g) P h) (rw other at is))
+          stays-in s r b n a (TakeBlock f x q v m k c z g) P h refl
+          (held-making s P r b n a (legal-before s (TakeBlock f x q v m k c z g) P h) (rw other at is))
     ]
 held-making s (Issue q k ∷ P) r b n a h is =
     let before = once_done-making q r (last_grant b P) a n is in
@@ -161,7 +164,8 @@ held-making s (Issue q k ∷ P) r b n a h is =
     turned q r ne = ne_eqb q r (λ e. eqb-false r q ne (sym e))
 held-making s (Put q v m k f ∷ P) r b n a h is =
     let before = once_done-making q r (last_grant b P) a n is in
-    stays-in s r b n a (Put q v m k f) P h (ne_eqb q r (λ e. eqb-false r q before.1 (sym e))) (held-making s P r b n a (legal-before s (Put q v m k f) P h) before.0)
+    stays-in s r b n a (Put q v m k f) P h (ne_eqb q r (λ e. eqb-false r q before.1 (sym e)))
+    (held-making s P r b n a (legal-before s (Put q v m k f) P h) before.0)
 held-making s (Reclaim q ∷ P) r b n a h is =
     let before = once_taken_back-making q r (last_grant b P) a n is in
     stays-in s r b n a (Reclaim q) P h (ne_eqb q r (λ e. eqb-false r q before.1 (sym e))) (held-making s P r b n a (legal-before s (Reclaim q) P h) before.0)
@@ -173,7 +177,8 @@ held-making s (e ∷ P) r b n a h is = stays-in s r b n a e P h refl (held-makin
 -- THE BLOCK OF WHAT IS MADE
 
 -- what is made in a hand stands on its block
-pub makes-block : (s : Setting) (P : Past) (r b n : ℕ) (a : FrameName) (e : Entry) → is_legal s P ≡ true → hand r P ≡ Some e → Makes b a n e → block_of P a ≡ b ∷ []
+pub makes-block : (s : Setting) (P : Past) (r b n : ℕ) (a : FrameName) (e : Entry) → is_legal s P ≡ true → hand r P ≡ Some e
+    → Makes b a n e → block_of P a ≡ b ∷ []
 makes-block s P r b n a (Load q k c z f g x) h held m =
     ap (block_of P) (sym m.1) ∙ (block_laws.in_hand_load s r q k c z f g x P h held ∙ ap (λ (i : ℕ). i ∷ []) m.0)
 makes-block s P r b n a (TakeBlock f x q v i k c z g) h held m =
@@ -186,32 +191,41 @@ makes-holds b n a (Load q k c z f g x) m = ap (λ (y : FrameName). same y a) m.1
 makes-holds b n a (TakeBlock f x q v i k c z g) m = ap (λ (d : Bool). d || is_frame a (frame i k)) (ap (λ (y : FrameName). same y a) m.1 ∙ same_refl a)
 makes-holds b n a _ m = absurd m
 
-pub makes-placed : (s : Setting) (P : Past) (r b n : ℕ) (a : FrameName) (e : Entry) → is_legal s P ≡ true → hand r P ≡ Some e → Makes b a n e → Clear (is_frame a) s P → ⊥
+pub makes-placed : (s : Setting) (P : Past) (r b n : ℕ) (a : FrameName) (e : Entry) → is_legal s P ≡ true → hand r P ≡ Some e
+    → Makes b a n e → Clear (is_frame a) s P → ⊥
 makes-placed s P r b n a e h held m c = true≢false (sym (makes-holds b n a e m) ∙ hand-clear (holds (is_frame a)) r e P held c.roles)
 
 -- a block in whose making a hand is isn't granted
-not-granted : (s : Setting) (P : Past) (r b n c : ℕ) (a : FrameName) (d e : Entry) → is_legal s (e ∷ P) ≡ true → ((i : Entry) → answers s P e i ≡ false) → refs s P c ≡ 0 → hand r P ≡ Some d → Makes b a n d → eqb c b ≡ false
+not-granted : (s : Setting) (P : Past) (r b n c : ℕ) (a : FrameName) (d e : Entry) → is_legal s (e ∷ P) ≡ true → ((i : Entry) → answers s P e i ≡ false)
+    → refs s P c ≡ 0 → hand r P ≡ Some d → Makes b a n d → eqb c b ≡ false
 not-granted s P r b n c a d e h first none held m =
     let legal = legal-before s e P h in
-    ne_eqb c b (λ is. makes-placed s P r b n a d legal held m (unplaced-clear s P b a legal (owed-first s e P first h) (subst (λ (i : ℕ). refs s P i ≡ 0) is none) (makes-block s P r b n a d legal held m)))
+    ne_eqb c b (λ is. makes-placed s P r b n a d legal held m
+    (unplaced-clear s P b a legal (owed-first s e P first h) (subst (λ (i : ℕ). refs s P i ≡ 0) is none) (makes-block s P r b n a d legal held m)))
 
-pub load-none : (s : Setting) (P : Past) (r k b n : ℕ) (f : Bool) (g : ℕ) (x : Bool) → s.pooled ≡ true → is_legal s (Load r k b n f g x ∷ P) ≡ true → refs s P b ≡ 0
-load-none s P r k b n f g x pooled h = load-unplaced s P r k b n f g x pooled (legal-before s (Load r k b n f g x) P h) (row_of s (Load r k b n f g x) P (λ d. refl) h)
+pub load-none : (s : Setting) (P : Past) (r k b n : ℕ) (f : Bool) (g : ℕ) (x : Bool) → s.pooled ≡ true
+    → is_legal s (Load r k b n f g x ∷ P) ≡ true → refs s P b ≡ 0
+load-none s P r k b n f g x pooled h =
+    load-unplaced s P r k b n f g x pooled (legal-before s (Load r k b n f g x) P h) (row_of s (Load r k b n f g x) P (λ d. refl) h)
 
-pub take-none : (s : Setting) (P : Past) (r v m k b n : ℕ) (f : Bool) (g : ℕ) (x : Bool) → s.pooled ≡ true → is_legal s (TakeBlock f x r v m k b n g ∷ P) ≡ true → refs s P b ≡ 0
-take-none s P r v m k b n f g x pooled h = take-unplaced s P r v m k b n f g x pooled (legal-before s (TakeBlock f x r v m k b n g) P h) (row_of s (TakeBlock f x r v m k b n g) P (λ d. refl) h)
+pub take-none : (s : Setting) (P : Past) (r v m k b n : ℕ) (f : Bool) (g : ℕ) (x : Bool) → s.pooled ≡ true
+    → is_legal s (TakeBlock f x r v m k b n g ∷ P) ≡ true → refs s P b ≡ 0
+take-none s P r v m k b n f g x pooled h =
+    take-unplaced s P r v m k b n f g x pooled (legal-before s (TakeBlock f x r v m k b n g) P h) (row_of s (TakeBlock f x r v m k b n g) P (λ d. refl) h)
 
 turned : (q r : ℕ) → eqb r q ≡ false → eqb q r ≡ false
 turned q r ne = ne_eqb q r (λ e. eqb-false r q ne (sym e))
 
 -- a grant to another
-grant-stays : (s : Setting) (P : Past) (r b n c : ℕ) (a : FrameName) (d e : Entry) (g : LastGrant) → is_legal s (e ∷ P) ≡ true → ((i : Entry) → answers s P e i ≡ false) → refs s P c ≡ 0 → hand r P ≡ Some d → Makes b a n d
+grant-stays : (s : Setting) (P : Past) (r b n c : ℕ) (a : FrameName) (d e : Entry) (g : LastGrant) → is_legal s (e ∷ P) ≡ true
+    → ((i : Entry) → answers s P e i ≡ false) → refs s P c ≡ 0 → hand r P ≡ Some d → Makes b a n d
     → last_grant b P ≡ InMaking r a n → cond (eqb c b) g (last_grant b P) ≡ InMaking r a n
 grant-stays s P r b n c a d e g h first none held m is =
     ap (λ (x : Bool). cond x g (last_grant b P)) (not-granted s P r b n c a d e h first none held m) ∙ is
 
 -- what is made in a hand is in the making there
-pub making-granted : (s : Setting) (P : Past) (r b n : ℕ) (a : FrameName) (d : Entry) → s.pooled ≡ true → is_legal s P ≡ true → hand r P ≡ Some d → Makes b a n d → last_grant b P ≡ InMaking r a n
+pub making-granted : (s : Setting) (P : Past) (r b n : ℕ) (a : FrameName) (d : Entry) → s.pooled ≡ true → is_legal s P ≡ true → hand r P ≡ Some d
+    → Makes b a n d → last_grant b P ≡ InMaking r a n
 making-granted s [] r b n a d pooled h held m = cc
 making-granted s (Load q k c z f g x ∷ P) r b n a d pooled h held m =
     let e : Entry = Load q k c z f g x in
@@ -224,7 +238,8 @@ making-granted s (Load q k c z f g x ∷ P) r b n a d pooled h held m =
           ap (λ (y : Bool). cond y (InMaking q (frame 0 k) z) (last_grant b P)) here ∙ making q r (frame 0 k) a z n (eqb-true q r up) made.1 made.2
       | inr other ↦
           let was = (hand-before s r d e P h other held).0 in
-          grant-stays s P r b n c a d e (InMaking q (frame 0 k) z) h (λ i. refl) (load-none s P q k c z f g x pooled h) was m (making-granted s P r b n a d pooled (legal-before s e P h) was m)
+          grant-stays s P r b n c a d e (InMaking q (frame 0 k) z) h (λ i. refl) (load-none s P q k c z f g x pooled h) was m
+          (making-granted s P r b n a d pooled (legal-before s e P h) was m)
     ]
   where
     making : (q r : ℕ) (y a : FrameName) (z n : ℕ) → q ≡ r → y ≡ a → z ≡ n → InMaking q y z ≡ InMaking r a n
@@ -240,7 +255,8 @@ making-granted s (TakeBlock f x q v l k c z g ∷ P) r b n a d pooled h held m =
           ap (λ (y : Bool). cond y (InMaking q (frame v k) z) (last_grant b P)) here ∙ making q r (frame v k) a z n (eqb-true q r up) made.1 made.2
       | inr other ↦
           let was = (hand-before s r d e P h other held).0 in
-          grant-stays s P r b n c a d e (InMaking q (frame v k) z) h (λ i. refl) (take-none s P q v l k c z f g x pooled h) was m (making-granted s P r b n a d pooled (legal-before s e P h) was m)
+          grant-stays s P r b n c a d e (InMaking q (frame v k) z) h (λ i. refl) (take-none s P q v l k c z f g x pooled h) was m
+          (making-granted s P r b n a d pooled (legal-before s e P h) was m)
     ]
   where
     making : (q r : ℕ) (y a : FrameName) (z n : ℕ) → q ≡ r → y ≡ a → z ≡ n → InMaking q y z ≡ InMaking r a n
@@ -265,13 +281,16 @@ making-granted s (Save q v l k g ∷ P) r b n a d pooled h held m =
     ]
 making-granted s (Issue q k ∷ P) r b n a d pooled h held m =
     let before = hand-before s r d (Issue q k) P h refl held in
-    ap (once_done q) (making-granted s P r b n a d pooled (legal-before s (Issue q k) P h) before.0 m) ∙ ap (λ (y : Bool). cond y (Made a n) (InMaking r a n)) (turned r q before.1)
+    ap (once_done q) (making-granted s P r b n a d pooled (legal-before s (Issue q k) P h) before.0 m)
+    ∙ ap (λ (y : Bool). cond y (Made a n) (InMaking r a n)) (turned r q before.1)
 making-granted s (Put q v l k f ∷ P) r b n a d pooled h held m =
     let before = hand-before s r d (Put q v l k f) P h refl held in
-    ap (once_done q) (making-granted s P r b n a d pooled (legal-before s (Put q v l k f) P h) before.0 m) ∙ ap (λ (y : Bool). cond y (Made a n) (InMaking r a n)) (turned r q before.1)
+    ap (once_done q) (making-granted s P r b n a d pooled (legal-before s (Put q v l k f) P h) before.0 m)
+    ∙ ap (λ (y : Bool). cond y (Made a n) (InMaking r a n)) (turned r q before.1)
 making-granted s (Reclaim q ∷ P) r b n a d pooled h held m =
     let before = hand-before s r d (Reclaim q) P h refl held in
-    ap (once_taken_back q) (making-granted s P r b n a d pooled (legal-before s (Reclaim q) P h) before.0 m) ∙ ap (λ (y : Bool). cond y (TakenBack n) (InMaking r a n)) (turned r q before.1)
+    ap (once_taken_back q) (making-granted s P r b n a d pooled (legal-before s (Reclaim q) P h) before.0 m)
+    ∙ ap (λ (y : Bool). cond y (TakenBack n) (InMaking r a n)) (turned r q before.1)
 making-granted s (e ∷ P) r b n a d pooled h held m =
     making-granted s P r b n a d pooled (legal-before s e P h) (hand-before s r d e P h refl held).0 m
 
@@ -281,7 +300,8 @@ some-same : {X : Type 0} {x y : X} → Some x ≡ Some y → x ≡ y
 some-same h = cc
 
 -- two hands don't make one array
-one-maker : (s : Setting) (P : Past) (q r b c n z : ℕ) (a : FrameName) (e : Entry) → s.pooled ≡ true → is_legal s P ≡ true → last_grant b P ≡ InMaking r a n → hand q P ≡ Some e → Makes c a z e → q ≡ r
+one-maker : (s : Setting) (P : Past) (q r b c n z : ℕ) (a : FrameName) (e : Entry) → s.pooled ≡ true → is_legal s P ≡ true → last_grant b P ≡ InMaking r a n
+    → hand q P ≡ Some e → Makes c a z e → q ≡ r
 one-maker s P q r b c n z a e pooled h making held m =
     let mine = held-making s P r b n a h making in
     let on_b : block_of P a ≡ b ∷ [] = makes-block s P r b n a mine.0 h mine.1 mine.2 in
@@ -303,7 +323,8 @@ fewer-hands : (a : FrameName) (hs : List Entry) → count (holds (is_frame a)) h
 fewer-hands a [] h = refl
 fewer-hands a (e ∷ hs) h =
     let n = bit-none (holds (is_frame a) e) (omega (arith, count-cons (holds (is_frame a)) e hs, h)) in
-    omega (arith, count-cons (holds_by no_frame (is_frame a)) e hs, ap bit (only-made a e n), fewer-hands a hs (omega (arith, count-cons (holds (is_frame a)) e hs, h)))
+    omega (arith, count-cons (holds_by no_frame (is_frame a)) e hs, ap bit (only-made a e n),
+    fewer-hands a hs (omega (arith, count-cons (holds (is_frame a)) e hs, h)))
 
 pub alone-from : (s : Setting) (P : Past) (a : FrameName) → Clear (is_frame a) s P → ClearBy no_frame (is_frame a) s P
 alone-from s P a c = record { queues = c.queues; lists = c.lists; rings = c.rings; files = c.files; roles = fewer-hands a (hands P) c.roles; calls = c.calls }
@@ -312,7 +333,8 @@ one-off : (a x : FrameName) → is_frame a x ≡ false → count (is_frame a) (x
 one-off a x h = omega (arith, count-cons (is_frame a) x [], ap bit h)
 
 -- what another role lets out of its hand isn't what is in the making
-let-out-other : (s : Setting) (P : Past) (q r b c n z : ℕ) (a x : FrameName) (e : Entry) → s.pooled ≡ true → is_legal s P ≡ true → last_grant b P ≡ InMaking r a n → eqb r q ≡ false → hand q P ≡ Some e → Makes c x z e → is_frame a x ≡ false
+let-out-other : (s : Setting) (P : Past) (q r b c n z : ℕ) (a x : FrameName) (e : Entry) → s.pooled ≡ true → is_legal s P ≡ true
+    → last_grant b P ≡ InMaking r a n → eqb r q ≡ false → hand q P ≡ Some e → Makes c x z e → is_frame a x ≡ false
 let-out-other s P q r b c n z a x e pooled h making ne held m =
     elim (cases_Bool (is_frame a x)) [
       | inl is ↦
@@ -322,7 +344,8 @@ let-out-other s P q r b c n z a x e pooled h making ne held m =
       | inr other ↦ other
     ]
 
-pub alone-making : (s : Setting) (P : Past) (r b n : ℕ) (a : FrameName) → s.pooled ≡ true → is_legal s P ≡ true → last_grant b P ≡ InMaking r a n → ClearBy no_frame (is_frame a) s P
+pub alone-making : (s : Setting) (P : Past) (r b n : ℕ) (a : FrameName) → s.pooled ≡ true → is_legal s P ≡ true → last_grant b P ≡ InMaking r a n
+    → ClearBy no_frame (is_frame a) s P
 alone-making s [] r b n a pooled h is = cc
 alone-making s (Load q k c z f g x ∷ P) r b n a pooled h is =
     let e : Entry = Load q k c z f g x in
@@ -350,7 +373,8 @@ alone-making s (Issue q k ∷ P) r b n a pooled h is =
     let was = once_done-making q r (last_grant b P) a n is in
     let hand_of = (row_laws.issue s P q k).0 (row_of s e P (λ d. refl) h) in
     let loaded : Entry = Load q k hand_of.0 hand_of.1 hand_of.2 hand_of.3 hand_of.4 in
-    let off : is_frame a (frame 0 k) ≡ false = let-out-other s P q r b hand_of.0 n hand_of.1 a (frame 0 k) loaded pooled legal was.0 was.1 hand_of.5 (refl, refl, refl) in
+    let off : is_frame a (frame 0 k) ≡ false =
+    let-out-other s P q r b hand_of.0 n hand_of.1 a (frame 0 k) loaded pooled legal was.0 was.1 hand_of.5 (refl, refl, refl) in
     clear_by-more no_frame (is_frame a) s e P h refl (one-off a (frame 0 k) off) (alone-making s P r b n a pooled legal was.0)
 alone-making s (Put q v m k f ∷ P) r b n a pooled h is =
     let e : Entry = Put q v m k f in

@@ -35,7 +35,8 @@ use Rattle.kept_blocks.proofs.Ending.{no-parts}
 
 -- THE GRANT
 
-module _ {F : Type 0} (parts : F → Option Parts) (s : Setting) (B : BoardState) (t : List Kept) (need b z : ℕ) (f : Bool) (g : ℕ) (i : IsGranted parts s B t need b z f g) where
+module _ {F : Type 0} (parts : F → Option Parts) (s : Setting) (B : BoardState) (t : List Kept)
+    (need b z : ℕ) (f : Bool) (g : ℕ) (i : IsGranted parts s B t need b z f g) where
   pub by-pool : granted s.limit need (held s (past B)) (is_unplaced s (past B)) (known s (past B)) ≡ Granted b z f g
   by-pool =
       let P = past B in
@@ -44,7 +45,8 @@ module _ {F : Type 0} (parts : F → Option Parts) (s : Setting) (B : BoardState
   pub no-place : refs s (past B) b ≡ 0
   no-place =
       let P = past B in
-      eqb-true (refs s P b) 0 (granted-free s.limit need (held s P) b z f g (is_unplaced s P) (known s P) (places-known s P i.run.pooled (legal-of s B i.run)) by-pool)
+      eqb-true (refs s P b) 0
+      (granted-free s.limit need (held s P) b z f g (is_unplaced s P) (known s P) (places-known s P i.run.pooled (legal-of s B i.run)) by-pool)
 
   -- an array on the block is nowhere
   pub on-block : (x : FrameName) → block_of (past B) x ≡ b ∷ [] → Clear (is_frame x) s (past B)
@@ -107,20 +109,25 @@ new-below n bs all = by (new_number bs) refl
         let there : has_number m bs ≡ true = sym (number-among m bs) ∙ among-below (above ks) 0 m ks (omega arith) (omega (arith, is)) in
         omega (arith, all m there, is)
 
-pub next-place : {F : Type 0} (parts : F → Option Parts) (s : Setting) (B : BoardState) (t : List Kept) (need b z : ℕ) (f : Bool) (g : ℕ) → IsGranted parts s B t need b z f g → b ≤ length t
+pub next-place : {F : Type 0} (parts : F → Option Parts) (s : Setting) (B : BoardState) (t : List Kept) (need b z : ℕ) (f : Bool) (g : ℕ)
+    → IsGranted parts s B t need b z f g → b ≤ length t
 next-place parts s B t need b z false g i =
     let P = past B in
-    let has : has_number b (known s P) ≡ true = granted-known s.limit need (held s P) b z false g (is_unplaced s P) (known s P) (by-pool parts s B t need b z false g i) in
+    let has : has_number b (known s P) ≡ true =
+    granted-known s.limit need (held s P) b z false g (is_unplaced s P) (known s P) (by-pool parts s B t need b z false g i) in
     let lt : b < length t = i.holds.places b has in
     omega (arith, lt)
 next-place parts s B t need b z true g i =
     let P = past B in
     let left = left_after g (is_unplaced s P) (known s P) in
     let m = missing-left s.limit need (held s P) b z g (is_unplaced s P) (known s P) (by-pool parts s B t need b z true g i) in
-    let below = new-below (length t) left (λ k there. i.holds.places k (filtered-has k (λ c. not (has_number c.number (largest_free g (is_unplaced s P) (known s P)))) (known s P) there)) in
+    let below =
+    new-below (length t) left
+    (λ k there. i.holds.places k (filtered-has k (λ c. not (has_number c.number (largest_free g (is_unplaced s P) (known s P)))) (known s P) there)) in
     omega (arith, below, m.2)
 
-pub old-place : {F : Type 0} (parts : F → Option Parts) (s : Setting) (B : BoardState) (t : List Kept) (need b z : ℕ) (g : ℕ) → IsGranted parts s B t need b z false g → b < length t
+pub old-place : {F : Type 0} (parts : F → Option Parts) (s : Setting) (B : BoardState) (t : List Kept) (need b z : ℕ) (g : ℕ)
+    → IsGranted parts s B t need b z false g → b < length t
 old-place parts s B t need b z g i =
     let P = past B in
     i.holds.places b (granted-known s.limit need (held s P) b z false g (is_unplaced s P) (known s P) (by-pool parts s B t need b z false g i))
@@ -137,9 +144,12 @@ pub room-keeps : (t : List Kept) (b c : ℕ) → kept_at (with_room t b) c ≡ k
 room-keeps t b c = elim (ltb b (length t)) as (λ y. kept_at (if y then t else t ++ Empty ∷ []) c ≡ kept_at t c) [ true ↦ refl | false ↦ more-room t c ]
 
 room-longer : (t : List Kept) (b : ℕ) → length t ≤ length (with_room t b)
-room-longer t b = elim (ltb b (length t)) as (λ y. length t ≤ length (if y then t else t ++ Empty ∷ [])) [ true ↦ omega arith | false ↦ omega (arith, length-append t (Empty ∷ [])) ]
+room-longer t b =
+    elim (ltb b (length t)) as (λ y. length t ≤ length (if y then t else t ++ Empty ∷ [])) [ true ↦ omega arith
+    | false ↦ omega (arith, length-append t (Empty ∷ [])) ]
 
-pub room-holds : {F : Type 0} (parts : F → Option Parts) (s : Setting) (B : BoardState) (t : List Kept) (b : ℕ) → HoldsBlocks parts s B t → HoldsBlocks parts s B (with_room t b)
+pub room-holds : {F : Type 0} (parts : F → Option Parts) (s : Setting) (B : BoardState) (t : List Kept) (b : ℕ) → HoldsBlocks parts s B t
+    → HoldsBlocks parts s B (with_room t b)
 room-holds parts s B t b h = record {
   places = λ i is. let lt : i < length t = h.places i is in omega (arith, lt, room-longer t b);
   kept = λ i is. subst (λ (k : Kept). IsKeptBy parts s B i (last_grant i (past B)) k) (sym (room-keeps t b i)) (h.kept i is);
@@ -152,16 +162,19 @@ set-more [] c k lt = absurd (omega (arith, lt))
 set-more (x ∷ t) zero k lt = refl
 set-more (x ∷ t) (suc c) k lt = ap (λ (xs : List Kept). x ∷ xs) (set-more t c k (omega (arith, lt)))
 
-pub room-of-lent : (t : List Kept) (b c : ℕ) → c < length t → with_room (with_kept t c (less_one (kept_at t c))) b ≡ with_kept (with_room t b) c (less_one (kept_at (with_room t b) c))
+pub room-of-lent : (t : List Kept) (b c : ℕ) → c < length t
+    → with_room (with_kept t c (less_one (kept_at t c))) b ≡ with_kept (with_room t b) c (less_one (kept_at (with_room t b) c))
 room-of-lent t b c lt =
     let k = less_one (kept_at t c) in
     ap (λ (n : ℕ). if ltb b n then with_kept t c k else with_kept t c k ++ Empty ∷ []) (same-length t c k)
-    ∙ (elim (ltb b (length t)) as (λ y. (if y then with_kept t c k else with_kept t c k ++ Empty ∷ []) ≡ with_kept (if y then t else t ++ Empty ∷ []) c k) [ true ↦ refl | false ↦ set-more t c k lt ]
+    ∙ (elim (ltb b (length t)) as (λ y. (if y then with_kept t c k else with_kept t c k ++ Empty ∷ [])
+    ≡ with_kept (if y then t else t ++ Empty ∷ []) c k) [ true ↦ refl | false ↦ set-more t c k lt ]
     ∙ ap (λ (x : Kept). with_kept (with_room t b) c (less_one x)) (sym (room-keeps t b c)))
 
 -- WHAT IS AT HOME
 
-here-home : (p : Parts) (n : ℕ) (away : Bool) (gone : ℕ) → gone ≤ 300 → p.size ≡ n → p.here ≡ 2 ^ 32 - (0 + gone) → (away ≡ false → gone ≡ 0) → (gone ≡ 0 → away ≡ false) → (eqb p.here (2 ^ 32) && eqb p.size n) ≡ not away
+here-home : (p : Parts) (n : ℕ) (away : Bool) (gone : ℕ) → gone ≤ 300 → p.size ≡ n → p.here ≡ 2 ^ 32 - (0 + gone) → (away ≡ false → gone ≡ 0)
+    → (gone ≡ 0 → away ≡ false) → (eqb p.here (2 ^ 32) && eqb p.size n) ≡ not away
 here-home p n true gone few size here none_away away_none =
     let some : gone ≢ 0 = λ is. true≢false (away_none is) in
     let less : eqb p.here (2 ^ 32) ≡ false = ne_eqb p.here (2 ^ 32) (λ is. absurd (omega (arith, is, here, some, few))) in
@@ -169,25 +182,31 @@ here-home p n true gone few size here none_away away_none =
 here-home p n false gone few size here none_away away_none =
     and_from (eqb p.here (2 ^ 32)) (eqb p.size n) (eq-eqb p.here (2 ^ 32) (omega (arith, here, none_away refl))) (eq-eqb p.size n size)
 
-frame-home : (p : Option Parts) (a : FrameName) (n b : ℕ) (B : BoardState) → parts_away b B ≤ 300 → parts_in_hand (past B) b ≡ 0 → IsSome p → OfSome (λ q. (q.size ≡ n) × (q.here ≡ parts_here B b)) p → IsHome B b n (Frame a p)
+frame-home : (p : Option Parts) (a : FrameName) (n b : ℕ) (B : BoardState) → parts_away b B ≤ 300 → parts_in_hand (past B) b ≡ 0 → IsSome p
+    → OfSome (λ q. (q.size ≡ n) × (q.here ≡ parts_here B b)) p → IsHome B b n (Frame a p)
 frame-home None a n b B few none some here = absurd (true≢false (sym some))
 frame-home (Some p) a n b B few none some here = record {
   sized = here.0;
-  home = ap (λ (y : Bool). Some y) (here-home p n (is_away b B) (parts_away b B) few here.0 (here.1 ∙ ap (λ (i : ℕ). 2 ^ 32 - (i + parts_away b B)) none) (none-away b B) (away-none b B));
+  home =
+      ap (λ (y : Bool). Some y)
+      (here-home p n (is_away b B) (parts_away b B) few here.0 (here.1 ∙ ap (λ (i : ℕ). 2 ^ 32 - (i + parts_away b B)) none) (none-away b B) (away-none b B));
 }
 
 -- the block of a grant that isn't fresh has the size that is granted
-granted-size : {F : Type 0} (parts : F → Option Parts) (s : Setting) (B : BoardState) (t : List Kept) (need b z : ℕ) (g : ℕ) → IsGranted parts s B t need b z false g → size_in (last_grant b (past B)) ≡ suc z
+granted-size : {F : Type 0} (parts : F → Option Parts) (s : Setting) (B : BoardState) (t : List Kept) (need b z : ℕ) (g : ℕ)
+    → IsGranted parts s B t need b z false g → size_in (last_grant b (past B)) ≡ suc z
 granted-size parts s B t need b z g i =
     let P = past B in
     let c = fit-there s.limit need (held s P) b z g (is_unplaced s P) (known s P) (by-pool parts s B t need b z false g i) in
-    subst (λ (k : ℕ). size_in (last_grant k P) ≡ suc z) c.2 (eqb-true (size_in (last_grant c.0.number P)) (suc c.0.size) (fit-has (is_sized P) need (is_unplaced s P) (known s P) c.0 (all-sized s P i.run.pooled (legal-of s B i.run)) c.1) ∙ ap suc c.3)
+    subst (λ (k : ℕ). size_in (last_grant k P) ≡ suc z) c.2 (eqb-true (size_in (last_grant c.0.number P)) (suc c.0.size)
+    (fit-has (is_sized P) need (is_unplaced s P) (known s P) c.0 (all-sized s P i.run.pooled (legal-of s B i.run)) c.1) ∙ ap suc c.3)
 
 suc-same : (m n : ℕ) → suc m ≡ suc n → m ≡ n
 suc-same m n e = omega (arith, e)
 
 -- what is kept of it, by what became of its last grant
-module _ {F : Type 0} (parts : F → Option Parts) (s : Setting) (B : BoardState) (t : List Kept) (need b z : ℕ) (g : ℕ) (i : IsGranted parts s B t need b z false g) where
+module _ {F : Type 0} (parts : F → Option Parts) (s : Setting) (B : BoardState) (t : List Kept)
+    (need b z : ℕ) (g : ℕ) (i : IsGranted parts s B t need b z false g) where
   few-away : parts_away b B ≤ 300
   few-away = let few = few-parts s B b i.run.few (legal-of s B i.run) i.holds.lost in omega (arith, few)
 
@@ -200,7 +219,8 @@ module _ {F : Type 0} (parts : F → Option Parts) (s : Setting) (B : BoardState
   home-by (Made a n) is (inl on) tell =
       let size : n ≡ z = suc-same n z (sym (ap size_in is) ∙ granted-size parts s B t need b z g i) in
       subst (λ (m : ℕ). IsHome B b m (kept_at t b)) size
-      (subst (λ (k : Kept). IsHome B b n k) (sym on.is) (frame-home on.its_parts a n b B few-away (no-part parts s B t need b z false g i) (on.tells tell) on.here))
+      (subst (λ (k : Kept). IsHome B b n k) (sym on.is)
+      (frame-home on.its_parts a n b B few-away (no-part parts s B t need b z false g i) (on.tells tell) on.here))
   home-by (Made a n) is (inr gone) tell = absurd (gone.0 tell)
   home-by (TakenBack n) is k tell =
       let size : n ≡ z = suc-same n z (sym (ap size_in is) ∙ granted-size parts s B t need b z g i) in
@@ -247,7 +267,8 @@ module _ {F : Type 0} (parts : F → Option Parts) (s : Setting) (B : BoardState
   left-holds k (inl same_) = subst (λ (u : List Kept). HoldsBlocks parts s B u) (sym (ap (λ (x : Kept). with_kept t b x) same_ ∙ set-get_or t b Empty)) i.holds
   left-holds k (inr other) = other-kept (λ tell. other-untold (kept_at t b) k home-of other tell) k
 
-pub anew-law : {F : Type 0} (parts : F → Option Parts) (s : Setting) (B : BoardState) (t : List Kept) (need b z : ℕ) (g : ℕ) (x : Bool) → IsGranted parts s B t need b z false g → IsMadeAnew (at_home z (kept_at t b)) x → IsRegrown parts B b false x
+pub anew-law : {F : Type 0} (parts : F → Option Parts) (s : Setting) (B : BoardState) (t : List Kept) (need b z : ℕ) (g : ℕ) (x : Bool)
+    → IsGranted parts s B t need b z false g → IsMadeAnew (at_home z (kept_at t b)) x → IsRegrown parts B b false x
 anew-law parts s B t need b z g x i anew = (
   and-false x,
   λ tell.
@@ -264,19 +285,25 @@ anew-law parts s B t need b z g x i anew = (
     twice true = refl
     twice false = refl
 
-pub wants-law : {F : Type 0} (parts : F → Option Parts) (s : Setting) (B : BoardState) (t : List Kept) (need b z : ℕ) (g : ℕ) → IsGranted parts s B t need b z false g → TellParts parts → IsAway (at_home z (kept_at t b)) → wants_storage B (Granted b z false g) ≡ true
+pub wants-law : {F : Type 0} (parts : F → Option Parts) (s : Setting) (B : BoardState) (t : List Kept) (need b z : ℕ) (g : ℕ)
+    → IsGranted parts s B t need b z false g → TellParts parts → IsAway (at_home z (kept_at t b)) → wants_storage B (Granted b z false g) ≡ true
 wants-law parts s B t need b z g i tell away =
     let h = home-of parts s B t need b z g i tell in
     let told_ : IsAway (Some (not (is_away b B))) = subst IsAway h.home away in
     not-false (is_away b B) told_
 
-pub refused-law : {F : Type 0} (parts : F → Option Parts) (s : Setting) (B : BoardState) (t new : List Kept) (need b z : ℕ) (g : ℕ) → IsGranted parts s B t need b z false g → IsRefused z b t new → HoldsBlocks parts s B new
-refused-law parts s B t new need b z g i refused = subst (λ (u : List Kept). HoldsBlocks parts s B u) (sym refused.2) (left-holds parts s B t need b z g i refused.0 refused.1)
+pub refused-law : {F : Type 0} (parts : F → Option Parts) (s : Setting) (B : BoardState) (t new : List Kept) (need b z : ℕ) (g : ℕ)
+    → IsGranted parts s B t need b z false g → IsRefused z b t new → HoldsBlocks parts s B new
+refused-law parts s B t new need b z g i refused =
+    subst (λ (u : List Kept). HoldsBlocks parts s B u) (sym refused.2) (left-holds parts s B t need b z g i refused.0 refused.1)
 
-pub put-back-law : {F : Type 0} (parts : F → Option Parts) (s : Setting) (B : BoardState) (t : List Kept) (need b z : ℕ) (g : ℕ) → IsGranted parts s B t need b z false g → (TellParts parts → ⊥) → HoldsBlocks parts s B (with_kept (with_kept t b Empty) b (Storage z))
-put-back-law parts s B t need b z g i untold = subst (λ (u : List Kept). HoldsBlocks parts s B u) (sym (set-set t b Empty (Storage z))) (other-kept parts s B t need b z g i untold (Storage z))
+pub put-back-law : {F : Type 0} (parts : F → Option Parts) (s : Setting) (B : BoardState) (t : List Kept) (need b z : ℕ) (g : ℕ)
+    → IsGranted parts s B t need b z false g → (TellParts parts → ⊥) → HoldsBlocks parts s B (with_kept (with_kept t b Empty) b (Storage z))
+put-back-law parts s B t need b z g i untold =
+    subst (λ (u : List Kept). HoldsBlocks parts s B u) (sym (set-set t b Empty (Storage z))) (other-kept parts s B t need b z g i untold (Storage z))
 
-pub refused-lent-law : {F : Type 0} (parts : F → Option Parts) (s : Setting) (B : BoardState) (t new : List Kept) (need b z c : ℕ) (g : ℕ) → IsGranted parts s B t need b z false g → c ≢ b → IsRefused z b (with_kept t c (less_one (kept_at t c))) new → IsRefusedLent parts s B t new c
+pub refused-lent-law : {F : Type 0} (parts : F → Option Parts) (s : Setting) (B : BoardState) (t new : List Kept) (need b z c : ℕ) (g : ℕ)
+    → IsGranted parts s B t need b z false g → c ≢ b → IsRefused z b (with_kept t c (less_one (kept_at t c))) new → IsRefusedLent parts s B t new c
 refused-lent-law parts s B t new need b z c g i ne refused =
     let k = refused.0 in
     let l = less_one (kept_at t c) in
@@ -291,10 +318,12 @@ refused-lent-law parts s B t new need b z c g i ne refused =
     }
 
 -- with the storage taken
-pub lendable-law : {F : Type 0} (parts : F → Option Parts) (s : Setting) (B : BoardState) (t : List Kept) (need b z : ℕ) (f : Bool) (g v : ℕ) (a : FrameName) → IsGranted parts s B t need b z f g → is_next a (queued v (past B)) ≡ true → IsLendable parts (past B) (with_kept t b Empty) a
+pub lendable-law : {F : Type 0} (parts : F → Option Parts) (s : Setting) (B : BoardState) (t : List Kept) (need b z : ℕ) (f : Bool) (g v : ℕ) (a : FrameName)
+    → IsGranted parts s B t need b z f g → is_next a (queued v (past B)) ≡ true → IsLendable parts (past B) (with_kept t b Empty) a
 lendable-law parts s B t need b z f g v a i next =
     let l = lendable parts s B t a i.run i.holds (queued-used s (past B) v a next) in
-    let beside : kept_at (with_kept t b Empty) l.block ≡ kept_at t l.block = at-other t b l.block Empty (apart-from parts s B t need b z f g i v l.block a next l.has) in
+    let beside : kept_at (with_kept t b Empty) l.block ≡ kept_at t l.block =
+    at-other t b l.block Empty (apart-from parts s B t need b z f g i v l.block a next l.has) in
     record {
       block = l.block;
       has = l.has;
@@ -306,14 +335,18 @@ lendable-law parts s B t need b z f g v a i next =
       tells = λ tell untold. l.tells tell (subst IsUntold beside untold);
     }
 
-pub forget-law : {F : Type 0} (parts : F → Option Parts) (s : Setting) (B : BoardState) (t : List Kept) (b : ℕ) → IsRunOf s B → HoldsBlocks parts s B t → (has_number b (known s (past B)) ≡ true → kept_at t b ≡ Empty) → HoldsBlocks parts s B (with_kept t b Empty)
+pub forget-law : {F : Type 0} (parts : F → Option Parts) (s : Setting) (B : BoardState) (t : List Kept) (b : ℕ) → IsRunOf s B → HoldsBlocks parts s B t
+    → (has_number b (known s (past B)) ≡ true → kept_at t b ≡ Empty) → HoldsBlocks parts s B (with_kept t b Empty)
 forget-law parts s B t b run h empty =
     elim (cases_Bool (has_number b (known s (past B)))) [
       | inl is ↦ subst (λ (u : List Kept). HoldsBlocks parts s B u) (sym (ap (λ (x : Kept). with_kept t b x) (sym (empty is)) ∙ set-get_or t b Empty)) h
       | inr unknown ↦ record {
         places = λ j is. subst (λ (n : ℕ). j < n) (sym (same-length t b Empty)) (h.places j is);
         kept = λ j is. subst (λ (x : Kept). IsKeptBy parts s B j (last_grant j (past B)) x) (sym (at-other t b j Empty (apart j is unknown))) (h.kept j is);
-        lent = λ r j a has on. subst (λ (x : Kept). IsPartOf x a (lent_to r B)) (sym (at-other t b j Empty (apart j (placed-on s (past B) j a run.pooled (legal-of s B run) on (hand-used s (past B) r a has)).0 unknown))) (h.lent r j a has on);
+        lent =
+            λ r j a has on. subst (λ (x : Kept). IsPartOf x a (lent_to r B))
+            (sym (at-other t b j Empty (apart j (placed-on s (past B) j a run.pooled (legal-of s B run) on (hand-used s (past B) r a has)).0 unknown)))
+            (h.lent r j a has on);
         lost = h.lost;
       }
     ]

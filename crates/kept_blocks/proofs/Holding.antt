@@ -72,14 +72,16 @@ clear-nowhere s P a c = record {
   roles = ap (λ (t : Entry → Bool). list_any t (hands P)) (λ i e. array-held a e i) ∙ none_any (holds (is_frame a)) (hands P) c.roles;
 }
 
-into : {F : Type 0} (parts : F → Option Parts) (s : Setting) (B : BoardState) (b : ℕ) (g : LastGrant) (k : Kept) → owed s (past B) ≡ [] → IsKeptBy parts s B b g k → IsKeptIn parts s B b g k
+into : {F : Type 0} (parts : F → Option Parts) (s : Setting) (B : BoardState) (b : ℕ) (g : LastGrant) (k : Kept) → owed s (past B) ≡ []
+    → IsKeptBy parts s B b g k → IsKeptIn parts s B b g k
 into parts s B b Never k still x = x
 into parts s B b (InMaking r a n) k still x = x
 into parts s B b (Made a n) k still (inl on) = inl on
 into parts s B b (Made a n) k still (inr gone) = inr (gone.0, nowhere-clear s (past B) a still gone.1)
 into parts s B b (TakenBack n) k still x = x
 
-out-of : {F : Type 0} (parts : F → Option Parts) (s : Setting) (B : BoardState) (b : ℕ) (g : LastGrant) (k : Kept) → IsKeptIn parts s B b g k → IsKeptBy parts s B b g k
+out-of : {F : Type 0} (parts : F → Option Parts) (s : Setting) (B : BoardState) (b : ℕ) (g : LastGrant) (k : Kept)
+    → IsKeptIn parts s B b g k → IsKeptBy parts s B b g k
 out-of parts s B b Never k x = x
 out-of parts s B b (InMaking r a n) k x = x
 out-of parts s B b (Made a n) k (inl on) = inl on
@@ -92,7 +94,8 @@ still-of s B run = let o = history-owes {s = s} {P = past B} run.history in o.re
 pub legal-of : (s : Setting) (B : BoardState) → IsRunOf s B → is_legal s (past B) ≡ true
 legal-of s B run = let o = history-owes {s = s} {P = past B} run.history in o.legal
 
-pub holds-in : {F : Type 0} (parts : F → Option Parts) (s : Setting) (B : BoardState) (t : List Kept) → IsRunOf s B → HoldsBlocks parts s B t → Holds parts s B t
+pub holds-in : {F : Type 0} (parts : F → Option Parts) (s : Setting) (B : BoardState) (t : List Kept) → IsRunOf s B
+    → HoldsBlocks parts s B t → Holds parts s B t
 holds-in parts s B t run h = record {
   places = h.places;
   kept = λ b is. into parts s B b (last_grant b (past B)) (kept_at t b) (still-of s B run) (h.kept b is);
@@ -110,7 +113,8 @@ holds-out parts s B t h = record {
 
 -- WHAT STAYS
 
-pub frame-stays : {F : Type 0} (parts : F → Option Parts) (B new : BoardState) (b n : ℕ) (a : FrameName) (k : Kept) → parts_here new b ≡ parts_here B b → IsFrameOn parts B b a n k → IsFrameOn parts new b a n k
+pub frame-stays : {F : Type 0} (parts : F → Option Parts) (B new : BoardState) (b n : ℕ) (a : FrameName) (k : Kept) → parts_here new b ≡ parts_here B b
+    → IsFrameOn parts B b a n k → IsFrameOn parts new b a n k
 frame-stays parts B new b n a k here f = record {
   its_parts = f.its_parts;
   is = f.is;
@@ -119,30 +123,37 @@ frame-stays parts B new b n a k here f = record {
 }
 
 -- where the log says the same of the block, the same is kept
-pub keeps : {F : Type 0} (parts : F → Option Parts) (s : Setting) (B new : BoardState) (b : ℕ) (g : LastGrant) (k : Kept) → parts_here new b ≡ parts_here B b → is_away b new ≡ is_away b B → parts_away b new ≡ parts_away b B
-    → ((a : FrameName) (n : ℕ) → g ≡ Made a n → Clear (is_frame a) s (past B) → Clear (is_frame a) s (past new)) → IsKeptIn parts s B b g k → IsKeptIn parts s new b g k
+pub keeps : {F : Type 0} (parts : F → Option Parts) (s : Setting) (B new : BoardState) (b : ℕ) (g : LastGrant) (k : Kept) → parts_here new b ≡ parts_here B b
+    → is_away b new ≡ is_away b B → parts_away b new ≡ parts_away b B
+    → ((a : FrameName) (n : ℕ) → g ≡ Made a n → Clear (is_frame a) s (past B) → Clear (is_frame a) s (past new))
+    → IsKeptIn parts s B b g k → IsKeptIn parts s new b g k
 keeps parts s B new b Never k here away gone clear x = x
 keeps parts s B new b (InMaking r a n) k here away gone clear x = (x.0, gone ∙ x.1)
 keeps parts s B new b (Made a n) k here away gone clear (inl on) = inl (frame-stays parts B new b n a k here on)
 keeps parts s B new b (Made a n) k here away gone clear (inr none) = inr (none.0, clear a n refl none.1)
-keeps parts s B new b (TakenBack n) k here away gone clear x = λ tell. record { sized = (x tell).sized; home = (x tell).home ∙ ap (λ (y : Bool). Some (not y)) (sym away) }
+keeps parts s B new b (TakenBack n) k here away gone clear x =
+    λ tell. record { sized = (x tell).sized; home = (x tell).home ∙ ap (λ (y : Bool). Some (not y)) (sym away) }
 
 -- as many parts are in hands where the hands and their blocks are the same
-pub here-same : (B new : BoardState) (b : ℕ) → hands (past new) ≡ hands (past B) → ((a : FrameName) → block_of (past new) a ≡ block_of (past B) a) → parts_away b new ≡ parts_away b B → parts_here new b ≡ parts_here B b
+pub here-same : (B new : BoardState) (b : ℕ) → hands (past new) ≡ hands (past B) → ((a : FrameName) → block_of (past new) a ≡ block_of (past B) a)
+    → parts_away b new ≡ parts_away b B → parts_here new b ≡ parts_here B b
 here-same B new b hands_ blocks gone =
     let in_hand : parts_in_hand (past new) b ≡ parts_in_hand (past B) b =
-    ap (count (has_part (past new) b)) hands_ ∙ same-parts (past new) (past B) (λ x. false) (λ x off. blocks x) b (hands (past B)) (none-hold (hands (past B))) in
+    ap (count (has_part (past new) b)) hands_
+    ∙ same-parts (past new) (past B) (λ x. false) (λ x off. blocks x) b (hands (past B)) (none-hold (hands (past B))) in
     ap (λ (i : ℕ). 2 ^ 32 - (i + parts_away b new)) in_hand ∙ ap (λ (i : ℕ). 2 ^ 32 - (parts_in_hand (past B) b + i)) gone
 
 hand-same : (P Q : Past) (r : ℕ) → hands Q ≡ hands P → hand r Q ≡ hand r P
 hand-same P Q r is = ap (Rattle.std.specs.List.find (Rattle.flow_journal.specs.Hands.takes_up r)) is
 
-pub rest-holds : {F : Type 0} (parts : F → Option Parts) (s : Setting) (B new : BoardState) (t : List Kept) → Rest s B new → is_legal s (past new) ≡ true → Holds parts s B t → Holds parts s new t
+pub rest-holds : {F : Type 0} (parts : F → Option Parts) (s : Setting) (B new : BoardState) (t : List Kept) → Rest s B new → is_legal s (past new) ≡ true
+    → Holds parts s B t → Holds parts s new t
 rest-holds parts s B new t rest legal h = record {
   places = λ b is. h.places b (subst (λ bs. has_number b bs ≡ true) rest.same_known is);
   kept = λ b is.
       subst (λ (g : LastGrant). IsKeptIn parts s new b g (kept_at t b)) (sym (rest.same_grants b))
-      (keeps parts s B new b (last_grant b (past B)) (kept_at t b) (here-same B new b rest.same_hands rest.same_blocks (rest.same_gone b)) (rest.same_away b) (rest.same_gone b) (λ a n made c. rest.clear legal a c)
+      (keeps parts s B new b (last_grant b (past B)) (kept_at t b) (here-same B new b rest.same_hands rest.same_blocks (rest.same_gone b)) (rest.same_away b)
+      (rest.same_gone b) (λ a n made c. rest.clear legal a c)
       (h.kept b (subst (λ bs. has_number b bs ≡ true) rest.same_known is)));
   lent = λ r b a has on.
       subst (λ (q : Option Parts). IsPartOf (kept_at t b) a q) (sym (rest.same_lent r))
@@ -168,25 +179,30 @@ pub record Stands {F : Type 0} (parts : F → Option Parts) (s : Setting) (B : B
   pub place : placed.block < length t
   pub frame : IsFrameOn parts B placed.block a placed.size (kept_at t placed.block)
 
-pub made-frame : {F : Type 0} (parts : F → Option Parts) (s : Setting) (B : BoardState) (b n : ℕ) (a : FrameName) (k : Kept) → (ClearBy no_frame (is_frame a) s (past B) → ⊥) → IsKeptIn parts s B b (Made a n) k → IsFrameOn parts B b a n k
+pub made-frame : {F : Type 0} (parts : F → Option Parts) (s : Setting) (B : BoardState) (b n : ℕ) (a : FrameName) (k : Kept)
+    → (ClearBy no_frame (is_frame a) s (past B) → ⊥) → IsKeptIn parts s B b (Made a n) k → IsFrameOn parts B b a n k
 made-frame parts s B b n a k used (inl on) = on
 made-frame parts s B b n a k used (inr gone) = absurd (used (alone-from s (past B) a gone.1))
 
 -- an array with a place stands in the table
-pub stands : {F : Type 0} (parts : F → Option Parts) (s : Setting) (B : BoardState) (t : List Kept) (a : FrameName) → s.pooled ≡ true → is_legal s (past B) ≡ true → Holds parts s B t → (ClearBy no_frame (is_frame a) s (past B) → ⊥) → Stands parts s B t a
+pub stands : {F : Type 0} (parts : F → Option Parts) (s : Setting) (B : BoardState) (t : List Kept) (a : FrameName) → s.pooled ≡ true
+    → is_legal s (past B) ≡ true → Holds parts s B t → (ClearBy no_frame (is_frame a) s (past B) → ⊥) → Stands parts s B t a
 stands parts s B t a pooled legal h used =
     let p = placed s (past B) a pooled legal used in
     record {
       placed = p;
       place = h.places p.block p.known_block;
-      frame = made-frame parts s B p.block p.size a (kept_at t p.block) used (subst (λ (g : LastGrant). IsKeptIn parts s B p.block g (kept_at t p.block)) p.made (h.kept p.block p.known_block));
+      frame =
+          made-frame parts s B p.block p.size a (kept_at t p.block) used
+          (subst (λ (g : LastGrant). IsKeptIn parts s B p.block g (kept_at t p.block)) p.made (h.kept p.block p.known_block));
     }
 
 lend-parts : (p : Option Parts) (n m : ℕ) → OfSome (λ q. (q.size ≡ n) × (q.here ≡ 2 ^ 32 - m)) p → m ≤ 300 → MayPart p
 lend-parts None n m here few = tt
 lend-parts (Some q) n m here few = omega (arith, here.1, few)
 
-pub may-lend : {F : Type 0} (parts : F → Option Parts) (s : Setting) (B : BoardState) (b n : ℕ) (a : FrameName) (k : Kept) → threads s ≤ 64 → is_legal s (past B) ≡ true → LoseFew B → IsFrameOn parts B b a n k → MayLend k
+pub may-lend : {F : Type 0} (parts : F → Option Parts) (s : Setting) (B : BoardState) (b n : ℕ) (a : FrameName) (k : Kept) → threads s ≤ 64
+    → is_legal s (past B) ≡ true → LoseFew B → IsFrameOn parts B b a n k → MayLend k
 may-lend parts s B b n a k threads_few legal lost f =
     subst MayLend (sym f.is) (lend-parts f.its_parts n (parts_in_hand (past B) b + parts_away b B) f.here (few-parts s B b threads_few legal lost))
 
@@ -194,5 +210,6 @@ untold-none : (p : Option Parts) → IsSome p → Rattle.std.specs.Prelude.IsNon
 untold-none None some none = true≢false (sym some)
 untold-none (Some q) some none = true≢false none
 
-pub not-untold : {F : Type 0} (parts : F → Option Parts) (B : BoardState) (b n : ℕ) (a : FrameName) (k : Kept) → IsFrameOn parts B b a n k → TellParts parts → IsUntold k → ⊥
+pub not-untold : {F : Type 0} (parts : F → Option Parts) (B : BoardState) (b n : ℕ) (a : FrameName) (k : Kept)
+    → IsFrameOn parts B b a n k → TellParts parts → IsUntold k → ⊥
 not-untold parts B b n a k f tell none = untold-none f.its_parts (f.tells tell) (subst IsUntold f.is none)

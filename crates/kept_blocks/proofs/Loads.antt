@@ -41,7 +41,8 @@ use Rattle.kept_blocks.proofs.Ending.{part-off}
 use Rattle.kept_blocks.proofs.Granting.{on-block, filtered-has}
 
 -- what is known then was known, but for the block itself
-known-then : (s : Setting) (P : Past) (b z : ℕ) (f : Bool) (g j : ℕ) → j ≢ b → has_number j (known_after (is_unplaced s P) (Granted b z f g) (known s P)) ≡ true → has_number j (known s P) ≡ true
+known-then : (s : Setting) (P : Past) (b z : ℕ) (f : Bool) (g j : ℕ) → j ≢ b
+    → has_number j (known_after (is_unplaced s P) (Granted b z f g) (known s P)) ≡ true → has_number j (known s P) ≡ true
 known-then s P b z false g j ne h = h
 known-then s P b z true g j ne h =
     elim (or_cases (eqb b j) (has_number j (left_after g (is_unplaced s P) (known s P))) h) [
@@ -59,7 +60,8 @@ pub record GrantsBlock (s : Setting) (P : Past) (b z : ℕ) (f : Bool) (g r : �
   pub clear : (x : FrameName) → same made x ≡ false → Clear (is_frame x) s P → Clear (is_frame x) s (e ∷ P)
 
 -- what was made isn't what is in the making then
-made-other : (s : Setting) (P : Past) (b z : ℕ) (f : Bool) (g r k n : ℕ) (made x : FrameName) (e : Entry) → s.pooled ≡ true → is_legal s P ≡ true → GrantsBlock s P b z f g r made e → last_grant k P ≡ Made x n → same made x ≡ false
+made-other : (s : Setting) (P : Past) (b z : ℕ) (f : Bool) (g r k n : ℕ) (made x : FrameName) (e : Entry) → s.pooled ≡ true → is_legal s P ≡ true
+    → GrantsBlock s P b z f g r made e → last_grant k P ≡ Made x n → same made x ≡ false
 made-other s P b z f g r k n made x e pooled legal l is =
     elim (cases_Bool (same made x)) [
       | inl this ↦
@@ -69,30 +71,37 @@ made-other s P b z f g r k n made x e pooled legal l is =
     ]
 
 -- the blocks then: the granted one waits for its array, and of another the same is kept, or one part less
-grants-kept : {F : Type 0} (parts : F → Option Parts) (s : Setting) (B : BoardState) (t new : List Kept) (b z : ℕ) (f : Bool) (g r : ℕ) (made : FrameName) (q : Option Parts) (e : Entry) → IsRunOf s B → Holds parts s B t → GrantsBlock s (past B) b z f g r made e
-    → kept_at new b ≡ Empty → ((k : ℕ) → k ≢ b → has_number k (known s (past B)) ≡ true → IsKeptIn parts s (lends e q ∷ B) k (last_grant k (past B)) (kept_at new k))
+grants-kept : {F : Type 0} (parts : F → Option Parts) (s : Setting) (B : BoardState) (t new : List Kept)
+    (b z : ℕ) (f : Bool) (g r : ℕ) (made : FrameName) (q : Option Parts) (e : Entry) → IsRunOf s B → Holds parts s B t → GrantsBlock s (past B) b z f g r made e
+    → kept_at new b ≡ Empty
+    → ((k : ℕ) → k ≢ b → has_number k (known s (past B)) ≡ true → IsKeptIn parts s (lends e q ∷ B) k (last_grant k (past B)) (kept_at new k))
     → (k : ℕ) → has_number k (known s (e ∷ past B)) ≡ true → IsKeptIn parts s (lends e q ∷ B) k (last_grant k (e ∷ past B)) (kept_at new k)
 grants-kept parts s B t new b z f g r made q e run h l empty others k is =
     let P = past B in
     elim (cases_eq k b) [
       | inl here ↦
-          let turned : last_grant b (e ∷ P) ≡ InMaking r made z = l.turn b ∙ ap (λ (y : Bool). if y then InMaking r made z else last_grant b P) (eq-eqb b b refl) in
+          let turned : last_grant b (e ∷ P) ≡ InMaking r made z =
+          l.turn b ∙ ap (λ (y : Bool). if y then InMaking r made z else last_grant b P) (eq-eqb b b refl) in
           let gone : parts_away b (lends e q ∷ B) ≡ 0 = ap (λ (y : Bool). if y then 0 else 0 + parts_away b B) (l.grant b ∙ eq-eqb b b refl) in
           subst (λ (j : ℕ). IsKeptIn parts s (lends e q ∷ B) j (last_grant j (e ∷ P)) (kept_at new j)) (sym here)
           (subst (λ (y : LastGrant). IsKeptIn parts s (lends e q ∷ B) b y (kept_at new b)) (sym turned) (empty, gone))
       | inr ne ↦
-          let same_grant : last_grant k (e ∷ P) ≡ last_grant k P = l.turn k ∙ ap (λ (y : Bool). if y then InMaking r made z else last_grant k P) (ne_eqb b k (λ i. ne (sym i))) in
+          let same_grant : last_grant k (e ∷ P) ≡ last_grant k P =
+          l.turn k ∙ ap (λ (y : Bool). if y then InMaking r made z else last_grant k P) (ne_eqb b k (λ i. ne (sym i))) in
           subst (λ (y : LastGrant). IsKeptIn parts s (lends e q ∷ B) k y (kept_at new k)) (sym same_grant)
           (others k ne (known-then s P b z f g k ne (subst (λ bs. has_number k bs ≡ true) l.known_then is)))
     ]
 
 -- and the places
-grants-places : {F : Type 0} (parts : F → Option Parts) (s : Setting) (B : BoardState) (t new : List Kept) (b z : ℕ) (f : Bool) (g r : ℕ) (made : FrameName) (e : Entry) → Holds parts s B t → GrantsBlock s (past B) b z f g r made e → length new ≡ length t → b < length t
+grants-places : {F : Type 0} (parts : F → Option Parts) (s : Setting) (B : BoardState) (t new : List Kept) (b z : ℕ) (f : Bool) (g r : ℕ) (made : FrameName)
+    (e : Entry) → Holds parts s B t → GrantsBlock s (past B) b z f g r made e → length new ≡ length t → b < length t
     → (k : ℕ) → has_number k (known s (e ∷ past B)) ≡ true → k < length new
 grants-places parts s B t new b z f g r made e h l long place k is =
     elim (cases_eq k b) [
       | inl here ↦ omega (arith, long, place, here)
-      | inr ne ↦ let lt : k < length t = h.places k (known-then s (past B) b z f g k ne (subst (λ bs. has_number k bs ≡ true) l.known_then is)) in omega (arith, lt, long)
+      | inr ne ↦
+          let lt : k < length t = h.places k (known-then s (past B) b z f g k ne (subst (λ bs. has_number k bs ≡ true) l.known_then is)) in
+          omega (arith, lt, long)
     ]
 
 gone-other : (k b : ℕ) (e : Entry) (q : Option Parts) (B : BoardState) → k ≢ b → grants k e ≡ eqb b k → parts_away k (lends e q ∷ B) ≡ parts_away k B
@@ -103,11 +112,13 @@ away-other k b e q B ne grant = ap (λ (y : Bool). if y then false else is_away 
 
 -- A LOAD
 
-hand-off : (w : FrameName → Bool) (y : FrameName) (p : ℕ) (P : Past) (o : Option Entry) → hand p P ≡ o → has_part_of y o ≡ true → count (holds w) (hands P) ≡ 0 → w y ≡ false
+hand-off : (w : FrameName → Bool) (y : FrameName) (p : ℕ) (P : Past) (o : Option Entry) → hand p P ≡ o → has_part_of y o ≡ true
+    → count (holds w) (hands P) ≡ 0 → w y ≡ false
 hand-off w y p P None held has none = absurd (false≢true has)
 hand-off w y p P (Some d) held has none = part-off w y d has (hand-clear (holds w) p d P held none)
 
-load-grants : (s : Setting) (P : Past) (r k b z : ℕ) (f : Bool) (g : ℕ) (x : Bool) → is_legal s (Load r k b z f g x ∷ P) ≡ true → GrantsBlock s P b z f g r (frame 0 k) (Load r k b z f g x)
+load-grants : (s : Setting) (P : Past) (r k b z : ℕ) (f : Bool) (g : ℕ) (x : Bool) → is_legal s (Load r k b z f g x ∷ P) ≡ true
+    → GrantsBlock s P b z f g r (frame 0 k) (Load r k b z f g x)
 load-grants s P r k b z f g x legal = record {
   legal = legal;
   known_then = refl;
@@ -117,8 +128,10 @@ load-grants s P r k b z f g x legal = record {
   clear = λ y off c. clear-more (is_frame y) s (Load r k b z f g x) P legal (omega (arith, count-cons (is_frame y) (frame 0 k) [], ap bit off)) c;
 }
 
-pub load-law : {F : Type 0} (parts : F → Option Parts) (s : Setting) (B : BoardState) (t : List Kept) (tick r k need b z : ℕ) (f : Bool) (g : ℕ) (x : Bool) → IsGranted parts s B t need b z f g → b < length t
-    → is_legal s (past (moved_at s tick (plain (Load r k b z f g x)) B)) ≡ true → HoldsBlocks parts s (moved_at s tick (plain (Load r k b z f g x)) B) (with_kept t b Empty)
+pub load-law : {F : Type 0} (parts : F → Option Parts) (s : Setting) (B : BoardState) (t : List Kept) (tick r k need b z : ℕ) (f : Bool) (g : ℕ) (x : Bool)
+    → IsGranted parts s B t need b z f g → b < length t
+    → is_legal s (past (moved_at s tick (plain (Load r k b z f g x)) B)) ≡ true
+    → HoldsBlocks parts s (moved_at s tick (plain (Load r k b z f g x)) B) (with_kept t b Empty)
 load-law parts s B t tick r k need b z f g x i place legal =
     let P = past B in
     let e = Load r k b z f g x in
@@ -130,13 +143,17 @@ load-law parts s B t tick r k need b z f g x i place legal =
     let l = load-grants s P r k b z f g x first_legal in
     let nowhere = unloaded-nowhere s r k b z f g x P first_legal in
     let in_hands : (j : ℕ) → parts_in_hand (e ∷ P) j ≡ parts_in_hand P j = λ j.
-    let whole : parts_in_hand (e ∷ P) j ≡ count (has_part (e ∷ P) j) (e ∷ hands P) = ap (count (has_part (e ∷ P) j)) (hands-more s r e P (eq-eqb r r refl) first_legal) in
-    omega (arith, whole, count-cons (has_part (e ∷ P) j) e (hands P), same-parts (e ∷ P) P (is_frame (frame 0 k)) (λ y off. block_laws.load_other r k b z f g x P y off) j (hands P) nowhere.roles) in
+    let whole : parts_in_hand (e ∷ P) j ≡ count (has_part (e ∷ P) j) (e ∷ hands P) =
+    ap (count (has_part (e ∷ P) j)) (hands-more s r e P (eq-eqb r r refl) first_legal) in
+    omega (arith, whole, count-cons (has_part (e ∷ P) j) e (hands P),
+    same-parts (e ∷ P) P (is_frame (frame 0 k)) (λ y off. block_laws.load_other r k b z f g x P y off) j (hands P) nowhere.roles) in
     let others : (j : ℕ) → j ≢ b → has_number j (known s P) ≡ true → IsKeptIn parts s (lends e None ∷ B) j (last_grant j P) (kept_at new j) = λ j ne is.
     let gone = gone-other j b e None B ne refl in
-    let here : parts_here (lends e None ∷ B) j ≡ parts_here B j = ap (λ (n : ℕ). 2 ^ 32 - (n + parts_away j (lends e None ∷ B))) (in_hands j) ∙ ap (λ (n : ℕ). 2 ^ 32 - (parts_in_hand P j + n)) gone in
+    let here : parts_here (lends e None ∷ B) j ≡ parts_here B j =
+    ap (λ (n : ℕ). 2 ^ 32 - (n + parts_away j (lends e None ∷ B))) (in_hands j) ∙ ap (λ (n : ℕ). 2 ^ 32 - (parts_in_hand P j + n)) gone in
     subst (λ (y : Kept). IsKeptIn parts s (lends e None ∷ B) j (last_grant j P) y) (sym (at-other t b j Empty ne))
-    (keeps parts s B (lends e None ∷ B) j (last_grant j P) (kept_at t j) here (away-other j b e None B ne refl) gone (λ a n made c. l.clear a (made-other s P b z f g r j n (frame 0 k) a e i.run.pooled before l made) c) (h.kept j is)) in
+    (keeps parts s B (lends e None ∷ B) j (last_grant j P) (kept_at t j) here (away-other j b e None B ne refl) gone
+    (λ a n made c. l.clear a (made-other s P b z f g r j n (frame 0 k) a e i.run.pooled before l made) c) (h.kept j is)) in
     holds-out parts s (moved_at s tick (plain e) B) new
     (rest-holds parts s (plain e ∷ B) (moved_at s tick (plain e) B) new rest legal
     (record {
@@ -150,14 +167,16 @@ load-law parts s B t tick r k need b z f g x i place legal =
             let was : block_of P y ≡ j ∷ [] = sym (block_laws.load_other r k b z f g x P y off) ∙ on in
             let ne : j ≢ b = λ is. hand-used s P p y had (alone-from s P y (on-block parts s B t need b z f g i y (was ∙ ap (λ (n : ℕ). n ∷ []) is))) in
             let lent : lent_to p (plain e ∷ B) ≡ lent_to p B = ap (λ (c : Bool). if c then None else lent_to p B) other in
-            subst (λ (o : Option Parts). IsPartOf (kept_at new j) y o) (sym lent) (subst (λ (c : Kept). IsPartOf c y (lent_to p B)) (sym (at-other t b j Empty ne)) (h.lent p j y had was))
+            subst (λ (o : Option Parts). IsPartOf (kept_at new j) y o) (sym lent)
+            (subst (λ (c : Kept). IsPartOf c y (lent_to p B)) (sym (at-other t b j Empty ne)) (h.lent p j y had was))
       ];
       lost = (omega arith, h.lost);
     }))
 
 -- A TAKE
 
-take-grants : (s : Setting) (P : Past) (r v m k b z : ℕ) (f : Bool) (g : ℕ) (x : Bool) → is_legal s (TakeBlock f x r v m k b z g ∷ P) ≡ true → GrantsBlock s P b z f g r (frame v k) (TakeBlock f x r v m k b z g)
+take-grants : (s : Setting) (P : Past) (r v m k b z : ℕ) (f : Bool) (g : ℕ) (x : Bool) → is_legal s (TakeBlock f x r v m k b z g ∷ P) ≡ true
+    → GrantsBlock s P b z f g r (frame v k) (TakeBlock f x r v m k b z g)
 take-grants s P r v m k b z f g x legal = record {
   legal = legal;
   known_then = refl;
@@ -167,7 +186,9 @@ take-grants s P r v m k b z f g x legal = record {
   clear = λ y off c. clear-more (is_frame y) s (TakeBlock f x r v m k b z g) P legal (omega (arith, count-cons (is_frame y) (frame v k) [], ap bit off)) c;
 }
 
-module _ {F : Type 0} (parts : F → Option Parts) (s : Setting) (B : BoardState) (t new : List Kept) (r v c need b z : ℕ) (f : Bool) (g : ℕ) (x : Bool) (a : FrameName) (q : Option Parts) (i : IsGranted parts s B t need b z f g) (place : b < length t) (on : block_of (past B) a ≡ c ∷ []) (legal : is_legal s (TakeBlock f x r v a.maker a.index b z g ∷ past B) ≡ true) where
+module _ {F : Type 0} (parts : F → Option Parts) (s : Setting) (B : BoardState) (t new : List Kept)
+    (r v c need b z : ℕ) (f : Bool) (g : ℕ) (x : Bool) (a : FrameName) (q : Option Parts) (i : IsGranted parts s B t need b z f g) (place : b < length t)
+    (on : block_of (past B) a ≡ c ∷ []) (legal : is_legal s (TakeBlock f x r v a.maker a.index b z g ∷ past B) ≡ true) where
   abbrev e : Entry
   e = TakeBlock f x r v a.maker a.index b z g
 
@@ -203,7 +224,8 @@ module _ {F : Type 0} (parts : F → Option Parts) (s : Setting) (B : BoardState
     own = own-off;
   }
 
-  pub take-holds : IsPartOf (kept_at t c) a q → length new ≡ length t → kept_at new b ≡ Empty → kept_at new c ≡ less_one (kept_at t c) → ((j : ℕ) → j ≢ b → j ≢ c → kept_at new j ≡ kept_at t j) → Holds parts s (lends (TakeBlock f x r v a.maker a.index b z g) q ∷ B) new
+  pub take-holds : IsPartOf (kept_at t c) a q → length new ≡ length t → kept_at new b ≡ Empty → kept_at new c ≡ less_one (kept_at t c)
+      → ((j : ℕ) → j ≢ b → j ≢ c → kept_at new j ≡ kept_at t j) → Holds parts s (lends (TakeBlock f x r v a.maker a.index b z g) q ∷ B) new
   take-holds part long empty less same_kept =
       let P = past B in
       let B1 = lends e q ∷ B in
@@ -215,23 +237,33 @@ module _ {F : Type 0} (parts : F → Option Parts) (s : Setting) (B : BoardState
       let in_hands = lent-shares s P (is_frame (frame v a.index)) r c a e lends-a on in
       let others : (j : ℕ) → j ≢ b → has_number j (known s P) ≡ true → IsKeptIn parts s B1 j (last_grant j P) (kept_at new j) = λ j ne is. elim (cases_eq j c) [
         | inl here ↦
-            let frame_before : IsFrameOn parts B c a p.1.0 (kept_at t c) = made-frame parts s B c p.1.0 a (kept_at t c) used (subst (λ (y : LastGrant). IsKeptIn parts s B c y (kept_at t c)) p.1.1 (h.kept c p.0)) in
+            let frame_before : IsFrameOn parts B c a p.1.0 (kept_at t c) =
+            made-frame parts s B c p.1.0 a (kept_at t c) used (subst (λ (y : LastGrant). IsKeptIn parts s B c y (kept_at t c)) p.1.1 (h.kept c p.0)) in
             let more : parts_in_hand (e ∷ P) c ≡ 1 + parts_in_hand P c = in_hands c ∙ ap (λ (y : Bool). bit y + parts_in_hand P c) (eq-eqb c c refl) in
-            let now_ : IsFrameOn parts B1 c a p.1.0 (kept_at new c) = subst (λ (y : Kept). IsFrameOn parts B1 c a p.1.0 y) (sym less) (less-frame parts B B1 c p.1.0 a (kept_at t c) (few-parts s B c i.run.few before h.lost) more (gone-other c b e q B apart refl) frame_before) in
-            let at_c : IsKeptIn parts s B1 c (last_grant c P) (kept_at new c) = subst (λ (y : LastGrant). IsKeptIn parts s B1 c y (kept_at new c)) (sym p.1.1) (inl now_) in
+            let now_ : IsFrameOn parts B1 c a p.1.0 (kept_at new c) =
+            subst (λ (y : Kept). IsFrameOn parts B1 c a p.1.0 y) (sym less)
+            (less-frame parts B B1 c p.1.0 a (kept_at t c) (few-parts s B c i.run.few before h.lost) more (gone-other c b e q B apart refl) frame_before) in
+            let at_c : IsKeptIn parts s B1 c (last_grant c P) (kept_at new c) =
+            subst (λ (y : LastGrant). IsKeptIn parts s B1 c y (kept_at new c)) (sym p.1.1) (inl now_) in
             subst (λ (n : ℕ). IsKeptIn parts s B1 n (last_grant n P) (kept_at new n)) (sym here) at_c
         | inr off ↦
             let gone = gone-other j b e q B ne refl in
-            let as_many : parts_in_hand (e ∷ P) j ≡ parts_in_hand P j = in_hands j ∙ (ap (λ (y : Bool). bit y + parts_in_hand P j) (ne_eqb c j (λ u. off (sym u))) ∙ none-more (parts_in_hand P j)) in
-            let same_here : parts_here B1 j ≡ parts_here B j = ap (λ (n : ℕ). 2 ^ 32 - (n + parts_away j B1)) as_many ∙ ap (λ (n : ℕ). 2 ^ 32 - (parts_in_hand P j + n)) gone in
+            let as_many : parts_in_hand (e ∷ P) j ≡ parts_in_hand P j =
+            in_hands j ∙ (ap (λ (y : Bool). bit y + parts_in_hand P j) (ne_eqb c j (λ u. off (sym u))) ∙ none-more (parts_in_hand P j)) in
+            let same_here : parts_here B1 j ≡ parts_here B j =
+            ap (λ (n : ℕ). 2 ^ 32 - (n + parts_away j B1)) as_many ∙ ap (λ (n : ℕ). 2 ^ 32 - (parts_in_hand P j + n)) gone in
             subst (λ (y : Kept). IsKeptIn parts s B1 j (last_grant j P) y) (sym (same_kept j ne off))
-            (keeps parts s B B1 j (last_grant j P) (kept_at t j) same_here (away-other j b e q B ne refl) gone (λ y n made clear. l.clear y (made-other s P b z f g r j n (frame v a.index) y e i.run.pooled before l made) clear) (h.kept j is))
+            (keeps parts s B B1 j (last_grant j P) (kept_at t j) same_here (away-other j b e q B ne refl) gone
+            (λ y n made clear. l.clear y (made-other s P b z f g r j n (frame v a.index) y e i.run.pooled before l made) clear) (h.kept j is))
       ] in
       record {
         places = grants-places parts s B t new b z f g r (frame v a.index) e h l long place;
         kept = grants-kept parts s B t new b z f g r (frame v a.index) q e i.run h l empty others;
-        lent = lent-lent parts s B t new (is_frame (frame v a.index)) r c a q e lends-a (λ u y had. hand-off (is_frame (frame v a.index)) y u P (hand u P) refl had nowhere.roles) on part less
-            (λ u j y had was off. same_kept j (λ is. hand-used s P u y had (alone-from s P y (on-block parts s B t need b z f g i y (was ∙ ap (λ (n : ℕ). n ∷ []) is)))) off) h;
+        lent =
+            lent-lent parts s B t new (is_frame (frame v a.index)) r c a q e lends-a
+            (λ u y had. hand-off (is_frame (frame v a.index)) y u P (hand u P) refl had nowhere.roles) on part less
+            (λ u j y had was off. same_kept j
+            (λ is. hand-used s P u y had (alone-from s P y (on-block parts s B t need b z f g i y (was ∙ ap (λ (n : ℕ). n ∷ []) is)))) off) h;
         lost = (omega arith, h.lost);
       }
 
@@ -240,7 +272,8 @@ module _ {F : Type 0} (parts : F → Option Parts) (s : Setting) (B : BoardState
       let p = placed-on s (past B) c a i.run.pooled (legal-of s B i.run) on (queued-used s (past B) v a next) in
       i.holds.places c p.0
 
-pub take-block-law : {F : Type 0} (parts : F → Option Parts) (s : Setting) (B : BoardState) (t : List Kept) (r v c need b z : ℕ) (f : Bool) (g : ℕ) (x : Bool) (a : FrameName) (q : Option Parts)
+pub take-block-law : {F : Type 0} (parts : F → Option Parts) (s : Setting) (B : BoardState) (t : List Kept)
+    (r v c need b z : ℕ) (f : Bool) (g : ℕ) (x : Bool) (a : FrameName) (q : Option Parts)
     → IsGranted parts s B t need b z f g → b < length t → block_of (past B) a ≡ c ∷ [] → IsPartOf (kept_at (with_kept t b Empty) c) a q
     → is_legal s (past (moved s (lends (take_block r v a b z f g x) q) B)) ≡ true
     → HoldsBlocks parts s (moved s (lends (take_block r v a b z f g x) q) B) (with_kept (with_kept t b Empty) c (less_one (kept_at (with_kept t b Empty) c)))
@@ -263,7 +296,8 @@ take-block-law parts s B t r v c need b z f g x a q i place on part legal =
     (at-same T c l (subst (λ (n : ℕ). c < n) (sym (same-length t b Empty)) lt) ∙ ap less_one beside)
     (λ j not_b not_c. at-other T c j l not_c ∙ at-other t b j Empty not_b)))
 
-pub take-lent-law : {F : Type 0} (parts : F → Option Parts) (s : Setting) (B : BoardState) (t : List Kept) (r v c need b z : ℕ) (f : Bool) (g : ℕ) (x : Bool) (a : FrameName) (q : Option Parts)
+pub take-lent-law : {F : Type 0} (parts : F → Option Parts) (s : Setting) (B : BoardState) (t : List Kept)
+    (r v c need b z : ℕ) (f : Bool) (g : ℕ) (x : Bool) (a : FrameName) (q : Option Parts)
     → IsGranted parts s B t need b z f g → b < length t → block_of (past B) a ≡ c ∷ [] → IsPartOf (kept_at t c) a q
     → is_legal s (past (moved s (lends (take_block r v a b z f g x) q) B)) ≡ true
     → HoldsBlocks parts s (moved s (lends (take_block r v a b z f g x) q) B) (with_kept (with_kept t c (less_one (kept_at t c))) b Empty)

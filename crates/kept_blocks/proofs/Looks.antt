@@ -38,7 +38,8 @@ within-parts : (p : Option Parts) (a : FrameName) (n m : ℕ) → OfSome (λ q. 
 within-parts None a n m here = tt
 within-parts (Some q) a n m here = omega (arith, here.1)
 
-pub lendable-from : {F : Type 0} (parts : F → Option Parts) (s : Setting) (B : BoardState) (t : List Kept) (a : FrameName) → IsRunOf s B → Holds parts s B t → Stands parts s B t a → IsLendable parts (past B) t a
+pub lendable-from : {F : Type 0} (parts : F → Option Parts) (s : Setting) (B : BoardState) (t : List Kept) (a : FrameName) → IsRunOf s B → Holds parts s B t
+    → Stands parts s B t a → IsLendable parts (past B) t a
 lendable-from parts s B t a run h st = record {
   block = st.placed.block;
   has = st.placed.has;
@@ -46,11 +47,14 @@ lendable-from parts s B t a run h st = record {
   its_parts = st.frame.its_parts;
   frame = st.frame.is;
   may = may-lend parts s B st.placed.block st.placed.size a (kept_at t st.placed.block) run.few (legal-of s B run) h.lost st.frame;
-  within = subst IsWithin (sym st.frame.is) (within-parts st.frame.its_parts a st.placed.size (parts_in_hand (past B) st.placed.block + parts_away st.placed.block B) st.frame.here);
+  within =
+      subst IsWithin (sym st.frame.is)
+      (within-parts st.frame.its_parts a st.placed.size (parts_in_hand (past B) st.placed.block + parts_away st.placed.block B) st.frame.here);
   tells = not-untold parts B st.placed.block st.placed.size a (kept_at t st.placed.block) st.frame;
 }
 
-pub lendable : {F : Type 0} (parts : F → Option Parts) (s : Setting) (B : BoardState) (t : List Kept) (a : FrameName) → IsRunOf s B → HoldsBlocks parts s B t → (ClearBy no_frame (is_frame a) s (past B) → ⊥) → IsLendable parts (past B) t a
+pub lendable : {F : Type 0} (parts : F → Option Parts) (s : Setting) (B : BoardState) (t : List Kept) (a : FrameName) → IsRunOf s B → HoldsBlocks parts s B t
+    → (ClearBy no_frame (is_frame a) s (past B) → ⊥) → IsLendable parts (past B) t a
 lendable parts s B t a run hb used =
     let h = holds-in parts s B t run hb in
     lendable-from parts s B t a run h (stands parts s B t a run.pooled (legal-of s B run) h used)
@@ -67,7 +71,8 @@ back-kept (Frame c (Some p)) a q may within part =
     subst (λ (o : Option Parts). MayGiveBack (Frame c less) o × (united (Frame c less) o ≡ Frame c (Some p))) (sym part.1)
     ((refl, omega (arith, whole, within)), ap (λ (i : ℕ). Frame c (Some (record p { here = i }))) whole)
 
-lent-and-back : (t : List Kept) (b : ℕ) (a : FrameName) (q : Option Parts) → b < length t → MayLend (kept_at t b) → IsWithin (kept_at t b) → IsPartOf (kept_at t b) a q
+lent-and-back : (t : List Kept) (b : ℕ) (a : FrameName) (q : Option Parts) → b < length t → MayLend (kept_at t b)
+    → IsWithin (kept_at t b) → IsPartOf (kept_at t b) a q
     → MayGiveBack (kept_at (with_kept t b (less_one (kept_at t b))) b) q
     × (with_kept (with_kept t b (less_one (kept_at t b))) b (united (kept_at (with_kept t b (less_one (kept_at t b))) b) q) ≡ t)
 lent-and-back t b a q lt may within part =
@@ -87,13 +92,15 @@ unite-one None n m here some few = tt
 unite-one (Some q) n m here some few = (refl, omega (arith, here.1, some, few))
 
 -- the hand counts as one part
-pub part-counts : (P : Past) (r b : ℕ) (a : FrameName) (o : Option Entry) → hand r P ≡ o → has_part_of a o ≡ true → block_of P a ≡ b ∷ [] → 1 ≤ parts_in_hand P b
+pub part-counts : (P : Past) (r b : ℕ) (a : FrameName) (o : Option Entry) → hand r P ≡ o → has_part_of a o ≡ true
+    → block_of P a ≡ b ∷ [] → 1 ≤ parts_in_hand P b
 part-counts P r b a None held has on = absurd (false≢true has)
 part-counts P r b a (Some e) held has on =
     omega (arith, count-let_go (has_part P b) r e (hands P) held, ap bit (part-of e has))
   where
     among : (y : FrameName) → same a y ≡ true → is_among b (block_of P y) ≡ true
-    among y is = ap (λ (x : FrameName). is_among b (block_of P x)) (sym (same-true a y is)) ∙ (ap (is_among b) on ∙ ap (λ (c : Bool). c || false) (eq-eqb b b refl))
+    among y is =
+        ap (λ (x : FrameName). is_among b (block_of P x)) (sym (same-true a y is)) ∙ (ap (is_among b) on ∙ ap (λ (c : Bool). c || false) (eq-eqb b b refl))
 
     part-of : (e : Entry) → has_part_of a (Some e) ≡ true → has_part P b e ≡ true
     part-of (Take q v m k) has = among (frame m k) has
@@ -104,7 +111,8 @@ part-counts P r b a (Some e) held has on =
 part-equal : (k : Kept) (a c : FrameName) (p q : Option Parts) → k ≡ Frame c p → IsPartOf k a q → q ≡ one_part p
 part-equal k a c p q is part = let here : IsPartOf (Frame c p) a q = subst (λ (x : Kept). IsPartOf x a q) is part in here.1
 
-pub lent-of : {F : Type 0} (parts : F → Option Parts) (s : Setting) (B : BoardState) (t : List Kept) (r : ℕ) (a : FrameName) → IsRunOf s B → HoldsBlocks parts s B t → has_part_of a (hand r (past B)) ≡ true → IsLent r B t a
+pub lent-of : {F : Type 0} (parts : F → Option Parts) (s : Setting) (B : BoardState) (t : List Kept) (r : ℕ) (a : FrameName) → IsRunOf s B
+    → HoldsBlocks parts s B t → has_part_of a (hand r (past B)) ≡ true → IsLent r B t a
 lent-of parts s B t r a run hb has =
     let h = holds-in parts s B t run hb in
     let st = stands parts s B t a run.pooled (legal-of s B run) h (hand-used s (past B) r a has) in
@@ -124,7 +132,8 @@ lent-of parts s B t r a run hb has =
     }
 
 -- what is made in a hand
-pub awaited : {F : Type 0} (parts : F → Option Parts) (s : Setting) (B : BoardState) (t : List Kept) (r b n : ℕ) (a : FrameName) (e : Entry) → IsRunOf s B → Holds parts s B t → hand r (past B) ≡ Some e → Makes b a n e → IsAwaited b t
+pub awaited : {F : Type 0} (parts : F → Option Parts) (s : Setting) (B : BoardState) (t : List Kept) (r b n : ℕ) (a : FrameName) (e : Entry) → IsRunOf s B
+    → Holds parts s B t → hand r (past B) ≡ Some e → Makes b a n e → IsAwaited b t
 awaited parts s B t r b n a e run h held m =
     let P = past B in
     let legal = legal-of s B run in
@@ -132,7 +141,8 @@ awaited parts s B t r b n a e run h held m =
     let kept = subst (λ (g : LastGrant). IsKeptIn parts s B b g (kept_at t b)) (making-granted s P r b n a e run.pooled legal held m) (h.kept b known_) in
     record { place = h.places b known_; empty = kept.0 }
 
-awaited-by : {F : Type 0} (parts : F → Option Parts) (s : Setting) (B : BoardState) (t : List Kept) (r b : ℕ) (o : Option Entry) → IsRunOf s B → Holds parts s B t → hand r (past B) ≡ o → granted_block o ≡ b ∷ [] → IsAwaited b t
+awaited-by : {F : Type 0} (parts : F → Option Parts) (s : Setting) (B : BoardState) (t : List Kept) (r b : ℕ) (o : Option Entry) → IsRunOf s B
+    → Holds parts s B t → hand r (past B) ≡ o → granted_block o ≡ b ∷ [] → IsAwaited b t
 awaited-by parts s B t r b None run h held is = cc
 awaited-by parts s B t r b (Some (Load q k c z f g x)) run h held is =
     let one : c ≡ b = cc in

@@ -43,7 +43,8 @@ is_empty (b ∷ bs) = false
 abbrev is_blockless : Past → FrameName → Bool
 is_blockless P a = is_empty (block_of P a)
 
-both_fail : {X : Type 0} (t u w : X → Bool) → ((x : X) → t x ≡ false → u x ≡ false → w x ≡ false) → (xs : List X) → count t xs ≡ 0 → count u xs ≡ 0 → count w xs ≡ 0
+both_fail : {X : Type 0} (t u w : X → Bool) → ((x : X) → t x ≡ false → u x ≡ false → w x ≡ false) → (xs : List X)
+    → count t xs ≡ 0 → count u xs ≡ 0 → count w xs ≡ 0
 both_fail t u w both [] h k = refl
 both_fail t u w both (x ∷ xs) h k =
     let a = count-cons t x xs in
@@ -56,7 +57,8 @@ or-false : (a b : Bool) → (a || b) ≡ false → (a ≡ false) × (b ≡ false
 or-false false b h = (refl, h)
 or-false true b h = absurd (true≢false h)
 
-holds-two : (t u w : FrameName → Bool) → ((a : FrameName) → t a ≡ false → u a ≡ false → w a ≡ false) → (e : Entry) → holds t e ≡ false → holds u e ≡ false → holds w e ≡ false
+holds-two : (t u w : FrameName → Bool) → ((a : FrameName) → t a ≡ false → u a ≡ false → w a ≡ false) → (e : Entry) → holds t e ≡ false
+    → holds u e ≡ false → holds w e ≡ false
 holds-two t u w both (Load r k b n f g x) h j = both (frame 0 k) h j
 holds-two t u w both (Take r v m k) h j = both (frame m k) h j
 holds-two t u w both (TakeBlock f x r v m k b n g) h j =
@@ -67,13 +69,15 @@ holds-two t u w both (TakeBlock f x r v m k b n g) h j =
 holds-two t u w both (Save r v m k g) h j = both (frame m k) h j
 holds-two t u w both _ h j = refl
 
-carries-two : (t u w : FrameName → Bool) → ((a : FrameName) → t a ≡ false → u a ≡ false → w a ≡ false) → (e : Entry) → carries t e ≡ false → carries u e ≡ false → carries w e ≡ false
+carries-two : (t u w : FrameName → Bool) → ((a : FrameName) → t a ≡ false → u a ≡ false → w a ≡ false) → (e : Entry) → carries t e ≡ false
+    → carries u e ≡ false → carries w e ≡ false
 carries-two t u w both (Emit v m k why) h j = both (frame m k) h j
 carries-two t u w both (Accept v m k) h j = both (frame m k) h j
 carries-two t u w both (SortDrop v m k) h j = both (frame m k) h j
 carries-two t u w both _ h j = refl
 
-both-clear : (t u w : FrameName → Bool) (s : Setting) (P : Past) → ((a : FrameName) → t a ≡ false → u a ≡ false → w a ≡ false) → Clear t s P → Clear u s P → Clear w s P
+both-clear : (t u w : FrameName → Bool) (s : Setting) (P : Past) → ((a : FrameName) → t a ≡ false → u a ≡ false → w a ≡ false)
+    → Clear t s P → Clear u s P → Clear w s P
 both-clear t u w s P both c d =
     record {
       queues = λ v. both_fail t u w both (queued v P) (c.queues v) (d.queues v);
@@ -94,12 +98,14 @@ none_blockless s (Load r k b n f g x ∷ P) h =
     let e : Entry = Load r k b n f g x in
     let c = none_blockless s P legal in
     let t : FrameName → Bool = is_blockless (e ∷ P) in
-    let more : (a : FrameName) → is_blockless P a ≡ false → is_blockless P a ≡ false → t a ≡ false = λ a some _. kept-some a (cases_Bool (same a (frame 0 k))) some in
+    let more : (a : FrameName) → is_blockless P a ≡ false → is_blockless P a ≡ false → t a ≡ false =
+    λ a some _. kept-some a (cases_Bool (same a (frame 0 k))) some in
     clear-more t s e P h (one-less t (frame 0 k) made) (both-clear (is_blockless P) (is_blockless P) t s P more c c) where
       made : is_blockless (Load r k b n f g x ∷ P) (frame 0 k) ≡ false
       made = rw (same_refl (frame 0 k)) refl
 
-      kept-some : (a : FrameName) → (same a (frame 0 k) ≡ true) ⊎ (same a (frame 0 k) ≡ false) → is_blockless P a ≡ false → is_blockless (Load r k b n f g x ∷ P) a ≡ false
+      kept-some : (a : FrameName) → (same a (frame 0 k) ≡ true) ⊎ (same a (frame 0 k) ≡ false) → is_blockless P a ≡ false
+          → is_blockless (Load r k b n f g x ∷ P) a ≡ false
       kept-some a (inl this) some = rw this refl
       kept-some a (inr other) some = ap is_empty (block_laws.load_other r k b n f g x P a other) ∙ some
 none_blockless s (TakeBlock f x r v m k b n g ∷ P) h =
@@ -107,12 +113,14 @@ none_blockless s (TakeBlock f x r v m k b n g ∷ P) h =
     let e : Entry = TakeBlock f x r v m k b n g in
     let c = none_blockless s P legal in
     let t : FrameName → Bool = is_blockless (e ∷ P) in
-    let more : (a : FrameName) → is_blockless P a ≡ false → is_blockless P a ≡ false → t a ≡ false = λ a some _. kept-some a (cases_Bool (same a (frame v k))) some in
+    let more : (a : FrameName) → is_blockless P a ≡ false → is_blockless P a ≡ false → t a ≡ false =
+    λ a some _. kept-some a (cases_Bool (same a (frame v k))) some in
     clear-more t s e P h (one-less t (frame v k) made) (both-clear (is_blockless P) (is_blockless P) t s P more c c) where
       made : is_blockless (TakeBlock f x r v m k b n g ∷ P) (frame v k) ≡ false
       made = rw (same_refl (frame v k)) refl
 
-      kept-some : (a : FrameName) → (same a (frame v k) ≡ true) ⊎ (same a (frame v k) ≡ false) → is_blockless P a ≡ false → is_blockless (TakeBlock f x r v m k b n g ∷ P) a ≡ false
+      kept-some : (a : FrameName) → (same a (frame v k) ≡ true) ⊎ (same a (frame v k) ≡ false) → is_blockless P a ≡ false
+          → is_blockless (TakeBlock f x r v m k b n g ∷ P) a ≡ false
       kept-some a (inl this) some = rw this refl
       kept-some a (inr other) some = ap is_empty (block_laws.take_block_other r v m k b n f g x P a other) ∙ some
 none_blockless s (Reclaim r ∷ P) h =
@@ -124,14 +132,17 @@ none_blockless s (Reclaim r ∷ P) h =
       by : (d : Entry) → hand r P ≡ Some d → Clear (is_blockless P) s (Reclaim r ∷ P) → Clear (is_blockless (Reclaim r ∷ P)) s (Reclaim r ∷ P)
       by (Load q k b n f g x) held after =
           let legal : is_legal s P ≡ true = (and_parts _ _ h).0 in
-          both-clear (is_blockless P) (is_frame (frame 0 k)) (is_blockless (Reclaim r ∷ P)) s (Reclaim r ∷ P) (λ a some other. ap is_empty (block_laws.reclaim_load s r q k b n f g x P a legal held other) ∙ some) after (reclaimed-nowhere s r q k b n f g x P h held)
+          both-clear (is_blockless P) (is_frame (frame 0 k)) (is_blockless (Reclaim r ∷ P)) s (Reclaim r ∷ P) (λ a some other. ap is_empty
+          (block_laws.reclaim_load s r q k b n f g x P a legal held other) ∙ some) after (reclaimed-nowhere s r q k b n f g x P h held)
       by (TakeBlock f x q v m k b n g) held after =
           let legal : is_legal s P ≡ true = (and_parts _ _ h).0 in
-          both-clear (is_blockless P) (is_frame (frame v k)) (is_blockless (Reclaim r ∷ P)) s (Reclaim r ∷ P) (λ a some other. ap is_empty (block_laws.reclaim_block s r q v m k b n f g x P a legal held other) ∙ some) after (untaken-again s r q v m k b n f g x P h held)
+          both-clear (is_blockless P) (is_frame (frame v k)) (is_blockless (Reclaim r ∷ P)) s (Reclaim r ∷ P) (λ a some other. ap is_empty
+          (block_laws.reclaim_block s r q v m k b n f g x P a legal held other) ∙ some) after (untaken-again s r q v m k b n f g x P h held)
       by (Reclaim q) held after = absurd (false≢true (names_role r P (Reclaim q) held))
       by d held after =
           let legal : is_legal s P ≡ true = (and_parts _ _ h).0 in
-          both-clear (is_blockless P) (is_blockless P) (is_blockless (Reclaim r ∷ P)) s (Reclaim r ∷ P) (λ a some _. ap is_empty (block_laws.reclaim_other s r d P a legal held refl) ∙ some) after after
+          both-clear (is_blockless P) (is_blockless P) (is_blockless (Reclaim r ∷ P)) s
+          (Reclaim r ∷ P) (λ a some _. ap is_empty (block_laws.reclaim_other s r d P a legal held refl) ∙ some) after after
 none_blockless s (e ∷ P) h = clear-more (is_blockless P) s e P h refl (none_blockless s P (and_parts _ _ h).0)
 
 -- one block
@@ -156,7 +167,8 @@ pub record Placed (s : Setting) (P : Past) (a : FrameName) : Type 0 where
   pub known_block : has_number block (known s P) ≡ true
   pub made : last_grant block P ≡ Made a size
 
-array-made : (s : Setting) (P : Past) (b : ℕ) (a : FrameName) (g : LastGrant) → s.pooled ≡ true → is_legal s P ≡ true → last_grant b P ≡ g → is_array_of a g ≡ true → (IsUnused s P a → ⊥) → (n : ℕ) × (last_grant b P ≡ Made a n)
+array-made : (s : Setting) (P : Past) (b : ℕ) (a : FrameName) (g : LastGrant) → s.pooled ≡ true → is_legal s P ≡ true → last_grant b P ≡ g
+    → is_array_of a g ≡ true → (IsUnused s P a → ⊥) → (n : ℕ) × (last_grant b P ≡ Made a n)
 array-made s P b a Never pooled h is mine used = absurd (false≢true mine)
 array-made s P b a (TakenBack n) pooled h is mine used = absurd (false≢true mine)
 array-made s P b a (Made c n) pooled h is mine used = (n, is ∙ ap (λ (y : FrameName). Made y n) (same-true c a mine))
@@ -164,7 +176,8 @@ array-made s P b a (InMaking r c n) pooled h is mine used =
     absurd (used (alone-making s P r b n a pooled h (is ∙ ap (λ (y : FrameName). InMaking r y n) (same-true c a mine))))
 
 -- the block of what has a place is known
-pub known-at : (s : Setting) (P : Past) (b : ℕ) (a : FrameName) → s.pooled ≡ true → is_legal s P ≡ true → block_of P a ≡ b ∷ [] → (Clear (is_frame a) s P → ⊥) → has_number b (known s P) ≡ true
+pub known-at : (s : Setting) (P : Past) (b : ℕ) (a : FrameName) → s.pooled ≡ true → is_legal s P ≡ true → block_of P a ≡ b ∷ []
+    → (Clear (is_frame a) s P → ⊥) → has_number b (known s P) ≡ true
 known-at s P b a pooled h on used =
     elim (cases_Bool (has_number b (known s P))) [
       | inl known_ ↦ known_
@@ -177,7 +190,8 @@ known-at s P b a pooled h on used =
           ]) (none_lost s P pooled h)))
     ]
 
-pub placed-on : (s : Setting) (P : Past) (b : ℕ) (a : FrameName) → s.pooled ≡ true → is_legal s P ≡ true → block_of P a ≡ b ∷ [] → (IsUnused s P a → ⊥) → (has_number b (known s P) ≡ true) × ((n : ℕ) × (last_grant b P ≡ Made a n))
+pub placed-on : (s : Setting) (P : Past) (b : ℕ) (a : FrameName) → s.pooled ≡ true → is_legal s P ≡ true → block_of P a ≡ b ∷ [] → (IsUnused s P a → ⊥)
+    → (has_number b (known s P) ≡ true) × ((n : ℕ) × (last_grant b P ≡ Made a n))
 placed-on s P b a pooled h on used =
     let not_clear : Clear (is_frame a) s P → ⊥ = λ c. used (alone-from s P a c) in (
       known-at s P b a pooled h on not_clear,
@@ -207,7 +221,8 @@ placed s P a pooled h used =
 
 pub first-used : (a : FrameName) (xs : List FrameName) → is_next a xs ≡ true → count (is_frame a) xs ≡ 0 → ⊥
 first-used a xs h none =
-    let split : count (is_frame a) xs ≡ bit (is_frame a a) + count (is_frame a) (without a xs) = ap (count (is_frame a)) (next_is a xs h) ∙ count-cons (is_frame a) a (without a xs) in
+    let split : count (is_frame a) xs ≡ bit (is_frame a a) + count (is_frame a) (without a xs) =
+    ap (count (is_frame a)) (next_is a xs h) ∙ count-cons (is_frame a) a (without a xs) in
     true≢false (sym (same_refl a) ∙ bit-none (is_frame a a) (omega (arith, split, none)))
 
 pub queued-used : (s : Setting) (P : Past) (v : ℕ) (a : FrameName) → is_next a (queued v P) ≡ true → IsUnused s P a → ⊥

@@ -29,7 +29,8 @@ use Rattle.kept_blocks.proofs.Ending.{EndsHand}
 use Rattle.kept_blocks.proofs.Returns.{ends-holds, done-other, made-kept}
 use Rattle.kept_blocks.proofs.Backs.{HasArray, returned, with-part, with-grant}
 
-put-ends : (s : Setting) (P : Past) (r v m k : ℕ) (fired : Bool) (d : Entry) → is_legal s P ≡ true → is_legal s (Put r v m k fired ∷ P) ≡ true → hand r P ≡ Some d → EndsHand s P no_frame r d (Put r v m k fired)
+put-ends : (s : Setting) (P : Past) (r v m k : ℕ) (fired : Bool) (d : Entry) → is_legal s P ≡ true → is_legal s (Put r v m k fired ∷ P) ≡ true
+    → hand r P ≡ Some d → EndsHand s P no_frame r d (Put r v m k fired)
 put-ends s P r v m k fired d before legal held = record {
   legal = legal;
   held = held;
@@ -48,7 +49,9 @@ maker-none : {F : Type 0} (name_of : F → FrameName) (b : Bool) (a : FrameName)
 maker-none name_of true a h = absurd h
 maker-none name_of false a h = refl
 
-module _ {F : Type 0} (name_of : F → FrameName) (parts : F → Option Parts) (s : Setting) (B : BoardState) (t : List Kept) (r v m c : ℕ) (f : F) (fired : Bool) (run : IsRunOf s B) (hb : HoldsBlocks parts s B t) (on : block_of (past B) (name_of f) ≡ c ∷ []) (own : parts f ≡ lent_to r B) (legal : is_legal s (past (moved s (plain (Put r v m (name_of f).index fired)) B)) ≡ true) where
+module _ {F : Type 0} (name_of : F → FrameName) (parts : F → Option Parts) (s : Setting) (B : BoardState) (t : List Kept) (r v m c : ℕ) (f : F) (fired : Bool)
+    (run : IsRunOf s B) (hb : HoldsBlocks parts s B t) (on : block_of (past B) (name_of f) ≡ c ∷ []) (own : parts f ≡ lent_to r B)
+    (legal : is_legal s (past (moved s (plain (Put r v m (name_of f).index fired)) B)) ≡ true) where
   abbrev a : FrameName
   a = name_of f
 
@@ -74,7 +77,8 @@ module _ {F : Type 0} (name_of : F → FrameName) (parts : F → Option Parts) (
       holds-out parts s (moved s (plain e) B) new
       (rest-holds parts s (plain e ∷ B) (moved s (plain e) B) new rest legal
       (ends-holds parts s B t new no_frame r d e [] run h l
-      (with-part parts s B t new d e [] (returned parts s B t no_frame r c (name_of f) (parts f) d e [] run h l has own refl) refl (λ b none. refl) (omega arith))))
+      (with-part parts s B t new d e [] (returned parts s B t no_frame r c (name_of f) (parts f) d e [] run h l has own refl) refl
+      (λ b none. refl) (omega arith))))
   put-by (Some (TakeBlock g x q w i k b n z)) held job plain_ =
       let p = and_parts (eqb w v) (same (name_of f) (frame i k)) job in
       let suits_ : is_maker s w ≡ true = hand-suits s (past B) r (TakeBlock g x q w i k b n z) (legal-of s B run) held in
@@ -85,9 +89,11 @@ module _ {F : Type 0} (name_of : F → FrameName) (parts : F → Option Parts) (
       → HoldsBlocks parts s (moved s (plain (Put r v m (name_of f).index fired)) B) (with_kept t c (united (kept_at t c) (parts f)))
   put-plain job made = put-by (hand r (past B)) refl job (maker-none name_of (is_maker s v) (result_name s v (name_of f)) made)
 
-  made-by : (b : ℕ) (made : F) (o : Option Entry) → hand r (past B) ≡ o → is_job_on v (name_of f) o ≡ true → granted_block o ≡ b ∷ [] → IsMadeAs name_of (is_maker s v) (result_name s v (name_of f)) (Some made)
+  made-by : (b : ℕ) (made : F) (o : Option Entry) → hand r (past B) ≡ o → is_job_on v (name_of f) o ≡ true → granted_block o ≡ b ∷ []
+      → IsMadeAs name_of (is_maker s v) (result_name s v (name_of f)) (Some made)
       → IsWholeOf (granted_size o) (parts made)
-      → HoldsBlocks parts s (moved s (plain (Put r v m (name_of f).index fired)) B) (with_kept (with_kept t c (united (kept_at t c) (parts f))) b (Frame (name_of made) (parts made)))
+      → HoldsBlocks parts s (moved s (plain (Put r v m (name_of f).index fired)) B)
+      (with_kept (with_kept t c (united (kept_at t c) (parts f))) b (Frame (name_of made) (parts made)))
   made-by b made None held job grant kind whole = absurd (false≢true job)
   made-by b made (Some (Take q w i k)) held job grant kind whole = cc
   made-by b made (Some (TakeBlock g x q w i k j n z)) held job grant kind whole =
@@ -115,12 +121,15 @@ module _ {F : Type 0} (name_of : F → FrameName) (parts : F → Option Parts) (
       (ends-holds parts s B t new no_frame r d e [] run h l
       (with-grant parts s B t mid d e [] b k_ h (returned parts s B t no_frame r c (name_of f) (parts f) d e [] run h l has own refl) grant
       (λ known_b.
-      let was : IsKeptIn parts s B b (InMaking r (name_of made) n) (kept_at t b) = subst (λ (y : LastGrant). IsKeptIn parts s B b y (kept_at t b)) making (h.kept b known_b) in
+      let was : IsKeptIn parts s B b (InMaking r (name_of made) n) (kept_at t b) =
+      subst (λ (y : LastGrant). IsKeptIn parts s B b y (kept_at t b)) making (h.kept b known_b) in
       made-kept parts s B no_frame r b n (name_of made) made d e k_ run l making refl was.1 whole refl)
       (λ y no_ none. refl) (omega arith))))
   made-by b made (Some _) held job grant kind whole = absurd (false≢true job)
 
-  pub put-made : (b : ℕ) (made : F) → is_job_on v (name_of f) (hand r (past B)) ≡ true → granted_block (hand r (past B)) ≡ b ∷ [] → IsMadeAs name_of (is_maker s v) (result_name s v (name_of f)) (Some made)
+  pub put-made : (b : ℕ) (made : F) → is_job_on v (name_of f) (hand r (past B)) ≡ true → granted_block (hand r (past B)) ≡ b ∷ []
+      → IsMadeAs name_of (is_maker s v) (result_name s v (name_of f)) (Some made)
       → IsWholeOf (granted_size (hand r (past B))) (parts made)
-      → HoldsBlocks parts s (moved s (plain (Put r v m (name_of f).index fired)) B) (with_kept (with_kept t c (united (kept_at t c) (parts f))) b (Frame (name_of made) (parts made)))
+      → HoldsBlocks parts s (moved s (plain (Put r v m (name_of f).index fired)) B)
+      (with_kept (with_kept t c (united (kept_at t c) (parts f))) b (Frame (name_of made) (parts made)))
   put-made b made job grant kind whole = made-by b made (hand r (past B)) refl job grant kind whole

@@ -39,7 +39,8 @@ use Rattle.kept_blocks.proofs.Backs.{PartBack, HasArray, input-back, with-part, 
 
 -- THE END OF EACH HAND
 
-ends-load : (s : Setting) (P : Past) (r q k b n : ℕ) (f : Bool) (g : ℕ) (x : Bool) → is_legal s P ≡ true → is_legal s (Reclaim r ∷ P) ≡ true → hand r P ≡ Some (Load q k b n f g x) → EndsHand s P (is_frame (frame 0 k)) r (Load q k b n f g x) (Reclaim r)
+ends-load : (s : Setting) (P : Past) (r q k b n : ℕ) (f : Bool) (g : ℕ) (x : Bool) → is_legal s P ≡ true → is_legal s (Reclaim r ∷ P) ≡ true
+    → hand r P ≡ Some (Load q k b n f g x) → EndsHand s P (is_frame (frame 0 k)) r (Load q k b n f g x) (Reclaim r)
 ends-load s P r q k b n f g x before legal held =
     let gone = reclaimed-nowhere s r q k b n f g x P legal held in
     record {
@@ -56,7 +57,8 @@ ends-load s P r q k b n f g x before legal held =
       clear = λ y c. clear-more (is_frame y) s (Reclaim r) P legal refl c;
     }
 
-ends-block : (s : Setting) (P : Past) (r q v m k b n : ℕ) (f : Bool) (g : ℕ) (x : Bool) → is_legal s P ≡ true → is_legal s (Reclaim r ∷ P) ≡ true → hand r P ≡ Some (TakeBlock f x q v m k b n g) → EndsHand s P (is_frame (frame v k)) r (TakeBlock f x q v m k b n g) (Reclaim r)
+ends-block : (s : Setting) (P : Past) (r q v m k b n : ℕ) (f : Bool) (g : ℕ) (x : Bool) → is_legal s P ≡ true → is_legal s (Reclaim r ∷ P) ≡ true
+    → hand r P ≡ Some (TakeBlock f x q v m k b n g) → EndsHand s P (is_frame (frame v k)) r (TakeBlock f x q v m k b n g) (Reclaim r)
 ends-block s P r q v m k b n f g x before legal held =
     let gone = untaken-again s r q v m k b n f g x P legal held in
     record {
@@ -73,7 +75,8 @@ ends-block s P r q v m k b n f g x before legal held =
       clear = λ y c. clear-more (is_frame y) s (Reclaim r) P legal refl c;
     }
 
-ends-take : (s : Setting) (P : Past) (r q v m k : ℕ) → is_legal s P ≡ true → is_legal s (Reclaim r ∷ P) ≡ true → hand r P ≡ Some (Take q v m k) → EndsHand s P no_frame r (Take q v m k) (Reclaim r)
+ends-take : (s : Setting) (P : Past) (r q v m k : ℕ) → is_legal s P ≡ true → is_legal s (Reclaim r ∷ P) ≡ true → hand r P ≡ Some (Take q v m k)
+    → EndsHand s P no_frame r (Take q v m k) (Reclaim r)
 ends-take s P r q v m k before legal held = record {
   legal = legal;
   held = held;
@@ -88,7 +91,8 @@ ends-take s P r q v m k before legal held = record {
   clear = λ y c. clear-more (is_frame y) s (Reclaim r) P legal refl c;
 }
 
-ends-piece : (s : Setting) (P : Past) (r q v m k g : ℕ) → is_legal s P ≡ true → is_legal s (Reclaim r ∷ P) ≡ true → hand r P ≡ Some (Save q v m k g) → EndsHand s P no_frame r (Save q v m k g) (Reclaim r)
+ends-piece : (s : Setting) (P : Past) (r q v m k g : ℕ) → is_legal s P ≡ true → is_legal s (Reclaim r ∷ P) ≡ true → hand r P ≡ Some (Save q v m k g)
+    → EndsHand s P no_frame r (Save q v m k g) (Reclaim r)
 ends-piece s P r q v m k g before legal held = record {
   legal = legal;
   held = held;
@@ -124,11 +128,14 @@ among-both i bs cs p q = any-append (λ c. eqb c i) bs cs ∙ or_from (is_among 
 
 whole-home : (p : Option Parts) (a : FrameName) (n : ℕ) → IsSome p → IsWholeOf n p → IsSized n (Frame a p) × (at_home n (Frame a p) ≡ Some true)
 whole-home None a n some whole = absurd (true≢false (sym some))
-whole-home (Some p) a n some whole = (whole.1, ap (λ (y : Bool). Some y) (and_from (eqb p.here (2 ^ 32)) (eqb p.size n) (eq-eqb p.here (2 ^ 32) whole.0) (eq-eqb p.size n whole.1)))
+whole-home (Some p) a n some whole =
+    (whole.1, ap (λ (y : Bool). Some y) (and_from (eqb p.here (2 ^ 32)) (eqb p.size n) (eq-eqb p.here (2 ^ 32) whole.0) (eq-eqb p.size n whole.1)))
 
 -- by what came back of a grant
-grant-back : {F K : Type 0} (name_of : F → FrameName) (parts : F → Option Parts) (bytes_of : K → ℕ) (s : Setting) (B : BoardState) (t mid : List Kept) (w : FrameName → Bool) (r b n : ℕ) (a : FrameName) (d e : Entry) (L : List ℕ) (made : Option F) (blank : Option K)
-    → IsRunOf s B → Holds parts s B t → EndsHand s (past B) w r d e → PartBack parts s B t mid d e L → granted_block (Some d) ≡ b ∷ [] → has_part (past B) b d ≡ false → last_grant b (past B) ≡ InMaking r a n
+grant-back : {F K : Type 0} (name_of : F → FrameName) (parts : F → Option Parts) (bytes_of : K → ℕ) (s : Setting) (B : BoardState) (t mid : List Kept)
+    (w : FrameName → Bool) (r b n : ℕ) (a : FrameName) (d e : Entry) (L : List ℕ) (made : Option F) (blank : Option K)
+    → IsRunOf s B → Holds parts s B t → EndsHand s (past B) w r d e → PartBack parts s B t mid d e L → granted_block (Some d) ≡ b ∷ []
+    → has_part (past B) b d ≡ false → last_grant b (past B) ≡ InMaking r a n
     → last_grant b (e ∷ past B) ≡ once_taken_back r (last_grant b (past B))
     → OfSome (λ f. IsWholeOf n (parts f)) made → OfSome (λ k. TellParts parts → bytes_of k ≡ n) blank → is_among b L ≡ not (is_some made || is_some blank)
     → ((i : ℕ) → is_among i (granted_block (Some d)) ≡ false → has_part (past B) i d ≡ false → is_among i L ≡ false) → length L ≤ most_lost e
@@ -157,26 +164,33 @@ grant-back name_of parts bytes_of s B t mid w r b n a d e L None None run h l p 
 
 -- THE LAWS
 
-module _ {F K O : Type 0} (name_of : F → FrameName) (parts : F → Option Parts) (bytes_of : K → ℕ) (s : Setting) (B : BoardState) (t : List Kept) (r : ℕ) (left : Left F K O) (may : MayTakeBack name_of parts bytes_of s B t r left) where
+module _ {F K O : Type 0} (name_of : F → FrameName) (parts : F → Option Parts) (bytes_of : K → ℕ) (s : Setting) (B : BoardState) (t : List Kept)
+    (r : ℕ) (left : Left F K O) (may : MayTakeBack name_of parts bytes_of s B t r left) where
   -- what may come back, at this hand
-  own-input : (d : Entry) (a : FrameName) → hand r (past B) ≡ Some d → ((x : FrameName) → same x a ≡ true → has_part_of x (Some d) ≡ true) → OfSome (λ f. same (name_of f) a ≡ true → parts f ≡ lent_to r B) left.input
+  own-input : (d : Entry) (a : FrameName) → hand r (past B) ≡ Some d → ((x : FrameName) → same x a ≡ true → has_part_of x (Some d) ≡ true)
+      → OfSome (λ f. same (name_of f) a ≡ true → parts f ≡ lent_to r B) left.input
   own-input d a held part = by left.input (may.brings may.allowed).0
     where
-      by : (input : Option F) → OfSome (λ f. has_part_of (name_of f) (hand r (past B)) ≡ true → parts f ≡ lent_to r B) input → OfSome (λ f. same (name_of f) a ≡ true → parts f ≡ lent_to r B) input
+      by : (input : Option F) → OfSome (λ f. has_part_of (name_of f) (hand r (past B)) ≡ true → parts f ≡ lent_to r B) input
+          → OfSome (λ f. same (name_of f) a ≡ true → parts f ≡ lent_to r B) input
       by None own = tt
       by (Some f) own = λ is. own (ap (has_part_of (name_of f)) held ∙ part (name_of f) is)
 
-  own-made : (d : Entry) (n : ℕ) → hand r (past B) ≡ Some d → has_grant (Some d) ≡ true → granted_size (Some d) ≡ n → OfSome (λ f. IsWholeOf n (parts f)) left.made
+  own-made : (d : Entry) (n : ℕ) → hand r (past B) ≡ Some d → has_grant (Some d) ≡ true → granted_size (Some d) ≡ n
+      → OfSome (λ f. IsWholeOf n (parts f)) left.made
   own-made d n held grant size = by left.made (may.brings may.allowed).1
     where
-      by : (made : Option F) → OfSome (λ f. has_grant (hand r (past B)) ≡ true → IsWholeOf (granted_size (hand r (past B))) (parts f)) made → OfSome (λ f. IsWholeOf n (parts f)) made
+      by : (made : Option F) → OfSome (λ f. has_grant (hand r (past B)) ≡ true → IsWholeOf (granted_size (hand r (past B))) (parts f)) made
+          → OfSome (λ f. IsWholeOf n (parts f)) made
       by None own = tt
       by (Some f) own = subst (λ (i : ℕ). IsWholeOf i (parts f)) (ap granted_size held ∙ size) (own (ap has_grant held ∙ grant))
 
-  own-blank : (d : Entry) (n : ℕ) → hand r (past B) ≡ Some d → has_grant (Some d) ≡ true → granted_size (Some d) ≡ n → OfSome (λ k. TellParts parts → bytes_of k ≡ n) left.blank
+  own-blank : (d : Entry) (n : ℕ) → hand r (past B) ≡ Some d → has_grant (Some d) ≡ true → granted_size (Some d) ≡ n
+      → OfSome (λ k. TellParts parts → bytes_of k ≡ n) left.blank
   own-blank d n held grant size = by left.blank (may.brings may.allowed).2
     where
-      by : (blank : Option K) → OfSome (λ k. TellParts parts → has_grant (hand r (past B)) ≡ true → bytes_of k ≡ granted_size (hand r (past B))) blank → OfSome (λ k. TellParts parts → bytes_of k ≡ n) blank
+      by : (blank : Option K) → OfSome (λ k. TellParts parts → has_grant (hand r (past B)) ≡ true → bytes_of k ≡ granted_size (hand r (past B))) blank
+          → OfSome (λ k. TellParts parts → bytes_of k ≡ n) blank
       by None own = tt
       by (Some k) own = λ tell. own tell (ap has_grant held ∙ grant) ∙ (ap granted_size held ∙ size)
 
@@ -187,7 +201,8 @@ module _ {F K O : Type 0} (name_of : F → FrameName) (parts : F → Option Part
   first-legal : (d : Entry) → hand r (past B) ≡ Some d → is_legal s (Reclaim r ∷ past B) ≡ true
   first-legal d held = let rest = later s 0 (loses r (lost_of name_of (past B) (Some d) left)) B in rest.before (legal-at d held)
 
-  finish : (d : Entry) (w : FrameName → Bool) (new : List Kept) → hand r (past B) ≡ Some d → EndsHand s (past B) w r d (Reclaim r) → EndsAt parts s B t new d (Reclaim r) (lost_of name_of (past B) (Some d) left)
+  finish : (d : Entry) (w : FrameName → Bool) (new : List Kept) → hand r (past B) ≡ Some d → EndsHand s (past B) w r d (Reclaim r)
+      → EndsAt parts s B t new d (Reclaim r) (lost_of name_of (past B) (Some d) left)
       → HoldsBlocks parts s (taken_back name_of s r left B) new
   finish d w new held l at =
       let L = lost_of name_of (past B) (Some d) left in
@@ -196,7 +211,8 @@ module _ {F K O : Type 0} (name_of : F → FrameName) (parts : F → Option Part
       (holds-out parts s (moved s (loses r L) B) new (rest-holds parts s (loses r L ∷ B) (moved s (loses r L) B) new rest (legal-at d held)
       (ends-holds parts s B t new w r d (Reclaim r) L may.run (holds-in parts s B t may.run may.holds) l at)))
 
-  pub back-load : (q k b n : ℕ) (f : Bool) (g : ℕ) (x : Bool) → hand r (past B) ≡ Some (Load q k b n f g x) → HoldsBlocks parts s (taken_back name_of s r left B) (with_grant name_of parts bytes_of b left.made left.blank t)
+  pub back-load : (q k b n : ℕ) (f : Bool) (g : ℕ) (x : Bool) → hand r (past B) ≡ Some (Load q k b n f g x)
+      → HoldsBlocks parts s (taken_back name_of s r left B) (with_grant name_of parts bytes_of b left.made left.blank t)
   back-load q k b n f g x held =
       let P = past B in
       let d = Load q k b n f g x in
@@ -206,13 +222,16 @@ module _ {F K O : Type 0} (name_of : F → FrameName) (parts : F → Option Part
       let h = holds-in parts s B t may.run may.holds in
       let l = ends-load s P r q k b n f g x before (first-legal d held) held in
       let making : last_grant b P ≡ InMaking r (frame 0 k) n = making-granted s P r b n (frame 0 k) d may.run.pooled before held (refl, refl, refl) in
-      let p : PartBack parts s B t t d e L = record { long = refl; at_part = λ i no_ has. absurd (false≢true has); others = λ i none. refl; tables = λ i y z part. part } in
+      let p : PartBack parts s B t t d e L =
+      record { long = refl; at_part = λ i no_ has. absurd (false≢true has); others = λ i none. refl; tables = λ i y z part. part } in
       finish d (is_frame (frame 0 k)) (with_grant name_of parts bytes_of b left.made left.blank t) held l
-      (grant-back name_of parts bytes_of s B t t (is_frame (frame 0 k)) r b n (frame 0 k) d e L left.made left.blank may.run h l p refl refl making refl (own-made d n held refl refl) (own-blank d n held refl refl)
+      (grant-back name_of parts bytes_of s B t t (is_frame (frame 0 k)) r b n (frame 0 k) d e L left.made left.blank may.run h l p refl refl making refl
+      (own-made d n held refl refl) (own-blank d n held refl refl)
       (own-among b (is_some left.made || is_some left.blank)) (λ i no_ none. among-if i (is_some left.made || is_some left.blank) (b ∷ []) no_)
       (let one = few-if (is_some left.made || is_some left.blank) (b ∷ []) (omega arith) in omega (arith, one)))
 
-  array-lost : (P : Past) (i c : ℕ) (a : FrameName) → block_of P a ≡ c ∷ [] → is_among i (block_of P a) ≡ false → is_among i (part_lost name_of P a left.input) ≡ false
+  array-lost : (P : Past) (i c : ℕ) (a : FrameName) → block_of P a ≡ c ∷ [] → is_among i (block_of P a) ≡ false
+      → is_among i (part_lost name_of P a left.input) ≡ false
   array-lost P i c a on none = among-if i (brings name_of a left.input) (block_of P a) none
 
   few-lost : (P : Past) (c : ℕ) (a : FrameName) → block_of P a ≡ c ∷ [] → length (part_lost name_of P a left.input) ≤ 1
@@ -221,12 +240,14 @@ module _ {F K O : Type 0} (name_of : F → FrameName) (parts : F → Option Part
   none-lost : (P : Past) (c : ℕ) (a : FrameName) → brings name_of a left.input ≡ true → is_among c (part_lost name_of P a left.input) ≡ false
   none-lost P c a there = ap (λ (y : Bool). is_among c (if y then [] else block_of P a)) there
 
-  one-lost : (P : Past) (c : ℕ) (a : FrameName) → block_of P a ≡ c ∷ [] → brings name_of a left.input ≡ false → count (λ i. eqb i c) (part_lost name_of P a left.input) ≡ 1
+  one-lost : (P : Past) (c : ℕ) (a : FrameName) → block_of P a ≡ c ∷ [] → brings name_of a left.input ≡ false
+      → count (λ i. eqb i c) (part_lost name_of P a left.input) ≡ 1
   one-lost P c a on away =
       let lost : part_lost name_of P a left.input ≡ c ∷ [] = ap (λ (y : Bool). if y then [] else block_of P a) away ∙ on in
       ap (count (λ i. eqb i c)) lost ∙ omega (arith, count-cons (λ (i : ℕ). eqb i c) c [], ap bit (eq-eqb c c refl))
 
-  pub back-take : (q v m k c : ℕ) → hand r (past B) ≡ Some (Take q v m k) → block_of (past B) (frame m k) ≡ c ∷ [] → HoldsBlocks parts s (taken_back name_of s r left B) (with_input name_of parts (frame m k) c left.input t)
+  pub back-take : (q v m k c : ℕ) → hand r (past B) ≡ Some (Take q v m k) → block_of (past B) (frame m k) ≡ c ∷ []
+      → HoldsBlocks parts s (taken_back name_of s r left B) (with_input name_of parts (frame m k) c left.input t)
   back-take q v m k c held on =
       let P = past B in
       let d = Take q v m k in
@@ -238,10 +259,12 @@ module _ {F K O : Type 0} (name_of : F → FrameName) (parts : F → Option Part
       let few = few-lost P c (frame m k) on in
       finish d no_frame (with_input name_of parts (frame m k) c left.input t) held l
       (with-part parts s B t (with_input name_of parts (frame m k) c left.input t) d e L
-      (input-back name_of parts s B t no_frame r c (frame m k) left.input d e L may.run h l has (own-input d (frame m k) held (λ x is. is)) (none-lost P c (frame m k)) (one-lost P c (frame m k) on)) refl
+      (input-back name_of parts s B t no_frame r c (frame m k) left.input d e L may.run h l has
+      (own-input d (frame m k) held (λ x is. is)) (none-lost P c (frame m k)) (one-lost P c (frame m k) on)) refl
       (λ i none. array-lost P i c (frame m k) on none) (omega (arith, few)))
 
-  pub back-piece : (q v m k g c : ℕ) → hand r (past B) ≡ Some (Save q v m k g) → block_of (past B) (frame m k) ≡ c ∷ [] → HoldsBlocks parts s (taken_back name_of s r left B) (with_input name_of parts (frame m k) c left.input t)
+  pub back-piece : (q v m k g c : ℕ) → hand r (past B) ≡ Some (Save q v m k g) → block_of (past B) (frame m k) ≡ c ∷ []
+      → HoldsBlocks parts s (taken_back name_of s r left B) (with_input name_of parts (frame m k) c left.input t)
   back-piece q v m k g c held on =
       let P = past B in
       let d = Save q v m k g in
@@ -253,11 +276,14 @@ module _ {F K O : Type 0} (name_of : F → FrameName) (parts : F → Option Part
       let few = few-lost P c (frame m k) on in
       finish d no_frame (with_input name_of parts (frame m k) c left.input t) held l
       (with-part parts s B t (with_input name_of parts (frame m k) c left.input t) d e L
-      (input-back name_of parts s B t no_frame r c (frame m k) left.input d e L may.run h l has (own-input d (frame m k) held (λ x is. is)) (none-lost P c (frame m k)) (one-lost P c (frame m k) on)) refl
+      (input-back name_of parts s B t no_frame r c (frame m k) left.input d e L may.run h l has
+      (own-input d (frame m k) held (λ x is. is)) (none-lost P c (frame m k)) (one-lost P c (frame m k) on)) refl
       (λ i none. array-lost P i c (frame m k) on none) (omega (arith, few)))
 
-  pub back-block : (q v m k b n c : ℕ) (f : Bool) (g : ℕ) (x : Bool) → hand r (past B) ≡ Some (TakeBlock f x q v m k b n g) → block_of (past B) (frame m k) ≡ c ∷ []
-      → HoldsBlocks parts s (taken_back name_of s r left B) (with_grant name_of parts bytes_of b left.made left.blank (with_input name_of parts (frame m k) c left.input t))
+  pub back-block : (q v m k b n c : ℕ) (f : Bool) (g : ℕ) (x : Bool) → hand r (past B) ≡ Some (TakeBlock f x q v m k b n g)
+      → block_of (past B) (frame m k) ≡ c ∷ []
+      → HoldsBlocks parts s (taken_back name_of s r left B)
+      (with_grant name_of parts bytes_of b left.made left.blank (with_input name_of parts (frame m k) c left.input t))
   back-block q v m k b n c f g x held on =
       let P = past B in
       let d = TakeBlock f x q v m k b n g in
@@ -279,8 +305,10 @@ module _ {F K O : Type 0} (name_of : F → FrameName) (parts : F → Option Part
       let making : last_grant b P ≡ InMaking r (frame v k) n = making-granted s P r b n (frame v k) d may.run.pooled before held (refl, refl, refl) in
       let unlost_c : is_among c Lg ≡ false = among-if c y (b ∷ []) apart in
       let none_c : brings name_of a left.input ≡ true → is_among c L ≡ false = λ there. among-both c Lg Lp unlost_c (none-lost P c a there) in
-      let one_c : brings name_of a left.input ≡ false → count (λ i. eqb i c) L ≡ 1 = λ away. omega (arith, count-append (λ (i : ℕ). eqb i c) Lg Lp, none_counted (λ i. eqb i c) Lg unlost_c, one-lost P c a on away) in
-      let among : is_among b L ≡ not y = any-append (λ i. eqb i b) Lg Lp ∙ (ap (λ (z : Bool). is_among b Lg || z) (array-lost P b c a on no_part) ∙ (or-none (is_among b Lg) ∙ own-among b y)) in
+      let one_c : brings name_of a left.input ≡ false → count (λ i. eqb i c) L ≡ 1 =
+      λ away. omega (arith, count-append (λ (i : ℕ). eqb i c) Lg Lp, none_counted (λ i. eqb i c) Lg unlost_c, one-lost P c a on away) in
+      let among : is_among b L ≡ not y =
+      any-append (λ i. eqb i b) Lg Lp ∙ (ap (λ (z : Bool). is_among b Lg || z) (array-lost P b c a on no_part) ∙ (or-none (is_among b Lg) ∙ own-among b y)) in
       let mid = with_input name_of parts a c left.input t in
       let few_g = few-if y (b ∷ []) (omega arith) in
       let few_p = few-lost P c a on in

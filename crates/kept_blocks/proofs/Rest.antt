@@ -213,7 +213,8 @@ all-entries s tick (suc n) (d ∷ ds) B h =
     let one : BoardState = plain e ∷ B in
     let mid : BoardState = with_all s tick n (calls_for s (past B) e) one in
     and-then s B mid (with_all s tick (suc n) ds mid)
-    (and-then s B one mid (one-entry s e B (made-touches s tick (suc n) (past B) d p.0)) (all-entries s tick n (calls_for s (past B) e) one (fit-next s tick n (past B) d p.0)))
+    (and-then s B one mid (one-entry s e B (made-touches s tick (suc n) (past B) d p.0))
+    (all-entries s tick n (calls_for s (past B) e) one (fit-next s tick n (past B) d p.0)))
     (all-entries s tick (suc n) ds mid p.1)
 
 -- what comes after the entry with which a move begins

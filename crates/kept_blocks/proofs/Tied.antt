@@ -42,7 +42,8 @@ none-more bs [] c h = refl
 none-more bs (d ∷ cs) c h = absurd (omega (arith, h, length-append (c ∷ bs) (d ∷ cs)))
 
 -- what has a block isn't granted one again
-pub not-again : (s : Setting) (P : Past) (e : Entry) (a : FrameName) (b c : ℕ) → is_legal s (e ∷ P) ≡ true → grants_of a (standing (e ∷ P)) ≡ (c ∷ []) ++ grants_of a (standing P) → block_of P a ≡ b ∷ [] → ⊥
+pub not-again : (s : Setting) (P : Past) (e : Entry) (a : FrameName) (b c : ℕ) → is_legal s (e ∷ P) ≡ true
+    → grants_of a (standing (e ∷ P)) ≡ (c ∷ []) ++ grants_of a (standing P) → block_of P a ≡ b ∷ [] → ⊥
 not-again s P e a b c h is on =
     let few : length ((c ∷ []) ++ grants_of a (standing P)) ≤ 1 = subst (λ (bs : List ℕ). length bs ≤ 1) is (grant-once s (e ∷ P) a h) in
     let none : grants_of a (standing P) ≡ [] = none-more [] (grants_of a (standing P)) c few in
@@ -143,7 +144,8 @@ done-array q a (Made c n) = refl
 done-array q a (TakenBack n) = refl
 
 -- whose hand isn't taken back keeps its array
-back-array : (q : ℕ) (a : FrameName) (g : LastGrant) → ((c : FrameName) (n : ℕ) → g ≡ InMaking q c n → ⊥) → is_array_of a (once_taken_back q g) ≡ is_array_of a g
+back-array : (q : ℕ) (a : FrameName) (g : LastGrant) → ((c : FrameName) (n : ℕ) → g ≡ InMaking q c n → ⊥)
+    → is_array_of a (once_taken_back q g) ≡ is_array_of a g
 back-array q a (InMaking r c n) no_ =
     elim (cases_Bool (eqb r q)) [
       | inl here ↦ absurd (no_ c n (ap (λ (i : ℕ). InMaking i c n) (eqb-true r q here)))
@@ -169,11 +171,14 @@ tied s (Load q k c z f g x ∷ P) b a pooled h on =
           let it : a ≡ frame 0 k = same-true a (frame 0 k) this in
           let blocks : c ∷ [] ≡ b ∷ [] = sym (block_laws.load s q k c z f g x P h) ∙ (ap (block_of (e ∷ P)) (sym it) ∙ on) in
           let here : eqb c b ≡ true = eq-eqb c b (cc) in
-          inl (ap (λ (y : Bool). is_array_of a (cond y (InMaking q (frame 0 k) z) (last_grant b P))) here ∙ (ap (λ (y : FrameName). same y a) (sym it) ∙ same_refl a))
+          inl (ap (λ (y : Bool). is_array_of a (cond y (InMaking q (frame 0 k) z) (last_grant b P))) here
+          ∙ (ap (λ (y : FrameName). same y a) (sym it) ∙ same_refl a))
       | inr apart ↦
           let was : block_of P a ≡ b ∷ [] = sym (block_laws.load_other q k c z f g x P a apart) ∙ on in
           elim (cases_Bool (eqb c b)) [
-            | inl here ↦ inr (clear-more (is_frame a) s e P h (one-off a (frame 0 k) apart) (unplaced-clear s P b a legal (owed-first s e P (λ d. refl) h) (subst (λ (i : ℕ). refs s P i ≡ 0) (eqb-true c b here) (load-none s P q k c z f g x pooled h)) was))
+            | inl here ↦
+                inr (clear-more (is_frame a) s e P h (one-off a (frame 0 k) apart) (unplaced-clear s P b a legal (owed-first s e P (λ d. refl) h)
+                (subst (λ (i : ℕ). refs s P i ≡ 0) (eqb-true c b here) (load-none s P q k c z f g x pooled h)) was))
             | inr other ↦ elim (tied s P b a pooled legal was) [
               | inl mine ↦ inl (ap (λ (y : Bool). is_array_of a (cond y (InMaking q (frame 0 k) z) (last_grant b P))) other ∙ mine)
               | inr gone ↦ inr (clear-more (is_frame a) s e P h (one-off a (frame 0 k) apart) gone)
@@ -188,11 +193,14 @@ tied s (TakeBlock f x q v m k c z g ∷ P) b a pooled h on =
           let it : a ≡ frame v k = same-true a (frame v k) this in
           let blocks : c ∷ [] ≡ b ∷ [] = sym (block_laws.take_block s q v m k c z f g x P h) ∙ (ap (block_of (e ∷ P)) (sym it) ∙ on) in
           let here : eqb c b ≡ true = eq-eqb c b (cc) in
-          inl (ap (λ (y : Bool). is_array_of a (cond y (InMaking q (frame v k) z) (last_grant b P))) here ∙ (ap (λ (y : FrameName). same y a) (sym it) ∙ same_refl a))
+          inl (ap (λ (y : Bool). is_array_of a (cond y (InMaking q (frame v k) z) (last_grant b P))) here
+          ∙ (ap (λ (y : FrameName). same y a) (sym it) ∙ same_refl a))
       | inr apart ↦
           let was : block_of P a ≡ b ∷ [] = sym (block_laws.take_block_other q v m k c z f g x P a apart) ∙ on in
           elim (cases_Bool (eqb c b)) [
-            | inl here ↦ inr (clear-more (is_frame a) s e P h (one-off a (frame v k) apart) (unplaced-clear s P b a legal (owed-first s e P (λ d. refl) h) (subst (λ (i : ℕ). refs s P i ≡ 0) (eqb-true c b here) (take-none s P q v m k c z f g x pooled h)) was))
+            | inl here ↦
+                inr (clear-more (is_frame a) s e P h (one-off a (frame v k) apart) (unplaced-clear s P b a legal (owed-first s e P (λ d. refl) h)
+                (subst (λ (i : ℕ). refs s P i ≡ 0) (eqb-true c b here) (take-none s P q v m k c z f g x pooled h)) was))
             | inr other ↦ elim (tied s P b a pooled legal was) [
               | inl mine ↦ inl (ap (λ (y : Bool). is_array_of a (cond y (InMaking q (frame v k) z) (last_grant b P))) other ∙ mine)
               | inr gone ↦ inr (clear-more (is_frame a) s e P h (one-off a (frame v k) apart) gone)
@@ -216,7 +224,8 @@ tied s (Reclaim q ∷ P) b a pooled h on =
     legal : is_legal s P ≡ true
     legal = legal-before s (Reclaim q) P h
 
-    kept : (block_of P a ≡ b ∷ [] → Tied s P b a) → (e : Entry) → hand q P ≡ Some e → ((c : ℕ) (z : ℕ) → Makes c a z e → ⊥) → block_of P a ≡ b ∷ [] → Tied s (Reclaim q ∷ P) b a
+    kept : (block_of P a ≡ b ∷ [] → Tied s P b a) → (e : Entry) → hand q P ≡ Some e → ((c : ℕ) (z : ℕ) → Makes c a z e → ⊥)
+        → block_of P a ≡ b ∷ [] → Tied s (Reclaim q ∷ P) b a
     kept again e held none was =
         elim (again was) [
           | inr gone ↦ inr (clear-more (is_frame a) s (Reclaim q) P h refl gone)
@@ -230,13 +239,21 @@ tied s (Reclaim q ∷ P) b a pooled h on =
     by : (block_of P a ≡ b ∷ [] → Tied s P b a) → (e : Entry) → hand q P ≡ Some e → Tied s (Reclaim q ∷ P) b a
     by again (Load r k c z f g x) held =
         elim (cases_Bool (same a (frame 0 k))) [
-          | inl this ↦ inr (subst (λ (y : FrameName). Clear (is_frame y) s (Reclaim q ∷ P)) (sym (same-true a (frame 0 k) this)) (reclaimed-nowhere s q r k c z f g x P h held))
-          | inr apart ↦ kept again (Load r k c z f g x) held (λ d w m. true≢false (sym (ap (λ (y : FrameName). same a y) m.1 ∙ same_refl a) ∙ apart)) (sym (block_laws.reclaim_load s q r k c z f g x P a legal held apart) ∙ on)
+          | inl this ↦
+              inr (subst (λ (y : FrameName). Clear (is_frame y) s (Reclaim q ∷ P)) (sym (same-true a (frame 0 k) this))
+              (reclaimed-nowhere s q r k c z f g x P h held))
+          | inr apart ↦
+              kept again (Load r k c z f g x) held (λ d w m. true≢false (sym (ap (λ (y : FrameName). same a y) m.1 ∙ same_refl a) ∙ apart))
+              (sym (block_laws.reclaim_load s q r k c z f g x P a legal held apart) ∙ on)
         ]
     by again (TakeBlock f x r v m k c z g) held =
         elim (cases_Bool (same a (frame v k))) [
-          | inl this ↦ inr (subst (λ (y : FrameName). Clear (is_frame y) s (Reclaim q ∷ P)) (sym (same-true a (frame v k) this)) (untaken-again s q r v m k c z f g x P h held))
-          | inr apart ↦ kept again (TakeBlock f x r v m k c z g) held (λ d w i. true≢false (sym (ap (λ (y : FrameName). same a y) i.1 ∙ same_refl a) ∙ apart)) (sym (block_laws.reclaim_block s q r v m k c z f g x P a legal held apart) ∙ on)
+          | inl this ↦
+              inr (subst (λ (y : FrameName). Clear (is_frame y) s (Reclaim q ∷ P)) (sym (same-true a (frame v k) this))
+              (untaken-again s q r v m k c z f g x P h held))
+          | inr apart ↦
+              kept again (TakeBlock f x r v m k c z g) held (λ d w i. true≢false (sym (ap (λ (y : FrameName). same a y) i.1 ∙ same_refl a) ∙ apart))
+              (sym (block_laws.reclaim_block s q r v m k c z f g x P a legal held apart) ∙ on)
         ]
     by again (Reclaim r) held = absurd (false≢true (names_role q P (Reclaim r) held))
     by again e held = kept again e held (λ c z m. m) (sym (block_laws.reclaim_other s q e P a legal held refl) ∙ on)
@@ -274,65 +291,81 @@ is_sized P c = eqb (size_in (last_grant c.number P)) (suc c.size)
 all-same : (t u : Block → Bool) → ((c : Block) → t c ≡ u c) → (bs : List Block) → list_all t bs ≡ true → list_all u bs ≡ true
 all-same t u same_ bs h = ap (λ (w : Block → Bool). list_all w bs) (λ i c. sym (same_ c) i) ∙ h
 
-all-but : (t u : Block → Bool) (b : ℕ) → ((c : Block) → c.number ≢ b → t c ≡ true → u c ≡ true) → (bs : List Block) → has_number b bs ≡ false → list_all t bs ≡ true → list_all u bs ≡ true
+all-but : (t u : Block → Bool) (b : ℕ) → ((c : Block) → c.number ≢ b → t c ≡ true → u c ≡ true) → (bs : List Block) → has_number b bs ≡ false
+    → list_all t bs ≡ true → list_all u bs ≡ true
 all-but t u b more [] none h = refl
 all-but t u b more (c ∷ bs) none h =
     let p = and_parts (t c) (list_all t bs) h in
     let q = or_parts (eqb c.number b) (has_number b bs) none in
     and_from _ _ (more c (eqb-false c.number b q.0) p.0) (all-but t u b more bs q.1 p.1)
 
-pub missing-left : (limit n held_ b z given : ℕ) (is_free : ℕ → Bool) (bs : List Block) → granted limit n held_ is_free bs ≡ Granted b z true given → (has_number b (left_after given is_free bs) ≡ false) × (z ≡ n) × (b ≡ new_number (left_after given is_free bs))
+pub missing-left : (limit n held_ b z given : ℕ) (is_free : ℕ → Bool) (bs : List Block) → granted limit n held_ is_free bs ≡ Granted b z true given
+    → (has_number b (left_after given is_free bs) ≡ false) × (z ≡ n) × (b ≡ new_number (left_after given is_free bs))
 missing-left limit n held_ b z given is_free bs h =
     elim (cases_Bool (passes limit (held_ + n))) [
       | inl over ↦ let never : Refused ≡ Granted b z true given = rw over at h in cc
       | inr within ↦ of_fit (smallest_fit n is_free bs) (rw within at h)
     ]
   where
-    of_fit : (o : Option Block) → fit_or_fresh limit n is_free bs o ≡ Granted b z true given → (has_number b (left_after given is_free bs) ≡ false) × (z ≡ n) × (b ≡ new_number (left_after given is_free bs))
+    of_fit : (o : Option Block) → fit_or_fresh limit n is_free bs o ≡ Granted b z true given
+        → (has_number b (left_after given is_free bs) ≡ false) × (z ≡ n) × (b ≡ new_number (left_after given is_free bs))
     of_fit (Some c) e = cc
     of_fit None e =
         let number : new_number (left_after (given_up limit n is_free bs) is_free bs) ≡ b = cc in
         let size : n ≡ z = cc in
         let gone : given_up limit n is_free bs ≡ given = cc in
         let left : new_number (left_after given is_free bs) ≡ b = subst (λ (k : ℕ). new_number (left_after k is_free bs) ≡ b) gone number in
-        (sym (number-among b (left_after given is_free bs)) ∙ subst (λ (k : ℕ). is_among k (map (λ (c : Block). c.number) (left_after given is_free bs)) ≡ false) left (least_missing-not_among (map (λ (c : Block). c.number) (left_after given is_free bs))), sym size, sym left)
+        (sym (number-among b (left_after given is_free bs)) ∙ subst (λ (k : ℕ). is_among k (map (λ (c : Block). c.number) (left_after given is_free bs))
+        ≡ false) left (least_missing-not_among (map (λ (c : Block). c.number) (left_after given is_free bs))), sym size, sym left)
 
-pub fit-there : (limit n held_ b z given : ℕ) (is_free : ℕ → Bool) (bs : List Block) → granted limit n held_ is_free bs ≡ Granted b z false given → (c : Block) × (smallest_fit n is_free bs ≡ Some c) × (c.number ≡ b) × (c.size ≡ z)
+pub fit-there : (limit n held_ b z given : ℕ) (is_free : ℕ → Bool) (bs : List Block) → granted limit n held_ is_free bs ≡ Granted b z false given
+    → (c : Block) × (smallest_fit n is_free bs ≡ Some c) × (c.number ≡ b) × (c.size ≡ z)
 fit-there limit n held_ b z given is_free bs h =
     elim (cases_Bool (passes limit (held_ + n))) [
       | inl over ↦ let never : Refused ≡ Granted b z false given = rw over at h in cc
       | inr within ↦ of_fit (smallest_fit n is_free bs) refl (rw within at h)
     ]
   where
-    of_fit : (o : Option Block) → smallest_fit n is_free bs ≡ o → fit_or_fresh limit n is_free bs o ≡ Granted b z false given → (c : Block) × (smallest_fit n is_free bs ≡ Some c) × (c.number ≡ b) × (c.size ≡ z)
+    of_fit : (o : Option Block) → smallest_fit n is_free bs ≡ o → fit_or_fresh limit n is_free bs o ≡ Granted b z false given
+        → (c : Block) × (smallest_fit n is_free bs ≡ Some c) × (c.number ≡ b) × (c.size ≡ z)
     of_fit (Some c) is e = (c, is, cc, cc)
     of_fit None is e = cc
 
 -- the block that fits has what all known ones have
-pub fit-has : (t : Block → Bool) (n : ℕ) (is_free : ℕ → Bool) (bs : List Block) (c : Block) → list_all t bs ≡ true → smallest_fit n is_free bs ≡ Some c → t c ≡ true
-fit-has t n is_free bs c all is = all_found t (λ d. leb n d.size) (free_in_order is_free bs) c (all_in_order t (filter (λ b. is_free b.number) bs) (all_filtered t (λ b. is_free b.number) bs all)) is
+pub fit-has : (t : Block → Bool) (n : ℕ) (is_free : ℕ → Bool) (bs : List Block) (c : Block) → list_all t bs ≡ true
+    → smallest_fit n is_free bs ≡ Some c → t c ≡ true
+fit-has t n is_free bs c all is =
+    all_found t (λ d. leb n d.size) (free_in_order is_free bs) c
+    (all_in_order t (filter (λ b. is_free b.number) bs) (all_filtered t (λ b. is_free b.number) bs all)) is
 
-sized-grant : (s : Setting) (m b z : ℕ) (f : Bool) (g : ℕ) (x : Bool) (e : Entry) (P : Past) (r : ℕ) (a : FrameName) → s.pooled ≡ true → pool_grants s m b z f g x P ≡ true
+sized-grant : (s : Setting) (m b z : ℕ) (f : Bool) (g : ℕ) (x : Bool) (e : Entry) (P : Past) (r : ℕ) (a : FrameName) → s.pooled ≡ true
+    → pool_grants s m b z f g x P ≡ true
     → ((k : ℕ) → last_grant k (e ∷ P) ≡ cond (eqb b k) (InMaking r a z) (last_grant k P)) → list_all (is_sized P) (known s P) ≡ true
     → list_all (is_sized (e ∷ P)) (known_after (is_unplaced s P) (Granted b z f g) (known s P)) ≡ true
 sized-grant s m b z false g x e P r a pooled grants turn all =
     let c = fit-there s.limit (s.need m) (held s P) b z g (is_unplaced s P) (known s P) (granted-is s m b z false g x P pooled grants) in
     let size : size_in (last_grant b P) ≡ suc z =
-    subst (λ (k : ℕ). size_in (last_grant k P) ≡ suc z) c.2 (eqb-true (size_in (last_grant c.0.number P)) (suc c.0.size) (fit-has (is_sized P) (s.need m) (is_unplaced s P) (known s P) c.0 all c.1) ∙ ap suc c.3) in
+    subst (λ (k : ℕ). size_in (last_grant k P) ≡ suc z) c.2
+    (eqb-true (size_in (last_grant c.0.number P)) (suc c.0.size) (fit-has (is_sized P) (s.need m) (is_unplaced s P) (known s P) c.0 all c.1) ∙ ap suc c.3) in
     all-same (is_sized P) (is_sized (e ∷ P)) (λ d. ap (λ (k : ℕ). eqb k (suc d.size)) (same-size d.number size)) (known s P) all
   where
     same-size : (k : ℕ) → size_in (last_grant b P) ≡ suc z → size_in (last_grant k P) ≡ size_in (last_grant k (e ∷ P))
     same-size k size =
         elim (cases_Bool (eqb b k)) [
-          | inl here ↦ subst (λ (i : ℕ). size_in (last_grant i P) ≡ suc z) (eqb-true b k here) size ∙ sym (ap size_in (turn k) ∙ ap (λ (y : Bool). size_in (cond y (InMaking r a z) (last_grant k P))) here)
+          | inl here ↦
+              subst (λ (i : ℕ). size_in (last_grant i P) ≡ suc z) (eqb-true b k here) size
+              ∙ sym (ap size_in (turn k) ∙ ap (λ (y : Bool). size_in (cond y (InMaking r a z) (last_grant k P))) here)
           | inr other ↦ sym (ap size_in (turn k) ∙ ap (λ (y : Bool). size_in (cond y (InMaking r a z) (last_grant k P))) other)
         ]
 sized-grant s m b z true g x e P r a pooled grants turn all =
     let missing = missing-left s.limit (s.need m) (held s P) b z g (is_unplaced s P) (known s P) (granted-is s m b z true g x P pooled grants) in
     let left : List Block = left_after g (is_unplaced s P) (known s P) in
-    let left_all : list_all (is_sized P) left ≡ true = all_filtered (is_sized P) (λ c. not (has_number c.number (largest_free g (is_unplaced s P) (known s P)))) (known s P) all in
-    and_from _ _ (eq-eqb (size_in (last_grant b (e ∷ P))) (suc z) (ap size_in (turn b) ∙ ap (λ (y : Bool). size_in (cond y (InMaking r a z) (last_grant b P))) (eq-eqb b b refl)))
-    (all-but (is_sized P) (is_sized (e ∷ P)) b (λ c ne is. ap (λ (k : ℕ). eqb k (suc c.size)) (ap size_in (turn c.number) ∙ ap (λ (y : Bool). size_in (cond y (InMaking r a z) (last_grant c.number P))) (ne_eqb b c.number (λ e. ne (sym e)))) ∙ is) left missing.0 left_all)
+    let left_all : list_all (is_sized P) left ≡ true =
+    all_filtered (is_sized P) (λ c. not (has_number c.number (largest_free g (is_unplaced s P) (known s P)))) (known s P) all in
+    and_from _ _ (eq-eqb (size_in (last_grant b (e ∷ P))) (suc z)
+    (ap size_in (turn b) ∙ ap (λ (y : Bool). size_in (cond y (InMaking r a z) (last_grant b P))) (eq-eqb b b refl)))
+    (all-but (is_sized P) (is_sized (e ∷ P)) b (λ c ne is. ap (λ (k : ℕ). eqb k (suc c.size)) (ap size_in (turn c.number)
+    ∙ ap (λ (y : Bool). size_in (cond y (InMaking r a z) (last_grant c.number P))) (ne_eqb b c.number (λ e. ne (sym e)))) ∙ is) left missing.0 left_all)
 
 -- each known block has the size of its last grant
 pub all-sized : (s : Setting) (P : Past) → s.pooled ≡ true → is_legal s P ≡ true → list_all (is_sized P) (known s P) ≡ true
@@ -343,12 +376,16 @@ all-sized s (Load r k b z f g x ∷ P) pooled h =
     sized-grant s 0 b z f g x e P r (frame 0 k) pooled grants (λ i. refl) (all-sized s P pooled (legal-before s e P h))
 all-sized s (TakeBlock f x r v m k b z g ∷ P) pooled h =
     let e : Entry = TakeBlock f x r v m k b z g in
-    let grants : pool_grants s v b z f g x P ≡ true = (and_parts (may_take s r v (frame m k) P && is_maker s v) (pool_grants s v b z f g x P) (row_of s e P (λ d. refl) h)).1 in
+    let grants : pool_grants s v b z f g x P ≡ true =
+    (and_parts (may_take s r v (frame m k) P && is_maker s v) (pool_grants s v b z f g x P) (row_of s e P (λ d. refl) h)).1 in
     sized-grant s v b z f g x e P r (frame v k) pooled grants (λ i. refl) (all-sized s P pooled (legal-before s e P h))
 all-sized s (Issue q k ∷ P) pooled h =
-    all-same (is_sized P) (is_sized (Issue q k ∷ P)) (λ c. ap (λ (i : ℕ). eqb i (suc c.size)) (sym (done-size q (last_grant c.number P)))) (known s P) (all-sized s P pooled (legal-before s (Issue q k) P h))
+    all-same (is_sized P) (is_sized (Issue q k ∷ P)) (λ c. ap (λ (i : ℕ). eqb i (suc c.size)) (sym (done-size q (last_grant c.number P)))) (known s P)
+    (all-sized s P pooled (legal-before s (Issue q k) P h))
 all-sized s (Put q v m k f ∷ P) pooled h =
-    all-same (is_sized P) (is_sized (Put q v m k f ∷ P)) (λ c. ap (λ (i : ℕ). eqb i (suc c.size)) (sym (done-size q (last_grant c.number P)))) (known s P) (all-sized s P pooled (legal-before s (Put q v m k f) P h))
+    all-same (is_sized P) (is_sized (Put q v m k f ∷ P)) (λ c. ap (λ (i : ℕ). eqb i (suc c.size)) (sym (done-size q (last_grant c.number P)))) (known s P)
+    (all-sized s P pooled (legal-before s (Put q v m k f) P h))
 all-sized s (Reclaim q ∷ P) pooled h =
-    all-same (is_sized P) (is_sized (Reclaim q ∷ P)) (λ c. ap (λ (i : ℕ). eqb i (suc c.size)) (sym (back-size q (last_grant c.number P)))) (known s P) (all-sized s P pooled (legal-before s (Reclaim q) P h))
+    all-same (is_sized P) (is_sized (Reclaim q ∷ P)) (λ c. ap (λ (i : ℕ). eqb i (suc c.size)) (sym (back-size q (last_grant c.number P)))) (known s P)
+    (all-sized s P pooled (legal-before s (Reclaim q) P h))
 all-sized s (e ∷ P) pooled h = all-sized s P pooled (legal-before s e P h)

@@ -79,8 +79,11 @@ any_at p v (u ∷ us) h i =
 pub from-places : (s : Setting) (q : ℕ → Bool) (P : Past) → is_legal s P ≡ true → owed s P ≡ [] → list_any q (places s P) ≡ false → Clear (has q P) s P
 from-places s q P h still none =
     let t : FrameName → Bool = has q P in
-    let p = or_parts (list_any q (flat_map (blocks_in_hand P) (hands P))) (list_any q (flat_map (block_of P) (flat_map (arrays_at s P) (node_numbers s)))) (sym (any-append q (flat_map (blocks_in_hand P) (hands P)) (flat_map (block_of P) (flat_map (arrays_at s P) (node_numbers s)))) ∙ none) in
-    let nodes : list_any (λ v. list_any t (arrays_at s P v)) (node_numbers s) ≡ false = sym (any-flat t (arrays_at s P) (node_numbers s)) ∙ (sym (any-flat q (block_of P) (flat_map (arrays_at s P) (node_numbers s))) ∙ p.1) in
+    let p =
+    or_parts (list_any q (flat_map (blocks_in_hand P) (hands P))) (list_any q (flat_map (block_of P) (flat_map (arrays_at s P) (node_numbers s))))
+    (sym (any-append q (flat_map (blocks_in_hand P) (hands P)) (flat_map (block_of P) (flat_map (arrays_at s P) (node_numbers s)))) ∙ none) in
+    let nodes : list_any (λ v. list_any t (arrays_at s P v)) (node_numbers s) ≡ false =
+    sym (any-flat t (arrays_at s P) (node_numbers s)) ∙ (sym (any-flat q (block_of P) (flat_map (arrays_at s P) (node_numbers s))) ∙ p.1) in
     let at : (v : ℕ) → AtNode t s P v = λ v. elim (cases_Bool (is_numbered s v)) [
       | inl numbered ↦ at_some t s P v (any_at (λ u. list_any t (arrays_at s P u)) v (node_numbers s) nodes numbered)
       | inr away ↦ at_none t s P v h away
@@ -95,7 +98,8 @@ from-places s q P h still none =
     }
 
 -- a frame on a block without a place is nowhere
-pub unplaced-clear : (s : Setting) (P : Past) (b : ℕ) (a : FrameName) → is_legal s P ≡ true → owed s P ≡ [] → refs s P b ≡ 0 → block_of P a ≡ b ∷ [] → Clear (is_frame a) s P
+pub unplaced-clear : (s : Setting) (P : Past) (b : ℕ) (a : FrameName) → is_legal s P ≡ true → owed s P ≡ [] → refs s P b ≡ 0
+    → block_of P a ≡ b ∷ [] → Clear (is_frame a) s P
 unplaced-clear s P b a legal still none on =
     let q : ℕ → Bool = is_number b in
     let whole : Clear (has q P) s P = from-places s q P legal still (none_any q (places s P) none) in

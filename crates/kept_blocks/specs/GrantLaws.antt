@@ -18,7 +18,8 @@ use Rattle.kept_blocks.specs.Keeping.{HoldsBlocks, IsRunOf}
 use Rattle.kept_blocks.specs.LookLaws.{IsLendable}
 
 -- with the pool's grant for so many bytes: the log is a history of a run, the table holds its blocks, and this is what is granted
-pub record IsGranted {F : Type 0} (parts : F → Option Parts) (s : Setting) (told : BoardState) (t : List Kept) (need block size : ℕ) (fresh : Bool) (given : ℕ) : Type 0 where
+pub record IsGranted {F : Type 0} (parts : F → Option Parts) (s : Setting) (told : BoardState) (t : List Kept)
+    (need block size : ℕ) (fresh : Bool) (given : ℕ) : Type 0 where
   pub run : IsRunOf s told
   pub holds : HoldsBlocks parts s told t
   pub granted : grant s (past told) need ≡ Granted block size fresh given

@@ -36,7 +36,8 @@ with_input name_of parts a c None t = t
 with_input name_of parts a c (Some f) t = if same (name_of f) a then with_kept t c (united (kept_at t c) (parts f)) else t
 
 -- the table once what came back of the block b that was granted with the hand was kept: the frame, or else the storage
-abbrev pub with_grant : {F B : Type 0} → (F → FrameName) → (F → Option Parts) → (B → ℕ) → (b : ℕ) → (made : Option F) → (blank : Option B) → List Kept → List Kept
+abbrev pub with_grant : {F B : Type 0} → (F → FrameName) → (F → Option Parts) → (B → ℕ) → (b : ℕ) → (made : Option F)
+    → (blank : Option B) → List Kept → List Kept
 with_grant name_of parts bytes_of b (Some f) blank t = with_kept t b (Frame (name_of f) (parts f))
 with_grant name_of parts bytes_of b None (Some k) t = with_kept t b (Storage (bytes_of k))
 with_grant name_of parts bytes_of b None None t = t
@@ -46,7 +47,8 @@ abbrev pub taken_back : {F B O : Type 0} → (F → FrameName) → Setting → (
 taken_back name_of s r left told = moved s (loses r (lost_of name_of (past told) (hand r (past told)) left)) told
 
 -- the hand of the role may be taken back with this
-pub record MayTakeBack {F B O : Type 0} (name_of : F → FrameName) (parts : F → Option Parts) (bytes_of : B → ℕ) (s : Setting) (told : BoardState) (t : List Kept) (r : ℕ) (left : Left F B O) : Type 0 where
+pub record MayTakeBack {F B O : Type 0} (name_of : F → FrameName) (parts : F → Option Parts)
+    (bytes_of : B → ℕ) (s : Setting) (told : BoardState) (t : List Kept) (r : ℕ) (left : Left F B O) : Type 0 where
   pub run : IsRunOf s told
   pub holds : HoldsBlocks parts s told t
   pub allowed : reclaim_refusal s r (past told) ≡ None

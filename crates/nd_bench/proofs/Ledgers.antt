@@ -4,7 +4,8 @@ use Rattle.std.proofs.lemmas.List.{length-map}
 use Rattle.pool_ledger.specs.Grants.{Answer, Refused, Granted, has_number}
 use Rattle.pool_ledger.specs.Ledger.{Known, Ledger, with_known, with_count, recounted, without, largest_first, after}
 
-with_known_by : (new k : Known) (ks : List Known) (b : Bool) → length (with_known new ks) ≡ length ks + 1 → length (if b then k ∷ with_known new ks else new ∷ k ∷ ks) ≡ length (k ∷ ks) + 1
+with_known_by : (new k : Known) (ks : List Known) (b : Bool) → length (with_known new ks) ≡ length ks + 1
+    → length (if b then k ∷ with_known new ks else new ∷ k ∷ ks) ≡ length (k ∷ ks) + 1
 with_known_by new k ks true h = omega (arith, h)
 with_known_by new k ks false h = omega arith
 
@@ -28,7 +29,8 @@ known-after p Refused = omega arith
 known-after p (Granted b n false given) = omega (arith, length-map p.known (recounted b 1))
 known-after p (Granted b n true given) =
     let gone = take given (largest_first p) in
-    omega (arith, length-with_known (record { number = b; size = n; count = 1 }) (without gone p.known), length-filter-le (λ k. not (has_number k.number gone)) p.known)
+    omega (arith, length-with_known (record { number = b; size = n; count = 1 }) (without gone p.known),
+    length-filter-le (λ k. not (has_number k.number gone)) p.known)
 
 pub length-with_count : (b count : ℕ) (ks : List Known) → length (with_count b count ks) ≡ length ks
 length-with_count b count ks = length-map ks (recounted b count)

@@ -38,7 +38,8 @@ use Rattle.pool_account.proofs.Ledgers.{one-among}
 
 few-filtered : (test : Block → Bool) (bs : List Block) → length (filter test bs) ≤ length bs
 few-filtered test [] = omega arith
-few-filtered test (b ∷ bs) = let rest = few-filtered test bs in elim (cases_Bool (test b)) [ inl t ↦ rw t (omega (arith, rest)) | inr f ↦ rw f (omega (arith, rest)) ]
+few-filtered test (b ∷ bs) =
+    let rest = few-filtered test bs in elim (cases_Bool (test b)) [ inl t ↦ rw t (omega (arith, rest)) | inr f ↦ rw f (omega (arith, rest)) ]
 
 few-after : (free : ℕ → Bool) (b n : ℕ) (f : Bool) (g : ℕ) (bs : List Block) → length (known_after free (Granted b n f g) bs) ≤ length bs + 1
 few-after free b n false g bs = omega arith
@@ -82,10 +83,12 @@ few-bs b c = few-times b (c ∷ [])
 abbrev KeepsOne : Setting → Past → Entry → (v b : ℕ) → Type 0
 KeepsOne s P e v b = times_held P b (kept_at s (e ∷ P) v) ≤ times_held P b (kept_at s P v) + 1
 
-keeps-more : (s : Setting) (r v m k : ℕ) (f : Bool) (P : Past) (b : ℕ) → kept_at s (Put r v m k f ∷ P) v ≡ kept_at s P v ++ frame m k ∷ [] → KeepsOne s P (Put r v m k f) v b
+keeps-more : (s : Setting) (r v m k : ℕ) (f : Bool) (P : Past) (b : ℕ)
+    → kept_at s (Put r v m k f ∷ P) v ≡ kept_at s P v ++ frame m k ∷ [] → KeepsOne s P (Put r v m k f) v b
 keeps-more s r v m k f P b more = omega (arith, held-more s P r v m k f b more, few-held P b (frame m k))
 
-keeps-ring : (s : Setting) (r v m k : ℕ) (f : Bool) (pre post preset : ℕ) (P : Past) (b : ℕ) → (node s v).work ≡ Watches pre post preset → is_legal s P ≡ true → first s P (Put r v m k f) ≡ true → KeepsOne s P (Put r v m k f) v b
+keeps-ring : (s : Setting) (r v m k : ℕ) (f : Bool) (pre post preset : ℕ) (P : Past) (b : ℕ) → (node s v).work ≡ Watches pre post preset → is_legal s P ≡ true
+    → first s P (Put r v m k f) ≡ true → KeepsOne s P (Put r v m k f) v b
 keeps-ring s r v m k f pre post preset P b work legal row =
     let t : FrameName → Bool = has (is_number b) P in
     let before : times_held P b (kept_at s P v) ≡ count t (kept pre post preset (firings v P) (puts v P)) =
@@ -94,9 +97,11 @@ keeps-ring s r v m k f pre post preset P b work legal row =
     let after : times_held P b (kept_at s (Put r v m k f ∷ P) v) ≡ count t (kept pre post preset (firings v P ++ f ∷ []) (puts v P ++ frame m k ∷ [])) =
     ap (times_held P b) (kept_laws.watched s v pre post preset (Put r v m k f ∷ P) work ∙ ring_laws.put s r v m k f P pre post preset work legal row)
     ∙ blocks-count (is_number b) P (kept pre post preset (firings v P ++ f ∷ []) (puts v P ++ frame m k ∷ [])) in
-    omega (arith, before, after, ring-push pre post preset (firings v P) f t (puts v P) (frame m k) (flags-puts v P), few-held P b (frame m k), held-one P b (frame m k) (block_of P (frame m k)) refl, frame-count (is_number b) P (frame m k))
+    omega (arith, before, after, ring-push pre post preset (firings v P) f t (puts v P) (frame m k) (flags-puts v P), few-held P b (frame m k),
+    held-one P b (frame m k) (block_of P (frame m k)) refl, frame-count (is_number b) P (frame m k))
 
-keeps-one : (s : Setting) (r v m k : ℕ) (f : Bool) (P : Past) (b : ℕ) → is_legal s P ≡ true → first s P (Put r v m k f) ≡ true → KeepsOne s P (Put r v m k f) v b
+keeps-one : (s : Setting) (r v m k : ℕ) (f : Bool) (P : Past) (b : ℕ) → is_legal s P ≡ true
+    → first s P (Put r v m k f) ≡ true → KeepsOne s P (Put r v m k f) v b
 keeps-one s r v m k f P b legal row = by_work (node s v).work refl
   where
     passes : may_sort (node s v).work ≡ true → KeepsOne s P (Put r v m k f) v b
@@ -124,11 +129,14 @@ adds-put s r v m k f P b h =
     let kept_then = keeps-one s r v m k f P b (and_parts _ _ h).0 row in
     elim ((row_laws.put s P r v m k f).0 row).0 [
       | inl job ↦ omega (arith, count_laws.put s r v m k f (Take r v m k) P b h job, kept_then)
-      | inr making ↦ omega (arith, count_laws.put s r v m k f (TakeBlock making.1.3 making.1.5 r v making.1.0 k making.1.1 making.1.2 making.1.4) P b h making.1.6, kept_then)
+      | inr making ↦
+          omega (arith,
+          count_laws.put s r v m k f (TakeBlock making.1.3 making.1.5 r v making.1.0 k making.1.1 making.1.2 making.1.4) P b h making.1.6, kept_then)
     ]
 
 -- at a node without a sort list nothing goes out of it
-drops-nothing : (s : Setting) (v m k : ℕ) (P : Past) (b : ℕ) → is_sorted s v ≡ false → is_legal s (SortDrop v m k ∷ P) ≡ true → refs s (SortDrop v m k ∷ P) b ≡ refs s P b
+drops-nothing : (s : Setting) (v m k : ℕ) (P : Past) (b : ℕ) → is_sorted s v ≡ false → is_legal s (SortDrop v m k ∷ P) ≡ true
+    → refs s (SortDrop v m k ∷ P) b ≡ refs s P b
 drops-nothing s v m k P b plain h =
     let e : Entry = SortDrop v m k in
     let t : FrameName → Bool = has (is_number b) P in
@@ -166,7 +174,8 @@ adds-one s (Emit v m k why) P b h =
     ]
 adds-one s (Settle r v) P b h = omega (arith, count_laws.settle s r v P b h)
 adds-one s (Put r v m k f) P b h = adds-put s r v m k f P b h
-adds-one s (Reclaim r) P b h = let facts = (row_laws.reclaim s P r).0 (row_of s (Reclaim r) P (λ d. refl) h) in adds-reclaim s r facts.holds.0 P b h facts.holds.1
+adds-one s (Reclaim r) P b h =
+    let facts = (row_laws.reclaim s P r).0 (row_of s (Reclaim r) P (λ d. refl) h) in adds-reclaim s r facts.holds.0 P b h facts.holds.1
 adds-one s e P b h = omega (arith, count_laws.others s e P b refl h)
 
 -- a block has no more places than the log has entries

@@ -41,7 +41,8 @@ use Rattle.pool_account.proofs.Bounds.{known-few, none-placed, few-times, refs-f
 -- HOLDS
 
 -- the block has so many holds then
-recounted : (s : Setting) (P : Past) (b n : ℕ) (p : Ledger) (carried others : List ℕ) → 0 < ledger.refs p b → n ≡ refs s P b + times_among b others → ((c : ℕ) → c ≢ b → times_among c carried ≡ times_among c others) → IsAccount s P carried p → IsAccount s P others (with_refs b n p)
+recounted : (s : Setting) (P : Past) (b n : ℕ) (p : Ledger) (carried others : List ℕ) → 0 < ledger.refs p b → n ≡ refs s P b + times_among b others
+    → ((c : ℕ) → c ≢ b → times_among c carried ≡ times_among c others) → IsAccount s P carried p → IsAccount s P others (with_refs b n p)
 recounted s P b n p carried others some own same a = record {
   limit = a.limit;
   same = subst (SameBlocks (known s P)) (sym (blocks-with_refs b n p)) a.same;
@@ -61,7 +62,8 @@ times-itself b bs = omega (arith, times-cons b b bs, one-among b b, ap bit (eq-e
 recarried : (s : Setting) (P : Past) (p : Ledger) (carried others : List ℕ) → SameTimes carried others → IsAccount s P carried p → IsAccount s P others p
 recarried s P p carried others same a = record { limit = a.limit; same = a.same; counts = λ b. a.counts b ∙ ap (λ k. refs s P b + k) (same b); named = a.named }
 
-drop : (s : Setting) (P : Past) (b : ℕ) (p : Ledger) (carried : List ℕ) → IsAccount s P (b ∷ carried) p → IsAccount s P carried (with_refs b (ledger.refs p b - 1) p)
+drop : (s : Setting) (P : Past) (b : ℕ) (p : Ledger) (carried : List ℕ) → IsAccount s P (b ∷ carried) p
+    → IsAccount s P carried (with_refs b (ledger.refs p b - 1) p)
 drop s P b p carried a =
     let holds : ledger.refs p b ≡ refs s P b + times_among b carried + 1 = omega (arith, a.counts b, times-itself b carried) in
     recounted s P b (ledger.refs p b - 1) p (b ∷ carried) carried (omega (arith, holds)) (omega (arith, holds)) (λ c ne. times-other c b carried ne) a
@@ -77,11 +79,15 @@ pub hold_laws : HoldLaws
 hold_laws = record {
   start = λ s room. record { limit = refl; same = same_none; counts = λ b. omega (arith, none-placed s b); named = refl };
   room = λ s P room p carried a. record { limit = a.limit; same = a.same; counts = a.counts; named = a.named };
-  hold = λ s P b p carried some a. recounted s P b (ledger.refs p b + 1) p carried (b ∷ carried) some (omega (arith, a.counts b, times-itself b carried)) (λ c ne. sym (times-other c b carried ne)) a;
+  hold =
+      λ s P b p carried some a. recounted s P b (ledger.refs p b + 1) p carried (b ∷ carried) some (omega (arith, a.counts b, times-itself b carried))
+      (λ c ne. sym (times-other c b carried ne)) a;
   drop = drop;
   drop_inside = λ s P b p front back a. drop s P b p (front ++ back) (recarried s P p (front ++ b ∷ back) (b ∷ (front ++ back)) (to_front b front back) a);
   counted = recarried;
-  permuted = λ s P p carried others same. recarried s P p carried others (λ b. times-sum b carried ∙ (sym (sum_by-IsPermutation (λ c. bit (eqb c b)) carried others same) ∙ sym (times-sum b others)));
+  permuted =
+      λ s P p carried others same. recarried s P p carried others
+      (λ b. times-sum b carried ∙ (sym (sum_by-IsPermutation (λ c. bit (eqb c b)) carried others same) ∙ sym (times-sum b others)));
 }
 
 -- WHAT IT TELLS
@@ -110,12 +116,15 @@ granted_told s P n p pooled h a =
     ∙ sym (cond-true s.pooled (granted s.limit n (held s P) (is_unplaced s P) (known s P)) (Granted 0 0 false 0) pooled))))
 
 largest-same : (s : Setting) (P : Past) (g : ℕ) (p : Ledger) → IsAccount s P [] p → take g (largest_first p) ≡ largest_free g (is_unplaced s P) (known s P)
-largest-same s P g p a = ap (λ t. take g (reverse (free_in_order t (blocks p)))) (free s P p a) ∙ ap (λ bs. take g (reverse bs)) (sym (free_in_order-same (is_unplaced s P) a.same))
+largest-same s P g p a =
+    ap (λ t. take g (reverse (free_in_order t (blocks p)))) (free s P p a) ∙ ap (λ bs. take g (reverse bs)) (sym (free_in_order-same (is_unplaced s P) a.same))
 
-given : (s : Setting) (P : Past) (b n g : ℕ) (p : Ledger) → IsAccount s P [] p → (after p (Granted b n true g)).unnamed ≡ numbers (largest_free g (is_unplaced s P) (known s P))
+given : (s : Setting) (P : Past) (b n g : ℕ) (p : Ledger) → IsAccount s P [] p
+    → (after p (Granted b n true g)).unnamed ≡ numbers (largest_free g (is_unplaced s P) (known s P))
 given s P b n g p a = ap (λ us. us ++ numbers (take g (largest_first p))) a.named ∙ ap numbers (largest-same s P g p a)
 
-given_unplaced : (s : Setting) (P : Past) (b n : ℕ) (f : Bool) (g : ℕ) (p : Ledger) → IsAccount s P [] p → list_all (is_unplaced s P) (after p (Granted b n f g)).unnamed ≡ true
+given_unplaced : (s : Setting) (P : Past) (b n : ℕ) (f : Bool) (g : ℕ) (p : Ledger) → IsAccount s P [] p
+    → list_all (is_unplaced s P) (after p (Granted b n f g)).unnamed ≡ true
 given_unplaced s P b n false g p a = ap (list_all (is_unplaced s P)) a.named
 given_unplaced s P b n true g p a =
     let t : ℕ → Bool = is_unplaced s P in
@@ -126,7 +135,8 @@ given_unplaced s P b n true g p a =
 few_known : (s : Setting) (P : Past) (p : Ledger) (carried : List ℕ) → IsAccount s P carried p → length p.known ≤ length P
 few_known s P p carried a = omega (arith, length-map p.known block_of, length-same a.same, known-few s P)
 
-few_holds : (s : Setting) (P : Past) (b : ℕ) (p : Ledger) (carried : List ℕ) → is_legal s P ≡ true → IsAccount s P carried p → ledger.refs p b ≤ length P + length carried
+few_holds : (s : Setting) (P : Past) (b : ℕ) (p : Ledger) (carried : List ℕ) → is_legal s P ≡ true → IsAccount s P carried p
+    → ledger.refs p b ≤ length P + length carried
 few_holds s P b p carried h a = omega (arith, a.counts b, refs-few s P b h, few-times b carried)
 
 -- the log is short
@@ -144,7 +154,9 @@ tell_laws = record {
   placed = λ s P b p carried some a. let ne : refs s P b ≢ 0 = eqb-false (refs s P b) 0 some in omega (arith, a.counts b, ne);
   last = λ s P b p carried one a. eq-eqb (refs s P b) 0 (omega (arith, one, a.counts b, times-itself b carried));
   last_carried = λ s P b p carried one a. omega (arith, one, a.counts b, times-itself b carried);
-  not_last = λ s P b p carried more once a. let ne : refs s P b ≢ 0 = λ none. more (omega (arith, none, once, a.counts b, times-itself b carried)) in ne_eqb (refs s P b) 0 ne;
+  not_last =
+      λ s P b p carried more once a. let ne : refs s P b ≢ 0 = λ none. more (omega (arith, none, once, a.counts b, times-itself b carried)) in
+      ne_eqb (refs s P b) 0 ne;
   few_known = few_known;
   few_holds = few_holds;
   known_fit = λ s P p carried frames nodes roles h a. omega (arith, few_known s P p carried a, short s P frames nodes roles h);
@@ -153,11 +165,14 @@ tell_laws = record {
 
 -- GRANTS
 
-by_grant : (s : Setting) (m b n : ℕ) (f : Bool) (g : ℕ) (x : Bool) (e : Entry) (P : Past) (p : Ledger) → s.pooled ≡ true → is_legal s P ≡ true → pool_grants s m b n f g x P ≡ true → refs s P b ≡ 0 → known s (e ∷ P) ≡ known_after (is_unplaced s P) (Granted b n f g) (known s P) → ((c : ℕ) → refs s (e ∷ P) c ≡ refs s P c + times_among c (b ∷ [])) → IsAccount s P [] p → IsAccount s (e ∷ P) [] (all_named (after p (Granted b n f g)))
+by_grant : (s : Setting) (m b n : ℕ) (f : Bool) (g : ℕ) (x : Bool) (e : Entry) (P : Past) (p : Ledger) → s.pooled ≡ true → is_legal s P ≡ true
+    → pool_grants s m b n f g x P ≡ true → refs s P b ≡ 0 → known s (e ∷ P) ≡ known_after (is_unplaced s P) (Granted b n f g) (known s P)
+    → ((c : ℕ) → refs s (e ∷ P) c ≡ refs s P c + times_among c (b ∷ [])) → IsAccount s P [] p → IsAccount s (e ∷ P) [] (all_named (after p (Granted b n f g)))
 by_grant s m b n f g x e P p pooled legal h none knows more a = record {
   limit = limit_stays f;
   same = same_trans (known s (e ∷ P)) (known_after (is_free p) (Granted b n f g) (blocks p)) (blocks (after p (Granted b n f g)))
-      (subst (λ bs. SameBlocks bs (known_after (is_free p) (Granted b n f g) (blocks p))) (sym (knows ∙ ap (λ t. known_after t (Granted b n f g) (known s P)) (sym (free s P p a)))) (known_after-same (is_free p) (Granted b n f g) a.same))
+      (subst (λ bs. SameBlocks bs (known_after (is_free p) (Granted b n f g) (blocks p)))
+      (sym (knows ∙ ap (λ t. known_after t (Granted b n f g) (known s P)) (sym (free s P p a)))) (known_after-same (is_free p) (Granted b n f g) a.same))
       (after-known p (Granted b n f g));
   counts = λ c. omega (arith, after-holds p b n f g c (omega (arith, a.counts b, none)) there, more c, a.counts c);
   named = refl;
@@ -183,6 +198,7 @@ grant_laws = record {
   take_block = λ s P r v m k b n f g x p pooled h a.
       let row : first s P (TakeBlock f x r v m k b n g) ≡ true = row_of s (TakeBlock f x r v m k b n g) P (λ d. refl) h in
       let legal : is_legal s P ≡ true = (and_parts _ _ h).0 in
-      by_grant s v b n f g x (TakeBlock f x r v m k b n g) P p pooled legal (and_parts (may_take s r v (frame m k) P && is_maker s v) (pool_grants s v b n f g x P) row).1
+      by_grant s v b n f g x (TakeBlock f x r v m k b n g) P p pooled legal
+      (and_parts (may_take s r v (frame m k) P && is_maker s v) (pool_grants s v b n f g x P) row).1
       (take-unplaced s P r v m k b n f g x pooled legal row) refl (λ c. count_laws.take_block s r v m k b n f g x P c h) a;
 }

@@ -36,7 +36,8 @@ apart-rest b bs apart k = omega (arith, apart k, count-cons (λ (c : Block). eqb
 pub known_after-same : (free : ℕ → Bool) (a : Answer) {bs cs : List Block} → SameBlocks bs cs → SameBlocks (known_after free a bs) (known_after free a cs)
 known_after-same free Refused h = h
 known_after-same free (Granted b n false given) h = h
-known_after-same free (Granted b n true given) {bs} {cs} h = same_front (record { number = b; size = n }) (left_after given free bs) (left_after given free cs) (left_after-same given free h)
+known_after-same free (Granted b n true given) {bs} {cs} h =
+    same_front (record { number = b; size = n }) (left_after given free bs) (left_after given free cs) (left_after-same given free h)
 
 -- HELD
 
@@ -44,25 +45,30 @@ known_after-same free (Granted b n true given) {bs} {cs} h = same_front (record 
 abbrev TellsCounts : (ℕ → ℕ) → List Known → Bool
 TellsCounts counts ks = list_all (λ (k : Known). eqb (counts k.number) k.count) ks
 
-tells-where : (f g : ℕ → ℕ) (b : ℕ) (ks : List Known) → ((k : ℕ) → k ≢ b → f k ≡ g k) → count (λ (c : Block). eqb c.number b) (map block_of ks) ≡ 0 → TellsCounts g ks ≡ true → TellsCounts f ks ≡ true
+tells-where : (f g : ℕ → ℕ) (b : ℕ) (ks : List Known) → ((k : ℕ) → k ≢ b → f k ≡ g k) → count (λ (c : Block). eqb c.number b) (map block_of ks) ≡ 0
+    → TellsCounts g ks ≡ true → TellsCounts f ks ≡ true
 tells-where f g b [] same none h = refl
 tells-where f g b (k ∷ ks) same none h =
     let p = and_parts (eqb (g k.number) k.count) (TellsCounts g ks) h in
     let more = count-cons (λ (c : Block). eqb c.number b) (block_of k) (map block_of ks) in
     elim (cases_Bool (eqb k.number b)) [
       | inl here ↦ absurd (omega (arith, none, more, ap bit here))
-      | inr away ↦ and_from _ _ (ap (λ n. eqb n k.count) (same k.number (eqb-false k.number b away)) ∙ p.0) (tells-where f g b ks same (omega (arith, none, more)) p.1)
+      | inr away ↦
+          and_from _ _ (ap (λ n. eqb n k.count) (same k.number (eqb-false k.number b away)) ∙ p.0) (tells-where f g b ks same (omega (arith, none, more)) p.1)
     ]
 
 pub counts-tell : (ks : List Known) → AreApart (map block_of ks) → TellsCounts (count_of ks) ks ≡ true
 counts-tell [] apart = refl
 counts-tell (k ∷ ks) apart =
     let itself : eqb k.number k.number ≡ true = eq-eqb k.number k.number refl in
-    let none : count (λ (c : Block). eqb c.number k.number) (map block_of ks) ≡ 0 = omega (arith, apart k.number, count-cons (λ (c : Block). eqb c.number k.number) (block_of k) (map block_of ks), ap bit itself) in
+    let none : count (λ (c : Block). eqb c.number k.number) (map block_of ks) ≡ 0 =
+    omega (arith, apart k.number, count-cons (λ (c : Block). eqb c.number k.number) (block_of k) (map block_of ks), ap bit itself) in
     and_from _ _ (eq-eqb (count_of (k ∷ ks) k.number) k.count (rw itself refl))
-    (tells-where (count_of (k ∷ ks)) (count_of ks) k.number ks (λ j ne. rw (ne_eqb k.number j (λ e. ne (sym e))) refl) none (counts-tell ks (apart-rest (block_of k) (map block_of ks) apart)))
+    (tells-where (count_of (k ∷ ks)) (count_of ks) k.number ks (λ j ne. rw (ne_eqb k.number j (λ e. ne (sym e))) refl) none
+    (counts-tell ks (apart-rest (block_of k) (map block_of ks) apart)))
 
-held-blocks : (counts : ℕ → ℕ) (ks : List Known) → TellsCounts counts ks ≡ true → sum_by (λ (k : Known). k.size) (filter (λ k. ltb 0 k.count) ks) ≡ sizes (filter (λ (b : Block). ltb 0 (counts b.number)) (map block_of ks))
+held-blocks : (counts : ℕ → ℕ) (ks : List Known) → TellsCounts counts ks ≡ true
+    → sum_by (λ (k : Known). k.size) (filter (λ k. ltb 0 k.count) ks) ≡ sizes (filter (λ (b : Block). ltb 0 (counts b.number)) (map block_of ks))
 held-blocks counts [] h = refl
 held-blocks counts (k ∷ ks) h =
     let p = and_parts (eqb (counts k.number) k.count) (TellsCounts counts ks) h in
@@ -71,7 +77,8 @@ held-blocks counts (k ∷ ks) h =
     elim (cases_Bool (ltb 0 k.count)) [
       | inl some ↦
           let has : ltb 0 (counts k.number) ≡ true = ap (ltb 0) same ∙ some in
-          rw (some, has) (omega (arith, rest, sum_by-cons (λ (j : Known). j.size) k (filter (λ j. ltb 0 j.count) ks), sum_by-cons (λ (c : Block). c.size) (block_of k) (filter (λ c. ltb 0 (counts c.number)) (map block_of ks))))
+          rw (some, has) (omega (arith, rest, sum_by-cons (λ (j : Known). j.size) k (filter (λ j. ltb 0 j.count) ks),
+          sum_by-cons (λ (c : Block). c.size) (block_of k) (filter (λ c. ltb 0 (counts c.number)) (map block_of ks))))
       | inr none ↦ let lacks : ltb 0 (counts k.number) ≡ false = ap (ltb 0) same ∙ none in rw (none, lacks) rest
     ]
 
@@ -127,17 +134,23 @@ given-free : (p : Ledger) (given c : ℕ) → has_number c (take given (largest_
 given-free p given c h =
     elim (cases_Bool (is_free p c)) [
       | inl free ↦ eqb-true (refs p c) 0 free
-      | inr kept ↦ absurd (true≢false (sym h ∙ none_held (is_free p) c (take given (largest_first p)) kept (all_take (free_block (is_free p)) given (largest_first p) (all_reverse (free_block (is_free p)) (free_in_order (is_free p) (blocks p)) (all_free (is_free p) (blocks p))))))
+      | inr kept ↦
+          absurd (true≢false (sym h ∙ none_held (is_free p) c (take given (largest_first p)) kept (all_take (free_block (is_free p)) given (largest_first p)
+          (all_reverse (free_block (is_free p)) (free_in_order (is_free p) (blocks p)) (all_free (is_free p) (blocks p))))))
     ]
 
 pub one-among : (c b : ℕ) → times_among c (b ∷ []) ≡ bit (eqb b c)
 one-among c b = omega (arith, count-cons (λ k. eqb k c) b [])
 
 -- a granted block has one hold more, which is its first, and every other block as many as before
-pub after-holds : (p : Ledger) (b n : ℕ) (f : Bool) (given c : ℕ) → refs p b ≡ 0 → has_number b (known_after (is_free p) (Granted b n f given) (blocks p)) ≡ true → refs (after p (Granted b n f given)) c ≡ refs p c + times_among c (b ∷ [])
+pub after-holds : (p : Ledger) (b n : ℕ) (f : Bool) (given c : ℕ) → refs p b ≡ 0
+    → has_number b (known_after (is_free p) (Granted b n f given) (blocks p)) ≡ true
+    → refs (after p (Granted b n f given)) c ≡ refs p c + times_among c (b ∷ [])
 after-holds p b n false given c none known =
     elim (cases_eq c b) [
-      | inl is ↦ subst (λ k. refs (with_refs b 1 p) k ≡ refs p k + times_among k (b ∷ [])) (sym is) (omega (arith, count_of-with_count b 1 p.known known, none, one-among b b, ap bit (eq-eqb b b refl)))
+      | inl is ↦
+          subst (λ k. refs (with_refs b 1 p) k ≡ refs p k + times_among k (b ∷ [])) (sym is)
+          (omega (arith, count_of-with_count b 1 p.known known, none, one-among b b, ap bit (eq-eqb b b refl)))
       | inr ne ↦ omega (arith, refs-with_refs_other b 1 c p ne, one-among c b, ap bit (ne_eqb b c (λ e. ne (sym e))))
     ]
 after-holds p b n true given c none known =

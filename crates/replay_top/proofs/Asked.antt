@@ -45,24 +45,36 @@ pub graph_in-read : (told : Option Files) (name : List ℕ) (g : Graph) → IsGr
 graph_in-read told name g source file is =
     rw (← told_bytes told name source.bytes file source.read is) (graph_in-short source.bytes source.short ∙ ap graph_or_status source.found)
 
-graph_refused : (told : Option Files) (name bytes : List ℕ) (fault : GraphFault) (answer : Status) → HasFile told name bytes → length bytes ≤ most_graph_bytes → graph_of_bytes bytes ≡ Err fault → graph_or_status (Err fault) ≡ Err answer → IsGraphRefused answer told name
+graph_refused : (told : Option Files) (name bytes : List ℕ) (fault : GraphFault) (answer : Status) → HasFile told name bytes → length bytes ≤ most_graph_bytes
+    → graph_of_bytes bytes ≡ Err fault → graph_or_status (Err fault) ≡ Err answer → IsGraphRefused answer told name
 graph_refused told name bytes fault answer has short found is =
     record { bytes = bytes; file = has; refused = graph_in-short bytes short ∙ ap graph_or_status found ∙ is }
 
 -- bytes that are no graph
-pub GraphStops-refused : (fault : GraphFault) (told : Option Files) (name bytes : List ℕ) (before now : ℕ) → HasFile told name bytes → length bytes ≤ most_graph_bytes → graphs.Refuses fault (graph_of_bytes bytes) → now ≡ before → GraphStops (graph_fault_status fault) told name before now
+pub GraphStops-refused : (fault : GraphFault) (told : Option Files) (name bytes : List ℕ) (before now : ℕ) → HasFile told name bytes
+    → length bytes ≤ most_graph_bytes → graphs.Refuses fault (graph_of_bytes bytes) → now ≡ before → GraphStops (graph_fault_status fault) told name before now
 GraphStops-refused rule.OutOfMemory told name bytes before now has short found same = same
 GraphStops-refused rule.Text told name bytes before now has short found same = (graph_refused told name bytes rule.Text _ has short found refl, same)
-GraphStops-refused (rule.UnknownKey k) told name bytes before now has short found same = ((λ e. cc), (λ e. cc), graph_refused told name bytes (rule.UnknownKey k) _ has short found refl, same)
-GraphStops-refused (rule.KeyType k) told name bytes before now has short found same = ((λ e. cc), (λ e. cc), graph_refused told name bytes (rule.KeyType k) _ has short found refl, same)
-GraphStops-refused (rule.Range k v) told name bytes before now has short found same = ((λ e. cc), (λ e. cc), graph_refused told name bytes (rule.Range k v) _ has short found refl, same)
-GraphStops-refused (rule.Missing k) told name bytes before now has short found same = ((λ e. cc), (λ e. cc), graph_refused told name bytes (rule.Missing k) _ has short found refl, same)
-GraphStops-refused (rule.UnknownKind n) told name bytes before now has short found same = ((λ e. cc), (λ e. cc), graph_refused told name bytes (rule.UnknownKind n) _ has short found refl, same)
-GraphStops-refused (rule.Threads n) told name bytes before now has short found same = ((λ e. cc), (λ e. cc), graph_refused told name bytes (rule.Threads n) _ has short found refl, same)
-GraphStops-refused (rule.Calc f) told name bytes before now has short found same = ((λ e. cc), (λ e. cc), graph_refused told name bytes (rule.Calc f) _ has short found refl, same)
-GraphStops-refused (rule.DoubleName n) told name bytes before now has short found same = ((λ e. cc), (λ e. cc), graph_refused told name bytes (rule.DoubleName n) _ has short found refl, same)
-GraphStops-refused (rule.UnknownInput n) told name bytes before now has short found same = ((λ e. cc), (λ e. cc), graph_refused told name bytes (rule.UnknownInput n) _ has short found refl, same)
-GraphStops-refused (rule.Cycle n) told name bytes before now has short found same = ((λ e. cc), (λ e. cc), graph_refused told name bytes (rule.Cycle n) _ has short found refl, same)
+GraphStops-refused (rule.UnknownKey k) told name bytes before now has short found same =
+    ((λ e. cc), (λ e. cc), graph_refused told name bytes (rule.UnknownKey k) _ has short found refl, same)
+GraphStops-refused (rule.KeyType k) told name bytes before now has short found same =
+    ((λ e. cc), (λ e. cc), graph_refused told name bytes (rule.KeyType k) _ has short found refl, same)
+GraphStops-refused (rule.Range k v) told name bytes before now has short found same =
+    ((λ e. cc), (λ e. cc), graph_refused told name bytes (rule.Range k v) _ has short found refl, same)
+GraphStops-refused (rule.Missing k) told name bytes before now has short found same =
+    ((λ e. cc), (λ e. cc), graph_refused told name bytes (rule.Missing k) _ has short found refl, same)
+GraphStops-refused (rule.UnknownKind n) told name bytes before now has short found same =
+    ((λ e. cc), (λ e. cc), graph_refused told name bytes (rule.UnknownKind n) _ has short found refl, same)
+GraphStops-refused (rule.Threads n) told name bytes before now has short found same =
+    ((λ e. cc), (λ e. cc), graph_refused told name bytes (rule.Threads n) _ has short found refl, same)
+GraphStops-refused (rule.Calc f) told name bytes before now has short found same =
+    ((λ e. cc), (λ e. cc), graph_refused told name bytes (rule.Calc f) _ has short found refl, same)
+GraphStops-refused (rule.DoubleName n) told name bytes before now has short found same =
+    ((λ e. cc), (λ e. cc), graph_refused told name bytes (rule.DoubleName n) _ has short found refl, same)
+GraphStops-refused (rule.UnknownInput n) told name bytes before now has short found same =
+    ((λ e. cc), (λ e. cc), graph_refused told name bytes (rule.UnknownInput n) _ has short found refl, same)
+GraphStops-refused (rule.Cycle n) told name bytes before now has short found same =
+    ((λ e. cc), (λ e. cc), graph_refused told name bytes (rule.Cycle n) _ has short found refl, same)
 
 -- a graph's file that is too long
 pub long_graph : (told : Option Files) (name : List ℕ) (n : ℕ) → most_graph_bytes < n → IsSized told name n → IsGraphRefused (Limit (GraphBytes n)) told name
@@ -76,25 +88,36 @@ long_graph told name n past sized =
 stack_in-short : (bytes : List ℕ) → length bytes ≤ most_stack_bytes → stack_in bytes ≡ stack_or_status (stack_of bytes)
 stack_in-short bytes short = rw (le-leb (length bytes) most_stack_bytes short) refl
 
-stack_in-read : (told : Option Files) (name : List ℕ) (s : StackValue) → IsStackRead told name s → (file : List ℕ) → IsTold told name file → stack_in file ≡ Ok s
+stack_in-read : (told : Option Files) (name : List ℕ) (s : StackValue) → IsStackRead told name s → (file : List ℕ)
+    → IsTold told name file → stack_in file ≡ Ok s
 stack_in-read told name s source file is =
     rw (← told_bytes told name source.bytes file source.read is) (stack_in-short source.bytes source.short ∙ ap stack_or_status source.found)
 
-stack_refused : (told : Option Files) (name bytes : List ℕ) (fault : StackFault) → HasFile told name bytes → length bytes ≤ most_stack_bytes → stack_of bytes ≡ Err fault → IsStackRefused (StackBytes fault) told name
+stack_refused : (told : Option Files) (name bytes : List ℕ) (fault : StackFault) → HasFile told name bytes → length bytes ≤ most_stack_bytes
+    → stack_of bytes ≡ Err fault → IsStackRefused (StackBytes fault) told name
 stack_refused told name bytes fault has short found =
     record { bytes = bytes; file = has; refused = stack_in-short bytes short ∙ ap stack_or_status found }
 
 -- bytes that are no stack
-pub StackStops-refused : (fault : StackFault) (told : Option Files) (name bytes : List ℕ) (before now : ℕ) → HasFile told name bytes → length bytes ≤ most_stack_bytes → stacks.Refuses fault (stack_of bytes) → now ≡ before → StackStops (fault_status fault) told name before now
+pub StackStops-refused : (fault : StackFault) (told : Option Files) (name bytes : List ℕ) (before now : ℕ) → HasFile told name bytes
+    → length bytes ≤ most_stack_bytes → stacks.Refuses fault (stack_of bytes) → now ≡ before → StackStops (fault_status fault) told name before now
 StackStops-refused refusal.OutOfMemory told name bytes before now has short found same = same
-StackStops-refused (refusal.Cdf f) told name bytes before now has short found same = ((λ e. cc), stack_refused told name bytes (refusal.Cdf f) has short found, same)
-StackStops-refused refusal.NoArrayData told name bytes before now has short found same = ((λ e. cc), stack_refused told name bytes refusal.NoArrayData has short found, same)
-StackStops-refused (refusal.SampleType n) told name bytes before now has short found same = ((λ e. cc), stack_refused told name bytes (refusal.SampleType n) has short found, same)
-StackStops-refused (refusal.Rank n) told name bytes before now has short found same = ((λ e. cc), stack_refused told name bytes (refusal.Rank n) has short found, same)
-StackStops-refused (refusal.TooManyFrames n) told name bytes before now has short found same = ((λ e. cc), stack_refused told name bytes (refusal.TooManyFrames n) has short found, same)
-StackStops-refused (refusal.TooManySamples n) told name bytes before now has short found same = ((λ e. cc), stack_refused told name bytes (refusal.TooManySamples n) has short found, same)
-StackStops-refused (refusal.FrameCount var) told name bytes before now has short found same = ((λ e. cc), stack_refused told name bytes (refusal.FrameCount var) has short found, same)
-StackStops-refused (refusal.AttrShape var) told name bytes before now has short found same = ((λ e. cc), stack_refused told name bytes (refusal.AttrShape var) has short found, same)
+StackStops-refused (refusal.Cdf f) told name bytes before now has short found same =
+    ((λ e. cc), stack_refused told name bytes (refusal.Cdf f) has short found, same)
+StackStops-refused refusal.NoArrayData told name bytes before now has short found same =
+    ((λ e. cc), stack_refused told name bytes refusal.NoArrayData has short found, same)
+StackStops-refused (refusal.SampleType n) told name bytes before now has short found same =
+    ((λ e. cc), stack_refused told name bytes (refusal.SampleType n) has short found, same)
+StackStops-refused (refusal.Rank n) told name bytes before now has short found same =
+    ((λ e. cc), stack_refused told name bytes (refusal.Rank n) has short found, same)
+StackStops-refused (refusal.TooManyFrames n) told name bytes before now has short found same =
+    ((λ e. cc), stack_refused told name bytes (refusal.TooManyFrames n) has short found, same)
+StackStops-refused (refusal.TooManySamples n) told name bytes before now has short found same =
+    ((λ e. cc), stack_refused told name bytes (refusal.TooManySamples n) has short found, same)
+StackStops-refused (refusal.FrameCount var) told name bytes before now has short found same =
+    ((λ e. cc), stack_refused told name bytes (refusal.FrameCount var) has short found, same)
+StackStops-refused (refusal.AttrShape var) told name bytes before now has short found same =
+    ((λ e. cc), stack_refused told name bytes (refusal.AttrShape var) has short found, same)
 
 -- a stack's file that is too long
 pub long_stack : (told : Option Files) (name : List ℕ) (n : ℕ) → most_stack_bytes < n → IsSized told name n → IsStackRefused (Limit (StackFile n)) told name
@@ -105,34 +128,42 @@ long_stack told name n past sized =
 
 -- THE COMMAND
 
-by_stack : (asks : List ℕ → Status) (next : StackValue → Status) (answer : Status) (told : Option Files) (name : List ℕ) (s : StackValue) → ((file : List ℕ) → asks file ≡ with_stack next (stack_in file)) → IsStackRead told name s → answer ≡ next s → IsAskedBy asks answer told name
-by_stack asks next answer told name s same source is file told_file = is ∙ sym (same file ∙ ap (with_stack next) (stack_in-read told name s source file told_file))
+by_stack : (asks : List ℕ → Status) (next : StackValue → Status) (answer : Status) (told : Option Files) (name : List ℕ) (s : StackValue)
+    → ((file : List ℕ) → asks file ≡ with_stack next (stack_in file)) → IsStackRead told name s → answer ≡ next s → IsAskedBy asks answer told name
+by_stack asks next answer told name s same source is file told_file =
+    is ∙ sym (same file ∙ ap (with_stack next) (stack_in-read told name s source file told_file))
 
 -- the command's graph is refused
 pub asked-graph : (answer : Status) (command : Command) (told : Option Files) → HasGraphRefusal told command answer → IsAsked answer command told
 asked-graph answer (Copy stack prefix) told refused = absurd refused
 asked-graph answer (Info stack) told refused = absurd refused
-asked-graph answer (Plain graph stack prefix) told refused = λ file is. rw (sym (ap graph_in (told_bytes told graph refused.bytes file refused.file is)) ∙ refused.refused) refl
+asked-graph answer (Plain graph stack prefix) told refused =
+    λ file is. rw (sym (ap graph_in (told_bytes told graph refused.bytes file refused.file is)) ∙ refused.refused) refl
 
 stack_is : (answer : Status) (told : Option Files) (name file : List ℕ) → IsStackRefused answer told name → IsTold told name file → stack_in file ≡ Err answer
 stack_is answer told name file refused is = sym (ap stack_in (told_bytes told name refused.bytes file refused.file is)) ∙ refused.refused
 
-by_graph : (answer : Status) (told : Option Files) (graph stack : List ℕ) (g : Graph) → IsGraphRead told graph g → IsAskedBy (run_status g) answer told stack → (text : List ℕ) → IsTold told graph text → IsRunAsked answer (graph_in text) told stack
+by_graph : (answer : Status) (told : Option Files) (graph stack : List ℕ) (g : Graph) → IsGraphRead told graph g → IsAskedBy (run_status g) answer told stack
+    → (text : List ℕ) → IsTold told graph text → IsRunAsked answer (graph_in text) told stack
 by_graph answer told graph stack g source asked text is = rw (graph_in-read told graph g source text is) asked
 
 -- the command's stack is refused
 pub asked-stack : (answer : Status) (command : Command) (told : Option Files) → HasStackRefusal told command answer → IsAsked answer command told
-asked-stack answer (Copy stack prefix) told refused = λ file is. sym (ap (with_stack (λ s. load_status (copy_limit s))) (stack_is answer told stack file refused.1 is))
+asked-stack answer (Copy stack prefix) told refused =
+    λ file is. sym (ap (with_stack (λ s. load_status (copy_limit s))) (stack_is answer told stack file refused.1 is))
 asked-stack answer (Info stack) told refused = λ file is. sym (ap (with_stack (λ s. Done)) (stack_is answer told stack file refused.1 is))
 asked-stack answer (Plain graph stack prefix) told refused =
-    by_graph answer told graph stack refused.0.0 refused.0.1 (λ file is. sym (ap (with_stack (λ s. load_status (limit_fault refused.0.0 s))) (stack_is answer told stack file refused.1 is)))
+    by_graph answer told graph stack refused.0.0 refused.0.1
+    (λ file is. sym (ap (with_stack (λ s. load_status (limit_fault refused.0.0 s))) (stack_is answer told stack file refused.1 is)))
 
 -- the command's work passes a limit, or none
-pub asked-load : (answer : Status) (command : Command) (told : Option Files) (source : Source) → IsRead told command source → answer ≡ load_status (limit_of command source) → IsAsked answer command told
+pub asked-load : (answer : Status) (command : Command) (told : Option Files) (source : Source) → IsRead told command source
+    → answer ≡ load_status (limit_of command source) → IsAsked answer command told
 asked-load answer (Copy stack prefix) told source read is = by_stack _ (λ s. load_status (copy_limit s)) answer told stack source.stack (λ file. refl) read is
 asked-load answer (Info stack) told source read is = by_stack _ (λ s. Done) answer told stack source.stack (λ file. refl) read is
 asked-load answer (Plain graph stack prefix) told source read is =
-    by_graph answer told graph stack source.graph read.0 (by_stack (run_status source.graph) (λ s. load_status (limit_fault source.graph s)) answer told stack source.stack (λ file. refl) read.1 is)
+    by_graph answer told graph stack source.graph read.0
+    (by_stack (run_status source.graph) (λ s. load_status (limit_fault source.graph s)) answer told stack source.stack (λ file. refl) read.1 is)
 
 -- what the answer of the limits says
 pub fault_in : (o : Option LimitFault) (fault : LimitFault) → Err fault ≡ answer o → o ≡ Some fault
@@ -145,27 +176,34 @@ no_fault (Some other) x e = absurd (cc)
 
 -- a run of this graph and this stack ends with a fault of its limits only where they pass it, and it is none of the sizes of files
 module _ (P : LimitFault → Type 0) (load : (n : ℕ) → P (Load n)) (kept : (n : ℕ) → P (Kept n)) (long : (v n : ℕ) → P (FileTooLarge v n)) where
-  long_by : (b : Bool) (v n : ℕ) (rest : Option LimitFault) (fault : LimitFault) → (rest ≡ Some fault → P fault) → (if b then Some (FileTooLarge v n) else rest) ≡ Some fault → P fault
+  long_by : (b : Bool) (v n : ℕ) (rest : Option LimitFault) (fault : LimitFault) → (rest ≡ Some fault → P fault)
+      → (if b then Some (FileTooLarge v n) else rest) ≡ Some fault → P fault
   long_by true v n rest fault later e = let same : FileTooLarge v n ≡ fault = cc in subst P same (long v n)
   long_by false v n rest fault later e = later e
 
   first_long : (g : Graph) (s : StackValue) (v n : ℕ) (fault : LimitFault) → first_too_long g s v n ≡ Some fault → P fault
   first_long g s v zero fault e = absurd (cc)
-  first_long g s v (suc n) fault e = long_by (nat_lt (most_bytes_at g v) (file_bytes_at g s v)) v (file_bytes_at g s v) (first_too_long g s (v + 1) n) fault (first_long g s (v + 1) n fault) e
+  first_long g s v (suc n) fault e =
+      long_by (nat_lt (most_bytes_at g v) (file_bytes_at g s v)) v (file_bytes_at g s v) (first_too_long g s (v + 1) n) fault (first_long g s (v + 1) n fault) e
 
-  kept_by : (b : Bool) (n : ℕ) (rest : Option LimitFault) (fault : LimitFault) → (rest ≡ Some fault → P fault) → (if b then Some (Kept n) else rest) ≡ Some fault → P fault
+  kept_by : (b : Bool) (n : ℕ) (rest : Option LimitFault) (fault : LimitFault) → (rest ≡ Some fault → P fault)
+      → (if b then Some (Kept n) else rest) ≡ Some fault → P fault
   kept_by true n rest fault later e = let same : Kept n ≡ fault = cc in subst P same (kept n)
   kept_by false n rest fault later e = later e
 
-  load_by : (b : Bool) (n : ℕ) (rest : Option LimitFault) (fault : LimitFault) → (rest ≡ Some fault → P fault) → (if b then Some (Load n) else rest) ≡ Some fault → P fault
+  load_by : (b : Bool) (n : ℕ) (rest : Option LimitFault) (fault : LimitFault) → (rest ≡ Some fault → P fault)
+      → (if b then Some (Load n) else rest) ≡ Some fault → P fault
   load_by true n rest fault later e = let same : Load n ≡ fault = cc in subst P same (load n)
   load_by false n rest fault later e = later e
 
   of_run : (g : Graph) (s : StackValue) (fault : LimitFault) → limit_fault g s ≡ Some fault → P fault
-  of_run g s fault e = load_by (nat_lt 1048576 (loads.arrivals g s)) (loads.arrivals g s) _ fault (kept_by (nat_lt 67108864 (loads.kept g s)) (loads.kept g s) _ fault (first_long g s 1 (length g.nodes) fault)) e
+  of_run g s fault e =
+      load_by (nat_lt 1048576 (loads.arrivals g s)) (loads.arrivals g s) _ fault
+      (kept_by (nat_lt 67108864 (loads.kept g s)) (loads.kept g s) _ fault (first_long g s 1 (length g.nodes) fault)) e
 
 -- so it is one of a whole run
-pub passed-run : (told : Option Files) (command : Command) (source : Source) (fault : LimitFault) → IsRead told command source → limit_of command source ≡ Some fault → limit_fault source.graph source.stack ≡ Some fault → PassesLimit told command fault
+pub passed-run : (told : Option Files) (command : Command) (source : Source) (fault : LimitFault) → IsRead told command source
+    → limit_of command source ≡ Some fault → limit_fault source.graph source.stack ≡ Some fault → PassesLimit told command fault
 passed-run told command source fault read is run =
     of_run (λ f. f ≡ fault → PassesLimit told command f)
     (λ n e. record { source = source; read = read; passed = is ∙ ap Some (sym e) })
@@ -174,7 +212,8 @@ passed-run told command source fault read is run =
     source.graph source.stack fault run refl
 
 -- and of a copy it is the length of its file
-pub passed-copy : (told : Option Files) (stack prefix : List ℕ) (source : Source) (fault : LimitFault) → IsRead told (Copy stack prefix) source → copy_limit source.stack ≡ Some fault → PassesLimit told (Copy stack prefix) fault
+pub passed-copy : (told : Option Files) (stack prefix : List ℕ) (source : Source) (fault : LimitFault) → IsRead told (Copy stack prefix) source
+    → copy_limit source.stack ≡ Some fault → PassesLimit told (Copy stack prefix) fault
 passed-copy told stack prefix source fault read is =
     long_by (λ f. f ≡ fault → PassesLimit told (Copy stack prefix) f)
     (λ n e. record { source = source; read = read; passed = is ∙ ap Some (sym e) })
@@ -186,6 +225,7 @@ passed-copy told stack prefix source fault read is =
 pub copy_limit-none : (s : StackValue) → copy_limit s ≡ None → copy_length s ≤ longest_of Classic
 copy_limit-none s is = by_test (nat_lt (longest_of Classic) (copy_length s)) refl is
   where
-    by_test : (b : Bool) → nat_lt (longest_of Classic) (copy_length s) ≡ b → (if b then Some (FileTooLarge 1 (copy_length s)) else None) ≡ None → copy_length s ≤ longest_of Classic
+    by_test : (b : Bool) → nat_lt (longest_of Classic) (copy_length s) ≡ b → (if b then Some (FileTooLarge 1 (copy_length s)) else None) ≡ None
+        → copy_length s ≤ longest_of Classic
     by_test true e none = absurd (cc)
     by_test false e none = grind (arith, nat_tests)

@@ -34,7 +34,8 @@ abbrev pub file_of : List ℕ → FileShape → Bool → List Array → OutFile
 file_of name shape late arrays = record { name = name; bytes = layout shape arrays; late = late }
 
 -- the last of two writes at one place counts
-overwritten-twice : (file a b : List ℕ) (off : ℕ) → off ≤ length file → length a ≡ length b → overwritten (overwritten file off a) off b ≡ overwritten file off b
+overwritten-twice : (file a b : List ℕ) (off : ℕ) → off ≤ length file → length a ≡ length b
+    → overwritten (overwritten file off a) off b ≡ overwritten file off b
 overwritten-twice file a b off within same =
     let place : length (take off file) ≡ off = length-take-le off file within in
     ap (λ n. overwritten (overwritten file off a) n b) (sym place)
@@ -54,11 +55,13 @@ unfolding header
 open_is shape rest = refl
 
 -- whatever stands in the place of the count, the file may have had it open
-pub layout-overwritten : (shape : FileShape) (arrays : List Array) (count : List ℕ) → length count ≡ 4 → overwritten (layout shape arrays) count_place count ≡ overwritten (begun_file shape None arrays) count_place count
+pub layout-overwritten : (shape : FileShape) (arrays : List Array) (count : List ℕ) → length count ≡ 4
+    → overwritten (layout shape arrays) count_place count ≡ overwritten (begun_file shape None arrays) count_place count
 layout-overwritten shape arrays count four =
     let rows = flat_map (row shape) arrays in
     ap (λ file. overwritten file count_place count) (sym (overwritten-count shape (length arrays) rows))
-    ∙ overwritten-twice (begun_file shape None arrays) (word (length arrays)) count count_place (let long = header_long shape None rows in omega arith) (sym four)
+    ∙ overwritten-twice (begun_file shape None arrays) (word (length arrays)) count count_place
+    (let long = header_long shape None rows in omega arith) (sym four)
 
 -- with the open count it is the file before it ends
 pub layout-late : (shape : FileShape) (arrays : List Array) → overwritten (layout shape arrays) count_place open_count ≡ begun_file shape None arrays
@@ -69,12 +72,14 @@ layout-late shape arrays =
     ∙ overwritten-same (begun_file shape None arrays) count_place 4 (header_long shape None rows)
 
 -- a file that wasn't ended
-pub IsFileBegun-unended : (t u : Option Files) (name : List ℕ) (shape : FileShape) (late : Bool) (arrays : List Array) (n : ℕ) → n ≡ length arrays → IsBegun t name (unended late n shape arrays) u → IsFileBegun t (file_of name shape late arrays) u
+pub IsFileBegun-unended : (t u : Option Files) (name : List ℕ) (shape : FileShape) (late : Bool) (arrays : List Array) (n : ℕ) → n ≡ length arrays
+    → IsBegun t name (unended late n shape arrays) u → IsFileBegun t (file_of name shape late arrays) u
 IsFileBegun-unended t u name shape true arrays n same begun = Unended (subst (λ final. IsBegun t name final u) (sym (layout-late shape arrays)) begun)
 IsFileBegun-unended t u name shape false arrays n same begun = Unended (subst (λ m. IsBegun t name (begun_file shape (Some m) arrays) u) same begun)
 
 -- a file whose end failed
-pub IsFileBegun-MayCount : (t v u : Option Files) (name : List ℕ) (shape : FileShape) (late : Bool) (arrays : List Array) (n m : ℕ) → n ≡ length arrays → v ≡ with_file t name (unended late n shape arrays) → MayCount v name (first_count late n) m u → IsFileBegun t (file_of name shape late arrays) u
+pub IsFileBegun-MayCount : (t v u : Option Files) (name : List ℕ) (shape : FileShape) (late : Bool) (arrays : List Array) (n m : ℕ) → n ≡ length arrays
+    → v ≡ with_file t name (unended late n shape arrays) → MayCount v name (first_count late n) m u → IsFileBegun t (file_of name shape late arrays) u
 IsFileBegun-MayCount t v u name shape false arrays n m same all may =
     Unended (IsBegun-whole t u name (layout shape arrays) (may ∙ all ∙ ap (λ k. with_file t name (begun_file shape (Some k) arrays)) same))
 IsFileBegun-MayCount t v u name shape true arrays n m same all (count, four, is) =
@@ -83,7 +88,8 @@ IsFileBegun-MayCount t v u name shape true arrays n m same all (count, four, is)
     ∙ ap (with_file t name) (sym (layout-overwritten shape arrays count four)))
 
 -- a file that was ended
-pub with_count-unended : (t v : Option Files) (name : List ℕ) (shape : FileShape) (late : Bool) (arrays : List Array) (n : ℕ) → n ≡ length arrays → v ≡ with_file t name (unended late n shape arrays) → with_count v name (first_count late n) n ≡ with_file t name (layout shape arrays)
+pub with_count-unended : (t v : Option Files) (name : List ℕ) (shape : FileShape) (late : Bool) (arrays : List Array) (n : ℕ) → n ≡ length arrays
+    → v ≡ with_file t name (unended late n shape arrays) → with_count v name (first_count late n) n ≡ with_file t name (layout shape arrays)
 with_count-unended t v name shape late arrays n same all =
     ap (λ w. with_count w name (first_count late n) n) all
     ∙ ap (λ k. with_count (with_file t name (unended late k shape arrays)) name (first_count late k) k) same

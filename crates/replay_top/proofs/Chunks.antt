@@ -54,7 +54,8 @@ groups-first {X} count xs h some =
     ∙ ap (λ rest. take count xs ∷ rest) (map-shift piece later 0 n next)
 
 -- the same, where the first group stands apart
-pub groups-chunk : {X : Type 0} (count : ℕ) (xs ys : List X) → 1 ≤ count → 1 ≤ length (xs ++ ys) → length xs ≡ min count (length (xs ++ ys)) → groups count (xs ++ ys) ≡ xs ∷ groups count ys
+pub groups-chunk : {X : Type 0} (count : ℕ) (xs ys : List X) → 1 ≤ count → 1 ≤ length (xs ++ ys) → length xs ≡ min count (length (xs ++ ys))
+    → groups count (xs ++ ys) ≡ xs ∷ groups count ys
 groups-chunk count xs ys h some first =
     let front : take count (xs ++ ys) ≡ xs = sym (take_min count (xs ++ ys)) ∙ ap (λ n. take n (xs ++ ys)) (sym first) ∙ take_at xs ys (length xs) refl in
     let back : drop count (xs ++ ys) ≡ ys = sym (drop_min count (xs ++ ys)) ∙ ap (λ n. drop n (xs ++ ys)) (sym first) ∙ drop_at xs ys (length xs) refl in

@@ -31,11 +31,14 @@ limit_asked (GraphBytes n) command told passes = asked-graph (Limit (GraphBytes 
 limit_asked (StackFile n) command told passes = asked-stack (Limit (StackFile n)) command told passes.1
 limit_asked (Load n) command told passes = asked-load (Limit (Load n)) command told passes.source passes.read (sym (ap load_status passes.passed))
 limit_asked (Kept n) command told passes = asked-load (Limit (Kept n)) command told passes.source passes.read (sym (ap load_status passes.passed))
-limit_asked (FileTooLarge v n) command told passes = asked-load (Limit (FileTooLarge v n)) command told passes.source passes.read (sym (ap load_status passes.passed))
+limit_asked (FileTooLarge v n) command told passes =
+    asked-load (Limit (FileTooLarge v n)) command told passes.source passes.read (sym (ap load_status passes.passed))
 
 -- where no count rose, the files decide
-asked : (s : Status) (command : Command) (told held now : Option Files) (written out : Option (List ℕ)) (before after : Counts) → Ends s (Some command) told held now written out → IsCause s before after → NoneRose before after → IsAsked s command told ⊎ (s ≡ OutOfMemory)
-asked Done command told held now written out before after ends cause none = inl (asked-load Done command told ends.source ends.read (sym (ap load_status ends.within)))
+asked : (s : Status) (command : Command) (told held now : Option Files) (written out : Option (List ℕ)) (before after : Counts)
+    → Ends s (Some command) told held now written out → IsCause s before after → NoneRose before after → IsAsked s command told ⊎ (s ≡ OutOfMemory)
+asked Done command told held now written out before after ends cause none =
+    inl (asked-load Done command told ends.source ends.read (sym (ap load_status ends.within)))
 asked Usage command told held now written out before after ends cause none = absurd (let no : Some command ≡ None = ends.0 in cc)
 asked GraphText command told held now written out before after ends cause none = inl (asked-graph GraphText command told ends.0)
 asked (GraphRule f) command told held now written out before after ends cause none = inl (asked-graph (GraphRule f) command told ends.0.2)
@@ -46,6 +49,7 @@ asked ShelfFault command told held now written out before after ends cause none 
 asked OutFault command told held now written out before after ends cause none = absurd (none.sink cause.2)
 asked OutOfMemory command told held now written out before after ends cause none = inr refl
 
-pub answered : (s : Status) (command : Option Command) (told held now : Option Files) (written out : Option (List ℕ)) (before after : Counts) → Ends s command told held now written out → IsCause s before after → command ≢ None → NoneRose before after → IsAskedOf command told s ⊎ (s ≡ OutOfMemory)
+pub answered : (s : Status) (command : Option Command) (told held now : Option Files) (written out : Option (List ℕ)) (before after : Counts)
+    → Ends s command told held now written out → IsCause s before after → command ≢ None → NoneRose before after → IsAskedOf command told s ⊎ (s ≡ OutOfMemory)
 answered s None told held now written out before after ends cause some none = absurd (some refl)
 answered s (Some command) told held now written out before after ends cause some none = asked s command told held now written out before after ends cause none

@@ -18,7 +18,9 @@ copy-IsKeptStack s kept =
       };
       names = record { attrs = kept.names.attrs; extras = kept.names.extras };
       dims = record { offsets = kept.dims.offsets; binnings = kept.dims.binnings };
-      each = λ k d within. let h = kept.each k d within in record { kind = h.kind; dims = h.dims; count = h.count; attrs = record { same = h.attrs.same; texts = h.attrs.texts } };
+      each =
+          λ k d within. let h = kept.each k d within in
+          record { kind = h.kind; dims = h.dims; count = h.count; attrs = record { same = h.attrs.same; texts = h.attrs.texts } };
       kept = kept.kept;
       few = kept.few;
     }

@@ -52,6 +52,7 @@ rule_after nodes place n within is =
     ap (rule_at nodes) e ∙ slice_get-get_or nodes place n within ∙ ap Some (sym is)
 
 -- and its line
-pub node_line-at : (g : Graph) (s : StackValue) (place : ℕ) (n : NodeRule) → place < length g.nodes → n ≡ get_or g.nodes place n → node_line g s (place + 1) ≡ out_line n.name (length (passed g s (place + 1)))
+pub node_line-at : (g : Graph) (s : StackValue) (place : ℕ) (n : NodeRule) → place < length g.nodes → n ≡ get_or g.nodes place n
+    → node_line g s (place + 1) ≡ out_line n.name (length (passed g s (place + 1)))
 node_line-at g s place n within is =
     ap (λ o. option_map_or (λ (m : NodeRule). out_line m.name (length (passed g s (place + 1)))) o []) (rule_after g.nodes place n within is)

@@ -14,9 +14,11 @@ use Rattle.chain_plain.specs.ContentLaws.{frame}
 use Rattle.chain_plain.specs.OneThread.{arrays_out}
 use Rattle.graph_files.specs.OutgoingLaws.{arrays_out-append, arrays_out-more}
 
-begun_file-append : (shape : FileShape) (numrecs : Option ℕ) (xs ys : List Array) → begun_file shape numrecs (xs ++ ys) ≡ begun_file shape numrecs xs ++ flat_map (row shape) ys
+begun_file-append : (shape : FileShape) (numrecs : Option ℕ) (xs ys : List Array)
+    → begun_file shape numrecs (xs ++ ys) ≡ begun_file shape numrecs xs ++ flat_map (row shape) ys
 begun_file-append shape numrecs xs ys =
-    ap (λ rows. header shape numrecs ++ rows) (flat_map-append (row shape) xs ys) ∙ sym (append_assoc (header shape numrecs) (flat_map (row shape) xs) (flat_map (row shape) ys))
+    ap (λ rows. header shape numrecs ++ rows) (flat_map-append (row shape) xs ys)
+    ∙ sym (append_assoc (header shape numrecs) (flat_map (row shape) xs) (flat_map (row shape) ys))
 
 module _ (shape : FileShape) (numrecs : Option ℕ) (nodes : List NodeRule) (arrays : List Array) (v : ℕ) (ks : List ℕ) where
   -- the header and the rows at the first i positions
@@ -24,7 +26,8 @@ module _ (shape : FileShape) (numrecs : Option ℕ) (nodes : List NodeRule) (arr
   begun_group i = begun_file shape numrecs (arrays_out nodes arrays v (take i ks))
 
   -- one row more
-  pub begun_group-more : (i : ℕ) (a : Array) → i < length ks → content nodes arrays (frame v (get_or ks i 0)) ≡ Some a → begun_group (i + 1) ≡ begun_group i ++ row shape a
+  pub begun_group-more : (i : ℕ) (a : Array) → i < length ks → content nodes arrays (frame v (get_or ks i 0)) ≡ Some a
+      → begun_group (i + 1) ≡ begun_group i ++ row shape a
   begun_group-more i a within made =
       ap (λ ls. begun_file shape numrecs (arrays_out nodes arrays v ls)) (take_more ks i 0 within)
       ∙ ap (begun_file shape numrecs) (arrays_out-more nodes arrays v (take i ks) (get_or ks i 0) a made)

@@ -8,7 +8,8 @@ use Rattle.replay_top.specs.Reads.{IsSized}
 use Rattle.std.proofs.Math.Seq.{take-append-add, take-add}
 
 -- the front of a list after a piece was put at place a
-pub take-written : (xs ys post file : List ℕ) (a n : ℕ) → a ≤ length xs → n ≤ length ys → take a xs ≡ take a file → take n ys ≡ take n (drop a file) → take (a + n) (take a xs ++ (ys ++ post)) ≡ take (a + n) file
+pub take-written : (xs ys post file : List ℕ) (a n : ℕ) → a ≤ length xs → n ≤ length ys → take a xs ≡ take a file → take n ys ≡ take n (drop a file)
+    → take (a + n) (take a xs ++ (ys ++ post)) ≡ take (a + n) file
 take-written xs ys post file a n la ln front piece =
     let len : length (take a xs) ≡ a = length-take-le a xs la in
     ap (λ k. take (k + n) (take a xs ++ (ys ++ post))) (sym len) ∙ take-append-add (take a xs) (ys ++ post) n
@@ -19,7 +20,8 @@ pub written_within : (xs ys post : List ℕ) (a n : ℕ) → a ≤ length xs →
 written_within xs ys post a n la ln = omega (arith, length-append (take a xs) (ys ++ post), length-append ys post, length-take-le a xs la)
 
 -- all of a file was read where as many bytes as it has came, or fewer and none was left
-pub whole_read : (v buf file : List ℕ) (at size : ℕ) → v ≡ take at buf → at ≤ size → size ≡ length file → take at buf ≡ take at file → (at < size → length file ≤ at) → v ≡ file
+pub whole_read : (v buf file : List ℕ) (at size : ℕ) → v ≡ take at buf → at ≤ size → size ≡ length file → take at buf ≡ take at file
+    → (at < size → length file ≤ at) → v ≡ file
 whole_read v buf file at size is le len same end =
     let all : length file ≤ at = elim (cases_lt at size) [ inl lt ↦ end lt | inr ge ↦ omega (arith, ge, len) ] in
     is ∙ same ∙ take_all at file all

@@ -27,9 +27,11 @@ copy_file-front s i =
     )
 
 -- one array more
-pub begun_copy-more : (s : StackValue) (i : ℕ) (a : Array) → i < length s.arrays → slice_get s.arrays i ≡ Some a → begun_copy s (i + 1) ≡ begun_copy s i ++ row (copy_shape s) a
+pub begun_copy-more : (s : StackValue) (i : ℕ) (a : Array) → i < length s.arrays → slice_get s.arrays i ≡ Some a
+    → begun_copy s (i + 1) ≡ begun_copy s i ++ row (copy_shape s) a
 begun_copy-more s i a within is =
-    ap (begun_file (copy_shape s) (Some (length s.arrays))) (take_more s.arrays i a within ∙ ap (λ b. take i s.arrays ++ b ∷ []) (get_or_from_slice_get s.arrays i a a is))
+    ap (begun_file (copy_shape s) (Some (length s.arrays)))
+    (take_more s.arrays i a within ∙ ap (λ b. take i s.arrays ++ b ∷ []) (get_or_from_slice_get s.arrays i a a is))
     ∙ begun_file-more (copy_shape s) (Some (length s.arrays)) (take i s.arrays) a
 
 -- all of them

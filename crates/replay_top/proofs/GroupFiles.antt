@@ -30,7 +30,8 @@ pub All-back : {X : Type 0} (P : X → Type 0) (xs ys : List X) → All P (xs ++
 All-back P xs ys all = subst (All P) (drop_at xs ys (length xs) refl) (All-drop P (length xs) (xs ++ ys) all)
 
 -- a file of the same parts is the same
-pub same_file : (name name' : List ℕ) (shape shape' : FileShape) (late late' : Bool) (arrays : List Array) → name ≡ name' → shape ≡ shape' → late ≡ late' → file_of name shape late arrays ≡ file_of name' shape' late' arrays
+pub same_file : (name name' : List ℕ) (shape shape' : FileShape) (late late' : Bool) (arrays : List Array) → name ≡ name' → shape ≡ shape' → late ≡ late'
+    → file_of name shape late arrays ≡ file_of name' shape' late' arrays
 same_file name name' shape shape' late late' arrays names shapes lates =
     ap (λ n. file_of n shape late arrays) names ∙ ap (λ s. file_of name' s late arrays) shapes ∙ ap (λ l. file_of name' shape' l arrays) lates
 
@@ -43,7 +44,8 @@ module _ (mode : Mode) (shape : FileShape) (prefix node : List ℕ) (count : ℕ
   files_at-none g [] h none = ap (group_files mode shape prefix node g) (groups-none count h)
   files_at-none g (k ∷ ks) h none = absurd (omega arith)
 
-  chunk : (g : ℕ) (ks ls : List ℕ) → 1 ≤ count → 1 ≤ length (ks ++ ls) → length ks ≡ min count (length (ks ++ ls)) → All (λ k. k < length arrays) (ks ++ ls) → All (λ k. k < length arrays) ks →
+  chunk : (g : ℕ) (ks ls : List ℕ) → 1 ≤ count → 1 ≤ length (ks ++ ls) → length ks ≡ min count (length (ks ++ ls)) → All (λ k. k < length arrays) (ks ++ ls)
+      → All (λ k. k < length arrays) ks →
       files_at g (ks ++ ls) ≡ file_of (group_name prefix node g) shape (is_stream mode) (arrays_out nodes arrays v ks) ∷ files_at (g + 1) ls
   chunk g ks ls h some first all front =
       let xs = arrays_out nodes arrays v ks in
@@ -55,10 +57,12 @@ module _ (mode : Mode) (shape : FileShape) (prefix node : List ℕ) (count : ℕ
       ∙ ap (group_files mode shape prefix node g) (groups-chunk count xs ys h (omega (arith, many, some)) few)
 
   -- a group, and the others
-  pub files_at-chunk : (g h : ℕ) (zs ks ls : List ℕ) → 1 ≤ count → zs ≡ ks ++ ls → length ks ≡ min count (length zs) → 1 ≤ length zs → h ≡ g + 1 → All (λ k. k < length arrays) zs →
+  pub files_at-chunk : (g h : ℕ) (zs ks ls : List ℕ) → 1 ≤ count → zs ≡ ks ++ ls → length ks ≡ min count (length zs) → 1 ≤ length zs → h ≡ g + 1
+      → All (λ k. k < length arrays) zs →
       files_at g zs ≡ file_of (group_name prefix node g) shape (is_stream mode) (arrays_out nodes arrays v ks) ∷ files_at h ls
   files_at-chunk g h zs ks ls more is first some next all =
       let all_frames : All (λ k. k < length arrays) (ks ++ ls) = subst (All (λ (k : ℕ). k < length arrays)) is all in
       ap (files_at g) is
-      ∙ chunk g ks ls more (subst (λ (xs : List ℕ). 1 ≤ length xs) is some) (subst (λ (xs : List ℕ). length ks ≡ min count (length xs)) is first) all_frames (All-front (λ (k : ℕ). k < length arrays) ks ls all_frames)
+      ∙ chunk g ks ls more (subst (λ (xs : List ℕ). 1 ≤ length xs) is some) (subst (λ (xs : List ℕ). length ks ≡ min count (length xs)) is first) all_frames
+      (All-front (λ (k : ℕ). k < length arrays) ks ls all_frames)
       ∙ ap (λ n. file_of (group_name prefix node g) shape (is_stream mode) (arrays_out nodes arrays v ks) ∷ files_at n ls) (sym next)

@@ -13,7 +13,9 @@ last_of-at first [] = refl
 last_of-at first (next ∷ others) = last_of-at next others
 
 -- the ids of the first head and the last one
-pub ids_line-heads : (arrays : List Array) (frames : ℕ) (first last : Head) → 0 < length arrays → frames ≡ length arrays → IfSome (slice_get arrays 0) (λ a. head_of a ≡ first) → IfSome (slice_get arrays (frames - 1)) (λ a. head_of a ≡ last) → ids_line arrays ≡ codes "ids " ++ (signed_decimal first.id ++ (codes " " ++ (signed_decimal last.id ++ codes "\n")))
+pub ids_line-heads : (arrays : List Array) (frames : ℕ) (first last : Head) → 0 < length arrays → frames ≡ length arrays
+    → IfSome (slice_get arrays 0) (λ a. head_of a ≡ first) → IfSome (slice_get arrays (frames - 1)) (λ a. head_of a ≡ last)
+    → ids_line arrays ≡ codes "ids " ++ (signed_decimal first.id ++ (codes " " ++ (signed_decimal last.id ++ codes "\n")))
 ids_line-heads [] frames first last some count front back = absurd (omega arith)
 ids_line-heads (a ∷ others) frames first last some count front back =
     let place : frames - 1 ≡ length others = omega (arith, count) in

@@ -40,7 +40,8 @@ module _ (ms : List Measure) (i : ℕ) where
     rows-begun = Front (flat_map row (take i ms)) (flat_map row (drop i ms)) rows-split made
 
     -- also with a part of one row more
-    pub rows-part : (now : Option Files) (d : Measure) (text : List ℕ) → i < length ms → text ≡ row (get_or ms i d) → MayAppend u name text now → IsBegun held name (flat_map row ms) now
+    pub rows-part : (now : Option Files) (d : Measure) (text : List ℕ) → i < length ms → text ≡ row (get_or ms i d) → MayAppend u name text now
+        → IsBegun held name (flat_map row ms) now
     rows-part now d text within is may =
         let rest = flat_map row (drop (i + 1) ms) in
         let all : flat_map row ms ≡ flat_map row (take (i + 1) ms) ++ rest =
@@ -49,7 +50,8 @@ module _ (ms : List Measure) (i : ℕ) where
         (all ∙ ap (λ b. b ++ rest) (rows-more d within ∙ ap (λ b. flat_map row (take i ms) ++ b) (sym is))) made may
 
     -- one row more
-    pub rows-added : (now : Option Files) (d : Measure) (text : List ℕ) → i < length ms → text ≡ row (get_or ms i d) → now ≡ with_more u name text → now ≡ with_file held name (flat_map row (take (i + 1) ms))
+    pub rows-added : (now : Option Files) (d : Measure) (text : List ℕ) → i < length ms → text ≡ row (get_or ms i d) → now ≡ with_more u name text
+        → now ≡ with_file held name (flat_map row (take (i + 1) ms))
     rows-added now d text within is added =
         added ∙ ap (λ w. with_more w name text) made ∙ with_more-with_file held name (flat_map row (take i ms)) text
         ∙ ap (with_file held name) (ap (λ b. flat_map row (take i ms) ++ b) is ∙ sym (rows-more d within))
@@ -58,7 +60,8 @@ module _ (ms : List Measure) (i : ℕ) where
 
 module _ (prefix : List ℕ) where
   -- the files of some nodes, and of others after them
-  files-append : (ns os : List NodeRule) (ms ks : List (List Measure)) → length ns ≡ length ms → measured_files prefix (ns ++ os) (ms ++ ks) ≡ measured_files prefix ns ms ++ measured_files prefix os ks
+  files-append : (ns os : List NodeRule) (ms ks : List (List Measure)) → length ns ≡ length ms
+      → measured_files prefix (ns ++ os) (ms ++ ks) ≡ measured_files prefix ns ms ++ measured_files prefix os ks
   files-append [] os [] ks same = refl
   files-append [] os (m ∷ ms) ks same = absurd (omega (arith, same))
   files-append (n ∷ ns) os [] ks same = absurd (omega (arith, same))
@@ -66,7 +69,8 @@ module _ (prefix : List ℕ) where
       ap (λ fs. measured_rows prefix n m ++ fs) (files-append ns os ms ks (omega (arith, same)))
       ∙ sym (append_assoc (measured_rows prefix n m) (measured_files prefix ns ms) (measured_files prefix os ks))
 
-  module _ (ns : List NodeRule) (ms : List (List Measure)) (same : length ns ≡ length ms) (p : ℕ) (n : NodeRule) (m : List Measure) (within : p < length ns) where
+  module _ (ns : List NodeRule) (ms : List (List Measure)) (same : length ns ≡ length ms)
+      (p : ℕ) (n : NodeRule) (m : List Measure) (within : p < length ns) where
     abbrev first : List OutFile
     first = measured_files prefix (take p ns) (take p ms)
 
@@ -74,7 +78,8 @@ module _ (prefix : List ℕ) where
     takes-even q h = length-take-le q ns h ∙ sym (length-take-le q ms (omega (arith, h, same)))
 
     -- one node more
-    files-more : (d : List Measure) → n ≡ get_or ns p n → m ≡ get_or ms p d → measured_files prefix (take (p + 1) ns) (take (p + 1) ms) ≡ first ++ measured_rows prefix n m
+    files-more : (d : List Measure) → n ≡ get_or ns p n → m ≡ get_or ms p d
+        → measured_files prefix (take (p + 1) ns) (take (p + 1) ms) ≡ first ++ measured_rows prefix n m
     files-more d at_n at_m =
         ap (λ os. measured_files prefix os (take (p + 1) ms)) (take_more ns p n within ∙ ap (λ o. take p ns ++ o ∷ []) (sym at_n))
         ∙ ap (λ ks. measured_files prefix (take p ns ++ n ∷ []) ks) (take_more ms p d (omega (arith, within, same)) ∙ ap (λ k. take p ms ++ k ∷ []) (sym at_m))
@@ -82,7 +87,8 @@ module _ (prefix : List ℕ) where
         ∙ ap (λ fs. first ++ fs) (append-nil (measured_rows prefix n m))
 
     -- and the others
-    files-split : (d : List Measure) → n ≡ get_or ns p n → m ≡ get_or ms p d → measured_files prefix ns ms ≡ (first ++ measured_rows prefix n m) ++ measured_files prefix (drop (p + 1) ns) (drop (p + 1) ms)
+    files-split : (d : List Measure) → n ≡ get_or ns p n → m ≡ get_or ms p d
+        → measured_files prefix ns ms ≡ (first ++ measured_rows prefix n m) ++ measured_files prefix (drop (p + 1) ns) (drop (p + 1) ms)
     files-split d at_n at_m =
         ap (λ os. measured_files prefix os ms) (sym (take-append-drop (p + 1) ns))
         ∙ ap (λ ks. measured_files prefix (take (p + 1) ns ++ drop (p + 1) ns) ks) (sym (take-append-drop (p + 1) ms))
@@ -105,13 +111,15 @@ module _ (prefix : List ℕ) where
           (AreBegun-first held now (first ++ measured_rows prefix n m) (measured_files prefix (drop (p + 1) ns) (drop (p + 1) ms)) one)
 
   -- all of them
-  pub files-whole : (ns : List NodeRule) (ms : List (List Measure)) (p : ℕ) → length ns ≡ length ms → length ns ≤ p → measured_files prefix (take p ns) (take p ms) ≡ measured_files prefix ns ms
+  pub files-whole : (ns : List NodeRule) (ms : List (List Measure)) (p : ℕ) → length ns ≡ length ms → length ns ≤ p
+      → measured_files prefix (take p ns) (take p ms) ≡ measured_files prefix ns ms
   files-whole ns ms p same h =
       ap (λ os. measured_files prefix os (take p ms)) (take_all p ns h) ∙ ap (measured_files prefix ns) (take_all p ms (omega (arith, h, same)))
 
 -- THE LOG'S TEXT, AFTER THESE FILES
 
-module _ (held mid now : Option Files) (xs : List OutFile) (logs : Bool) (prefix : List ℕ) (P : Past) (some : logs ≡ true) (made : mid ≡ with_files held xs) where
+module _ (held mid now : Option Files) (xs : List OutFile) (logs : Bool) (prefix : List ℕ)
+    (P : Past) (some : logs ≡ true) (made : mid ≡ with_files held xs) where
   pub with-log : now ≡ with_file mid (log_name prefix) (log_text P) → now ≡ with_files held (xs ++ log_files logs prefix P)
   with-log is =
       is ∙ ap (λ w. with_file w (log_name prefix) (log_text P)) made ∙ sym (with_files-append held xs (log_files true prefix P))

@@ -25,7 +25,8 @@ use Rattle.replay_top.proofs.EachNode.{each_more, each_split}
 -- WHAT A NODE WRITES
 
 -- a node of a kind
-node_files-kind : (g : Graph) (s : StackValue) (prefix : List ℕ) (v : ℕ) (n : NodeRule) (k : Kind) → Some n ≡ rule_at g.nodes v → n.kind ≡ k → node_files g s prefix v ≡ kind_files k (file_shape g s v) prefix n.name (result_of g s v)
+node_files-kind : (g : Graph) (s : StackValue) (prefix : List ℕ) (v : ℕ) (n : NodeRule) (k : Kind) → Some n ≡ rule_at g.nodes v → n.kind ≡ k
+    → node_files g s prefix v ≡ kind_files k (file_shape g s v) prefix n.name (result_of g s v)
 node_files-kind g s prefix v n k is kind =
     ap (λ o. option_map_or (λ (n : NodeRule). kind_files n.kind (file_shape g s v) prefix n.name (result_of g s v)) o []) (sym is)
     ∙ ap (λ k. kind_files k (file_shape g s v) prefix n.name (result_of g s v)) kind
@@ -48,7 +49,8 @@ module _ (g : Graph) (s : StackValue) (v : ℕ) (n : NodeRule) (sound : IsGraph 
 
   -- a statistics node its rows
   node_files-stats : (prefix : List ℕ) (r : StatsRule) → n.kind ≡ Stats r →
-      node_files g s prefix v ≡ record { name = stats_name prefix n.name; bytes = flat_map row (map (measure_of_array r) (arrays_out g.nodes s.arrays v (passed g s v))); late = false } ∷ []
+      node_files g s prefix v ≡ record { name = stats_name prefix n.name;
+      bytes = flat_map row (map (measure_of_array r) (arrays_out g.nodes s.arrays v (passed g s v))); late = false } ∷ []
   node_files-stats prefix r kind =
       node_files-kind g s prefix v n (Stats r) is kind
       ∙ ap (λ ms. record { name = stats_name prefix n.name; bytes = flat_map row ms; late = false } ∷ []) (measures-stats r kind)
@@ -61,9 +63,11 @@ module _ (g : Graph) (s : StackValue) (v : ℕ) (n : NodeRule) (sound : IsGraph 
 
   -- what is saved of a statistics node
   pub saved_rows : (prefix name : List ℕ) (r : StatsRule) → n.kind ≡ Stats r → name ≡ n.name →
-      record { name = stats_name prefix name; bytes = flat_map row (map (measure_of_array r) (arrays_out g.nodes s.arrays v (passed g s v))); late = false } ∷ [] ≡ node_files g s prefix v
+      record { name = stats_name prefix name; bytes = flat_map row (map (measure_of_array r) (arrays_out g.nodes s.arrays v (passed g s v))); late = false }
+      ∷ [] ≡ node_files g s prefix v
   saved_rows prefix name r kind called =
-      ap (λ m. record { name = stats_name prefix m; bytes = flat_map row (map (measure_of_array r) out); late = false } ∷ []) called ∙ sym (node_files-stats prefix r kind)
+      ap (λ m. record { name = stats_name prefix m; bytes = flat_map row (map (measure_of_array r) out); late = false } ∷ []) called
+      ∙ sym (node_files-stats prefix r kind)
 
   -- and of a file node
   pub saved_groups : (prefix name ks : List ℕ) (r : FileRule) → n.kind ≡ File r → name ≡ n.name → ks ≡ passed g s v →
@@ -81,9 +85,11 @@ file_sound k r sound is = subst IsKind is sound
 
 -- NODE BY NODE
 
-module _ (g : Graph) (s : StackValue) (prefix : List ℕ) (held u now : Option Files) (place : ℕ) (made : u ≡ with_files held (flat_map (node_files g s prefix) (range_with_len 1 place))) where
+module _ (g : Graph) (s : StackValue) (prefix : List ℕ) (held u now : Option Files)
+    (place : ℕ) (made : u ≡ with_files held (flat_map (node_files g s prefix) (range_with_len 1 place))) where
   -- the files of one node more
-  pub next_saved : now ≡ with_files u (node_files g s prefix (place + 1)) → now ≡ with_files held (flat_map (node_files g s prefix) (range_with_len 1 (place + 1)))
+  pub next_saved : now ≡ with_files u (node_files g s prefix (place + 1))
+      → now ≡ with_files held (flat_map (node_files g s prefix) (range_with_len 1 (place + 1)))
   next_saved saved =
       let files = node_files g s prefix in
       saved ∙ ap (λ w. with_files w (files (place + 1))) made
@@ -95,5 +101,7 @@ module _ (g : Graph) (s : StackValue) (prefix : List ℕ) (held u now : Option F
       let files = node_files g s prefix in
       let done = flat_map files (range_with_len 1 place) in
       let rest = each_split files (place + 1) (length g.nodes) (omega arith) in
-      let first : AreBegun held (done ++ files (place + 1)) now = AreBegun-later held now done (files (place + 1)) (subst (λ w. AreBegun w (files (place + 1)) now) made begun) in
-      subst (λ fs. AreBegun held fs now) (sym (rest.1 ∙ ap (λ fs. fs ++ rest.0) (each_more files place))) (AreBegun-first held now (done ++ files (place + 1)) rest.0 first)
+      let first : AreBegun held (done ++ files (place + 1)) now =
+      AreBegun-later held now done (files (place + 1)) (subst (λ w. AreBegun w (files (place + 1)) now) made begun) in
+      subst (λ fs. AreBegun held fs now) (sym (rest.1 ∙ ap (λ fs. fs ++ rest.0) (each_more files place)))
+      (AreBegun-first held now (done ++ files (place + 1)) rest.0 first)

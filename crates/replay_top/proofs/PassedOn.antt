@@ -7,7 +7,8 @@ use Rattle.nd_base.specs.declared.graph.Graph.{Graph}
 use Rattle.nd_base.specs.declared.graph.NodeRule.{NodeRule}
 use Rattle.nd_base.specs.GraphRules.{IsGraph, is_source, may_feed, rule_at}
 
-feeds_within : (nodes : List NodeRule) (k : ℕ) (o : Option NodeRule) → o ≡ slice_get nodes k → IsTrue (option_map_or (λ n. may_feed n.kind) o false) → suc k ≤ length nodes
+feeds_within : (nodes : List NodeRule) (k : ℕ) (o : Option NodeRule) → o ≡ slice_get nodes k
+    → IsTrue (option_map_or (λ n. may_feed n.kind) o false) → suc k ≤ length nodes
 feeds_within nodes k None same feeds = absurd (cc)
 feeds_within nodes k (Some n) same feeds = let inside = slice_get_within nodes k n (sym same) in omega (arith, inside)
 

@@ -16,7 +16,8 @@ use Rattle.replay_top.proofs.Claims.{answered}
 asked-run : (o : Objects) (c : RunCommand) (source : Source) (log : Journal) → IsLogOf o c source log.past → IsAskedOf (Some (plain_run c)) o.told Done
 asked-run o c source log is = asked-load Done (plain_run c) o.told source is.read (sym (ap load_status is.within))
 
-pub answered_run : (s : Status) (log : Option Journal) (command : Option RunCommand) (o : Objects) (before after : Counts) → RunEnds s log command o → IsRunCause s before after
+pub answered_run : (s : Status) (log : Option Journal) (command : Option RunCommand) (o : Objects) (before after : Counts)
+    → RunEnds s log command o → IsRunCause s before after
     → plain_run_of command ≢ None → NoneRose before after → IsAskedOf (plain_run_of command) o.told s ⊎ (s ≡ OutOfMemory)
 answered_run Done (Some l) (Some c) o before after ends cause some none = inl (asked-run o c ends.source l ends.log)
 answered_run Done log None o before after ends cause some none = absurd ends
@@ -24,9 +25,15 @@ answered_run Done None (Some c) o before after ends cause some none = absurd end
 answered_run ShelfFault log command o before after ends cause some none = absurd (none.shelf cause.1)
 answered_run OutFault log command o before after ends cause some none = absurd (none.sink cause.2)
 answered_run OutOfMemory log command o before after ends cause some none = inr refl
-answered_run Usage log command o before after ends cause some none = answered Usage (plain_run_of command) o.told o.held o.now o.written o.out before after ends.1 cause some none
-answered_run GraphText log command o before after ends cause some none = answered GraphText (plain_run_of command) o.told o.held o.now o.written o.out before after ends.1 cause some none
-answered_run (GraphRule f) log command o before after ends cause some none = answered (GraphRule f) (plain_run_of command) o.told o.held o.now o.written o.out before after ends.1 cause some none
-answered_run (StackBytes f) log command o before after ends cause some none = answered (StackBytes f) (plain_run_of command) o.told o.held o.now o.written o.out before after ends.1 cause some none
-answered_run (Limit f) log command o before after ends cause some none = answered (Limit f) (plain_run_of command) o.told o.held o.now o.written o.out before after ends.1 cause some none
-answered_run ReadFault log command o before after ends cause some none = answered ReadFault (plain_run_of command) o.told o.held o.now o.written o.out before after ends.1 cause some none
+answered_run Usage log command o before after ends cause some none =
+    answered Usage (plain_run_of command) o.told o.held o.now o.written o.out before after ends.1 cause some none
+answered_run GraphText log command o before after ends cause some none =
+    answered GraphText (plain_run_of command) o.told o.held o.now o.written o.out before after ends.1 cause some none
+answered_run (GraphRule f) log command o before after ends cause some none =
+    answered (GraphRule f) (plain_run_of command) o.told o.held o.now o.written o.out before after ends.1 cause some none
+answered_run (StackBytes f) log command o before after ends cause some none =
+    answered (StackBytes f) (plain_run_of command) o.told o.held o.now o.written o.out before after ends.1 cause some none
+answered_run (Limit f) log command o before after ends cause some none =
+    answered (Limit f) (plain_run_of command) o.told o.held o.now o.written o.out before after ends.1 cause some none
+answered_run ReadFault log command o before after ends cause some none =
+    answered ReadFault (plain_run_of command) o.told o.held o.now o.written o.out before after ends.1 cause some none

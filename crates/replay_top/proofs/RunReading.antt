@@ -15,7 +15,8 @@ use Rattle.replay_top.specs.Stages.{GraphStops}
 use Rattle.replay_top.proofs.Asked.{passed-run}
 
 -- the graph
-pub SourceStops-graph : (status : Status) (told : Option Files) (graph stack : List ℕ) (before now : ℕ) → GraphStops status told graph before now → SourceStops status told graph stack before now
+pub SourceStops-graph : (status : Status) (told : Option Files) (graph stack : List ℕ) (before now : ℕ) → GraphStops status told graph before now
+    → SourceStops status told graph stack before now
 SourceStops-graph GraphText told graph stack before now stops = ((λ prefix. stops.0), stops.1)
 SourceStops-graph (GraphRule f) told graph stack before now stops = ((λ prefix. (stops.0, stops.1, stops.2)), stops.3)
 SourceStops-graph (Limit (GraphBytes n)) told graph stack before now stops = ((λ prefix. (stops.0, stops.1)), stops.2)
@@ -32,7 +33,8 @@ SourceStops-graph ShelfFault told graph stack before now stops = absurd stops
 SourceStops-graph OutFault told graph stack before now stops = absurd stops
 
 -- the limits of a run of both
-pub SourceStops-limit : (fault : LimitFault) (told : Option Files) (graph stack : List ℕ) (g : Graph) (s : StackValue) (before now : ℕ) → IsGraphRead told graph g → IsStackRead told stack s → limit_fault g s ≡ Some fault → now ≡ before
+pub SourceStops-limit : (fault : LimitFault) (told : Option Files) (graph stack : List ℕ) (g : Graph) (s : StackValue) (before now : ℕ)
+    → IsGraphRead told graph g → IsStackRead told stack s → limit_fault g s ≡ Some fault → now ≡ before
     → SourceStops (Limit fault) told graph stack before now
 SourceStops-limit fault told graph stack g s before now read source passed same =
     ((λ prefix. passed-run told (Plain graph stack prefix) (record { graph = g; stack = s }) fault (read, source) passed passed), same)

@@ -30,7 +30,8 @@ use Rattle.replay_top.specs.Works.{Source}
 -- READING
 
 -- what there is to run wasn't read
-pub RunEnds-unread : (status : Status) (c : RunCommand) (o : Objects) (before now : ℕ) → SourceStops status o.told c.graph c.stack before now → o.now ≡ o.held → o.out ≡ o.written → RunEnds status None (Some c) o
+pub RunEnds-unread : (status : Status) (c : RunCommand) (o : Objects) (before now : ℕ) → SourceStops status o.told c.graph c.stack before now → o.now ≡ o.held
+    → o.out ≡ o.written → RunEnds status None (Some c) o
 RunEnds-unread GraphText c o before now stops held written = (refl, (stops.0 c.prefix, held, written))
 RunEnds-unread (GraphRule f) c o before now stops held written = (refl, (stops.0 c.prefix, held, written))
 RunEnds-unread (StackBytes f) c o before now stops held written = (refl, (stops.0 c.prefix, held, written))
@@ -56,7 +57,8 @@ module _ (g : Graph) (stack : StackValue) (prefix : List ℕ) (P : Past) (held m
   holds-by true holds is = (rows, holds, is ∙ with_files-append mid (rows_files g stack prefix P) (log_files true prefix P))
 
 module _ (complete : RowsComplete) (reads : GroupsReadBack) (c : RunCommand) (o : Objects) (g : Graph) (stack : StackValue) (log : Journal) (mid : Option Files)
-    (read : IsSourceRead o.told c.graph c.stack g stack) (run : IsFinishedRun (run_setting g stack) log.past) (roles : AreOwnMoves (run_setting g stack) log.past)
+    (read : IsSourceRead o.told c.graph c.stack g stack) (run : IsFinishedRun (run_setting g stack) log.past)
+    (roles : AreOwnMoves (run_setting g stack) log.past)
     (ticks : IsFedByTheClock (run_setting g stack) log.past o.coming o.later) where
   abbrev source : Source
   source = record { graph = g; stack = stack }
@@ -67,7 +69,8 @@ module _ (complete : RowsComplete) (reads : GroupsReadBack) (c : RunCommand) (o 
   back : HaveGroupsBack source log.past
   back v i n r at kind some = reads g stack log.past v i n r read.graph.sound read.stack.kept read.within run.legal at kind some
 
-  holds : HoldsGroupsOf g stack c.prefix log.past o.held mid → o.now ≡ with_files mid (later_files c source log.past) → HoldsFiles c.logs source c.prefix log.past o.held o.now
+  holds : HoldsGroupsOf g stack c.prefix log.past o.held mid → o.now ≡ with_files mid (later_files c source log.past)
+      → HoldsFiles c.logs source c.prefix log.past o.held o.now
   holds groups is = holds-by g stack c.prefix log.past o.held mid o.now c.logs (complete g stack c.prefix log.past o.held mid read.graph.sound groups) is
 
   -- what was left to write and to print, where the log is kept
@@ -76,7 +79,8 @@ module _ (complete : RowsComplete) (reads : GroupsReadBack) (c : RunCommand) (o 
   ends Done true groups some rest = absurd (let no : true ≡ false = rest.0 in cc)
   ends Done false groups some rest = record { source = source; log = is_log; files = holds groups rest.1; back = back; printed = rest.2 }
   ends ShelfFault true groups some rest =
-      record { source = source; log = is_log; files = AtGroups (subst (λ (w : Option Files). HasSavedRun g stack c.prefix log.past o.held true w) (sym rest.0) groups); unprinted = rest.1 }
+      record { source = source; log = is_log;
+      files = AtGroups (subst (λ (w : Option Files). HasSavedRun g stack c.prefix log.past o.held true w) (sym rest.0) groups); unprinted = rest.1 }
   ends ShelfFault false groups some rest = record { source = source; log = is_log; files = AfterGroups mid groups rest.0; unprinted = rest.1 }
   ends OutFault true groups some rest = absurd (let no : true ≡ false = rest.0 in cc)
   ends OutFault false groups some rest = record { source = source; log = is_log; files = holds groups rest.1; back = back; printed = rest.2 }
@@ -89,8 +93,10 @@ module _ (complete : RowsComplete) (reads : GroupsReadBack) (c : RunCommand) (o 
   ends ReadFault fault groups some rest = absurd rest
 
   -- the same by what the nodes measured and what the plan says
-  pub RunEnds-rest : (status : Status) (fault : Bool) (files : List OutFile) (print : List ℕ) → HasSavedRun g stack c.prefix log.past o.held fault mid → status ≢ OutOfMemory
-      → files ≡ later_files c source log.past → print ≡ run_print source log.past → RestEnds status fault files print mid o.now o.written o.out → RunEnds status (Some log) (Some c) o
+  pub RunEnds-rest : (status : Status) (fault : Bool) (files : List OutFile) (print : List ℕ)
+      → HasSavedRun g stack c.prefix log.past o.held fault mid → status ≢ OutOfMemory
+      → files ≡ later_files c source log.past → print ≡ run_print source log.past → RestEnds status fault files print mid o.now o.written o.out
+      → RunEnds status (Some log) (Some c) o
   RunEnds-rest status fault files print groups some same_files same_print rest =
       ends status fault groups some
       (subst (λ (fs : List OutFile). RestEnds status fault fs (run_print source log.past) mid o.now o.written o.out) same_files
@@ -100,16 +106,23 @@ module _ (complete : RowsComplete) (reads : GroupsReadBack) (c : RunCommand) (o 
 rose : (before mid now : ℕ) → mid ≡ before → Rose mid now → Rose before now
 rose before mid now same up = subst (λ (n : ℕ). Rose n now) same up
 
-pub IsRunCause-rest : (status : Status) (fault : Bool) (files : List OutFile) (print : List ℕ) (held_mid held_now : Option Files) (written out : Option (List ℕ)) (library shelf mid shelf_now sink sink_now : ℕ)
+pub IsRunCause-rest : (status : Status) (fault : Bool) (files : List OutFile) (print : List ℕ) (held_mid held_now : Option Files)
+    (written out : Option (List ℕ)) (library shelf mid shelf_now sink sink_now : ℕ)
     → RestEnds status fault files print held_mid held_now written out → CountsSo fault shelf mid → RestCause status fault mid shelf_now sink sink_now
     → IsRunCause status (record { library = library; shelf = shelf; sink = sink }) (record { library = library; shelf = shelf_now; sink = sink_now })
-IsRunCause-rest Done true files print held_mid held_now written out library shelf mid shelf_now sink sink_now rest counts cause = absurd (let no : true ≡ false = rest.0 in cc)
+IsRunCause-rest Done true files print held_mid held_now written out library shelf mid shelf_now sink sink_now rest counts cause =
+    absurd (let no : true ≡ false = rest.0 in cc)
 IsRunCause-rest Done false files print held_mid held_now written out library shelf mid shelf_now sink sink_now rest counts cause =
-    ap (λ (n : ℕ). record { library = library; shelf = n; sink = sink_now }) (cause.0 ∙ counts) ∙ ap (λ (n : ℕ). record { library = library; shelf = shelf; sink = n }) cause.1
-IsRunCause-rest ShelfFault true files print held_mid held_now written out library shelf mid shelf_now sink sink_now rest counts cause = (refl, subst (λ (n : ℕ). Rose shelf n) (sym cause.0) counts, cause.1)
-IsRunCause-rest ShelfFault false files print held_mid held_now written out library shelf mid shelf_now sink sink_now rest counts cause = (refl, rose shelf mid shelf_now counts cause.0, cause.1)
-IsRunCause-rest OutFault true files print held_mid held_now written out library shelf mid shelf_now sink sink_now rest counts cause = absurd (let no : true ≡ false = rest.0 in cc)
-IsRunCause-rest OutFault false files print held_mid held_now written out library shelf mid shelf_now sink sink_now rest counts cause = (refl, cause.0 ∙ counts, cause.1)
+    ap (λ (n : ℕ). record { library = library; shelf = n; sink = sink_now }) (cause.0 ∙ counts)
+    ∙ ap (λ (n : ℕ). record { library = library; shelf = shelf; sink = n }) cause.1
+IsRunCause-rest ShelfFault true files print held_mid held_now written out library shelf mid shelf_now sink sink_now rest counts cause =
+    (refl, subst (λ (n : ℕ). Rose shelf n) (sym cause.0) counts, cause.1)
+IsRunCause-rest ShelfFault false files print held_mid held_now written out library shelf mid shelf_now sink sink_now rest counts cause =
+    (refl, rose shelf mid shelf_now counts cause.0, cause.1)
+IsRunCause-rest OutFault true files print held_mid held_now written out library shelf mid shelf_now sink sink_now rest counts cause =
+    absurd (let no : true ≡ false = rest.0 in cc)
+IsRunCause-rest OutFault false files print held_mid held_now written out library shelf mid shelf_now sink sink_now rest counts cause =
+    (refl, cause.0 ∙ counts, cause.1)
 IsRunCause-rest OutOfMemory fault files print held_mid held_now written out library shelf mid shelf_now sink sink_now rest counts cause = (refl, cause)
 IsRunCause-rest Usage fault files print held_mid held_now written out library shelf mid shelf_now sink sink_now rest counts cause = absurd rest
 IsRunCause-rest GraphText fault files print held_mid held_now written out library shelf mid shelf_now sink sink_now rest counts cause = absurd rest

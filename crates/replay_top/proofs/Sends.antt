@@ -27,9 +27,12 @@ use Rattle.frame_table.proofs.table.FrameTable.TheSendSync as table_sent
 pub pool-send : IsSend pool.the_row
 pool-send = search (crosses, sendable, knot.crosses, slot.the_send) depth 30
 
-pub ruleset sent = (pool-send, rules_sent.the_send, facts_sent.the_send, node_sent.the_send, role_sent.the_send, room_sent.the_send, log_sent.the_send, name_sent.the_send, table_sent.the_send, lost_sent.the_send, place_sent.the_send, crosses, sendable)
+pub ruleset sent =
+    (pool-send, rules_sent.the_send, facts_sent.the_send, node_sent.the_send, role_sent.the_send, room_sent.the_send, log_sent.the_send, name_sent.the_send,
+    table_sent.the_send, lost_sent.the_send, place_sent.the_send, crosses, sendable)
 
-module _ (F B R : RattleType) (h : held.Ghosts F.Denot B.Denot R.Denot) (n : named.Ghosts F.Denot R.Denot) (r : run.Ghosts R.Denot) (f : IsSend F) (b : IsSend B) where
+module _ (F B R : RattleType) (h : held.Ghosts F.Denot B.Denot R.Denot) (n : named.Ghosts F.Denot R.Denot) (r : run.Ghosts R.Denot)
+    (f : IsSend F) (b : IsSend B) where
   course-send : IsSend (course.the_row F B R h n r)
   course-send = search sent depth 40 fits 100000
 
@@ -38,7 +41,8 @@ module _ (F B R : RattleType) (h : held.Ghosts F.Denot B.Denot R.Denot) (n : nam
 
   inside-send : IsSend (inside.the_row F B R h n r)
   inside-send =
-      recorded_send _ _ _ (inside.the_type F B R h n r).to_one (struct_send (shape (inside.the_type F B R h n r)) (course-send, (table-send, (room_sent.the_field_send, tt))))
+      recorded_send _ _ _ (inside.the_type F B R h n r).to_one
+      (struct_send (shape (inside.the_type F B R h n r)) (course-send, (table-send, (room_sent.the_field_send, tt))))
 
   pub board-send : IsSend (board.the_row F B R h n r)
   board-send = view_send _ _ _ _ _ inside-send

@@ -55,12 +55,15 @@ among-cases (f ∷ fs) gs name bytes (inl is) = inl (inl is)
 among-cases (f ∷ fs) gs name bytes (inr h) = elim (among-cases fs gs name bytes h) [ inl a ↦ inl (inr a) | inr b ↦ inr b ]
 
 -- of one of the numbers from a on
-among-in : (f : ℕ → List OutFile) (a n v : ℕ) (name bytes : List ℕ) → a ≤ v → v < a + n → IsAmong (f v) name bytes → IsAmong (flat_map f (range_with_len a n)) name bytes
+among-in : (f : ℕ → List OutFile) (a n v : ℕ) (name bytes : List ℕ) → a ≤ v → v < a + n → IsAmong (f v) name bytes
+    → IsAmong (flat_map f (range_with_len a n)) name bytes
 among-in f a zero v name bytes low high h = absurd (omega (arith, low, high))
 among-in f a (suc n) v name bytes low high h =
     elim (cases_eq a v) [
       | inl same ↦ among-left (f a) (flat_map f (range_with_len (a + 1) n)) name bytes (subst (λ (i : ℕ). IsAmong (f i) name bytes) (sym same) h)
-      | inr other ↦ among-right (f a) (flat_map f (range_with_len (a + 1) n)) name bytes (among-in f (a + 1) n v name bytes (omega (arith, low, other)) (omega (arith, high)) h)
+      | inr other ↦
+          among-right (f a) (flat_map f (range_with_len (a + 1) n)) name bytes
+          (among-in f (a + 1) n v name bytes (omega (arith, low, other)) (omega (arith, high)) h)
     ]
 
 among-out : (f : ℕ → List OutFile) (a n : ℕ) (name bytes : List ℕ) → IsAmong (flat_map f (range_with_len a n)) name bytes → (v : ℕ) × IsAmong (f v) name bytes
@@ -86,7 +89,8 @@ module _ (mode : Mode) (shape : FileShape) (prefix node_name : List ℕ) (count 
         | inr other ↦ inr (group-in (i + 1) n j (omega (arith, low, other)) (omega (arith, high)))
       ]
 
-  group-out : (i n : ℕ) (name bytes : List ℕ) → IsAmong (files_from i n) name bytes → (j : ℕ) × (j < i + n) × (group_name prefix node_name j ≡ name) × (layout shape (piece j) ≡ bytes)
+  group-out : (i n : ℕ) (name bytes : List ℕ) → IsAmong (files_from i n) name bytes
+      → (j : ℕ) × (j < i + n) × (group_name prefix node_name j ≡ name) × (layout shape (piece j) ≡ bytes)
   group-out i zero name bytes h = absurd h
   group-out i (suc n) name bytes (inl is) = (i, omega arith, is.0, is.1)
   group-out i (suc n) name bytes (inr later) = let p = group-out (i + 1) n name bytes later in (p.0, omega (arith, p.1), p.2, p.3)
@@ -125,7 +129,8 @@ module _ (g : Graph) (stack : StackValue) (prefix : List ℕ) (P : Past) where
   node-is zero n at = absurd (cc)
   node-is (suc k) n at = ap (λ (m : Node). m.work) (at-map g.nodes k n at)
 
-  module _ (v : ℕ) (n : NodeRule) (at : rule_at g.nodes v ≡ Some n) (sound : IsKind n.kind) (plain : ArePlain g stack v (put_out (run_setting g stack) v P)) where
+  module _ (v : ℕ) (n : NodeRule) (at : rule_at g.nodes v ≡ Some n) (sound : IsKind n.kind)
+      (plain : ArePlain g stack v (put_out (run_setting g stack) v P)) where
     abbrev shape : FileShape
     shape = file_shape g stack v
 
@@ -196,7 +201,8 @@ module _ (g : Graph) (stack : StackValue) (prefix : List ℕ) (P : Past) where
     group-by Scatter i bytes same is = absurd (cc)
 
     rows-by : (k : Kind) (bytes : List ℕ) → n.kind ≡ k → kind_rows g stack P v k ≡ Some bytes → IsAmong made (stats_name prefix n.name) bytes
-    rows-by (Stats r) bytes same is = subst (λ (fs : List OutFile). IsAmong fs (stats_name prefix n.name) bytes) (sym (rows-are r same)) (inl (refl, same_Some _ bytes is))
+    rows-by (Stats r) bytes same is =
+        subst (λ (fs : List OutFile). IsAmong fs (stats_name prefix n.name) bytes) (sym (rows-are r same)) (inl (refl, same_Some _ bytes is))
     rows-by (Roi r) bytes same is = absurd (cc)
     rows-by (File r) bytes same is = absurd (cc)
     rows-by (Circular r) bytes same is = absurd (cc)
@@ -226,10 +232,12 @@ module _ (g : Graph) (stack : StackValue) (prefix : List ℕ) (P : Past) (sound 
   place zero n at = absurd (cc)
   place (suc k) n at = (omega arith, slice_get_within g.nodes k n at)
 
-  at-node : (v : ℕ) (n : NodeRule) (name bytes : List ℕ) → rule_at g.nodes v ≡ Some n → IsAmong (kind_files n.kind (file_shape g stack v) prefix n.name (result_of g stack v)) name bytes → IsAmong (plain_files g stack prefix) name bytes
+  at-node : (v : ℕ) (n : NodeRule) (name bytes : List ℕ) → rule_at g.nodes v ≡ Some n
+      → IsAmong (kind_files n.kind (file_shape g stack v) prefix n.name (result_of g stack v)) name bytes → IsAmong (plain_files g stack prefix) name bytes
   at-node v n name bytes at h =
       let here : IsAmong (node_files g stack prefix v) name bytes =
-      subst (λ (o : Option NodeRule). IsAmong (option_map_or (λ m. kind_files m.kind (file_shape g stack v) prefix m.name (result_of g stack v)) o []) name bytes) (sym at) h in
+      subst (λ (o : Option NodeRule).
+      IsAmong (option_map_or (λ m. kind_files m.kind (file_shape g stack v) prefix m.name (result_of g stack v)) o []) name bytes) (sym at) h in
       let p = place v n at in
       among-in (node_files g stack prefix) 1 (length g.nodes) v name bytes p.0 (omega (arith, p.1)) here
 
@@ -242,6 +250,8 @@ module _ (g : Graph) (stack : StackValue) (prefix : List ℕ) (P : Past) (sound 
       let p = among-out (node_files g stack prefix) 1 (length g.nodes) name bytes h in
       by p.0 (rule_at g.nodes p.0) refl p.1
     where
-      by : (v : ℕ) (o : Option NodeRule) → rule_at g.nodes v ≡ o → IsAmong (option_map_or (λ m. kind_files m.kind (file_shape g stack v) prefix m.name (result_of g stack v)) o []) name bytes → IsFileOf g stack prefix P name bytes
+      by : (v : ℕ) (o : Option NodeRule) → rule_at g.nodes v ≡ o
+          → IsAmong (option_map_or (λ m. kind_files m.kind (file_shape g stack v) prefix m.name (result_of g stack v)) o []) name bytes
+          → IsFileOf g stack prefix P name bytes
       by v None at h = absurd h
       by v (Some n) at h = from-by g stack prefix P v n at (kind-sound v n at) (plain v n at) n.kind name bytes refl h

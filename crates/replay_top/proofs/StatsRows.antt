@@ -20,7 +20,8 @@ use Rattle.file_out.specs.Saving.{IsBegun, Front}
 use Rattle.file_out.specs.BegunLaws.{IsBegun-append}
 
 -- the measure of the bytes of an array is that of the array
-pub measure_of-array : (r : StatsRule) (a : Array) (id : ℤ) (kind : SampleType) (dims : List Dim) (bytes : List ℕ) → id ≡ a.id → kind ≡ a.kind → dims ≡ a.dims → samples_of a.kind bytes ≡ a.samples → measure_of r id kind dims 0 bytes ≡ measure_of_array r a
+pub measure_of-array : (r : StatsRule) (a : Array) (id : ℤ) (kind : SampleType) (dims : List Dim) (bytes : List ℕ) → id ≡ a.id → kind ≡ a.kind → dims ≡ a.dims
+    → samples_of a.kind bytes ≡ a.samples → measure_of r id kind dims 0 bytes ≡ measure_of_array r a
 unfolding measure_of
 measure_of-array r a id kind dims bytes same_id same_kind same_dims same =
     ap (λ i. measured r i dims (placed 0 (samples_of kind bytes))) same_id
@@ -63,14 +64,16 @@ module _ (r : StatsRule) (nodes : List NodeRule) (arrays : List Array) (v : ℕ)
     rows_out-begun = Front (rows_out (take i ks)) (rows_out (drop i ks)) (rows_out-split ks i) made
 
     -- also with a part of one row more
-    pub rows_out-part : (now : Option Files) (d : ℕ) (text : List ℕ) → i < length ks → text ≡ rows_out (get_or ks i d ∷ []) → MayAppend u name text now → IsBegun held name (rows_out ks) now
+    pub rows_out-part : (now : Option Files) (d : ℕ) (text : List ℕ) → i < length ks → text ≡ rows_out (get_or ks i d ∷ []) → MayAppend u name text now
+        → IsBegun held name (rows_out ks) now
     rows_out-part now d text within is may =
         let rest = rows_out (drop (i + 1) ks) in
         IsBegun-append held u now name (rows_out (take i ks)) text rest (rows_out ks)
         (rows_out-split ks (i + 1) ∙ ap (λ b. b ++ rest) (rows_out-more ks i d within ∙ ap (λ b. rows_out (take i ks) ++ b) (sym is))) made may
 
     -- one row more
-    pub rows_out-added : (now : Option Files) (d : ℕ) (text : List ℕ) → i < length ks → text ≡ rows_out (get_or ks i d ∷ []) → now ≡ with_more u name text → now ≡ with_file held name (rows_out (take (i + 1) ks))
+    pub rows_out-added : (now : Option Files) (d : ℕ) (text : List ℕ) → i < length ks → text ≡ rows_out (get_or ks i d ∷ []) → now ≡ with_more u name text
+        → now ≡ with_file held name (rows_out (take (i + 1) ks))
     rows_out-added now d text within is added =
         added ∙ ap (λ w. with_more w name text) made ∙ with_more-with_file held name (rows_out (take i ks)) text
         ∙ ap (with_file held name) (ap (λ b. rows_out (take i ks) ++ b) is ∙ sym (rows_out-more ks i d within))

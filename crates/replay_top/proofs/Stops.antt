@@ -21,13 +21,15 @@ AreBegun-all held now [] is = is
 AreBegun-all held now (f ∷ fs) is = inr (AreBegun-all (with_file held f.name f.bytes) now fs is)
 
 -- a copy that was begun, where there is a frame
-pub AreBegun-copy : (held now : Option Files) (prefix : List ℕ) (s : StackValue) → length s.arrays ≢ 0 → IsBegun held (copy_name prefix) (copy_file s) now → AreBegun held (copy_files s prefix) now
+pub AreBegun-copy : (held now : Option Files) (prefix : List ℕ) (s : StackValue) → length s.arrays ≢ 0 → IsBegun held (copy_name prefix) (copy_file s) now
+    → AreBegun held (copy_files s prefix) now
 AreBegun-copy held now prefix s some begun =
     let other : (length s.arrays == 0) ≡ false = grind (arith, nat_tests) in
     rw other (inl (Unended begun))
 
 -- reading the graph
-pub Ends-graph : (status : Status) (told held : Option Files) (graph stack prefix : List ℕ) (before now : ℕ) (written : Option (List ℕ)) → GraphStops status told graph before now → Ends status (Some (Plain graph stack prefix)) told held held written written
+pub Ends-graph : (status : Status) (told held : Option Files) (graph stack prefix : List ℕ) (before now : ℕ) (written : Option (List ℕ))
+    → GraphStops status told graph before now → Ends status (Some (Plain graph stack prefix)) told held held written written
 Ends-graph GraphText told held graph stack prefix before now written stops = (stops.0, refl, refl)
 Ends-graph (GraphRule f) told held graph stack prefix before now written stops = ((stops.0, stops.1, stops.2), refl, refl)
 Ends-graph (Limit (GraphBytes n)) told held graph stack prefix before now written stops = ((stops.0, stops.1), refl, refl)
@@ -44,7 +46,8 @@ Ends-graph ShelfFault told held graph stack prefix before now written stops = ab
 Ends-graph OutFault told held graph stack prefix before now written stops = absurd stops
 
 -- reading the stack, after the graph where there is one
-pub Ends-stack : (status : Status) (command : Command) (told held : Option Files) (before now : ℕ) (written : Option (List ℕ)) → HasGraph told command → StackStops status told (stack_name command) before now → Ends status (Some command) told held held written written
+pub Ends-stack : (status : Status) (command : Command) (told held : Option Files) (before now : ℕ) (written : Option (List ℕ)) → HasGraph told command
+    → StackStops status told (stack_name command) before now → Ends status (Some command) told held held written written
 Ends-stack (StackBytes f) command told held before now written given stops = ((stops.0, (given, stops.1)), refl, refl)
 Ends-stack (Limit (StackFile n)) command told held before now written given stops = ((stops.0, (given, stops.1)), refl, refl)
 Ends-stack ReadFault command told held before now written given stops = ((λ e. cc), refl, refl)
@@ -61,9 +64,13 @@ Ends-stack ShelfFault command told held before now written given stops = absurd 
 Ends-stack OutFault command told held before now written given stops = absurd stops
 
 -- writing the files
-pub Ends-save : (status : Status) (command : Command) (source : Source) (told held now : Option Files) (before after : ℕ) (written : Option (List ℕ)) → IsRead told command source → IsWithin command source → SaveStops status held (work_of command source).files now before after → Ends status (Some command) told held now written written
-Ends-save ShelfFault command source told held now before after written read within stops = (record { source = source; read = read; within = within; begun = stops.0 }, refl)
-Ends-save OutOfMemory command source told held now before after written read within stops = (inr (record { source = source; read = read; within = within; begun = stops.0 }), refl)
+pub Ends-save : (status : Status) (command : Command) (source : Source) (told held now : Option Files) (before after : ℕ) (written : Option (List ℕ))
+    → IsRead told command source → IsWithin command source → SaveStops status held (work_of command source).files now before after
+    → Ends status (Some command) told held now written written
+Ends-save ShelfFault command source told held now before after written read within stops =
+    (record { source = source; read = read; within = within; begun = stops.0 }, refl)
+Ends-save OutOfMemory command source told held now before after written read within stops =
+    (inr (record { source = source; read = read; within = within; begun = stops.0 }), refl)
 Ends-save Done command source told held now before after written read within stops = absurd stops
 Ends-save Usage command source told held now before after written read within stops = absurd stops
 Ends-save GraphText command source told held now before after written read within stops = absurd stops
@@ -74,8 +81,11 @@ Ends-save ReadFault command source told held now before after written read withi
 Ends-save OutFault command source told held now before after written read within stops = absurd stops
 
 -- printing, after all files were written
-pub Ends-print : (status : Status) (command : Command) (source : Source) (told held now : Option Files) (before after : ℕ) (written out : Option (List ℕ)) → IsRead told command source → IsWithin command source → now ≡ with_files held (work_of command source).files → PrintStops status written (work_of command source).print out before after → Ends status (Some command) told held now written out
-Ends-print OutFault command source told held now before after written out read within files stops = record { source = source; read = read; within = within; files = files; printed = stops.0 }
+pub Ends-print : (status : Status) (command : Command) (source : Source) (told held now : Option Files) (before after : ℕ) (written out : Option (List ℕ))
+    → IsRead told command source → IsWithin command source → now ≡ with_files held (work_of command source).files
+    → PrintStops status written (work_of command source).print out before after → Ends status (Some command) told held now written out
+Ends-print OutFault command source told held now before after written out read within files stops =
+    record { source = source; read = read; within = within; files = files; printed = stops.0 }
 Ends-print OutOfMemory command source told held now before after written out read within files stops =
     (inr (record { source = source; read = read; within = within; begun = AreBegun-all held now _ files }), stops.0)
 Ends-print Done command source told held now before after written out read within files stops = absurd stops

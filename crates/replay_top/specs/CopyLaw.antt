@@ -45,11 +45,13 @@ SameLimit = (s : StackValue) → length s.arrays ≤ 65536 → limit_fault copy_
 -- THE FILES
 
 -- all arrays go out of the node
-listed_from : (f : ℕ → Option Array) (k : ℕ) (arrays : List Array) → ((i : ℕ) → i < length arrays → f (k + i) ≡ slice_get arrays i) → flat_map (λ i. listed (f i)) (range_with_len k (length arrays)) ≡ arrays
+listed_from : (f : ℕ → Option Array) (k : ℕ) (arrays : List Array) → ((i : ℕ) → i < length arrays → f (k + i) ≡ slice_get arrays i)
+    → flat_map (λ i. listed (f i)) (range_with_len k (length arrays)) ≡ arrays
 listed_from f k [] same = refl
 listed_from f k (a ∷ arrays) same =
     let here : f k ≡ Some a = ap f (omega arith) ∙ same 0 (omega arith) in
-    let later : flat_map (λ i. listed (f i)) (range_with_len (k + 1) (length arrays)) ≡ arrays = listed_from f (k + 1) arrays (λ i within. ap f (omega arith) ∙ same (suc i) (omega (arith, within))) in
+    let later : flat_map (λ i. listed (f i)) (range_with_len (k + 1) (length arrays)) ≡ arrays =
+    listed_from f (k + 1) arrays (λ i within. ap f (omega arith) ∙ same (suc i) (omega (arith, within))) in
     rw (here, later) refl
 
 untouched : (o : Option Array) → option_map (out_of region copy_graph.nodes 1) o ≡ o
@@ -89,13 +91,16 @@ name_of prefix =
     ∙ append_assoc prefix (codes "copy") (codes "_" ++ (group_number 0 ++ codes ".nc"))
     ∙ ap (λ digits. prefix ++ (codes "copy" ++ (codes "_" ++ (digits ++ codes ".nc")))) number
 
-named : (s : StackValue) (prefix : List ℕ) (none : Bool) → group_files Capture (copy_shape s) prefix (codes "copy") 0 (if none then [] else s.arrays ∷ []) ≡ (if none then [] else record { name = copy_name prefix; bytes = copy_file s; late = false } ∷ [])
+named : (s : StackValue) (prefix : List ℕ) (none : Bool)
+    → group_files Capture (copy_shape s) prefix (codes "copy") 0 (if none then [] else s.arrays ∷ [])
+    ≡ (if none then [] else record { name = copy_name prefix; bytes = copy_file s; late = false } ∷ [])
 named s prefix true = refl
 named s prefix false = ap (λ name. record { name = name; bytes = copy_file s; late = false } ∷ []) (name_of prefix)
 
 pub same_files : SameFiles
 same_files s prefix few =
-    append-nil _ ∙ ap (λ list. group_files Capture (copy_shape s) prefix (codes "copy") 0 list) (ap (groups 65536) (all_out s.arrays) ∙ group_by s.arrays few) ∙ named s prefix (length s.arrays == 0)
+    append-nil _ ∙ ap (λ list. group_files Capture (copy_shape s) prefix (codes "copy") 0 list) (ap (groups 65536) (all_out s.arrays) ∙ group_by s.arrays few)
+    ∙ named s prefix (length s.arrays == 0)
 
 -- THE LIMIT
 
@@ -103,6 +108,7 @@ pub same_limit : SameLimit
 same_limit s few =
     let few_arrivals : nat_lt 1048576 (arrivals copy_graph s) ≡ false = le-ltb 1048576 (length s.arrays * 1) (omega (arith, few)) in
     let nothing_kept : nat_lt 67108864 (kept copy_graph s) ≡ false = le-ltb 67108864 (length s.arrays * 0 + 0) (omega arith) in
-    let all : min 65536 (length s.arrays) ≡ length s.arrays = omega (arith, min-le_right 65536 (length s.arrays), le-min {k = length s.arrays} {a = 65536} {b = length s.arrays} few (omega arith)) in
+    let all : min 65536 (length s.arrays) ≡ length s.arrays =
+    omega (arith, min-le_right 65536 (length s.arrays), le-min {k = length s.arrays} {a = 65536} {b = length s.arrays} few (omega arith)) in
     let bytes : file_bytes_at copy_graph s 1 ≡ copy_length s = ap (length_of (copy_shape s)) all in
     rw (few_arrivals, nothing_kept, bytes) refl

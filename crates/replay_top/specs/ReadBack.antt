@@ -54,7 +54,8 @@ module _ (P : Dim → Type 0) (each : (r : RoiRule) (k : ℕ) (d : Dim) → P (c
   -- what holds of every cut, and of the stack's dimensions, holds of those of a node's files
   dims_at : (g : Graph) (s : StackValue) (v : ℕ) → All P s.shape.dims → All P (shape_at g.nodes s.shape v).dims
   dims_at g s v all =
-      passed_on-both (λ (t u : Shape). All P t.dims) region_shape region_shape (λ r t u h. dims_from-all r 0 t.dims) g.nodes (length g.nodes) v (stack_shape s.shape) (stack_shape s.shape) all
+      passed_on-both (λ (t u : Shape). All P t.dims) region_shape region_shape (λ r t u h. dims_from-all r 0 t.dims) g.nodes (length g.nodes) v
+      (stack_shape s.shape) (stack_shape s.shape) all
 
 region-IsKept : (r : RoiRule) (a : Array) → IsKept a → IsKept (region r a)
 region-IsKept r a h =
@@ -77,7 +78,8 @@ abbrev stack_with : FileShape → List Array → StackValue
 stack_with shape arrays = record { shape = shape; arrays = arrays }
 
 -- they keep to what a stack keeps to
-out-IsKeptStack : (g : Graph) (s : StackValue) (v : ℕ) (ks : List ℕ) → IsKeptStack s → length (arrays_out g.nodes s.arrays v ks) ≤ length s.arrays → IsKeptStack (stack_with (file_shape g s v) (arrays_out g.nodes s.arrays v ks))
+out-IsKeptStack : (g : Graph) (s : StackValue) (v : ℕ) (ks : List ℕ) → IsKeptStack s → length (arrays_out g.nodes s.arrays v ks) ≤ length s.arrays
+    → IsKeptStack (stack_with (file_shape g s v) (arrays_out g.nodes s.arrays v ks))
 out-IsKeptStack g s v ks kept few =
     record {
       writable = file_shape-IsWritable g s v kept.writable;
@@ -86,7 +88,8 @@ out-IsKeptStack g s v ks kept few =
         offsets = dims_at (λ d. FitsSigned w32 d.offset) (λ r k d. clamped_fits (d.offset +ℤ pos (cut r k d.size).min)) g s v kept.dims.offsets;
         binnings = dims_at (λ d. FitsSigned w32 d.binning) (λ r k d. clamped_fits (d.binning *ℤ pos (cut r k d.size).bin)) g s v kept.dims.binnings;
       };
-      each = arrays_out-all (HasShape (file_shape g s v)) g.nodes s.arrays v ks (λ i d within. out_has_shape g s v (get_or s.arrays i d) (kept.each i d within));
+      each =
+          arrays_out-all (HasShape (file_shape g s v)) g.nodes s.arrays v ks (λ i d within. out_has_shape g s v (get_or s.arrays i d) (kept.each i d within));
       kept = arrays_out-all IsKept g.nodes s.arrays v ks (λ i d within. out_of-IsKept g.nodes v (get_or s.arrays i d) (kept.kept i d within));
       few = omega (arith, few, kept.few);
     }
@@ -102,7 +105,8 @@ begins_within n count g some within =
     omega (arith, whole, rows, one, some)
 
 -- each group of arrays that keep to what a stack keeps to reads back, where the longest file isn't too long
-groups_back : (shape : FileShape) (count : ℕ) (arrays : List Array) → IsKeptStack (stack_with shape arrays) → 1 ≤ count → length_of shape (min count (length arrays)) ≤ longest_of shape.form → All (ReadsBack shape) (groups count arrays)
+groups_back : (shape : FileShape) (count : ℕ) (arrays : List Array) → IsKeptStack (stack_with shape arrays) → 1 ≤ count
+    → length_of shape (min count (length arrays)) ≤ longest_of shape.form → All (ReadsBack shape) (groups count arrays)
 groups_back shape count arrays kept some within =
     let piece = λ (g : ℕ). take count (drop (g * count) arrays) in
     let n : ℕ = (length arrays + (count - 1)) / count in
@@ -150,11 +154,14 @@ module _ (g : Graph) (s : StackValue) (sound : IsGraph g) (kept : IsKeptStack s)
   kind_back n (Circular r) is same = All-nil (ReadsBack shape)
   kind_back n Scatter is same = All-nil (ReadsBack shape)
 
-  rule_back : (o : Option NodeRule) → o ≡ rule_at g.nodes v → All (ReadsBack shape) (files_of o (arrays_out g.nodes s.arrays v (outputs g.nodes s.arrays v (passed g s (input_of g.nodes v)))))
+  rule_back : (o : Option NodeRule) → o ≡ rule_at g.nodes v
+      → All (ReadsBack shape) (files_of o (arrays_out g.nodes s.arrays v (outputs g.nodes s.arrays v (passed g s (input_of g.nodes v)))))
   rule_back None is = All-nil (ReadsBack shape)
   rule_back (Some n) is =
-      subst (λ ks. All (ReadsBack shape) (kind_files n.kind (arrays_out g.nodes s.arrays v ks))) (passed-step g s v sound (rule_within g.nodes v n is)) (kind_back n n.kind is refl)
+      subst (λ ks. All (ReadsBack shape) (kind_files n.kind (arrays_out g.nodes s.arrays v ks)))
+      (passed-step g s v sound (rule_within g.nodes v n is)) (kind_back n n.kind is refl)
 
 -- where no limit is passed each file of each node reads back as its arrays
-pub files_read_back : (g : Graph) (s : StackValue) → IsGraph g → IsKeptStack s → limit_fault g s ≡ None → (v : ℕ) → All (ReadsBack (file_shape g s v)) (result_of g s v).files
+pub files_read_back : (g : Graph) (s : StackValue) → IsGraph g → IsKeptStack s → limit_fault g s ≡ None → (v : ℕ)
+    → All (ReadsBack (file_shape g s v)) (result_of g s v).files
 files_read_back g s sound kept within v = rule_back g s sound kept within v (rule_at g.nodes v) refl

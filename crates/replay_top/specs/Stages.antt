@@ -43,7 +43,8 @@ fault_status fault = StackBytes fault
 -- reading the graph
 abbrev pub GraphStops : Status → Option Files → (name : List ℕ) → (before now : ℕ) → Type 0
 GraphStops GraphText told name before now = IsGraphRefused GraphText told name × (now ≡ before)
-GraphStops (GraphRule fault) told name before now = (fault ≢ rule.OutOfMemory) × (fault ≢ rule.Text) × IsGraphRefused (GraphRule fault) told name × (now ≡ before)
+GraphStops (GraphRule fault) told name before now =
+    (fault ≢ rule.OutOfMemory) × (fault ≢ rule.Text) × IsGraphRefused (GraphRule fault) told name × (now ≡ before)
 GraphStops (Limit (GraphBytes bytes)) told name before now = (most_graph_bytes < bytes) × IsGraphRefused (Limit (GraphBytes bytes)) told name × (now ≡ before)
 GraphStops ReadFault told name before now = Rose before now
 GraphStops OutOfMemory told name before now = now ≡ before

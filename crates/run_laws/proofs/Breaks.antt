@@ -27,16 +27,22 @@ pub sorted-node : (s : Setting) (v : ℕ) → is_sorted s v ≡ true → v ≢ 0
 sorted-node s v sorted e = false≢true (sym (ap (is_sorted s) e) ∙ sorted)
 
 -- so each emission of a sorted node keeps step or is marked late or flush
-pub emission-fits : (s : Setting) (P : Past) (v m k : ℕ) (why : Why) → is_sorted s v ≡ true → is_legal s (Emit v m k why ∷ P) ≡ true → fits why (keeps_step (prev s v P) (id_at s k)) ≡ true
+pub emission-fits : (s : Setting) (P : Past) (v m k : ℕ) (why : Why) → is_sorted s v ≡ true → is_legal s (Emit v m k why ∷ P) ≡ true
+    → fits why (keeps_step (prev s v P) (id_at s k)) ≡ true
 emission-fits s P v m k why sorted h =
     let a = owed-answered s (Emit v m k why) P refl h in
     let x = emit-answers s P v m k why a.head a.answer in
-    let c : chain s v (prev s v P) (Emit v m k x.0 ∷ a.rest) ≡ true = subst (λ (ds : List Entry). chain s v (prev s v P) ds ≡ true) (a.is ∙ ap (λ (d : Entry). d ∷ a.rest) x.1) (steps s P v (sorted-node s v sorted) sorted (and_parts _ _ h).0) in
+    let c : chain s v (prev s v P) (Emit v m k x.0 ∷ a.rest) ≡ true =
+    subst (λ (ds : List Entry). chain s v (prev s v P) ds ≡ true) (a.is ∙ ap (λ (d : Entry). d ∷ a.rest) x.1)
+    (steps s P v (sorted-node s v sorted) sorted (and_parts _ _ h).0) in
     let both : (fits x.0 (keeps_step (prev s v P) (id_at s k)) && chain s v (id_at s k) a.rest) ≡ true = rw (eq-eqb v v refl) at c in
-    fits-same x.0 why (keeps_step (prev s v P) (id_at s k)) x.2 (and_parts (fits x.0 (keeps_step (prev s v P) (id_at s k))) (chain s v (id_at s k) a.rest) both).0
+    fits-same x.0 why (keeps_step (prev s v P) (id_at s k)) x.2
+    (and_parts (fits x.0 (keeps_step (prev s v P) (id_at s k))) (chain s v (id_at s k) a.rest) both).0
 
-pub marked : (s : Setting) (newer P : Past) (v m k : ℕ) (why : Why) → is_sorted s v ≡ true → is_legal s (newer ++ Emit v m k why ∷ P) ≡ true → keeps_step (prev s v P) (id_at s k) ≡ false → (why ≡ Late) ⊎ (why ≡ Flush)
-marked s newer P v m k why sorted h out = by why (subst (λ (b : Bool). fits why b ≡ true) out (emission-fits s P v m k why sorted (legal-front s newer (Emit v m k why ∷ P) h)))
+pub marked : (s : Setting) (newer P : Past) (v m k : ℕ) (why : Why) → is_sorted s v ≡ true → is_legal s (newer ++ Emit v m k why ∷ P) ≡ true
+    → keeps_step (prev s v P) (id_at s k) ≡ false → (why ≡ Late) ⊎ (why ≡ Flush)
+marked s newer P v m k why sorted h out =
+    by why (subst (λ (b : Bool). fits why b ≡ true) out (emission-fits s P v m k why sorted (legal-front s newer (Emit v m k why ∷ P) h)))
   where
     by : (why : Why) → fits why false ≡ true → (why ≡ Late) ⊎ (why ≡ Flush)
     by Late f = inl refl
@@ -56,10 +62,14 @@ counted s (Emit w m k why ∷ P) v sorted h =
     let before = counted s P v sorted (and_parts _ _ h).0 in
     let steps : Bool = keeps_step (prev s v P) (id_at s k) in
     elim (cases_Bool (eqb w v)) [
-      | inr away ↦ omega (arith, before, break_laws.emit_elsewhere s v w m k why P (eqb-false w v away), ap (λ (b : Bool). let n : ℕ = cond (b && not steps) 1 0 in n) (elsewhere why away))
+      | inr away ↦
+          omega (arith, before, break_laws.emit_elsewhere s v w m k why P (eqb-false w v away),
+          ap (λ (b : Bool). let n : ℕ = cond (b && not steps) 1 0 in n) (elsewhere why away))
       | inl here ↦
           let is : w ≡ v = eqb-true w v here in
-          let now_breaks : breaks s v (Emit w m k why ∷ P) ≡ breaks s v P + cond steps 0 1 = subst (λ (u : ℕ). breaks s v (Emit u m k why ∷ P) ≡ breaks s v P + cond steps 0 1) (sym is) (break_laws.emit s v m k why P (sorted_no_file s v sorted)) in
+          let now_breaks : breaks s v (Emit w m k why ∷ P) ≡ breaks s v P + cond steps 0 1 =
+          subst (λ (u : ℕ). breaks s v (Emit u m k why ∷ P) ≡ breaks s v P + cond steps 0 1) (sym is)
+          (break_laws.emit s v m k why P (sorted_no_file s v sorted)) in
           let fit : fits why steps ≡ true = emission-fits s P v m k why sorted (subst (λ (u : ℕ). is_legal s (Emit u m k why ∷ P) ≡ true) is h) in
           omega (arith, before, now_breaks, same why steps fit here)
     ]
@@ -80,7 +90,8 @@ counted s (Save r w m k g ∷ P) v sorted h =
       | inr away ↦ omega (arith, before, break_laws.save_elsewhere s r v w m k g P (eqb-false w v away))
       | inl here ↦
           let file = ((row_laws.save s P r w m k g).0 (row_of s (Save r w m k g) P (λ d. refl) h)).piece.file in
-          let off : may_sort (node s v).work ≡ false = subst (λ (u : ℕ). may_sort (node s u).work ≡ false) (eqb-true w v here) (file_unsorted (node s w).work file) in
+          let off : may_sort (node s v).work ≡ false =
+          subst (λ (u : ℕ). may_sort (node s u).work ≡ false) (eqb-true w v here) (file_unsorted (node s w).work file) in
           absurd (true≢false (sym (and_parts _ _ sorted).0 ∙ off))
     ]
 counted s (Reclaim r ∷ P) v sorted h =
@@ -89,7 +100,8 @@ counted s (Reclaim r ∷ P) v sorted h =
     by e.0 e.1 (counted s P v sorted legal) legal
   where
     never : (w : ℕ) → w ≡ v → is_file (node s w).work ≡ true → breaks s v (Reclaim r ∷ P) ≡ marked_breaks s v P
-    never w is file = absurd (true≢false (sym (and_parts _ _ sorted).0 ∙ subst (λ (u : ℕ). may_sort (node s u).work ≡ false) is (file_unsorted (node s w).work file)))
+    never w is file =
+        absurd (true≢false (sym (and_parts _ _ sorted).0 ∙ subst (λ (u : ℕ). may_sort (node s u).work ≡ false) is (file_unsorted (node s w).work file)))
 
     by : (e : Entry) → hand r P ≡ Some e → breaks s v P ≡ marked_breaks s v P → is_legal s P ≡ true → breaks s v (Reclaim r ∷ P) ≡ marked_breaks s v P
     by (Save q w m k g) held before legal =

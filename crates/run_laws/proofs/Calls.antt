@@ -64,7 +64,8 @@ module _ (p : Entry → Bool) (m : Misses p) where
   none-offers a [] = refl
   none-offers a (c ∷ cs) = missed p (offer a c) (map (offer a) cs) (m.offers a c) (none-offers a cs)
 
-  pub none-watched : (v : ℕ) (a : FrameName) (xs : List FrameName) (b c : Bool) → count p (cond b (map (emit v Ring) xs) [] ++ cond c (emit v Now a ∷ []) []) ≡ 0
+  pub none-watched : (v : ℕ) (a : FrameName) (xs : List FrameName) (b c : Bool)
+      → count p (cond b (map (emit v Ring) xs) [] ++ cond c (emit v Now a ∷ []) []) ≡ 0
   none-watched v a xs b c = omega (arith, count-append p (cond b (map (emit v Ring) xs) []) (cond c (emit v Now a ∷ []) []), ring_part b, now_part c)
     where
       all : (xs : List FrameName) → count p (map (emit v Ring) xs) ≡ 0
@@ -81,7 +82,9 @@ module _ (p : Entry → Bool) (m : Misses p) where
 
   -- a put at a node without a sort list calls for nothing else
   pub none-unsorted : (s : Setting) (v : ℕ) (a : FrameName) (f : Bool) (P : Past) (w : Work) → is_sorted s v ≡ false → count p (result s v a f P w) ≡ 0
-  none-unsorted s v a f P (Watches pre post preset) plain = none-watched v a (ring s v P) (is_trigger post preset (firings v P ++ f ∷ []) (length (firings v P))) (is_passed pre post preset (firings v P ++ f ∷ []) (length (firings v P)))
+  none-unsorted s v a f P (Watches pre post preset) plain =
+      none-watched v a (ring s v P) (is_trigger post preset (firings v P ++ f ∷ []) (length (firings v P)))
+      (is_passed pre post preset (firings v P ++ f ∷ []) (length (firings v P)))
   none-unsorted s v a f P (Saves whole n) plain = refl
   none-unsorted s v a f P Makes plain = rw plain (missed p (emit v Plain a) [] (m.plain v a) refl)
   none-unsorted s v a f P (Passes d) plain = rw plain (missed p (emit v Plain a) [] (m.plain v a) refl)

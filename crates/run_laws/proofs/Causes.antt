@@ -20,7 +20,9 @@ full-cause s newer P v m k all =
     (full-answers s P v m k a.head a.answer (head-no_full a.head a.rest none)).1
 
 pub pool-cause : (s : Setting) (newer P : Past) (r v m k n z : ℕ) → is_legal s (newer ++ PoolDrop r v m k n z ∷ P) ≡ true → RefusalFacts s v n z P
-pool-cause s newer P r v m k n z h = ((row_laws.pool_drop s P r v m k n z).0 (row_of s (PoolDrop r v m k n z) P (λ d. refl) (legal-front s newer (PoolDrop r v m k n z ∷ P) h))).2
+pool-cause s newer P r v m k n z h =
+    ((row_laws.pool_drop s P r v m k n z).0 (row_of s (PoolDrop r v m k n z) P (λ d. refl) (legal-front s newer (PoolDrop r v m k n z ∷ P) h))).2
 
 pub load-cause : (s : Setting) (newer P : Past) (r k n z : ℕ) → is_legal s (newer ++ LoadRefused r k n z ∷ P) ≡ true → RefusalFacts s 0 n z P
-load-cause s newer P r k n z h = ((row_laws.load_refused s P r k n z).0 (row_of s (LoadRefused r k n z) P (λ d. refl) (legal-front s newer (LoadRefused r k n z ∷ P) h))).1
+load-cause s newer P r k n z h =
+    ((row_laws.load_refused s P r k n z).0 (row_of s (LoadRefused r k n z) P (λ d. refl) (legal-front s newer (LoadRefused r k n z ∷ P) h))).1

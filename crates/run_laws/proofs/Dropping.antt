@@ -17,7 +17,8 @@ pub drop-away : (b : Bool) (T D : FrameName → Bool) (xs : List FrameName) → 
 drop-away true T D xs h = absurd (true≢false h)
 drop-away false T D xs h = refl
 
-pub drop-here : (b : Bool) (T D : FrameName → Bool) (xs : List FrameName) → b ≡ true → filter (λ a. not ((b && T a) || D a)) xs ≡ filter (λ a. not (T a)) (filter (λ a. not (D a)) xs)
+pub drop-here : (b : Bool) (T D : FrameName → Bool) (xs : List FrameName) → b ≡ true
+    → filter (λ a. not ((b && T a) || D a)) xs ≡ filter (λ a. not (T a)) (filter (λ a. not (D a)) xs)
 drop-here false T D xs h = absurd (false≢true h)
 drop-here true T D [] h = refl
 drop-here true T D (x ∷ xs) h =
@@ -42,7 +43,8 @@ none-goes T (x ∷ xs) h =
     ]
 
 -- one that stands once is taken out
-pub one-out : (T : FrameName → Bool) (x : FrameName) (xs ys : List FrameName) → T x ≡ true → count T (xs ++ x ∷ ys) ≤ 1 → filter (λ a. not (T a)) (xs ++ x ∷ ys) ≡ xs ++ ys
+pub one-out : (T : FrameName → Bool) (x : FrameName) (xs ys : List FrameName) → T x ≡ true → count T (xs ++ x ∷ ys) ≤ 1
+    → filter (λ a. not (T a)) (xs ++ x ∷ ys) ≡ xs ++ ys
 one-out T x [] ys hit few = rw hit (none-goes T ys (omega (arith, few, count-cons T x ys, ap bit hit)))
 one-out T x (y ∷ xs) ys hit few =
     let more = count-cons T y (xs ++ x ∷ ys) in
@@ -64,11 +66,13 @@ count-filter-le T D (x ∷ xs) =
 pub same-le : (m i : ℕ) (xs : List FrameName) → count (λ a. same a (frame m i)) xs ≤ count (of_index i) xs
 same-le m i [] = omega arith
 same-le m i (x ∷ xs) =
-    let one : bit (same x (frame m i)) ≤ bit (eqb x.index i) = elim (eqb x.maker m) as (λ b. bit (b && eqb x.index i) ≤ bit (eqb x.index i)) [ true ↦ omega arith | false ↦ omega arith ] in
+    let one : bit (same x (frame m i)) ≤ bit (eqb x.index i) =
+    elim (eqb x.maker m) as (λ b. bit (b && eqb x.index i) ≤ bit (eqb x.index i)) [ true ↦ omega arith | false ↦ omega arith ] in
     omega (arith, one, same-le m i xs, count-cons (λ a. same a (frame m i)) x xs, count-cons (of_index i) x xs)
 
 -- what no entry drops
-pub undropped : (s : Setting) (v : ℕ) (a : FrameName) (P : Past) → count (pool_drops_at v a.index) P ≡ 0 → count (is_sort_drop v) P ≡ 0 → list_any (is_dropped_by s v a) P ≡ false
+pub undropped : (s : Setting) (v : ℕ) (a : FrameName) (P : Past) → count (pool_drops_at v a.index) P ≡ 0 → count (is_sort_drop v) P ≡ 0
+    → list_any (is_dropped_by s v a) P ≡ false
 undropped s v a [] pool sort = refl
 undropped s v a (PoolDrop r w m i n z ∷ P) pool sort =
     let rest = undropped s v a P (omega (arith, pool, count-cons (pool_drops_at v a.index) (PoolDrop r w m i n z) P)) sort in

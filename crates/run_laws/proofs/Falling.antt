@@ -61,7 +61,9 @@ same_falling (x ∷ xs) (y ∷ ys) f g h =
             absurd (omega (arith, h x, here x xs, count-cons (λ j. eqb j x) y ys, ap bit (ne_eqb y x other), none-above y x ys g (omega (arith, le))))
         | inr not_more ↦
             let is : x ≡ y = omega (arith, ltb-false x y not_less, ltb-false y x not_more) in
-            let rest : xs ≡ ys = same_falling xs ys (falls-rest x xs f) (falls-rest y ys g) (λ k. omega (arith, h k, count-cons (λ j. eqb j k) x xs, count-cons (λ j. eqb j k) y ys, ap (λ (i : ℕ). bit (eqb i k)) is)) in
+            let rest : xs ≡ ys =
+            same_falling xs ys (falls-rest x xs f) (falls-rest y ys g)
+            (λ k. omega (arith, h k, count-cons (λ j. eqb j k) x xs, count-cons (λ j. eqb j k) y ys, ap (λ (i : ℕ). bit (eqb i k)) is)) in
             cc
       ]
     ]
@@ -70,17 +72,20 @@ same_falling (x ∷ xs) (y ∷ ys) f g h =
 
 range-more : (a n : ℕ) → range_with_len a (suc n) ≡ range_with_len a n ++ (a + n) ∷ []
 range-more a zero = let e : a ≡ a + 0 = omega arith in ap (λ (k : ℕ). k ∷ []) e
-range-more a (suc n) = let e : a + 1 + n ≡ a + suc n = omega arith in ap (λ (ks : List ℕ). a ∷ ks) (range-more (a + 1) n ∙ ap (λ (k : ℕ). range_with_len (a + 1) n ++ k ∷ []) e)
+range-more a (suc n) =
+    let e : a + 1 + n ≡ a + suc n = omega arith in ap (λ (ks : List ℕ). a ∷ ks) (range-more (a + 1) n ∙ ap (λ (k : ℕ). range_with_len (a + 1) n ++ k ∷ []) e)
 
 pub reverse-below : (n : ℕ) → reverse (below n) ≡ range_with_len 0 n
 reverse-below zero = refl
 reverse-below (suc n) =
     let e : n ≡ 0 + n = omega arith in
-    reverse-append (n ∷ []) (below n) ∙ (ap (λ (ks : List ℕ). ks ++ n ∷ []) (reverse-below n) ∙ (ap (λ (k : ℕ). range_with_len 0 n ++ k ∷ []) e ∙ sym (range-more 0 n)))
+    reverse-append (n ∷ []) (below n)
+    ∙ (ap (λ (ks : List ℕ). ks ++ n ∷ []) (reverse-below n) ∙ (ap (λ (k : ℕ). range_with_len 0 n ++ k ∷ []) e ∙ sym (range-more 0 n)))
 
 pub count-reverse : (p : ℕ → Bool) (xs : List ℕ) → count p (reverse xs) ≡ count p xs
 count-reverse p [] = refl
-count-reverse p (x ∷ xs) = omega (arith, ap (count p) (reverse-append (x ∷ []) xs), count-append p (reverse xs) (x ∷ []), count-reverse p xs, count-cons p x [], count-cons p x xs)
+count-reverse p (x ∷ xs) =
+    omega (arith, ap (count p) (reverse-append (x ∷ []) xs), count-append p (reverse xs) (x ∷ []), count-reverse p xs, count-cons p x [], count-cons p x xs)
 
 -- IDS
 
@@ -129,7 +134,8 @@ next_index : (a b c : ℤ) (k j : ℕ) → a ≡ c +ℤ pos k → b ≡ c +ℤ p
 next_index a b c k j p q h = omega (arith, ints, p, q, h)
 
 -- what goes out without a break, each index once, falls from the newest on
-pub falls-unbroken : (s : Setting) (n : ℕ) (ks : List ℕ) → AreInStep s n → All (λ k. k < n) ks → ((k : ℕ) → times_in k ks ≤ 1) → breaks_of s ks ≡ 0 → falls ks ≡ true
+pub falls-unbroken : (s : Setting) (n : ℕ) (ks : List ℕ) → AreInStep s n → All (λ k. k < n) ks → ((k : ℕ) → times_in k ks ≤ 1)
+    → breaks_of s ks ≡ 0 → falls ks ≡ true
 falls-unbroken s n [] step within once none = refl
 falls-unbroken s n (k ∷ []) step within once none = refl
 falls-unbroken s n (k ∷ j ∷ js) step within once none =

@@ -42,7 +42,8 @@ append-none (x ∷ xs) ys h = cc
 
 numbered : (p : ℕ → Bool) (v : ℕ) (ns : List Node) (k : ℕ) → list_all p (numbers_from v ns) ≡ true → k < length ns → p (v + k) ≡ true
 numbered p v [] k all h = absurd (omega (arith, h))
-numbered p v (n ∷ ns) zero all h = let e : v ≡ v + 0 = omega arith in subst (λ (u : ℕ). p u ≡ true) e (and_parts (p v) (list_all p (numbers_from (v + 1) ns)) all).0
+numbered p v (n ∷ ns) zero all h =
+    let e : v ≡ v + 0 = omega arith in subst (λ (u : ℕ). p u ≡ true) e (and_parts (p v) (list_all p (numbers_from (v + 1) ns)) all).0
 numbered p v (n ∷ ns) (suc k) all h =
     let e : v + 1 + k ≡ v + suc k = omega arith in
     subst (λ (u : ℕ). p u ≡ true) e (numbered p (v + 1) ns k (and_parts (p v) (list_all p (numbers_from (v + 1) ns)) all).1 (omega (arith, h)))
@@ -72,18 +73,21 @@ ends s P v number h =
     let four = append-none (queued v P ++ map (λ w. w.array) (waiting s v P) ++ ring s v P) (unsaved s v P) (none_left-nil (arrays_at s P v) d.1) in
     let three = append-none (queued v P ++ map (λ w. w.array) (waiting s v P)) (ring s v P) four.0 in
     let two = append-none (queued v P) (map (λ w. w.array) (waiting s v P)) three.0 in
-    record { above = omega (arith, low); settled = d.0; empty = two.0; lists = unmapped _ (waiting s v P) two.1; unsaved_none = four.1; idle = ended-idle s P h }
+    record { above = omega (arith, low); settled = d.0; empty = two.0; lists = unmapped _ (waiting s v P) two.1;
+    unsaved_none = four.1; idle = ended-idle s P h }
   where
     at : (v : ℕ) → 0 < v → v ≤ length s.nodes → list_all (is_done s P) (node_numbers s) ≡ true → is_done s P v ≡ true
     at zero low high all = absurd (omega (arith, low))
-    at (suc k) low high all = let e : 1 + k ≡ suc k = omega arith in subst (λ (u : ℕ). is_done s P u ≡ true) e (numbered (is_done s P) 1 s.nodes k all (omega (arith, high)))
+    at (suc k) low high all =
+        let e : 1 + k ≡ suc k = omega arith in subst (λ (u : ℕ). is_done s P u ≡ true) e (numbered (is_done s P) 1 s.nodes k all (omega (arith, high)))
 
     unmapped : {X Y : Type 0} (f : X → Y) (xs : List X) → map f xs ≡ [] → xs ≡ []
     unmapped f [] h = refl
     unmapped f (x ∷ xs) h = cc
 
 -- the puts of a node of one thread without a sort list are the results of what it accepted for good
-pub puts-are : (s : Setting) (P : Past) (v : ℕ) → is_node s v ≡ true → is_sorted s v ≡ false → (node s v).threads ≤ 1 → IsFinishedRun s P → puts v P ≡ map (result_name s v) (accepted s v P)
+pub puts-are : (s : Setting) (P : Past) (v : ℕ) → is_node s v ≡ true → is_sorted s v ≡ false → (node s v).threads ≤ 1 → IsFinishedRun s P
+    → puts v P ≡ map (result_name s v) (accepted s v P)
 puts-are s P v number plain one run =
     let e = ends s P v number run.finished in
     let l = line s P v plain one (and_parts _ _ run.legal).0 in
@@ -121,28 +125,34 @@ file_works Makes h e = false≢true h
 file_works (Watches pre post preset) h e = false≢true h
 
 -- a file node saved what it accepted for good
-pub saves-are : (s : Setting) (P : Past) (v : ℕ) → is_file (node s v).work ≡ true → (node s v).threads ≤ 1 → IsFinishedRun s P → standing_saves v P ≡ accepted s v P
+pub saves-are : (s : Setting) (P : Past) (v : ℕ) → is_file (node s v).work ≡ true → (node s v).threads ≤ 1 → IsFinishedRun s P
+    → standing_saves v P ≡ accepted s v P
 saves-are s P v file one run =
     let number : is_node s v ≡ true = works-is s v (file_works (node s v).work file) in
     let w = file_passes (node s v).work file in
     let e = ends s P v number run.finished in
     let front : puts v P ≡ standing_saves v P ++ unsaved s v P = save_laws.front s v P (and_parts _ _ run.legal).0 file in
-    let all : puts v P ≡ standing_saves v P = front ∙ (ap (λ (xs : List FrameName). standing_saves v P ++ xs) e.unsaved_none ∙ append-nil (standing_saves v P)) in
+    let all : puts v P ≡ standing_saves v P =
+    front ∙ (ap (λ (xs : List FrameName). standing_saves v P ++ xs) e.unsaved_none ∙ append-nil (standing_saves v P)) in
     sym all ∙ (puts-are s P v number (unsorted s v w.1) one run ∙ same_results s v w.0 (accepted s v P))
 
 -- a region or statistics node emitted the results
-pub emits-are : (s : Setting) (P : Past) (v : ℕ) → is_node s v ≡ true → may_sort (node s v).work ≡ true → is_sorted s v ≡ false → (node s v).threads ≤ 1 → IsFinishedRun s P → emitted v P ≡ map (result_name s v) (accepted s v P)
+pub emits-are : (s : Setting) (P : Past) (v : ℕ) → is_node s v ≡ true → may_sort (node s v).work ≡ true → is_sorted s v ≡ false → (node s v).threads ≤ 1
+    → IsFinishedRun s P → emitted v P ≡ map (result_name s v) (accepted s v P)
 emits-are s P v number sorts plain one run =
     output_laws.unsorted s v P (ends s P v number run.finished).above sorts plain run.legal ∙ puts-are s P v number plain one run
 
 -- each flag of a circular node's puts is that of its trigger
-flags-are : (s : Setting) (P : Past) (v pre post preset : ℕ) → (node s v).work ≡ Watches pre post preset → is_legal s P ≡ true → firings v P ≡ map (λ (a : FrameName). s.fires v a.index) (puts v P)
+flags-are : (s : Setting) (P : Past) (v pre post preset : ℕ) → (node s v).work ≡ Watches pre post preset → is_legal s P ≡ true
+    → firings v P ≡ map (λ (a : FrameName). s.fires v a.index) (puts v P)
 flags-are s [] v pre post preset work h = refl
 flags-are s (Put r w m i f ∷ P) v pre post preset work h =
     let before = flags-are s P v pre post preset work (and_parts _ _ h).0 in
     let fires : FrameName → Bool = λ a. s.fires v a.index in
     elim (cases_Bool (eqb w v)) [
-      | inl here ↦ subst (λ (u : ℕ). is_legal s (Put r u m i f ∷ P) ≡ true → firings v (Put r u m i f ∷ P) ≡ map fires (puts v (Put r u m i f ∷ P))) (sym (eqb-true w v here))
+      | inl here ↦
+          subst (λ (u : ℕ). is_legal s (Put r u m i f ∷ P) ≡ true
+          → firings v (Put r u m i f ∷ P) ≡ map fires (puts v (Put r u m i f ∷ P))) (sym (eqb-true w v here))
           (λ g. let flag : f ≡ s.fires v i = ((row_laws.put s P r v m i f).0 (row_of s (Put r v m i f) P (λ d. refl) g)).1 ∙ ap (fires_at s v i) work in
           comes_here v f (firings v P) ∙ (ap (λ (bs : List Bool). bs ++ f ∷ []) before ∙ (ap (λ (b : Bool). map fires (puts v P) ++ b ∷ []) flag
           ∙ (sym (map-append fires (puts v P) (frame m i ∷ [])) ∙ ap (map fires) (sym (comes_here v (frame m i) (puts v P))))))) h
@@ -156,7 +166,8 @@ watches_more : {pre post preset : ℕ} → Watches pre post preset ≢ Passes fa
 watches_more e = cc
 
 -- a circular node emitted those in its windows
-pub windows-are : (s : Setting) (P : Past) (v pre post preset : ℕ) → (node s v).work ≡ Watches pre post preset → 1 ≤ post → (node s v).threads ≤ 1 → IsFinishedRun s P → emitted v P ≡ passed_items pre post preset (map (λ (a : FrameName). s.fires v a.index) (accepted s v P)) (accepted s v P)
+pub windows-are : (s : Setting) (P : Past) (v pre post preset : ℕ) → (node s v).work ≡ Watches pre post preset → 1 ≤ post → (node s v).threads ≤ 1
+    → IsFinishedRun s P → emitted v P ≡ passed_items pre post preset (map (λ (a : FrameName). s.fires v a.index) (accepted s v P)) (accepted s v P)
 windows-are s P v pre post preset work positive one run =
     let number : is_node s v ≡ true = works-is s v (λ e. watches_more (sym work ∙ e)) in
     let passes : is_maker s v ≡ false = ap makes work in

@@ -48,12 +48,15 @@ none-result : (s : Setting) (v u : ℕ) (a : FrameName) (f : Bool) (P : Past) �
 none-result s v u a f P =
     elim (cases_Bool (is_sorted s u)) [
       | inr plain ↦ none-unsorted (flushes v) (misses v) s u a f P (node s u).work plain
-      | inl sorted ↦ omega (arith, ap (count (flushes v)) (result-sorted s u a f P (node s u).work (and_parts _ _ sorted).0 sorted), none-sorted s v u a (waiting s u P) (Put 0 u a.maker a.index f ∷ P))
+      | inl sorted ↦
+          omega (arith, ap (count (flushes v)) (result-sorted s u a f P (node s u).work (and_parts _ _ sorted).0 sorted),
+          none-sorted s v u a (waiting s u P) (Put 0 u a.maker a.index f ∷ P))
     ]
 
 none-elsewhere : (v w : ℕ) (ws : List Waiting) → eqb w v ≡ false → count (flushes v) (map (λ (u : Waiting). emit w Flush u.array) ws) ≡ 0
 none-elsewhere v w [] away = refl
-none-elsewhere v w (u ∷ us) away = omega (arith, none-elsewhere v w us away, count-cons (flushes v) (emit w Flush u.array) (map (λ (u : Waiting). emit w Flush u.array) us), ap bit away)
+none-elsewhere v w (u ∷ us) away =
+    omega (arith, none-elsewhere v w us away, count-cons (flushes v) (emit w Flush u.array) (map (λ (u : Waiting). emit w Flush u.array) us), ap bit away)
 
 -- what hasn't ended hadn't before
 not_before : (u : ℕ) (e : Entry) (P : Past) → has_ended u (e ∷ P) ≡ false → has_ended u P ≡ false
@@ -69,16 +72,24 @@ both-none v xs ys a b = omega (arith, count-append (flushes v) xs (drop 1 ys), a
 -- until the input has ended no flush is owed
 none-owed : (s : Setting) (P : Past) (v : ℕ) → has_ended (node s v).input P ≡ false → is_legal s P ≡ true → count (flushes v) (owed s P) ≡ 0
 none-owed s [] v open_ h = refl
-none-owed s (Tick t ∷ P) v open_ h = both-none v (calls_for s P (Tick t)) (owed s P) (none-looks (flushes v) (misses_looks v) s (Tick t ∷ P) (node_numbers s)) (none-owed s P v (not_before (node s v).input (Tick t) P open_) (and_parts _ _ h).0)
-none-owed s (Emit w i j why ∷ P) v open_ h = both-none v (calls_for s P (Emit w i j why)) (owed s P) (none-offers (flushes v) (misses v) (frame i j) (offered_to s P w)) (none-owed s P v (not_before (node s v).input (Emit w i j why) P open_) (and_parts _ _ h).0)
-none-owed s (Put r w i j f ∷ P) v open_ h = both-none v (calls_for s P (Put r w i j f)) (owed s P) (none-result s v w (frame i j) f P) (none-owed s P v (not_before (node s v).input (Put r w i j f) P open_) (and_parts _ _ h).0)
+none-owed s (Tick t ∷ P) v open_ h =
+    both-none v (calls_for s P (Tick t)) (owed s P) (none-looks (flushes v) (misses_looks v) s (Tick t ∷ P) (node_numbers s))
+    (none-owed s P v (not_before (node s v).input (Tick t) P open_) (and_parts _ _ h).0)
+none-owed s (Emit w i j why ∷ P) v open_ h =
+    both-none v (calls_for s P (Emit w i j why)) (owed s P) (none-offers (flushes v) (misses v) (frame i j) (offered_to s P w))
+    (none-owed s P v (not_before (node s v).input (Emit w i j why) P open_) (and_parts _ _ h).0)
+none-owed s (Put r w i j f ∷ P) v open_ h =
+    both-none v (calls_for s P (Put r w i j f)) (owed s P) (none-result s v w (frame i j) f P)
+    (none-owed s P v (not_before (node s v).input (Put r w i j f) P open_) (and_parts _ _ h).0)
 none-owed s (Settle r w ∷ P) v open_ h =
     let before : has_ended (node s v).input P ≡ false = not_before (node s v).input (Settle r w) P open_ in
     elim (cases_Bool (eqb w v)) [
       | inl here ↦
           let ended : has_ended (node s w).input P ≡ true = ((row_laws.settle s P r w).0 (row_of s (Settle r w) P (λ d. refl) h)).1.input in
           absurd (true≢false (sym (subst (λ (u : ℕ). has_ended (node s u).input P ≡ true) (eqb-true w v here) ended) ∙ before))
-      | inr away ↦ both-none v (calls_for s P (Settle r w)) (owed s P) (none-elsewhere v w (least_first s (waiting s w P)) away) (none-owed s P v before (and_parts _ _ h).0)
+      | inr away ↦
+          both-none v (calls_for s P (Settle r w)) (owed s P) (none-elsewhere v w (least_first s (waiting s w P)) away)
+          (none-owed s P v before (and_parts _ _ h).0)
     ]
 none-owed s (e ∷ P) v open_ h = both-none v (calls_for s P e) (owed s P) refl (none-owed s P v (not_before (node s v).input e P open_) (and_parts _ _ h).0)
 

@@ -41,7 +41,9 @@ no_fulls-if s P u false = refl
 
 no_fulls-looks : (s : Setting) (P : Past) (us : List ℕ) → count is_any_full (flat_map (λ u. cond (is_sorted s u) (look s u P) []) us) ≡ 0
 no_fulls-looks s P [] = refl
-no_fulls-looks s P (u ∷ us) = omega (arith, count-append is_any_full (cond (is_sorted s u) (look s u P) []) (flat_map (λ w. cond (is_sorted s w) (look s w P) []) us), no_fulls-if s P u (is_sorted s u), no_fulls-looks s P us)
+no_fulls-looks s P (u ∷ us) =
+    omega (arith, count-append is_any_full (cond (is_sorted s u) (look s u P) []) (flat_map (λ w. cond (is_sorted s w) (look s w P) []) us),
+    no_fulls-if s P u (is_sorted s u), no_fulls-looks s P us)
 
 no_fulls-offers : (a : FrameName) (cs : List ℕ) → count is_any_full (map (offer a) cs) ≡ 0
 no_fulls-offers a [] = refl
@@ -50,13 +52,19 @@ no_fulls-offers a (c ∷ cs) = no_fulls-offers a cs
 pub no_full_owed : (s : Setting) (P : Past) → count is_any_full (owed s P) ≡ 0
 no_full_owed s [] = refl
 no_full_owed s (Tick t ∷ P) = omega (arith, no_full_owed s P, less-owed s is_any_full (Tick t) P, no_fulls-looks s (Tick t ∷ P) (node_numbers s))
-no_full_owed s (Emit w m i why ∷ P) = omega (arith, no_full_owed s P, less-owed s is_any_full (Emit w m i why) P, no_fulls-offers (frame m i) (offered_to s P w))
-no_full_owed s (Put r w m i f ∷ P) = omega (arith, no_full_owed s P, less-owed s is_any_full (Put r w m i f) P, no_fulls w (calls_for s P (Put r w m i f)) (result-at s w (frame m i) f P (node s w).work))
-no_full_owed s (Settle r w ∷ P) = omega (arith, no_full_owed s P, less-owed s is_any_full (Settle r w) P, no_fulls w (calls_for s P (Settle r w)) (flush-at w (least_first s (waiting s w P))))
+no_full_owed s (Emit w m i why ∷ P) =
+    omega (arith, no_full_owed s P, less-owed s is_any_full (Emit w m i why) P, no_fulls-offers (frame m i) (offered_to s P w))
+no_full_owed s (Put r w m i f ∷ P) =
+    omega (arith, no_full_owed s P, less-owed s is_any_full (Put r w m i f) P,
+    no_fulls w (calls_for s P (Put r w m i f)) (result-at s w (frame m i) f P (node s w).work))
+no_full_owed s (Settle r w ∷ P) =
+    omega (arith, no_full_owed s P, less-owed s is_any_full (Settle r w) P,
+    no_fulls w (calls_for s P (Settle r w)) (flush-at w (least_first s (waiting s w P))))
 no_full_owed s (e ∷ P) = omega (arith, no_full_owed s P, count-drop is_any_full (owed s P))
 
 -- what answers an offer that finds no room
-pub full-answers : (s : Setting) (P : Past) (v m k : ℕ) (d : Entry) → answers s P (Full v m k) d ≡ true → is_any_full d ≡ false → (d ≡ Accept v m k) × (has_room s P v ≡ false)
+pub full-answers : (s : Setting) (P : Past) (v m k : ℕ) (d : Entry) → answers s P (Full v m k) d ≡ true → is_any_full d ≡ false
+    → (d ≡ Accept v m k) × (has_room s P v ≡ false)
 full-answers s P v m k (Accept c n j) h owed_one = by (cases_Bool (has_room s P c))
   where
     by : (has_room s P c ≡ true) ⊎ (has_room s P c ≡ false) → (Accept c n j ≡ Accept v m k) × (has_room s P v ≡ false)

@@ -46,7 +46,8 @@ other_goes v r e (x ∷ hs) h other =
     ]
 
 -- the one job goes
-pub one_goes : (v r : ℕ) (e : Entry) (hs : List Entry) → find (takes_up r) hs ≡ Some e → is_job v e ≡ true → count (is_job v) hs ≤ 1 → (jobs_at v hs ≡ job_array v (Some e)) × (jobs_at v (let_go r hs) ≡ [])
+pub one_goes : (v r : ℕ) (e : Entry) (hs : List Entry) → find (takes_up r) hs ≡ Some e → is_job v e ≡ true → count (is_job v) hs ≤ 1
+    → (jobs_at v hs ≡ job_array v (Some e)) × (jobs_at v (let_go r hs) ≡ [])
 one_goes v r e hs h job few = (whole hs h few, no_jobs v (let_go r hs) (omega (arith, few, count-let_go (is_job v) r e hs h, ap bit job)))
   where
     whole : (hs : List Entry) → find (takes_up r) hs ≡ Some e → count (is_job v) hs ≤ 1 → jobs_at v hs ≡ job_array v (Some e)
@@ -64,7 +65,8 @@ one_goes v r e hs h job few = (whole hs h few, no_jobs v (let_go r hs) (omega (a
               let one = count-let_go (is_job v) r e hs found in
               elim (cases_Bool (is_job v x)) [
                 | inl two ↦ absurd (omega (arith, few, count-cons (is_job v) x hs, ap bit two, one, ap bit job))
-                | inr other ↦ ap (λ (xs : List FrameName). xs ++ jobs_at v hs) (no_job v x other) ∙ whole hs found (omega (arith, few, count-cons (is_job v) x hs))
+                | inr other ↦
+                    ap (λ (xs : List FrameName). xs ++ jobs_at v hs) (no_job v x other) ∙ whole hs found (omega (arith, few, count-cons (is_job v) x hs))
               ]
         ]
 

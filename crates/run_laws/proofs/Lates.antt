@@ -54,7 +54,8 @@ and-true : (b : Bool) → (b && true) ≡ b
 and-true true = refl
 and-true false = refl
 
-lates-goes_out : (s : Setting) (v : ℕ) (t : FrameName → Bool) (before : ℤ) (now : ℕ) (ws : List Waiting) → count (lates v t) (goes_out s v before now ws) ≤ count (overdue s v now t) ws
+lates-goes_out : (s : Setting) (v : ℕ) (t : FrameName → Bool) (before : ℤ) (now : ℕ) (ws : List Waiting)
+    → count (lates v t) (goes_out s v before now ws) ≤ count (overdue s v now t) ws
 lates-goes_out s v t before now [] = omega arith
 lates-goes_out s v t before now (w ∷ ws) =
     let more = lates-goes_out s v t (id_at s w.array.index) now ws in
@@ -77,10 +78,12 @@ lates-goes_out s v t before now (w ∷ ws) =
     ]
 
 lates-look : (s : Setting) (v : ℕ) (t : FrameName → Bool) (P : Past) → count (lates v t) (look s v P) ≤ count (overdue s v (now P) t) (waiting s v P)
-lates-look s v t P = omega (arith, lates-goes_out s v t (prev s v P) (now P) (least_first s (waiting s v P)), count-least_first s (overdue s v (now P) t) (waiting s v P))
+lates-look s v t P =
+    omega (arith, lates-goes_out s v t (prev s v P) (now P) (least_first s (waiting s v P)), count-least_first s (overdue s v (now P) t) (waiting s v P))
 
 -- of what the put of a calls for, where before waited
-lates-result : (s : Setting) (v : ℕ) (t : FrameName → Bool) (a : FrameName) (before : List Waiting) (w : Waiting) (P : Past) → waiting s v P ≡ before ++ w ∷ [] → count (lates v t) (sorted_result s v a before P) ≤ count (overdue s v (now P) t) (waiting s v P)
+lates-result : (s : Setting) (v : ℕ) (t : FrameName → Bool) (a : FrameName) (before : List Waiting) (w : Waiting) (P : Past) → waiting s v P ≡ before ++ w ∷ []
+    → count (lates v t) (sorted_result s v a before P) ≤ count (overdue s v (now P) t) (waiting s v P)
 lates-result s v t a before w P is =
     let due : Waiting → Bool = overdue s v (now P) t in
     let all : count due (waiting s v P) ≡ count due before + count due (w ∷ []) = ap (count due) is ∙ count-append due before (w ∷ []) in
@@ -100,15 +103,20 @@ lates-if : (s : Setting) (P : Past) (v u : ℕ) (t : FrameName → Bool) (b : Bo
 lates-if s P v u t true ne = lates-elsewhere v u t (look s u P) ne (goes_out-at s u _ _ _)
 lates-if s P v u t false ne = refl
 
-lates-looks : (s : Setting) (P : Past) (v : ℕ) (t : FrameName → Bool) (us : List ℕ) → count (is_number v) us ≤ 1 → count (lates v t) (looks s P us) ≤ count (overdue s v (now P) t) (waiting s v P)
+lates-looks : (s : Setting) (P : Past) (v : ℕ) (t : FrameName → Bool) (us : List ℕ) → count (is_number v) us ≤ 1
+    → count (lates v t) (looks s P us) ≤ count (overdue s v (now P) t) (waiting s v P)
 lates-looks s P v t [] once = omega arith
 lates-looks s P v t (u ∷ us) once =
     let both = count-append (lates v t) (cond (is_sorted s u) (look s u P) []) (looks s P us) in
     elim (cases_Bool (eqb u v)) [
       | inl here ↦
           let none : count (is_number v) us ≡ 0 = omega (arith, once, count-cons (is_number v) u us, ap bit here) in
-          omega (arith, both, subst (λ (x : ℕ). count (lates v t) (cond (is_sorted s x) (look s x P) []) ≤ count (overdue s v (now P) t) (waiting s v P)) (sym (eqb-true u v here)) (own (is_sorted s v)), others us none)
-      | inr away ↦ omega (arith, both, lates-if s P v u t (is_sorted s u) (eqb-false u v away), lates-looks s P v t us (omega (arith, once, count-cons (is_number v) u us, ap bit away)))
+          omega (arith, both,
+          subst (λ (x : ℕ). count (lates v t) (cond (is_sorted s x) (look s x P) []) ≤ count (overdue s v (now P) t) (waiting s v P)) (sym (eqb-true u v here))
+          (own (is_sorted s v)), others us none)
+      | inr away ↦
+          omega (arith, both, lates-if s P v u t (is_sorted s u) (eqb-false u v away),
+          lates-looks s P v t us (omega (arith, once, count-cons (is_number v) u us, ap bit away)))
     ]
   where
     own : (b : Bool) → count (lates v t) (cond b (look s v P) []) ≤ count (overdue s v (now P) t) (waiting s v P)
@@ -119,7 +127,8 @@ lates-looks s P v t (u ∷ us) once =
     others [] none = refl
     others (x ∷ xs) none =
         let ne : x ≢ v = λ e. omega (arith, none, count-cons (is_number v) x xs, ap bit (eq-eqb x v e)) in
-        omega (arith, count-append (lates v t) (cond (is_sorted s x) (look s x P) []) (looks s P xs), lates-if s P v x t (is_sorted s x) ne, others xs (omega (arith, none, count-cons (is_number v) x xs)))
+        omega (arith, count-append (lates v t) (cond (is_sorted s x) (look s x P) []) (looks s P xs), lates-if s P v x t (is_sorted s x) ne,
+        others xs (omega (arith, none, count-cons (is_number v) x xs)))
 
 lates-flush : (v w : ℕ) (t : FrameName → Bool) (ws : List Waiting) → count (lates v t) (map (λ (u : Waiting). emit w Flush u.array) ws) ≡ 0
 lates-flush v w t [] = refl
@@ -129,57 +138,78 @@ misses : (v : ℕ) (t : FrameName → Bool) → Misses (lates v t)
 misses v t = record { offers = λ a c. refl; plain = λ u a. refl; rings = λ u a. refl; nows = λ u a. refl }
 
 -- a result that goes leaves the others
-kept-overdue : (s : Setting) (v now m i : ℕ) (t : FrameName → Bool) (ws : List Waiting) → t (frame m i) ≡ false → count (overdue s v now t) (not_waiting (frame m i) ws) ≡ count (overdue s v now t) ws
+kept-overdue : (s : Setting) (v now m i : ℕ) (t : FrameName → Bool) (ws : List Waiting) → t (frame m i) ≡ false
+    → count (overdue s v now t) (not_waiting (frame m i) ws) ≡ count (overdue s v now t) ws
 kept-overdue s v now m i t [] off = refl
 kept-overdue s v now m i t (w ∷ ws) off =
     elim (cases_Bool (same w.array (frame m i))) [
       | inl here ↦
-          let no : overdue s v now t w ≡ false = ap (λ (b : Bool). b && ltb (w.tick + (node s v).sort_time) now) (ap t (same-true w.array (frame m i) here) ∙ off) in
+          let no : overdue s v now t w ≡ false =
+          ap (λ (b : Bool). b && ltb (w.tick + (node s v).sort_time) now) (ap t (same-true w.array (frame m i) here) ∙ off) in
           rw here (omega (arith, count-cons (overdue s v now t) w ws, ap bit no))
-      | inr away ↦ rw away (omega (arith, kept-overdue s v now m i t ws off, count-cons (overdue s v now t) w (not_waiting (frame m i) ws), count-cons (overdue s v now t) w ws))
+      | inr away ↦
+          rw away
+          (omega (arith, kept-overdue s v now m i t ws off, count-cons (overdue s v now t) w (not_waiting (frame m i) ws), count-cons (overdue s v now t) w ws))
     ]
 
 -- a result waits once at most
-waits-once : (s : Setting) (P : Past) (v m i : ℕ) → v ≢ 0 → is_sorted s v ≡ true → is_legal s P ≡ true → count (waits (λ x. same x (frame m i))) (waiting s v P) ≤ 1
+waits-once : (s : Setting) (P : Past) (v m i : ℕ) → v ≢ 0 → is_sorted s v ≡ true → is_legal s P ≡ true
+    → count (waits (λ x. same x (frame m i))) (waiting s v P) ≤ 1
 waits-once s P v m i nz sorted h =
     omega (arith, waits-le m i (waiting s v P), sorted-emits s P v i nz sorted h, puts-taken s P v i h, takes-accepted s P v i h, accepts-once s P v i h)
 
 -- of each array no more late emissions are owed than results of it are overdue
-late-owed : (s : Setting) (P : Past) (v m k : ℕ) → v ≢ 0 → is_sorted s v ≡ true → is_legal s P ≡ true → count (lates v (λ x. same x (frame m k))) (owed s P) ≤ count (overdue s v (now P) (λ x. same x (frame m k))) (waiting s v P)
+late-owed : (s : Setting) (P : Past) (v m k : ℕ) → v ≢ 0 → is_sorted s v ≡ true → is_legal s P ≡ true
+    → count (lates v (λ x. same x (frame m k))) (owed s P) ≤ count (overdue s v (now P) (λ x. same x (frame m k))) (waiting s v P)
 late-owed s [] v m k nz sorted h = omega arith
 late-owed s (Put r w i j f ∷ P) v m k nz sorted h =
     let t : FrameName → Bool = λ x. same x (frame m k) in
     let none : owed s P ≡ [] = owed-first s (Put r w i j f) P (λ d. refl) h in
-    let whole : count (lates v t) (owed s (Put r w i j f ∷ P)) ≡ count (lates v t) (calls_for s P (Put r w i j f)) + 0 = count-append (lates v t) (calls_for s P (Put r w i j f)) (drop 1 (owed s P)) ∙ ap (λ (ds : List Entry). count (lates v t) (calls_for s P (Put r w i j f)) + count (lates v t) (drop 1 ds)) none in
+    let whole : count (lates v t) (owed s (Put r w i j f ∷ P)) ≡ count (lates v t) (calls_for s P (Put r w i j f)) + 0 =
+    count-append (lates v t) (calls_for s P (Put r w i j f)) (drop 1 (owed s P))
+    ∙ ap (λ (ds : List Entry). count (lates v t) (calls_for s P (Put r w i j f)) + count (lates v t) (drop 1 ds)) none in
     elim (cases_Bool (eqb w v)) [
-      | inr away ↦ omega (arith, whole, lates-elsewhere v w t (calls_for s P (Put r w i j f)) (eqb-false w v away) (result-at s w (frame i j) f P (node s w).work))
+      | inr away ↦
+          omega (arith, whole, lates-elsewhere v w t (calls_for s P (Put r w i j f)) (eqb-false w v away) (result-at s w (frame i j) f P (node s w).work))
       | inl here ↦
           let is : w ≡ v = eqb-true w v here in
           let new : Waiting = record { array = frame i j; tick = now P } in
-          let calls : calls_for s P (Put r w i j f) ≡ sorted_result s v (frame i j) (waiting s v P) (Put 0 v i j f ∷ P) = ap (λ (u : ℕ). calls_for s P (Put r u i j f)) is ∙ result-sorted s v (frame i j) f P (node s v).work (and_parts _ _ sorted).0 sorted in
+          let calls : calls_for s P (Put r w i j f) ≡ sorted_result s v (frame i j) (waiting s v P) (Put 0 v i j f ∷ P) =
+          ap (λ (u : ℕ). calls_for s P (Put r u i j f)) is ∙ result-sorted s v (frame i j) f P (node s v).work (and_parts _ _ sorted).0 sorted in
           let more : waiting s v (Put r w i j f ∷ P) ≡ waiting s v (Put 0 v i j f ∷ P) = ap (λ (u : ℕ). waiting s v (Put r u i j f ∷ P)) is in
           let most = lates-result s v t (frame i j) (waiting s v P) new (Put 0 v i j f ∷ P) (put_laws.waits s 0 v i j f P sorted) in
           omega (arith, whole, most, ap (count (lates v t)) calls, ap (count (overdue s v (now P) t)) more)
     ]
 late-owed s (Tick u ∷ P) v m k nz sorted h =
     let t : FrameName → Bool = λ x. same x (frame m k) in
-    let whole : count (lates v t) (owed s (Tick u ∷ P)) ≡ count (lates v t) (looks s (Tick u ∷ P) (node_numbers s)) + 0 = count-append (lates v t) (looks s (Tick u ∷ P) (node_numbers s)) (drop 1 (owed s P)) ∙ ap (λ (ds : List Entry). count (lates v t) (looks s (Tick u ∷ P) (node_numbers s)) + count (lates v t) ds) (tick-alone s u P h) in
+    let whole : count (lates v t) (owed s (Tick u ∷ P)) ≡ count (lates v t) (looks s (Tick u ∷ P) (node_numbers s)) + 0 =
+    count-append (lates v t) (looks s (Tick u ∷ P) (node_numbers s)) (drop 1 (owed s P))
+    ∙ ap (λ (ds : List Entry). count (lates v t) (looks s (Tick u ∷ P) (node_numbers s)) + count (lates v t) ds) (tick-alone s u P h) in
     omega (arith, whole, lates-looks s (Tick u ∷ P) v t (node_numbers s) (once_numbered s v))
 late-owed s (Settle r w ∷ P) v m k nz sorted h =
     let t : FrameName → Bool = λ x. same x (frame m k) in
-    omega (arith, late-owed s P v m k nz sorted (and_parts _ _ h).0, count-append (lates v t) (calls_for s P (Settle r w)) (drop 1 (owed s P)), lates-flush v w t (least_first s (waiting s w P)), count-drop (lates v t) (owed s P))
+    omega (arith, late-owed s P v m k nz sorted (and_parts _ _ h).0, count-append (lates v t) (calls_for s P (Settle r w)) (drop 1 (owed s P)),
+    lates-flush v w t (least_first s (waiting s w P)), count-drop (lates v t) (owed s P))
 late-owed s (Emit w i j why ∷ P) v m k nz sorted h =
     let t : FrameName → Bool = λ x. same x (frame m k) in
     let legal : is_legal s P ≡ true = (and_parts _ _ h).0 in
     let before = late-owed s P v m k nz sorted legal in
-    let less : count (lates v t) (owed s (Emit w i j why ∷ P)) ≤ count (lates v t) (drop 1 (owed s P)) = omega (arith, count-append (lates v t) (map (offer (frame i j)) (offered_to s P w)) (drop 1 (owed s P)), none-offers (lates v t) (misses v t) (frame i j) (offered_to s P w)) in
+    let less : count (lates v t) (owed s (Emit w i j why ∷ P)) ≤ count (lates v t) (drop 1 (owed s P)) =
+    omega (arith, count-append (lates v t) (map (offer (frame i j)) (offered_to s P w)) (drop 1 (owed s P)),
+    none-offers (lates v t) (misses v t) (frame i j) (offered_to s P w)) in
     elim (cases_Bool (eqb w v)) [
-      | inr away ↦ let stays : waiting s v (Emit w i j why ∷ P) ≡ waiting s v P = rw away refl in omega (arith, before, less, count-drop (lates v t) (owed s P), ap (count (overdue s v (now P) t)) stays)
+      | inr away ↦
+          let stays : waiting s v (Emit w i j why ∷ P) ≡ waiting s v P = rw away refl in
+          omega (arith, before, less, count-drop (lates v t) (owed s P), ap (count (overdue s v (now P) t)) stays)
       | inl here ↦
           let goes : waiting s v (Emit w i j why ∷ P) ≡ not_waiting (frame i j) (waiting s v P) = rw here refl in
           elim (cases_Bool (t (frame i j))) [
-            | inr other ↦ omega (arith, before, less, count-drop (lates v t) (owed s P), ap (count (overdue s v (now P) t)) goes, kept-overdue s v (now P) i j t (waiting s v P) other)
-            | inl ours ↦ omega (arith, less, lates-le v t (drop 1 (owed s P)), owed-Emit_out s w i j why P v t h, ap bit (and_from _ _ here ours), owed-waits s P v t nz sorted legal, waits-once s P v m k nz sorted legal)
+            | inr other ↦
+                omega (arith, before, less, count-drop (lates v t) (owed s P), ap (count (overdue s v (now P) t)) goes,
+                kept-overdue s v (now P) i j t (waiting s v P) other)
+            | inl ours ↦
+                omega (arith, less, lates-le v t (drop 1 (owed s P)), owed-Emit_out s w i j why P v t h, ap bit (and_from _ _ here ours),
+                owed-waits s P v t nz sorted legal, waits-once s P v m k nz sorted legal)
           ]
     ]
 late-owed s (SortDrop w i j ∷ P) v m k nz sorted h =
@@ -187,15 +217,22 @@ late-owed s (SortDrop w i j ∷ P) v m k nz sorted h =
     let legal : is_legal s P ≡ true = (and_parts _ _ h).0 in
     let before = late-owed s P v m k nz sorted legal in
     elim (cases_Bool (eqb w v)) [
-      | inr away ↦ let stays : waiting s v (SortDrop w i j ∷ P) ≡ waiting s v P = rw away refl in omega (arith, before, count-drop (lates v t) (owed s P), ap (count (overdue s v (now P) t)) stays)
+      | inr away ↦
+          let stays : waiting s v (SortDrop w i j ∷ P) ≡ waiting s v P = rw away refl in
+          omega (arith, before, count-drop (lates v t) (owed s P), ap (count (overdue s v (now P) t)) stays)
       | inl here ↦
           let goes : waiting s v (SortDrop w i j ∷ P) ≡ not_waiting (frame i j) (waiting s v P) = rw here refl in
           elim (cases_Bool (t (frame i j))) [
-            | inr other ↦ omega (arith, before, count-drop (lates v t) (owed s P), ap (count (overdue s v (now P) t)) goes, kept-overdue s v (now P) i j t (waiting s v P) other)
-            | inl ours ↦ omega (arith, lates-le v t (drop 1 (owed s P)), owed-SortDrop_out s w i j P v t h, ap bit (and_from _ _ here ours), owed-waits s P v t nz sorted legal, waits-once s P v m k nz sorted legal)
+            | inr other ↦
+                omega (arith, before, count-drop (lates v t) (owed s P), ap (count (overdue s v (now P) t)) goes,
+                kept-overdue s v (now P) i j t (waiting s v P) other)
+            | inl ours ↦
+                omega (arith, lates-le v t (drop 1 (owed s P)), owed-SortDrop_out s w i j P v t h, ap bit (and_from _ _ here ours),
+                owed-waits s P v t nz sorted legal, waits-once s P v m k nz sorted legal)
           ]
     ]
-late-owed s (e ∷ P) v m k nz sorted h = omega (arith, late-owed s P v m k nz sorted (and_parts _ _ h).0, count-drop (lates v (λ x. same x (frame m k))) (owed s P))
+late-owed s (e ∷ P) v m k nz sorted h =
+    omega (arith, late-owed s P v m k nz sorted (and_parts _ _ h).0, count-drop (lates v (λ x. same x (frame m k))) (owed s P))
 
 -- one that passes a test
 found : {X : Type 0} (p : X → Bool) (xs : List X) → 1 ≤ count p xs → (x : X) × (Contains xs x) × (p x ≡ true)
@@ -227,9 +264,12 @@ more-owed v t xs ys a b = omega (arith, count-append (lates v t) xs (drop 1 ys),
 
 none-late : (s : Setting) (P : Past) (v : ℕ) (t : FrameName → Bool) → is_sorted s v ≡ false → count (lates v t) (owed s P) ≡ 0
 none-late s [] v t plain = refl
-none-late s (Tick u ∷ P) v t plain = more-owed v t (calls_for s P (Tick u)) (owed s P) (plain-looks s (Tick u ∷ P) v t (node_numbers s) plain) (none-late s P v t plain)
-none-late s (Emit w i j why ∷ P) v t plain = more-owed v t (calls_for s P (Emit w i j why)) (owed s P) (none-offers (lates v t) (misses v t) (frame i j) (offered_to s P w)) (none-late s P v t plain)
-none-late s (Settle r w ∷ P) v t plain = more-owed v t (calls_for s P (Settle r w)) (owed s P) (lates-flush v w t (least_first s (waiting s w P))) (none-late s P v t plain)
+none-late s (Tick u ∷ P) v t plain =
+    more-owed v t (calls_for s P (Tick u)) (owed s P) (plain-looks s (Tick u ∷ P) v t (node_numbers s) plain) (none-late s P v t plain)
+none-late s (Emit w i j why ∷ P) v t plain =
+    more-owed v t (calls_for s P (Emit w i j why)) (owed s P) (none-offers (lates v t) (misses v t) (frame i j) (offered_to s P w)) (none-late s P v t plain)
+none-late s (Settle r w ∷ P) v t plain =
+    more-owed v t (calls_for s P (Settle r w)) (owed s P) (lates-flush v w t (least_first s (waiting s w P))) (none-late s P v t plain)
 none-late s (Put r w i j f ∷ P) v t plain = more-owed v t (calls_for s P (Put r w i j f)) (owed s P) (called (cases_Bool (eqb w v))) (none-late s P v t plain)
   where
     called : (eqb w v ≡ true) ⊎ (eqb w v ≡ false) → count (lates v t) (calls_for s P (Put r w i j f)) ≡ 0
@@ -237,7 +277,8 @@ none-late s (Put r w i j f ∷ P) v t plain = more-owed v t (calls_for s P (Put 
     called (inr away) = lates-elsewhere v w t (calls_for s P (Put r w i j f)) (eqb-false w v away) (result-at s w (frame i j) f P (node s w).work)
 none-late s (e ∷ P) v t plain = more-owed v t (calls_for s P e) (owed s P) refl (none-late s P v t plain)
 
-late-due : (s : Setting) (P : Past) (v m k : ℕ) → is_legal s P ≡ true → 1 ≤ count (lates v (λ x. same x (frame m k))) (owed s P) → 1 ≤ count (overdue s v (now P) (λ x. same x (frame m k))) (waiting s v P)
+late-due : (s : Setting) (P : Past) (v m k : ℕ) → is_legal s P ≡ true → 1 ≤ count (lates v (λ x. same x (frame m k))) (owed s P)
+    → 1 ≤ count (overdue s v (now P) (λ x. same x (frame m k))) (waiting s v P)
 late-due s P v m k legal some =
     elim (cases_Bool (is_sorted s v)) [
       | inl sorted ↦ omega (arith, some, late-owed s P v m k (sorted-node s v sorted) sorted legal)

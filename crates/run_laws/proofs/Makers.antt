@@ -55,7 +55,9 @@ no_file n h = by n.kind h
 -- a node's input is the driver, or a node that may have children
 pub input-source : (g : Graph) → IsGraph g → (v : ℕ) (n : NodeRule) → rule_at g.nodes v ≡ Some n → IsTrue (is_source g.nodes n.input)
 input-source g sound zero n rule = cc
-input-source g sound (suc k) n rule = subst (λ (m : NodeRule). IsTrue (is_source g.nodes m.input)) (get_or_from_slice_get g.nodes k n n rule) (sound.inputs k n (slice_get_within g.nodes k n rule))
+input-source g sound (suc k) n rule =
+    subst (λ (m : NodeRule). IsTrue (is_source g.nodes m.input)) (get_or_from_slice_get g.nodes k n n rule)
+    (sound.inputs k n (slice_get_within g.nodes k n rule))
 
 module _ (g : Graph) (makers : List Maker) (arrays : List Array) (P : Past) (sound : IsGraph g) (h : is_history (setting_of g makers arrays) P ≡ true) where
   abbrev s : Setting
@@ -80,18 +82,24 @@ module _ (g : Graph) (makers : List Maker) (arrays : List Array) (P : Past) (sou
   -- where the input's emissions have the name of its maker, so has what comes to a node that makes nothing
   passed : (v : ℕ) (n : NodeRule) (m : ℕ) → rule_at g.nodes v ≡ Some n → count (emits_of n.input (wrong m)) P ≡ 0 → count (accepts_of v (wrong m)) P ≡ 0
   passed v n m rule none =
-      let same : count (emits_of (node s v).input (wrong m)) P ≡ count (emits_of n.input (wrong m)) P = ap (λ (u : ℕ). count (emits_of u (wrong m)) P) (input-is v n rule) in
+      let same : count (emits_of (node s v).input (wrong m)) P ≡ count (emits_of n.input (wrong m)) P =
+      ap (λ (u : ℕ). count (emits_of u (wrong m)) P) (input-is v n rule) in
       omega (arith, none, same, accepts-emitted-of s P v (wrong m) legal)
 
-  put_so : (v : ℕ) (n : NodeRule) (m : ℕ) → rule_at g.nodes v ≡ Some n → is_maker s v ≡ false → count (emits_of n.input (wrong m)) P ≡ 0 → count (puts_of v (wrong m)) P ≡ 0
+  put_so : (v : ℕ) (n : NodeRule) (m : ℕ) → rule_at g.nodes v ≡ Some n → is_maker s v ≡ false → count (emits_of n.input (wrong m)) P ≡ 0
+      → count (puts_of v (wrong m)) P ≡ 0
   put_so v n m rule passes none = omega (arith, passed v n m rule none, puts-accepted s P v (wrong m) passes legal, accepts-list v (wrong m) P)
 
   named : (d v : ℕ) → depth g.nodes (length g.nodes) v < d → IsTrue (is_source g.nodes v) → count (emits_of v (wrong (maker_at g.nodes v))) P ≡ 0
   named zero v low source = absurd (omega (arith, low))
-  named (suc d) zero low source = subst (λ (m : ℕ). count (emits_of 0 (wrong m)) P ≡ 0) (sym (maker_within-none g.nodes (length g.nodes) 0 refl)) (driver-emits s P (wrong 0) (right 0) legal)
+  named (suc d) zero low source =
+      subst (λ (m : ℕ). count (emits_of 0 (wrong m)) P ≡ 0) (sym (maker_within-none g.nodes (length g.nodes) 0 refl))
+      (driver-emits s P (wrong 0) (right 0) legal)
   named (suc d) (suc k) low source = by_rule (slice_get g.nodes k) refl (λ w. named d w)
     where
-      by_rule : (o : Option NodeRule) → o ≡ slice_get g.nodes k → ((w : ℕ) → depth g.nodes (length g.nodes) w < d → IsTrue (is_source g.nodes w) → count (emits_of w (wrong (maker_at g.nodes w))) P ≡ 0) → count (emits_of (suc k) (wrong (maker_at g.nodes (suc k)))) P ≡ 0
+      by_rule : (o : Option NodeRule) → o ≡ slice_get g.nodes k
+          → ((w : ℕ) → depth g.nodes (length g.nodes) w < d → IsTrue (is_source g.nodes w) → count (emits_of w (wrong (maker_at g.nodes w))) P ≡ 0)
+          → count (emits_of (suc k) (wrong (maker_at g.nodes (suc k)))) P ≡ 0
       by_rule None is sooner = absurd (false≢true (ap (λ (o : Option NodeRule). option_map_or (λ (n : NodeRule). may_feed n.kind) o false) is ∙ source))
       by_rule (Some n) is sooner = by_kind n.kind refl
         where
@@ -108,26 +116,31 @@ module _ (g : Graph) (makers : List Maker) (arrays : List Array) (P : Past) (sou
           by_kind (Roi r) kind =
               let work = work-is (suc k) n (Roi r) rule kind in
               subst (λ (m : ℕ). count (emits_of (suc k) (wrong m)) P ≡ 0) (sym (maker_of_region g (suc k) n sound is (ap makes_arrays kind)))
-              (omega (arith, emits-put s P (suc k) (wrong (suc k)) (at_node (suc k) n rule) (ap may_sort work) h, makers-name s P (suc k) (wrong (suc k)) (ap makes work) (right (suc k)) legal))
+              (omega (arith, emits-put s P (suc k) (wrong (suc k)) (at_node (suc k) n rule) (ap may_sort work) h,
+              makers-name s P (suc k) (wrong (suc k)) (ap makes work) (right (suc k)) legal))
           by_kind (Stats r) kind =
               let work = work-is (suc k) n (Stats r) rule kind in
               subst (λ (m : ℕ). count (emits_of (suc k) (wrong m)) P ≡ 0) (sym (maker_of_other g (suc k) n sound is (ap makes_arrays kind)))
-              (omega (arith, emits-put s P (suc k) (wrong (maker_at g.nodes n.input)) (at_node (suc k) n rule) (ap may_sort work) h, put_so (suc k) n (maker_at g.nodes n.input) rule (ap makes work) before))
+              (omega (arith, emits-put s P (suc k) (wrong (maker_at g.nodes n.input)) (at_node (suc k) n rule) (ap may_sort work) h,
+              put_so (suc k) n (maker_at g.nodes n.input) rule (ap makes work) before))
           by_kind Scatter kind =
               let work = work-is (suc k) n Scatter rule kind in
               subst (λ (m : ℕ). count (emits_of (suc k) (wrong m)) P ≡ 0) (sym (maker_of_other g (suc k) n sound is (ap makes_arrays kind)))
-              (omega (arith, emits-put s P (suc k) (wrong (maker_at g.nodes n.input)) (at_node (suc k) n rule) (ap may_sort work) h, put_so (suc k) n (maker_at g.nodes n.input) rule (ap makes work) before))
+              (omega (arith, emits-put s P (suc k) (wrong (maker_at g.nodes n.input)) (at_node (suc k) n rule) (ap may_sort work) h,
+              put_so (suc k) n (maker_at g.nodes n.input) rule (ap makes work) before))
           by_kind (Circular r) kind =
               let work = work-is (suc k) n (Circular r) rule kind in
               let sound_rule : IsCircular r = subst IsKind kind (stands g (suc k) n sound is).sound.kind in
               subst (λ (m : ℕ). count (emits_of (suc k) (wrong m)) P ≡ 0) (sym (maker_of_other g (suc k) n sound is (ap makes_arrays kind)))
-              (omega (arith, watched-put s P (suc k) r.pre r.post r.preset (wrong (maker_at g.nodes n.input)) work sound_rule.post.0 h, put_so (suc k) n (maker_at g.nodes n.input) rule (ap makes work) before))
+              (omega (arith, watched-put s P (suc k) r.pre r.post r.preset (wrong (maker_at g.nodes n.input)) work sound_rule.post.0 h,
+              put_so (suc k) n (maker_at g.nodes n.input) rule (ap makes work) before))
           by_kind (File r) kind = absurd (false≢true (sym (ap may_feed kind) ∙ feeds))
 
   -- what a node accepted, dropped later or not, has the name of its input's maker
   pub accepts-named : (v : ℕ) (n : NodeRule) → rule_at g.nodes v ≡ Some n → count (wrong (maker_at g.nodes n.input)) (accepts v P) ≡ 0
   accepts-named v n rule =
-      let none = passed v n (maker_at g.nodes n.input) rule (named (suc (depth g.nodes (length g.nodes) n.input)) n.input (omega arith) (input-source g sound v n rule)) in
+      let none =
+      passed v n (maker_at g.nodes n.input) rule (named (suc (depth g.nodes (length g.nodes) n.input)) n.input (omega arith) (input-source g sound v n rule)) in
       omega (arith, none, accepts-list v (wrong (maker_at g.nodes n.input)) P)
 
   -- and so has what it accepted for good
@@ -142,9 +155,12 @@ module _ (g : Graph) (makers : List Maker) (arrays : List Array) (P : Past) (sou
     where
       sends : may_feed n.kind ≡ true → count (wrong (maker_at g.nodes (suc k))) (put_out s (suc k) P) ≡ 0
       sends feeds =
-          let source : IsTrue (is_source g.nodes (suc k)) = ap (λ (o : Option NodeRule). option_map_or (λ (n : NodeRule). may_feed n.kind) o false) rule ∙ feeds in
-          let out : put_out s (suc k) P ≡ emitted (suc k) P = out-emitted g makers arrays (suc k) P (ap is_file (work-is (suc k) n n.kind rule refl) ∙ no_file n feeds) in
-          omega (arith, ap (count (wrong (maker_at g.nodes (suc k)))) out, emitted-of (suc k) (wrong (maker_at g.nodes (suc k))) P, named (suc (depth g.nodes (length g.nodes) (suc k))) (suc k) (omega arith) source)
+          let source : IsTrue (is_source g.nodes (suc k)) =
+          ap (λ (o : Option NodeRule). option_map_or (λ (n : NodeRule). may_feed n.kind) o false) rule ∙ feeds in
+          let out : put_out s (suc k) P ≡ emitted (suc k) P =
+          out-emitted g makers arrays (suc k) P (ap is_file (work-is (suc k) n n.kind rule refl) ∙ no_file n feeds) in
+          omega (arith, ap (count (wrong (maker_at g.nodes (suc k)))) out, emitted-of (suc k) (wrong (maker_at g.nodes (suc k))) P,
+          named (suc (depth g.nodes (length g.nodes) (suc k))) (suc k) (omega arith) source)
 
       by_kind : (c : Kind) → n.kind ≡ c → count (wrong (maker_at g.nodes (suc k))) (put_out s (suc k) P) ≡ 0
       by_kind (Roi r) kind = sends (ap may_feed kind)
@@ -155,23 +171,30 @@ module _ (g : Graph) (makers : List Maker) (arrays : List Array) (P : Past) (sou
           let d = known g makers arrays (suc k) n (File r) rule kind in
           let alone : is_parallel n.kind ≡ false = ap is_parallel kind in
           let one = (stands g (suc k) n sound (sym rule)).sound.one_thread alone in
-          let out : put_out s (suc k) P ≡ accepted s (suc k) P = out-saved g makers arrays (suc k) P (ap is_file d.work) ∙ saves-are s P (suc k) (ap is_file d.work) (one-is g makers arrays (suc k) n rule one) run in
+          let out : put_out s (suc k) P ≡ accepted s (suc k) P =
+          out-saved g makers arrays (suc k) P (ap is_file d.work) ∙ saves-are s P (suc k) (ap is_file d.work) (one-is g makers arrays (suc k) n rule one) run in
           let maker : maker_at g.nodes (suc k) ≡ maker_at g.nodes n.input = maker_of_other g (suc k) n sound (sym rule) (ap makes_arrays kind) in
-          subst (λ (m : ℕ). count (wrong m) (put_out s (suc k) P) ≡ 0) (sym maker) (omega (arith, ap (count (wrong (maker_at g.nodes n.input))) out, comes-named (suc k) n rule))
+          subst (λ (m : ℕ). count (wrong m) (put_out s (suc k) P) ≡ 0) (sym maker)
+          (omega (arith, ap (count (wrong (maker_at g.nodes n.input))) out, comes-named (suc k) n rule))
 
   -- so what these hold is what the node puts out at their positions
-  pub contents-are : (v : ℕ) (xs : List FrameName) → count (wrong (maker_at g.nodes v)) xs ≡ 0 → contents g.nodes arrays xs ≡ arrays_out g.nodes arrays v (indices xs)
+  pub contents-are : (v : ℕ) (xs : List FrameName) → count (wrong (maker_at g.nodes v)) xs ≡ 0
+      → contents g.nodes arrays xs ≡ arrays_out g.nodes arrays v (indices xs)
   contents-are v [] none = refl
   contents-are v (x ∷ xs) none =
       elim (cases_Bool (eqb x.maker (maker_at g.nodes v))) [
         | inr off ↦ absurd (omega (arith, none, count-cons (wrong (maker_at g.nodes v)) x xs, ap (λ (b : Bool). bit (not b)) off))
         | inl is ↦
-            let same : content g.nodes arrays x ≡ content g.nodes arrays (frame v x.index) = ap (λ (m : ℕ). content g.nodes arrays (frame m x.index)) (eqb-true x.maker (maker_at g.nodes v) is) ∙ sym (content-maker g arrays v x.index sound) in
+            let same : content g.nodes arrays x ≡ content g.nodes arrays (frame v x.index) =
+            ap (λ (m : ℕ). content g.nodes arrays (frame m x.index)) (eqb-true x.maker (maker_at g.nodes v) is)
+            ∙ sym (content-maker g arrays v x.index sound) in
             ap (λ (o : Option Array). listed o ++ contents g.nodes arrays xs) same
-            ∙ ap (λ (ys : List Array). listed (content g.nodes arrays (frame v x.index)) ++ ys) (contents-are v xs (omega (arith, none, count-cons (wrong (maker_at g.nodes v)) x xs)))
+            ∙ ap (λ (ys : List Array). listed (content g.nodes arrays (frame v x.index)) ++ ys)
+            (contents-are v xs (omega (arith, none, count-cons (wrong (maker_at g.nodes v)) x xs)))
       ]
 
-  pub in_order : (v : ℕ) (n : NodeRule) → rule_at g.nodes v ≡ Some n → n.threads ≡ 1 → n.sort ≡ 0 → IsFinishedRun s P → AreInOrder g.nodes arrays v (accepted s v P) (put_out s v P)
+  pub in_order : (v : ℕ) (n : NodeRule) → rule_at g.nodes v ≡ Some n → n.threads ≡ 1 → n.sort ≡ 0 → IsFinishedRun s P
+      → AreInOrder g.nodes arrays v (accepted s v P) (put_out s v P)
   in_order v n rule one none run =
       let p = positions g makers arrays P v n sound rule one none run in
       record { positions = p; result = ap (outcome g.nodes v) (contents-are v (put_out s v P) (out-named v n rule run) ∙ ap (arrays_out g.nodes arrays v) p) }
@@ -179,11 +202,13 @@ module _ (g : Graph) (makers : List Maker) (arrays : List Array) (P : Past) (sou
   pub in_some_order : (v : ℕ) (n : NodeRule) → rule_at g.nodes v ≡ Some n → IsFinishedRun s P → AreInSomeOrder g.nodes arrays v (accepted s v P) (put_out s v P)
   in_some_order v n rule run =
       let p = some_order g makers arrays P v n sound rule run in
-      let held : contents g.nodes arrays (put_out s v P) ≡ arrays_out g.nodes arrays v (indices (put_out s v P)) = contents-are v (put_out s v P) (out-named v n rule run) in
+      let held : contents g.nodes arrays (put_out s v P) ≡ arrays_out g.nodes arrays v (indices (put_out s v P)) =
+      contents-are v (put_out s v P) (out-named v n rule run) in
       record {
         positions = p;
         arrays_are = subst (λ (ys : List Array). IsPermutation (one_thread g.nodes arrays v (indices (accepted s v P))).arrays ys) (sym held)
-            (permute-pieces (λ k. listed (content g.nodes arrays (frame v k))) (outputs g.nodes arrays v (indices (accepted s v P))) (indices (put_out s v P)) p);
+            (permute-pieces (λ k. listed (content g.nodes arrays (frame v k)))
+            (outputs g.nodes arrays v (indices (accepted s v P))) (indices (put_out s v P)) p);
       }
 
 -- as a fact of each

@@ -66,13 +66,16 @@ out_other w (d ∷ ds) h = and_from _ _ (one d p.0) (out_other w ds p.1)
 
 looks_other : (s : Setting) (P : Past) (us : List ℕ) → list_all is_other (flat_map (λ u. cond (is_sorted s u) (look s u P) []) us) ≡ true
 looks_other s P [] = refl
-looks_other s P (u ∷ us) = all-append is_other (cond (is_sorted s u) (look s u P) []) (flat_map (λ w. cond (is_sorted s w) (look s w P) []) us) (one (is_sorted s u)) (looks_other s P us)
+looks_other s P (u ∷ us) =
+    all-append is_other (cond (is_sorted s u) (look s u P) []) (flat_map (λ w. cond (is_sorted s w) (look s w P) []) us)
+    (one (is_sorted s u)) (looks_other s P us)
   where
     one : (b : Bool) → list_all is_other (cond b (look s u P) []) ≡ true
     one true = out_other u (look s u P) (goes_out-at s u _ _ _)
     one false = refl
 
-behind-emission : (ds : List Entry) (head : Entry) (rest : List Entry) (w m i : ℕ) (how : Why) → ds ≡ head ∷ rest → head ≡ Emit w m i how → offers_lead ds ≡ true → list_all is_other rest ≡ true
+behind-emission : (ds : List Entry) (head : Entry) (rest : List Entry) (w m i : ℕ) (how : Why) → ds ≡ head ∷ rest → head ≡ Emit w m i how
+    → offers_lead ds ≡ true → list_all is_other rest ≡ true
 behind-emission ds head rest w m i how is e lead = subst (λ (es : List Entry). offers_lead es ≡ true) (is ∙ ap (λ (d : Entry). d ∷ rest) e) lead
 
 -- what begins a move calls for no offer
@@ -81,12 +84,20 @@ begun-other s e P none h = all-append is_other (calls_for s P e) (drop 1 (owed s
 
 leads : (s : Setting) (P : Past) → is_legal s P ≡ true → offers_lead (owed s P) ≡ true
 leads s [] h = refl
-leads s (Load r k b n f g x ∷ P) h = lead-none (owed s (Load r k b n f g x ∷ P)) (begun-other s (Load r k b n f g x) P (owed-first s (Load r k b n f g x) P (λ d. refl) h) refl)
-leads s (LoadRefused r k n z ∷ P) h = lead-none (owed s (LoadRefused r k n z ∷ P)) (begun-other s (LoadRefused r k n z) P (owed-first s (LoadRefused r k n z) P (λ d. refl) h) refl)
+leads s (Load r k b n f g x ∷ P) h =
+    lead-none (owed s (Load r k b n f g x ∷ P)) (begun-other s (Load r k b n f g x) P (owed-first s (Load r k b n f g x) P (λ d. refl) h) refl)
+leads s (LoadRefused r k n z ∷ P) h =
+    lead-none (owed s (LoadRefused r k n z ∷ P)) (begun-other s (LoadRefused r k n z) P (owed-first s (LoadRefused r k n z) P (λ d. refl) h) refl)
 leads s (Issue r k ∷ P) h = lead-none (owed s (Issue r k ∷ P)) (begun-other s (Issue r k) P (owed-first s (Issue r k) P (λ d. refl) h) refl)
-leads s (Put r w m i f ∷ P) h = lead-none (owed s (Put r w m i f ∷ P)) (begun-other s (Put r w m i f) P (owed-first s (Put r w m i f) P (λ d. refl) h) (out_other w (calls_for s P (Put r w m i f)) (result-at s w (frame m i) f P (node s w).work)))
-leads s (Settle r w ∷ P) h = lead-none (owed s (Settle r w ∷ P)) (begun-other s (Settle r w) P (owed-first s (Settle r w) P (λ d. refl) h) (out_other w (calls_for s P (Settle r w)) (flush-at w (least_first s (waiting s w P)))))
-leads s (Tick t ∷ P) h = lead-none (owed s (Tick t ∷ P)) (all-append is_other (calls_for s P (Tick t)) (drop 1 (owed s P)) (looks_other s (Tick t ∷ P) (node_numbers s)) (ap (list_all is_other) (tick-alone s t P h)))
+leads s (Put r w m i f ∷ P) h =
+    lead-none (owed s (Put r w m i f ∷ P)) (begun-other s (Put r w m i f) P (owed-first s (Put r w m i f) P (λ d. refl) h)
+    (out_other w (calls_for s P (Put r w m i f)) (result-at s w (frame m i) f P (node s w).work)))
+leads s (Settle r w ∷ P) h =
+    lead-none (owed s (Settle r w ∷ P)) (begun-other s (Settle r w) P (owed-first s (Settle r w) P (λ d. refl) h)
+    (out_other w (calls_for s P (Settle r w)) (flush-at w (least_first s (waiting s w P)))))
+leads s (Tick t ∷ P) h =
+    lead-none (owed s (Tick t ∷ P)) (all-append is_other (calls_for s P (Tick t)) (drop 1 (owed s P)) (looks_other s (Tick t ∷ P) (node_numbers s))
+    (ap (list_all is_other) (tick-alone s t P h)))
 leads s (Emit w m i why ∷ P) h =
     let a = owed-answered s (Emit w m i why) P refl h in
     let x = answers-by_Emit s P w m i why a.head a.answer in
@@ -133,13 +144,15 @@ to-one v a (c ∷ cs) h =
     ]
 
 -- an emission is offered to the node once where it is the input's, and else not at all
-to-child : (s : Setting) (P : Past) (v w m i : ℕ) → is_node s v ≡ true → deals s (node s v).input ≡ false → offers_to_node v (map (offer (frame m i)) (offered_to s P w)) ≡ comes_at (node s v).input w (frame m i) []
+to-child : (s : Setting) (P : Past) (v w m i : ℕ) → is_node s v ≡ true → deals s (node s v).input ≡ false
+    → offers_to_node v (map (offer (frame m i)) (offered_to s P w)) ≡ comes_at (node s v).input w (frame m i) []
 to-child s P v w m i number alike =
     elim (cases_Bool (eqb w (node s v).input)) [
       | inl here ↦
           let is : (node s v).input ≡ w = sym (eqb-true w (node s v).input here) in
           let all : offered_to s P w ≡ children s w = ap (λ (b : Bool). cond b (dealt_to s P (in_turn s P w)) (children s w)) (sym (ap (deals s) is) ∙ alike) in
-          rw here (to-one v (frame m i) (offered_to s P w) (ap (count (is_number v)) all ∙ omega (arith, child_of s v w number is, child_once s w v, ap bit (eq-eqb (node s v).input w is))))
+          rw here (to-one v (frame m i) (offered_to s P w)
+          (ap (count (is_number v)) all ∙ omega (arith, child_of s v w number is, child_once s w v, ap bit (eq-eqb (node s v).input w is))))
       | inr away ↦
           let off : eqb (node s v).input w ≡ false = ne_eqb (node s v).input w (λ e. eqb-false w (node s v).input away (sym e)) in
           rw away (to-none v (frame m i) (offered_to s P w) (omega (arith, count-offered (is_number v) s P w, child_once s w v, ap bit off)))
@@ -152,11 +165,13 @@ comes-more v w a xs = elim (eqb w v) as (λ b. cond b (xs ++ a ∷ []) xs ≡ xs
 abbrev ComesSo : Setting → ℕ → Past → Type 0
 ComesSo s v P = offered v P ++ offers_to_node v (owed s P) ≡ emitted (node s v).input P
 
-offer-answered : (s : Setting) (v w m i : ℕ) (P : Past) (head : Entry) (rest : List Entry) → owed s P ≡ head ∷ rest → head ≡ Accept w m i → ComesSo s v P → comes_at v w (frame m i) (offered v P) ++ offers_to_node v (drop 1 (owed s P)) ≡ emitted (node s v).input P
+offer-answered : (s : Setting) (v w m i : ℕ) (P : Past) (head : Entry) (rest : List Entry) → owed s P ≡ head ∷ rest → head ≡ Accept w m i → ComesSo s v P
+    → comes_at v w (frame m i) (offered v P) ++ offers_to_node v (drop 1 (owed s P)) ≡ emitted (node s v).input P
 offer-answered s v w m i P head rest is first before =
     let whole : owed s P ≡ Accept w m i ∷ rest = is ∙ ap (λ (d : Entry). d ∷ rest) first in
     let left : offers_to_node v (drop 1 (owed s P)) ≡ offers_to_node v rest = ap (λ (ds : List Entry). offers_to_node v (drop 1 ds)) whole in
-    let was : offered v P ++ offers_to_node v (Accept w m i ∷ rest) ≡ emitted (node s v).input P = ap (λ (ds : List Entry). offered v P ++ offers_to_node v ds) (sym whole) ∙ before in
+    let was : offered v P ++ offers_to_node v (Accept w m i ∷ rest) ≡ emitted (node s v).input P =
+    ap (λ (ds : List Entry). offered v P ++ offers_to_node v ds) (sym whole) ∙ before in
     ap (λ (xs : List FrameName). comes_at v w (frame m i) (offered v P) ++ xs) left
     ∙ (elim (cases_Bool (eqb w v)) [
       | inl here ↦ rw here (append_assoc (offered v P) (frame m i ∷ []) (offers_to_node v rest))
@@ -164,11 +179,14 @@ offer-answered s v w m i P head rest is first before =
     ] ∙ was)
 
 -- an entry that is owed nothing to the node, before or after it
-still-comes : (s : Setting) (v : ℕ) (e : Entry) (P : Past) → offered v (e ∷ P) ≡ offered v P → emitted (node s v).input (e ∷ P) ≡ emitted (node s v).input P → offers_to_node v (owed s (e ∷ P)) ≡ offers_to_node v (owed s P) → ComesSo s v P → ComesSo s v (e ∷ P)
+still-comes : (s : Setting) (v : ℕ) (e : Entry) (P : Past) → offered v (e ∷ P) ≡ offered v P → emitted (node s v).input (e ∷ P) ≡ emitted (node s v).input P
+    → offers_to_node v (owed s (e ∷ P)) ≡ offers_to_node v (owed s P) → ComesSo s v P → ComesSo s v (e ∷ P)
 still-comes s v e P same_offers same_out same_owed before =
-    ap (λ (xs : List FrameName). xs ++ offers_to_node v (owed s (e ∷ P))) same_offers ∙ (ap (λ (xs : List FrameName). offered v P ++ xs) same_owed ∙ (before ∙ sym same_out))
+    ap (λ (xs : List FrameName). xs ++ offers_to_node v (owed s (e ∷ P))) same_offers
+    ∙ (ap (λ (xs : List FrameName). offered v P ++ xs) same_owed ∙ (before ∙ sym same_out))
 
-begun-none : (s : Setting) (v : ℕ) (e : Entry) (P : Past) → ((d : Entry) → answers s P e d ≡ false) → is_legal s (e ∷ P) ≡ true → list_all is_other (calls_for s P e) ≡ true → offers_to_node v (owed s (e ∷ P)) ≡ offers_to_node v (owed s P)
+begun-none : (s : Setting) (v : ℕ) (e : Entry) (P : Past) → ((d : Entry) → answers s P e d ≡ false) → is_legal s (e ∷ P) ≡ true
+    → list_all is_other (calls_for s P e) ≡ true → offers_to_node v (owed s (e ∷ P)) ≡ offers_to_node v (owed s P)
 begun-none s v e P never h others =
     let none : owed s P ≡ [] = owed-first s e P never h in
     none-to v (owed s (e ∷ P)) (begun-other s e P none others) ∙ sym (ap (offers_to_node v) none)
@@ -181,35 +199,49 @@ comes-so s (Emit w m i why ∷ P) v number alike h =
     let still : list_all is_other a.rest ≡ true = behind-emission (owed s P) a.head a.rest w m i x.0 a.is x.1 (leads s P (and_parts _ _ h).0) in
     let none_left : offers_to_node v (drop 1 (owed s P)) ≡ [] = ap (λ (ds : List Entry). offers_to_node v (drop 1 ds)) a.is ∙ none-to v a.rest still in
     let none_before : offers_to_node v (owed s P) ≡ [] = ap (offers_to_node v) (a.is ∙ ap (λ (d : Entry). d ∷ a.rest) x.1) ∙ none-to v a.rest still in
-    let before : offered v P ≡ emitted (node s v).input P = sym (append-nil (offered v P)) ∙ (ap (λ (xs : List FrameName). offered v P ++ xs) (sym none_before) ∙ comes-so s P v number alike (and_parts _ _ h).0) in
+    let before : offered v P ≡ emitted (node s v).input P =
+    sym (append-nil (offered v P)) ∙ (ap (λ (xs : List FrameName). offered v P ++ xs) (sym none_before) ∙ comes-so s P v number alike (and_parts _ _ h).0) in
     let now_owed : offers_to_node v (owed s (Emit w m i why ∷ P)) ≡ comes_at (node s v).input w (frame m i) [] =
-    to-append v (map (offer (frame m i)) (offered_to s P w)) (drop 1 (owed s P)) ∙ (ap (λ (xs : List FrameName). offers_to_node v (map (offer (frame m i)) (offered_to s P w)) ++ xs) none_left ∙ (append-nil (offers_to_node v (map (offer (frame m i)) (offered_to s P w))) ∙ to-child s P v w m i number alike)) in
-    ap (λ (xs : List FrameName). offered v P ++ xs) now_owed ∙ (ap (λ (xs : List FrameName). xs ++ comes_at (node s v).input w (frame m i) []) before ∙ sym (comes-more (node s v).input w (frame m i) (emitted (node s v).input P)))
+    to-append v (map (offer (frame m i)) (offered_to s P w)) (drop 1 (owed s P))
+    ∙ (ap (λ (xs : List FrameName). offers_to_node v (map (offer (frame m i)) (offered_to s P w)) ++ xs) none_left
+    ∙ (append-nil (offers_to_node v (map (offer (frame m i)) (offered_to s P w))) ∙ to-child s P v w m i number alike)) in
+    ap (λ (xs : List FrameName). offered v P ++ xs) now_owed
+    ∙ (ap (λ (xs : List FrameName). xs ++ comes_at (node s v).input w (frame m i) []) before
+    ∙ sym (comes-more (node s v).input w (frame m i) (emitted (node s v).input P)))
 comes-so s (Accept w m i ∷ P) v number alike h =
     let a = owed-answered s (Accept w m i) P refl h in
     offer-answered s v w m i P a.head a.rest a.is (answers-by_Accept s P w m i a.head a.answer) (comes-so s P v number alike (and_parts _ _ h).0)
 comes-so s (Full w m i ∷ P) v number alike h =
     let a = owed-answered s (Full w m i) P refl h in
     let none : count is_any_full (a.head ∷ a.rest) ≡ 0 = sym (ap (count is_any_full) a.is) ∙ no_full_owed s P in
-    offer-answered s v w m i P a.head a.rest a.is (full-answers s P w m i a.head a.answer (head-no_full a.head a.rest none)).0 (comes-so s P v number alike (and_parts _ _ h).0)
+    offer-answered s v w m i P a.head a.rest a.is (full-answers s P w m i a.head a.answer (head-no_full a.head a.rest none)).0
+    (comes-so s P v number alike (and_parts _ _ h).0)
 comes-so s (SortDrop w m i ∷ P) v number alike h =
     let a = owed-answered s (SortDrop w m i) P refl h in
     let left : offers_to_node v (drop 1 (owed s P)) ≡ offers_to_node v a.rest = ap (λ (ds : List Entry). offers_to_node v (drop 1 ds)) a.is in
-    let was : offers_to_node v (owed s P) ≡ offers_to_node v a.rest = ap (offers_to_node v) (a.is ∙ ap (λ (d : Entry). d ∷ a.rest) (answers-by_SortDrop s P w m i a.head a.answer)) in
+    let was : offers_to_node v (owed s P) ≡ offers_to_node v a.rest =
+    ap (offers_to_node v) (a.is ∙ ap (λ (d : Entry). d ∷ a.rest) (answers-by_SortDrop s P w m i a.head a.answer)) in
     still-comes s v (SortDrop w m i) P refl refl (left ∙ sym was) (comes-so s P v number alike (and_parts _ _ h).0)
 comes-so s (Tick t ∷ P) v number alike h =
     let a = owed-answered s (Tick t) P refl h in
     let x = answers-by_Tick s P t a.head a.answer in
-    let now_none : offers_to_node v (owed s (Tick t ∷ P)) ≡ [] = none-to v (owed s (Tick t ∷ P)) (all-append is_other (calls_for s P (Tick t)) (drop 1 (owed s P)) (looks_other s (Tick t ∷ P) (node_numbers s)) (ap (list_all is_other) (tick-alone s t P h))) in
+    let now_none : offers_to_node v (owed s (Tick t ∷ P)) ≡ [] =
+    none-to v (owed s (Tick t ∷ P)) (all-append is_other (calls_for s P (Tick t)) (drop 1 (owed s P)) (looks_other s (Tick t ∷ P) (node_numbers s))
+    (ap (list_all is_other) (tick-alone s t P h))) in
     let alone : a.rest ≡ [] = sym (ap (drop 1) a.is) ∙ tick-alone s t P h in
     let was : offers_to_node v (owed s P) ≡ [] = ap (offers_to_node v) (a.is ∙ ap (λ (d : Entry). d ∷ a.rest) x.1) ∙ ap (offers_to_node v) alone in
     still-comes s v (Tick t) P refl refl (now_none ∙ sym was) (comes-so s P v number alike (and_parts _ _ h).0)
-comes-so s (Put r w m i f ∷ P) v number alike h = still-comes s v (Put r w m i f) P refl refl (begun-none s v (Put r w m i f) P (λ d. refl) h (out_other w (calls_for s P (Put r w m i f)) (result-at s w (frame m i) f P (node s w).work))) (comes-so s P v number alike (and_parts _ _ h).0)
-comes-so s (Settle r w ∷ P) v number alike h = still-comes s v (Settle r w) P refl refl (begun-none s v (Settle r w) P (λ d. refl) h (out_other w (calls_for s P (Settle r w)) (flush-at w (least_first s (waiting s w P))))) (comes-so s P v number alike (and_parts _ _ h).0)
+comes-so s (Put r w m i f ∷ P) v number alike h =
+    still-comes s v (Put r w m i f) P refl refl (begun-none s v (Put r w m i f) P (λ d. refl) h
+    (out_other w (calls_for s P (Put r w m i f)) (result-at s w (frame m i) f P (node s w).work))) (comes-so s P v number alike (and_parts _ _ h).0)
+comes-so s (Settle r w ∷ P) v number alike h =
+    still-comes s v (Settle r w) P refl refl (begun-none s v (Settle r w) P (λ d. refl) h
+    (out_other w (calls_for s P (Settle r w)) (flush-at w (least_first s (waiting s w P))))) (comes-so s P v number alike (and_parts _ _ h).0)
 comes-so s (e ∷ P) v number alike h = still-comes s v e P refl refl (begun-none s v e P (λ d. refl) h refl) (comes-so s P v number alike (and_parts _ _ h).0)
 
 -- in a history each emission of a node that doesn't deal was offered to each child, in order
-pub comes : (s : Setting) (P : Past) (v : ℕ) → is_node s v ≡ true → deals s (node s v).input ≡ false → is_history s P ≡ true → offered v P ≡ emitted (node s v).input P
+pub comes : (s : Setting) (P : Past) (v : ℕ) → is_node s v ≡ true → deals s (node s v).input ≡ false → is_history s P ≡ true
+    → offered v P ≡ emitted (node s v).input P
 comes s P v number alike h =
     let both = and_parts (is_legal s P) (is_nothing (owed s P)) h in
     let none : offers_to_node v (owed s P) ≡ [] = ap (offers_to_node v) (is_nothing-true (owed s P) both.1) in

@@ -71,12 +71,15 @@ one-reversed false i ks = append-nil (reverse ks)
 emissions-out : (s : Setting) (P : Past) (v : ℕ) → is_legal s P ≡ true → indices (emitted v P) ≡ reverse (outs_of false v (standing P))
 emissions-out s [] v h = refl
 emissions-out s (Emit w m i why ∷ P) v h =
-    indices-comes v w m i (emitted v P) ∙ (ap (λ (ks : List ℕ). ks ++ cond (eqb w v) (i ∷ []) []) (emissions-out s P v (and_parts _ _ h).0) ∙ one-reversed (eqb w v) i (outs_of false v (standing P)))
+    indices-comes v w m i (emitted v P)
+    ∙ (ap (λ (ks : List ℕ). ks ++ cond (eqb w v) (i ∷ []) []) (emissions-out s P v (and_parts _ _ h).0)
+    ∙ one-reversed (eqb w v) i (outs_of false v (standing P)))
 emissions-out s (Reclaim r ∷ P) v h =
     let legal : is_legal s P ≡ true = (and_parts _ _ h).0 in
     let e = reclaim_hand s r P h in
     let stands = hand-standing s P r e.0 legal e.1 in
-    let same : outs_of false v (let_go r (standing P)) ≡ outs_of false v (standing P) = flat-let_go (out_at false v) r e.0 (standing P) stands (no_out v r e.0 (found_up (takes_up r) e.0 (standing P) stands)) in
+    let same : outs_of false v (let_go r (standing P)) ≡ outs_of false v (standing P) =
+    flat-let_go (out_at false v) r e.0 (standing P) stands (no_out v r e.0 (found_up (takes_up r) e.0 (standing P) stands)) in
     emissions-out s P v legal ∙ ap reverse (sym (ap (outs_of false v) (stood r e.0 P e.1) ∙ same))
 emissions-out s (_ ∷ P) v h = emissions-out s P v (and_parts _ _ h).0
 
@@ -103,7 +106,8 @@ all-kept p [] none = refl
 all-kept p (x ∷ xs) none = rw (none x) (ap (λ (ys : List FrameName). x ∷ ys) (all-kept p xs none))
 
 -- all that a node's input emitted is accepted for good
-pub accepted-all : (s : Setting) (P : Past) (v : ℕ) → is_node s v ≡ true → deals s (node s v).input ≡ false → is_history s P ≡ true → has_drop P ≡ false → accepted s v P ≡ emitted (node s v).input P
+pub accepted-all : (s : Setting) (P : Past) (v : ℕ) → is_node s v ≡ true → deals s (node s v).input ≡ false → is_history s P ≡ true → has_drop P ≡ false
+    → accepted s v P ≡ emitted (node s v).input P
 accepted-all s P v number alike h none =
     all-kept (λ a. list_any (is_dropped_by s v a) P) (accepts v P) (λ a. none-dropped s v a P none) ∙ (accepts-offered v P none ∙ comes s P v number alike h)
 
@@ -126,7 +130,8 @@ driver-all s P run none =
 
 -- IN A RUN
 
-module _ (g : Graph) (makers : List Maker) (stack : StackValue) (P : Past) (sound : IsGraph g) (whole : HasNoDealer g) (apart : HasDistinctIds stack) (smooth : IsSmooth g makers stack P) where
+module _ (g : Graph) (makers : List Maker) (stack : StackValue) (P : Past) (sound : IsGraph g) (whole : HasNoDealer g) (apart : HasDistinctIds stack)
+    (smooth : IsSmooth g makers stack P) where
   abbrev s : Setting
   s = setting_of g makers stack.arrays
 
@@ -146,13 +151,15 @@ module _ (g : Graph) (makers : List Maker) (stack : StackValue) (P : Past) (soun
   step = ids-in_step s (length stack.arrays) (omega (arith, as_many)) apart (ap (breaks_of s) (sym driver) ∙ smooth.in_step 0 (omega arith))
 
   times-out : (v k : ℕ) → is_file (node s v).work ≡ false → times_in k (outs s v P) ≡ count (of_index k) (emitted v P)
-  times-out v k other = omega (arith, count-reverse (λ j. eqb j k) (outs s v P), ap (times_in k) (emitted-outs s P v other legal), indices-count k (emitted v P))
+  times-out v k other =
+      omega (arith, count-reverse (λ j. eqb j k) (outs s v P), ap (times_in k) (emitted-outs s P v other legal), indices-count k (emitted v P))
 
   falling : (v : ℕ) → v ≤ length g.nodes → is_file (node s v).work ≡ false → Inside (indices (emitted v P)) → falls (outs s v P) ≡ true
   falling v within other inside =
       let there : Inside (reverse (outs s v P)) = subst Inside (emitted-outs s P v other legal) inside in
       falls-unbroken s (length stack.arrays) (outs s v P) step
-      (All-permutation (λ k. k < length stack.arrays) (reverse (outs s v P)) (outs s v P) (IsPermutation-sym (outs s v P) (reverse (outs s v P)) (IsPermutation-reverse (outs s v P))) there)
+      (All-permutation (λ k. k < length stack.arrays) (reverse (outs s v P)) (outs s v P)
+      (IsPermutation-sym (outs s v P) (reverse (outs s v P)) (IsPermutation-reverse (outs s v P))) there)
       (λ k. omega (arith, times-out v k other, emits_once-law s P v k legal))
       (smooth.in_step v within)
 
@@ -171,7 +178,9 @@ module _ (g : Graph) (makers : List Maker) (stack : StackValue) (P : Past) (soun
       by : (o : Option NodeRule) → o ≡ slice_get g.nodes k → deals s (suc k) ≡ false
       by None is = absurd (false≢true (ap (λ (o : Option NodeRule). option_map_or (λ (n : NodeRule). may_feed n.kind) o false) is ∙ source))
       by (Some n) is =
-          let other : n.kind ≢ Scatter = subst (λ (m : NodeRule). m.kind ≢ Scatter) (get_or_from_slice_get g.nodes k n n (sym is)) (All-get_or (λ (m : NodeRule). m.kind ≢ Scatter) g.nodes k n (slice_get_within g.nodes k n (sym is)) whole) in
+          let other : n.kind ≢ Scatter =
+          subst (λ (m : NodeRule). m.kind ≢ Scatter) (get_or_from_slice_get g.nodes k n n (sym is))
+          (All-get_or (λ (m : NodeRule). m.kind ≢ Scatter) g.nodes k n (slice_get_within g.nodes k n (sym is)) whole) in
           ap (λ (m : Node). is_dealing m.work) (node-is g makers stack.arrays (suc k) n (sym is)) ∙ never_deals n.kind other
 
   -- a node that has children
@@ -187,9 +196,11 @@ module _ (g : Graph) (makers : List Maker) (stack : StackValue) (P : Past) (soun
       by None is = absurd (false≢true (ap (λ (o : Option NodeRule). option_map_or (λ (n : NodeRule). may_feed n.kind) o false) is ∙ source))
       by (Some n) is =
           let may : may_feed n.kind ≡ true = ap (λ (o : Option NodeRule). option_map_or (λ (n : NodeRule). may_feed n.kind) o false) is ∙ source in
-          record { within = rule_within g.nodes (suc k) n is; no_save = ap (λ (m : Node). is_file m.work) (node-is g makers stack.arrays (suc k) n (sym is)) ∙ no_file n may }
+          record { within = rule_within g.nodes (suc k) n is;
+          no_save = ap (λ (m : Node). is_file m.work) (node-is g makers stack.arrays (suc k) n (sym is)) ∙ no_file n may }
 
-  at_node : (v : ℕ) (n : NodeRule) → rule_at g.nodes v ≡ Some n → indices (emitted n.input P) ≡ passed g stack n.input → indices (put_out s v P) ≡ passed g stack v
+  at_node : (v : ℕ) (n : NodeRule) → rule_at g.nodes v ≡ Some n → indices (emitted n.input P) ≡ passed g stack n.input
+      → indices (put_out s v P) ≡ passed g stack v
   at_node v n rule before = by (cases_Bool (is_parallel n.kind))
     where
       d : Known g makers stack.arrays v n n.kind
@@ -199,7 +210,10 @@ module _ (g : Graph) (makers : List Maker) (stack : StackValue) (P : Past) (soun
       node_sound = (stands g v n sound (sym rule)).sound
 
       all : accepted s v P ≡ emitted n.input P
-      all = accepted-all s P v d.number (ap (λ (m : Node). deals s m.input) (node-is g makers stack.arrays v n rule) ∙ alike n.input (input-source g sound v n rule)) smooth.run.legal smooth.kept ∙ ap (λ (m : Node). emitted m.input P) (node-is g makers stack.arrays v n rule)
+      all =
+          accepted-all s P v d.number (ap (λ (m : Node). deals s m.input) (node-is g makers stack.arrays v n rule)
+          ∙ alike n.input (input-source g sound v n rule)) smooth.run.legal smooth.kept
+          ∙ ap (λ (m : Node). emitted m.input P) (node-is g makers stack.arrays v n rule)
 
       taken : indices (accepted s v P) ≡ passed g stack n.input
       taken = ap indices all ∙ before
@@ -217,20 +231,26 @@ module _ (g : Graph) (makers : List Maker) (stack : StackValue) (P : Past) (soun
           let sorts : may_sort (node s v).work ≡ true = ap may_sort d.work ∙ p.1 in
           let input = feeds n.input (input-source g sound v n rule) in
           let frames : Inside (passed g stack n.input) = passed-frames g stack n.input in
-          let inside : Inside (indices (emitted v P)) = All-permutation (λ k. k < length stack.arrays) (indices (accepted s v P)) (indices (emitted v P)) (emits-permute s P v d.number sorts smooth.run) (subst Inside (sym taken) frames) in
+          let inside : Inside (indices (emitted v P)) =
+          All-permutation (λ k. k < length stack.arrays) (indices (accepted s v P)) (indices (emitted v P)) (emits-permute s P v d.number sorts smooth.run)
+          (subst Inside (sym taken) frames) in
           let same : outs s v P ≡ outs s n.input P = same_falling (outs s v P) (outs s n.input P)
           (falling v (rule_within g.nodes v n (sym rule)) no_save inside) (falling n.input input.within input.no_save (subst Inside (sym before) frames))
-          (λ k. omega (arith, times-out v k no_save, times-out n.input k input.no_save, emits-accepted s P v k d.number sorts smooth.run, ap (count (of_index k)) all)) in
+          (λ k. omega (arith, times-out v k no_save, times-out n.input k input.no_save,
+          emits-accepted s P v k d.number sorts smooth.run, ap (count (of_index k)) all)) in
           ap indices (out-emitted g makers stack.arrays v P no_save)
           ∙ (emitted-outs s P v no_save legal ∙ (ap reverse same ∙ (sym (emitted-outs s P n.input input.no_save legal) ∙ (before
           ∙ (sym (outputs-are g makers stack.arrays v n n.kind (passed g stack n.input) rule refl ∙ p.0) ∙ sym onward)))))
 
   sources : (d v : ℕ) → depth g.nodes (length g.nodes) v < d → IsTrue (is_source g.nodes v) → indices (emitted v P) ≡ passed g stack v
   sources zero v low source = absurd (omega (arith, low))
-  sources (suc d) zero low source = emitted-outs s P 0 refl legal ∙ (ap reverse driver ∙ (reverse-below (length stack.arrays) ∙ sym (passed-none g stack 0 refl)))
+  sources (suc d) zero low source =
+      emitted-outs s P 0 refl legal ∙ (ap reverse driver ∙ (reverse-below (length stack.arrays) ∙ sym (passed-none g stack 0 refl)))
   sources (suc d) (suc k) low source = by_rule (slice_get g.nodes k) refl (λ w. sources d w)
     where
-      by_rule : (o : Option NodeRule) → o ≡ slice_get g.nodes k → ((w : ℕ) → depth g.nodes (length g.nodes) w < d → IsTrue (is_source g.nodes w) → indices (emitted w P) ≡ passed g stack w) → indices (emitted (suc k) P) ≡ passed g stack (suc k)
+      by_rule : (o : Option NodeRule) → o ≡ slice_get g.nodes k
+          → ((w : ℕ) → depth g.nodes (length g.nodes) w < d → IsTrue (is_source g.nodes w) → indices (emitted w P) ≡ passed g stack w)
+          → indices (emitted (suc k) P) ≡ passed g stack (suc k)
       by_rule None is sooner = absurd (false≢true (ap (λ (o : Option NodeRule). option_map_or (λ (n : NodeRule). may_feed n.kind) o false) is ∙ source))
       by_rule (Some n) is sooner =
           let before = sooner n.input (omega (arith, low, (stands g (suc k) n sound is).nearer)) (input-source g sound (suc k) n (sym is)) in
@@ -243,7 +263,9 @@ module _ (g : Graph) (makers : List Maker) (stack : StackValue) (P : Past) (soun
   pub is_plain : (v : ℕ) (n : NodeRule) → rule_at g.nodes v ≡ Some n → ArePlain g stack v (put_out s v P)
   is_plain v n rule =
       let at : indices (put_out s v P) ≡ passed g stack v = plain-positions v n rule in
-      let held : contents g.nodes stack.arrays (put_out s v P) ≡ arrays_out g.nodes stack.arrays v (passed g stack v) = contents-are g makers stack.arrays P sound smooth.run.legal v (put_out s v P) (out-named g makers stack.arrays P sound smooth.run.legal v n rule smooth.run) ∙ ap (arrays_out g.nodes stack.arrays v) at in
+      let held : contents g.nodes stack.arrays (put_out s v P) ≡ arrays_out g.nodes stack.arrays v (passed g stack v) =
+      contents-are g makers stack.arrays P sound smooth.run.legal v (put_out s v P)
+      (out-named g makers stack.arrays P sound smooth.run.legal v n rule smooth.run) ∙ ap (arrays_out g.nodes stack.arrays v) at in
       record {
         positions = at;
         result = ap (outcome g.nodes v) (held ∙ ap (arrays_out g.nodes stack.arrays v) (passed-step g stack v sound (rule_within g.nodes v n (sym rule))));

@@ -30,7 +30,8 @@ use Rattle.run_laws.proofs.Finishes.{saves-are, emits-are, windows-are}
 use Rattle.run_laws.proofs.Orders.{emits-permute}
 
 -- a node that may have several threads or a sort list passes on all
-pub parallel-passes : (k : Kind) (arrays : List Array) (ks : List ℕ) → is_parallel k ≡ true → (kind_outputs k arrays ks ≡ ks) × (may_sort (work_of k) ≡ true) × (is_file (work_of k) ≡ false)
+pub parallel-passes : (k : Kind) (arrays : List Array) (ks : List ℕ) → is_parallel k ≡ true
+    → (kind_outputs k arrays ks ≡ ks) × (may_sort (work_of k) ≡ true) × (is_file (work_of k) ≡ false)
 parallel-passes (Roi r) arrays ks h = (refl, refl, refl)
 parallel-passes (Stats r) arrays ks h = (refl, refl, refl)
 parallel-passes (Circular r) arrays ks h = absurd (false≢true h)
@@ -50,11 +51,13 @@ module _ (g : Graph) (makers : List Maker) (arrays : List Array) where
   number-is (suc k) n h =
       let inside : k < length g.nodes = slice_get_within g.nodes k n h in
       let same : length (map node_of g.nodes) ≡ length g.nodes = length-map g.nodes node_of in
-      and_from (ltb 0 (suc k)) (leb (suc k) (length (map node_of g.nodes))) (lt-ltb 0 (suc k) (omega arith)) (le-leb (suc k) (length (map node_of g.nodes)) (omega (arith, inside, same)))
+      and_from (ltb 0 (suc k)) (leb (suc k) (length (map node_of g.nodes))) (lt-ltb 0 (suc k) (omega arith))
+      (le-leb (suc k) (length (map node_of g.nodes)) (omega (arith, inside, same)))
 
   indices-results : (v : ℕ) (xs : List FrameName) → indices (map (result_name s v) xs) ≡ indices xs
   indices-results v [] = refl
-  indices-results v (x ∷ xs) = ap (λ (j : ℕ). j ∷ indices (map (result_name s v) xs)) (index_of (is_maker s v)) ∙ ap (λ (js : List ℕ). x.index ∷ js) (indices-results v xs)
+  indices-results v (x ∷ xs) =
+      ap (λ (j : ℕ). j ∷ indices (map (result_name s v) xs)) (index_of (is_maker s v)) ∙ ap (λ (js : List ℕ). x.index ∷ js) (indices-results v xs)
     where
       index_of : (b : Bool) → (cond b (frame v x.index) x).index ≡ x.index
       index_of true = refl
@@ -68,17 +71,20 @@ module _ (g : Graph) (makers : List Maker) (arrays : List Array) where
         | inr away ↦ rw away (indices-passed p (j + 1) xs)
       ]
 
-  fires-are : (v : ℕ) (n : NodeRule) (r : CircularRule) → rule_at g.nodes v ≡ Some n → n.kind ≡ Circular r → (xs : List FrameName) → map (λ (a : FrameName). s.fires v a.index) xs ≡ map (fires_at r arrays) (indices xs)
+  fires-are : (v : ℕ) (n : NodeRule) (r : CircularRule) → rule_at g.nodes v ≡ Some n → n.kind ≡ Circular r → (xs : List FrameName)
+      → map (λ (a : FrameName). s.fires v a.index) xs ≡ map (fires_at r arrays) (indices xs)
   fires-are v n r h kind [] = refl
   fires-are v n r h kind (x ∷ xs) =
-      ap (λ (b : Bool). b ∷ map (λ (a : FrameName). s.fires v a.index) xs) (ap (λ o. node_fires o (slice_get arrays x.index)) h ∙ one (slice_get arrays x.index))
+      ap (λ (b : Bool). b ∷ map (λ (a : FrameName). s.fires v a.index) xs)
+      (ap (λ o. node_fires o (slice_get arrays x.index)) h ∙ one (slice_get arrays x.index))
       ∙ ap (λ (bs : List Bool). fires_at r arrays x.index ∷ bs) (fires-are v n r h kind xs)
     where
       one : (o : Option Array) → node_fires (Some n) o ≡ option_map_or (λ (a : Array). trigger_fires r a.attrs) o false
       one None = refl
       one (Some a) = ap (λ k. kind_fires k a.attrs) kind
 
-  pub outputs-are : (v : ℕ) (n : NodeRule) (k : Kind) (ks : List ℕ) → rule_at g.nodes v ≡ Some n → n.kind ≡ k → outputs g.nodes arrays v ks ≡ kind_outputs k arrays ks
+  pub outputs-are : (v : ℕ) (n : NodeRule) (k : Kind) (ks : List ℕ) → rule_at g.nodes v ≡ Some n → n.kind ≡ k
+      → outputs g.nodes arrays v ks ≡ kind_outputs k arrays ks
   outputs-are v n k ks h kind = ap (λ o. rule_outputs o arrays ks) h ∙ ap (λ c. kind_outputs c arrays ks) kind
 
   -- what is known of the node of a run
@@ -105,13 +111,16 @@ module _ (g : Graph) (makers : List Maker) (arrays : List Array) where
   pub out-saved : (v : ℕ) (P : Past) → is_file (node s v).work ≡ true → put_out s v P ≡ standing_saves v P
   out-saved v P h = ap (λ (b : Bool). cond b (standing_saves v P) (emitted v P)) h
 
-  pub positions : (P : Past) (v : ℕ) (n : NodeRule) → IsGraph g → rule_at g.nodes v ≡ Some n → n.threads ≡ 1 → n.sort ≡ 0 → IsFinishedRun s P → indices (put_out s v P) ≡ outputs g.nodes arrays v (indices (accepted s v P))
+  pub positions : (P : Past) (v : ℕ) (n : NodeRule) → IsGraph g → rule_at g.nodes v ≡ Some n → n.threads ≡ 1 → n.sort ≡ 0 → IsFinishedRun s P
+      → indices (put_out s v P) ≡ outputs g.nodes arrays v (indices (accepted s v P))
   positions P v n sound h one none run = by n.kind refl
     where
-      all : (k : Kind) → n.kind ≡ k → kind_outputs k arrays (indices (accepted s v P)) ≡ indices (accepted s v P) → may_sort (work_of k) ≡ true → is_file (work_of k) ≡ false → indices (put_out s v P) ≡ outputs g.nodes arrays v (indices (accepted s v P))
+      all : (k : Kind) → n.kind ≡ k → kind_outputs k arrays (indices (accepted s v P)) ≡ indices (accepted s v P) → may_sort (work_of k) ≡ true
+          → is_file (work_of k) ≡ false → indices (put_out s v P) ≡ outputs g.nodes arrays v (indices (accepted s v P))
       all k kind passes sorts no_save =
           let d = known v n k h kind in
-          ap indices (out-emitted v P (ap is_file d.work ∙ no_save) ∙ emits-are s P v d.number (ap may_sort d.work ∙ sorts) (plain-is v n h none) (one-is v n h one) run)
+          ap indices (out-emitted v P (ap is_file d.work ∙ no_save)
+          ∙ emits-are s P v d.number (ap may_sort d.work ∙ sorts) (plain-is v n h none) (one-is v n h one) run)
           ∙ (indices-results v (accepted s v P) ∙ sym (outputs-are v n k (indices (accepted s v P)) h kind ∙ passes))
 
       by : (k : Kind) → n.kind ≡ k → indices (put_out s v P) ≡ outputs g.nodes arrays v (indices (accepted s v P))
@@ -130,19 +139,25 @@ module _ (g : Graph) (makers : List Maker) (arrays : List Array) where
           ∙ (ap (λ (bs : List Bool). passed_items r.pre r.post r.preset bs (indices (accepted s v P))) (fires-are v n r h kind (accepted s v P))
           ∙ sym (outputs-are v n (Circular r) (indices (accepted s v P)) h kind)))
 
-  pub some_order : (P : Past) (v : ℕ) (n : NodeRule) → IsGraph g → rule_at g.nodes v ≡ Some n → IsFinishedRun s P → IsPermutation (outputs g.nodes arrays v (indices (accepted s v P))) (indices (put_out s v P))
+  pub some_order : (P : Past) (v : ℕ) (n : NodeRule) → IsGraph g → rule_at g.nodes v ≡ Some n → IsFinishedRun s P
+      → IsPermutation (outputs g.nodes arrays v (indices (accepted s v P))) (indices (put_out s v P))
   some_order P v n sound h run = by (cases_Bool (is_parallel n.kind))
     where
       node_sound : IsNode n
       node_sound = (stands g v n sound (sym h)).sound
 
-      by : (is_parallel n.kind ≡ true) ⊎ (is_parallel n.kind ≡ false) → IsPermutation (outputs g.nodes arrays v (indices (accepted s v P))) (indices (put_out s v P))
+      by : (is_parallel n.kind ≡ true) ⊎ (is_parallel n.kind ≡ false)
+          → IsPermutation (outputs g.nodes arrays v (indices (accepted s v P))) (indices (put_out s v P))
       by (inr alone) =
-          subst (λ (xs : List ℕ). IsPermutation (outputs g.nodes arrays v (indices (accepted s v P))) xs) (sym (positions P v n sound h (node_sound.one_thread alone) (node_sound.unsorted alone) run)) (IsPermutation-refl (outputs g.nodes arrays v (indices (accepted s v P))))
+          subst (λ (xs : List ℕ). IsPermutation (outputs g.nodes arrays v (indices (accepted s v P))) xs)
+          (sym (positions P v n sound h (node_sound.one_thread alone) (node_sound.unsorted alone) run))
+          (IsPermutation-refl (outputs g.nodes arrays v (indices (accepted s v P))))
       by (inl several) =
           let d = known v n n.kind h refl in
           let p = parallel-passes n.kind arrays (indices (accepted s v P)) several in
-          let whole : outputs g.nodes arrays v (indices (accepted s v P)) ≡ indices (accepted s v P) = outputs-are v n n.kind (indices (accepted s v P)) h refl ∙ p.0 in
+          let whole : outputs g.nodes arrays v (indices (accepted s v P)) ≡ indices (accepted s v P) =
+          outputs-are v n n.kind (indices (accepted s v P)) h refl ∙ p.0 in
           let out : put_out s v P ≡ emitted v P = out-emitted v P (ap is_file d.work ∙ p.2) in
           let perm : IsPermutation (indices (accepted s v P)) (indices (emitted v P)) = emits-permute s P v d.number (ap may_sort d.work ∙ p.1) run in
-          subst (λ (xs : List ℕ). IsPermutation xs (indices (put_out s v P))) (sym whole) (subst (λ (xs : List FrameName). IsPermutation (indices (accepted s v P)) (indices xs)) (sym out) perm)
+          subst (λ (xs : List ℕ). IsPermutation xs (indices (put_out s v P))) (sym whole)
+          (subst (λ (xs : List FrameName). IsPermutation (indices (accepted s v P)) (indices xs)) (sym out) perm)

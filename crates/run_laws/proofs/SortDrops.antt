@@ -52,7 +52,8 @@ drop-after s v a before P =
       | inl step ↦ rw step (none-goes_out is_any_sort_drop misses_looks s v (id_at s a.index) (now P) (least_first s before))
       | inr out ↦ elim (cases_Bool (eqb (length before) (node s v).sort)) [
         | inl full ↦ rw (out, full) (none-goes_out is_any_sort_drop misses_looks s v (prev s v P) (now P) (least_first s before))
-        | inr room ↦ rw (out, room) (none-rest (look s v P) (none-goes_out is_any_sort_drop misses_looks s v (prev s v P) (now P) (least_first s (waiting s v P))))
+        | inr room ↦
+            rw (out, room) (none-rest (look s v P) (none-goes_out is_any_sort_drop misses_looks s v (prev s v P) (now P) (least_first s (waiting s v P))))
       ]
     ]
 
@@ -64,12 +65,15 @@ drop-first (x ∷ xs) ys h g = omega (arith, h, g, count-append is_any_sort_drop
 none-both : (xs ys : List Entry) → count is_any_sort_drop xs ≡ 0 → count is_any_sort_drop ys ≡ 0 → count is_any_sort_drop (xs ++ ys) ≡ 0
 none-both xs ys h g = omega (arith, h, g, count-append is_any_sort_drop xs ys)
 
-either-after : (s : Setting) (w : ℕ) (a : FrameName) (f : Bool) (P : Past) (b : Bool) → count is_any_sort_drop (drop 1 (cond b (sorted_result s w a (waiting s w P) (Put 0 w a.maker a.index f ∷ P)) (emit w Plain a ∷ []))) ≡ 0
+either-after : (s : Setting) (w : ℕ) (a : FrameName) (f : Bool) (P : Past) (b : Bool)
+    → count is_any_sort_drop (drop 1 (cond b (sorted_result s w a (waiting s w P) (Put 0 w a.maker a.index f ∷ P)) (emit w Plain a ∷ []))) ≡ 0
 either-after s w a f P true = drop-after s w a (waiting s w P) (Put 0 w a.maker a.index f ∷ P)
 either-after s w a f P false = refl
 
 result-after : (s : Setting) (w : ℕ) (a : FrameName) (f : Bool) (P : Past) (k : Work) → count is_any_sort_drop (drop 1 (result s w a f P k)) ≡ 0
-result-after s w a f P (Watches pre post preset) = none-rest (result s w a f P (Watches pre post preset)) (none-watched is_any_sort_drop misses w a (ring s w P) (is_trigger post preset (firings w P ++ f ∷ []) (length (firings w P))) (is_passed pre post preset (firings w P ++ f ∷ []) (length (firings w P))))
+result-after s w a f P (Watches pre post preset) =
+    none-rest (result s w a f P (Watches pre post preset)) (none-watched is_any_sort_drop misses w a (ring s w P)
+    (is_trigger post preset (firings w P ++ f ∷ []) (length (firings w P))) (is_passed pre post preset (firings w P ++ f ∷ []) (length (firings w P))))
 result-after s w a f P (Saves whole n) = refl
 result-after s w a f P Makes = either-after s w a f P (is_sorted s w)
 result-after s w a f P (Passes d) = either-after s w a f P (is_sorted s w)
@@ -77,10 +81,17 @@ result-after s w a f P (Passes d) = either-after s w a f P (is_sorted s w)
 -- behind the first that is owed there is no drop
 none-behind : (s : Setting) (P : Past) → count is_any_sort_drop (drop 1 (owed s P)) ≡ 0
 none-behind s [] = refl
-none-behind s (Put r w m i f ∷ P) = drop-first (calls_for s P (Put r w m i f)) (drop 1 (owed s P)) (result-after s w (frame m i) f P (node s w).work) (none-behind s P)
-none-behind s (Tick t ∷ P) = none-rest (owed s (Tick t ∷ P)) (none-both (calls_for s P (Tick t)) (drop 1 (owed s P)) (none-looks is_any_sort_drop misses_looks s (Tick t ∷ P) (node_numbers s)) (none-behind s P))
-none-behind s (Emit w m i why ∷ P) = none-rest (owed s (Emit w m i why ∷ P)) (none-both (calls_for s P (Emit w m i why)) (drop 1 (owed s P)) (none-offers is_any_sort_drop misses (frame m i) (offered_to s P w)) (none-behind s P))
-none-behind s (Settle r w ∷ P) = none-rest (owed s (Settle r w ∷ P)) (none-both (calls_for s P (Settle r w)) (drop 1 (owed s P)) (none-flush w (least_first s (waiting s w P))) (none-behind s P))
+none-behind s (Put r w m i f ∷ P) =
+    drop-first (calls_for s P (Put r w m i f)) (drop 1 (owed s P)) (result-after s w (frame m i) f P (node s w).work) (none-behind s P)
+none-behind s (Tick t ∷ P) =
+    none-rest (owed s (Tick t ∷ P))
+    (none-both (calls_for s P (Tick t)) (drop 1 (owed s P)) (none-looks is_any_sort_drop misses_looks s (Tick t ∷ P) (node_numbers s)) (none-behind s P))
+none-behind s (Emit w m i why ∷ P) =
+    none-rest (owed s (Emit w m i why ∷ P))
+    (none-both (calls_for s P (Emit w m i why)) (drop 1 (owed s P)) (none-offers is_any_sort_drop misses (frame m i) (offered_to s P w)) (none-behind s P))
+none-behind s (Settle r w ∷ P) =
+    none-rest (owed s (Settle r w ∷ P))
+    (none-both (calls_for s P (Settle r w)) (drop 1 (owed s P)) (none-flush w (least_first s (waiting s w P))) (none-behind s P))
 none-behind s (e ∷ P) = none-rest (owed s (e ∷ P)) (none-behind s P)
 
 -- A DROP COMES AT A FULL LIST
@@ -94,17 +105,24 @@ record IsForced (s : Setting) (P : Past) (v m k : ℕ) (w i j : ℕ) : Type 0 wh
   full : length (waiting s v P) ≡ (node s v).sort
   out : keeps_step (prev s v P) (id_at s k) ≡ false
 
-forces : (s : Setting) (P : Past) (v m k w i j : ℕ) (f : Bool) (rest : List Entry) → result s w (frame i j) f P (node s w).work ≡ SortDrop v m k ∷ rest → IsForced s P v m k w i j
+forces : (s : Setting) (P : Past) (v m k w i j : ℕ) (f : Bool) (rest : List Entry)
+    → result s w (frame i j) f P (node s w).work ≡ SortDrop v m k ∷ rest → IsForced s P v m k w i j
 forces s P v m k w i j f rest calls =
     elim (cases_Bool (is_sorted s w)) [
-      | inr plain ↦ absurd (omega (arith, ap (count is_any_sort_drop) calls, none-unsorted is_any_sort_drop misses s w (frame i j) f P (node s w).work plain, count-cons is_any_sort_drop (SortDrop v m k) rest))
+      | inr plain ↦
+          absurd (omega (arith, ap (count is_any_sort_drop) calls, none-unsorted is_any_sort_drop misses s w (frame i j) f P (node s w).work plain,
+          count-cons is_any_sort_drop (SortDrop v m k) rest))
       | inl sorted ↦
-          let whole : sorted_result s w (frame i j) (waiting s w P) (Put 0 w i j f ∷ P) ≡ SortDrop v m k ∷ rest = sym (result-sorted s w (frame i j) f P (node s w).work (and_parts _ _ sorted).0 sorted) ∙ calls in
+          let whole : sorted_result s w (frame i j) (waiting s w P) (Put 0 w i j f ∷ P) ≡ SortDrop v m k ∷ rest =
+          sym (result-sorted s w (frame i j) f P (node s w).work (and_parts _ _ sorted).0 sorted) ∙ calls in
           elim (cases_Bool (keeps_step (prev s w P) (id_at s j))) [
-            | inl step ↦ let never : Emit w i j Step ∷ goes_out s w (id_at s j) (now P) (least_first s (waiting s w P)) ≡ SortDrop v m k ∷ rest = rw step at whole in absurd (cc)
+            | inl step ↦
+                let never : Emit w i j Step ∷ goes_out s w (id_at s j) (now P) (least_first s (waiting s w P)) ≡ SortDrop v m k ∷ rest = rw step at whole in
+                absurd (cc)
             | inr out ↦ elim (cases_Bool (eqb (length (waiting s w P)) (node s w).sort)) [
               | inl full ↦
-                  let is : SortDrop w i j ∷ goes_out s w (prev s w P) (now P) (least_first s (waiting s w P)) ≡ SortDrop v m k ∷ rest = rw (out, full) at whole in
+                  let is : SortDrop w i j ∷ goes_out s w (prev s w P) (now P) (least_first s (waiting s w P)) ≡ SortDrop v m k ∷ rest =
+                  rw (out, full) at whole in
                   let a : w ≡ v = cc in
                   let b : i ≡ m = cc in
                   let c : j ≡ k = cc in
@@ -114,11 +132,13 @@ forces s P v m k w i j f rest calls =
                     index = c;
                     sorted = subst (λ (u : ℕ). is_sorted s u ≡ true) a sorted;
                     full = subst (λ (u : ℕ). length (waiting s u P) ≡ (node s u).sort) a (eqb-true (length (waiting s w P)) (node s w).sort full);
-                    out = subst (λ (u : ℕ). keeps_step (prev s v P) (id_at s u) ≡ false) c (subst (λ (u : ℕ). keeps_step (prev s u P) (id_at s j) ≡ false) a out);
+                    out =
+                        subst (λ (u : ℕ). keeps_step (prev s v P) (id_at s u) ≡ false) c (subst (λ (u : ℕ). keeps_step (prev s u P) (id_at s j) ≡ false) a out);
                   }
               | inr room ↦
                   let looked : look s w (Put 0 w i j f ∷ P) ≡ SortDrop v m k ∷ rest = rw (out, room) at whole in
-                  absurd (omega (arith, ap (count is_any_sort_drop) looked, none-goes_out is_any_sort_drop misses_looks s w (prev s w P) (now P) (least_first s (waiting s w (Put 0 w i j f ∷ P))), count-cons is_any_sort_drop (SortDrop v m k) rest))
+                  absurd (omega (arith, ap (count is_any_sort_drop) looked, none-goes_out is_any_sort_drop misses_looks s w (prev s w P) (now P)
+                  (least_first s (waiting s w (Put 0 w i j f ∷ P))), count-cons is_any_sort_drop (SortDrop v m k) rest))
             ]
           ]
     ]
@@ -132,11 +152,13 @@ full-facts s P r v m k f is = record {
   out_of_step = is.out;
 }
 
-no_put : (s : Setting) (v m k : ℕ) (e : Entry) (P : Past) → count is_any_sort_drop (calls_for s P e) ≡ 0 → is_legal s (SortDrop v m k ∷ e ∷ P) ≡ true → FullListFacts s v m k (e ∷ P)
+no_put : (s : Setting) (v m k : ℕ) (e : Entry) (P : Past) → count is_any_sort_drop (calls_for s P e) ≡ 0
+    → is_legal s (SortDrop v m k ∷ e ∷ P) ≡ true → FullListFacts s v m k (e ∷ P)
 no_put s v m k e P none h =
     let a = owed-answered s (SortDrop v m k) (e ∷ P) refl h in
     let head : bit (is_any_sort_drop a.head) ≡ 1 = ap (λ (d : Entry). bit (is_any_sort_drop d)) (answers-by_SortDrop s (e ∷ P) v m k a.head a.answer) in
-    absurd (omega (arith, none, none-behind s P, head, ap (count is_any_sort_drop) a.is, count-cons is_any_sort_drop a.head a.rest, count-append is_any_sort_drop (calls_for s P e) (drop 1 (owed s P))))
+    absurd (omega (arith, none, none-behind s P, head, ap (count is_any_sort_drop) a.is, count-cons is_any_sort_drop a.head a.rest,
+    count-append is_any_sort_drop (calls_for s P e) (drop 1 (owed s P))))
 
 forced : (s : Setting) (P : Past) (v m k : ℕ) → is_legal s (SortDrop v m k ∷ P) ≡ true → FullListFacts s v m k P
 forced s [] v m k h = absurd (false≢true h)
@@ -144,8 +166,10 @@ forced s (Put r w i j f ∷ P) v m k h =
     let legal : is_legal s (Put r w i j f ∷ P) ≡ true = (and_parts _ _ h).0 in
     let a = owed-answered s (SortDrop v m k) (Put r w i j f ∷ P) refl h in
     let none : owed s P ≡ [] = owed-first s (Put r w i j f) P (λ d. refl) legal in
-    let alone : owed s (Put r w i j f ∷ P) ≡ calls_for s P (Put r w i j f) = ap (λ (ds : List Entry). calls_for s P (Put r w i j f) ++ drop 1 ds) none ∙ append-nil (calls_for s P (Put r w i j f)) in
-    let calls : calls_for s P (Put r w i j f) ≡ SortDrop v m k ∷ a.rest = sym alone ∙ (a.is ∙ ap (λ (d : Entry). d ∷ a.rest) (answers-by_SortDrop s (Put r w i j f ∷ P) v m k a.head a.answer)) in
+    let alone : owed s (Put r w i j f ∷ P) ≡ calls_for s P (Put r w i j f) =
+    ap (λ (ds : List Entry). calls_for s P (Put r w i j f) ++ drop 1 ds) none ∙ append-nil (calls_for s P (Put r w i j f)) in
+    let calls : calls_for s P (Put r w i j f) ≡ SortDrop v m k ∷ a.rest =
+    sym alone ∙ (a.is ∙ ap (λ (d : Entry). d ∷ a.rest) (answers-by_SortDrop s (Put r w i j f ∷ P) v m k a.head a.answer)) in
     let is = forces s P v m k w i j f a.rest calls in
     own is.node_is is.maker is.index is
   where

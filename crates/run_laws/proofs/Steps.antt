@@ -45,7 +45,8 @@ abbrev quiet : ℕ → Entry → Bool
 quiet v (Emit w m k why) = not (eqb w v)
 quiet v _ = true
 
-chain-quiet : (s : Setting) (v : ℕ) (before : ℤ) (xs ys : List Entry) → list_all (quiet v) xs ≡ true → chain s v before ys ≡ true → chain s v before (xs ++ ys) ≡ true
+chain-quiet : (s : Setting) (v : ℕ) (before : ℤ) (xs ys : List Entry) → list_all (quiet v) xs ≡ true → chain s v before ys ≡ true
+    → chain s v before (xs ++ ys) ≡ true
 chain-quiet s v before [] ys h c = c
 chain-quiet s v before (Emit w m k why ∷ xs) ys h c =
     let p = and_parts (not (eqb w v)) (list_all (quiet v) xs) h in
@@ -55,7 +56,8 @@ chain-quiet s v before (Emit w m k why ∷ xs) ys h c =
     ]
 chain-quiet s v before (_ ∷ xs) ys h c = chain-quiet s v before xs ys h c
 
-chain-end : (s : Setting) (v : ℕ) (before : ℤ) (xs ys : List Entry) → chain s v before xs ≡ true → list_all (quiet v) ys ≡ true → chain s v before (xs ++ ys) ≡ true
+chain-end : (s : Setting) (v : ℕ) (before : ℤ) (xs ys : List Entry) → chain s v before xs ≡ true → list_all (quiet v) ys ≡ true
+    → chain s v before (xs ++ ys) ≡ true
 chain-end s v before [] ys c h = subst (λ (zs : List Entry). chain s v before zs ≡ true) (append-nil ys) (chain-quiet s v before ys [] h refl)
 chain-end s v before (Emit w m k why ∷ xs) ys c h =
     elim (cases_Bool (eqb w v)) [
@@ -107,10 +109,12 @@ chain-sorted_result s v a before P =
       ]
     ]
 
-quiet-looks : (s : Setting) (v : ℕ) (P : Past) (us : List ℕ) → count (is_number v) us ≡ 0 → list_all (quiet v) (flat_map (λ u. cond (is_sorted s u) (look s u P) []) us) ≡ true
+quiet-looks : (s : Setting) (v : ℕ) (P : Past) (us : List ℕ) → count (is_number v) us ≡ 0
+    → list_all (quiet v) (flat_map (λ u. cond (is_sorted s u) (look s u P) []) us) ≡ true
 quiet-looks s v P [] none = refl
 quiet-looks s v P (u ∷ us) none =
-    all-append (quiet v) (cond (is_sorted s u) (look s u P) []) (flat_map (λ w. cond (is_sorted s w) (look s w P) []) us) (one (is_sorted s u)) (quiet-looks s v P us (omega (arith, none, count-cons (is_number v) u us)))
+    all-append (quiet v) (cond (is_sorted s u) (look s u P) []) (flat_map (λ w. cond (is_sorted s w) (look s w P) []) us) (one (is_sorted s u))
+    (quiet-looks s v P us (omega (arith, none, count-cons (is_number v) u us)))
   where
     other : u ≢ v
     other e = omega (arith, none, count-cons (is_number v) u us, ap bit (eq-eqb u v e))
@@ -119,12 +123,18 @@ quiet-looks s v P (u ∷ us) none =
     one true = quiet-elsewhere v u (look s u P) other (goes_out-at s u _ _ _)
     one false = refl
 
-chain-looks : (s : Setting) (v : ℕ) (P : Past) (us : List ℕ) → count (is_number v) us ≤ 1 → chain s v (prev s v P) (flat_map (λ u. cond (is_sorted s u) (look s u P) []) us) ≡ true
+chain-looks : (s : Setting) (v : ℕ) (P : Past) (us : List ℕ) → count (is_number v) us ≤ 1
+    → chain s v (prev s v P) (flat_map (λ u. cond (is_sorted s u) (look s u P) []) us) ≡ true
 chain-looks s v P [] once = refl
 chain-looks s v P (u ∷ us) once =
     elim (cases_Bool (eqb u v)) [
-      | inl here ↦ chain-end s v (prev s v P) (cond (is_sorted s u) (look s u P) []) (flat_map (λ w. cond (is_sorted s w) (look s w P) []) us) (subst (λ (x : ℕ). chain s v (prev s v P) (cond (is_sorted s x) (look s x P) []) ≡ true) (sym (eqb-true u v here)) (own (is_sorted s v))) (quiet-looks s v P us (omega (arith, once, count-cons (is_number v) u us, ap bit here)))
-      | inr away ↦ chain-quiet s v (prev s v P) (cond (is_sorted s u) (look s u P) []) (flat_map (λ w. cond (is_sorted s w) (look s w P) []) us) (other (is_sorted s u) (eqb-false u v away)) (chain-looks s v P us (omega (arith, once, count-cons (is_number v) u us)))
+      | inl here ↦
+          chain-end s v (prev s v P) (cond (is_sorted s u) (look s u P) []) (flat_map (λ w. cond (is_sorted s w) (look s w P) []) us)
+          (subst (λ (x : ℕ). chain s v (prev s v P) (cond (is_sorted s x) (look s x P) []) ≡ true) (sym (eqb-true u v here)) (own (is_sorted s v)))
+          (quiet-looks s v P us (omega (arith, once, count-cons (is_number v) u us, ap bit here)))
+      | inr away ↦
+          chain-quiet s v (prev s v P) (cond (is_sorted s u) (look s u P) []) (flat_map (λ w. cond (is_sorted s w) (look s w P) []) us)
+          (other (is_sorted s u) (eqb-false u v away)) (chain-looks s v P us (omega (arith, once, count-cons (is_number v) u us)))
     ]
   where
     own : (b : Bool) → chain s v (prev s v P) (cond b (look s v P) []) ≡ true
@@ -136,7 +146,8 @@ chain-looks s v P (u ∷ us) once =
     other false ne = refl
 
 -- the first of what is owed, where it is no emission
-chain-drop : (s : Setting) (v : ℕ) (before : ℤ) (ds : List Entry) (head : Entry) (rest : List Entry) → ds ≡ head ∷ rest → quiet v head ≡ true → chain s v before ds ≡ true → chain s v before (drop 1 ds) ≡ true
+chain-drop : (s : Setting) (v : ℕ) (before : ℤ) (ds : List Entry) (head : Entry) (rest : List Entry) → ds ≡ head ∷ rest → quiet v head ≡ true
+    → chain s v before ds ≡ true → chain s v before (drop 1 ds) ≡ true
 chain-drop s v before ds head rest is still c =
     let whole : chain s v before (head ∷ rest) ≡ true = subst (λ (es : List Entry). chain s v before es ≡ true) is c in
     subst (λ (es : List Entry). chain s v before (drop 1 es) ≡ true) (sym is) (skip head whole still)
@@ -160,7 +171,8 @@ fits-same Step _ steps h f = absurd (false≢true h)
 fits-same Late _ steps h f = absurd (false≢true h)
 fits-same Flush _ steps h f = absurd (false≢true h)
 
-pub emit-answers : (s : Setting) (P : Past) (v m k : ℕ) (why : Why) (d : Entry) → answers s P (Emit v m k why) d ≡ true → (how : Why) × (d ≡ Emit v m k how) × (eqb (why_number how) (why_number why) ≡ true)
+pub emit-answers : (s : Setting) (P : Past) (v m k : ℕ) (why : Why) (d : Entry) → answers s P (Emit v m k why) d ≡ true
+    → (how : Why) × (d ≡ Emit v m k how) × (eqb (why_number how) (why_number why) ≡ true)
 emit-answers s P v m k why (Emit w n j how) h =
     let p = and_parts (eqb w v && eqb n m && eqb j k) (eqb (why_number how) (why_number why)) h in
     let q = and_parts (eqb w v && eqb n m) (eqb j k) p.0 in
@@ -170,10 +182,12 @@ emit-answers s P v m k why (Emit w n j how) h =
     let c : j ≡ k = eqb-true j k q.1 in
     let same : Emit w n j how ≡ Emit v m k how = cc in
     (how, same, p.1)
-emit-answers s P v m k why (Accept c n j) h = elim (cases_Bool (has_room s P c)) [ inl room ↦ absurd (false≢true (rw room at h)) | inr full ↦ absurd (false≢true (rw full at h)) ]
+emit-answers s P v m k why (Accept c n j) h =
+    elim (cases_Bool (has_room s P c)) [ inl room ↦ absurd (false≢true (rw room at h)) | inr full ↦ absurd (false≢true (rw full at h)) ]
 emit-answers s P v m k why _ h = absurd (false≢true h)
 
-begun : (s : Setting) (v : ℕ) (before : ℤ) (e : Entry) (P : Past) → owed s P ≡ [] → chain s v before (calls_for s P e) ≡ true → chain s v before (owed s (e ∷ P)) ≡ true
+begun : (s : Setting) (v : ℕ) (before : ℤ) (e : Entry) (P : Past) → owed s P ≡ [] → chain s v before (calls_for s P e) ≡ true
+    → chain s v before (owed s (e ∷ P)) ≡ true
 begun s v before e P none c =
     let now_owed : owed s (e ∷ P) ≡ calls_for s P e = ap (λ (ds : List Entry). calls_for s P e ++ drop 1 ds) none ∙ append-nil (calls_for s P e) in
     subst (λ (ds : List Entry). chain s v before ds ≡ true) (sym now_owed) c
@@ -197,49 +211,66 @@ steps s (Put r w m i f ∷ P) v nz sorted h =
     subst (λ (b : ℤ). chain s v b (owed s (Put r w m i f ∷ P)) ≡ true) (sym same)
     (begun s v (prev s v P) (Put r w m i f) P none (elim (cases_Bool (eqb w v)) [
       | inl here ↦ subst (λ (u : ℕ). chain s v (prev s v P) (calls_for s P (Put r u m i f)) ≡ true) (sym (eqb-true w v here))
-          (subst (λ (ds : List Entry). chain s v (prev s v P) ds ≡ true) (sym (result-sorted s v (frame m i) f P (node s v).work (and_parts _ _ sorted).0 sorted))
-          (subst (λ (b : ℤ). chain s v b (sorted_result s v (frame m i) (waiting s v P) (Put 0 v m i f ∷ P)) ≡ true) (clock_laws.prev_others s v (Put 0 v m i f) P refl)
+          (subst (λ (ds : List Entry). chain s v (prev s v P) ds ≡ true)
+          (sym (result-sorted s v (frame m i) f P (node s v).work (and_parts _ _ sorted).0 sorted))
+          (subst (λ (b : ℤ). chain s v b (sorted_result s v (frame m i) (waiting s v P) (Put 0 v m i f ∷ P)) ≡ true)
+          (clock_laws.prev_others s v (Put 0 v m i f) P refl)
           (chain-sorted_result s v (frame m i) (waiting s v P) (Put 0 v m i f ∷ P))))
-      | inr away ↦ chain-only s v (prev s v P) (calls_for s P (Put r w m i f)) (quiet-elsewhere v w (calls_for s P (Put r w m i f)) (eqb-false w v away) (result-at s w (frame m i) f P (node s w).work))
+      | inr away ↦
+          chain-only s v (prev s v P) (calls_for s P (Put r w m i f))
+          (quiet-elsewhere v w (calls_for s P (Put r w m i f)) (eqb-false w v away) (result-at s w (frame m i) f P (node s w).work))
     ]))
 steps s (Settle r w ∷ P) v nz sorted h =
     let none : owed s P ≡ [] = owed-first s (Settle r w) P (λ d. refl) h in
     begun s v (prev s v (Settle r w ∷ P)) (Settle r w) P none (elim (cases_Bool (eqb w v)) [
-      | inl here ↦ subst (λ (u : ℕ). chain s v (prev s v (Settle r w ∷ P)) (calls_for s P (Settle r u)) ≡ true) (sym (eqb-true w v here)) (chain-flush s v (prev s v (Settle r w ∷ P)) (least_first s (waiting s v P)))
-      | inr away ↦ chain-only s v (prev s v (Settle r w ∷ P)) (calls_for s P (Settle r w)) (quiet-elsewhere v w (calls_for s P (Settle r w)) (eqb-false w v away) (flush-at w (least_first s (waiting s w P))))
+      | inl here ↦
+          subst (λ (u : ℕ). chain s v (prev s v (Settle r w ∷ P)) (calls_for s P (Settle r u)) ≡ true) (sym (eqb-true w v here))
+          (chain-flush s v (prev s v (Settle r w ∷ P)) (least_first s (waiting s v P)))
+      | inr away ↦
+          chain-only s v (prev s v (Settle r w ∷ P)) (calls_for s P (Settle r w))
+          (quiet-elsewhere v w (calls_for s P (Settle r w)) (eqb-false w v away) (flush-at w (least_first s (waiting s w P))))
     ])
 steps s (Tick t ∷ P) v nz sorted h =
-    let now_owed : owed s (Tick t ∷ P) ≡ calls_for s P (Tick t) = ap (λ (ds : List Entry). calls_for s P (Tick t) ++ ds) (tick-alone s t P h) ∙ append-nil (calls_for s P (Tick t)) in
+    let now_owed : owed s (Tick t ∷ P) ≡ calls_for s P (Tick t) =
+    ap (λ (ds : List Entry). calls_for s P (Tick t) ++ ds) (tick-alone s t P h) ∙ append-nil (calls_for s P (Tick t)) in
     subst (λ (ds : List Entry). chain s v (prev s v (Tick t ∷ P)) ds ≡ true) (sym now_owed) (chain-looks s v (Tick t ∷ P) (node_numbers s) (once_numbered s v))
 steps s (Emit w m i why ∷ P) v nz sorted h =
     let a = owed-answered s (Emit w m i why) P refl h in
     let x = emit-answers s P w m i why a.head a.answer in
-    let c : chain s v (prev s v P) (Emit w m i x.0 ∷ a.rest) ≡ true = subst (λ (ds : List Entry). chain s v (prev s v P) ds ≡ true) (a.is ∙ ap (λ (d : Entry). d ∷ a.rest) x.1) (steps s P v nz sorted (and_parts _ _ h).0) in
+    let c : chain s v (prev s v P) (Emit w m i x.0 ∷ a.rest) ≡ true =
+    subst (λ (ds : List Entry). chain s v (prev s v P) ds ≡ true) (a.is ∙ ap (λ (d : Entry). d ∷ a.rest) x.1) (steps s P v nz sorted (and_parts _ _ h).0) in
     let left : drop 1 (owed s P) ≡ a.rest = ap (drop 1) a.is in
     elim (cases_Bool (eqb w v)) [
       | inl here ↦
           let both : (fits x.0 (keeps_step (prev s v P) (id_at s i)) && chain s v (id_at s i) a.rest) ≡ true = rw here at c in
-          let same : prev s v (Emit w m i why ∷ P) ≡ id_at s i = subst (λ (u : ℕ). prev s v (Emit u m i why ∷ P) ≡ id_at s i) (sym (eqb-true w v here)) (clock_laws.emit s v m i why P (sorted_no_file s v sorted)) in
+          let same : prev s v (Emit w m i why ∷ P) ≡ id_at s i =
+          subst (λ (u : ℕ). prev s v (Emit u m i why ∷ P) ≡ id_at s i) (sym (eqb-true w v here)) (clock_laws.emit s v m i why P (sorted_no_file s v sorted)) in
           subst (λ (b : ℤ). chain s v b (owed s (Emit w m i why ∷ P)) ≡ true) (sym same)
-          (chain-quiet s v (id_at s i) (map (offer (frame m i)) (offered_to s P w)) (drop 1 (owed s P)) (quiet-offers v (frame m i) (offered_to s P w)) (subst (λ (ds : List Entry). chain s v (id_at s i) ds ≡ true) (sym left) (and_parts (fits x.0 (keeps_step (prev s v P) (id_at s i))) (chain s v (id_at s i) a.rest) both).1))
+          (chain-quiet s v (id_at s i) (map (offer (frame m i)) (offered_to s P w)) (drop 1 (owed s P)) (quiet-offers v (frame m i) (offered_to s P w))
+          (subst (λ (ds : List Entry). chain s v (id_at s i) ds ≡ true) (sym left)
+          (and_parts (fits x.0 (keeps_step (prev s v P) (id_at s i))) (chain s v (id_at s i) a.rest) both).1))
       | inr away ↦
           let on : chain s v (prev s v P) a.rest ≡ true = rw away at c in
           subst (λ (b : ℤ). chain s v b (owed s (Emit w m i why ∷ P)) ≡ true) (sym (clock_laws.emit_elsewhere s v w m i why P (eqb-false w v away)))
-          (chain-quiet s v (prev s v P) (map (offer (frame m i)) (offered_to s P w)) (drop 1 (owed s P)) (quiet-offers v (frame m i) (offered_to s P w)) (subst (λ (ds : List Entry). chain s v (prev s v P) ds ≡ true) (sym left) on))
+          (chain-quiet s v (prev s v P) (map (offer (frame m i)) (offered_to s P w)) (drop 1 (owed s P)) (quiet-offers v (frame m i) (offered_to s P w))
+          (subst (λ (ds : List Entry). chain s v (prev s v P) ds ≡ true) (sym left) on))
     ]
 steps s (Accept w m i ∷ P) v nz sorted h =
     let a = owed-answered s (Accept w m i) P refl h in
-    chain-drop s v (prev s v P) (owed s P) a.head a.rest a.is (ap (quiet v) (answers-by_Accept s P w m i a.head a.answer)) (steps s P v nz sorted (and_parts _ _ h).0)
+    chain-drop s v (prev s v P) (owed s P) a.head a.rest a.is (ap (quiet v) (answers-by_Accept s P w m i a.head a.answer))
+    (steps s P v nz sorted (and_parts _ _ h).0)
 steps s (Full w m i ∷ P) v nz sorted h =
     let a = owed-answered s (Full w m i) P refl h in
     chain-drop s v (prev s v P) (owed s P) a.head a.rest a.is (no_emission s P v w m i a.head a.answer) (steps s P v nz sorted (and_parts _ _ h).0)
 steps s (SortDrop w m i ∷ P) v nz sorted h =
     let a = owed-answered s (SortDrop w m i) P refl h in
-    chain-drop s v (prev s v P) (owed s P) a.head a.rest a.is (ap (quiet v) (answers-by_SortDrop s P w m i a.head a.answer)) (steps s P v nz sorted (and_parts _ _ h).0)
+    chain-drop s v (prev s v P) (owed s P) a.head a.rest a.is (ap (quiet v) (answers-by_SortDrop s P w m i a.head a.answer))
+    (steps s P v nz sorted (and_parts _ _ h).0)
 steps s (Load r k b n f g x ∷ P) v nz sorted h = begun s v _ (Load r k b n f g x) P (owed-first s (Load r k b n f g x) P (λ d. refl) h) refl
 steps s (LoadRefused r k n z ∷ P) v nz sorted h = begun s v _ (LoadRefused r k n z) P (owed-first s (LoadRefused r k n z) P (λ d. refl) h) refl
 steps s (Take r w m i ∷ P) v nz sorted h = begun s v _ (Take r w m i) P (owed-first s (Take r w m i) P (λ d. refl) h) refl
-steps s (TakeBlock f x r w m i b n g ∷ P) v nz sorted h = begun s v _ (TakeBlock f x r w m i b n g) P (owed-first s (TakeBlock f x r w m i b n g) P (λ d. refl) h) refl
+steps s (TakeBlock f x r w m i b n g ∷ P) v nz sorted h =
+    begun s v _ (TakeBlock f x r w m i b n g) P (owed-first s (TakeBlock f x r w m i b n g) P (λ d. refl) h) refl
 steps s (PoolDrop r w m i n z ∷ P) v nz sorted h = begun s v _ (PoolDrop r w m i n z) P (owed-first s (PoolDrop r w m i n z) P (λ d. refl) h) refl
 steps s (Save r w m i g ∷ P) v nz sorted h = begun s v _ (Save r w m i g) P (owed-first s (Save r w m i g) P (λ d. refl) h) refl
 steps s (Saved r w m i ∷ P) v nz sorted h = begun s v _ (Saved r w m i) P (owed-first s (Saved r w m i) P (λ d. refl) h) refl

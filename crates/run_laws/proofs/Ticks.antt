@@ -53,7 +53,9 @@ offers_no_tick a (c ∷ cs) = offers_no_tick a cs
 
 looks_no_tick : (s : Setting) (P : Past) (us : List ℕ) → list_all is_not_tick (flat_map (λ u. cond (is_sorted s u) (look s u P) []) us) ≡ true
 looks_no_tick s P [] = refl
-looks_no_tick s P (u ∷ us) = all-append is_not_tick (cond (is_sorted s u) (look s u P) []) (flat_map (λ w. cond (is_sorted s w) (look s w P) []) us) (one (is_sorted s u)) (looks_no_tick s P us)
+looks_no_tick s P (u ∷ us) =
+    all-append is_not_tick (cond (is_sorted s u) (look s u P) []) (flat_map (λ w. cond (is_sorted s w) (look s w P) []) us)
+    (one (is_sorted s u)) (looks_no_tick s P us)
   where
     one : (b : Bool) → list_all is_not_tick (cond b (look s u P) []) ≡ true
     one true = out_no_tick u (look s u P) (goes_out-at s u _ _ _)
@@ -63,10 +65,18 @@ ticks : (s : Setting) (P : Past) → is_legal s P ≡ true → ticks_end (owed s
 ticks s [] h = refl
 ticks s (Load r k b n f g x ∷ P) h = ap (λ (ds : List Entry). is_nothing (drop 1 ds)) (owed-first s (Load r k b n f g x) P (λ d. refl) h)
 ticks s (LoadRefused r k n z ∷ P) h = ap (λ (ds : List Entry). is_nothing (drop 1 ds)) (owed-first s (LoadRefused r k n z) P (λ d. refl) h)
-ticks s (Tick t ∷ P) h = ends-more (calls_for s P (Tick t)) (drop 1 (owed s P)) (looks_no_tick s (Tick t ∷ P) (node_numbers s)) (ends-rest (owed s P) (ticks s P (and_parts _ _ h).0))
-ticks s (Emit w m i why ∷ P) h = ends-more (calls_for s P (Emit w m i why)) (drop 1 (owed s P)) (offers_no_tick (frame m i) (offered_to s P w)) (ends-rest (owed s P) (ticks s P (and_parts _ _ h).0))
-ticks s (Put r w m i f ∷ P) h = ends-more (calls_for s P (Put r w m i f)) (drop 1 (owed s P)) (out_no_tick w (calls_for s P (Put r w m i f)) (result-at s w (frame m i) f P (node s w).work)) (ends-rest (owed s P) (ticks s P (and_parts _ _ h).0))
-ticks s (Settle r w ∷ P) h = ends-more (calls_for s P (Settle r w)) (drop 1 (owed s P)) (out_no_tick w (calls_for s P (Settle r w)) (flush-at w (least_first s (waiting s w P)))) (ends-rest (owed s P) (ticks s P (and_parts _ _ h).0))
+ticks s (Tick t ∷ P) h =
+    ends-more (calls_for s P (Tick t)) (drop 1 (owed s P)) (looks_no_tick s (Tick t ∷ P) (node_numbers s))
+    (ends-rest (owed s P) (ticks s P (and_parts _ _ h).0))
+ticks s (Emit w m i why ∷ P) h =
+    ends-more (calls_for s P (Emit w m i why)) (drop 1 (owed s P)) (offers_no_tick (frame m i) (offered_to s P w))
+    (ends-rest (owed s P) (ticks s P (and_parts _ _ h).0))
+ticks s (Put r w m i f ∷ P) h =
+    ends-more (calls_for s P (Put r w m i f)) (drop 1 (owed s P))
+    (out_no_tick w (calls_for s P (Put r w m i f)) (result-at s w (frame m i) f P (node s w).work)) (ends-rest (owed s P) (ticks s P (and_parts _ _ h).0))
+ticks s (Settle r w ∷ P) h =
+    ends-more (calls_for s P (Settle r w)) (drop 1 (owed s P)) (out_no_tick w (calls_for s P (Settle r w)) (flush-at w (least_first s (waiting s w P))))
+    (ends-rest (owed s P) (ticks s P (and_parts _ _ h).0))
 ticks s (_ ∷ P) h = ends-rest (owed s P) (ticks s P (and_parts _ _ h).0)
 
 -- when a tick comes nothing else is owed
@@ -74,5 +84,6 @@ pub tick-alone : (s : Setting) (t : ℕ) (P : Past) → is_legal s (Tick t ∷ P
 tick-alone s t P h =
     let a = owed-answered s (Tick t) P refl h in
     let is = answers-by_Tick s P t a.head a.answer in
-    let alone : is_nothing a.rest ≡ true = subst (λ (ds : List Entry). ticks_end ds ≡ true) (a.is ∙ ap (λ (d : Entry). d ∷ a.rest) is.1) (ticks s P (and_parts _ _ h).0) in
+    let alone : is_nothing a.rest ≡ true =
+    subst (λ (ds : List Entry). ticks_end ds ≡ true) (a.is ∙ ap (λ (d : Entry). d ∷ a.rest) is.1) (ticks s P (and_parts _ _ h).0) in
     ap (drop 1) a.is ∙ is_nothing-true a.rest alone

@@ -17,4 +17,6 @@ pub data Grants : Entry → ℕ → Type 0 where
 
 -- the block that an entry grants had no place just before
 abbrev pub GrantsAreUnplaced : Type 0
-GrantsAreUnplaced = (g : Graph) (makers : List Maker) (arrays : List Array) (newer P : Past) (e : Entry) (b : ℕ) → is_legal (setting_of g makers arrays) (newer ++ e ∷ P) ≡ true → Grants e b → refs (setting_of g makers arrays) P b ≡ 0
+GrantsAreUnplaced =
+    (g : Graph) (makers : List Maker) (arrays : List Array) (newer P : Past) (e : Entry) (b : ℕ) → is_legal (setting_of g makers arrays) (newer ++ e ∷ P) ≡ true
+    → Grants e b → refs (setting_of g makers arrays) P b ≡ 0

@@ -14,11 +14,14 @@ use Rattle.run_laws.specs.Results.{IsFinishedRun}
 
 -- what was offered to a node is what its input emitted, in this order, where the input doesn't deal it out
 abbrev pub EmissionsAreOffered : Type 0
-EmissionsAreOffered = (s : Setting) (P : Past) (v : ℕ) → is_node s v ≡ true → deals s (node s v).input ≡ false → is_history s P ≡ true → offered v P ≡ emitted (node s v).input P
+EmissionsAreOffered =
+    (s : Setting) (P : Past) (v : ℕ) → is_node s v ≡ true → deals s (node s v).input ≡ false → is_history s P ≡ true → offered v P ≡ emitted (node s v).input P
 
 -- it was accepted for good or dropped
 abbrev pub OffersAreAcceptedOrDropped : Type 0
-OffersAreAcceptedOrDropped = (s : Setting) (P : Past) (v : ℕ) → v ≢ 0 → is_legal s P ≡ true → length (offered v P) ≡ length (accepted s v P) + fulls v P + pool_drops v P + sort_drops v P
+OffersAreAcceptedOrDropped =
+    (s : Setting) (P : Past) (v : ℕ) → v ≢ 0 → is_legal s P ≡ true
+    → length (offered v P) ≡ length (accepted s v P) + fulls v P + pool_drops v P + sort_drops v P
 
 -- and at the driver it was loaded for good or refused
 abbrev pub FramesAreLoadedOrRefused : Type 0

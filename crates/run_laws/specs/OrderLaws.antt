@@ -35,7 +35,9 @@ marked_breaks s v (e ∷ P) = marked_breaks s v P
 
 -- an emission of a sorted node that keeps no step is marked late or flush
 abbrev pub BreaksAreMarked : Type 0
-BreaksAreMarked = (s : Setting) (newer P : Past) (v m k : ℕ) (why : Why) → is_sorted s v ≡ true → is_legal s (newer ++ Emit v m k why ∷ P) ≡ true → keeps_step (prev s v P) (id_at s k) ≡ false → (why ≡ Late) ⊎ (why ≡ Flush)
+BreaksAreMarked =
+    (s : Setting) (newer P : Past) (v m k : ℕ) (why : Why) → is_sorted s v ≡ true → is_legal s (newer ++ Emit v m k why ∷ P) ≡ true
+    → keeps_step (prev s v P) (id_at s k) ≡ false → (why ≡ Late) ⊎ (why ≡ Flush)
 
 -- what is marked late is late by the ticks
 abbrev pub LateOnesHaveWaited : Type 0

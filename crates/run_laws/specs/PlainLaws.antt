@@ -35,4 +35,6 @@ abbrev pub HasDistinctIds : StackValue → Type 0
 HasDistinctIds stack = AllPairs (λ a b. a ≢ b) (map (λ (a : Array). a.id) stack.arrays)
 
 abbrev pub SmoothRunsArePlain : Type 0
-SmoothRunsArePlain = (g : Graph) (makers : List Maker) (stack : StackValue) (P : Past) (v : ℕ) (n : NodeRule) → IsGraph g → rule_at g.nodes v ≡ Some n → HasNoDealer g → HasDistinctIds stack → IsSmooth g makers stack P → ArePlain g stack v (put_out (setting_of g makers stack.arrays) v P)
+SmoothRunsArePlain =
+    (g : Graph) (makers : List Maker) (stack : StackValue) (P : Past) (v : ℕ) (n : NodeRule) → IsGraph g → rule_at g.nodes v ≡ Some n → HasNoDealer g
+    → HasDistinctIds stack → IsSmooth g makers stack P → ArePlain g stack v (put_out (setting_of g makers stack.arrays) v P)

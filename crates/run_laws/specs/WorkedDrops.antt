@@ -27,7 +27,8 @@ use Rattle.run_laws.specs.Drops.{fulls, pool_drops, sort_drops, loaded_frames, r
 a_refused_output_counts : length (offered 1 (after one_given_up)) ≡ 1 + 0 + pool_drops 1 (after one_given_up) + 0
 a_refused_output_counts = refl
 
-a_full_list_counts : length (offered 1 (after one_dropped)) ≡ length (accepted (sorting 1 up_to_four) 1 (after one_dropped)) + 0 + 0 + sort_drops 1 (after one_dropped)
+a_full_list_counts : length (offered 1 (after one_dropped))
+    ≡ length (accepted (sorting 1 up_to_four) 1 (after one_dropped)) + 0 + 0 + sort_drops 1 (after one_dropped)
 a_full_list_counts = refl
 
 a_full_queue_counts : length (offered 1 (after two_dropped)) ≡ length (accepted free_feed 1 (after two_dropped)) + fulls 1 (after two_dropped) + 0 + 0
@@ -49,7 +50,8 @@ dropped_twice = one_given_up ++ take 1 (drop 10 one_given_up)
 dropped_twice_is_illegal : is_legal twelve_bytes (after dropped_twice) ≡ false
 dropped_twice_is_illegal = refl
 
-and_counts_twice : (length (offered 1 (after dropped_twice)) ≡ 2) × (length (accepted twelve_bytes 1 (after dropped_twice)) ≡ 1) × (pool_drops 1 (after dropped_twice) ≡ 2)
+and_counts_twice : (length (offered 1 (after dropped_twice)) ≡ 2) × (length (accepted twelve_bytes 1 (after dropped_twice)) ≡ 1)
+    × (pool_drops 1 (after dropped_twice) ≡ 2)
 and_counts_twice = (refl, refl, refl)
 
 -- OFFERS

@@ -39,5 +39,6 @@ and_leaves_no_room = refl
 a_held_block_is_not_loaded : (is_legal one_file (after (fed 0 ++ (Load 0 0 0 4 false 0 false ∷ []))) ≡ false) × (refs one_file (after (fed 0)) 0 ≡ 1)
 a_held_block_is_not_loaded = (refl, refl)
 
-a_held_block_is_not_taken : (is_legal twelve_bytes (after (fed 0 ++ fed 1 ++ (TakeBlock false false 1 1 0 0 1 4 0 ∷ []))) ≡ false) × (refs twelve_bytes (after (fed 0 ++ fed 1)) 1 ≡ 1)
+a_held_block_is_not_taken : (is_legal twelve_bytes (after (fed 0 ++ fed 1 ++ (TakeBlock false false 1 1 0 0 1 4 0 ∷ []))) ≡ false)
+    × (refs twelve_bytes (after (fed 0 ++ fed 1)) 1 ≡ 1)
 a_held_block_is_not_taken = (refl, refl)

@@ -33,7 +33,9 @@ use Rattle.run_laws.specs.WorkedOutputs.{all_taken, out, mixed, out_twice}
 
 -- an empty array of this id, with one attribute
 abbrev gated : ℤ → ℤ → Array
-gated id gate = record { id = id; stamp = 0; sec = pos 0; nsec = pos 0; kind = UInt8; dims = []; samples = []; attrs = record { name = codes "Gate"; value = Whole gate } ∷ [] }
+gated id gate =
+    record { id = id; stamp = 0; sec = pos 0; nsec = pos 0; kind = UInt8; dims = []; samples = [];
+    attrs = record { name = codes "Gate"; value = Whole gate } ∷ [] }
 
 abbrev stack_of : List Array → StackValue
 stack_of arrays = record { shape = record { form = Classic; kind = UInt8; dims = []; attrs = []; width = 1; extras = [] }; arrays = arrays }
@@ -79,17 +81,20 @@ gated_is_a_history = refl
 gated_is_finished : is_finished gated_run (after gated_log) ≡ true
 gated_is_finished = refl
 
-the_window_is_one_thread : outcome gated_graph.nodes 1 (contents gated_graph.nodes three_gated.arrays (put_out gated_run 1 (after gated_log))) ≡ one_thread gated_graph.nodes three_gated.arrays 1 (indices (accepted gated_run 1 (after gated_log)))
+the_window_is_one_thread : outcome gated_graph.nodes 1 (contents gated_graph.nodes three_gated.arrays (put_out gated_run 1 (after gated_log)))
+    ≡ one_thread gated_graph.nodes three_gated.arrays 1 (indices (accepted gated_run 1 (after gated_log)))
 the_window_is_one_thread = refl
 
-the_file_is_one_thread : (one_thread gated_graph.nodes three_gated.arrays 2 (indices (accepted gated_run 2 (after gated_log)))).files ≡ (gated (pos 1) (pos 1) ∷ []) ∷ []
+the_file_is_one_thread : (one_thread gated_graph.nodes three_gated.arrays 2 (indices (accepted gated_run 2 (after gated_log)))).files
+    ≡ (gated (pos 1) (pos 1) ∷ []) ∷ []
 the_file_is_one_thread = refl
 
 and_was_saved : contents gated_graph.nodes three_gated.arrays (put_out gated_run 2 (after gated_log)) ≡ gated (pos 1) (pos 1) ∷ []
 and_was_saved = refl
 
 -- nothing was dropped and nothing broke the order, and each node put out what it does in the plain run
-all_kept_in_step : (has_drop (after gated_log) ≡ false) × (breaks gated_run 0 (after gated_log) ≡ 0) × (breaks gated_run 1 (after gated_log) ≡ 0) × (breaks gated_run 2 (after gated_log) ≡ 0)
+all_kept_in_step : (has_drop (after gated_log) ≡ false) × (breaks gated_run 0 (after gated_log) ≡ 0) × (breaks gated_run 1 (after gated_log) ≡ 0)
+    × (breaks gated_run 2 (after gated_log) ≡ 0)
 all_kept_in_step = (refl, refl, refl, refl)
 
 in_step : (v : ℕ) → v ≤ length gated_graph.nodes → breaks gated_run v (after gated_log) ≡ 0
@@ -105,7 +110,8 @@ gated_is_smooth = record { run = record { legal = refl; finished = refl }; kept 
 so_the_window_is_plain : indices (put_out gated_run 1 (after gated_log)) ≡ passed gated_graph three_gated 1
 so_the_window_is_plain = refl
 
-and_the_file_is_plain : outcome gated_graph.nodes 2 (contents gated_graph.nodes three_gated.arrays (put_out gated_run 2 (after gated_log))) ≡ result_of gated_graph three_gated 2
+and_the_file_is_plain : outcome gated_graph.nodes 2 (contents gated_graph.nodes three_gated.arrays (put_out gated_run 2 (after gated_log)))
+    ≡ result_of gated_graph three_gated 2
 and_the_file_is_plain = refl
 
 -- one result has another maker's name than its input, which is the driver
@@ -120,7 +126,8 @@ another_maker_is_illegal = refl
 another_maker_is_finished : is_finished gated_run (after another_maker) ≡ true
 another_maker_is_finished = refl
 
-and_is_not_of_the_driver : (put_out gated_run 1 (after another_maker) ≡ frame 7 0 ∷ []) × (accepted gated_run 2 (after another_maker) ≡ frame 7 0 ∷ []) × (maker_at gated_graph.nodes 1 ≡ 0)
+and_is_not_of_the_driver : (put_out gated_run 1 (after another_maker) ≡ frame 7 0 ∷ []) × (accepted gated_run 2 (after another_maker) ≡ frame 7 0 ∷ [])
+    × (maker_at gated_graph.nodes 1 ≡ 0)
 and_is_not_of_the_driver = (refl, refl, refl)
 
 -- another frame is saved than was put: nothing is dropped
@@ -152,13 +159,15 @@ two_lost_is_a_history = refl
 two_lost_is_finished : is_finished narrow_run (after two_lost) ≡ true
 two_lost_is_finished = refl
 
-and_the_file_is_not_plain : (has_drop (after two_lost) ≡ true) × (indices (put_out narrow_run 1 (after two_lost)) ≡ 0 ∷ []) × (passed narrow_graph three_gated 1 ≡ 0 ∷ 1 ∷ 2 ∷ [])
+and_the_file_is_not_plain : (has_drop (after two_lost) ≡ true) × (indices (put_out narrow_run 1 (after two_lost)) ≡ 0 ∷ [])
+    × (passed narrow_graph three_gated 1 ≡ 0 ∷ 1 ∷ 2 ∷ [])
 and_the_file_is_not_plain = (refl, refl, refl)
 
 -- A BREAK: a statistics node with four threads
 
 abbrev wide_graph : Graph
-wide_graph = over (rule (codes "st") (Stats (record { threshold = pos 0; border = 0; hist_size = 0; hist_lo = pos 0; hist_hi = pos 0; profiles = false })) 0 20 4 ∷ [])
+wide_graph =
+    over (rule (codes "st") (Stats (record { threshold = pos 0; border = 0; hist_size = 0; hist_lo = pos 0; hist_hi = pos 0; profiles = false })) 0 20 4 ∷ [])
 
 abbrev wide_run : Setting
 wide_run = run_of wide_graph three_gated
@@ -166,14 +175,16 @@ wide_run = run_of wide_graph three_gated
 mixed_is_a_run : (is_history wide_run (after mixed) ≡ true) × (is_finished wide_run (after mixed) ≡ true) × (has_drop (after mixed) ≡ false)
 mixed_is_a_run = (refl, refl, refl)
 
-and_breaks_the_order : (breaks wide_run 1 (after mixed) ≡ 2) × (indices (put_out wide_run 1 (after mixed)) ≡ 2 ∷ 0 ∷ 1 ∷ []) × (passed wide_graph three_gated 1 ≡ 0 ∷ 1 ∷ 2 ∷ [])
+and_breaks_the_order : (breaks wide_run 1 (after mixed) ≡ 2) × (indices (put_out wide_run 1 (after mixed)) ≡ 2 ∷ 0 ∷ 1 ∷ [])
+    × (passed wide_graph three_gated 1 ≡ 0 ∷ 1 ∷ 2 ∷ [])
 and_breaks_the_order = (refl, refl, refl)
 
 -- one array goes out in place of another
 out_twice_is_no_run : (is_history wide_run (after out_twice) ≡ false) × (is_finished wide_run (after out_twice) ≡ true)
 out_twice_is_no_run = (refl, refl)
 
-and_is_not_what_was_accepted : (indices (put_out wide_run 1 (after out_twice)) ≡ 2 ∷ 2 ∷ 1 ∷ []) × (outputs wide_graph.nodes three_gated.arrays 1 (indices (accepted wide_run 1 (after out_twice))) ≡ 0 ∷ 1 ∷ 2 ∷ [])
+and_is_not_what_was_accepted : (indices (put_out wide_run 1 (after out_twice)) ≡ 2 ∷ 2 ∷ 1 ∷ [])
+    × (outputs wide_graph.nodes three_gated.arrays 1 (indices (accepted wide_run 1 (after out_twice))) ≡ 0 ∷ 1 ∷ 2 ∷ [])
 and_is_not_what_was_accepted = (refl, refl)
 
 -- the last frame is emitted and isn't offered: nothing is dropped, and nothing breaks the order
@@ -198,13 +209,16 @@ five_five_six = stack_of (gated (pos 5) (pos 0) ∷ gated (pos 5) (pos 0) ∷ ga
 abbrev second_first : List Entry
 second_first = all_taken ++ put 2 1 ++ out 1 ++ put 1 0 ++ out 0 ++ put 3 2 ++ out 2 ++ (Close 0 ∷ Settle 1 1 ∷ [])
 
-second_first_is_a_run : (is_history (run_of wide_graph five_five_six) (after second_first) ≡ true) × (is_finished (run_of wide_graph five_five_six) (after second_first) ≡ true)
+second_first_is_a_run : (is_history (run_of wide_graph five_five_six) (after second_first) ≡ true)
+    × (is_finished (run_of wide_graph five_five_six) (after second_first) ≡ true)
 second_first_is_a_run = (refl, refl)
 
-and_breaks_nothing : (has_drop (after second_first) ≡ false) × (breaks (run_of wide_graph five_five_six) 0 (after second_first) ≡ 0) × (breaks (run_of wide_graph five_five_six) 1 (after second_first) ≡ 0)
+and_breaks_nothing : (has_drop (after second_first) ≡ false) × (breaks (run_of wide_graph five_five_six) 0 (after second_first) ≡ 0)
+    × (breaks (run_of wide_graph five_five_six) 1 (after second_first) ≡ 0)
 and_breaks_nothing = (refl, refl, refl)
 
-though_it_is_not_plain : (indices (put_out (run_of wide_graph five_five_six) 1 (after second_first)) ≡ 1 ∷ 0 ∷ 2 ∷ []) × (passed wide_graph five_five_six 1 ≡ 0 ∷ 1 ∷ 2 ∷ [])
+though_it_is_not_plain : (indices (put_out (run_of wide_graph five_five_six) 1 (after second_first)) ≡ 1 ∷ 0 ∷ 2 ∷ [])
+    × (passed wide_graph five_five_six 1 ≡ 0 ∷ 1 ∷ 2 ∷ [])
 though_it_is_not_plain = (refl, refl)
 
 -- IDS THAT FALL: here the driver breaks the order, and the node doesn't
@@ -214,7 +228,8 @@ five_four = stack_of (gated (pos 5) (pos 0) ∷ gated (pos 4) (pos 0) ∷ [])
 abbrev four_first : List Entry
 four_first = flat_map fed (0 ∷ 1 ∷ []) ++ taken 1 0 ++ taken 2 1 ++ put 2 1 ++ out 1 ++ put 1 0 ++ out 0 ++ (Close 0 ∷ Settle 1 1 ∷ [])
 
-four_first_is_a_run : (is_history (run_of wide_graph five_four) (after four_first) ≡ true) × (is_finished (run_of wide_graph five_four) (after four_first) ≡ true)
+four_first_is_a_run : (is_history (run_of wide_graph five_four) (after four_first) ≡ true)
+    × (is_finished (run_of wide_graph five_four) (after four_first) ≡ true)
 four_first_is_a_run = (refl, refl)
 
 and_only_the_driver_breaks : (breaks (run_of wide_graph five_four) 0 (after four_first) ≡ 1) × (breaks (run_of wide_graph five_four) 1 (after four_first) ≡ 0)

@@ -41,7 +41,8 @@ a_late_one_has_waited = refl
 too_early_is_illegal : is_legal the_list (after (three_waits ++ loaded 2 5 ++ (Emit 1 0 1 Late ∷ []))) ≡ false
 too_early_is_illegal = refl
 
-since_it_has_not_waited : (waiting the_list 1 (after (three_waits ++ loaded 2 5)) ≡ record { array = frame 0 1; tick = 0 } ∷ []) × (nat_lt (0 + 5) (now (after (three_waits ++ loaded 2 5))) ≡ false)
+since_it_has_not_waited : (waiting the_list 1 (after (three_waits ++ loaded 2 5)) ≡ record { array = frame 0 1; tick = 0 } ∷ [])
+    × (nat_lt (0 + 5) (now (after (three_waits ++ loaded 2 5))) ≡ false)
 since_it_has_not_waited = (refl, refl)
 
 -- nor is it flushed before the feed is closed

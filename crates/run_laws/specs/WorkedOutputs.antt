@@ -134,12 +134,14 @@ and_one_stands_twice = (refl, refl)
 
 -- WINDOWS
 
-the_windows_pass_on : emitted 1 (after both_windows) ≡ passed_items 2 3 0 (map (λ (a : FrameName). (two_and_three 0).fires 1 a.index) (accepted (two_and_three 0) 1 (after both_windows))) (accepted (two_and_three 0) 1 (after both_windows))
+the_windows_pass_on : emitted 1 (after both_windows) ≡ passed_items 2 3 0 (map (λ (a : FrameName). (two_and_three 0).fires 1 a.index)
+    (accepted (two_and_three 0) 1 (after both_windows))) (accepted (two_and_three 0) 1 (after both_windows))
 the_windows_pass_on = refl
 
 -- without the entry that lets the ring out
 abbrev without_the_ring : List Entry
-without_the_ring = first_window ++ worked 4 true ++ goes 4 ++ worked 5 true ++ goes 5 ++ worked 6 false ++ goes 6 ++ worked 7 false ++ (Close 0 ∷ Settle 1 1 ∷ [])
+without_the_ring =
+    first_window ++ worked 4 true ++ goes 4 ++ worked 5 true ++ goes 5 ++ worked 6 false ++ goes 6 ++ worked 7 false ++ (Close 0 ∷ Settle 1 1 ∷ [])
 
 without_the_ring_is_illegal : is_history (two_and_three 0) (after without_the_ring) ≡ false
 without_the_ring_is_illegal = refl

@@ -43,10 +43,14 @@ still-same : (f : Entry → List ℕ) (b : Bool) (e : Entry) (S : Past) → f e 
 still-same f true e S none = ap (λ (ys : List ℕ). ys ++ flat_map f S) none
 still-same f false e S none = refl
 
-out-same : (s : Setting) (v : ℕ) (t : NodeTally) (b : Bool) (e : Entry) (S : Past) (o : ℕ) → flat_map (out_at t.saves v) (cond b (e ∷ S) S) ≡ flat_map (out_at t.saves v) S → t.out + length (flat_map (out_at t.saves v) (cond b (e ∷ S) S)) ≡ o → t.out + length (flat_map (out_at t.saves v) S) ≡ o
+out-same : (s : Setting) (v : ℕ) (t : NodeTally) (b : Bool) (e : Entry) (S : Past) (o : ℕ)
+    → flat_map (out_at t.saves v) (cond b (e ∷ S) S) ≡ flat_map (out_at t.saves v) S → t.out + length (flat_map (out_at t.saves v) (cond b (e ∷ S) S)) ≡ o
+    → t.out + length (flat_map (out_at t.saves v) S) ≡ o
 out-same s v t b e S o same h = ap (λ (ks : List ℕ). t.out + length ks) (sym same) ∙ h
 
-breaks-same : (s : Setting) (v : ℕ) (t : NodeTally) (b : Bool) (e : Entry) (S : Past) (o : ℕ) → flat_map (out_at t.saves v) (cond b (e ∷ S) S) ≡ flat_map (out_at t.saves v) S → t.breaks + breaks_left s t.next (flat_map (out_at t.saves v) (cond b (e ∷ S) S)) ≡ o → t.breaks + breaks_left s t.next (flat_map (out_at t.saves v) S) ≡ o
+breaks-same : (s : Setting) (v : ℕ) (t : NodeTally) (b : Bool) (e : Entry) (S : Past) (o : ℕ)
+    → flat_map (out_at t.saves v) (cond b (e ∷ S) S) ≡ flat_map (out_at t.saves v) S
+    → t.breaks + breaks_left s t.next (flat_map (out_at t.saves v) (cond b (e ∷ S) S)) ≡ o → t.breaks + breaks_left s t.next (flat_map (out_at t.saves v) S) ≡ o
 breaks-same s v t b e S o same h = ap (λ (ks : List ℕ). t.breaks + breaks_left s t.next ks) (sym same) ∙ h
 
 -- the entry is no offer and no drop at the node
@@ -57,7 +61,8 @@ record IsNoCount (v : ℕ) (e : Entry) : Type 0 where
   sort : is_sort_drop v e ≡ false
 
 -- it leaves the tally, where it lets nothing out
-leads-none : (s : Setting) (v : ℕ) (n : NodeCount) (t : NodeTally) (b : Bool) (e : Entry) (S P : Past) → IsNoCount v e → flat_map (out_at t.saves v) (cond b (e ∷ S) S) ≡ flat_map (out_at t.saves v) S → Leads s v n t (cond b (e ∷ S) S) (e ∷ P) → Leads s v n t S P
+leads-none : (s : Setting) (v : ℕ) (n : NodeCount) (t : NodeTally) (b : Bool) (e : Entry) (S P : Past) → IsNoCount v e
+    → flat_map (out_at t.saves v) (cond b (e ∷ S) S) ≡ flat_map (out_at t.saves v) S → Leads s v n t (cond b (e ∷ S) S) (e ∷ P) → Leads s v n t S P
 leads-none s v n t b e S P others same l =
     record {
       offered = let c = count-no (is_offer v) e P others.offer in ap (λ (i : ℕ). t.offered + i) (sym c) ∙ l.offered;
@@ -72,7 +77,8 @@ moved : (a c o : ℕ) → a + (1 + c) ≡ o → (a + 1) + c ≡ o
 moved a c o h = omega arith
 
 -- one that lets its array out adds it
-leads-out : (s : Setting) (v : ℕ) (n : NodeCount) (t : NodeTally) (k : ℕ) (e : Entry) (S P : Past) → IsNoCount v e → out_at t.saves v e ≡ k ∷ [] → Leads s v n t (e ∷ S) (e ∷ P) → Leads s v n (with_out (id_at s k) t) S P
+leads-out : (s : Setting) (v : ℕ) (n : NodeCount) (t : NodeTally) (k : ℕ) (e : Entry) (S P : Past) → IsNoCount v e → out_at t.saves v e ≡ k ∷ []
+    → Leads s v n t (e ∷ S) (e ∷ P) → Leads s v n (with_out (id_at s k) t) S P
 leads-out s v n t k e S P others lets l =
     let ks = flat_map (out_at t.saves v) S in
     let o : t.out + length (k ∷ ks) ≡ n.out = ap (λ (ys : List ℕ). t.out + length (ys ++ ks)) (sym lets) ∙ l.out in
@@ -109,12 +115,15 @@ away-out saves v (Emit w m k why) h = ap (λ (b : Bool). cond b (k ∷ []) []) (
 away-out saves v (Save r w m k g) h = ap (λ (b : Bool). cond b (k ∷ []) []) (ap (λ (b : Bool). saves && b) h ∙ and-false saves)
 away-out saves v _ h = refl
 
-leads-away : (s : Setting) (v : ℕ) (n : NodeCount) (t : NodeTally) (b : Bool) (e : Entry) (S P : Past) → is_node_at v (node_at e) ≡ false → Leads s v n t (cond b (e ∷ S) S) (e ∷ P) → Leads s v n t S P
+leads-away : (s : Setting) (v : ℕ) (n : NodeCount) (t : NodeTally) (b : Bool) (e : Entry) (S P : Past) → is_node_at v (node_at e) ≡ false
+    → Leads s v n t (cond b (e ∷ S) S) (e ∷ P) → Leads s v n t S P
 leads-away s v n t b e S P h l =
-    leads-none s v n t b e S P (record { offer = away-offer v e h; full = away-full v e h; pool = away-pool v e h; sort = away-sort v e h }) (still-same (out_at t.saves v) b e S (away-out t.saves v e h)) l
+    leads-none s v n t b e S P (record { offer = away-offer v e h; full = away-full v e h; pool = away-pool v e h; sort = away-sort v e h })
+    (still-same (out_at t.saves v) b e S (away-out t.saves v e h)) l
 
 -- an emission or a save: where it goes out
-leads-emit : (s : Setting) (v : ℕ) (n : NodeCount) (t : NodeTally) (e : Entry) (k : ℕ) (S P : Past) → IsNoCount v e → out_at t.saves v e ≡ cond (not t.saves) (k ∷ []) [] → Leads s v n t (e ∷ S) (e ∷ P) → Leads s v n (cond (not t.saves) (with_out (id_at s k) t) t) S P
+leads-emit : (s : Setting) (v : ℕ) (n : NodeCount) (t : NodeTally) (e : Entry) (k : ℕ) (S P : Past) → IsNoCount v e
+    → out_at t.saves v e ≡ cond (not t.saves) (k ∷ []) [] → Leads s v n t (e ∷ S) (e ∷ P) → Leads s v n (cond (not t.saves) (with_out (id_at s k) t) t) S P
 leads-emit s v n t e k S P others lets l =
     elim (cases_Bool (not t.saves)) [
       | inl goes ↦
@@ -125,7 +134,9 @@ leads-emit s v n t e k S P others lets l =
           (leads-none s v n t true e S P others (still-same (out_at t.saves v) true e S (lets ∙ ap (λ (b : Bool). cond b (k ∷ []) []) stays)) l)
     ]
 
-leads-save : (s : Setting) (v : ℕ) (n : NodeCount) (t : NodeTally) (b : Bool) (e : Entry) (k : ℕ) (S P : Past) → IsNoCount v e → out_at t.saves v e ≡ cond t.saves (k ∷ []) [] → Leads s v n t (cond b (e ∷ S) S) (e ∷ P) → Leads s v n (cond (t.saves && b) (with_out (id_at s k) t) t) S P
+leads-save : (s : Setting) (v : ℕ) (n : NodeCount) (t : NodeTally) (b : Bool) (e : Entry) (k : ℕ) (S P : Past) → IsNoCount v e
+    → out_at t.saves v e ≡ cond t.saves (k ∷ []) [] → Leads s v n t (cond b (e ∷ S) S) (e ∷ P)
+    → Leads s v n (cond (t.saves && b) (with_out (id_at s k) t) t) S P
 leads-save s v n t b e k S P others lets l =
     elim (cases_Bool t.saves) [
       | inl saves ↦
@@ -140,7 +151,8 @@ leads-save s v n t b e k S P others lets l =
     ]
 
 -- an entry at the node
-leads-here : (s : Setting) (v : ℕ) (n : NodeCount) (t : NodeTally) (T : Roles) (e : Entry) (S P : Past) → is_node_at v (node_at e) ≡ true → Leads s v n t (cond (not (is_taken_back T e)) (e ∷ S) S) (e ∷ P) → Leads s v n (more s.ids (not (is_taken_back T e)) e t) S P
+leads-here : (s : Setting) (v : ℕ) (n : NodeCount) (t : NodeTally) (T : Roles) (e : Entry) (S P : Past) → is_node_at v (node_at e) ≡ true
+    → Leads s v n t (cond (not (is_taken_back T e)) (e ∷ S) S) (e ∷ P) → Leads s v n (more s.ids (not (is_taken_back T e)) e t) S P
 leads-here s v n t T (Accept w m k) S P h l =
     let e = Accept w m k in
     record {
@@ -191,15 +203,20 @@ leads-here s v n t T (Save r w m k g) S P h l =
     leads-save s v n t (not (T r)) (Save r w m k g) k S P (record { offer = refl; full = refl; pool = refl; sort = refl }) here l
 leads-here s v n t T _ S P h l = absurd (false≢true h)
 
-pub leads-more : (s : Setting) (v : ℕ) (n : NodeCount) (t : NodeTally) (T : Roles) (e : Entry) (S P : Past) → Leads s v n t (cond (not (is_taken_back T e)) (e ∷ S) S) (e ∷ P) → Leads s v n (cond (is_node_at v (node_at e)) (more s.ids (not (is_taken_back T e)) e t) t) S P
+pub leads-more : (s : Setting) (v : ℕ) (n : NodeCount) (t : NodeTally) (T : Roles) (e : Entry) (S P : Past)
+    → Leads s v n t (cond (not (is_taken_back T e)) (e ∷ S) S) (e ∷ P)
+    → Leads s v n (cond (is_node_at v (node_at e)) (more s.ids (not (is_taken_back T e)) e t) t) S P
 leads-more s v n t T e S P l =
     elim (cases_Bool (is_node_at v (node_at e))) [
       | inl here ↦ subst (λ (b : Bool). Leads s v n (cond b (more s.ids (not (is_taken_back T e)) e t) t) S P) (sym here) (leads-here s v n t T e S P here l)
-      | inr away ↦ subst (λ (b : Bool). Leads s v n (cond b (more s.ids (not (is_taken_back T e)) e t) t) S P) (sym away) (leads-away s v n t (not (is_taken_back T e)) e S P away l)
+      | inr away ↦
+          subst (λ (b : Bool). Leads s v n (cond b (more s.ids (not (is_taken_back T e)) e t) t) S P) (sym away)
+          (leads-away s v n t (not (is_taken_back T e)) e S P away l)
     ]
 
 -- when nothing is left, the tally has the counts
-pub leads-end : (s : Setting) (v : ℕ) (past : Past) (t : NodeTally) → Leads s v (node_count s past v) t [] [] → finished (first_prev s.ids) t ≡ node_count s past v
+pub leads-end : (s : Setting) (v : ℕ) (past : Past) (t : NodeTally) → Leads s v (node_count s past v) t [] []
+    → finished (first_prev s.ids) t ≡ node_count s past v
 leads-end s v past t l =
     let o : t.offered ≡ (node_count s past v).offered = omega (arith, l.offered) in
     let f : t.full ≡ (node_count s past v).full = omega (arith, l.full) in

@@ -28,10 +28,12 @@ breaks-same s u (k ∷ j ∷ ks) same =
 
 pub counts-run : CountsAreOfRuns
 counts-run p arrays P v same =
-    ap (λ (n : ℕ). record (node_count (plan_setting p) P v) { breaks = n }) (breaks-same (plan_setting p) (setting_of p.graph p.makers arrays) (outs (plan_setting p) v P) same)
+    ap (λ (n : ℕ). record (node_count (plan_setting p) P v) { breaks = n })
+    (breaks-same (plan_setting p) (setting_of p.graph p.makers arrays) (outs (plan_setting p) v P) same)
 
 -- one more array
-more-offered : (P : Past) (v w : ℕ) (a : FrameName) → count_by (is_offer v) P ≡ length (offered v P) → cond (eqb w v) 1 0 + count_by (is_offer v) P ≡ length (comes_at v w a (offered v P))
+more-offered : (P : Past) (v w : ℕ) (a : FrameName) → count_by (is_offer v) P ≡ length (offered v P)
+    → cond (eqb w v) 1 0 + count_by (is_offer v) P ≡ length (comes_at v w a (offered v P))
 more-offered P v w a h =
     elim (eqb w v) as (λ b. cond b 1 0 + count_by (is_offer v) P ≡ length (cond b (offered v P ++ a ∷ []) (offered v P))) [
       | true ↦ let one = length_push (offered v P) a in omega (arith, one, h)

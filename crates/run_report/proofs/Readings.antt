@@ -32,7 +32,8 @@ pub record Reads (p : Plan) (past P : Past) (t : Tally) : Type 0 where
   pub refusals : t.feed.refused + count_by is_refusal P ≡ count_by is_refusal past
   pub grants : t.feed.regrown + count_by is_regrown P ≡ count_by is_regrown past
   pub as_many : length t.nodes.items ≡ length p.graph.nodes + 1
-  pub nodes : (v : ℕ) → v < length t.nodes.items → Leads (plan_setting p) v (node_count (plan_setting p) past v) (at t.nodes.items v) (rest (has_role t.reclaims) P) P
+  pub nodes : (v : ℕ) → v < length t.nodes.items
+      → Leads (plan_setting p) v (node_count (plan_setting p) past v) (at t.nodes.items v) (rest (has_role t.reclaims) P) P
 
 cond-not : {X : Type 0} (b : Bool) (x y : X) → cond b x y ≡ cond (not b) y x
 cond-not true x y = refl
@@ -45,22 +46,30 @@ count-kept : (p : Entry → Bool) (b : Bool) (e : Entry) (S : Past) → p e ≡ 
 count-kept p true e S none = count-no p e S none
 count-kept p false e S none = refl
 
-more-loaded : (b : Bool) (e : Entry) (t : FeedTally) (S : Past) (o : ℕ) → t.loaded + count_by is_loaded (cond b (e ∷ S) S) ≡ o → (more_loads b e t).loaded + count_by is_loaded S ≡ o
-more-loaded true (Load r k c n f g x) t S o h = moved t.loaded 1 (count_by is_loaded S) o (ap (λ (i : ℕ). t.loaded + i) (sym (count-yes is_loaded (Load r k c n f g x) S refl)) ∙ h)
+more-loaded : (b : Bool) (e : Entry) (t : FeedTally) (S : Past) (o : ℕ) → t.loaded + count_by is_loaded (cond b (e ∷ S) S) ≡ o
+    → (more_loads b e t).loaded + count_by is_loaded S ≡ o
+more-loaded true (Load r k c n f g x) t S o h =
+    moved t.loaded 1 (count_by is_loaded S) o (ap (λ (i : ℕ). t.loaded + i) (sym (count-yes is_loaded (Load r k c n f g x) S refl)) ∙ h)
 more-loaded false (Load r k c n f g x) t S o h = ap (λ (i : ℕ). i + count_by is_loaded S) (add-zero t.loaded) ∙ h
 more-loaded b e t S o h = ap (λ (i : ℕ). t.loaded + i) (sym (count-kept is_loaded b e S refl)) ∙ h
 
-more-refused : (b : Bool) (e : Entry) (t : FeedTally) (P : Past) (o : ℕ) → t.refused + count_by is_refusal (e ∷ P) ≡ o → (more_loads b e t).refused + count_by is_refusal P ≡ o
-more-refused b (LoadRefused r k n d) t P o h = moved t.refused 1 (count_by is_refusal P) o (ap (λ (i : ℕ). t.refused + i) (sym (count-yes is_refusal (LoadRefused r k n d) P refl)) ∙ h)
+more-refused : (b : Bool) (e : Entry) (t : FeedTally) (P : Past) (o : ℕ) → t.refused + count_by is_refusal (e ∷ P) ≡ o
+    → (more_loads b e t).refused + count_by is_refusal P ≡ o
+more-refused b (LoadRefused r k n d) t P o h =
+    moved t.refused 1 (count_by is_refusal P) o (ap (λ (i : ℕ). t.refused + i) (sym (count-yes is_refusal (LoadRefused r k n d) P refl)) ∙ h)
 more-refused b e t P o h = ap (λ (i : ℕ). t.refused + i) (sym (count-no is_refusal e P refl)) ∙ h
 
-more-regrown : (b : Bool) (e : Entry) (t : FeedTally) (P : Past) (o : ℕ) → t.regrown + count_by is_regrown (e ∷ P) ≡ o → (more_loads b e t).regrown + count_by is_regrown P ≡ o
-more-regrown b (Load r k c n f g x) t P o h = moved t.regrown (one_if x) (count_by is_regrown P) o (ap (λ (i : ℕ). t.regrown + i) (sym (count-one is_regrown (Load r k c n f g x) P)) ∙ h)
-more-regrown b (TakeBlock f x r v m k c n g) t P o h = moved t.regrown (one_if x) (count_by is_regrown P) o (ap (λ (i : ℕ). t.regrown + i) (sym (count-one is_regrown (TakeBlock f x r v m k c n g) P)) ∙ h)
+more-regrown : (b : Bool) (e : Entry) (t : FeedTally) (P : Past) (o : ℕ) → t.regrown + count_by is_regrown (e ∷ P) ≡ o
+    → (more_loads b e t).regrown + count_by is_regrown P ≡ o
+more-regrown b (Load r k c n f g x) t P o h =
+    moved t.regrown (one_if x) (count_by is_regrown P) o (ap (λ (i : ℕ). t.regrown + i) (sym (count-one is_regrown (Load r k c n f g x) P)) ∙ h)
+more-regrown b (TakeBlock f x r v m k c n g) t P o h =
+    moved t.regrown (one_if x) (count_by is_regrown P) o (ap (λ (i : ℕ). t.regrown + i) (sym (count-one is_regrown (TakeBlock f x r v m k c n g) P)) ∙ h)
 more-regrown b e t P o h = ap (λ (i : ℕ). t.regrown + i) (sym (count-no is_regrown e P refl)) ∙ h
 
 -- what is left before an entry is read
-turned : (p : Plan) (P : Past) (e : Entry) (old new : Tally) → IsOneMore p.ids e old new → rest (has_role old.reclaims) (e ∷ P) ≡ cond (stands_before old e) (e ∷ rest (has_role new.reclaims) P) (rest (has_role new.reclaims) P)
+turned : (p : Plan) (P : Past) (e : Entry) (old new : Tally) → IsOneMore p.ids e old new
+    → rest (has_role old.reclaims) (e ∷ P) ≡ cond (stands_before old e) (e ∷ rest (has_role new.reclaims) P) (rest (has_role new.reclaims) P)
 turned p P e old new m =
     let X = rest (before e (has_role old.reclaims)) P in
     let same : X ≡ rest (has_role new.reclaims) P = sym (rest-same P (has_role new.reclaims) (before e (has_role old.reclaims)) m.roles) in
@@ -89,7 +98,9 @@ reads-more p past P e old new r m =
     }
 
 -- before any entry is read
-fresh-at : (ns : List NodeRule) (k : ℕ) → slice_index_or (map (λ (n : NodeRule). fresh (is_file (work_of n.kind))) ns) k (fresh false) ≡ fresh (is_file (slice_index_or (map node_of ns) k no_node).work)
+fresh-at : (ns : List NodeRule) (k : ℕ)
+    → slice_index_or (map (λ (n : NodeRule). fresh (is_file (work_of n.kind))) ns) k (fresh false)
+    ≡ fresh (is_file (slice_index_or (map node_of ns) k no_node).work)
 fresh-at [] k = refl
 fresh-at (n ∷ ns) zero = refl
 fresh-at (n ∷ ns) (suc k) = fresh-at ns k
@@ -109,7 +120,8 @@ leads-fresh s v past =
       breaks = zero-add (breaks_of s (outs s v past) + 0) ∙ add-zero (breaks_of s (outs s v past));
     }
 
-pub reads-fresh : (p : Plan) (past : Past) (t : Tally) → ((q : ℕ) → has_role t.reclaims q ≡ false) → t.feed ≡ record { loaded = 0; refused = 0; regrown = 0 } → t.nodes.items ≡ fresh_nodes p.graph.nodes → Reads p past past t
+pub reads-fresh : (p : Plan) (past : Past) (t : Tally) → ((q : ℕ) → has_role t.reclaims q ≡ false) → t.feed ≡ record { loaded = 0; refused = 0; regrown = 0 }
+    → t.nodes.items ≡ fresh_nodes p.graph.nodes → Reads p past past t
 reads-fresh p past t none feed nodes =
     let s = plan_setting p in
     let stands : standing past ≡ rest (has_role t.reclaims) past = sym (rest-standing past (has_role t.reclaims) none) in

@@ -138,7 +138,8 @@ OneAmongAll r X = (T : Roles) → T r ≡ false → let_go_all (and_role r T) X 
 
 this_taker : (r p : ℕ) (e : Entry) (X : Past) → IsTaker p e → eqb p r ≡ true → OneAmongAll r (e ∷ X)
 this_taker r p e X t same T none =
-    let here : is_taken_back (and_role r T) e ≡ true = t.back (and_role r T) ∙ ap (λ (i : ℕ). eqb r i || T i) (eqb-true p r same) ∙ ap (λ (b : Bool). b || T r) (eq-eqb r r refl) in
+    let here : is_taken_back (and_role r T) e ≡ true =
+    t.back (and_role r T) ∙ ap (λ (i : ℕ). eqb r i || T i) (eqb-true p r same) ∙ ap (λ (b : Bool). b || T r) (eq-eqb r r refl) in
     let gone : takes_up r e ≡ true = t.up r ∙ same in
     let older : let_go_all (but_taker e (and_role r T)) X ≡ let_go_all T X =
     all-same X (but_taker e (and_role r T)) T (λ (q : ℕ). t.less (and_role r T) q ∙ same_role r p T none same q) in
@@ -179,7 +180,8 @@ one_among_all : (r : ℕ) (X : Past) → OneAmongAll r X
 one_among_all r [] T none = refl
 one_among_all r (Load p k b n f g x ∷ X) T none = one_taker r p (Load p k b n f g x) X (takes p k b n f g x) (one_among_all r X) T none
 one_among_all r (Take p v m k ∷ X) T none = one_taker r p (Take p v m k) X (takes_job p v m k) (one_among_all r X) T none
-one_among_all r (TakeBlock f x p v m k b n g ∷ X) T none = one_taker r p (TakeBlock f x p v m k b n g) X (takes_block f x p v m k b n g) (one_among_all r X) T none
+one_among_all r (TakeBlock f x p v m k b n g ∷ X) T none =
+    one_taker r p (TakeBlock f x p v m k b n g) X (takes_block f x p v m k b n g) (one_among_all r X) T none
 one_among_all r (Save p v m k g ∷ X) T none = one_taker r p (Save p v m k g) X (takes_piece p v m k g) (one_among_all r X) T none
 one_among_all r (e ∷ X) T none = ap (λ (Y : Past). e ∷ Y) (one_among_all r X T none)
 
@@ -203,7 +205,8 @@ Rests P = (T : Roles) → rest T P ≡ let_go_all (owing T P) (standing P)
 rests_taker : (r : ℕ) (e : Entry) (P : Past) → IsTaker r e → Rests P → Rests (e ∷ P)
 rests_taker r e P t older T =
     let free : (q : ℕ) → is_free q (e ∷ P) ≡ is_none (cond (eqb r q) (Some e) (find (takes_up q) (let_go r (hands P)))) =
-    λ (q : ℕ). ap (λ (hs : List Entry). is_none (find (takes_up q) hs)) (t.holds P) ∙ ap (λ (b : Bool). is_none (cond b (Some e) (find (takes_up q) (let_go r (hands P))))) (t.up q) in
+    λ (q : ℕ). ap (λ (hs : List Entry). is_none (find (takes_up q) hs)) (t.holds P)
+    ∙ ap (λ (b : Bool). is_none (cond b (Some e) (find (takes_up q) (let_go r (hands P))))) (t.up q) in
     let own : is_free r (e ∷ P) ≡ false = free r ∙ ap (λ (b : Bool). is_none (cond b (Some e) (find (takes_up r) (let_go r (hands P))))) (eq-eqb r r refl) in
     let here : is_taken_back T e ≡ is_taken_back (owing T (e ∷ P)) e =
     t.back T ∙ sym (and-true (T r)) ∙ sym (ap (λ (b : Bool). T r && not b) own) ∙ sym (t.back (owing T (e ∷ P))) in
@@ -264,7 +267,8 @@ ends_saved : (r v m k : ℕ) → IsEnder r (Saved r v m k)
 ends_saved r v m k = record { back = λ T. refl; less = λ T q. refl; from = λ T q. refl; stands = λ P. refl; leaves = λ P. refl }
 
 -- a reclaim without a hand
-rests_free : (r : ℕ) (P : Past) (T : Roles) → is_free r P ≡ true → Rests P → rest T (Reclaim r ∷ P) ≡ Reclaim r ∷ let_go_all (owing T (Reclaim r ∷ P)) (standing P)
+rests_free : (r : ℕ) (P : Past) (T : Roles) → is_free r P ≡ true → Rests P
+    → rest T (Reclaim r ∷ P) ≡ Reclaim r ∷ let_go_all (owing T (Reclaim r ∷ P)) (standing P)
 rests_free r P T none older =
     let apart : Same (owing (and_role r T) P) (owing T (Reclaim r ∷ P)) =
     λ (q : ℕ).
@@ -280,7 +284,8 @@ rests_free r P T none older =
     ap (λ (X : Past). Reclaim r ∷ X) (older (and_role r T) ∙ all-same (standing P) (owing (and_role r T) P) (owing T (Reclaim r ∷ P)) apart)
 
 -- and one with a hand
-rests_held : (r : ℕ) (P : Past) (T : Roles) → is_free r P ≡ false → Rests P → rest T (Reclaim r ∷ P) ≡ Reclaim r ∷ let_go_all (owing T (Reclaim r ∷ P)) (let_go r (standing P))
+rests_held : (r : ℕ) (P : Past) (T : Roles) → is_free r P ≡ false → Rests P
+    → rest T (Reclaim r ∷ P) ≡ Reclaim r ∷ let_go_all (owing T (Reclaim r ∷ P)) (let_go r (standing P))
 rests_held r P T held older =
     let own : owing T (Reclaim r ∷ P) r ≡ false = ap (λ (b : Bool). T r && not b) (free-gone r r P (eq-eqb r r refl)) ∙ and-false (T r) in
     let apart : Same (owing (and_role r T) P) (and_role r (owing T (Reclaim r ∷ P))) =

@@ -10,7 +10,9 @@ use Rattle.run_report.specs.Report.{is_offer, loaded, is_refusal, node_count, pl
 
 -- where the plan has the ids of a stack's arrays, a report counts what a run of that graph over that stack counts
 abbrev pub CountsAreOfRuns : Type 0
-CountsAreOfRuns = (p : Plan) (arrays : List Array) (P : Past) (v : ℕ) → p.ids ≡ map (λ (a : Array). a.id) arrays → node_count (plan_setting p) P v ≡ node_count (setting_of p.graph p.makers arrays) P v
+CountsAreOfRuns =
+    (p : Plan) (arrays : List Array) (P : Past) (v : ℕ) → p.ids ≡ map (λ (a : Array). a.id) arrays
+    → node_count (plan_setting p) P v ≡ node_count (setting_of p.graph p.makers arrays) P v
 
 -- what a report counts as offered to a node is what came to it
 abbrev pub OffersAreCounted : Type 0

@@ -107,4 +107,5 @@ pub record IsOneMore (ids : List ℤ) (e : Entry) (old new : Tally) : Type 0 whe
   pub roles : (q : ℕ) → has_role new.reclaims q ≡ before e (has_role old.reclaims) q
   pub feed : new.feed ≡ more_loads (stands_before old e) e old.feed
   pub as_many : length new.nodes.items ≡ length old.nodes.items
-  pub nodes : (v : ℕ) → v < length old.nodes.items → at new.nodes.items v ≡ (if is_node_at v (node_at e) then more ids (stands_before old e) e (at old.nodes.items v) else at old.nodes.items v)
+  pub nodes : (v : ℕ) → v < length old.nodes.items
+      → at new.nodes.items v ≡ (if is_node_at v (node_at e) then more ids (stands_before old e) e (at old.nodes.items v) else at old.nodes.items v)

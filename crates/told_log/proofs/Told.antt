@@ -27,7 +27,8 @@ length-past (t ∷ b) = ap (λ (n : ℕ). suc n) (length-past b)
 pub length-told_with : (P : Past) (parts : List (Option Parts)) (lost : List (List ℕ)) → length (told_with P parts lost) ≡ length P
 length-told_with P parts lost = sym (length-past (told_with P parts lost)) ∙ ap length (past-told_with P parts lost)
 
-pub told_plain : (e : Entry) (P : Past) (parts : List (Option Parts)) (lost : List (List ℕ)) → is_plain e ≡ true → told_with (e ∷ P) parts lost ≡ plain e ∷ told_with P parts lost
+pub told_plain : (e : Entry) (P : Past) (parts : List (Option Parts)) (lost : List (List ℕ)) → is_plain e ≡ true
+    → told_with (e ∷ P) parts lost ≡ plain e ∷ told_with P parts lost
 told_plain e P parts lost alone =
     elim (cases_Bool (gives_part e)) [
       | inl gives ↦ absurd (false≢true (rw gives at alone))

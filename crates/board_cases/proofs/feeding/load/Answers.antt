@@ -7,7 +7,9 @@ pub returns-then-is_still : goal.returns-then-is_still
 returns-then-is_still g c =
     record {
       ours_ = c.load-answer.ensures.ours;
-      holds = load-stays g.R.Run.graph g.R.Run.stack c.args.tick _ _ c.load-answer.result _ (sym c.is_still.ensures ∙ c.if-is_still.true) c.load-answer.ensures.called c.requires.holds;
+      holds =
+          load-stays g.R.Run.graph g.R.Run.stack c.args.tick _ _ c.load-answer.result _
+          (sym c.is_still.ensures ∙ c.if-is_still.true) c.load-answer.ensures.called c.requires.holds;
     }
 
 pub returns : goal.returns

@@ -15,9 +15,12 @@ returns g c =
     let few : length c.pop.new.self.items ≡ vec_len c.pop.new.self = search rules in
     let one = ap (λ o. length (option_to_list o)) c.unwrap-last.ensures in
     let some : 0 < length c.pop.new.self.items = omega (arith, few, c.requires.many, c.pop.ensures.len, one) in
-    let begins = parted c.pop.new.self.items c.remove-first.new.self.items c.remove-first.result some c.remove-first.ensures.value c.remove-first.ensures.by_index.2 in
+    let begins =
+    parted c.pop.new.self.items c.remove-first.new.self.items c.remove-first.result some c.remove-first.ensures.value c.remove-first.ensures.by_index.2 in
     let left : length c.remove-first.new.self.items ≡ vec_len c.remove-first.new.self = search rules in
-    let rest : length c.remove-first.new.self.items ≡ length (workers s) = omega (arith, left, c.requires.many, ap length c.requires.nodes, c.remove-first.ensures.len, c.pop.ensures.len, one) in
-    seated (λ p. IsPassOf c.args.desk.now.id p.inner) (λ p. known_by p.inner p.last) g.R.Run.graph g.R.Run.stack c.args.passes.items c.pop.new.self.items c.remove-first.new.self.items
+    let rest : length c.remove-first.new.self.items ≡ length (workers s) =
+    omega (arith, left, c.requires.many, ap length c.requires.nodes, c.remove-first.ensures.len, c.pop.ensures.len, one) in
+    seated (λ p. IsPassOf c.args.desk.now.id p.inner)
+    (λ p. known_by p.inner p.last) g.R.Run.graph g.R.Run.stack c.args.passes.items c.pop.new.self.items c.remove-first.new.self.items
     c.remove-first.result c.unwrap-last.result whole begins rest c.requires.fresh _ refl
     (c.in_ok-seat_workers.ensures ∙ ap (λ ns. workers_of ns c.remove-first.new.self.items) c.requires.nodes) refl

@@ -9,5 +9,7 @@ returns g c =
     record {
       ours_ = c.leave.ensures.ours;
       node = c.requires.working.node;
-      holds = job-left g.R.Run.graph g.R.Run.stack (run_setting g.R.Run.graph g.R.Run.stack) c.args.role v _ _ _ (worker-quiet v) c.leave.ensures.called c.requires.working.holds;
+      holds =
+          job-left g.R.Run.graph g.R.Run.stack (run_setting g.R.Run.graph g.R.Run.stack) c.args.role v _ _ _
+          (worker-quiet v) c.leave.ensures.called c.requires.working.holds;
     }

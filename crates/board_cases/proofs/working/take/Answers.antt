@@ -22,5 +22,6 @@ returns g c =
       node = c.requires.working.node;
       holds =
           subst (λ o. HoldsJob g.R.Run.graph g.R.Run.stack c.args.role v (g.D.Desk.knows c.take-answer.new.pass) o) (sym c.taken_job.ensures)
-          (take-holds g.R.Run.graph g.R.Run.stack c.args.role v _ _ c.take-answer.result c.requires.graph c.requires.working.node nothing c.take-answer.ensures.called c.take-answer.ensures.lent);
+          (take-holds g.R.Run.graph g.R.Run.stack c.args.role v _ _ c.take-answer.result c.requires.graph c.requires.working.node nothing
+          c.take-answer.ensures.called c.take-answer.ensures.lent);
     }

@@ -30,11 +30,13 @@ returns-in-Roi t c =
     let g = c.args.graph.now in
     let some : Some c.in-Some.rule.now ≡ rule_at g.nodes c.args.node = c.in-Some.ensures ∙ ap (λ ns. rule_at ns c.args.node) c.as_slice.ensures in
     answers_some c.region_of.result (region c.in-Roi.roi c.in_ok-input.input) _
-    (array_of_roi g c.args.node c.in-Some.rule.now c.in-Roi.roi (slice_get c.args.stack.now.arrays c.args.index) c.in_ok-input.input c.requires.graph some c.in-Roi.is c.in_ok-input.ensures)
+    (array_of_roi g c.args.node c.in-Some.rule.now c.in-Roi.roi
+    (slice_get c.args.stack.now.arrays c.args.index) c.in_ok-input.input c.requires.graph some c.in-Roi.is c.in_ok-input.ensures)
     c.region_of.ensures
 
 pub returns-in-Stats : goal.returns-in-Stats
 returns-in-Stats t c =
     let g = c.args.graph.now in
     let some : Some c.in-Some.rule.now ≡ rule_at g.nodes c.args.node = c.in-Some.ensures ∙ ap (λ ns. rule_at ns c.args.node) c.as_slice.ensures in
-    array_of_other g c.args.node c.in-Some.rule.now (slice_get c.args.stack.now.arrays c.args.index) c.in_ok-input.input c.requires.graph some (no_roi c.in-Some.rule.now.kind c.in-Stats.is) c.in_ok-input.ensures
+    array_of_other g c.args.node c.in-Some.rule.now (slice_get c.args.stack.now.arrays c.args.index) c.in_ok-input.input c.requires.graph some
+    (no_roi c.in-Some.rule.now.kind c.in-Stats.is) c.in_ok-input.ensures

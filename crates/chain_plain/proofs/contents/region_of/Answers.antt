@@ -14,4 +14,5 @@ unreachable-requires c =
     let dims : c.in_ok-dims.dims.items ≡ region_dims rule whole = c.in_ok-dims.ensures ∙ ap (region_dims rule) c.dims.ensures.value in
     let size = c.in_ok-bytes.ensures.size ∙ ap (λ d. sample_count d * width kind) c.deref.ensures.value in
     no_fault kind c.in_ok-dims.dims.items (length c.in_ok-bytes.bytes.items) c.in_default.field-0
-    (rw dims (region_dimensions rule whole c.dims.ensures.dimensions)) (rw dims (region_few rule whole c.dims.ensures.dimensions c.dims.ensures.few)) size c.in_default.ensures.refused
+    (rw dims (region_dimensions rule whole c.dims.ensures.dimensions))
+    (rw dims (region_few rule whole c.dims.ensures.dimensions c.dims.ensures.few)) size c.in_default.ensures.refused

@@ -9,5 +9,6 @@ loop-position-preserved c =
     let arrays = c.args.stack.now.arrays in
     let i = c.loop-position.position-index in
     let within = c.requires.accepted i _ c.loop-position-test.true in
-    c.in_ok-push.ensures.items ∙ fires_more rule arrays c.loop-position.fired.items (take i c.args.accepted.now) _ _ c.head.result.now _ c.loop-position.invariant
+    c.in_ok-push.ensures.items
+    ∙ fires_more rule arrays c.loop-position.fired.items (take i c.args.accepted.now) _ _ c.head.result.now _ c.loop-position.invariant
     (take_more c.args.accepted.now i _ c.loop-position-test.true) within c.head.ensures c.trigger_fires.ensures

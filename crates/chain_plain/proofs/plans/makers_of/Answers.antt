@@ -20,9 +20,11 @@ loop-place-preserved c =
     let region : is_region nodes (1 + place) ≡ c.makes_arrays.result = is_region-at nodes place c.rule-item.result within here ∙ sym c.makes_arrays.ensures in
     elim c.if-makes_arrays.branch [
       | then-makes_arrays+in_ok-maker_at-2+in_ok-push w ↦
-          let longer : c.if-makes_arrays.makers.items ≡ c.loop-place.makers.items ++ w.in_ok-maker_at-2.field-0 ∷ [] = ap (λ v. v.items) w.makers-is ∙ w.in_ok-push.ensures.items in
+          let longer : c.if-makes_arrays.makers.items ≡ c.loop-place.makers.items ++ w.in_ok-maker_at-2.field-0 ∷ [] =
+          ap (λ v. v.items) w.makers-is ∙ w.in_ok-push.ensures.items in
           let one : w.in_ok-maker_at-2.field-0 ≡ made (1 + place) = w.in_ok-maker_at-2.ensures ∙ ap made number in
-          longer ∙ ap (λ ms. ms ++ w.in_ok-maker_at-2.field-0 ∷ []) c.loop-place.invariant ∙ ap (λ m. map made (0 ∷ filter (is_region nodes) (range_with_len 1 place)) ++ m ∷ []) one
+          longer ∙ ap (λ ms. ms ++ w.in_ok-maker_at-2.field-0 ∷ []) c.loop-place.invariant
+          ∙ ap (λ m. map made (0 ∷ filter (is_region nodes) (range_with_len 1 place)) ++ m ∷ []) one
           ∙ sym (maker_more made (is_region nodes) place (region ∙ w.if-makes_arrays.true))
       | else-makes_arrays w ↦
           ap (λ v. v.items) w.makers-is ∙ c.loop-place.invariant

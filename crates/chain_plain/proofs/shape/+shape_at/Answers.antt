@@ -52,4 +52,6 @@ pub returns-in-Stats-clause-value : goal.returns-in-Stats-clause-value
 returns-in-Stats-clause-value t c =
     let g = c.args.graph.now in
     let some : Some c.in-Some.rule.now ≡ rule_at g.nodes c.args.node = c.in-Some.ensures ∙ ap (λ ns. rule_at ns c.args.node) c.as_slice.ensures in
-    c.in_ok-input.ensures.value ∙ sym (out_of-other region_shape g c.args.node c.in-Some.rule.now (stack_shape c.args.shape.now) c.requires.graph some (no_roi c.in-Some.rule.now.kind c.in-Stats.is))
+    c.in_ok-input.ensures.value
+    ∙ sym (out_of-other region_shape g c.args.node c.in-Some.rule.now (stack_shape c.args.shape.now) c.requires.graph some
+    (no_roi c.in-Some.rule.now.kind c.in-Stats.is))

@@ -9,7 +9,8 @@ use Rattle.flow_drain.proofs.draining.drain.Given as goal
 
 abbrev pub invariant-rounds : goal.invariant-rounds
 invariant-rounds g l =
-    Drains (run_setting g.R.Run.graph g.R.Run.stack) l.tick (taken_back name_of (run_setting g.R.Run.graph g.R.Run.stack) 0 l.fn.ends.items (g.B.BoardCalls.shown l.fn.board))
+    Drains (run_setting g.R.Run.graph g.R.Run.stack) l.tick
+    (taken_back name_of (run_setting g.R.Run.graph g.R.Run.stack) 0 l.fn.ends.items (g.B.BoardCalls.shown l.fn.board))
     (g.B.BoardCalls.shown l.board)
 
 abbrev pub decreases-rounds : goal.decreases-rounds

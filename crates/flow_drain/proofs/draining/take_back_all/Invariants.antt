@@ -6,4 +6,5 @@ use Rattle.flow_drain.proofs.draining.take_back_all.Given as goal
 
 abbrev pub invariant-loop-left : goal.invariant-loop-left
 invariant-loop-left g l =
-    HasLeft name_of parts_of length (run_setting g.R.Run.graph g.R.Run.stack) l.fn.ends.items l.left-iterator.rest.items l.role (g.B.BoardCalls.shown l.fn.board) (g.B.BoardCalls.shown l.board)
+    HasLeft name_of parts_of length (run_setting g.R.Run.graph g.R.Run.stack) l.fn.ends.items l.left-iterator.rest.items l.role
+    (g.B.BoardCalls.shown l.fn.board) (g.B.BoardCalls.shown l.board)

@@ -13,20 +13,24 @@ frame_on-frame-requires-clause-room g c = frame-room g.R.Run.graph g.R.Run.stack
 
 pub issue-requires-clause-whole : goal.issue-requires-clause-whole
 issue-requires-clause-whole g c =
-    whole-frame (run_setting g.R.Run.graph g.R.Run.stack) (g.B.BoardCalls.shown c.args.board.now) c.args.role c.args.index (length c.args.blank) c.requires.role c.requires.loaded
+    whole-frame (run_setting g.R.Run.graph g.R.Run.stack) (g.B.BoardCalls.shown c.args.board.now) c.args.role c.args.index
+    (length c.args.blank) c.requires.role c.requires.loaded
     c.frame_on-frame.result c.frame_on-frame.ensures.parts
 
 pub unreachable-requires : goal.unreachable-requires
 unreachable-requires g c =
-    issue-taken (run_setting g.R.Run.graph g.R.Run.stack) (g.B.BoardCalls.shown c.args.board.now) c.args.role c.args.index (length c.args.blank) c.requires.role c.requires.loaded
+    issue-taken (run_setting g.R.Run.graph g.R.Run.stack) (g.B.BoardCalls.shown c.args.board.now) c.args.role c.args.index
+    (length c.args.blank) c.requires.role c.requires.loaded
     (Unit {0}) name_of c.frame_on-frame.result _ c.in_default.field-0 c.frame_on-frame.ensures.name c.in_default.ensures.gives
 
 pub returns-clause-idle : goal.returns-clause-idle
 returns-clause-idle g c =
-    issue-idle (run_setting g.R.Run.graph g.R.Run.stack) (g.B.BoardCalls.shown c.args.board.now) c.args.role c.args.index (length c.args.blank) c.requires.role c.requires.loaded
+    issue-idle (run_setting g.R.Run.graph g.R.Run.stack) (g.B.BoardCalls.shown c.args.board.now) c.args.role c.args.index
+    (length c.args.blank) c.requires.role c.requires.loaded
     name_of c.frame_on-frame.result _ c.in-Ok.field-0 c.in-Ok.ensures.gives
 
 pub returns-clause-moves : goal.returns-clause-moves
 returns-clause-moves g c = λ tick.
-    issue-moves (run_setting g.R.Run.graph g.R.Run.stack) (g.B.BoardCalls.shown c.args.board.now) c.args.role c.args.index (length c.args.blank) c.requires.role c.requires.loaded
+    issue-moves (run_setting g.R.Run.graph g.R.Run.stack) (g.B.BoardCalls.shown c.args.board.now) c.args.role c.args.index
+    (length c.args.blank) c.requires.role c.requires.loaded
     name_of c.frame_on-frame.result _ c.in-Ok.field-0 tick c.in-Ok.ensures.gives

@@ -11,7 +11,8 @@ pub loop-place-preserved : goal.loop-place-preserved
 loop-place-preserved c =
     λ arrays.
     let n = c.in_ok-node_rules.field-0 in
-    rules-more (setting_of c.args.plan.now.graph c.args.plan.now.makers arrays) c.loop-place.place c.loop-place.rules.items c.push.new.self.items n (c.loop-place.invariant arrays) c.in_ok-push.ensures.items (c.in_ok-node_rules.ensures arrays)
+    rules-more (setting_of c.args.plan.now.graph c.args.plan.now.makers arrays) c.loop-place.place c.loop-place.rules.items c.push.new.self.items n
+    (c.loop-place.invariant arrays) c.in_ok-push.ensures.items (c.in_ok-node_rules.ensures arrays)
 
 pub returns : goal.returns
 returns c =

@@ -17,8 +17,11 @@ loop-place-preserved c =
           ap (λ v. v.items) w.children-is ∙ w.in_ok-push.ensures.items ∙ ap (λ us. us ++ (i + 1) ∷ []) c.loop-place.invariant
           ∙ sym (fed-yes c.args.node i ns n c.loop-place-test.true c.index-nodes-place.is w.if-rule-node.true)
       | else-rule-node w ↦
-          ap (λ v. v.items) w.children-is ∙ c.loop-place.invariant ∙ sym (fed-no c.args.node i ns n c.loop-place-test.true c.index-nodes-place.is w.if-rule-node.false)
+          ap (λ v. v.items) w.children-is ∙ c.loop-place.invariant
+          ∙ sym (fed-no c.args.node i ns n c.loop-place-test.true c.index-nodes-place.is w.if-rule-node.false)
     ]
 
 pub returns : goal.returns
-returns c = λ s are. c.loop-place.invariant ∙ ap (fed c.args.node 1) (take_all c.loop-place.place c.args.nodes.now c.loop-place-test.false) ∙ sym (children-fed s c.args.node c.args.nodes.now are)
+returns c =
+    λ s are. c.loop-place.invariant ∙ ap (fed c.args.node 1) (take_all c.loop-place.place c.args.nodes.now c.loop-place-test.false)
+    ∙ sym (children-fed s c.args.node c.args.nodes.now are)

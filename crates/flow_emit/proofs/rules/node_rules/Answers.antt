@@ -13,7 +13,10 @@ returns c =
     let are : s.nodes ≡ map node_of c.as_slice-nodes.result.now = ap (map node_of) (sym c.as_slice-nodes.ensures) in
     let worked : Work → Node = λ w. record { work = w; input = n.input; queue = n.queue; threads = n.threads; sort = n.sort; sort_time = n.sort_time } in
     record {
-      node = ap worked c.work_of.ensures ∙ node-at s c.args.node c.as_slice-nodes.result.now n are c.requires.node.0 (omega (arith, c.requires.node.1, ap length c.as_slice-nodes.ensures)) c.index-nodes-node.is;
+      node =
+          ap worked c.work_of.ensures
+          ∙ node-at s c.args.node c.as_slice-nodes.result.now n are c.requires.node.0
+          (omega (arith, c.requires.node.1, ap length c.as_slice-nodes.ensures)) c.index-nodes-node.is;
       need = c.need_among.ensures ∙ ap (λ ms. need_among ms c.args.node) c.as_slice.ensures;
       children = c.new.ensures ∙ c.in_ok-children.ensures s are;
     }

@@ -21,7 +21,8 @@ returns-in-Done-clause-calls g c = λ first before f. closes before _ _ Done f c
 pub returns-in-NotYet-clause-gone : goal.returns-in-NotYet-clause-gone
 returns-in-NotYet-clause-gone g c =
     let s = run_setting g.R.Run.graph g.R.Run.stack in
-    gone-again name_of parts_of length s feeder_logs feeder_ends 0 _ c.wait.result c.wait.ensures (close-goes s _ _ c.requires.nothing c.in-NotYet.ensures.called)
+    gone-again name_of parts_of length s feeder_logs feeder_ends 0 _ c.wait.result c.wait.ensures
+    (close-goes s _ _ c.requires.nothing c.in-NotYet.ensures.called)
 
 pub returns-in-NotYet-clause-calls : goal.returns-in-NotYet-clause-calls
 returns-in-NotYet-clause-calls g c = λ first before f. closes before _ _ NotYet f c.in-NotYet.ensures.called

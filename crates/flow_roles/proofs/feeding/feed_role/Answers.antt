@@ -38,7 +38,8 @@ returns-in-End-clause-left g c = c.in-End.ensures.gone.handed
 
 pub returns-in-End-clause-reclaimed : goal.returns-in-End-clause-reclaimed
 returns-in-End-clause-reclaimed g c =
-    comes-back name_of parts_of length (run_setting g.R.Run.graph g.R.Run.stack) 0 (g.D.Desk.knows c.feed_round.new.pass).made c.in-End.left c.in-End.ensures.gone.handed
+    comes-back name_of parts_of length (run_setting g.R.Run.graph g.R.Run.stack) 0
+    (g.D.Desk.knows c.feed_round.new.pass).made c.in-End.left c.in-End.ensures.gone.handed
 
 pub returns-in-End-clause-ticks : goal.returns-in-End-clause-ticks
 returns-in-End-clause-ticks g c =

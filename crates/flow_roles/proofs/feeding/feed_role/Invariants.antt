@@ -7,4 +7,5 @@ abbrev pub invariant-loop : goal.invariant-loop
 invariant-loop g l =
     g.D.Desk.ours l.desk l.pass
     × HasNothing feeder_logs 0 (g.D.Desk.knows l.pass)
-    × FeedsByTheClock (run_setting g.R.Run.graph g.R.Run.stack) (g.D.Desk.knows l.fn.pass) (g.D.Desk.knows l.pass) (g.C.Clock.coming l.fn.clock) (g.C.Clock.coming l.clock)
+    × FeedsByTheClock (run_setting g.R.Run.graph g.R.Run.stack) (g.D.Desk.knows l.fn.pass) (g.D.Desk.knows l.pass)
+    (g.C.Clock.coming l.fn.clock) (g.C.Clock.coming l.clock)

@@ -23,7 +23,8 @@ returns-in-Left-clause-calls g c = λ first before f. loads before _ _ c.args.ti
 pub returns-in-Busy-clause-gone : goal.returns-in-Busy-clause-gone
 returns-in-Busy-clause-gone g c =
     let s = run_setting g.R.Run.graph g.R.Run.stack in
-    gone-again name_of parts_of length s feeder_logs feeder_ends 0 _ c.wait.result c.wait.ensures (load-goes parts_of length s c.args.tick _ _ c.requires.nothing Busy refl c.in-Busy.ensures.called)
+    gone-again name_of parts_of length s feeder_logs feeder_ends 0 _ c.wait.result c.wait.ensures
+    (load-goes parts_of length s c.args.tick _ _ c.requires.nothing Busy refl c.in-Busy.ensures.called)
 
 pub returns-in-Busy-clause-calls : goal.returns-in-Busy-clause-calls
 returns-in-Busy-clause-calls g c = λ first before f. loads before _ _ c.args.tick Busy f c.requires.nothing.free c.in-Busy.ensures.called
@@ -31,7 +32,8 @@ returns-in-Busy-clause-calls g c = λ first before f. loads before _ _ c.args.ti
 pub returns-in-NotYet-clause-gone : goal.returns-in-NotYet-clause-gone
 returns-in-NotYet-clause-gone g c =
     let s = run_setting g.R.Run.graph g.R.Run.stack in
-    gone-again name_of parts_of length s feeder_logs feeder_ends 0 _ c.wait-in-NotYet.result c.wait-in-NotYet.ensures (load-goes parts_of length s c.args.tick _ _ c.requires.nothing NotYet refl c.in-NotYet.ensures.called)
+    gone-again name_of parts_of length s feeder_logs feeder_ends 0 _ c.wait-in-NotYet.result c.wait-in-NotYet.ensures
+    (load-goes parts_of length s c.args.tick _ _ c.requires.nothing NotYet refl c.in-NotYet.ensures.called)
 
 pub returns-in-NotYet-clause-calls : goal.returns-in-NotYet-clause-calls
 returns-in-NotYet-clause-calls g c = λ first before f. loads before _ _ c.args.tick NotYet f c.requires.nothing.free c.in-NotYet.ensures.called
@@ -42,7 +44,8 @@ close_feed-requires-clause-nothing g c =
     load-goes parts_of length s c.args.tick _ _ c.requires.nothing Ended refl c.in-Ended.ensures.called
 
 pub returns-in-Ended-clause-calls : goal.returns-in-Ended-clause-calls
-returns-in-Ended-clause-calls g c = λ first before f. c.close_feed.ensures.calls first _ (loads before _ _ c.args.tick Ended f c.requires.nothing.free c.in-Ended.ensures.called)
+returns-in-Ended-clause-calls g c =
+    λ first before f. c.close_feed.ensures.calls first _ (loads before _ _ c.args.tick Ended f c.requires.nothing.free c.in-Ended.ensures.called)
 
 pub returns-in-Refused-clause-gone : goal.returns-in-Refused-clause-gone
 returns-in-Refused-clause-gone g c =
@@ -68,4 +71,5 @@ issue_loaded-requires-clause-loaded g c =
     load-loads parts_of length s c.args.tick _ _ c.requires.nothing c.in-Loaded.index c.in-Loaded.blank c.in-Loaded.ensures.called c.in-Loaded.ensures.room
 
 pub returns-in-Loaded-clause-calls : goal.returns-in-Loaded-clause-calls
-returns-in-Loaded-clause-calls g c = λ first before f. c.issue_loaded.ensures.calls first _ (loads before _ _ c.args.tick _ f c.requires.nothing.free c.in-Loaded.ensures.called)
+returns-in-Loaded-clause-calls g c =
+    λ first before f. c.issue_loaded.ensures.calls first _ (loads before _ _ c.args.tick _ f c.requires.nothing.free c.in-Loaded.ensures.called)

@@ -10,4 +10,5 @@ filled-requires-clause-room g c = frame-fits c.args.stack.now (length c.frame.re
 
 pub filled-requires-clause-content : goal.filled-requires-clause-content
 filled-requires-clause-content g c =
-    frame-holds g.R.Run.graph g.R.Run.stack c.args.stack.now c.args.index c.frame.result.now c.requires.stack c.shape-shape.ensures.sound c.requires.frame c.frame.ensures.samples c.frame.ensures.size
+    frame-holds g.R.Run.graph g.R.Run.stack c.args.stack.now c.args.index c.frame.result.now c.requires.stack c.shape-shape.ensures.sound c.requires.frame
+    c.frame.ensures.samples c.frame.ensures.size

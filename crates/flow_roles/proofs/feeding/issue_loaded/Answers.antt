@@ -20,7 +20,8 @@ issue-requires-clause-whole g c =
 pub unreachable-requires : goal.unreachable-requires
 unreachable-requires g c =
     let s = run_setting g.R.Run.graph g.R.Run.stack in
-    issue-takes (Unit {0}) name_of s c.args.index (length c.args.blank) c.frame_on-frame.result c.in_default.field-0 _ _ c.requires.loaded c.frame_on-frame.ensures.name c.in_default.ensures.called
+    issue-takes (Unit {0}) name_of s c.args.index
+    (length c.args.blank) c.frame_on-frame.result c.in_default.field-0 _ _ c.requires.loaded c.frame_on-frame.ensures.name c.in_default.ensures.called
 
 pub returns-clause-issued : goal.returns-clause-issued
 returns-clause-issued g c =

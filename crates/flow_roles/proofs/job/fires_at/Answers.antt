@@ -6,5 +6,6 @@ head-requires g c = index-of-stack g.R.Run.stack c.args.stack.now c.index_of.res
 
 pub returns : goal.returns
 returns g c =
-    fires-for g.R.Run.graph g.R.Run.stack c.args.stack.now c.args.node c.args.rule.now c.args.circular.now c.args.input.now.name c.head.result.now c.index_of.result c.trigger_fires.result
+    fires-for g.R.Run.graph g.R.Run.stack c.args.stack.now c.args.node c.args.rule.now c.args.circular.now c.args.input.now.name c.head.result.now
+    c.index_of.result c.trigger_fires.result
     c.requires.stack c.requires.rule c.requires.kind c.index_of.ensures.index c.index_of.ensures.there c.head.ensures c.trigger_fires.ensures

@@ -9,12 +9,16 @@ maker_for-requires-clause-plan g c = plan-own g.R.Run.graph g.R.Run.stack c.args
 
 pub returns-clause-shape : goal.returns-clause-shape
 returns-clause-shape g c =
-    maker-own g.R.Run.graph g.R.Run.stack c.args.stack.now c.args.plan.now c.maker_for.result.now c.args.node c.requires.plan c.requires.stack c.maker_for.ensures.shape
+    maker-own g.R.Run.graph g.R.Run.stack c.args.stack.now c.args.plan.now c.maker_for.result.now c.args.node c.requires.plan
+    c.requires.stack c.maker_for.ensures.shape
 
 pub returns-clause-dims : goal.returns-clause-dims
 returns-clause-dims g c =
-    let made = maker-own g.R.Run.graph g.R.Run.stack c.args.stack.now c.args.plan.now c.maker_for.result.now c.args.node c.requires.plan c.requires.stack c.maker_for.ensures.shape in
-    maker-sound g.R.Run.graph g.R.Run.stack c.maker_for.result.now c.args.node (stack-sound g.R.Run.stack c.args.stack.now c.requires.stack c.shape-shape.ensures.sound) made
+    let made =
+    maker-own g.R.Run.graph g.R.Run.stack c.args.stack.now c.args.plan.now c.maker_for.result.now c.args.node c.requires.plan
+    c.requires.stack c.maker_for.ensures.shape in
+    maker-sound g.R.Run.graph g.R.Run.stack c.maker_for.result.now c.args.node
+    (stack-sound g.R.Run.stack c.args.stack.now c.requires.stack c.shape-shape.ensures.sound) made
 
 pub returns-clause-stack : goal.returns-clause-stack
 returns-clause-stack g c = stack-sound g.R.Run.stack c.args.stack.now c.requires.stack c.shape-shape.ensures.sound

@@ -17,14 +17,20 @@ measure-requires-clause-few g c = rw c.as_slice.ensures c.made_by-from.ensures.d
 
 pub measure-requires-clause-samples : goal.measure-requires-clause-samples
 measure-requires-clause-samples g c =
-    let i = input-is g.R.Run.graph g.R.Run.stack c.args.node c.args.rule.now c.made_by-from.result.now c.args.input.now c.samples.result.now c.requires.graph c.made_by-from.ensures.stack
+    let i =
+    input-is g.R.Run.graph g.R.Run.stack c.args.node c.args.rule.now c.made_by-from.result.now c.args.input.now c.samples.result.now
+    c.requires.graph c.made_by-from.ensures.stack
     c.requires.rule c.made_by-from.ensures.shape c.requires.comes c.samples.ensures.content in
     rw c.as_slice.ensures i.size
 
 pub returns : goal.returns
 returns g c =
     let fits : FitsSigned w32 c.head.result.now.id = search rules in
-    let i = input-is g.R.Run.graph g.R.Run.stack c.args.node c.args.rule.now c.made_by-from.result.now c.args.input.now c.samples.result.now c.requires.graph c.made_by-from.ensures.stack
+    let i =
+    input-is g.R.Run.graph g.R.Run.stack c.args.node c.args.rule.now c.made_by-from.result.now c.args.input.now c.samples.result.now
+    c.requires.graph c.made_by-from.ensures.stack
     c.requires.rule c.made_by-from.ensures.shape c.requires.comes c.samples.ensures.content in
-    measure-for g.R.Run.graph g.R.Run.stack c.args.stack.now c.args.node c.args.rule.now c.args.stats.now c.made_by-from.result.now c.args.input.now.name c.samples.result.now c.head.result.now c.index_of.result
-    _ c.as_slice.result.now c.measure.result (to_z-of_z w32 c.head.result.now.id fits) c.as_slice.ensures c.requires.stack c.requires.rule c.requires.kind i c.index_of.ensures.index c.head.ensures c.measure.ensures
+    measure-for g.R.Run.graph g.R.Run.stack c.args.stack.now c.args.node c.args.rule.now c.args.stats.now c.made_by-from.result.now c.args.input.now.name
+    c.samples.result.now c.head.result.now c.index_of.result
+    _ c.as_slice.result.now c.measure.result (to_z-of_z w32 c.head.result.now.id fits) c.as_slice.ensures c.requires.stack c.requires.rule c.requires.kind i
+    c.index_of.ensures.index c.head.ensures c.measure.ensures

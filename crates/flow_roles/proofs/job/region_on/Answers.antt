@@ -13,29 +13,38 @@ cut_on-requires-clause-dims g c = c.made_by-from.ensures.dims
 
 pub cut_on-requires-clause-samples : goal.cut_on-requires-clause-samples
 cut_on-requires-clause-samples g c =
-    let i = input-is g.R.Run.graph g.R.Run.stack c.args.node c.args.rule.now c.made_by-from.result.now c.args.input.now c.samples.result.now c.requires.graph c.made_by-from.ensures.stack
+    let i =
+    input-is g.R.Run.graph g.R.Run.stack c.args.node c.args.rule.now c.made_by-from.result.now c.args.input.now c.samples.result.now
+    c.requires.graph c.made_by-from.ensures.stack
     c.requires.rule c.made_by-from.ensures.shape c.requires.comes c.samples.ensures.content in
     i.size
 
 pub cut_on-requires-clause-size : goal.cut_on-requires-clause-size
 cut_on-requires-clause-size g c =
-    region-need g.R.Run.graph g.R.Run.stack c.args.node c.args.rule.now c.args.roi.now c.made_by-from.result.now c.made_by-to.result.now c.requires.graph c.requires.rule c.requires.kind
+    region-need g.R.Run.graph g.R.Run.stack c.args.node c.args.rule.now c.args.roi.now c.made_by-from.result.now c.made_by-to.result.now
+    c.requires.graph c.requires.rule c.requires.kind
     c.made_by-from.ensures.shape c.made_by-to.ensures.shape
 
 pub cut_on-requires-clause-room : goal.cut_on-requires-clause-room
 cut_on-requires-clause-room g c =
-    region-room g.R.Run.graph g.R.Run.stack c.args.node (length c.args.blank) c.args.rule.now c.args.roi.now c.made_by-to.result.now c.requires.graph c.requires.rule c.requires.kind
+    region-room g.R.Run.graph g.R.Run.stack c.args.node
+    (length c.args.blank) c.args.rule.now c.args.roi.now c.made_by-to.result.now c.requires.graph c.requires.rule c.requires.kind
     c.made_by-to.ensures.shape c.requires.room
 
 pub cut_on-requires-clause-content : goal.cut_on-requires-clause-content
 cut_on-requires-clause-content g c =
-    let i = input-is g.R.Run.graph g.R.Run.stack c.args.node c.args.rule.now c.made_by-from.result.now c.args.input.now c.samples.result.now c.requires.graph c.made_by-from.ensures.stack
+    let i =
+    input-is g.R.Run.graph g.R.Run.stack c.args.node c.args.rule.now c.made_by-from.result.now c.args.input.now c.samples.result.now
+    c.requires.graph c.made_by-from.ensures.stack
     c.requires.rule c.made_by-from.ensures.shape c.requires.comes c.samples.ensures.content in
-    let need_ = region-need g.R.Run.graph g.R.Run.stack c.args.node c.args.rule.now c.args.roi.now c.made_by-from.result.now c.made_by-to.result.now c.requires.graph c.requires.rule c.requires.kind
+    let need_ =
+    region-need g.R.Run.graph g.R.Run.stack c.args.node c.args.rule.now c.args.roi.now c.made_by-from.result.now c.made_by-to.result.now
+    c.requires.graph c.requires.rule c.requires.kind
     c.made_by-from.ensures.shape c.made_by-to.ensures.shape in
     λ out size samples.
     subst (λ (a : FrameName). IsContent g.R.Run.graph g.R.Run.stack (frame c.args.node a.index) out) (sym c.name.ensures)
-    (region-content g.R.Run.graph g.R.Run.stack c.args.node c.args.rule.now c.args.roi.now c.made_by-from.result.now c.args.input.now.name c.samples.result.now out c.requires.graph
+    (region-content g.R.Run.graph g.R.Run.stack c.args.node c.args.rule.now c.args.roi.now c.made_by-from.result.now c.args.input.now.name
+    c.samples.result.now out c.requires.graph
     c.requires.rule c.requires.kind i (size ∙ need_) samples)
 
 pub returns-clause-name : goal.returns-clause-name

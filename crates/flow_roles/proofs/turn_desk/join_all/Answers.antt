@@ -14,11 +14,14 @@ loop-pass-init g c =
 pub join-requires : goal.join-requires
 join-requires g c =
     let j = c.loop-pass.invariant in
-    (j.own, (All-pop (λ p. IsPassOf c.args.desk.now.id p.inner) c.loop-pass.passes.items c.pop-in-loop-pass.new.self.items (Some c.in-Some.pass) c.in-Some.ensures.items j.ours).1.0)
+    (j.own,
+    (All-pop (λ p. IsPassOf c.args.desk.now.id p.inner) c.loop-pass.passes.items c.pop-in-loop-pass.new.self.items
+    (Some c.in-Some.pass) c.in-Some.ensures.items j.ours).1.0)
 
 pub loop-pass-preserved : goal.loop-pass-preserved
 loop-pass-preserved g c =
-    next-joined (λ p. p.inner) c.args.desk.now.id c.args.passes.items c.loop-pass.passes.items c.pop-in-loop-pass.new.self.items c.in-Some.pass c.loop-pass.keep c.join.new.keep
+    next-joined (λ p. p.inner) c.args.desk.now.id c.args.passes.items c.loop-pass.passes.items c.pop-in-loop-pass.new.self.items
+    c.in-Some.pass c.loop-pass.keep c.join.new.keep
     c.loop-pass.invariant c.in-Some.ensures.items c.join.ensures.pass c.join.ensures.seen
 
 pub returns-clause-lock : goal.returns-clause-lock
@@ -28,7 +31,9 @@ pub returns-clause-roles : goal.returns-clause-roles
 returns-clause-roles g c =
     let none = popped-none c.pop-in-loop-pass.result (vec_len c.loop-pass.passes) c.in_default.not-Some c.pop-in-loop-pass.ensures.variant in
     let few : length c.loop-pass.passes.items ≡ vec_len c.loop-pass.passes = search rules in
-    let all = all-joined (λ p. p.inner) c.args.desk.now.id c.args.passes.items c.loop-pass.passes.items c.loop-pass.keep c.loop-pass.invariant (nothing-left c.loop-pass.passes.items (few ∙ none)) in
+    let all =
+    all-joined (λ p. p.inner) c.args.desk.now.id c.args.passes.items c.loop-pass.passes.items c.loop-pass.keep c.loop-pass.invariant
+    (nothing-left c.loop-pass.passes.items (few ∙ none)) in
     let many : length c.args.passes.items ≡ vec_len c.args.passes = search rules in
     all.0 ∙ many
 
@@ -36,10 +41,12 @@ pub returns-clause-each : goal.returns-clause-each
 returns-clause-each g c =
     let none = popped-none c.pop-in-loop-pass.result (vec_len c.loop-pass.passes) c.in_default.not-Some c.pop-in-loop-pass.ensures.variant in
     let few : length c.loop-pass.passes.items ≡ vec_len c.loop-pass.passes = search rules in
-    (all-joined (λ p. p.inner) c.args.desk.now.id c.args.passes.items c.loop-pass.passes.items c.loop-pass.keep c.loop-pass.invariant (nothing-left c.loop-pass.passes.items (few ∙ none))).1
+    (all-joined (λ p. p.inner) c.args.desk.now.id c.args.passes.items c.loop-pass.passes.items c.loop-pass.keep c.loop-pass.invariant
+    (nothing-left c.loop-pass.passes.items (few ∙ none))).1
 
 pub returns-clause-seen : goal.returns-clause-seen
 returns-clause-seen g c =
     let none = popped-none c.pop-in-loop-pass.result (vec_len c.loop-pass.passes) c.in_default.not-Some c.pop-in-loop-pass.ensures.variant in
     let few : length c.loop-pass.passes.items ≡ vec_len c.loop-pass.passes = search rules in
-    (all-joined (λ p. p.inner) c.args.desk.now.id c.args.passes.items c.loop-pass.passes.items c.loop-pass.keep c.loop-pass.invariant (nothing-left c.loop-pass.passes.items (few ∙ none))).2
+    (all-joined (λ p. p.inner) c.args.desk.now.id c.args.passes.items c.loop-pass.passes.items c.loop-pass.keep c.loop-pass.invariant
+    (nothing-left c.loop-pass.passes.items (few ∙ none))).2

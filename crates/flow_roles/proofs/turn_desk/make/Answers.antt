@@ -12,17 +12,20 @@ call-requires-clause-may g c =
 pub returns-clause-ours : goal.returns-clause-ours
 returns-clause-ours g c = (
   c.call.ensures.own ∙ c.requires.ours.0,
-  calls-one (frames_of g.F.Named.name_of g.F.Held.parts g.F.Held.bytes_of (run_measure g.F.Of.Run.graph g.F.Of.Run.stack)) (run_setting g.F.Of.Run.graph g.F.Of.Run.stack)
+  calls-one (frames_of g.F.Named.name_of g.F.Held.parts g.F.Held.bytes_of (run_measure g.F.Of.Run.graph g.F.Of.Run.stack))
+  (run_setting g.F.Of.Run.graph g.F.Of.Run.stack)
       c.args.op c.call.result c.args.pass.now c.call.new.pass c.requires.ours.1 c.call.ensures.call,
 )
 
 pub returns-clause-called : goal.returns-clause-called
 returns-clause-called g c =
     λ before answered.
-    called (frames_of g.F.Named.name_of g.F.Held.parts g.F.Held.bytes_of (run_measure g.F.Of.Run.graph g.F.Of.Run.stack)) (run_setting g.F.Of.Run.graph g.F.Of.Run.stack)
+    called (frames_of g.F.Named.name_of g.F.Held.parts g.F.Held.bytes_of (run_measure g.F.Of.Run.graph g.F.Of.Run.stack))
+    (run_setting g.F.Of.Run.graph g.F.Of.Run.stack)
     c.args.op c.call.result before answered c.args.pass.now c.call.new.pass c.requires.ours.1 c.requires.role c.call.ensures.call
 
 pub returns-clause-lends : goal.returns-clause-lends
 returns-clause-lends g c =
-    called-lends (frames_of g.F.Named.name_of g.F.Held.parts g.F.Held.bytes_of (run_measure g.F.Of.Run.graph g.F.Of.Run.stack)) (run_setting g.F.Of.Run.graph g.F.Of.Run.stack)
+    called-lends (frames_of g.F.Named.name_of g.F.Held.parts g.F.Held.bytes_of (run_measure g.F.Of.Run.graph g.F.Of.Run.stack))
+    (run_setting g.F.Of.Run.graph g.F.Of.Run.stack)
     c.args.op c.call.result c.args.pass.now c.call.new.pass c.requires.ours.1 c.requires.role c.call.ensures.call

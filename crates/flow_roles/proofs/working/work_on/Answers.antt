@@ -9,20 +9,24 @@ use Rattle.flow_roles.proofs.working.work_on.Goals as goal
 
 pub put-requires-clause-of_job : goal.put-requires-clause-of_job
 put-requires-clause-of_job g c =
-    job-may-put g.R.Run.graph g.R.Run.stack c.args.role c.args.node c.args.input c.args.blank (g.D.Desk.knows c.args.pass.now) (g.D.Desk.knows c.args.pass.now) c.requires.job c.in-Ok.done c.in-Ok.ensures.done
+    job-may-put g.R.Run.graph g.R.Run.stack c.args.role c.args.node c.args.input c.args.blank (g.D.Desk.knows c.args.pass.now)
+    (g.D.Desk.knows c.args.pass.now) c.requires.job c.in-Ok.done c.in-Ok.ensures.done
 
 pub unreachable-requires : goal.unreachable-requires
 unreachable-requires g c =
-    put-takes g.R.Run.graph g.R.Run.stack c.args.role c.args.node c.args.input c.args.blank _ _ c.requires.job (Unit {0}) c.in-Ok.done c.in_default.field-0 c.in-Ok.ensures.done c.in_default.ensures.called
+    put-takes g.R.Run.graph g.R.Run.stack c.args.role c.args.node c.args.input c.args.blank _ _ c.requires.job
+    (Unit {0}) c.in-Ok.done c.in_default.field-0 c.in-Ok.ensures.done c.in_default.ensures.called
 
 pub returns-in-Ok-put-clause-gone : goal.returns-in-Ok-put-clause-gone
 returns-in-Ok-put-clause-gone g c =
-    put-goes g.R.Run.graph g.R.Run.stack c.args.role c.args.node c.args.input c.args.blank _ _ c.requires.job c.in-Ok.done c.in-Ok-put.field-0 c.in-Ok.ensures.done c.in-Ok-put.ensures.called
+    put-goes g.R.Run.graph g.R.Run.stack c.args.role c.args.node c.args.input c.args.blank _ _ c.requires.job c.in-Ok.done c.in-Ok-put.field-0
+    c.in-Ok.ensures.done c.in-Ok-put.ensures.called
 
 pub returns-in-Err-clause-gone : goal.returns-in-Err-clause-gone
 returns-in-Err-clause-gone g c =
     let s = run_setting g.R.Run.graph g.R.Run.stack in
     let r = c.args.role in
     let v = c.args.node in
-    leave-ends name_of parts_of length s (worker_logs v) (worker_ends v) r _ _ c.in-Err.left c.requires.job.role (worker-quiet v) refl (λ P h. h) c.requires.job.moves
+    leave-ends name_of parts_of length s (worker_logs v) (worker_ends v) r _ _ c.in-Err.left c.requires.job.role
+    (worker-quiet v) refl (λ P h. h) c.requires.job.moves
     (job-left g.R.Run.graph g.R.Run.stack r v c.args.input c.args.blank _ c.in-Err.left c.requires.job c.in-Err.ensures.left) c.leave.ensures.called

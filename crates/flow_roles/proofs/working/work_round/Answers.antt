@@ -47,9 +47,11 @@ returns-in-OutOfMemory-clause-gone g c =
     let r = c.args.role in
     let v = c.args.node in
     let n = take-goes name_of parts_of length s r v _ _ c.requires.nothing OutOfMemory refl c.in-OutOfMemory.ensures.called in
-    leave-free name_of parts_of length s (worker_logs v) (worker_ends v) r _ _ c.nothing.result n (worker-quiet v) refl (λ P h. h) c.nothing.ensures c.leave.ensures.called
+    leave-free name_of parts_of length s (worker_logs v) (worker_ends v) r _ _ c.nothing.result n (worker-quiet v) refl
+    (λ P h. h) c.nothing.ensures c.leave.ensures.called
 
 pub work_on-requires-clause-job : goal.work_on-requires-clause-job
 work_on-requires-clause-job g c =
-    take-works g.R.Run.graph g.R.Run.stack c.args.role c.args.node c.in-Job.node c.in-Job.input _ _ c.requires.graph c.requires.node c.requires.nothing c.in-Job.blank
+    take-works g.R.Run.graph g.R.Run.stack c.args.role c.args.node c.in-Job.node c.in-Job.input _ _ c.requires.graph
+    c.requires.node c.requires.nothing c.in-Job.blank
     c.in-Job.ensures.called c.in-Job.ensures.lent

@@ -14,16 +14,19 @@ use Rattle.flow_run.proofs.run.finish_run.Goals as goal
 
 pub drain-requires-clause-free : goal.drain-requires-clause-free
 drain-requires-clause-free g c =
-    free-alone g.R.Run.graph g.R.Run.stack c.requires.left.0 c.requires.left.1.0 _ _ _ _ (c.in_ok-save_unsaved.ensures.saving c.requires.left.0 c.requires.left.1.0 c.requires.left.1.1)
+    free-alone g.R.Run.graph g.R.Run.stack c.requires.left.0 c.requires.left.1.0 _ _ _ _
+    (c.in_ok-save_unsaved.ensures.saving c.requires.left.0 c.requires.left.1.0 c.requires.left.1.1)
 
 pub drain-requires-clause-once : goal.drain-requires-clause-once
 drain-requires-clause-once g c =
-    ready-once g.R.Run.graph g.R.Run.stack (g.B.BoardCalls.shown c.args.board) (g.B.BoardCalls.shown c.save_unsaved.new.board) c.requires.joined.0 c.args.lefts.items c.requires.joined.1.0 c.requires.joined.1.1
+    ready-once g.R.Run.graph g.R.Run.stack (g.B.BoardCalls.shown c.args.board)
+    (g.B.BoardCalls.shown c.save_unsaved.new.board) c.requires.joined.0 c.args.lefts.items c.requires.joined.1.0 c.requires.joined.1.1
     c.save_unsaved.ensures.moves
 
 pub drain-requires-clause-left : goal.drain-requires-clause-left
 drain-requires-clause-left g c =
-    ready-left g.R.Run.graph g.R.Run.stack (g.B.BoardCalls.shown c.args.board) (g.B.BoardCalls.shown c.save_unsaved.new.board) c.requires.joined.0 c.args.lefts.items c.requires.joined.1.0 c.requires.joined.1.1
+    ready-left g.R.Run.graph g.R.Run.stack (g.B.BoardCalls.shown c.args.board)
+    (g.B.BoardCalls.shown c.save_unsaved.new.board) c.requires.joined.0 c.args.lefts.items c.requires.joined.1.0 c.requires.joined.1.1
     c.save_unsaved.ensures.moves
 
 pub save_rest-requires-clause-saving : goal.save_rest-requires-clause-saving
@@ -33,8 +36,10 @@ save_rest-requires-clause-saving g c =
       c.requires.left.0,
       (
         c.requires.left.1.0,
-        drained-alone name_of g.R.Run.graph g.R.Run.stack c.requires.left.0 c.requires.left.1.0 c.tick-tick.result c.args.lefts.items (g.B.BoardCalls.shown c.save_unsaved.new.board) (g.B.BoardCalls.shown c.drain.new.board) _ _ _
-            c.drain.ensures.moves c.drain.ensures.legal (none-held (last_role s) (past (g.B.BoardCalls.shown c.drain.new.board)) c.in_ok-drain.ensures.done.free) ready,
+        drained-alone name_of g.R.Run.graph g.R.Run.stack c.requires.left.0 c.requires.left.1.0 c.tick-tick.result c.args.lefts.items
+        (g.B.BoardCalls.shown c.save_unsaved.new.board) (g.B.BoardCalls.shown c.drain.new.board) _ _ _
+            c.drain.ensures.moves c.drain.ensures.legal
+            (none-held (last_role s) (past (g.B.BoardCalls.shown c.drain.new.board)) c.in_ok-drain.ensures.done.free) ready,
       ),
     )
 
@@ -43,8 +48,10 @@ end_files-requires-clause-saving g c =
     let s = run_setting g.R.Run.graph g.R.Run.stack in
     let ready = c.in_ok-save_unsaved.ensures.saving c.requires.left.0 c.requires.left.1.0 c.requires.left.1.1 in
     let done =
-    drained-alone name_of g.R.Run.graph g.R.Run.stack c.requires.left.0 c.requires.left.1.0 c.tick-tick.result c.args.lefts.items (g.B.BoardCalls.shown c.save_unsaved.new.board) (g.B.BoardCalls.shown c.drain.new.board) _ _ _
-    c.drain.ensures.moves c.drain.ensures.legal (none-held (last_role s) (past (g.B.BoardCalls.shown c.drain.new.board)) c.in_ok-drain.ensures.done.free) ready in
+    drained-alone name_of g.R.Run.graph g.R.Run.stack c.requires.left.0 c.requires.left.1.0 c.tick-tick.result c.args.lefts.items
+    (g.B.BoardCalls.shown c.save_unsaved.new.board) (g.B.BoardCalls.shown c.drain.new.board) _ _ _
+    c.drain.ensures.moves c.drain.ensures.legal
+    (none-held (last_role s) (past (g.B.BoardCalls.shown c.drain.new.board)) c.in_ok-drain.ensures.done.free) ready in
     (c.requires.left.0, (c.requires.left.1.0, c.in_ok-save_rest.ensures.saving c.requires.left.0 c.requires.left.1.0 done))
 
 pub returns-clause-files : goal.returns-clause-files
@@ -52,25 +59,33 @@ returns-clause-files g c prefix before h =
     let s = run_setting g.R.Run.graph g.R.Run.stack in
     let ready = c.in_ok-save_unsaved.ensures.saving prefix before h in
     let done =
-    drained-alone name_of g.R.Run.graph g.R.Run.stack prefix before c.tick-tick.result c.args.lefts.items (g.B.BoardCalls.shown c.save_unsaved.new.board) (g.B.BoardCalls.shown c.drain.new.board) _ _ _
-    c.drain.ensures.moves c.drain.ensures.legal (none-held (last_role s) (past (g.B.BoardCalls.shown c.drain.new.board)) c.in_ok-drain.ensures.done.free) ready in
+    drained-alone name_of g.R.Run.graph g.R.Run.stack prefix before c.tick-tick.result c.args.lefts.items (g.B.BoardCalls.shown c.save_unsaved.new.board)
+    (g.B.BoardCalls.shown c.drain.new.board) _ _ _
+    c.drain.ensures.moves c.drain.ensures.legal
+    (none-held (last_role s) (past (g.B.BoardCalls.shown c.drain.new.board)) c.in_ok-drain.ensures.done.free) ready in
     let ended = c.in_ok-save_rest.ensures.saving prefix before done in
-    subst (λ P. HasSavedRun g.R.Run.graph g.R.Run.stack prefix P before c.is_err-fault.result (g.K.Shelf.held c.end_files.new.shelf)) (sym c.into_parts-log.ensures.log)
+    subst (λ P. HasSavedRun g.R.Run.graph g.R.Run.stack prefix P before c.is_err-fault.result (g.K.Shelf.held c.end_files.new.shelf))
+    (sym c.into_parts-log.ensures.log)
     (saved-run g.R.Run.graph g.R.Run.stack (past (g.B.BoardCalls.shown c.save_rest.new.board)) (g.K.Shelf.held c.end_files.new.shelf)
-    (λ p b. IsSavingAlone g.R.Run.graph g.R.Run.stack p b (g.B.BoardCalls.shown c.save_rest.new.board) c.save_rest.new.files c.save_rest.new.fault (g.K.Shelf.held c.save_rest.new.shelf))
+    (λ p b. IsSavingAlone g.R.Run.graph g.R.Run.stack p b (g.B.BoardCalls.shown c.save_rest.new.board) c.save_rest.new.files c.save_rest.new.fault
+    (g.K.Shelf.held c.save_rest.new.shelf))
     prefix before c.end_files.result c.is_err-fault.result c.is_err-fault.ensures.value ended c.end_files.ensures.ok c.end_files.ensures.err)
 
 pub returns-clause-roles : goal.returns-clause-roles
 returns-clause-roles g c =
     let saving = c.in_ok-save_unsaved.ensures.saving c.requires.left.0 c.requires.left.1.0 c.requires.left.1.1 in
     subst (λ P. AreOwnMoves (run_setting g.R.Run.graph g.R.Run.stack) P) (sym c.into_parts-log.ensures.log)
-    (run-own g.R.Run.graph g.R.Run.stack (g.B.BoardCalls.shown c.args.board) (g.B.BoardCalls.shown c.save_unsaved.new.board) c.requires.joined.0 c.args.lefts.items c.requires.joined.1.0 c.requires.joined.1.1
-    c.save_unsaved.ensures.moves c.tick-tick.result (g.B.BoardCalls.shown c.drain.new.board) (g.B.BoardCalls.shown c.save_rest.new.board) c.drain.ensures.moves c.save_rest.ensures.moves c.requires.graph
+    (run-own g.R.Run.graph g.R.Run.stack (g.B.BoardCalls.shown c.args.board)
+    (g.B.BoardCalls.shown c.save_unsaved.new.board) c.requires.joined.0 c.args.lefts.items c.requires.joined.1.0 c.requires.joined.1.1
+    c.save_unsaved.ensures.moves c.tick-tick.result (g.B.BoardCalls.shown c.drain.new.board)
+    (g.B.BoardCalls.shown c.save_rest.new.board) c.drain.ensures.moves c.save_rest.ensures.moves c.requires.graph
     c.requires.left.0 c.requires.left.1.0 _ _ _ saving c.drain.ensures.begins c.drain.ensures.still)
 
 pub returns-clause-ticks : goal.returns-clause-ticks
 returns-clause-ticks g c old fed =
     subst (λ P. IsFedByTheClock (run_setting g.R.Run.graph g.R.Run.stack) P old (g.C.Clock.coming c.tick-tick.new.self)) (sym c.into_parts-log.ensures.log)
-    (run-ticks g.R.Run.graph g.R.Run.stack (g.B.BoardCalls.shown c.args.board) (g.B.BoardCalls.shown c.save_unsaved.new.board) c.requires.joined.0 c.args.lefts.items c.requires.joined.1.0 c.requires.joined.1.1
-    c.save_unsaved.ensures.moves c.tick-tick.result (g.B.BoardCalls.shown c.drain.new.board) (g.B.BoardCalls.shown c.save_rest.new.board) c.drain.ensures.moves c.save_rest.ensures.moves
+    (run-ticks g.R.Run.graph g.R.Run.stack (g.B.BoardCalls.shown c.args.board)
+    (g.B.BoardCalls.shown c.save_unsaved.new.board) c.requires.joined.0 c.args.lefts.items c.requires.joined.1.0 c.requires.joined.1.1
+    c.save_unsaved.ensures.moves c.tick-tick.result (g.B.BoardCalls.shown c.drain.new.board)
+    (g.B.BoardCalls.shown c.save_rest.new.board) c.drain.ensures.moves c.save_rest.ensures.moves
     old (g.C.Clock.coming c.args.clock.now) (g.C.Clock.coming c.tick-tick.new.self) fed c.tick-tick.ensures)

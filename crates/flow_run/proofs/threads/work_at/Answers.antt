@@ -8,6 +8,8 @@ pub returns : goal.returns
 returns g c =
     let e = c.work_role-end.ensures in
     record {
-      back = worked-from (λ p. IsPassOf c.args.desk.now.id p.inner) (λ p. known_by p.inner p.last) (run_setting g.R.Run.graph g.R.Run.stack) c.args.seat.now c.in-Ready.role c.in-Ready.node c.in-Ready.pass
+      back =
+          worked-from (λ p. IsPassOf c.args.desk.now.id p.inner) (λ p. known_by p.inner p.last)
+          (run_setting g.R.Run.graph g.R.Run.stack) c.args.seat.now c.in-Ready.role c.in-Ready.node c.in-Ready.pass
           c.work_role-end.result (sym c.replace.ensures.value ∙ c.in-Ready.is) e.ours e.role e.moves e.last e.reclaimed;
     }

@@ -6,4 +6,5 @@ pub returns-clause-back : goal.returns-clause-back
 returns-clause-back g c k v x is at =
     let seats = c.work_all.new.seats in
     let many : length seats ≡ vec_len c.replace-seats.result = omega (arith, c.work_all.ensures.seats, c.as_mut_slice.ensures.len) in
-    c.work_all.ensures.back k v x is (ap (λ xs. slice_get xs k) (sym (take_at seats (drop (length seats) c.replace-seats.result.items) (vec_len c.replace-seats.result) many)) ∙ at)
+    c.work_all.ensures.back k v x is
+    (ap (λ xs. slice_get xs k) (sym (take_at seats (drop (length seats) c.replace-seats.result.items) (vec_len c.replace-seats.result) many)) ∙ at)

@@ -44,7 +44,8 @@ returns-clause-ok g c =
     let held = g.K.Shelf.held c.args.shelf.now in
     on-ok c.end.result c.end.ensures.ok (λ ok prefix before st.
     let h = subst (λ (f : Bool). IsSavingAlone gr stack prefix before b c.args.files f held) c.if-fault.false st in
-    groups-held gr stack c.requires.graph prefix before b c.args.files held h c.requires.finished (g.K.Shelf.held c.end.new.shelf) (ok before _ h.saving.saved.0))
+    groups-held gr stack c.requires.graph prefix before b c.args.files held h c.requires.finished
+    (g.K.Shelf.held c.end.new.shelf) (ok before _ h.saving.saved.0))
 
 pub returns-clause-err : goal.returns-clause-err
 returns-clause-err g c =

@@ -21,7 +21,8 @@ write_piece-requires-clause-due g c =
     let held = g.K.Shelf.held c.args.shelf.now in
     let due = c.args.due.now in
     let u = c.requires.unsaved in
-    one-due gr stack c.requires.graph u.0 u.1.0 u.1.1.0 xs c.args.fault.now held due u.1.1.1 c.samples-content.result.now c.samples-content.ensures.content c.if-fault.false
+    one-due gr stack c.requires.graph u.0 u.1.0 u.1.1.0 xs c.args.fault.now held due u.1.1.1 c.samples-content.result.now
+    c.samples-content.ensures.content c.if-fault.false
 
 pub returns-then-fault-clause-ok : goal.returns-then-fault-clause-ok
 returns-then-fault-clause-ok g c =
@@ -31,7 +32,8 @@ returns-then-fault-clause-ok g c =
     let held = g.K.Shelf.held c.args.shelf.now in
     let due = c.args.due.now in
     let u = c.requires.unsaved in
-    λ start role pass st. subst (λ (b : Bool). IsToGiveBack gr stack start role pass xs b held due.piece) (sym c.if-fault.true) (one-skipped gr stack c.requires.graph start role pass xs c.args.fault.now held due st c.samples-content.result.now c.samples-content.ensures.content c.if-fault.true)
+    λ start role pass st. subst (λ (b : Bool). IsToGiveBack gr stack start role pass xs b held due.piece) (sym c.if-fault.true) (one-skipped gr stack
+    c.requires.graph start role pass xs c.args.fault.now held due st c.samples-content.result.now c.samples-content.ensures.content c.if-fault.true)
 
 pub returns-in-Ok-clause-ok : goal.returns-in-Ok-clause-ok
 returns-in-Ok-clause-ok g c =
@@ -41,8 +43,10 @@ returns-in-Ok-clause-ok g c =
     let held = g.K.Shelf.held c.args.shelf.now in
     let due = c.args.due.now in
     let u = c.requires.unsaved in
-    λ start role pass st. subst (λ (b : Bool). IsToGiveBack gr stack start role pass c.write_piece.new.files b (g.K.Shelf.held c.write_piece.new.shelf) due.piece) (sym c.if-fault.false)
-    (one-wrote gr stack c.requires.graph start role pass xs c.args.fault.now held due st c.samples-content.result.now c.samples-content.ensures.content c.if-fault.false c.write_piece.new.files c.write_piece.ensures.nodes (g.K.Shelf.held c.write_piece.new.shelf) c.in-Ok.ensures.ok c.in-Ok.ensures.ended)
+    λ start role pass st. subst
+    (λ (b : Bool). IsToGiveBack gr stack start role pass c.write_piece.new.files b (g.K.Shelf.held c.write_piece.new.shelf) due.piece) (sym c.if-fault.false)
+    (one-wrote gr stack c.requires.graph start role pass xs c.args.fault.now held due st c.samples-content.result.now c.samples-content.ensures.content
+    c.if-fault.false c.write_piece.new.files c.write_piece.ensures.nodes (g.K.Shelf.held c.write_piece.new.shelf) c.in-Ok.ensures.ok c.in-Ok.ensures.ended)
 
 pub returns-in-Err-Failed-clause-ok : goal.returns-in-Err-Failed-clause-ok
 returns-in-Err-Failed-clause-ok g c =
@@ -52,7 +56,9 @@ returns-in-Err-Failed-clause-ok g c =
     let held = g.K.Shelf.held c.args.shelf.now in
     let due = c.args.due.now in
     let u = c.requires.unsaved in
-    λ start role pass st. one-tore gr stack c.requires.graph start role pass xs c.args.fault.now held due st c.samples-content.result.now c.samples-content.ensures.content c.if-fault.false c.write_piece.new.files c.write_piece.ensures.nodes (g.K.Shelf.held c.write_piece.new.shelf) c.in-Err-Failed.field-0 c.in-Err-Failed.ensures.err c.in-Err-Failed.field-0-is
+    λ start role pass st. one-tore gr stack c.requires.graph start role pass xs c.args.fault.now held due st c.samples-content.result.now
+    c.samples-content.ensures.content c.if-fault.false c.write_piece.new.files c.write_piece.ensures.nodes
+    (g.K.Shelf.held c.write_piece.new.shelf) c.in-Err-Failed.field-0 c.in-Err-Failed.ensures.err c.in-Err-Failed.field-0-is
 
 pub returns-in-Err-OutOfMemory-clause-err : goal.returns-in-Err-OutOfMemory-clause-err
 returns-in-Err-OutOfMemory-clause-err g c =
@@ -62,8 +68,11 @@ returns-in-Err-OutOfMemory-clause-err g c =
     let held = g.K.Shelf.held c.args.shelf.now in
     let due = c.args.due.now in
     let u = c.requires.unsaved in
-    λ start role pass st. subst (λ (b : Bool). HasUnsaved gr stack start role pass c.write_piece.new.files b (g.K.Shelf.held c.write_piece.new.shelf) due) (sym c.if-fault.false)
-    (one-wanted gr stack c.requires.graph start role pass xs c.args.fault.now held due st c.samples-content.result.now c.samples-content.ensures.content c.if-fault.false c.write_piece.new.files c.write_piece.ensures.nodes (g.K.Shelf.held c.write_piece.new.shelf) c.in-Err-OutOfMemory.field-0 c.in-Err-OutOfMemory.ensures.err c.in-Err-OutOfMemory.field-0-is)
+    λ start role pass st.
+    subst (λ (b : Bool). HasUnsaved gr stack start role pass c.write_piece.new.files b (g.K.Shelf.held c.write_piece.new.shelf) due) (sym c.if-fault.false)
+    (one-wanted gr stack c.requires.graph start role pass xs c.args.fault.now held due st c.samples-content.result.now c.samples-content.ensures.content
+    c.if-fault.false c.write_piece.new.files c.write_piece.ensures.nodes
+    (g.K.Shelf.held c.write_piece.new.shelf) c.in-Err-OutOfMemory.field-0 c.in-Err-OutOfMemory.ensures.err c.in-Err-OutOfMemory.field-0-is)
 
 pub returns-in-Ok-clause-count : goal.returns-in-Ok-clause-count
 returns-in-Ok-clause-count g c =
@@ -73,7 +82,8 @@ returns-in-Ok-clause-count g c =
     let held = g.K.Shelf.held c.args.shelf.now in
     let due = c.args.due.now in
     let u = c.requires.unsaved in
-    count-kept xs c.write_piece.new.files due.at due.of (within-files gr stack c.requires.graph u.0 u.1.0 u.1.1.0 xs c.args.fault.now held due u.1.1.1) c.write_piece.ensures.nodes
+    count-kept xs c.write_piece.new.files due.at due.of
+    (within-files gr stack c.requires.graph u.0 u.1.0 u.1.1.0 xs c.args.fault.now held due u.1.1.1) c.write_piece.ensures.nodes
 
 pub returns-in-Err-Failed-clause-count : goal.returns-in-Err-Failed-clause-count
 returns-in-Err-Failed-clause-count g c =
@@ -83,7 +93,8 @@ returns-in-Err-Failed-clause-count g c =
     let held = g.K.Shelf.held c.args.shelf.now in
     let due = c.args.due.now in
     let u = c.requires.unsaved in
-    count-kept xs c.write_piece.new.files due.at due.of (within-files gr stack c.requires.graph u.0 u.1.0 u.1.1.0 xs c.args.fault.now held due u.1.1.1) c.write_piece.ensures.nodes
+    count-kept xs c.write_piece.new.files due.at due.of
+    (within-files gr stack c.requires.graph u.0 u.1.0 u.1.1.0 xs c.args.fault.now held due u.1.1.1) c.write_piece.ensures.nodes
 
 pub returns-in-Err-OutOfMemory-clause-count : goal.returns-in-Err-OutOfMemory-clause-count
 returns-in-Err-OutOfMemory-clause-count g c =
@@ -93,4 +104,5 @@ returns-in-Err-OutOfMemory-clause-count g c =
     let held = g.K.Shelf.held c.args.shelf.now in
     let due = c.args.due.now in
     let u = c.requires.unsaved in
-    count-kept xs c.write_piece.new.files due.at due.of (within-files gr stack c.requires.graph u.0 u.1.0 u.1.1.0 xs c.args.fault.now held due u.1.1.1) c.write_piece.ensures.nodes
+    count-kept xs c.write_piece.new.files due.at due.of
+    (within-files gr stack c.requires.graph u.0 u.1.0 u.1.1.0 xs c.args.fault.now held due u.1.1.1) c.write_piece.ensures.nodes

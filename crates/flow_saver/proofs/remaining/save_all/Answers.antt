@@ -133,7 +133,9 @@ returns-in-Nothing-clause-cause g c =
     let b = g.B.BoardCalls.shown c.args.board.now in
     let inv = c.pieces.invariant in
     let here = g.B.BoardCalls.shown c.pieces.board in
-    step-then c.args.fault.now c.pieces.fault c.save_next.new.fault (g.K.Shelf.faults c.args.shelf.now) (g.K.Shelf.faults c.pieces.shelf) (g.K.Shelf.faults c.save_next.new.shelf) (g.K.Shelf.held c.args.shelf.now) (g.K.Shelf.held c.pieces.shelf) (g.K.Shelf.held c.save_next.new.shelf) inv.cause c.in-Nothing.ensures.cause
+    step-then c.args.fault.now c.pieces.fault c.save_next.new.fault (g.K.Shelf.faults c.args.shelf.now) (g.K.Shelf.faults c.pieces.shelf)
+    (g.K.Shelf.faults c.save_next.new.shelf) (g.K.Shelf.held c.args.shelf.now) (g.K.Shelf.held c.pieces.shelf)
+    (g.K.Shelf.held c.save_next.new.shelf) inv.cause c.in-Nothing.ensures.cause
 
 pub pieces-smaller : goal.pieces-smaller
 pieces-smaller g c =
@@ -171,7 +173,10 @@ pieces-preserved g c =
       moves = rest-on s b here new inv.moves c.in-Wrote.ensures.moves;
       legal = c.in-Wrote.ensures.legal;
       nodes = c.in-Wrote.ensures.nodes ∙ inv.nodes;
-      cause = step-then c.args.fault.now c.pieces.fault c.save_next.new.fault (g.K.Shelf.faults c.args.shelf.now) (g.K.Shelf.faults c.pieces.shelf) (g.K.Shelf.faults c.save_next.new.shelf) (g.K.Shelf.held c.args.shelf.now) (g.K.Shelf.held c.pieces.shelf) (g.K.Shelf.held c.save_next.new.shelf) inv.cause c.in-Wrote.ensures.cause;
+      cause =
+          step-then c.args.fault.now c.pieces.fault c.save_next.new.fault (g.K.Shelf.faults c.args.shelf.now) (g.K.Shelf.faults c.pieces.shelf)
+          (g.K.Shelf.faults c.save_next.new.shelf) (g.K.Shelf.held c.args.shelf.now) (g.K.Shelf.held c.pieces.shelf)
+          (g.K.Shelf.held c.save_next.new.shelf) inv.cause c.in-Wrote.ensures.cause;
     }
 
 pub returns-in-Wants-clause-moves : goal.returns-in-Wants-clause-moves
@@ -206,4 +211,6 @@ returns-in-Wants-clause-cause g c =
     let b = g.B.BoardCalls.shown c.args.board.now in
     let inv = c.pieces.invariant in
     let here = g.B.BoardCalls.shown c.pieces.board in
-    step-then c.args.fault.now c.pieces.fault c.save_next.new.fault (g.K.Shelf.faults c.args.shelf.now) (g.K.Shelf.faults c.pieces.shelf) (g.K.Shelf.faults c.save_next.new.shelf) (g.K.Shelf.held c.args.shelf.now) (g.K.Shelf.held c.pieces.shelf) (g.K.Shelf.held c.save_next.new.shelf) inv.cause c.in-Wants.ensures.cause
+    step-then c.args.fault.now c.pieces.fault c.save_next.new.fault (g.K.Shelf.faults c.args.shelf.now) (g.K.Shelf.faults c.pieces.shelf)
+    (g.K.Shelf.faults c.save_next.new.shelf) (g.K.Shelf.held c.args.shelf.now) (g.K.Shelf.held c.pieces.shelf)
+    (g.K.Shelf.held c.save_next.new.shelf) inv.cause c.in-Wants.ensures.cause

@@ -16,10 +16,13 @@ use Rattle.flow_saver.proofs.remaining.save_all.Given as goal
 abbrev pub invariant-pieces : goal.invariant-pieces
 invariant-pieces g l =
     record {
-      saving : (prefix : List ℕ) (before : Option Files) → IsSavingAlone g.R.Run.graph g.R.Run.stack prefix before (g.B.BoardCalls.shown l.fn.board) l.fn.files l.fn.fault (g.K.Shelf.held l.fn.shelf)
+      saving : (prefix : List ℕ) (before : Option Files)
+          → IsSavingAlone g.R.Run.graph g.R.Run.stack prefix before (g.B.BoardCalls.shown l.fn.board) l.fn.files l.fn.fault (g.K.Shelf.held l.fn.shelf)
           → IsSavingAlone g.R.Run.graph g.R.Run.stack prefix before (g.B.BoardCalls.shown l.board) l.files l.fault (g.K.Shelf.held l.shelf);
       drained : IsDrained (run_setting g.R.Run.graph g.R.Run.stack) (past (g.B.BoardCalls.shown l.board));
-      others : (x : NodeFile) → slice_get l.fn.files l.at ≡ Some x → (w : ℕ) → w ≢ x.node → unsaved (run_setting g.R.Run.graph g.R.Run.stack) w (past (g.B.BoardCalls.shown l.board)) ≡ unsaved (run_setting g.R.Run.graph g.R.Run.stack) w (past (g.B.BoardCalls.shown l.fn.board));
+      others : (x : NodeFile) → slice_get l.fn.files l.at ≡ Some x → (w : ℕ) → w ≢ x.node
+          → unsaved (run_setting g.R.Run.graph g.R.Run.stack) w (past (g.B.BoardCalls.shown l.board))
+          ≡ unsaved (run_setting g.R.Run.graph g.R.Run.stack) w (past (g.B.BoardCalls.shown l.fn.board));
       moves : RestMoves (run_setting g.R.Run.graph g.R.Run.stack) (g.B.BoardCalls.shown l.fn.board) (g.B.BoardCalls.shown l.board);
       legal : is_history (run_setting g.R.Run.graph g.R.Run.stack) (past (g.B.BoardCalls.shown l.board)) ≡ true;
       nodes : map closed l.files ≡ map closed l.fn.files;

@@ -29,7 +29,9 @@ return_piece-requires-clause-held g c =
     let b = g.B.BoardCalls.shown c.args.board.now in
     let stands = g.K.Shelf.held c.write_due.new.shelf in
     let h = c.requires.unsaved in
-    (h.0, (h.1.0, (stands, to-give-alone gr stack h.0 h.1.0 b xs c.write_due.new.files c.args.fault.now c.write_due.new.fault held stands c.args.due h.1.1 c.in_ok-write_due.ensures.ok)))
+    (h.0,
+    (h.1.0, (stands, to-give-alone gr stack h.0 h.1.0 b xs c.write_due.new.files c.args.fault.now c.write_due.new.fault held stands c.args.due
+    h.1.1 c.in_ok-write_due.ensures.ok)))
 
 pub returns-clause-saving : goal.returns-clause-saving
 returns-clause-saving g c =
@@ -39,7 +41,8 @@ returns-clause-saving g c =
     let held = g.K.Shelf.held c.args.shelf.now in
     let b = g.B.BoardCalls.shown c.args.board.now in
     let stands = g.K.Shelf.held c.write_due.new.shelf in
-    λ prefix before st. c.return_piece.ensures.given prefix before stands (to-give-alone gr stack prefix before b xs c.write_due.new.files c.args.fault.now c.write_due.new.fault held stands c.args.due st c.in_ok-write_due.ensures.ok)
+    λ prefix before st. c.return_piece.ensures.given prefix before stands (to-give-alone gr stack prefix before b xs c.write_due.new.files c.args.fault.now
+    c.write_due.new.fault held stands c.args.due st c.in_ok-write_due.ensures.ok)
 
 pub returns-clause-moves : goal.returns-clause-moves
 returns-clause-moves g c =
@@ -51,10 +54,14 @@ returns-clause-moves g c =
     let stands = g.K.Shelf.held c.write_due.new.shelf in
     let new = g.B.BoardCalls.shown c.return_piece.new.board in
     let h = c.requires.unsaved in
-    let t = to-give-alone gr stack h.0 h.1.0 b xs c.write_due.new.files c.args.fault.now c.write_due.new.fault held stands c.args.due h.1.1 c.in_ok-write_due.ensures.ok in
+    let t =
+    to-give-alone gr stack h.0 h.1.0 b xs c.write_due.new.files c.args.fault.now c.write_due.new.fault held stands c.args.due
+    h.1.1 c.in_ok-write_due.ensures.ok in
     back-moves (run_setting gr stack) b new t.to_give.node c.args.due.piece
-    (subst (λ (r : ℕ). (w m j i : ℕ) → hand r (past b) ≡ Some (entry.Save r w m j i) → new ≡ plain (back_of r w c.args.due.piece.name) ∷ b) c.requires.role c.return_piece.ensures.logged
-    t.to_give.node c.args.due.piece.name.maker c.args.due.piece.name.index t.to_give.group (sym (moves-tell b (last_role (run_setting gr stack))).0 ∙ t.to_give.hand))
+    (subst (λ (r : ℕ). (w m j i : ℕ) → hand r (past b) ≡ Some (entry.Save r w m j i)
+    → new ≡ plain (back_of r w c.args.due.piece.name) ∷ b) c.requires.role c.return_piece.ensures.logged
+    t.to_give.node c.args.due.piece.name.maker c.args.due.piece.name.index t.to_give.group
+    (sym (moves-tell b (last_role (run_setting gr stack))).0 ∙ t.to_give.hand))
 
 pub returns-clause-legal : goal.returns-clause-legal
 returns-clause-legal g c =
@@ -65,7 +72,8 @@ returns-clause-legal g c =
     let b = g.B.BoardCalls.shown c.args.board.now in
     let stands = g.K.Shelf.held c.write_due.new.shelf in
     let h = c.requires.unsaved in
-    (c.return_piece.ensures.given h.0 h.1.0 stands (to-give-alone gr stack h.0 h.1.0 b xs c.write_due.new.files c.args.fault.now c.write_due.new.fault held stands c.args.due h.1.1 c.in_ok-write_due.ensures.ok)).legal
+    (c.return_piece.ensures.given h.0 h.1.0 stands (to-give-alone gr stack h.0 h.1.0 b xs c.write_due.new.files c.args.fault.now c.write_due.new.fault held
+    stands c.args.due h.1.1 c.in_ok-write_due.ensures.ok)).legal
 
 pub returns-in_err-write_due-clause-moves : goal.returns-in_err-write_due-clause-moves
 returns-in_err-write_due-clause-moves g c =

@@ -72,7 +72,8 @@ loop-at-preserved g c =
       drained = ok.drained;
       empty = λ k x low at. elim (cases_lt k n) [
         | inl early ↦
-            let apart : x.node ≢ i.0.node = nodes-differ gr stack c.requires.graph h.0 xs h.1.1.saving.nodes k n x i.0 at i.1 (λ e. absurd (omega (arith, early, e))) in
+            let apart : x.node ≢ i.0.node =
+            nodes-differ gr stack c.requires.graph h.0 xs h.1.1.saving.nodes k n x i.0 at i.1 (λ e. absurd (omega (arith, early, e))) in
             ok.others f.0 f.1 x.node (λ e. apart (e ∙ node)) ∙ inv.empty k x early at
         | inr late ↦
             let here_ : k ≡ n = omega (arith, late, low) in
@@ -82,7 +83,10 @@ loop-at-preserved g c =
       moves = rest-on s b here new inv.moves ok.moves;
       legal = ok.legal;
       nodes = ok.nodes ∙ inv.nodes;
-      cause = step-then c.args.fault.now c.loop-at.fault c.save_all.new.fault (g.K.Shelf.faults c.args.shelf.now) (g.K.Shelf.faults c.loop-at.shelf) (g.K.Shelf.faults c.save_all.new.shelf) (g.K.Shelf.held c.args.shelf.now) (g.K.Shelf.held c.loop-at.shelf) (g.K.Shelf.held c.save_all.new.shelf) inv.cause ok.cause;
+      cause =
+          step-then c.args.fault.now c.loop-at.fault c.save_all.new.fault (g.K.Shelf.faults c.args.shelf.now) (g.K.Shelf.faults c.loop-at.shelf)
+          (g.K.Shelf.faults c.save_all.new.shelf) (g.K.Shelf.held c.args.shelf.now) (g.K.Shelf.held c.loop-at.shelf)
+          (g.K.Shelf.held c.save_all.new.shelf) inv.cause ok.cause;
     }
 
 pub returns-in_err-save_all-clause-moves : goal.returns-in_err-save_all-clause-moves
@@ -106,7 +110,9 @@ returns-in_err-save_all-clause-cause g c =
     let b = g.B.BoardCalls.shown c.args.board.now in
     let inv = c.loop-at.invariant in
     let here = g.B.BoardCalls.shown c.loop-at.board in
-    step-then c.args.fault.now c.loop-at.fault c.save_all.new.fault (g.K.Shelf.faults c.args.shelf.now) (g.K.Shelf.faults c.loop-at.shelf) (g.K.Shelf.faults c.save_all.new.shelf) (g.K.Shelf.held c.args.shelf.now) (g.K.Shelf.held c.loop-at.shelf) (g.K.Shelf.held c.save_all.new.shelf) inv.cause c.in_err-save_all.ensures.cause
+    step-then c.args.fault.now c.loop-at.fault c.save_all.new.fault (g.K.Shelf.faults c.args.shelf.now) (g.K.Shelf.faults c.loop-at.shelf)
+    (g.K.Shelf.faults c.save_all.new.shelf) (g.K.Shelf.held c.args.shelf.now) (g.K.Shelf.held c.loop-at.shelf)
+    (g.K.Shelf.held c.save_all.new.shelf) inv.cause c.in_err-save_all.ensures.cause
 
 pub returns-clause-finished : goal.returns-clause-finished
 returns-clause-finished g c =
@@ -118,4 +124,5 @@ returns-clause-finished g c =
     let inv = c.loop-at.invariant in
     let here = g.B.BoardCalls.shown c.loop-at.board in
     let h = c.requires.saving in
-    rest-finished gr stack c.requires.graph h.0 xs h.1.1.saving.nodes (past here) inv.drained (λ k x at. inv.empty k x (let low = slice_get_within xs k x at in omega (arith, low)) at)
+    rest-finished gr stack c.requires.graph h.0 xs h.1.1.saving.nodes (past here) inv.drained
+    (λ k x at. inv.empty k x (let low = slice_get_within xs k x at in omega (arith, low)) at)

@@ -8,8 +8,10 @@ saved-requires-clause-brings g c = λ is. sym c.requires.held.2.lent
 pub unreachable-requires : goal.unreachable-requires
 unreachable-requires g c =
     let h = c.requires.held in
-    never-refused g.R.Run.graph g.R.Run.stack h.0 c.args.role _ _ c.args.files.now c.args.fault h.1 c.args.piece _ h.2 (Unit {0}) c.in_default.field-0 c.in_default.ensures.called
+    never-refused g.R.Run.graph g.R.Run.stack h.0 c.args.role _ _ c.args.files.now c.args.fault h.1 c.args.piece _ h.2
+    (Unit {0}) c.in_default.field-0 c.in_default.ensures.called
 
 pub returns-clause-given : goal.returns-clause-given
 returns-clause-given g c =
-    λ start held h. given-back g.R.Run.graph g.R.Run.stack start c.args.role _ _ c.args.files.now c.args.fault held c.args.piece _ h (Unit {0}) c.in-Ok.field-0 c.in-Ok.ensures.called
+    λ start held h. given-back g.R.Run.graph g.R.Run.stack start c.args.role _ _ c.args.files.now c.args.fault held c.args.piece _ h
+    (Unit {0}) c.in-Ok.field-0 c.in-Ok.ensures.called

@@ -8,7 +8,8 @@ save-requires-clause-node g c =
     let xs = c.args.files.now in
     let held = g.K.Shelf.held c.args.shelf.now in
     let p = g.D.Desk.knows c.args.pass.now in
-    one-node gr stack c.requires.graph c.requires.saving.0 c.args.role c.requires.role p p xs c.args.fault.now held p.last c.requires.saving.1 c.args.at c.node-node.result c.node-node.ensures c.requires.at
+    one-node gr stack c.requires.graph c.requires.saving.0 c.args.role c.requires.role p p xs c.args.fault.now held p.last c.requires.saving.1 c.args.at
+    c.node-node.result c.node-node.ensures c.requires.at
 
 pub unreachable-requires : goal.unreachable-requires
 unreachable-requires g c =
@@ -18,7 +19,8 @@ unreachable-requires g c =
     let held = g.K.Shelf.held c.args.shelf.now in
     let p = g.D.Desk.knows c.args.pass.now in
     let q = g.D.Desk.knows c.save.new.pass in
-    one-busy gr stack c.requires.graph c.requires.saving.0 c.args.role c.requires.role p q xs c.args.fault.now held _ c.requires.saving.1 c.args.at c.node-node.result c.node-node.ensures c.requires.at c.in-Busy.ensures.called
+    one-busy gr stack c.requires.graph c.requires.saving.0 c.args.role c.requires.role p q xs c.args.fault.now held _ c.requires.saving.1 c.args.at
+    c.node-node.result c.node-node.ensures c.requires.at c.in-Busy.ensures.called
 
 pub returns-in-NotYet-clause-leaves : goal.returns-in-NotYet-clause-leaves
 returns-in-NotYet-clause-leaves g c =
@@ -28,7 +30,8 @@ returns-in-NotYet-clause-leaves g c =
     let held = g.K.Shelf.held c.args.shelf.now in
     let p = g.D.Desk.knows c.args.pass.now in
     let q = g.D.Desk.knows c.save.new.pass in
-    λ start st. one-nothing gr stack c.requires.graph start c.args.role c.requires.role p q xs c.args.fault.now held _ st c.args.at c.node-node.result c.node-node.ensures c.requires.at c.in-NotYet.ensures.called
+    λ start st. one-nothing gr stack c.requires.graph start c.args.role c.requires.role p q xs c.args.fault.now held _ st c.args.at c.node-node.result
+    c.node-node.ensures c.requires.at c.in-NotYet.ensures.called
 
 pub write_due-requires-clause-unsaved : goal.write_due-requires-clause-unsaved
 write_due-requires-clause-unsaved g c =
@@ -38,7 +41,10 @@ write_due-requires-clause-unsaved g c =
     let held = g.K.Shelf.held c.args.shelf.now in
     let p = g.D.Desk.knows c.args.pass.now in
     let q = g.D.Desk.knows c.save.new.pass in
-    (c.requires.saving.0, (c.args.role, (q, one-taken gr stack c.requires.graph c.requires.saving.0 c.args.role c.requires.role p q xs c.args.fault.now held _ c.requires.saving.1 c.args.at c.node-node.result c.node-node.ensures c.requires.at c.requires.kept.few c.in-Piece.input c.in-Piece.group c.in-Piece.place c.in-Piece.of c.in-Piece.ensures.called)))
+    (c.requires.saving.0,
+    (c.args.role, (q, one-taken gr stack c.requires.graph c.requires.saving.0 c.args.role c.requires.role p q xs c.args.fault.now held _ c.requires.saving.1
+    c.args.at c.node-node.result c.node-node.ensures c.requires.at c.requires.kept.few c.in-Piece.input c.in-Piece.group c.in-Piece.place
+    c.in-Piece.of c.in-Piece.ensures.called)))
 
 pub give_back-requires-clause-held : goal.give_back-requires-clause-held
 give_back-requires-clause-held g c =
@@ -48,7 +54,10 @@ give_back-requires-clause-held g c =
     let held = g.K.Shelf.held c.args.shelf.now in
     let p = g.D.Desk.knows c.args.pass.now in
     let q = g.D.Desk.knows c.save.new.pass in
-    (c.requires.saving.0, g.K.Shelf.held c.write_due.new.shelf, c.in-Ok.ensures.ok c.requires.saving.0 c.args.role q (one-taken gr stack c.requires.graph c.requires.saving.0 c.args.role c.requires.role p q xs c.args.fault.now held _ c.requires.saving.1 c.args.at c.node-node.result c.node-node.ensures c.requires.at c.requires.kept.few c.in-Piece.input c.in-Piece.group c.in-Piece.place c.in-Piece.of c.in-Piece.ensures.called))
+    (c.requires.saving.0, g.K.Shelf.held c.write_due.new.shelf,
+    c.in-Ok.ensures.ok c.requires.saving.0 c.args.role q (one-taken gr stack c.requires.graph c.requires.saving.0 c.args.role c.requires.role p q xs
+    c.args.fault.now held _ c.requires.saving.1 c.args.at c.node-node.result c.node-node.ensures c.requires.at c.requires.kept.few c.in-Piece.input
+    c.in-Piece.group c.in-Piece.place c.in-Piece.of c.in-Piece.ensures.called))
 
 pub returns-in-Ok-clause-leaves : goal.returns-in-Ok-clause-leaves
 returns-in-Ok-clause-leaves g c =
@@ -58,7 +67,9 @@ returns-in-Ok-clause-leaves g c =
     let held = g.K.Shelf.held c.args.shelf.now in
     let p = g.D.Desk.knows c.args.pass.now in
     let q = g.D.Desk.knows c.save.new.pass in
-    λ start st. c.give_back.ensures.given start (g.K.Shelf.held c.write_due.new.shelf) (c.in-Ok.ensures.ok start c.args.role q (one-taken gr stack c.requires.graph start c.args.role c.requires.role p q xs c.args.fault.now held _ st c.args.at c.node-node.result c.node-node.ensures c.requires.at c.requires.kept.few c.in-Piece.input c.in-Piece.group c.in-Piece.place c.in-Piece.of c.in-Piece.ensures.called))
+    λ start st. c.give_back.ensures.given start (g.K.Shelf.held c.write_due.new.shelf) (c.in-Ok.ensures.ok start c.args.role q
+    (one-taken gr stack c.requires.graph start c.args.role c.requires.role p q xs c.args.fault.now held _ st c.args.at c.node-node.result c.node-node.ensures
+    c.requires.at c.requires.kept.few c.in-Piece.input c.in-Piece.group c.in-Piece.place c.in-Piece.of c.in-Piece.ensures.called))
 
 pub returns-in_default-clause-leaves : goal.returns-in_default-clause-leaves
 returns-in_default-clause-leaves g c =
@@ -68,4 +79,6 @@ returns-in_default-clause-leaves g c =
     let held = g.K.Shelf.held c.args.shelf.now in
     let p = g.D.Desk.knows c.args.pass.now in
     let q = g.D.Desk.knows c.save.new.pass in
-    λ start st. c.in_default.ensures.err start c.args.role q (one-taken gr stack c.requires.graph start c.args.role c.requires.role p q xs c.args.fault.now held _ st c.args.at c.node-node.result c.node-node.ensures c.requires.at c.requires.kept.few c.in-Piece.input c.in-Piece.group c.in-Piece.place c.in-Piece.of c.in-Piece.ensures.called)
+    λ start st. c.in_default.ensures.err start c.args.role q
+    (one-taken gr stack c.requires.graph start c.args.role c.requires.role p q xs c.args.fault.now held _ st c.args.at c.node-node.result c.node-node.ensures
+    c.requires.at c.requires.kept.few c.in-Piece.input c.in-Piece.group c.in-Piece.place c.in-Piece.of c.in-Piece.ensures.called)

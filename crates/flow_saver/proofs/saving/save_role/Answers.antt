@@ -18,7 +18,9 @@ loop-init g c =
       began = refl;
       first = refl;
       named = sym files.1;
-      saving = fresh-saving g.R.Run.graph g.R.Run.stack files.0 (g.K.Shelf.held c.args.shelf.now) c.args.role (g.D.Desk.knows c.args.pass) c.args.files files.1 c.requires.fresh;
+      saving =
+          fresh-saving g.R.Run.graph g.R.Run.stack files.0 (g.K.Shelf.held c.args.shelf.now) c.args.role
+          (g.D.Desk.knows c.args.pass) c.args.files files.1 c.requires.fresh;
       cause = refl;
     }
 
@@ -27,7 +29,9 @@ returns-then-progress-clause-moves g c =
     let gr = g.R.Run.graph in
     let stack = g.R.Run.stack in
     let inv = c.loop.invariant in
-    let still = saving-still gr stack inv.start c.args.role _ _ (g.D.Desk.knows c.loop.pass) (g.D.Desk.knows c.progress-progress.new.pass) c.loop.files c.loop.fault (g.K.Shelf.held c.loop.shelf) inv.saving c.progress-progress.ensures.called c.progress-progress.ensures.called.answer.1 in
+    let still =
+    saving-still gr stack inv.start c.args.role _ _ (g.D.Desk.knows c.loop.pass) (g.D.Desk.knows c.progress-progress.new.pass) c.loop.files c.loop.fault
+    (g.K.Shelf.held c.loop.shelf) inv.saving c.progress-progress.ensures.called c.progress-progress.ensures.called.answer.1 in
     all-since inv.start.made (g.D.Desk.knows c.progress-progress.new.pass).made still.moves inv.first
 
 pub returns-then-progress-clause-left : goal.returns-then-progress-clause-left
@@ -35,7 +39,9 @@ returns-then-progress-clause-left g c =
     let gr = g.R.Run.graph in
     let stack = g.R.Run.stack in
     let inv = c.loop.invariant in
-    let still = saving-still gr stack inv.start c.args.role _ _ (g.D.Desk.knows c.loop.pass) (g.D.Desk.knows c.progress-progress.new.pass) c.loop.files c.loop.fault (g.K.Shelf.held c.loop.shelf) inv.saving c.progress-progress.ensures.called c.progress-progress.ensures.called.answer.1 in
+    let still =
+    saving-still gr stack inv.start c.args.role _ _ (g.D.Desk.knows c.loop.pass) (g.D.Desk.knows c.progress-progress.new.pass) c.loop.files c.loop.fault
+    (g.K.Shelf.held c.loop.shelf) inv.saving c.progress-progress.ensures.called c.progress-progress.ensures.called.answer.1 in
     (subst (λ (e : Option Entry). IsPieceOfHand (lent_to c.args.role (g.D.Desk.knows c.progress-progress.new.pass).made) e None) (sym still.free) refl)
 
 pub returns-then-progress-clause-history : goal.returns-then-progress-clause-history
@@ -43,15 +49,20 @@ returns-then-progress-clause-history g c =
     let gr = g.R.Run.graph in
     let stack = g.R.Run.stack in
     let inv = c.loop.invariant in
-    let still = saving-still gr stack inv.start c.args.role _ _ (g.D.Desk.knows c.loop.pass) (g.D.Desk.knows c.progress-progress.new.pass) c.loop.files c.loop.fault (g.K.Shelf.held c.loop.shelf) inv.saving c.progress-progress.ensures.called c.progress-progress.ensures.called.answer.1 in
-    λ done. all-given (run_setting gr stack) _ _ (g.D.Desk.knows c.loop.pass) (g.D.Desk.knows c.progress-progress.new.pass) c.args.role inv.saving.role c.requires.role c.progress-progress.ensures.called still.alike
+    let still =
+    saving-still gr stack inv.start c.args.role _ _ (g.D.Desk.knows c.loop.pass) (g.D.Desk.knows c.progress-progress.new.pass) c.loop.files c.loop.fault
+    (g.K.Shelf.held c.loop.shelf) inv.saving c.progress-progress.ensures.called c.progress-progress.ensures.called.answer.1 in
+    λ done. all-given (run_setting gr stack) _ _ (g.D.Desk.knows c.loop.pass)
+    (g.D.Desk.knows c.progress-progress.new.pass) c.args.role inv.saving.role c.requires.role c.progress-progress.ensures.called still.alike
 
 pub returns-then-progress-clause-nodes : goal.returns-then-progress-clause-nodes
 returns-then-progress-clause-nodes g c =
     let gr = g.R.Run.graph in
     let stack = g.R.Run.stack in
     let inv = c.loop.invariant in
-    let still = saving-still gr stack inv.start c.args.role _ _ (g.D.Desk.knows c.loop.pass) (g.D.Desk.knows c.progress-progress.new.pass) c.loop.files c.loop.fault (g.K.Shelf.held c.loop.shelf) inv.saving c.progress-progress.ensures.called c.progress-progress.ensures.called.answer.1 in
+    let still =
+    saving-still gr stack inv.start c.args.role _ _ (g.D.Desk.knows c.loop.pass) (g.D.Desk.knows c.progress-progress.new.pass) c.loop.files c.loop.fault
+    (g.K.Shelf.held c.loop.shelf) inv.saving c.progress-progress.ensures.called c.progress-progress.ensures.called.answer.1 in
     still.nodes ∙ inv.named
 
 pub returns-then-progress-clause-saved : goal.returns-then-progress-clause-saved
@@ -59,15 +70,20 @@ returns-then-progress-clause-saved g c =
     let gr = g.R.Run.graph in
     let stack = g.R.Run.stack in
     let inv = c.loop.invariant in
-    let still = saving-still gr stack inv.start c.args.role _ _ (g.D.Desk.knows c.loop.pass) (g.D.Desk.knows c.progress-progress.new.pass) c.loop.files c.loop.fault (g.K.Shelf.held c.loop.shelf) inv.saving c.progress-progress.ensures.called c.progress-progress.ensures.called.answer.1 in
-    subst (λ (h : Option Files). AreSaved gr stack h (past (g.D.Desk.knows c.progress-progress.new.pass).made) (past (g.D.Desk.knows c.progress-progress.new.pass).seen) c.loop.files c.loop.fault (g.K.Shelf.held c.loop.shelf)) inv.began still.saved
+    let still =
+    saving-still gr stack inv.start c.args.role _ _ (g.D.Desk.knows c.loop.pass) (g.D.Desk.knows c.progress-progress.new.pass) c.loop.files c.loop.fault
+    (g.K.Shelf.held c.loop.shelf) inv.saving c.progress-progress.ensures.called c.progress-progress.ensures.called.answer.1 in
+    subst (λ (h : Option Files). AreSaved gr stack h (past (g.D.Desk.knows c.progress-progress.new.pass).made)
+    (past (g.D.Desk.knows c.progress-progress.new.pass).seen) c.loop.files c.loop.fault (g.K.Shelf.held c.loop.shelf)) inv.began still.saved
 
 pub save_turn-requires-clause-saving : goal.save_turn-requires-clause-saving
 save_turn-requires-clause-saving g c =
     let gr = g.R.Run.graph in
     let stack = g.R.Run.stack in
     let inv = c.loop.invariant in
-    let still = saving-still gr stack inv.start c.args.role _ _ (g.D.Desk.knows c.loop.pass) (g.D.Desk.knows c.progress-progress.new.pass) c.loop.files c.loop.fault (g.K.Shelf.held c.loop.shelf) inv.saving c.progress-progress.ensures.called c.progress-progress.ensures.called.answer.1 in
+    let still =
+    saving-still gr stack inv.start c.args.role _ _ (g.D.Desk.knows c.loop.pass) (g.D.Desk.knows c.progress-progress.new.pass) c.loop.files c.loop.fault
+    (g.K.Shelf.held c.loop.shelf) inv.saving c.progress-progress.ensures.called c.progress-progress.ensures.called.answer.1 in
     (inv.start, still)
 
 pub loop-preserved-in-Nothing : goal.loop-preserved-in-Nothing
@@ -75,7 +91,9 @@ loop-preserved-in-Nothing g c =
     let gr = g.R.Run.graph in
     let stack = g.R.Run.stack in
     let inv = c.loop.invariant in
-    let still = saving-still gr stack inv.start c.args.role _ _ (g.D.Desk.knows c.loop.pass) (g.D.Desk.knows c.progress-progress.new.pass) c.loop.files c.loop.fault (g.K.Shelf.held c.loop.shelf) inv.saving c.progress-progress.ensures.called c.progress-progress.ensures.called.answer.1 in
+    let still =
+    saving-still gr stack inv.start c.args.role _ _ (g.D.Desk.knows c.loop.pass) (g.D.Desk.knows c.progress-progress.new.pass) c.loop.files c.loop.fault
+    (g.K.Shelf.held c.loop.shelf) inv.saving c.progress-progress.ensures.called c.progress-progress.ensures.called.answer.1 in
     record {
       ours = c.save_turn.ensures.ours;
       start = inv.start;
@@ -83,7 +101,9 @@ loop-preserved-in-Nothing g c =
       first = inv.first;
       named = inv.named;
       saving = c.in-Nothing.ensures.leaves inv.start still;
-      cause = counts-then c.loop.fault c.save_turn.new.fault _ (g.K.Shelf.faults c.loop.shelf) _ (g.K.Shelf.held c.loop.shelf) (g.K.Shelf.held c.save_turn.new.shelf) inv.cause c.save_turn.ensures.cause;
+      cause =
+          counts-then c.loop.fault c.save_turn.new.fault _ (g.K.Shelf.faults c.loop.shelf) _ (g.K.Shelf.held c.loop.shelf)
+          (g.K.Shelf.held c.save_turn.new.shelf) inv.cause c.save_turn.ensures.cause;
     }
 
 pub loop-preserved : goal.loop-preserved
@@ -91,7 +111,9 @@ loop-preserved g c =
     let gr = g.R.Run.graph in
     let stack = g.R.Run.stack in
     let inv = c.loop.invariant in
-    let still = saving-still gr stack inv.start c.args.role _ _ (g.D.Desk.knows c.loop.pass) (g.D.Desk.knows c.progress-progress.new.pass) c.loop.files c.loop.fault (g.K.Shelf.held c.loop.shelf) inv.saving c.progress-progress.ensures.called c.progress-progress.ensures.called.answer.1 in
+    let still =
+    saving-still gr stack inv.start c.args.role _ _ (g.D.Desk.knows c.loop.pass) (g.D.Desk.knows c.progress-progress.new.pass) c.loop.files c.loop.fault
+    (g.K.Shelf.held c.loop.shelf) inv.saving c.progress-progress.ensures.called c.progress-progress.ensures.called.answer.1 in
     record {
       ours = c.save_turn.ensures.ours;
       start = inv.start;
@@ -99,7 +121,9 @@ loop-preserved g c =
       first = inv.first;
       named = inv.named;
       saving = c.in-Wrote.ensures.leaves inv.start still;
-      cause = counts-then c.loop.fault c.save_turn.new.fault _ (g.K.Shelf.faults c.loop.shelf) _ (g.K.Shelf.held c.loop.shelf) (g.K.Shelf.held c.save_turn.new.shelf) inv.cause c.save_turn.ensures.cause;
+      cause =
+          counts-then c.loop.fault c.save_turn.new.fault _ (g.K.Shelf.faults c.loop.shelf) _ (g.K.Shelf.held c.loop.shelf)
+          (g.K.Shelf.held c.save_turn.new.shelf) inv.cause c.save_turn.ensures.cause;
     }
 
 pub returns-in-Wants-clause-role : goal.returns-in-Wants-clause-role
@@ -107,7 +131,9 @@ returns-in-Wants-clause-role g c =
     let gr = g.R.Run.graph in
     let stack = g.R.Run.stack in
     let inv = c.loop.invariant in
-    let still = saving-still gr stack inv.start c.args.role _ _ (g.D.Desk.knows c.loop.pass) (g.D.Desk.knows c.progress-progress.new.pass) c.loop.files c.loop.fault (g.K.Shelf.held c.loop.shelf) inv.saving c.progress-progress.ensures.called c.progress-progress.ensures.called.answer.1 in
+    let still =
+    saving-still gr stack inv.start c.args.role _ _ (g.D.Desk.knows c.loop.pass) (g.D.Desk.knows c.progress-progress.new.pass) c.loop.files c.loop.fault
+    (g.K.Shelf.held c.loop.shelf) inv.saving c.progress-progress.ensures.called c.progress-progress.ensures.called.answer.1 in
     let end = c.in-Wants.ensures.leaves inv.start still in
     end.role
 
@@ -116,7 +142,9 @@ returns-in-Wants-clause-moves g c =
     let gr = g.R.Run.graph in
     let stack = g.R.Run.stack in
     let inv = c.loop.invariant in
-    let still = saving-still gr stack inv.start c.args.role _ _ (g.D.Desk.knows c.loop.pass) (g.D.Desk.knows c.progress-progress.new.pass) c.loop.files c.loop.fault (g.K.Shelf.held c.loop.shelf) inv.saving c.progress-progress.ensures.called c.progress-progress.ensures.called.answer.1 in
+    let still =
+    saving-still gr stack inv.start c.args.role _ _ (g.D.Desk.knows c.loop.pass) (g.D.Desk.knows c.progress-progress.new.pass) c.loop.files c.loop.fault
+    (g.K.Shelf.held c.loop.shelf) inv.saving c.progress-progress.ensures.called c.progress-progress.ensures.called.answer.1 in
     let end = c.in-Wants.ensures.leaves inv.start still in
     all-since inv.start.made (g.D.Desk.knows c.save_turn.new.pass).made end.moves inv.first
 
@@ -125,7 +153,9 @@ returns-in-Wants-clause-left g c =
     let gr = g.R.Run.graph in
     let stack = g.R.Run.stack in
     let inv = c.loop.invariant in
-    let still = saving-still gr stack inv.start c.args.role _ _ (g.D.Desk.knows c.loop.pass) (g.D.Desk.knows c.progress-progress.new.pass) c.loop.files c.loop.fault (g.K.Shelf.held c.loop.shelf) inv.saving c.progress-progress.ensures.called c.progress-progress.ensures.called.answer.1 in
+    let still =
+    saving-still gr stack inv.start c.args.role _ _ (g.D.Desk.knows c.loop.pass) (g.D.Desk.knows c.progress-progress.new.pass) c.loop.files c.loop.fault
+    (g.K.Shelf.held c.loop.shelf) inv.saving c.progress-progress.ensures.called c.progress-progress.ensures.called.answer.1 in
     let end = c.in-Wants.ensures.leaves inv.start still in
     hand-piece c.args.role end.node.node c.in-Wants.due.group _ c.in-Wants.due.piece _ end.hand end.lent
 
@@ -134,7 +164,9 @@ returns-in-Wants-clause-nodes g c =
     let gr = g.R.Run.graph in
     let stack = g.R.Run.stack in
     let inv = c.loop.invariant in
-    let still = saving-still gr stack inv.start c.args.role _ _ (g.D.Desk.knows c.loop.pass) (g.D.Desk.knows c.progress-progress.new.pass) c.loop.files c.loop.fault (g.K.Shelf.held c.loop.shelf) inv.saving c.progress-progress.ensures.called c.progress-progress.ensures.called.answer.1 in
+    let still =
+    saving-still gr stack inv.start c.args.role _ _ (g.D.Desk.knows c.loop.pass) (g.D.Desk.knows c.progress-progress.new.pass) c.loop.files c.loop.fault
+    (g.K.Shelf.held c.loop.shelf) inv.saving c.progress-progress.ensures.called c.progress-progress.ensures.called.answer.1 in
     let end = c.in-Wants.ensures.leaves inv.start still in
     end.nodes ∙ inv.named
 
@@ -143,31 +175,43 @@ returns-in-Wants-clause-saved g c =
     let gr = g.R.Run.graph in
     let stack = g.R.Run.stack in
     let inv = c.loop.invariant in
-    let still = saving-still gr stack inv.start c.args.role _ _ (g.D.Desk.knows c.loop.pass) (g.D.Desk.knows c.progress-progress.new.pass) c.loop.files c.loop.fault (g.K.Shelf.held c.loop.shelf) inv.saving c.progress-progress.ensures.called c.progress-progress.ensures.called.answer.1 in
+    let still =
+    saving-still gr stack inv.start c.args.role _ _ (g.D.Desk.knows c.loop.pass) (g.D.Desk.knows c.progress-progress.new.pass) c.loop.files c.loop.fault
+    (g.K.Shelf.held c.loop.shelf) inv.saving c.progress-progress.ensures.called c.progress-progress.ensures.called.answer.1 in
     let end = c.in-Wants.ensures.leaves inv.start still in
-    subst (λ (h : Option Files). AreSaved gr stack h (past (g.D.Desk.knows c.save_turn.new.pass).made) (past (g.D.Desk.knows c.save_turn.new.pass).seen) c.save_turn.new.files c.save_turn.new.fault (g.K.Shelf.held c.save_turn.new.shelf)) inv.began end.saved
+    subst (λ (h : Option Files). AreSaved gr stack h (past (g.D.Desk.knows c.save_turn.new.pass).made)
+    (past (g.D.Desk.knows c.save_turn.new.pass).seen) c.save_turn.new.files c.save_turn.new.fault (g.K.Shelf.held c.save_turn.new.shelf)) inv.began end.saved
 
 pub returns-in-Wants-clause-fault : goal.returns-in-Wants-clause-fault
 returns-in-Wants-clause-fault g c =
     let gr = g.R.Run.graph in
     let stack = g.R.Run.stack in
     let inv = c.loop.invariant in
-    let still = saving-still gr stack inv.start c.args.role _ _ (g.D.Desk.knows c.loop.pass) (g.D.Desk.knows c.progress-progress.new.pass) c.loop.files c.loop.fault (g.K.Shelf.held c.loop.shelf) inv.saving c.progress-progress.ensures.called c.progress-progress.ensures.called.answer.1 in
-    counts-then c.loop.fault c.save_turn.new.fault _ (g.K.Shelf.faults c.loop.shelf) _ (g.K.Shelf.held c.loop.shelf) (g.K.Shelf.held c.save_turn.new.shelf) inv.cause c.save_turn.ensures.cause
+    let still =
+    saving-still gr stack inv.start c.args.role _ _ (g.D.Desk.knows c.loop.pass) (g.D.Desk.knows c.progress-progress.new.pass) c.loop.files c.loop.fault
+    (g.K.Shelf.held c.loop.shelf) inv.saving c.progress-progress.ensures.called c.progress-progress.ensures.called.answer.1 in
+    counts-then c.loop.fault c.save_turn.new.fault _ (g.K.Shelf.faults c.loop.shelf) _ (g.K.Shelf.held c.loop.shelf)
+    (g.K.Shelf.held c.save_turn.new.shelf) inv.cause c.save_turn.ensures.cause
 
 pub returns-then-progress-clause-leaves : goal.returns-then-progress-clause-leaves
 returns-then-progress-clause-leaves g c =
     let gr = g.R.Run.graph in
     let stack = g.R.Run.stack in
     let inv = c.loop.invariant in
-    let still = saving-still gr stack inv.start c.args.role _ _ (g.D.Desk.knows c.loop.pass) (g.D.Desk.knows c.progress-progress.new.pass) c.loop.files c.loop.fault (g.K.Shelf.held c.loop.shelf) inv.saving c.progress-progress.ensures.called c.progress-progress.ensures.called.answer.1 in
-    λ prefix is. saving-from gr stack inv.start prefix (g.K.Shelf.held c.args.shelf.now) c.args.role (g.D.Desk.knows c.progress-progress.new.pass) c.loop.files c.loop.fault (g.K.Shelf.held c.loop.shelf) inv.began inv.first (inv.named ∙ is) still
+    let still =
+    saving-still gr stack inv.start c.args.role _ _ (g.D.Desk.knows c.loop.pass) (g.D.Desk.knows c.progress-progress.new.pass) c.loop.files c.loop.fault
+    (g.K.Shelf.held c.loop.shelf) inv.saving c.progress-progress.ensures.called c.progress-progress.ensures.called.answer.1 in
+    λ prefix is. saving-from gr stack inv.start prefix (g.K.Shelf.held c.args.shelf.now) c.args.role
+    (g.D.Desk.knows c.progress-progress.new.pass) c.loop.files c.loop.fault (g.K.Shelf.held c.loop.shelf) inv.began inv.first (inv.named ∙ is) still
 
 pub returns-in-Wants-clause-leaves : goal.returns-in-Wants-clause-leaves
 returns-in-Wants-clause-leaves g c =
     let gr = g.R.Run.graph in
     let stack = g.R.Run.stack in
     let inv = c.loop.invariant in
-    let still = saving-still gr stack inv.start c.args.role _ _ (g.D.Desk.knows c.loop.pass) (g.D.Desk.knows c.progress-progress.new.pass) c.loop.files c.loop.fault (g.K.Shelf.held c.loop.shelf) inv.saving c.progress-progress.ensures.called c.progress-progress.ensures.called.answer.1 in
+    let still =
+    saving-still gr stack inv.start c.args.role _ _ (g.D.Desk.knows c.loop.pass) (g.D.Desk.knows c.progress-progress.new.pass) c.loop.files c.loop.fault
+    (g.K.Shelf.held c.loop.shelf) inv.saving c.progress-progress.ensures.called c.progress-progress.ensures.called.answer.1 in
     let end = c.in-Wants.ensures.leaves inv.start still in
-    λ prefix is. unsaved-from gr stack inv.start prefix (g.K.Shelf.held c.args.shelf.now) c.args.role (g.D.Desk.knows c.save_turn.new.pass) c.save_turn.new.files c.save_turn.new.fault (g.K.Shelf.held c.save_turn.new.shelf) inv.began inv.first (inv.named ∙ is) c.in-Wants.due end
+    λ prefix is. unsaved-from gr stack inv.start prefix (g.K.Shelf.held c.args.shelf.now) c.args.role (g.D.Desk.knows c.save_turn.new.pass)
+    c.save_turn.new.files c.save_turn.new.fault (g.K.Shelf.held c.save_turn.new.shelf) inv.began inv.first (inv.named ∙ is) c.in-Wants.due end

@@ -6,7 +6,8 @@ abbrev pub invariant-loop-at : goal.invariant-loop-at
 invariant-loop-at g l =
     record {
       ours : g.D.Desk.ours l.desk l.pass;
-      saving : (start : Start) → IsSaving g.R.Run.graph g.R.Run.stack start l.role (g.D.Desk.knows l.fn.pass) l.fn.files l.fn.fault (g.K.Shelf.held l.fn.shelf) → IsSaving g.R.Run.graph g.R.Run.stack start l.role (g.D.Desk.knows l.pass) l.files l.fault (g.K.Shelf.held l.shelf);
+      saving : (start : Start) → IsSaving g.R.Run.graph g.R.Run.stack start l.role (g.D.Desk.knows l.fn.pass) l.fn.files l.fn.fault (g.K.Shelf.held l.fn.shelf)
+          → IsSaving g.R.Run.graph g.R.Run.stack start l.role (g.D.Desk.knows l.pass) l.files l.fault (g.K.Shelf.held l.shelf);
       count : length l.files ≡ length l.fn.files;
       cause : CountsStep l.fn.fault l.fault (g.K.Shelf.faults l.fn.shelf) (g.K.Shelf.faults l.shelf) (g.K.Shelf.held l.fn.shelf) (g.K.Shelf.held l.shelf);
     }

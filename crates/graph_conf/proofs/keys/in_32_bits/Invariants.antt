@@ -7,5 +7,6 @@ use Rattle.graph_conf.proofs.keys.in_32_bits.Given as goal
 abbrev pub invariant-loop-number : goal.invariant-loop-number
 invariant-loop-number l = record {
   kept : l.kept.items ≡ take l.number-index l.list;
-  left : find (λ v. not (is_within (negsuc 2147483647) (pos 2147483647) v)) (drop l.number-index l.list) ≡ find (λ v. not (is_within (negsuc 2147483647) (pos 2147483647) v)) l.list;
+  left : find (λ v. not (is_within (negsuc 2147483647) (pos 2147483647) v)) (drop l.number-index l.list)
+      ≡ find (λ v. not (is_within (negsuc 2147483647) (pos 2147483647) v)) l.list;
 }

@@ -5,4 +5,5 @@ use Rattle.graph_conf.proofs.links.acyclic.Goals as goal
 
 pub loop-place-preserved : goal.loop-place-preserved
 loop-place-preserved c =
-    place_past (is_circular c.args.inputs.now) c.loop-place.place (length c.args.inputs.now) c.loop-place-test.true (sym c.is_circular.ensures ∙ c.if-is_circular.false) ∙ c.loop-place.invariant
+    place_past (is_circular c.args.inputs.now) c.loop-place.place (length c.args.inputs.now) c.loop-place-test.true
+    (sym c.is_circular.ensures ∙ c.if-is_circular.false) ∙ c.loop-place.invariant

@@ -5,4 +5,5 @@ use Rattle.graph_conf.proofs.links.distinct.Goals as goal
 
 pub loop-place-preserved : goal.loop-place-preserved
 loop-place-preserved c =
-    place_past (is_double c.args.nodes.now) c.loop-place.place (length c.args.nodes.now) c.loop-place-test.true (sym c.is_double.ensures ∙ c.if-is_double.false) ∙ c.loop-place.invariant
+    place_past (is_double c.args.nodes.now) c.loop-place.place (length c.args.nodes.now) c.loop-place-test.true (sym c.is_double.ensures ∙ c.if-is_double.false)
+    ∙ c.loop-place.invariant

@@ -13,7 +13,8 @@ pub file_bytes-bytes-requires : goal.file_bytes-bytes-requires
 file_bytes-bytes-requires c =
     let made = c.made_at-made.result.now in
     subst (λ shape. IsWritable (record shape { kind = made.kind; dims = made.dims })) (sym c.shape-shape.ensures.value)
-    (node_writable c.args.graph.now c.args.stack.now (c.loop-place.place + 1) made.kind made.dims c.requires.graph c.shape-shape.ensures.sound c.requires.shape c.made_at-made.ensures.dims)
+    (node_writable c.args.graph.now c.args.stack.now
+    (c.loop-place.place + 1) made.kind made.dims c.requires.graph c.shape-shape.ensures.sound c.requires.shape c.made_at-made.ensures.dims)
 
 pub returns-then-bytes-most : goal.returns-then-bytes-most
 returns-then-bytes-most c =
@@ -24,14 +25,17 @@ returns-then-bytes-most c =
     let made = c.made_at-made.result.now in
     let within : k < length g.nodes = subst (λ ns. k < length ns) c.as_slice-nodes.ensures c.loop-place-test.true in
     let is : slice_get g.nodes k ≡ Some node =
-    ap (λ ns. slice_get ns k) (sym c.as_slice-nodes.ensures) ∙ slice_get-get_or c.as_slice-nodes.result.now k node c.loop-place-test.true ∙ ap Some (sym c.index-nodes-place.is) in
+    ap (λ ns. slice_get ns k) (sym c.as_slice-nodes.ensures) ∙ slice_get-get_or c.as_slice-nodes.result.now k node c.loop-place-test.true
+    ∙ ap Some (sym c.index-nodes-place.is) in
     let bytes : c.file_bytes-bytes.result ≡ file_bytes_at g s (k + 1) =
     c.file_bytes-bytes.ensures
     ∙ ap (λ n. file_bytes n.kind (record c.shape-shape.result.now { kind = made.kind; dims = made.dims }) c.frames-frames.result) (sym c.index-nodes-place.is)
     ∙ ap (λ shape. file_bytes node.kind (record shape { kind = made.kind; dims = made.dims }) c.frames-frames.result) c.shape-shape.ensures.value
     ∙ ap (λ kind. file_bytes node.kind (record s.shape { kind = kind; dims = made.dims }) c.frames-frames.result) c.made_at-made.ensures.kind
-    ∙ ap (λ dims. file_bytes node.kind (record s.shape { kind = (shape_at g.nodes s.shape (k + 1)).kind; dims = dims }) c.frames-frames.result) c.made_at-made.ensures.dims
-    ∙ ap (file_bytes node.kind (record s.shape { kind = (shape_at g.nodes s.shape (k + 1)).kind; dims = (shape_at g.nodes s.shape (k + 1)).dims })) c.frames-frames.ensures
+    ∙ ap (λ dims. file_bytes node.kind (record s.shape { kind = (shape_at g.nodes s.shape (k + 1)).kind; dims = dims }) c.frames-frames.result)
+    c.made_at-made.ensures.dims
+    ∙ ap (file_bytes node.kind (record s.shape { kind = (shape_at g.nodes s.shape (k + 1)).kind; dims = (shape_at g.nodes s.shape (k + 1)).dims }))
+    c.frames-frames.ensures
     ∙ sym (bytes_at g s k node is) in
     let most : c.from-most.result ≡ most_bytes_at g (k + 1) =
     c.from-most.ensures ∙ c.most_bytes.ensures ∙ ap (λ n. most_bytes n.kind) (sym c.index-nodes-place.is) ∙ sym (most_at g k node is) in
@@ -47,14 +51,17 @@ loop-place-preserved c =
     let made = c.made_at-made.result.now in
     let within : k < length g.nodes = subst (λ ns. k < length ns) c.as_slice-nodes.ensures c.loop-place-test.true in
     let is : slice_get g.nodes k ≡ Some node =
-    ap (λ ns. slice_get ns k) (sym c.as_slice-nodes.ensures) ∙ slice_get-get_or c.as_slice-nodes.result.now k node c.loop-place-test.true ∙ ap Some (sym c.index-nodes-place.is) in
+    ap (λ ns. slice_get ns k) (sym c.as_slice-nodes.ensures) ∙ slice_get-get_or c.as_slice-nodes.result.now k node c.loop-place-test.true
+    ∙ ap Some (sym c.index-nodes-place.is) in
     let bytes : c.file_bytes-bytes.result ≡ file_bytes_at g s (k + 1) =
     c.file_bytes-bytes.ensures
     ∙ ap (λ n. file_bytes n.kind (record c.shape-shape.result.now { kind = made.kind; dims = made.dims }) c.frames-frames.result) (sym c.index-nodes-place.is)
     ∙ ap (λ shape. file_bytes node.kind (record shape { kind = made.kind; dims = made.dims }) c.frames-frames.result) c.shape-shape.ensures.value
     ∙ ap (λ kind. file_bytes node.kind (record s.shape { kind = kind; dims = made.dims }) c.frames-frames.result) c.made_at-made.ensures.kind
-    ∙ ap (λ dims. file_bytes node.kind (record s.shape { kind = (shape_at g.nodes s.shape (k + 1)).kind; dims = dims }) c.frames-frames.result) c.made_at-made.ensures.dims
-    ∙ ap (file_bytes node.kind (record s.shape { kind = (shape_at g.nodes s.shape (k + 1)).kind; dims = (shape_at g.nodes s.shape (k + 1)).dims })) c.frames-frames.ensures
+    ∙ ap (λ dims. file_bytes node.kind (record s.shape { kind = (shape_at g.nodes s.shape (k + 1)).kind; dims = dims }) c.frames-frames.result)
+    c.made_at-made.ensures.dims
+    ∙ ap (file_bytes node.kind (record s.shape { kind = (shape_at g.nodes s.shape (k + 1)).kind; dims = (shape_at g.nodes s.shape (k + 1)).dims }))
+    c.frames-frames.ensures
     ∙ sym (bytes_at g s k node is) in
     let most : c.from-most.result ≡ most_bytes_at g (k + 1) =
     c.from-most.ensures ∙ c.most_bytes.ensures ∙ ap (λ n. most_bytes n.kind) (sym c.index-nodes-place.is) ∙ sym (most_at g k node is) in

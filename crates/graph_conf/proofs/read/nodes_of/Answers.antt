@@ -27,5 +27,7 @@ loop-table-preserved c =
           ∙ sym (at_drop_more (λ us. in_front front (nodes_from (i + 1) (map (λ t. table_view t.now) us))) ts i d c.loop-table-test.true)
           ∙ c.loop-table.invariant.told;
       len = ap length c.in_ok-push.ensures.items ∙ length-append c.loop-table.nodes.items (n ∷ []) ∙ ap (λ k. k + 1) c.loop-table.invariant.len;
-      sound = subst (All (λ m. IsNode m.rule)) (sym c.in_ok-push.ensures.items) (All-push (λ m. IsNode m.rule) c.loop-table.nodes.items n c.loop-table.invariant.sound c.in_ok-node_of.ensures.sound);
+      sound =
+          subst (All (λ m. IsNode m.rule)) (sym c.in_ok-push.ensures.items)
+          (All-push (λ m. IsNode m.rule) c.loop-table.nodes.items n c.loop-table.invariant.sound c.in_ok-node_of.ensures.sound);
     }

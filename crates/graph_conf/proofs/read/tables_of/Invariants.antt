@@ -6,4 +6,6 @@ use Rattle.graph_conf.proofs.Items.{behind}
 use Rattle.graph_conf.proofs.read.tables_of.Given as goal
 
 abbrev pub invariant-loop-item : goal.invariant-loop-item
-invariant-loop-item l = behind (map (λ t. table_view t.now) l.list.items) (all_of as_table (items_view (drop l.item-index l.items.items))) ≡ all_of as_table (items_view l.items.items)
+invariant-loop-item l =
+    behind (map (λ t. table_view t.now) l.list.items) (all_of as_table (items_view (drop l.item-index l.items.items)))
+    ≡ all_of as_table (items_view l.items.items)

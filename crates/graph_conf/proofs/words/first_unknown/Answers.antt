@@ -11,7 +11,8 @@ use Rattle.graph_conf.specs.Keys.{first_unknown}
 use Rattle.graph_conf.proofs.Known.{past_known, at_unknown}
 use Rattle.graph_conf.proofs.words.first_unknown.Goals as goal
 
-rising : (e : Entry) (rest : List Entry) → IsStrictlySortedBy string_cmp (keys_of (e ∷ rest)) → AllByRecursion (λ y. string_cmp e.0 y ≡ Less) (keys_of rest) × IsStrictlySortedBy string_cmp (keys_of rest)
+rising : (e : Entry) (rest : List Entry) → IsStrictlySortedBy string_cmp (keys_of (e ∷ rest))
+    → AllByRecursion (λ y. string_cmp e.0 y ≡ Less) (keys_of rest) × IsStrictlySortedBy string_cmp (keys_of rest)
 unfolding IsStrictlySortedBy
 rising e rest h = h
 
@@ -24,7 +25,8 @@ returns-then-not-is_known c =
     let missing : list_any (λ k. bytes_eq (string_bytes e.0) k.now) known ≡ false = grind (arith, common_steps) in
     let name : c.deref-then-not-is_known.result.now ≡ string_bytes e.0 = grind (arith, common_steps) in
     let above = rising e c.next.new.self (rw iter at sorted) in
-    ap Some name ∙ sym (at_unknown known e c.next.new.self missing above.0) ∙ sym (ap (λ es. first_unknown (map (λ k. k.now) known) (members_view es)) iter) ∙ same
+    ap Some name ∙ sym (at_unknown known e c.next.new.self missing above.0)
+    ∙ sym (ap (λ es. first_unknown (map (λ k. k.now) known) (members_view es)) iter) ∙ same
 
 pub loop-key-preserved : goal.loop-key-preserved
 loop-key-preserved c =
@@ -33,4 +35,5 @@ loop-key-preserved c =
     let e : Entry = (c.in-Some.key.now, c.in-Some.field-0-1.now) in
     let iter : c.loop-key.key-iterator ≡ e ∷ c.next.new.self = grind (arith, common_steps) in
     let present : list_any (λ k. bytes_eq (string_bytes e.0) k.now) known ≡ true = grind (arith, common_steps) in
-    (tt, tt, sym (past_known known e c.next.new.self present) ∙ sym (ap (λ es. first_unknown (map (λ k. k.now) known) (members_view es)) iter) ∙ same, (rising e c.next.new.self (rw iter at sorted)).1)
+    (tt, tt, sym (past_known known e c.next.new.self present) ∙ sym (ap (λ es. first_unknown (map (λ k. k.now) known) (members_view es)) iter) ∙ same,
+    (rising e c.next.new.self (rw iter at sorted)).1)

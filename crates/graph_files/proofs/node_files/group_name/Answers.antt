@@ -6,7 +6,8 @@ use Rattle.graph_files.specs.OutFiles.{group_number}
 use Rattle.graph_files.proofs.Names.{group_number-padded}
 use Rattle.graph_files.proofs.node_files.group_name.Goals as goal
 
-parts : (stem : List ℕ) (g : ℕ) → stem ++ (padded_integral (format_spec 32 0 4 3 (2 ^ 64 - 1)) false [] (decimal g) ++ codes ".nc") ≡ stem ++ group_number g ++ codes ".nc"
+parts : (stem : List ℕ) (g : ℕ)
+    → stem ++ (padded_integral (format_spec 32 0 4 3 (2 ^ 64 - 1)) false [] (decimal g) ++ codes ".nc") ≡ stem ++ group_number g ++ codes ".nc"
 parts stem g = ap (λ digits. stem ++ (digits ++ codes ".nc")) (group_number-padded g) ∙ sym (append_assoc stem (group_number g) (codes ".nc"))
 
 pub returns : goal.returns

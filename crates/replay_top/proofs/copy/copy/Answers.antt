@@ -10,7 +10,8 @@ use Rattle.replay_top.proofs.copy.copy.Goals as goal
 
 pub returns-in-Some-clause-ends : goal.returns-in-Some-clause-ends
 returns-in-Some-clause-ends g c =
-    (passed-copy _ c.args.name.now c.args.prefix.now (record { graph = copy_graph; stack = c.in-Ok.stack }) c.in-Some.fault c.in-Ok.ensures.ok.source (sym c.in-Some.ensures), refl, refl)
+    (passed-copy _ c.args.name.now c.args.prefix.now (record { graph = copy_graph; stack = c.in-Ok.stack }) c.in-Some.fault c.in-Ok.ensures.ok.source
+    (sym c.in-Some.ensures), refl, refl)
 
 pub returns-in-Err-save_copy-clause-ends : goal.returns-in-Err-save_copy-clause-ends
 returns-in-Err-save_copy-clause-ends g c =
@@ -24,7 +25,9 @@ returns-in-Ok-print_frames-clause-ends g c =
       read = c.in-Ok.ensures.ok.source;
       within = sym c.in_default.ensures;
       files = c.in_default-save_copy.ensures.ok;
-      back = λ some. IsKeptStack-ReadsBack (record { shape = copy_shape c.in-Ok.stack; arrays = c.in-Ok.stack.arrays }) (copy-IsKeptStack c.in-Ok.stack c.in-Ok.ensures.ok.kept) some (copy_limit-none c.in-Ok.stack (sym c.in_default.ensures));
+      back =
+          λ some. IsKeptStack-ReadsBack (record { shape = copy_shape c.in-Ok.stack; arrays = c.in-Ok.stack.arrays })
+          (copy-IsKeptStack c.in-Ok.stack c.in-Ok.ensures.ok.kept) some (copy_limit-none c.in-Ok.stack (sym c.in_default.ensures));
       printed = (rw c.frames.ensures at c.in-Ok-print_frames.ensures.ok);
     }
 

@@ -6,7 +6,8 @@ use Rattle.graph_files.specs.OutFiles.{group_name, group_number}
 use Rattle.replay_top.proofs.GroupFiles.{group_number-padded}
 use Rattle.replay_top.proofs.groups.group_name.Goals as goal
 
-parts : (prefix node : List ℕ) (g : ℕ) → prefix ++ (node ++ (codes "_" ++ (padded_integral (format_spec 32 0 4 3 (2 ^ 64 - 1)) false [] (decimal g) ++ codes ".nc"))) ≡ group_name prefix node g
+parts : (prefix node : List ℕ) (g : ℕ)
+    → prefix ++ (node ++ (codes "_" ++ (padded_integral (format_spec 32 0 4 3 (2 ^ 64 - 1)) false [] (decimal g) ++ codes ".nc"))) ≡ group_name prefix node g
 parts prefix node g =
     ap (λ digits. prefix ++ (node ++ (codes "_" ++ (digits ++ codes ".nc")))) (group_number-padded g)
     ∙ sym (append_assoc (prefix ++ node ++ codes "_") (group_number g) (codes ".nc") ∙ append_assoc (prefix ++ node) (codes "_") (group_number g ++ codes ".nc")

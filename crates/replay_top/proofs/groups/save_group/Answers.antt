@@ -37,7 +37,8 @@ returns-in_err-file-clause-err g c =
     let first : c.first_count-numrecs.result ≡ first_count c.args.late (length group) = c.first_count-numrecs.ensures in
     let stops = (rw first at c.in_err-file.ensures.err) in
     rw p.1 (IsFileBegun-unended _ _ c.args.name.now shape c.args.late out (length group) many
-    (IsBegun-BeginStops c.in_err-file.field-0.0 _ _ c.args.name.now (header shape (first_count c.args.late (length group))) (flat_map (row shape) out) (unended c.args.late (length group) shape out) refl stops))
+    (IsBegun-BeginStops c.in_err-file.field-0.0 _ _ c.args.name.now (header shape (first_count c.args.late (length group))) (flat_map (row shape) out)
+    (unended c.args.late (length group) shape out) refl stops))
 
 pub returns-in_err-array-clause-err : goal.returns-in_err-array-clause-err
 returns-in_err-array-clause-err g c =
@@ -49,11 +50,14 @@ returns-in_err-array-clause-err g c =
     let many : length group ≡ length (arrays_out nodes arrays c.args.node group) = sym (length-arrays_out nodes arrays c.args.node group c.requires.frames) in
     let others = begun_group-front shape (first_count c.args.late (length group)) nodes arrays c.args.node group c.loop-index.index-index in
     rw p.1 (IsFileBegun-unended _ _ c.args.name.now shape c.args.late (arrays_out nodes arrays c.args.node group) (length group) many
-    (Front (begun_group shape (first_count c.args.late (length group)) nodes arrays c.args.node group c.loop-index.index-index) others.0 others.1 c.loop-index.invariant.files))
+    (Front (begun_group shape (first_count c.args.late (length group)) nodes arrays c.args.node group c.loop-index.index-index) others.0
+    others.1 c.loop-index.invariant.files))
 
 pub add-requires-clause-row : goal.add-requires-clause-row
 add-requires-clause-row g c =
-    let row = content-IsRow c.args.plan.now.graph c.args.stack.now c.args.node (get_or c.args.group.now c.loop-index.index-index 0) c.in_ok-array.array c.args.shape.now c.head.result.now c.bytes.result.now
+    let row =
+    content-IsRow c.args.plan.now.graph c.args.stack.now c.args.node
+    (get_or c.args.group.now c.loop-index.index-index 0) c.in_ok-array.array c.args.shape.now c.head.result.now c.bytes.result.now
     c.requires.kept c.requires.shape c.in_ok-array.ensures c.head.ensures.attrs c.bytes.ensures.count in
     rw c.loop-index.invariant.stream row
 
@@ -75,14 +79,17 @@ returns-in_err-add-clause-err g c =
     let many : length group ≡ length (arrays_out nodes arrays c.args.node group) = sym (length-arrays_out nodes arrays c.args.node group c.requires.frames) in
     let made : content nodes arrays (frame c.args.node (get_or group i 0)) ≡ Some array = c.in_ok-array.ensures in
     let same : array_of head shape.kind shape.dims c.bytes.result.now ≡ array =
-    content-array_of c.args.plan.now.graph c.args.stack.now c.args.node (get_or group i 0) array shape head c.bytes.result.now c.requires.kept c.requires.shape made
+    content-array_of c.args.plan.now.graph c.args.stack.now c.args.node
+    (get_or group i 0) array shape head c.bytes.result.now c.requires.kept c.requires.shape made
     (head_is array head c.head.ensures.id c.head.ensures.stamp c.head.ensures.sec c.head.ensures.nsec c.head.ensures.attrs) c.bytes.ensures.samples in
     let others = begun_group-front shape numrecs nodes arrays c.args.node group (i + 1) in
     let more = begun_group-more shape numrecs nodes arrays c.args.node group i array c.loop-index-test.true made in
     let stops = (rw c.loop-index.invariant.stream at c.in_err-add.ensures.err) in
     rw p.1 (IsFileBegun-unended _ _ c.args.name.now shape c.args.late (arrays_out nodes arrays c.args.node group) (length group) many
-    (IsBegun-AddStops c.in_err-add.field-0.0 _ (g.K.Shelf.held c.loop-index.shelf) _ c.args.name.now (begun_group shape numrecs nodes arrays c.args.node group i)
-    (row shape (array_of head shape.kind shape.dims c.bytes.result.now)) others.0 (unended c.args.late (length group) shape (arrays_out nodes arrays c.args.node group))
+    (IsBegun-AddStops c.in_err-add.field-0.0 _ (g.K.Shelf.held c.loop-index.shelf) _ c.args.name.now
+    (begun_group shape numrecs nodes arrays c.args.node group i)
+    (row shape (array_of head shape.kind shape.dims c.bytes.result.now)) others.0
+    (unended c.args.late (length group) shape (arrays_out nodes arrays c.args.node group))
     (others.1 ∙ ap (λ bytes. bytes ++ others.0) (more ∙ ap (λ a. begun_group shape numrecs nodes arrays c.args.node group i ++ row shape a) (sym same)))
     c.loop-index.invariant.files stops))
 
@@ -101,7 +108,8 @@ loop-index-preserved g c =
     let made : content nodes arrays (frame c.args.node (get_or group i 0)) ≡ Some array = c.in_ok-array.ensures in
     let written = array_of head shape.kind shape.dims c.bytes.result.now in
     let same : written ≡ array =
-    content-array_of c.args.plan.now.graph c.args.stack.now c.args.node (get_or group i 0) array shape head c.bytes.result.now c.requires.kept c.requires.shape made
+    content-array_of c.args.plan.now.graph c.args.stack.now c.args.node
+    (get_or group i 0) array shape head c.bytes.result.now c.requires.kept c.requires.shape made
     (head_is array head c.head.ensures.id c.head.ensures.stamp c.head.ensures.sec c.head.ensures.nsec c.head.ensures.attrs) c.bytes.ensures.samples in
     let more = begun_group-more shape numrecs nodes arrays c.args.node group i array c.loop-index-test.true made in
     let added = (rw c.loop-index.invariant.stream at c.in_ok-add.ensures.ok) in
@@ -109,7 +117,8 @@ loop-index-preserved g c =
       files =
           added ∙ ap (λ w. with_more w name (row shape written)) c.loop-index.invariant.files
           ∙ with_more-with_file (held c.args.shelf.now) name (begun_group shape numrecs nodes arrays c.args.node group i) (row shape written)
-          ∙ ap (with_file (held c.args.shelf.now) name) (sym (more ∙ ap (λ a. begun_group shape numrecs nodes arrays c.args.node group i ++ row shape a) (sym same)));
+          ∙ ap (with_file (held c.args.shelf.now) name)
+          (sym (more ∙ ap (λ a. begun_group shape numrecs nodes arrays c.args.node group i ++ row shape a) (sym same)));
       stream = c.in_ok-add.ensures.counted ∙ ap (λ (f : Stream). (record f { count = f.count + 1 })) c.loop-index.invariant.stream;
       none = c.in_ok-add.ensures.cause ∙ c.loop-index.invariant.none;
     }
@@ -132,7 +141,8 @@ returns-in_err-end-clause-err g c =
     let many : length group ≡ length (arrays_out nodes arrays c.args.node group) = sym (length-arrays_out nodes arrays c.args.node group c.requires.frames) in
     let whole = begun_group-whole shape (first_count c.args.late (length group)) nodes arrays c.args.node group i c.loop-index-test.false in
     let may = (rw c.loop-index.invariant.stream at c.in_err-end.ensures.err) in
-    rw p.1 (IsFileBegun-MayCount _ (g.K.Shelf.held c.loop-index.shelf) _ c.args.name.now shape c.args.late (arrays_out nodes arrays c.args.node group) (length group) i many
+    rw p.1 (IsFileBegun-MayCount _ (g.K.Shelf.held c.loop-index.shelf) _ c.args.name.now shape c.args.late
+    (arrays_out nodes arrays c.args.node group) (length group) i many
     (c.loop-index.invariant.files ∙ ap (with_file (g.K.Shelf.held c.args.shelf.now) c.args.name.now) whole) may)
 
 pub returns-clause-ok : goal.returns-clause-ok
@@ -147,5 +157,6 @@ returns-clause-ok g c =
     let end : i ≡ length group = omega (arith, c.loop-index-test.false, c.loop-index.auto.index-index-end) in
     let counted = (rw c.loop-index.invariant.stream at c.in_ok-end.ensures.ok) in
     counted ∙ ap (λ n. with_count (g.K.Shelf.held c.loop-index.shelf) c.args.name.now (first_count c.args.late (length group)) n) end
-    ∙ with_count-unended (g.K.Shelf.held c.args.shelf.now) (g.K.Shelf.held c.loop-index.shelf) c.args.name.now shape c.args.late (arrays_out nodes arrays c.args.node group) (length group) many
+    ∙ with_count-unended (g.K.Shelf.held c.args.shelf.now) (g.K.Shelf.held c.loop-index.shelf) c.args.name.now shape c.args.late
+    (arrays_out nodes arrays c.args.node group) (length group) many
     (c.loop-index.invariant.files ∙ ap (with_file (g.K.Shelf.held c.args.shelf.now) c.args.name.now) whole)

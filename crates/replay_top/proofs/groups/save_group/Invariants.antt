@@ -11,7 +11,8 @@ invariant-loop-index g l =
     let held = g.K.Shelf.held in
     let faults = g.K.Shelf.faults in
     record {
-      files : held l.shelf ≡ with_file (held l.fn.shelf) l.name (begun_file l.shape (first_count l.late (length l.group)) (arrays_out l.plan.graph.nodes l.stack.arrays l.node (take l.index-index l.group)));
+      files : held l.shelf ≡ with_file (held l.fn.shelf) l.name
+          (begun_file l.shape (first_count l.late (length l.group)) (arrays_out l.plan.graph.nodes l.stack.arrays l.node (take l.index-index l.group)));
       stream : l.file ≡ record { name = l.name; shape = l.shape; numrecs = first_count l.late (length l.group); room = length l.group; count = l.index-index };
       none : faults l.shelf ≡ faults l.fn.shelf;
     }

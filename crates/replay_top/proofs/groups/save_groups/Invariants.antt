@@ -20,6 +20,7 @@ invariant-loop-g g l =
       few : length rest ≤ length l.passed;
       size : chunks_size (enumerate_source l.g-iterator) ≡ l.rule.count;
       all : with_files (held l.shelf) (files (enumerate_count l.g-iterator) rest) ≡ with_files (held l.fn.shelf) (files 0 l.passed);
-      begun : (now : Option Files) → AreBegun (held l.shelf) (files (enumerate_count l.g-iterator) rest) now → AreBegun (held l.fn.shelf) (files 0 l.passed) now;
+      begun : (now : Option Files) → AreBegun (held l.shelf) (files (enumerate_count l.g-iterator) rest) now
+          → AreBegun (held l.fn.shelf) (files 0 l.passed) now;
       none : faults l.shelf ≡ faults l.fn.shelf;
     }

@@ -51,7 +51,8 @@ returns-in_ok-passed-in-File-clause-ok g c =
     let graph = c.args.plan.now.graph in
     let some : Some c.in-Some.rule.now ≡ rule_at graph.nodes c.args.node = c.in-Some.ensures ∙ ap (λ ns. rule_at ns c.args.node) c.as_slice.ensures in
     let same =
-    saved_groups graph c.args.stack.now c.args.node c.in-Some.rule.now c.requires.graph some c.args.prefix.now c.text-name.result.now c.deref.result.now c.in-File.file c.in-File.is
+    saved_groups graph c.args.stack.now c.args.node c.in-Some.rule.now c.requires.graph some c.args.prefix.now c.text-name.result.now
+    c.deref.result.now c.in-File.file c.in-File.is
     c.text-name.ensures (c.deref.ensures.value ∙ c.in_ok-passed-in-File.ensures.value) in
     on_ok_weaker c.save_groups.result (λ h. h ∙ ap (with_files (g.K.Shelf.held c.args.shelf.now)) same) c.save_groups.ensures.ok
 
@@ -60,20 +61,27 @@ returns-in_ok-passed-in-File-clause-err g c =
     let graph = c.args.plan.now.graph in
     let some : Some c.in-Some.rule.now ≡ rule_at graph.nodes c.args.node = c.in-Some.ensures ∙ ap (λ ns. rule_at ns c.args.node) c.as_slice.ensures in
     let same =
-    saved_groups graph c.args.stack.now c.args.node c.in-Some.rule.now c.requires.graph some c.args.prefix.now c.text-name.result.now c.deref.result.now c.in-File.file c.in-File.is
+    saved_groups graph c.args.stack.now c.args.node c.in-Some.rule.now c.requires.graph some c.args.prefix.now c.text-name.result.now
+    c.deref.result.now c.in-File.file c.in-File.is
     c.text-name.ensures (c.deref.ensures.value ∙ c.in_ok-passed-in-File.ensures.value) in
-    on_err_weaker c.save_groups.result (λ h. subst (λ (fs : List OutFile). AreBegun (g.K.Shelf.held c.args.shelf.now) fs (g.K.Shelf.held c.save_groups.new.shelf)) same h) c.save_groups.ensures.err
+    on_err_weaker c.save_groups.result (λ h.
+    subst (λ (fs : List OutFile). AreBegun (g.K.Shelf.held c.args.shelf.now) fs (g.K.Shelf.held c.save_groups.new.shelf)) same h) c.save_groups.ensures.err
 
 pub returns-in-Stats-clause-ok : goal.returns-in-Stats-clause-ok
 returns-in-Stats-clause-ok g c =
     let graph = c.args.plan.now.graph in
     let some : Some c.in-Some.rule.now ≡ rule_at graph.nodes c.args.node = c.in-Some.ensures ∙ ap (λ ns. rule_at ns c.args.node) c.as_slice.ensures in
-    let same = saved_rows graph c.args.stack.now c.args.node c.in-Some.rule.now c.requires.graph some c.args.prefix.now c.text-name.result.now c.in-Stats.stats c.in-Stats.is c.text-name.ensures in
+    let same =
+    saved_rows graph c.args.stack.now c.args.node c.in-Some.rule.now c.requires.graph some c.args.prefix.now c.text-name.result.now c.in-Stats.stats
+    c.in-Stats.is c.text-name.ensures in
     on_ok_weaker c.save_stats.result (λ h. h ∙ ap (with_files (g.K.Shelf.held c.args.shelf.now)) same) c.save_stats.ensures.ok
 
 pub returns-in-Stats-clause-err : goal.returns-in-Stats-clause-err
 returns-in-Stats-clause-err g c =
     let graph = c.args.plan.now.graph in
     let some : Some c.in-Some.rule.now ≡ rule_at graph.nodes c.args.node = c.in-Some.ensures ∙ ap (λ ns. rule_at ns c.args.node) c.as_slice.ensures in
-    let same = saved_rows graph c.args.stack.now c.args.node c.in-Some.rule.now c.requires.graph some c.args.prefix.now c.text-name.result.now c.in-Stats.stats c.in-Stats.is c.text-name.ensures in
-    on_err_weaker c.save_stats.result (λ h. subst (λ (fs : List OutFile). AreBegun (g.K.Shelf.held c.args.shelf.now) fs (g.K.Shelf.held c.save_stats.new.shelf)) same (inl (Unended h))) c.save_stats.ensures.err
+    let same =
+    saved_rows graph c.args.stack.now c.args.node c.in-Some.rule.now c.requires.graph some c.args.prefix.now c.text-name.result.now c.in-Stats.stats
+    c.in-Stats.is c.text-name.ensures in
+    on_err_weaker c.save_stats.result (λ h. subst (λ (fs : List OutFile). AreBegun (g.K.Shelf.held c.args.shelf.now) fs (g.K.Shelf.held c.save_stats.new.shelf))
+    same (inl (Unended h))) c.save_stats.ensures.err

@@ -25,13 +25,15 @@ pub returns-in_default-clause-within : goal.returns-in_default-clause-within
 returns-in_default-clause-within t c =
     let g = c.args.plan.now.graph in
     let s = c.args.stack.now in
-    IfOk-weaker c.all_frames.result _ _ (λ v (is : v.items ≡ passed g s c.args.node). subst (All (λ k. k < length s.arrays)) (sym is) (passed-frames g s c.args.node)) (returns-in_default-clause-value t c)
+    IfOk-weaker c.all_frames.result _ _ (λ v (is : v.items ≡ passed g s c.args.node). subst (All (λ k. k < length s.arrays)) (sym is)
+    (passed-frames g s c.args.node)) (returns-in_default-clause-value t c)
 
 pub returns-in_default-clause-few : goal.returns-in_default-clause-few
 returns-in_default-clause-few t c =
     let g = c.args.plan.now.graph in
     let s = c.args.stack.now in
-    IfOk-weaker c.all_frames.result _ _ (λ v (is : v.items ≡ passed g s c.args.node). subst (λ (ks : List ℕ). length ks ≤ length s.arrays) (sym is) (passed-few g s c.args.node)) (returns-in_default-clause-value t c)
+    IfOk-weaker c.all_frames.result _ _ (λ v (is : v.items ≡ passed g s c.args.node). subst (λ (ks : List ℕ). length ks ≤ length s.arrays) (sym is)
+    (passed-few g s c.args.node)) (returns-in_default-clause-value t c)
 
 pub returns-clause-value : goal.returns-clause-value
 returns-clause-value t c =
@@ -47,10 +49,12 @@ pub returns-clause-within : goal.returns-clause-within
 returns-clause-within t c =
     let g = c.args.plan.now.graph in
     let s = c.args.stack.now in
-    IfOk-weaker c.plain_outputs.result _ _ (λ v (is : v.items ≡ passed g s c.args.node). subst (All (λ k. k < length s.arrays)) (sym is) (passed-frames g s c.args.node)) (returns-clause-value t c)
+    IfOk-weaker c.plain_outputs.result _ _
+    (λ v (is : v.items ≡ passed g s c.args.node). subst (All (λ k. k < length s.arrays)) (sym is) (passed-frames g s c.args.node)) (returns-clause-value t c)
 
 pub returns-clause-few : goal.returns-clause-few
 returns-clause-few t c =
     let g = c.args.plan.now.graph in
     let s = c.args.stack.now in
-    IfOk-weaker c.plain_outputs.result _ _ (λ v (is : v.items ≡ passed g s c.args.node). subst (λ (ks : List ℕ). length ks ≤ length s.arrays) (sym is) (passed-few g s c.args.node)) (returns-clause-value t c)
+    IfOk-weaker c.plain_outputs.result _ _ (λ v (is : v.items ≡ passed g s c.args.node). subst (λ (ks : List ℕ). length ks ≤ length s.arrays) (sym is)
+    (passed-few g s c.args.node)) (returns-clause-value t c)

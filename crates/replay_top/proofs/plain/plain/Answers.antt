@@ -16,8 +16,10 @@ returns-in-Err-check_load-clause-ends g c =
     let same : graph ≡ c.in-Ok.graph = ap (λ (p : Plan). p.graph) c.in-Ok-plan.ensures in
     let rules : IsGraphRead told c.args.graph.now graph = rw same c.in-Ok.ensures.ok in
     let source : IsStackRead told c.args.name.now stack = (rw c.in-Ok.ensures.files at c.in-Ok-load_stack.ensures.ok.source) in
-    let is : limit_fault graph stack ≡ Some c.in-Err-check_load.fault = fault_in (limit_fault graph stack) c.in-Err-check_load.fault c.in-Err-check_load.ensures in (
-      passed-run told (Plain c.args.graph.now c.args.name.now c.args.prefix.now) (record { graph = graph; stack = stack }) c.in-Err-check_load.fault (rules, source) is is,
+    let is : limit_fault graph stack ≡ Some c.in-Err-check_load.fault =
+    fault_in (limit_fault graph stack) c.in-Err-check_load.fault c.in-Err-check_load.ensures in (
+      passed-run told (Plain c.args.graph.now c.args.name.now c.args.prefix.now)
+      (record { graph = graph; stack = stack }) c.in-Err-check_load.fault (rules, source) is is,
       refl,
       refl,
     )

@@ -21,4 +21,5 @@ returns-clause-bytes g c =
 
 pub returns-then-size-limit-clause-refused : goal.returns-then-size-limit-clause-refused
 returns-then-size-limit-clause-refused g c =
-    (c.if-size-limit.true, sized (g.L.Library.holds c.args.library.now) c.args.name.now c.in_ok-size.size c.in_ok-size.ensures.known c.in_ok-size.ensures.size, c.in_ok-size.ensures.cause)
+    (c.if-size-limit.true, sized (g.L.Library.holds c.args.library.now) c.args.name.now c.in_ok-size.size c.in_ok-size.ensures.known c.in_ok-size.ensures.size,
+    c.in_ok-size.ensures.cause)

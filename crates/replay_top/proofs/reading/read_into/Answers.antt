@@ -10,5 +10,7 @@ loop-at-preserved g c =
       within = written_within c.loop-at.buf c.read_at.new.buf _ c.loop-at.at c.in_ok-count.count i.within e.bound;
       same = c.read_at.ensures.files ∙ i.same;
       none = e.cause ∙ i.none;
-      bytes = λ file told. take-written c.loop-at.buf c.read_at.new.buf _ file c.loop-at.at c.in_ok-count.count i.within e.bound (i.bytes file told) (e.bytes file (rw i.same told));
+      bytes =
+          λ file told. take-written c.loop-at.buf c.read_at.new.buf _ file c.loop-at.at c.in_ok-count.count i.within e.bound
+          (i.bytes file told) (e.bytes file (rw i.same told));
     }

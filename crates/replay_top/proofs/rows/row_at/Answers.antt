@@ -16,7 +16,9 @@ returns c =
     let fits : FitsSigned w32 id = search rules in
     let measured : c.in_ok-measured.measured ≡ measure_of_array rule array =
     c.in_ok-measured.ensures
-    ∙ measure_of-array rule array _ c.kind.result c.dims.result.now c.bytes.result.now (to_z-of_z w32 id fits ∙ c.head.ensures.id) c.kind.ensures c.dims.ensures.value c.bytes.ensures.samples in
+    ∙ measure_of-array rule array _ c.kind.result c.dims.result.now c.bytes.result.now
+    (to_z-of_z w32 id fits ∙ c.head.ensures.id) c.kind.ensures c.dims.ensures.value c.bytes.ensures.samples in
     let one = rows_out-one rule nodes arrays c.args.node c.args.position array c.in_ok-array.ensures in
-    IfOk-weaker c.row_text.result (λ text. string_bytes text ≡ row c.in_ok-measured.measured) (λ text. string_bytes text ≡ rows_out rule nodes arrays c.args.node (c.args.position ∷ []))
+    IfOk-weaker c.row_text.result (λ text. string_bytes text ≡ row c.in_ok-measured.measured)
+    (λ text. string_bytes text ≡ rows_out rule nodes arrays c.args.node (c.args.position ∷ []))
     (λ text is. is ∙ ap row measured ∙ sym one) c.row_text.ensures

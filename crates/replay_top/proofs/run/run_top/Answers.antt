@@ -6,4 +6,5 @@ use Rattle.replay_top.proofs.run.run_top.Goals as goal
 pub returns-in-Some-clause-complete : goal.returns-in-Some-clause-complete
 returns-in-Some-clause-complete g c some none =
     rw c.in-Some.ensures
-    (answered_run c.run_words.result.status c.run_words.result.log (Some (run_told c.in-Some.words)) _ _ _ c.run_words.ensures.ends c.run_words.ensures.cause (λ e. cc) none)
+    (answered_run c.run_words.result.status c.run_words.result.log
+    (Some (run_told c.in-Some.words)) _ _ _ c.run_words.ensures.ends c.run_words.ensures.cause (λ e. cc) none)

@@ -13,7 +13,8 @@ returns-in-Err-clause-ends g c =
 
 pub finish-requires-clause-measures : goal.finish-requires-clause-measures
 finish-requires-clause-measures g c =
-    length-measured c.in-Ok.loaded.0.graph c.in-Ok.loaded.1 c.in-Ok-run_plan.history.log.past c.in-Ok-run_plan.history.measures c.in-Ok-run_plan.ensures.measures
+    length-measured c.in-Ok.loaded.0.graph c.in-Ok.loaded.1 c.in-Ok-run_plan.history.log.past
+    c.in-Ok-run_plan.history.measures c.in-Ok-run_plan.ensures.measures
 
 pub returns : goal.returns
 returns g c =
@@ -31,5 +32,6 @@ returns g c =
           (ap (λ p. report_text graph (report p P)) c.in-Ok.ensures.plan) c.finish.ensures.ends;
       cause =
           rw c.in-Ok.ensures.stays
-          (IsRunCause-rest c.finish.result history.fault _ _ _ _ _ _ _ _ (g.K.Shelf.faults c.run_plan.new.shelf) _ _ _ c.finish.ensures.ends h.fault c.finish.ensures.cause);
+          (IsRunCause-rest c.finish.result history.fault _ _ _ _ _ _ _ _
+          (g.K.Shelf.faults c.run_plan.new.shelf) _ _ _ c.finish.ensures.ends h.fault c.finish.ensures.cause);
     }

@@ -23,14 +23,16 @@ pub returns-in_err-append-clause-err : goal.returns-in_err-append-clause-err
 returns-in_err-append-clause-err g c =
     let p = err_from_is_err_and c.from_residual-in_err-append.result c.from_residual-in_err-append.ensures.1 in
     rw p.1 (rows-part c.args.measures.now c.loop-measure.measure-index _ _ c.args.name.now c.loop-measure.invariant.files
-    _ c.measure-item.result c.as_bytes.result.now c.loop-measure-test.true (c.as_bytes.ensures.value ∙ c.in_ok-row.ensures ∙ ap row c.measure-item.is) c.in_err-append.ensures.err)
+    _ c.measure-item.result c.as_bytes.result.now c.loop-measure-test.true
+    (c.as_bytes.ensures.value ∙ c.in_ok-row.ensures ∙ ap row c.measure-item.is) c.in_err-append.ensures.err)
 
 pub loop-measure-preserved : goal.loop-measure-preserved
 loop-measure-preserved g c =
     record {
       files =
           rows-added c.args.measures.now c.loop-measure.measure-index _ _ c.args.name.now c.loop-measure.invariant.files
-          _ c.measure-item.result c.as_bytes.result.now c.loop-measure-test.true (c.as_bytes.ensures.value ∙ c.in_ok-row.ensures ∙ ap row c.measure-item.is) c.in_ok-append.ensures.ok;
+          _ c.measure-item.result c.as_bytes.result.now c.loop-measure-test.true
+          (c.as_bytes.ensures.value ∙ c.in_ok-row.ensures ∙ ap row c.measure-item.is) c.in_ok-append.ensures.ok;
       none = c.in_ok-append.ensures.cause ∙ c.loop-measure.invariant.none;
     }
 

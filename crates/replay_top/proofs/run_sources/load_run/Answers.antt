@@ -17,5 +17,7 @@ returns-in-Err-check_load-clause-err g c =
     let same : graph ≡ c.in-Ok.graph = ap (λ (p : Plan). p.graph) c.in-Ok-plan.ensures in
     let rules : IsGraphRead told c.args.graph.now graph = rw same c.in-Ok.ensures.ok in
     let source : IsStackRead told c.args.name.now stack = (rw c.in-Ok.ensures.files at c.in-Ok-load_stack.ensures.ok.source) in
-    let is : limit_fault graph stack ≡ Some c.in-Err-check_load.fault = fault_in (limit_fault graph stack) c.in-Err-check_load.fault c.in-Err-check_load.ensures in
-    SourceStops-limit c.in-Err-check_load.fault told c.args.graph.now c.args.name.now graph stack _ _ rules source is (c.in-Ok-load_stack.ensures.stays ∙ c.in-Ok.ensures.stays)
+    let is : limit_fault graph stack ≡ Some c.in-Err-check_load.fault =
+    fault_in (limit_fault graph stack) c.in-Err-check_load.fault c.in-Err-check_load.ensures in
+    SourceStops-limit c.in-Err-check_load.fault told c.args.graph.now c.args.name.now graph stack _ _ rules source is
+    (c.in-Ok-load_stack.ensures.stays ∙ c.in-Ok.ensures.stays)

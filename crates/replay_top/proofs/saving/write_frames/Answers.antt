@@ -25,7 +25,8 @@ returns-in_err-file-clause-err g c =
     let s = c.args.stack.now in
     let shape_is : c.in_ok-shape.shape ≡ copy_shape s = c.in_ok-shape.ensures ∙ ap (λ (sh : FileShape). record sh { form = Classic }) c.shape.ensures.value in
     let stops = (rw (shape_is, c.frames-frames.ensures) at c.in_err-file.ensures.err) in
-    rw p.1 (IsBegun-BeginStops c.in_err-file.field-0.0 _ _ c.args.name.now (header (copy_shape s) (Some (length s.arrays))) (flat_map (row (copy_shape s)) s.arrays) (copy_file s) refl stops)
+    rw p.1 (IsBegun-BeginStops c.in_err-file.field-0.0 _ _ c.args.name.now (header (copy_shape s) (Some (length s.arrays)))
+    (flat_map (row (copy_shape s)) s.arrays) (copy_file s) refl stops)
 
 pub add-requires-clause-row : goal.add-requires-clause-row
 add-requires-clause-row g c =
@@ -35,8 +36,10 @@ add-requires-clause-row g c =
     let head = c.head.result.now in
     let within : k < length s.arrays = omega (arith, c.loop-k-test.true, c.frames-frames.ensures) in
     let array = array_of head s.shape.kind s.shape.dims out in
-    let found : slice_get s.arrays k ≡ Some array = frame-rebuilt s.arrays s.shape k head out within c.shape.ensures.sound.frames c.head.ensures c.frame.ensures.samples in
-    let columns : HasColumns s.shape head.attrs = subst (λ (a : Array). HasColumns s.shape a.attrs) (get_or_from_slice_get s.arrays k array array found) (c.requires.kept.each k array within).attrs in
+    let found : slice_get s.arrays k ≡ Some array =
+    frame-rebuilt s.arrays s.shape k head out within c.shape.ensures.sound.frames c.head.ensures c.frame.ensures.samples in
+    let columns : HasColumns s.shape head.attrs =
+    subst (λ (a : Array). HasColumns s.shape a.attrs) (get_or_from_slice_get s.arrays k array array found) (c.requires.kept.each k array within).attrs in
     rw c.loop-k.invariant.stream (record { columns = record { same = columns.same; texts = columns.texts }; samples = c.frame.ensures.size })
 
 pub add-requires-clause-stands : goal.add-requires-clause-stands
@@ -52,10 +55,12 @@ returns-in_err-add-clause-err g c =
     let head = c.head.result.now in
     let within : k < length s.arrays = omega (arith, c.loop-k-test.true, c.frames-frames.ensures) in
     let array = array_of head s.shape.kind s.shape.dims out in
-    let found : slice_get s.arrays k ≡ Some array = frame-rebuilt s.arrays s.shape k head out within c.shape.ensures.sound.frames c.head.ensures c.frame.ensures.samples in
+    let found : slice_get s.arrays k ≡ Some array =
+    frame-rebuilt s.arrays s.shape k head out within c.shape.ensures.sound.frames c.head.ensures c.frame.ensures.samples in
     let others = copy_file-front s (k + 1) in
     let stops = (rw c.loop-k.invariant.stream at c.in_err-add.ensures.err) in
-    rw p.1 (IsBegun-AddStops c.in_err-add.field-0.0 _ (g.K.Shelf.held c.loop-k.shelf) _ c.args.name.now (begun_copy s k) (row (copy_shape s) array) others.0 (copy_file s)
+    rw p.1 (IsBegun-AddStops c.in_err-add.field-0.0 _ (g.K.Shelf.held c.loop-k.shelf) _ c.args.name.now (begun_copy s k)
+    (row (copy_shape s) array) others.0 (copy_file s)
     (others.1 ∙ ap (λ bytes. bytes ++ others.0) (begun_copy-more s k array within found)) c.loop-k.invariant.files stops)
 
 pub loop-k-preserved : goal.loop-k-preserved
@@ -68,7 +73,8 @@ loop-k-preserved g c =
     let head = c.head.result.now in
     let within : k < length s.arrays = omega (arith, c.loop-k-test.true, c.frames-frames.ensures) in
     let array = array_of head s.shape.kind s.shape.dims out in
-    let found : slice_get s.arrays k ≡ Some array = frame-rebuilt s.arrays s.shape k head out within c.shape.ensures.sound.frames c.head.ensures c.frame.ensures.samples in
+    let found : slice_get s.arrays k ≡ Some array =
+    frame-rebuilt s.arrays s.shape k head out within c.shape.ensures.sound.frames c.head.ensures c.frame.ensures.samples in
     let added = (rw c.loop-k.invariant.stream at c.in_ok-add.ensures.ok) in
     record {
       files =
@@ -82,7 +88,8 @@ loop-k-preserved g c =
 pub end-requires-clause-stands : goal.end-requires-clause-stands
 end-requires-clause-stands g c =
     let s = c.args.stack.now in
-    rw (c.loop-k.invariant.stream, c.loop-k.invariant.files) (HasRange-begun_file (g.K.Shelf.held c.args.shelf.now) c.args.name.now (copy_shape s) (Some (length s.arrays)) (take c.loop-k.k s.arrays))
+    rw (c.loop-k.invariant.stream, c.loop-k.invariant.files)
+    (HasRange-begun_file (g.K.Shelf.held c.args.shelf.now) c.args.name.now (copy_shape s) (Some (length s.arrays)) (take c.loop-k.k s.arrays))
 
 pub returns-in_err-end-clause-err : goal.returns-in_err-end-clause-err
 returns-in_err-end-clause-err g c =
@@ -90,4 +97,5 @@ returns-in_err-end-clause-err g c =
     let s = c.args.stack.now in
     let same = (rw c.loop-k.invariant.stream at c.in_err-end.ensures.err) in
     rw p.1 (IsBegun-whole _ _ c.args.name.now _ (same ∙ c.loop-k.invariant.files
-    ∙ ap (with_file (g.K.Shelf.held c.args.shelf.now) c.args.name.now) (begun_copy-whole s c.loop-k.k (omega (arith, c.loop-k-test.false, c.frames-frames.ensures)))))
+    ∙ ap (with_file (g.K.Shelf.held c.args.shelf.now) c.args.name.now)
+    (begun_copy-whole s c.loop-k.k (omega (arith, c.loop-k-test.false, c.frames-frames.ensures)))))

@@ -26,7 +26,8 @@ storage_for-requires g c =
     let gr = c.args.grant in
     let board : IsBoard parts_ s w t = c.self.invariant in
     let none = subst (λ (b : BoardState). load_refusal {B = g.row.F-Blank.Denot} s c.args.role (past b) ≡ None) (sym c.self.view_is) c.requires.allowed in
-    let given : grant s (past w.told) (s.need 0) ≡ Granted gr.block gr.size gr.fresh gr.given_up = subst (λ (b : BoardState). grant s (past b) (s.need 0) ≡ Granted gr.block gr.size gr.fresh gr.given_up) (sym c.self.view_is) c.requires.granted in
+    let given : grant s (past w.told) (s.need 0) ≡ Granted gr.block gr.size gr.fresh gr.given_up =
+    subst (λ (b : BoardState). grant s (past b) (s.need 0) ≡ Granted gr.block gr.size gr.fresh gr.given_up) (sym c.self.view_is) c.requires.granted in
     let i : IsGranted parts_ s w.told t (s.need 0) gr.block gr.size gr.fresh gr.given_up = record { run = board.run; holds = board.holds; granted = given } in
     (grant_laws parts_).next s w.told t (s.need 0) gr.block gr.size gr.fresh gr.given_up i
 
@@ -40,9 +41,11 @@ invariant_of-self g c =
     let gr = c.args.grant in
     let board : IsBoard parts_ s w t = c.self.invariant in
     let none = subst (λ (b : BoardState). load_refusal {B = g.row.F-Blank.Denot} s c.args.role (past b) ≡ None) (sym c.self.view_is) c.requires.allowed in
-    let given : grant s (past w.told) (s.need 0) ≡ Granted gr.block gr.size gr.fresh gr.given_up = subst (λ (b : BoardState). grant s (past b) (s.need 0) ≡ Granted gr.block gr.size gr.fresh gr.given_up) (sym c.self.view_is) c.requires.granted in
+    let given : grant s (past w.told) (s.need 0) ≡ Granted gr.block gr.size gr.fresh gr.given_up =
+    subst (λ (b : BoardState). grant s (past b) (s.need 0) ≡ Granted gr.block gr.size gr.fresh gr.given_up) (sym c.self.view_is) c.requires.granted in
     let i : IsGranted parts_ s w.told t (s.need 0) gr.block gr.size gr.fresh gr.given_up = record { run = board.run; holds = board.holds; granted = given } in
-    board-same parts_ s w w t c.storage_for.new.table board refl (not-stored-holds parts_ (grant_laws parts_) s w.told t c.storage_for.new.table (s.need 0) gr.block gr.size gr.fresh gr.given_up i c.in_default.ensures.refused)
+    board-same parts_ s w w t c.storage_for.new.table board refl (not-stored-holds parts_ (grant_laws parts_) s w.told t c.storage_for.new.table
+    (s.need 0) gr.block gr.size gr.fresh gr.given_up i c.in_default.ensures.refused)
 
 pub returns-in_default-clause-gives : goal.returns-in_default-clause-gives
 returns-in_default-clause-gives g c =
@@ -54,10 +57,12 @@ returns-in_default-clause-gives g c =
     let gr = c.args.grant in
     let board : IsBoard parts_ s w t = c.self.invariant in
     let none = subst (λ (b : BoardState). load_refusal {B = g.row.F-Blank.Denot} s c.args.role (past b) ≡ None) (sym c.self.view_is) c.requires.allowed in
-    let given : grant s (past w.told) (s.need 0) ≡ Granted gr.block gr.size gr.fresh gr.given_up = subst (λ (b : BoardState). grant s (past b) (s.need 0) ≡ Granted gr.block gr.size gr.fresh gr.given_up) (sym c.self.view_is) c.requires.granted in
+    let given : grant s (past w.told) (s.need 0) ≡ Granted gr.block gr.size gr.fresh gr.given_up =
+    subst (λ (b : BoardState). grant s (past b) (s.need 0) ≡ Granted gr.block gr.size gr.fresh gr.given_up) (sym c.self.view_is) c.requires.granted in
     let i : IsGranted parts_ s w.told t (s.need 0) gr.block gr.size gr.fresh gr.given_up = record { run = board.run; holds = board.holds; granted = given } in
     subst (λ (b : BoardState). LoadGives parts_ bytes s b c.args.role c.args.tick load.OutOfMemory w.told) c.self.view_is
-    (no_memory-gives parts_ bytes s w.told w.told c.args.role c.args.tick gr.block gr.size gr.fresh gr.given_up none given (not-stored-wants parts_ (grant_laws parts_) s w.told t c.storage_for.new.table (s.need 0) gr.block gr.size gr.fresh gr.given_up i c.in_default.ensures.refused) refl)
+    (no_memory-gives parts_ bytes s w.told w.told c.args.role c.args.tick gr.block gr.size gr.fresh gr.given_up none given (not-stored-wants parts_
+    (grant_laws parts_) s w.told t c.storage_for.new.table (s.need 0) gr.block gr.size gr.fresh gr.given_up i c.in_default.ensures.refused) refl)
 
 pub invariant_of-self-in_default-load : goal.invariant_of-self-in_default-load
 invariant_of-self-in_default-load g c =
@@ -69,10 +74,12 @@ invariant_of-self-in_default-load g c =
     let gr = c.args.grant in
     let board : IsBoard parts_ s w t = c.self.invariant in
     let none = subst (λ (b : BoardState). load_refusal {B = g.row.F-Blank.Denot} s c.args.role (past b) ≡ None) (sym c.self.view_is) c.requires.allowed in
-    let given : grant s (past w.told) (s.need 0) ≡ Granted gr.block gr.size gr.fresh gr.given_up = subst (λ (b : BoardState). grant s (past b) (s.need 0) ≡ Granted gr.block gr.size gr.fresh gr.given_up) (sym c.self.view_is) c.requires.granted in
+    let given : grant s (past w.told) (s.need 0) ≡ Granted gr.block gr.size gr.fresh gr.given_up =
+    subst (λ (b : BoardState). grant s (past b) (s.need 0) ≡ Granted gr.block gr.size gr.fresh gr.given_up) (sym c.self.view_is) c.requires.granted in
     let i : IsGranted parts_ s w.told t (s.need 0) gr.block gr.size gr.fresh gr.given_up = record { run = board.run; holds = board.holds; granted = given } in
     let refused = c.in_default-load.ensures.refused in
-    board-same parts_ s w c.load.new.self t c.storage_for.new.table board refused.0 (fresh-holds parts_ (grant_laws parts_) s w.told t c.storage_for.new.table gr.block gr.fresh board.holds refused.1 c.in-Ok.ensures.place)
+    board-same parts_ s w c.load.new.self t c.storage_for.new.table board refused.0
+    (fresh-holds parts_ (grant_laws parts_) s w.told t c.storage_for.new.table gr.block gr.fresh board.holds refused.1 c.in-Ok.ensures.place)
 
 pub forget-requires : goal.forget-requires
 forget-requires g c =
@@ -84,9 +91,11 @@ forget-requires g c =
     let gr = c.args.grant in
     let board : IsBoard parts_ s w t = c.self.invariant in
     let none = subst (λ (b : BoardState). load_refusal {B = g.row.F-Blank.Denot} s c.args.role (past b) ≡ None) (sym c.self.view_is) c.requires.allowed in
-    let given : grant s (past w.told) (s.need 0) ≡ Granted gr.block gr.size gr.fresh gr.given_up = subst (λ (b : BoardState). grant s (past b) (s.need 0) ≡ Granted gr.block gr.size gr.fresh gr.given_up) (sym c.self.view_is) c.requires.granted in
+    let given : grant s (past w.told) (s.need 0) ≡ Granted gr.block gr.size gr.fresh gr.given_up =
+    subst (λ (b : BoardState). grant s (past b) (s.need 0) ≡ Granted gr.block gr.size gr.fresh gr.given_up) (sym c.self.view_is) c.requires.granted in
     let i : IsGranted parts_ s w.told t (s.need 0) gr.block gr.size gr.fresh gr.given_up = record { run = board.run; holds = board.holds; granted = given } in
-    subst (λ (u : List Kept). gr.block < length u) (sym c.in-Ok.ensures.place) (storage-there gr.block gr.fresh t ((grant_laws parts_).next s w.told t (s.need 0) gr.block gr.size gr.fresh gr.given_up i))
+    subst (λ (u : List Kept). gr.block < length u) (sym c.in-Ok.ensures.place)
+    (storage-there gr.block gr.fresh t ((grant_laws parts_).next s w.told t (s.need 0) gr.block gr.size gr.fresh gr.given_up i))
 
 pub invariant_of-self-2 : goal.invariant_of-self-2
 invariant_of-self-2 g c =
@@ -98,12 +107,14 @@ invariant_of-self-2 g c =
     let gr = c.args.grant in
     let board : IsBoard parts_ s w t = c.self.invariant in
     let none = subst (λ (b : BoardState). load_refusal {B = g.row.F-Blank.Denot} s c.args.role (past b) ≡ None) (sym c.self.view_is) c.requires.allowed in
-    let given : grant s (past w.told) (s.need 0) ≡ Granted gr.block gr.size gr.fresh gr.given_up = subst (λ (b : BoardState). grant s (past b) (s.need 0) ≡ Granted gr.block gr.size gr.fresh gr.given_up) (sym c.self.view_is) c.requires.granted in
+    let given : grant s (past w.told) (s.need 0) ≡ Granted gr.block gr.size gr.fresh gr.given_up =
+    subst (λ (b : BoardState). grant s (past b) (s.need 0) ≡ Granted gr.block gr.size gr.fresh gr.given_up) (sym c.self.view_is) c.requires.granted in
     let i : IsGranted parts_ s w.told t (s.need 0) gr.block gr.size gr.fresh gr.given_up = record { run = board.run; holds = board.holds; granted = given } in
     let blank = c.in-Ok.field-0.blank in
     let l : LoadsOn parts_ bytes s w t c.args.role gr.block gr.size gr.fresh gr.given_up c.in-Ok.field-0.regrown blank =
     record { board = board; role = c.requires.role; allowed = none; granted = given; size = c.in-Ok.ensures.size; remade = c.in-Ok.ensures.regrown } in
-    loaded-board parts_ bytes (grant_laws parts_) s w c.load.new.self t c.forget.new.self c.args.role c.args.tick gr.block gr.size gr.fresh gr.given_up c.in-Ok.field-0.regrown blank l c.in-Ok-load.ensures.loaded
+    loaded-board parts_ bytes (grant_laws parts_) s w c.load.new.self t c.forget.new.self c.args.role c.args.tick gr.block gr.size gr.fresh gr.given_up
+    c.in-Ok.field-0.regrown blank l c.in-Ok-load.ensures.loaded
     (c.forget.ensures ∙ ap (λ (u : List Kept). with_kept u gr.block Empty) c.in-Ok.ensures.place)
 
 pub returns-clause-gives : goal.returns-clause-gives
@@ -116,13 +127,16 @@ returns-clause-gives g c =
     let gr = c.args.grant in
     let board : IsBoard parts_ s w t = c.self.invariant in
     let none = subst (λ (b : BoardState). load_refusal {B = g.row.F-Blank.Denot} s c.args.role (past b) ≡ None) (sym c.self.view_is) c.requires.allowed in
-    let given : grant s (past w.told) (s.need 0) ≡ Granted gr.block gr.size gr.fresh gr.given_up = subst (λ (b : BoardState). grant s (past b) (s.need 0) ≡ Granted gr.block gr.size gr.fresh gr.given_up) (sym c.self.view_is) c.requires.granted in
+    let given : grant s (past w.told) (s.need 0) ≡ Granted gr.block gr.size gr.fresh gr.given_up =
+    subst (λ (b : BoardState). grant s (past b) (s.need 0) ≡ Granted gr.block gr.size gr.fresh gr.given_up) (sym c.self.view_is) c.requires.granted in
     let i : IsGranted parts_ s w.told t (s.need 0) gr.block gr.size gr.fresh gr.given_up = record { run = board.run; holds = board.holds; granted = given } in
     let blank = c.in-Ok.field-0.blank in
     let l : LoadsOn parts_ bytes s w t c.args.role gr.block gr.size gr.fresh gr.given_up c.in-Ok.field-0.regrown blank =
     record { board = board; role = c.requires.role; allowed = none; granted = given; size = c.in-Ok.ensures.size; remade = c.in-Ok.ensures.regrown } in
-    subst (λ (b : BoardState). LoadGives parts_ bytes s b c.args.role c.args.tick (load.Loaded c.next_index-index.result blank) c.load.new.self.told) c.self.view_is
-    (loaded-gives parts_ bytes (grant_laws parts_) s w t c.args.role c.args.tick gr.block gr.size gr.fresh gr.given_up c.in-Ok.field-0.regrown blank c.next_index-index.result c.load.new.self.told l c.next_index-index.ensures (ap (λ (x : Coursed). x.told) c.in-Ok-load.ensures.loaded))
+    subst (λ (b : BoardState). LoadGives parts_ bytes s b c.args.role c.args.tick (load.Loaded c.next_index-index.result blank) c.load.new.self.told)
+    c.self.view_is
+    (loaded-gives parts_ bytes (grant_laws parts_) s w t c.args.role c.args.tick gr.block gr.size gr.fresh gr.given_up c.in-Ok.field-0.regrown blank
+    c.next_index-index.result c.load.new.self.told l c.next_index-index.ensures (ap (λ (x : Coursed). x.told) c.in-Ok-load.ensures.loaded))
 
 pub returns-clause-room : goal.returns-clause-room
 returns-clause-room g c =
@@ -134,9 +148,11 @@ returns-clause-room g c =
     let gr = c.args.grant in
     let board : IsBoard parts_ s w t = c.self.invariant in
     let none = subst (λ (b : BoardState). load_refusal {B = g.row.F-Blank.Denot} s c.args.role (past b) ≡ None) (sym c.self.view_is) c.requires.allowed in
-    let given : grant s (past w.told) (s.need 0) ≡ Granted gr.block gr.size gr.fresh gr.given_up = subst (λ (b : BoardState). grant s (past b) (s.need 0) ≡ Granted gr.block gr.size gr.fresh gr.given_up) (sym c.self.view_is) c.requires.granted in
+    let given : grant s (past w.told) (s.need 0) ≡ Granted gr.block gr.size gr.fresh gr.given_up =
+    subst (λ (b : BoardState). grant s (past b) (s.need 0) ≡ Granted gr.block gr.size gr.fresh gr.given_up) (sym c.self.view_is) c.requires.granted in
     let i : IsGranted parts_ s w.told t (s.need 0) gr.block gr.size gr.fresh gr.given_up = record { run = board.run; holds = board.holds; granted = given } in
     let blank = c.in-Ok.field-0.blank in
     let l : LoadsOn parts_ bytes s w t c.args.role gr.block gr.size gr.fresh gr.given_up c.in-Ok.field-0.regrown blank =
     record { board = board; role = c.requires.role; allowed = none; granted = given; size = c.in-Ok.ensures.size; remade = c.in-Ok.ensures.regrown } in
-    loaded-room parts_ bytes (look_laws parts_) s w t c.args.role c.args.tick gr.block gr.size gr.fresh gr.given_up c.in-Ok.field-0.regrown blank c.next_index-index.result c.load.new.self.told l (ap (λ (x : Coursed). x.told) c.in-Ok-load.ensures.loaded)
+    loaded-room parts_ bytes (look_laws parts_) s w t c.args.role c.args.tick gr.block gr.size gr.fresh gr.given_up c.in-Ok.field-0.regrown blank
+    c.next_index-index.result c.load.new.self.told l (ap (λ (x : Coursed). x.told) c.in-Ok-load.ensures.loaded)

@@ -28,9 +28,11 @@ keep_grant-lost-requires g c =
     let board : IsBoard parts_ s w t = c.self.invariant in
     let back = sym c.self.view_is in
     let allowed : reclaim_refusal s r (past w.told) ≡ None = subst (λ (b : BoardState). reclaim_refusal s r (past b) ≡ None) back c.requires.allowed in
-    let brings : MayReclaim name_of parts_ bytes s w.told r left = subst (λ (b : BoardState). MayReclaim name_of parts_ bytes s b r left) back c.requires.brings in
+    let brings : MayReclaim name_of parts_ bytes s w.told r left =
+    subst (λ (b : BoardState). MayReclaim name_of parts_ bytes s b r left) back c.requires.brings in
     let takes : TakesBack name_of parts_ bytes s w t r left = record { board = board; allowed = allowed; brings = brings } in
-    let grant : granted_block (hand r (past w.told)) ≡ c.args.block ∷ [] = subst (λ (b : BoardState). granted_block (hand r (past b)) ≡ c.args.block ∷ []) back c.requires.granted in
+    let grant : granted_block (hand r (past w.told)) ≡ c.args.block ∷ [] =
+    subst (λ (b : BoardState). granted_block (hand r (past b)) ≡ c.args.block ∷ []) back c.requires.granted in
     ((look_laws parts_).in_making s w.told t r c.args.block board.run board.holds grant).place
 
 pub invariant_of-self : goal.invariant_of-self
@@ -46,12 +48,16 @@ invariant_of-self g c =
     let board : IsBoard parts_ s w t = c.self.invariant in
     let back = sym c.self.view_is in
     let allowed : reclaim_refusal s r (past w.told) ≡ None = subst (λ (b : BoardState). reclaim_refusal s r (past b) ≡ None) back c.requires.allowed in
-    let brings : MayReclaim name_of parts_ bytes s w.told r left = subst (λ (b : BoardState). MayReclaim name_of parts_ bytes s b r left) back c.requires.brings in
+    let brings : MayReclaim name_of parts_ bytes s w.told r left =
+    subst (λ (b : BoardState). MayReclaim name_of parts_ bytes s b r left) back c.requires.brings in
     let takes : TakesBack name_of parts_ bytes s w t r left = record { board = board; allowed = allowed; brings = brings } in
-    let grant : granted_block (hand r (past w.told)) ≡ c.args.block ∷ [] = subst (λ (b : BoardState). granted_block (hand r (past b)) ≡ c.args.block ∷ []) back c.requires.granted in
-    let alone : (a : FrameName) → has_part_of a (hand r (past w.told)) ≡ false = λ a. subst (λ (b : BoardState). has_part_of a (hand r (past b)) ≡ false) back (c.requires.alone a) in
+    let grant : granted_block (hand r (past w.told)) ≡ c.args.block ∷ [] =
+    subst (λ (b : BoardState). granted_block (hand r (past b)) ≡ c.args.block ∷ []) back c.requires.granted in
+    let alone : (a : FrameName) → has_part_of a (hand r (past w.told)) ≡ false =
+    λ a. subst (λ (b : BoardState). has_part_of a (hand r (past b)) ≡ false) back (c.requires.alone a) in
     let gone = c.new.ensures ∙ ap (λ (o : Option ℕ). option_to_list o ++ []) c.keep_grant-lost.ensures.lost in
-    load-back name_of parts_ bytes (move_laws _ name_of parts_ bytes) s w c.reclaim.new.self t c.keep_grant-lost.new.table r c.args.block left c.new.result takes grant alone c.reclaim.ensures gone c.keep_grant-lost.ensures.table
+    load-back name_of parts_ bytes (move_laws _ name_of parts_ bytes) s w c.reclaim.new.self t c.keep_grant-lost.new.table r c.args.block left c.new.result
+    takes grant alone c.reclaim.ensures gone c.keep_grant-lost.ensures.table
 
 pub returns : goal.returns
 returns g c =
@@ -66,10 +72,14 @@ returns g c =
     let board : IsBoard parts_ s w t = c.self.invariant in
     let back = sym c.self.view_is in
     let allowed : reclaim_refusal s r (past w.told) ≡ None = subst (λ (b : BoardState). reclaim_refusal s r (past b) ≡ None) back c.requires.allowed in
-    let brings : MayReclaim name_of parts_ bytes s w.told r left = subst (λ (b : BoardState). MayReclaim name_of parts_ bytes s b r left) back c.requires.brings in
+    let brings : MayReclaim name_of parts_ bytes s w.told r left =
+    subst (λ (b : BoardState). MayReclaim name_of parts_ bytes s b r left) back c.requires.brings in
     let takes : TakesBack name_of parts_ bytes s w t r left = record { board = board; allowed = allowed; brings = brings } in
-    let grant : granted_block (hand r (past w.told)) ≡ c.args.block ∷ [] = subst (λ (b : BoardState). granted_block (hand r (past b)) ≡ c.args.block ∷ []) back c.requires.granted in
-    let alone : (a : FrameName) → has_part_of a (hand r (past w.told)) ≡ false = λ a. subst (λ (b : BoardState). has_part_of a (hand r (past b)) ≡ false) back (c.requires.alone a) in
+    let grant : granted_block (hand r (past w.told)) ≡ c.args.block ∷ [] =
+    subst (λ (b : BoardState). granted_block (hand r (past b)) ≡ c.args.block ∷ []) back c.requires.granted in
+    let alone : (a : FrameName) → has_part_of a (hand r (past w.told)) ≡ false =
+    λ a. subst (λ (b : BoardState). has_part_of a (hand r (past b)) ≡ false) back (c.requires.alone a) in
     let gone = c.new.ensures ∙ ap (λ (o : Option ℕ). option_to_list o ++ []) c.keep_grant-lost.ensures.lost in
     let lost = load-lost name_of w.told r c.args.block left grant alone in
-    ap (λ (x : Coursed). x.told) c.reclaim.ensures ∙ (ap (λ (xs : List ℕ). moved s (loses r xs) w.told) (gone ∙ lost) ∙ ap (λ (b : BoardState). taken_back name_of s r left b) c.self.view_is)
+    ap (λ (x : Coursed). x.told) c.reclaim.ensures
+    ∙ (ap (λ (xs : List ℕ). moved s (loses r xs) w.told) (gone ∙ lost) ∙ ap (λ (b : BoardState). taken_back name_of s r left b) c.self.view_is)

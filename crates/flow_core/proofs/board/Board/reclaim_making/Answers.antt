@@ -30,9 +30,11 @@ keep_input-array-requires-clause-place g c =
     let board : IsBoard parts_ s w t = c.self.invariant in
     let back = sym c.self.view_is in
     let allowed : reclaim_refusal s r (past w.told) ≡ None = subst (λ (b : BoardState). reclaim_refusal s r (past b) ≡ None) back c.requires.allowed in
-    let brings : MayReclaim name_of parts_ bytes s w.told r left = subst (λ (b : BoardState). MayReclaim name_of parts_ bytes s b r left) back c.requires.brings in
+    let brings : MayReclaim name_of parts_ bytes s w.told r left =
+    subst (λ (b : BoardState). MayReclaim name_of parts_ bytes s b r left) back c.requires.brings in
     let takes : TakesBack name_of parts_ bytes s w t r left = record { board = board; allowed = allowed; brings = brings } in
-    let part : has_part_of c.args.name (hand r (past w.told)) ≡ true = subst (λ (b : BoardState). has_part_of c.args.name (hand r (past b)) ≡ true) back c.requires.part in
+    let part : has_part_of c.args.name (hand r (past w.told)) ≡ true =
+    subst (λ (b : BoardState). has_part_of c.args.name (hand r (past b)) ≡ true) back c.requires.part in
     let at = lent-at parts_ (look_laws parts_) s w t r c.args.name c.block-block.result board c.block-block.ensures part in
     at.place
 
@@ -49,9 +51,11 @@ keep_input-array-requires-clause-may g c =
     let board : IsBoard parts_ s w t = c.self.invariant in
     let back = sym c.self.view_is in
     let allowed : reclaim_refusal s r (past w.told) ≡ None = subst (λ (b : BoardState). reclaim_refusal s r (past b) ≡ None) back c.requires.allowed in
-    let brings : MayReclaim name_of parts_ bytes s w.told r left = subst (λ (b : BoardState). MayReclaim name_of parts_ bytes s b r left) back c.requires.brings in
+    let brings : MayReclaim name_of parts_ bytes s w.told r left =
+    subst (λ (b : BoardState). MayReclaim name_of parts_ bytes s b r left) back c.requires.brings in
     let takes : TakesBack name_of parts_ bytes s w t r left = record { board = board; allowed = allowed; brings = brings } in
-    let part : has_part_of c.args.name (hand r (past w.told)) ≡ true = subst (λ (b : BoardState). has_part_of c.args.name (hand r (past b)) ≡ true) back c.requires.part in
+    let part : has_part_of c.args.name (hand r (past w.told)) ≡ true =
+    subst (λ (b : BoardState). has_part_of c.args.name (hand r (past b)) ≡ true) back c.requires.part in
     let at = lent-at parts_ (look_laws parts_) s w t r c.args.name c.block-block.result board c.block-block.ensures part in
     may-input name_of parts_ bytes s w.told t r c.block-block.result c.args.name left part allowed brings at.may
 
@@ -68,11 +72,14 @@ keep_grant-lost-requires g c =
     let board : IsBoard parts_ s w t = c.self.invariant in
     let back = sym c.self.view_is in
     let allowed : reclaim_refusal s r (past w.told) ≡ None = subst (λ (b : BoardState). reclaim_refusal s r (past b) ≡ None) back c.requires.allowed in
-    let brings : MayReclaim name_of parts_ bytes s w.told r left = subst (λ (b : BoardState). MayReclaim name_of parts_ bytes s b r left) back c.requires.brings in
+    let brings : MayReclaim name_of parts_ bytes s w.told r left =
+    subst (λ (b : BoardState). MayReclaim name_of parts_ bytes s b r left) back c.requires.brings in
     let takes : TakesBack name_of parts_ bytes s w t r left = record { board = board; allowed = allowed; brings = brings } in
-    let grant : granted_block (hand r (past w.told)) ≡ c.args.granted ∷ [] = subst (λ (b : BoardState). granted_block (hand r (past b)) ≡ c.args.granted ∷ []) back c.requires.granted in
+    let grant : granted_block (hand r (past w.told)) ≡ c.args.granted ∷ [] =
+    subst (λ (b : BoardState). granted_block (hand r (past b)) ≡ c.args.granted ∷ []) back c.requires.granted in
     let place = ((look_laws parts_).in_making s w.told t r c.args.granted board.run board.holds grant).place in
-    subst (λ n. c.args.granted < n) (sym (ap length c.keep_input-array.ensures.table ∙ input-length name_of parts_ c.args.name c.block-block.result left.input t)) place
+    subst (λ n. c.args.granted < n)
+    (sym (ap length c.keep_input-array.ensures.table ∙ input-length name_of parts_ c.args.name c.block-block.result left.input t)) place
 
 pub invariant_of-self : goal.invariant_of-self
 invariant_of-self g c =
@@ -87,14 +94,22 @@ invariant_of-self g c =
     let board : IsBoard parts_ s w t = c.self.invariant in
     let back = sym c.self.view_is in
     let allowed : reclaim_refusal s r (past w.told) ≡ None = subst (λ (b : BoardState). reclaim_refusal s r (past b) ≡ None) back c.requires.allowed in
-    let brings : MayReclaim name_of parts_ bytes s w.told r left = subst (λ (b : BoardState). MayReclaim name_of parts_ bytes s b r left) back c.requires.brings in
+    let brings : MayReclaim name_of parts_ bytes s w.told r left =
+    subst (λ (b : BoardState). MayReclaim name_of parts_ bytes s b r left) back c.requires.brings in
     let takes : TakesBack name_of parts_ bytes s w t r left = record { board = board; allowed = allowed; brings = brings } in
-    let part : has_part_of c.args.name (hand r (past w.told)) ≡ true = subst (λ (b : BoardState). has_part_of c.args.name (hand r (past b)) ≡ true) back c.requires.part in
+    let part : has_part_of c.args.name (hand r (past w.told)) ≡ true =
+    subst (λ (b : BoardState). has_part_of c.args.name (hand r (past b)) ≡ true) back c.requires.part in
     let at = lent-at parts_ (look_laws parts_) s w t r c.args.name c.block-block.result board c.block-block.ensures part in
-    let grant : granted_block (hand r (past w.told)) ≡ c.args.granted ∷ [] = subst (λ (b : BoardState). granted_block (hand r (past b)) ≡ c.args.granted ∷ []) back c.requires.granted in
-    let gone = c.new.ensures ∙ (ap (λ (o : Option ℕ). option_to_list o ++ option_to_list c.keep_input-array.result) c.keep_grant-lost.ensures.lost ∙ ap (λ (o : Option ℕ). option_to_list (lost_block (is_some left.made || is_some left.blank) c.args.granted) ++ option_to_list o) c.keep_input-array.ensures.lost) in
-    making-back name_of parts_ bytes (move_laws _ name_of parts_ bytes) s w c.reclaim.new.self t c.keep_grant-lost.new.table r c.args.granted c.block-block.result c.args.name left c.new.result takes grant part at.has c.reclaim.ensures gone
-    (c.keep_grant-lost.ensures.table ∙ ap (λ (u : List Kept). with_grant name_of parts_ bytes c.args.granted left.made left.blank u) c.keep_input-array.ensures.table)
+    let grant : granted_block (hand r (past w.told)) ≡ c.args.granted ∷ [] =
+    subst (λ (b : BoardState). granted_block (hand r (past b)) ≡ c.args.granted ∷ []) back c.requires.granted in
+    let gone =
+    c.new.ensures
+    ∙ (ap (λ (o : Option ℕ). option_to_list o ++ option_to_list c.keep_input-array.result) c.keep_grant-lost.ensures.lost ∙ ap (λ (o : Option ℕ).
+    option_to_list (lost_block (is_some left.made || is_some left.blank) c.args.granted) ++ option_to_list o) c.keep_input-array.ensures.lost) in
+    making-back name_of parts_ bytes (move_laws _ name_of parts_ bytes) s w c.reclaim.new.self t c.keep_grant-lost.new.table r c.args.granted
+    c.block-block.result c.args.name left c.new.result takes grant part at.has c.reclaim.ensures gone
+    (c.keep_grant-lost.ensures.table
+    ∙ ap (λ (u : List Kept). with_grant name_of parts_ bytes c.args.granted left.made left.blank u) c.keep_input-array.ensures.table)
 
 pub returns : goal.returns
 returns g c =
@@ -109,11 +124,18 @@ returns g c =
     let board : IsBoard parts_ s w t = c.self.invariant in
     let back = sym c.self.view_is in
     let allowed : reclaim_refusal s r (past w.told) ≡ None = subst (λ (b : BoardState). reclaim_refusal s r (past b) ≡ None) back c.requires.allowed in
-    let brings : MayReclaim name_of parts_ bytes s w.told r left = subst (λ (b : BoardState). MayReclaim name_of parts_ bytes s b r left) back c.requires.brings in
+    let brings : MayReclaim name_of parts_ bytes s w.told r left =
+    subst (λ (b : BoardState). MayReclaim name_of parts_ bytes s b r left) back c.requires.brings in
     let takes : TakesBack name_of parts_ bytes s w t r left = record { board = board; allowed = allowed; brings = brings } in
-    let part : has_part_of c.args.name (hand r (past w.told)) ≡ true = subst (λ (b : BoardState). has_part_of c.args.name (hand r (past b)) ≡ true) back c.requires.part in
+    let part : has_part_of c.args.name (hand r (past w.told)) ≡ true =
+    subst (λ (b : BoardState). has_part_of c.args.name (hand r (past b)) ≡ true) back c.requires.part in
     let at = lent-at parts_ (look_laws parts_) s w t r c.args.name c.block-block.result board c.block-block.ensures part in
-    let grant : granted_block (hand r (past w.told)) ≡ c.args.granted ∷ [] = subst (λ (b : BoardState). granted_block (hand r (past b)) ≡ c.args.granted ∷ []) back c.requires.granted in
-    let gone = c.new.ensures ∙ (ap (λ (o : Option ℕ). option_to_list o ++ option_to_list c.keep_input-array.result) c.keep_grant-lost.ensures.lost ∙ ap (λ (o : Option ℕ). option_to_list (lost_block (is_some left.made || is_some left.blank) c.args.granted) ++ option_to_list o) c.keep_input-array.ensures.lost) in
+    let grant : granted_block (hand r (past w.told)) ≡ c.args.granted ∷ [] =
+    subst (λ (b : BoardState). granted_block (hand r (past b)) ≡ c.args.granted ∷ []) back c.requires.granted in
+    let gone =
+    c.new.ensures
+    ∙ (ap (λ (o : Option ℕ). option_to_list o ++ option_to_list c.keep_input-array.result) c.keep_grant-lost.ensures.lost ∙ ap (λ (o : Option ℕ).
+    option_to_list (lost_block (is_some left.made || is_some left.blank) c.args.granted) ++ option_to_list o) c.keep_input-array.ensures.lost) in
     let lost = making-lost name_of w.told r c.args.granted c.block-block.result c.args.name left grant part at.has in
-    ap (λ (x : Coursed). x.told) c.reclaim.ensures ∙ (ap (λ (xs : List ℕ). moved s (loses r xs) w.told) (gone ∙ lost) ∙ ap (λ (b : BoardState). taken_back name_of s r left b) c.self.view_is)
+    ap (λ (x : Coursed). x.told) c.reclaim.ensures
+    ∙ (ap (λ (xs : List ℕ). moved s (loses r xs) w.told) (gone ∙ lost) ∙ ap (λ (b : BoardState). taken_back name_of s r left b) c.self.view_is)

@@ -28,9 +28,11 @@ keep_input-lost-requires-clause-place g c =
     let board : IsBoard parts_ s w t = c.self.invariant in
     let back = sym c.self.view_is in
     let allowed : reclaim_refusal s r (past w.told) ≡ None = subst (λ (b : BoardState). reclaim_refusal s r (past b) ≡ None) back c.requires.allowed in
-    let brings : MayReclaim name_of parts_ bytes s w.told r left = subst (λ (b : BoardState). MayReclaim name_of parts_ bytes s b r left) back c.requires.brings in
+    let brings : MayReclaim name_of parts_ bytes s w.told r left =
+    subst (λ (b : BoardState). MayReclaim name_of parts_ bytes s b r left) back c.requires.brings in
     let takes : TakesBack name_of parts_ bytes s w t r left = record { board = board; allowed = allowed; brings = brings } in
-    let part : has_part_of c.args.name (hand r (past w.told)) ≡ true = subst (λ (b : BoardState). has_part_of c.args.name (hand r (past b)) ≡ true) back c.requires.part in
+    let part : has_part_of c.args.name (hand r (past w.told)) ≡ true =
+    subst (λ (b : BoardState). has_part_of c.args.name (hand r (past b)) ≡ true) back c.requires.part in
     let at = lent-at parts_ (look_laws parts_) s w t r c.args.name c.block-block.result board c.block-block.ensures part in
     at.place
 
@@ -47,9 +49,11 @@ keep_input-lost-requires-clause-may g c =
     let board : IsBoard parts_ s w t = c.self.invariant in
     let back = sym c.self.view_is in
     let allowed : reclaim_refusal s r (past w.told) ≡ None = subst (λ (b : BoardState). reclaim_refusal s r (past b) ≡ None) back c.requires.allowed in
-    let brings : MayReclaim name_of parts_ bytes s w.told r left = subst (λ (b : BoardState). MayReclaim name_of parts_ bytes s b r left) back c.requires.brings in
+    let brings : MayReclaim name_of parts_ bytes s w.told r left =
+    subst (λ (b : BoardState). MayReclaim name_of parts_ bytes s b r left) back c.requires.brings in
     let takes : TakesBack name_of parts_ bytes s w t r left = record { board = board; allowed = allowed; brings = brings } in
-    let part : has_part_of c.args.name (hand r (past w.told)) ≡ true = subst (λ (b : BoardState). has_part_of c.args.name (hand r (past b)) ≡ true) back c.requires.part in
+    let part : has_part_of c.args.name (hand r (past w.told)) ≡ true =
+    subst (λ (b : BoardState). has_part_of c.args.name (hand r (past b)) ≡ true) back c.requires.part in
     let at = lent-at parts_ (look_laws parts_) s w t r c.args.name c.block-block.result board c.block-block.ensures part in
     may-input name_of parts_ bytes s w.told t r c.block-block.result c.args.name left part allowed brings at.may
 
@@ -66,13 +70,16 @@ invariant_of-self g c =
     let board : IsBoard parts_ s w t = c.self.invariant in
     let back = sym c.self.view_is in
     let allowed : reclaim_refusal s r (past w.told) ≡ None = subst (λ (b : BoardState). reclaim_refusal s r (past b) ≡ None) back c.requires.allowed in
-    let brings : MayReclaim name_of parts_ bytes s w.told r left = subst (λ (b : BoardState). MayReclaim name_of parts_ bytes s b r left) back c.requires.brings in
+    let brings : MayReclaim name_of parts_ bytes s w.told r left =
+    subst (λ (b : BoardState). MayReclaim name_of parts_ bytes s b r left) back c.requires.brings in
     let takes : TakesBack name_of parts_ bytes s w t r left = record { board = board; allowed = allowed; brings = brings } in
-    let part : has_part_of c.args.name (hand r (past w.told)) ≡ true = subst (λ (b : BoardState). has_part_of c.args.name (hand r (past b)) ≡ true) back c.requires.part in
+    let part : has_part_of c.args.name (hand r (past w.told)) ≡ true =
+    subst (λ (b : BoardState). has_part_of c.args.name (hand r (past b)) ≡ true) back c.requires.part in
     let at = lent-at parts_ (look_laws parts_) s w t r c.args.name c.block-block.result board c.block-block.ensures part in
     let ungranted : has_grant (hand r (past w.told)) ≡ false = subst (λ (b : BoardState). has_grant (hand r (past b)) ≡ false) back c.requires.ungranted in
     let gone = c.new.ensures ∙ ap option_to_list c.keep_input-lost.ensures.lost in
-    part-back name_of parts_ bytes (move_laws _ name_of parts_ bytes) s w c.reclaim.new.self t c.keep_input-lost.new.table r c.block-block.result c.args.name left c.new.result takes ungranted part at.has c.reclaim.ensures gone c.keep_input-lost.ensures.table
+    part-back name_of parts_ bytes (move_laws _ name_of parts_ bytes) s w c.reclaim.new.self t c.keep_input-lost.new.table r c.block-block.result c.args.name
+    left c.new.result takes ungranted part at.has c.reclaim.ensures gone c.keep_input-lost.ensures.table
 
 pub returns : goal.returns
 returns g c =
@@ -87,11 +94,14 @@ returns g c =
     let board : IsBoard parts_ s w t = c.self.invariant in
     let back = sym c.self.view_is in
     let allowed : reclaim_refusal s r (past w.told) ≡ None = subst (λ (b : BoardState). reclaim_refusal s r (past b) ≡ None) back c.requires.allowed in
-    let brings : MayReclaim name_of parts_ bytes s w.told r left = subst (λ (b : BoardState). MayReclaim name_of parts_ bytes s b r left) back c.requires.brings in
+    let brings : MayReclaim name_of parts_ bytes s w.told r left =
+    subst (λ (b : BoardState). MayReclaim name_of parts_ bytes s b r left) back c.requires.brings in
     let takes : TakesBack name_of parts_ bytes s w t r left = record { board = board; allowed = allowed; brings = brings } in
-    let part : has_part_of c.args.name (hand r (past w.told)) ≡ true = subst (λ (b : BoardState). has_part_of c.args.name (hand r (past b)) ≡ true) back c.requires.part in
+    let part : has_part_of c.args.name (hand r (past w.told)) ≡ true =
+    subst (λ (b : BoardState). has_part_of c.args.name (hand r (past b)) ≡ true) back c.requires.part in
     let at = lent-at parts_ (look_laws parts_) s w t r c.args.name c.block-block.result board c.block-block.ensures part in
     let ungranted : has_grant (hand r (past w.told)) ≡ false = subst (λ (b : BoardState). has_grant (hand r (past b)) ≡ false) back c.requires.ungranted in
     let gone = c.new.ensures ∙ ap option_to_list c.keep_input-lost.ensures.lost in
     let lost = part-lost name_of w.told r c.block-block.result c.args.name left ungranted part at.has in
-    ap (λ (x : Coursed). x.told) c.reclaim.ensures ∙ (ap (λ (xs : List ℕ). moved s (loses r xs) w.told) (gone ∙ lost) ∙ ap (λ (b : BoardState). taken_back name_of s r left b) c.self.view_is)
+    ap (λ (x : Coursed). x.told) c.reclaim.ensures
+    ∙ (ap (λ (xs : List ℕ). moved s (loses r xs) w.told) (gone ∙ lost) ∙ ap (λ (b : BoardState). taken_back name_of s r left b) c.self.view_is)

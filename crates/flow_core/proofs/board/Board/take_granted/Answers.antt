@@ -40,11 +40,18 @@ lend-requires-clause-place g c =
     let a = c.next_queued-name.result in
     let b = c.block-block.result in
     let w0 = c.next_queued-name.new.self in
-    let allowed : take_refusal {F = g.row.F.Denot} {B = g.row.F-Blank.Denot} {O = g.row.F-Of.Denot} s r v (past w.told) ≡ None = subst (λ (x : BoardState). take_refusal {F = g.row.F.Denot} {B = g.row.F-Blank.Denot} {O = g.row.F-Of.Denot} s r v (past x) ≡ None) (sym c.self.view_is) c.requires.allowed in
-    let given : grant s (past w.told) (s.need v) ≡ Granted gr.block gr.size gr.fresh gr.given_up = subst (λ (x : BoardState). grant s (past x) (s.need v) ≡ Granted gr.block gr.size gr.fresh gr.given_up) (sym c.self.view_is) c.requires.granted in
-    let i : IsGranted parts_ s w.told t (s.need v) gr.block gr.size gr.fresh gr.given_up = record { run = c.self.invariant.run; holds = c.self.invariant.holds; granted = given } in
-    let l : LendsAt parts_ w.told t a b = lends-at parts_ w.told t a b ((look_laws parts_).queued s w.told t v a c.self.invariant.run c.self.invariant.holds c.next_queued-name.ensures.next) (subst (λ (x : Coursed). Tells x.told a b) c.next_queued-name.ensures.same c.block-block.ensures) in
-    let beside : LendsBeside parts_ s w.told t v (s.need v) gr.block gr.size gr.fresh gr.given_up a b = record { granted = i; next = c.next_queued-name.ensures.next; lends = l } in
+    let allowed : take_refusal {F = g.row.F.Denot} {B = g.row.F-Blank.Denot} {O = g.row.F-Of.Denot} s r v (past w.told) ≡ None =
+    subst (λ (x : BoardState). take_refusal {F = g.row.F.Denot} {B = g.row.F-Blank.Denot} {O = g.row.F-Of.Denot} s r v (past x) ≡ None) (sym c.self.view_is)
+    c.requires.allowed in
+    let given : grant s (past w.told) (s.need v) ≡ Granted gr.block gr.size gr.fresh gr.given_up =
+    subst (λ (x : BoardState). grant s (past x) (s.need v) ≡ Granted gr.block gr.size gr.fresh gr.given_up) (sym c.self.view_is) c.requires.granted in
+    let i : IsGranted parts_ s w.told t (s.need v) gr.block gr.size gr.fresh gr.given_up =
+    record { run = c.self.invariant.run; holds = c.self.invariant.holds; granted = given } in
+    let l : LendsAt parts_ w.told t a b =
+    lends-at parts_ w.told t a b ((look_laws parts_).queued s w.told t v a c.self.invariant.run c.self.invariant.holds c.next_queued-name.ensures.next)
+    (subst (λ (x : Coursed). Tells x.told a b) c.next_queued-name.ensures.same c.block-block.ensures) in
+    let beside : LendsBeside parts_ s w.told t v (s.need v) gr.block gr.size gr.fresh gr.given_up a b =
+    record { granted = i; next = c.next_queued-name.ensures.next; lends = l } in
     l.place
 
 pub lend-requires-clause-frame : goal.lend-requires-clause-frame
@@ -62,11 +69,18 @@ lend-requires-clause-frame g c =
     let a = c.next_queued-name.result in
     let b = c.block-block.result in
     let w0 = c.next_queued-name.new.self in
-    let allowed : take_refusal {F = g.row.F.Denot} {B = g.row.F-Blank.Denot} {O = g.row.F-Of.Denot} s r v (past w.told) ≡ None = subst (λ (x : BoardState). take_refusal {F = g.row.F.Denot} {B = g.row.F-Blank.Denot} {O = g.row.F-Of.Denot} s r v (past x) ≡ None) (sym c.self.view_is) c.requires.allowed in
-    let given : grant s (past w.told) (s.need v) ≡ Granted gr.block gr.size gr.fresh gr.given_up = subst (λ (x : BoardState). grant s (past x) (s.need v) ≡ Granted gr.block gr.size gr.fresh gr.given_up) (sym c.self.view_is) c.requires.granted in
-    let i : IsGranted parts_ s w.told t (s.need v) gr.block gr.size gr.fresh gr.given_up = record { run = c.self.invariant.run; holds = c.self.invariant.holds; granted = given } in
-    let l : LendsAt parts_ w.told t a b = lends-at parts_ w.told t a b ((look_laws parts_).queued s w.told t v a c.self.invariant.run c.self.invariant.holds c.next_queued-name.ensures.next) (subst (λ (x : Coursed). Tells x.told a b) c.next_queued-name.ensures.same c.block-block.ensures) in
-    let beside : LendsBeside parts_ s w.told t v (s.need v) gr.block gr.size gr.fresh gr.given_up a b = record { granted = i; next = c.next_queued-name.ensures.next; lends = l } in
+    let allowed : take_refusal {F = g.row.F.Denot} {B = g.row.F-Blank.Denot} {O = g.row.F-Of.Denot} s r v (past w.told) ≡ None =
+    subst (λ (x : BoardState). take_refusal {F = g.row.F.Denot} {B = g.row.F-Blank.Denot} {O = g.row.F-Of.Denot} s r v (past x) ≡ None) (sym c.self.view_is)
+    c.requires.allowed in
+    let given : grant s (past w.told) (s.need v) ≡ Granted gr.block gr.size gr.fresh gr.given_up =
+    subst (λ (x : BoardState). grant s (past x) (s.need v) ≡ Granted gr.block gr.size gr.fresh gr.given_up) (sym c.self.view_is) c.requires.granted in
+    let i : IsGranted parts_ s w.told t (s.need v) gr.block gr.size gr.fresh gr.given_up =
+    record { run = c.self.invariant.run; holds = c.self.invariant.holds; granted = given } in
+    let l : LendsAt parts_ w.told t a b =
+    lends-at parts_ w.told t a b ((look_laws parts_).queued s w.told t v a c.self.invariant.run c.self.invariant.holds c.next_queued-name.ensures.next)
+    (subst (λ (x : Coursed). Tells x.told a b) c.next_queued-name.ensures.same c.block-block.ensures) in
+    let beside : LendsBeside parts_ s w.told t v (s.need v) gr.block gr.size gr.fresh gr.given_up a b =
+    record { granted = i; next = c.next_queued-name.ensures.next; lends = l } in
     l.may
 
 pub returns-in_default-clause-gives : goal.returns-in_default-clause-gives
@@ -84,14 +98,24 @@ returns-in_default-clause-gives g c =
     let a = c.next_queued-name.result in
     let b = c.block-block.result in
     let w0 = c.next_queued-name.new.self in
-    let allowed : take_refusal {F = g.row.F.Denot} {B = g.row.F-Blank.Denot} {O = g.row.F-Of.Denot} s r v (past w.told) ≡ None = subst (λ (x : BoardState). take_refusal {F = g.row.F.Denot} {B = g.row.F-Blank.Denot} {O = g.row.F-Of.Denot} s r v (past x) ≡ None) (sym c.self.view_is) c.requires.allowed in
-    let given : grant s (past w.told) (s.need v) ≡ Granted gr.block gr.size gr.fresh gr.given_up = subst (λ (x : BoardState). grant s (past x) (s.need v) ≡ Granted gr.block gr.size gr.fresh gr.given_up) (sym c.self.view_is) c.requires.granted in
-    let i : IsGranted parts_ s w.told t (s.need v) gr.block gr.size gr.fresh gr.given_up = record { run = c.self.invariant.run; holds = c.self.invariant.holds; granted = given } in
-    let l : LendsAt parts_ w.told t a b = lends-at parts_ w.told t a b ((look_laws parts_).queued s w.told t v a c.self.invariant.run c.self.invariant.holds c.next_queued-name.ensures.next) (subst (λ (x : Coursed). Tells x.told a b) c.next_queued-name.ensures.same c.block-block.ensures) in
-    let beside : LendsBeside parts_ s w.told t v (s.need v) gr.block gr.size gr.fresh gr.given_up a b = record { granted = i; next = c.next_queued-name.ensures.next; lends = l } in
-    let wants : TellParts parts_ → IsTrue (wants_storage w.told (Granted gr.block gr.size gr.fresh gr.given_up)) = λ tell. absurd (l.tells tell c.in_default.ensures.err.0) in
-    subst (λ (y : BoardState). TakeGives {F = g.row.F.Denot} {B = g.row.F-Blank.Denot} {O = g.row.F-Of.Denot} name_of parts_ bytes s y r v take.OutOfMemory w0.told) c.self.view_is
-    (made-no_memory O name_of parts_ bytes s w.told w0.told r v gr.block gr.size gr.fresh gr.given_up allowed c.requires.makes given wants (ap (λ (y : Coursed). y.told) c.next_queued-name.ensures.same))
+    let allowed : take_refusal {F = g.row.F.Denot} {B = g.row.F-Blank.Denot} {O = g.row.F-Of.Denot} s r v (past w.told) ≡ None =
+    subst (λ (x : BoardState). take_refusal {F = g.row.F.Denot} {B = g.row.F-Blank.Denot} {O = g.row.F-Of.Denot} s r v (past x) ≡ None) (sym c.self.view_is)
+    c.requires.allowed in
+    let given : grant s (past w.told) (s.need v) ≡ Granted gr.block gr.size gr.fresh gr.given_up =
+    subst (λ (x : BoardState). grant s (past x) (s.need v) ≡ Granted gr.block gr.size gr.fresh gr.given_up) (sym c.self.view_is) c.requires.granted in
+    let i : IsGranted parts_ s w.told t (s.need v) gr.block gr.size gr.fresh gr.given_up =
+    record { run = c.self.invariant.run; holds = c.self.invariant.holds; granted = given } in
+    let l : LendsAt parts_ w.told t a b =
+    lends-at parts_ w.told t a b ((look_laws parts_).queued s w.told t v a c.self.invariant.run c.self.invariant.holds c.next_queued-name.ensures.next)
+    (subst (λ (x : Coursed). Tells x.told a b) c.next_queued-name.ensures.same c.block-block.ensures) in
+    let beside : LendsBeside parts_ s w.told t v (s.need v) gr.block gr.size gr.fresh gr.given_up a b =
+    record { granted = i; next = c.next_queued-name.ensures.next; lends = l } in
+    let wants : TellParts parts_ → IsTrue (wants_storage w.told (Granted gr.block gr.size gr.fresh gr.given_up)) =
+    λ tell. absurd (l.tells tell c.in_default.ensures.err.0) in
+    subst (λ (y : BoardState). TakeGives {F = g.row.F.Denot} {B = g.row.F-Blank.Denot} {O = g.row.F-Of.Denot} name_of parts_ bytes s y r v
+    take.OutOfMemory w0.told) c.self.view_is
+    (made-no_memory O name_of parts_ bytes s w.told w0.told r v gr.block gr.size gr.fresh gr.given_up allowed c.requires.makes given wants
+    (ap (λ (y : Coursed). y.told) c.next_queued-name.ensures.same))
 
 pub storage_for-requires : goal.storage_for-requires
 storage_for-requires g c =
@@ -108,11 +132,18 @@ storage_for-requires g c =
     let a = c.next_queued-name.result in
     let b = c.block-block.result in
     let w0 = c.next_queued-name.new.self in
-    let allowed : take_refusal {F = g.row.F.Denot} {B = g.row.F-Blank.Denot} {O = g.row.F-Of.Denot} s r v (past w.told) ≡ None = subst (λ (x : BoardState). take_refusal {F = g.row.F.Denot} {B = g.row.F-Blank.Denot} {O = g.row.F-Of.Denot} s r v (past x) ≡ None) (sym c.self.view_is) c.requires.allowed in
-    let given : grant s (past w.told) (s.need v) ≡ Granted gr.block gr.size gr.fresh gr.given_up = subst (λ (x : BoardState). grant s (past x) (s.need v) ≡ Granted gr.block gr.size gr.fresh gr.given_up) (sym c.self.view_is) c.requires.granted in
-    let i : IsGranted parts_ s w.told t (s.need v) gr.block gr.size gr.fresh gr.given_up = record { run = c.self.invariant.run; holds = c.self.invariant.holds; granted = given } in
-    let l : LendsAt parts_ w.told t a b = lends-at parts_ w.told t a b ((look_laws parts_).queued s w.told t v a c.self.invariant.run c.self.invariant.holds c.next_queued-name.ensures.next) (subst (λ (x : Coursed). Tells x.told a b) c.next_queued-name.ensures.same c.block-block.ensures) in
-    let beside : LendsBeside parts_ s w.told t v (s.need v) gr.block gr.size gr.fresh gr.given_up a b = record { granted = i; next = c.next_queued-name.ensures.next; lends = l } in
+    let allowed : take_refusal {F = g.row.F.Denot} {B = g.row.F-Blank.Denot} {O = g.row.F-Of.Denot} s r v (past w.told) ≡ None =
+    subst (λ (x : BoardState). take_refusal {F = g.row.F.Denot} {B = g.row.F-Blank.Denot} {O = g.row.F-Of.Denot} s r v (past x) ≡ None) (sym c.self.view_is)
+    c.requires.allowed in
+    let given : grant s (past w.told) (s.need v) ≡ Granted gr.block gr.size gr.fresh gr.given_up =
+    subst (λ (x : BoardState). grant s (past x) (s.need v) ≡ Granted gr.block gr.size gr.fresh gr.given_up) (sym c.self.view_is) c.requires.granted in
+    let i : IsGranted parts_ s w.told t (s.need v) gr.block gr.size gr.fresh gr.given_up =
+    record { run = c.self.invariant.run; holds = c.self.invariant.holds; granted = given } in
+    let l : LendsAt parts_ w.told t a b =
+    lends-at parts_ w.told t a b ((look_laws parts_).queued s w.told t v a c.self.invariant.run c.self.invariant.holds c.next_queued-name.ensures.next)
+    (subst (λ (x : Coursed). Tells x.told a b) c.next_queued-name.ensures.same c.block-block.ensures) in
+    let beside : LendsBeside parts_ s w.told t v (s.need v) gr.block gr.size gr.fresh gr.given_up a b =
+    record { granted = i; next = c.next_queued-name.ensures.next; lends = l } in
     let input = c.in-Ok.input in
     let named : name_of input ≡ a = lent-name parts_ w.told t a b (name_of input) (parts_ input) l c.in-Ok.ensures.part in
     let part : IsPartOf (kept_at t b) a (parts_ input) = subst (λ (x : FrameName). IsPartOf (kept_at t b) x (parts_ input)) named c.in-Ok.ensures.part in
@@ -134,16 +165,25 @@ give_back-requires-clause-frame g c =
     let a = c.next_queued-name.result in
     let b = c.block-block.result in
     let w0 = c.next_queued-name.new.self in
-    let allowed : take_refusal {F = g.row.F.Denot} {B = g.row.F-Blank.Denot} {O = g.row.F-Of.Denot} s r v (past w.told) ≡ None = subst (λ (x : BoardState). take_refusal {F = g.row.F.Denot} {B = g.row.F-Blank.Denot} {O = g.row.F-Of.Denot} s r v (past x) ≡ None) (sym c.self.view_is) c.requires.allowed in
-    let given : grant s (past w.told) (s.need v) ≡ Granted gr.block gr.size gr.fresh gr.given_up = subst (λ (x : BoardState). grant s (past x) (s.need v) ≡ Granted gr.block gr.size gr.fresh gr.given_up) (sym c.self.view_is) c.requires.granted in
-    let i : IsGranted parts_ s w.told t (s.need v) gr.block gr.size gr.fresh gr.given_up = record { run = c.self.invariant.run; holds = c.self.invariant.holds; granted = given } in
-    let l : LendsAt parts_ w.told t a b = lends-at parts_ w.told t a b ((look_laws parts_).queued s w.told t v a c.self.invariant.run c.self.invariant.holds c.next_queued-name.ensures.next) (subst (λ (x : Coursed). Tells x.told a b) c.next_queued-name.ensures.same c.block-block.ensures) in
-    let beside : LendsBeside parts_ s w.told t v (s.need v) gr.block gr.size gr.fresh gr.given_up a b = record { granted = i; next = c.next_queued-name.ensures.next; lends = l } in
+    let allowed : take_refusal {F = g.row.F.Denot} {B = g.row.F-Blank.Denot} {O = g.row.F-Of.Denot} s r v (past w.told) ≡ None =
+    subst (λ (x : BoardState). take_refusal {F = g.row.F.Denot} {B = g.row.F-Blank.Denot} {O = g.row.F-Of.Denot} s r v (past x) ≡ None) (sym c.self.view_is)
+    c.requires.allowed in
+    let given : grant s (past w.told) (s.need v) ≡ Granted gr.block gr.size gr.fresh gr.given_up =
+    subst (λ (x : BoardState). grant s (past x) (s.need v) ≡ Granted gr.block gr.size gr.fresh gr.given_up) (sym c.self.view_is) c.requires.granted in
+    let i : IsGranted parts_ s w.told t (s.need v) gr.block gr.size gr.fresh gr.given_up =
+    record { run = c.self.invariant.run; holds = c.self.invariant.holds; granted = given } in
+    let l : LendsAt parts_ w.told t a b =
+    lends-at parts_ w.told t a b ((look_laws parts_).queued s w.told t v a c.self.invariant.run c.self.invariant.holds c.next_queued-name.ensures.next)
+    (subst (λ (x : Coursed). Tells x.told a b) c.next_queued-name.ensures.same c.block-block.ensures) in
+    let beside : LendsBeside parts_ s w.told t v (s.need v) gr.block gr.size gr.fresh gr.given_up a b =
+    record { granted = i; next = c.next_queued-name.ensures.next; lends = l } in
     let input = c.in-Ok.input in
     let named : name_of input ≡ a = lent-name parts_ w.told t a b (name_of input) (parts_ input) l c.in-Ok.ensures.part in
     let part : IsPartOf (kept_at t b) a (parts_ input) = subst (λ (x : FrameName). IsPartOf (kept_at t b) x (parts_ input)) named c.in-Ok.ensures.part in
     let T = c.storage_for.new.table in
-    let back : BackTo parts_ s w.told t T b = not-stored-back parts_ (grant_laws parts_) s w.told t T v (s.need v) gr.block gr.size gr.fresh gr.given_up a b beside (subst (λ (u : List Kept). IsNotStored gr.size gr.block gr.fresh u T) c.in-Ok.ensures.rest c.in_default-storage_for.ensures.refused) in
+    let back : BackTo parts_ s w.told t T b =
+    not-stored-back parts_ (grant_laws parts_) s w.told t T v (s.need v) gr.block gr.size gr.fresh gr.given_up a b beside
+    (subst (λ (u : List Kept). IsNotStored gr.size gr.block gr.fresh u T) c.in-Ok.ensures.rest c.in_default-storage_for.ensures.refused) in
     let again = back-again parts_ (look_laws parts_) s w.told t T a b (parts_ input) l part back in
     again.1
 
@@ -162,16 +202,25 @@ invariant_of-self-in_default-storage_for g c =
     let a = c.next_queued-name.result in
     let b = c.block-block.result in
     let w0 = c.next_queued-name.new.self in
-    let allowed : take_refusal {F = g.row.F.Denot} {B = g.row.F-Blank.Denot} {O = g.row.F-Of.Denot} s r v (past w.told) ≡ None = subst (λ (x : BoardState). take_refusal {F = g.row.F.Denot} {B = g.row.F-Blank.Denot} {O = g.row.F-Of.Denot} s r v (past x) ≡ None) (sym c.self.view_is) c.requires.allowed in
-    let given : grant s (past w.told) (s.need v) ≡ Granted gr.block gr.size gr.fresh gr.given_up = subst (λ (x : BoardState). grant s (past x) (s.need v) ≡ Granted gr.block gr.size gr.fresh gr.given_up) (sym c.self.view_is) c.requires.granted in
-    let i : IsGranted parts_ s w.told t (s.need v) gr.block gr.size gr.fresh gr.given_up = record { run = c.self.invariant.run; holds = c.self.invariant.holds; granted = given } in
-    let l : LendsAt parts_ w.told t a b = lends-at parts_ w.told t a b ((look_laws parts_).queued s w.told t v a c.self.invariant.run c.self.invariant.holds c.next_queued-name.ensures.next) (subst (λ (x : Coursed). Tells x.told a b) c.next_queued-name.ensures.same c.block-block.ensures) in
-    let beside : LendsBeside parts_ s w.told t v (s.need v) gr.block gr.size gr.fresh gr.given_up a b = record { granted = i; next = c.next_queued-name.ensures.next; lends = l } in
+    let allowed : take_refusal {F = g.row.F.Denot} {B = g.row.F-Blank.Denot} {O = g.row.F-Of.Denot} s r v (past w.told) ≡ None =
+    subst (λ (x : BoardState). take_refusal {F = g.row.F.Denot} {B = g.row.F-Blank.Denot} {O = g.row.F-Of.Denot} s r v (past x) ≡ None) (sym c.self.view_is)
+    c.requires.allowed in
+    let given : grant s (past w.told) (s.need v) ≡ Granted gr.block gr.size gr.fresh gr.given_up =
+    subst (λ (x : BoardState). grant s (past x) (s.need v) ≡ Granted gr.block gr.size gr.fresh gr.given_up) (sym c.self.view_is) c.requires.granted in
+    let i : IsGranted parts_ s w.told t (s.need v) gr.block gr.size gr.fresh gr.given_up =
+    record { run = c.self.invariant.run; holds = c.self.invariant.holds; granted = given } in
+    let l : LendsAt parts_ w.told t a b =
+    lends-at parts_ w.told t a b ((look_laws parts_).queued s w.told t v a c.self.invariant.run c.self.invariant.holds c.next_queued-name.ensures.next)
+    (subst (λ (x : Coursed). Tells x.told a b) c.next_queued-name.ensures.same c.block-block.ensures) in
+    let beside : LendsBeside parts_ s w.told t v (s.need v) gr.block gr.size gr.fresh gr.given_up a b =
+    record { granted = i; next = c.next_queued-name.ensures.next; lends = l } in
     let input = c.in-Ok.input in
     let named : name_of input ≡ a = lent-name parts_ w.told t a b (name_of input) (parts_ input) l c.in-Ok.ensures.part in
     let part : IsPartOf (kept_at t b) a (parts_ input) = subst (λ (x : FrameName). IsPartOf (kept_at t b) x (parts_ input)) named c.in-Ok.ensures.part in
     let T = c.storage_for.new.table in
-    let back : BackTo parts_ s w.told t T b = not-stored-back parts_ (grant_laws parts_) s w.told t T v (s.need v) gr.block gr.size gr.fresh gr.given_up a b beside (subst (λ (u : List Kept). IsNotStored gr.size gr.block gr.fresh u T) c.in-Ok.ensures.rest c.in_default-storage_for.ensures.refused) in
+    let back : BackTo parts_ s w.told t T b =
+    not-stored-back parts_ (grant_laws parts_) s w.told t T v (s.need v) gr.block gr.size gr.fresh gr.given_up a b beside
+    (subst (λ (u : List Kept). IsNotStored gr.size gr.block gr.fresh u T) c.in-Ok.ensures.rest c.in_default-storage_for.ensures.refused) in
     let again = back-again parts_ (look_laws parts_) s w.told t T a b (parts_ input) l part back in
     board-same parts_ s w w0 t c.give_back.new.self c.self.invariant c.next_queued-name.ensures.same
     (subst (λ (u : List Kept). HoldsBlocks parts_ s w.told u) (sym c.give_back.ensures) again.2)
@@ -191,19 +240,29 @@ returns-in_default-storage_for-clause-gives g c =
     let a = c.next_queued-name.result in
     let b = c.block-block.result in
     let w0 = c.next_queued-name.new.self in
-    let allowed : take_refusal {F = g.row.F.Denot} {B = g.row.F-Blank.Denot} {O = g.row.F-Of.Denot} s r v (past w.told) ≡ None = subst (λ (x : BoardState). take_refusal {F = g.row.F.Denot} {B = g.row.F-Blank.Denot} {O = g.row.F-Of.Denot} s r v (past x) ≡ None) (sym c.self.view_is) c.requires.allowed in
-    let given : grant s (past w.told) (s.need v) ≡ Granted gr.block gr.size gr.fresh gr.given_up = subst (λ (x : BoardState). grant s (past x) (s.need v) ≡ Granted gr.block gr.size gr.fresh gr.given_up) (sym c.self.view_is) c.requires.granted in
-    let i : IsGranted parts_ s w.told t (s.need v) gr.block gr.size gr.fresh gr.given_up = record { run = c.self.invariant.run; holds = c.self.invariant.holds; granted = given } in
-    let l : LendsAt parts_ w.told t a b = lends-at parts_ w.told t a b ((look_laws parts_).queued s w.told t v a c.self.invariant.run c.self.invariant.holds c.next_queued-name.ensures.next) (subst (λ (x : Coursed). Tells x.told a b) c.next_queued-name.ensures.same c.block-block.ensures) in
-    let beside : LendsBeside parts_ s w.told t v (s.need v) gr.block gr.size gr.fresh gr.given_up a b = record { granted = i; next = c.next_queued-name.ensures.next; lends = l } in
+    let allowed : take_refusal {F = g.row.F.Denot} {B = g.row.F-Blank.Denot} {O = g.row.F-Of.Denot} s r v (past w.told) ≡ None =
+    subst (λ (x : BoardState). take_refusal {F = g.row.F.Denot} {B = g.row.F-Blank.Denot} {O = g.row.F-Of.Denot} s r v (past x) ≡ None) (sym c.self.view_is)
+    c.requires.allowed in
+    let given : grant s (past w.told) (s.need v) ≡ Granted gr.block gr.size gr.fresh gr.given_up =
+    subst (λ (x : BoardState). grant s (past x) (s.need v) ≡ Granted gr.block gr.size gr.fresh gr.given_up) (sym c.self.view_is) c.requires.granted in
+    let i : IsGranted parts_ s w.told t (s.need v) gr.block gr.size gr.fresh gr.given_up =
+    record { run = c.self.invariant.run; holds = c.self.invariant.holds; granted = given } in
+    let l : LendsAt parts_ w.told t a b =
+    lends-at parts_ w.told t a b ((look_laws parts_).queued s w.told t v a c.self.invariant.run c.self.invariant.holds c.next_queued-name.ensures.next)
+    (subst (λ (x : Coursed). Tells x.told a b) c.next_queued-name.ensures.same c.block-block.ensures) in
+    let beside : LendsBeside parts_ s w.told t v (s.need v) gr.block gr.size gr.fresh gr.given_up a b =
+    record { granted = i; next = c.next_queued-name.ensures.next; lends = l } in
     let input = c.in-Ok.input in
     let named : name_of input ≡ a = lent-name parts_ w.told t a b (name_of input) (parts_ input) l c.in-Ok.ensures.part in
     let part : IsPartOf (kept_at t b) a (parts_ input) = subst (λ (x : FrameName). IsPartOf (kept_at t b) x (parts_ input)) named c.in-Ok.ensures.part in
     let T = c.storage_for.new.table in
     let wants : TellParts parts_ → IsTrue (wants_storage w.told (Granted gr.block gr.size gr.fresh gr.given_up)) =
-    not-stored-lent-wants parts_ (grant_laws parts_) s w.told t T v (s.need v) gr.block gr.size gr.fresh gr.given_up a b beside (subst (λ (u : List Kept). IsNotStored gr.size gr.block gr.fresh u T) c.in-Ok.ensures.rest c.in_default-storage_for.ensures.refused) in
-    subst (λ (y : BoardState). TakeGives {F = g.row.F.Denot} {B = g.row.F-Blank.Denot} {O = g.row.F-Of.Denot} name_of parts_ bytes s y r v take.OutOfMemory w0.told) c.self.view_is
-    (made-no_memory O name_of parts_ bytes s w.told w0.told r v gr.block gr.size gr.fresh gr.given_up allowed c.requires.makes given wants (ap (λ (y : Coursed). y.told) c.next_queued-name.ensures.same))
+    not-stored-lent-wants parts_ (grant_laws parts_) s w.told t T v (s.need v) gr.block gr.size gr.fresh gr.given_up a b beside
+    (subst (λ (u : List Kept). IsNotStored gr.size gr.block gr.fresh u T) c.in-Ok.ensures.rest c.in_default-storage_for.ensures.refused) in
+    subst (λ (y : BoardState). TakeGives {F = g.row.F.Denot} {B = g.row.F-Blank.Denot} {O = g.row.F-Of.Denot} name_of parts_ bytes s y r v
+    take.OutOfMemory w0.told) c.self.view_is
+    (made-no_memory O name_of parts_ bytes s w.told w0.told r v gr.block gr.size gr.fresh gr.given_up allowed c.requires.makes given wants
+    (ap (λ (y : Coursed). y.told) c.next_queued-name.ensures.same))
 
 pub take_block-requires-clause-next : goal.take_block-requires-clause-next
 take_block-requires-clause-next g c =
@@ -220,15 +279,23 @@ take_block-requires-clause-next g c =
     let a = c.next_queued-name.result in
     let b = c.block-block.result in
     let w0 = c.next_queued-name.new.self in
-    let allowed : take_refusal {F = g.row.F.Denot} {B = g.row.F-Blank.Denot} {O = g.row.F-Of.Denot} s r v (past w.told) ≡ None = subst (λ (x : BoardState). take_refusal {F = g.row.F.Denot} {B = g.row.F-Blank.Denot} {O = g.row.F-Of.Denot} s r v (past x) ≡ None) (sym c.self.view_is) c.requires.allowed in
-    let given : grant s (past w.told) (s.need v) ≡ Granted gr.block gr.size gr.fresh gr.given_up = subst (λ (x : BoardState). grant s (past x) (s.need v) ≡ Granted gr.block gr.size gr.fresh gr.given_up) (sym c.self.view_is) c.requires.granted in
-    let i : IsGranted parts_ s w.told t (s.need v) gr.block gr.size gr.fresh gr.given_up = record { run = c.self.invariant.run; holds = c.self.invariant.holds; granted = given } in
-    let l : LendsAt parts_ w.told t a b = lends-at parts_ w.told t a b ((look_laws parts_).queued s w.told t v a c.self.invariant.run c.self.invariant.holds c.next_queued-name.ensures.next) (subst (λ (x : Coursed). Tells x.told a b) c.next_queued-name.ensures.same c.block-block.ensures) in
-    let beside : LendsBeside parts_ s w.told t v (s.need v) gr.block gr.size gr.fresh gr.given_up a b = record { granted = i; next = c.next_queued-name.ensures.next; lends = l } in
+    let allowed : take_refusal {F = g.row.F.Denot} {B = g.row.F-Blank.Denot} {O = g.row.F-Of.Denot} s r v (past w.told) ≡ None =
+    subst (λ (x : BoardState). take_refusal {F = g.row.F.Denot} {B = g.row.F-Blank.Denot} {O = g.row.F-Of.Denot} s r v (past x) ≡ None) (sym c.self.view_is)
+    c.requires.allowed in
+    let given : grant s (past w.told) (s.need v) ≡ Granted gr.block gr.size gr.fresh gr.given_up =
+    subst (λ (x : BoardState). grant s (past x) (s.need v) ≡ Granted gr.block gr.size gr.fresh gr.given_up) (sym c.self.view_is) c.requires.granted in
+    let i : IsGranted parts_ s w.told t (s.need v) gr.block gr.size gr.fresh gr.given_up =
+    record { run = c.self.invariant.run; holds = c.self.invariant.holds; granted = given } in
+    let l : LendsAt parts_ w.told t a b =
+    lends-at parts_ w.told t a b ((look_laws parts_).queued s w.told t v a c.self.invariant.run c.self.invariant.holds c.next_queued-name.ensures.next)
+    (subst (λ (x : Coursed). Tells x.told a b) c.next_queued-name.ensures.same c.block-block.ensures) in
+    let beside : LendsBeside parts_ s w.told t v (s.need v) gr.block gr.size gr.fresh gr.given_up a b =
+    record { granted = i; next = c.next_queued-name.ensures.next; lends = l } in
     let input = c.in-Ok.input in
     let named : name_of input ≡ a = lent-name parts_ w.told t a b (name_of input) (parts_ input) l c.in-Ok.ensures.part in
     let part : IsPartOf (kept_at t b) a (parts_ input) = subst (λ (x : FrameName). IsPartOf (kept_at t b) x (parts_ input)) named c.in-Ok.ensures.part in
-    let next : is_next (name_of input) (queued v (past w.told)) ≡ true = subst (λ (y : FrameName). is_next y (queued v (past w.told)) ≡ true) (sym named) c.next_queued-name.ensures.next in
+    let next : is_next (name_of input) (queued v (past w.told)) ≡ true =
+    subst (λ (y : FrameName). is_next y (queued v (past w.told)) ≡ true) (sym named) c.next_queued-name.ensures.next in
     subst (λ (y : Coursed). is_next (name_of input) (queued v (past y.told)) ≡ true) (sym c.next_queued-name.ensures.same) next
 
 pub give_back-requires-in_default-take_block-clause-frame : goal.give_back-requires-in_default-take_block-clause-frame
@@ -246,20 +313,29 @@ give_back-requires-in_default-take_block-clause-frame g c =
     let a = c.next_queued-name.result in
     let b = c.block-block.result in
     let w0 = c.next_queued-name.new.self in
-    let allowed : take_refusal {F = g.row.F.Denot} {B = g.row.F-Blank.Denot} {O = g.row.F-Of.Denot} s r v (past w.told) ≡ None = subst (λ (x : BoardState). take_refusal {F = g.row.F.Denot} {B = g.row.F-Blank.Denot} {O = g.row.F-Of.Denot} s r v (past x) ≡ None) (sym c.self.view_is) c.requires.allowed in
-    let given : grant s (past w.told) (s.need v) ≡ Granted gr.block gr.size gr.fresh gr.given_up = subst (λ (x : BoardState). grant s (past x) (s.need v) ≡ Granted gr.block gr.size gr.fresh gr.given_up) (sym c.self.view_is) c.requires.granted in
-    let i : IsGranted parts_ s w.told t (s.need v) gr.block gr.size gr.fresh gr.given_up = record { run = c.self.invariant.run; holds = c.self.invariant.holds; granted = given } in
-    let l : LendsAt parts_ w.told t a b = lends-at parts_ w.told t a b ((look_laws parts_).queued s w.told t v a c.self.invariant.run c.self.invariant.holds c.next_queued-name.ensures.next) (subst (λ (x : Coursed). Tells x.told a b) c.next_queued-name.ensures.same c.block-block.ensures) in
-    let beside : LendsBeside parts_ s w.told t v (s.need v) gr.block gr.size gr.fresh gr.given_up a b = record { granted = i; next = c.next_queued-name.ensures.next; lends = l } in
+    let allowed : take_refusal {F = g.row.F.Denot} {B = g.row.F-Blank.Denot} {O = g.row.F-Of.Denot} s r v (past w.told) ≡ None =
+    subst (λ (x : BoardState). take_refusal {F = g.row.F.Denot} {B = g.row.F-Blank.Denot} {O = g.row.F-Of.Denot} s r v (past x) ≡ None) (sym c.self.view_is)
+    c.requires.allowed in
+    let given : grant s (past w.told) (s.need v) ≡ Granted gr.block gr.size gr.fresh gr.given_up =
+    subst (λ (x : BoardState). grant s (past x) (s.need v) ≡ Granted gr.block gr.size gr.fresh gr.given_up) (sym c.self.view_is) c.requires.granted in
+    let i : IsGranted parts_ s w.told t (s.need v) gr.block gr.size gr.fresh gr.given_up =
+    record { run = c.self.invariant.run; holds = c.self.invariant.holds; granted = given } in
+    let l : LendsAt parts_ w.told t a b =
+    lends-at parts_ w.told t a b ((look_laws parts_).queued s w.told t v a c.self.invariant.run c.self.invariant.holds c.next_queued-name.ensures.next)
+    (subst (λ (x : Coursed). Tells x.told a b) c.next_queued-name.ensures.same c.block-block.ensures) in
+    let beside : LendsBeside parts_ s w.told t v (s.need v) gr.block gr.size gr.fresh gr.given_up a b =
+    record { granted = i; next = c.next_queued-name.ensures.next; lends = l } in
     let input = c.in-Ok.input in
     let named : name_of input ≡ a = lent-name parts_ w.told t a b (name_of input) (parts_ input) l c.in-Ok.ensures.part in
     let part : IsPartOf (kept_at t b) a (parts_ input) = subst (λ (x : FrameName). IsPartOf (kept_at t b) x (parts_ input)) named c.in-Ok.ensures.part in
     let T = c.storage_for.new.table in
     let blank = c.in-Ok-storage_for.field-0.blank in
     let x = c.in-Ok-storage_for.field-0.regrown in
-    let place : T ≡ with_storage gr.block gr.fresh (lent_out t b) = c.in-Ok-storage_for.ensures.place ∙ ap (λ (u : List Kept). with_storage gr.block gr.fresh u) c.in-Ok.ensures.rest in
+    let place : T ≡ with_storage gr.block gr.fresh (lent_out t b) =
+    c.in-Ok-storage_for.ensures.place ∙ ap (λ (u : List Kept). with_storage gr.block gr.fresh u) c.in-Ok.ensures.rest in
     let refused = c.in_default-take_block.ensures.refused in
-    let back : BackTo parts_ s w.told t T b = fresh-back parts_ (grant_laws parts_) s w.told t T v (s.need v) gr.block gr.size gr.fresh gr.given_up a b beside refused.1 place in
+    let back : BackTo parts_ s w.told t T b =
+    fresh-back parts_ (grant_laws parts_) s w.told t T v (s.need v) gr.block gr.size gr.fresh gr.given_up a b beside refused.1 place in
     let again = back-again parts_ (look_laws parts_) s w.told t T a b (parts_ input) l part back in
     again.1
 
@@ -278,20 +354,29 @@ invariant_of-self-in_default-take_block g c =
     let a = c.next_queued-name.result in
     let b = c.block-block.result in
     let w0 = c.next_queued-name.new.self in
-    let allowed : take_refusal {F = g.row.F.Denot} {B = g.row.F-Blank.Denot} {O = g.row.F-Of.Denot} s r v (past w.told) ≡ None = subst (λ (x : BoardState). take_refusal {F = g.row.F.Denot} {B = g.row.F-Blank.Denot} {O = g.row.F-Of.Denot} s r v (past x) ≡ None) (sym c.self.view_is) c.requires.allowed in
-    let given : grant s (past w.told) (s.need v) ≡ Granted gr.block gr.size gr.fresh gr.given_up = subst (λ (x : BoardState). grant s (past x) (s.need v) ≡ Granted gr.block gr.size gr.fresh gr.given_up) (sym c.self.view_is) c.requires.granted in
-    let i : IsGranted parts_ s w.told t (s.need v) gr.block gr.size gr.fresh gr.given_up = record { run = c.self.invariant.run; holds = c.self.invariant.holds; granted = given } in
-    let l : LendsAt parts_ w.told t a b = lends-at parts_ w.told t a b ((look_laws parts_).queued s w.told t v a c.self.invariant.run c.self.invariant.holds c.next_queued-name.ensures.next) (subst (λ (x : Coursed). Tells x.told a b) c.next_queued-name.ensures.same c.block-block.ensures) in
-    let beside : LendsBeside parts_ s w.told t v (s.need v) gr.block gr.size gr.fresh gr.given_up a b = record { granted = i; next = c.next_queued-name.ensures.next; lends = l } in
+    let allowed : take_refusal {F = g.row.F.Denot} {B = g.row.F-Blank.Denot} {O = g.row.F-Of.Denot} s r v (past w.told) ≡ None =
+    subst (λ (x : BoardState). take_refusal {F = g.row.F.Denot} {B = g.row.F-Blank.Denot} {O = g.row.F-Of.Denot} s r v (past x) ≡ None) (sym c.self.view_is)
+    c.requires.allowed in
+    let given : grant s (past w.told) (s.need v) ≡ Granted gr.block gr.size gr.fresh gr.given_up =
+    subst (λ (x : BoardState). grant s (past x) (s.need v) ≡ Granted gr.block gr.size gr.fresh gr.given_up) (sym c.self.view_is) c.requires.granted in
+    let i : IsGranted parts_ s w.told t (s.need v) gr.block gr.size gr.fresh gr.given_up =
+    record { run = c.self.invariant.run; holds = c.self.invariant.holds; granted = given } in
+    let l : LendsAt parts_ w.told t a b =
+    lends-at parts_ w.told t a b ((look_laws parts_).queued s w.told t v a c.self.invariant.run c.self.invariant.holds c.next_queued-name.ensures.next)
+    (subst (λ (x : Coursed). Tells x.told a b) c.next_queued-name.ensures.same c.block-block.ensures) in
+    let beside : LendsBeside parts_ s w.told t v (s.need v) gr.block gr.size gr.fresh gr.given_up a b =
+    record { granted = i; next = c.next_queued-name.ensures.next; lends = l } in
     let input = c.in-Ok.input in
     let named : name_of input ≡ a = lent-name parts_ w.told t a b (name_of input) (parts_ input) l c.in-Ok.ensures.part in
     let part : IsPartOf (kept_at t b) a (parts_ input) = subst (λ (x : FrameName). IsPartOf (kept_at t b) x (parts_ input)) named c.in-Ok.ensures.part in
     let T = c.storage_for.new.table in
     let blank = c.in-Ok-storage_for.field-0.blank in
     let x = c.in-Ok-storage_for.field-0.regrown in
-    let place : T ≡ with_storage gr.block gr.fresh (lent_out t b) = c.in-Ok-storage_for.ensures.place ∙ ap (λ (u : List Kept). with_storage gr.block gr.fresh u) c.in-Ok.ensures.rest in
+    let place : T ≡ with_storage gr.block gr.fresh (lent_out t b) =
+    c.in-Ok-storage_for.ensures.place ∙ ap (λ (u : List Kept). with_storage gr.block gr.fresh u) c.in-Ok.ensures.rest in
     let refused = c.in_default-take_block.ensures.refused in
-    let back : BackTo parts_ s w.told t T b = fresh-back parts_ (grant_laws parts_) s w.told t T v (s.need v) gr.block gr.size gr.fresh gr.given_up a b beside refused.1 place in
+    let back : BackTo parts_ s w.told t T b =
+    fresh-back parts_ (grant_laws parts_) s w.told t T v (s.need v) gr.block gr.size gr.fresh gr.given_up a b beside refused.1 place in
     let again = back-again parts_ (look_laws parts_) s w.told t T a b (parts_ input) l part back in
     board-same parts_ s w c.take_block.new.self t c.give_back-in_default-take_block.new.self c.self.invariant (refused.0 ∙ c.next_queued-name.ensures.same)
     (subst (λ (u : List Kept). HoldsBlocks parts_ s w.told u) (sym c.give_back-in_default-take_block.ensures) again.2)
@@ -311,20 +396,29 @@ forget-requires g c =
     let a = c.next_queued-name.result in
     let b = c.block-block.result in
     let w0 = c.next_queued-name.new.self in
-    let allowed : take_refusal {F = g.row.F.Denot} {B = g.row.F-Blank.Denot} {O = g.row.F-Of.Denot} s r v (past w.told) ≡ None = subst (λ (x : BoardState). take_refusal {F = g.row.F.Denot} {B = g.row.F-Blank.Denot} {O = g.row.F-Of.Denot} s r v (past x) ≡ None) (sym c.self.view_is) c.requires.allowed in
-    let given : grant s (past w.told) (s.need v) ≡ Granted gr.block gr.size gr.fresh gr.given_up = subst (λ (x : BoardState). grant s (past x) (s.need v) ≡ Granted gr.block gr.size gr.fresh gr.given_up) (sym c.self.view_is) c.requires.granted in
-    let i : IsGranted parts_ s w.told t (s.need v) gr.block gr.size gr.fresh gr.given_up = record { run = c.self.invariant.run; holds = c.self.invariant.holds; granted = given } in
-    let l : LendsAt parts_ w.told t a b = lends-at parts_ w.told t a b ((look_laws parts_).queued s w.told t v a c.self.invariant.run c.self.invariant.holds c.next_queued-name.ensures.next) (subst (λ (x : Coursed). Tells x.told a b) c.next_queued-name.ensures.same c.block-block.ensures) in
-    let beside : LendsBeside parts_ s w.told t v (s.need v) gr.block gr.size gr.fresh gr.given_up a b = record { granted = i; next = c.next_queued-name.ensures.next; lends = l } in
+    let allowed : take_refusal {F = g.row.F.Denot} {B = g.row.F-Blank.Denot} {O = g.row.F-Of.Denot} s r v (past w.told) ≡ None =
+    subst (λ (x : BoardState). take_refusal {F = g.row.F.Denot} {B = g.row.F-Blank.Denot} {O = g.row.F-Of.Denot} s r v (past x) ≡ None) (sym c.self.view_is)
+    c.requires.allowed in
+    let given : grant s (past w.told) (s.need v) ≡ Granted gr.block gr.size gr.fresh gr.given_up =
+    subst (λ (x : BoardState). grant s (past x) (s.need v) ≡ Granted gr.block gr.size gr.fresh gr.given_up) (sym c.self.view_is) c.requires.granted in
+    let i : IsGranted parts_ s w.told t (s.need v) gr.block gr.size gr.fresh gr.given_up =
+    record { run = c.self.invariant.run; holds = c.self.invariant.holds; granted = given } in
+    let l : LendsAt parts_ w.told t a b =
+    lends-at parts_ w.told t a b ((look_laws parts_).queued s w.told t v a c.self.invariant.run c.self.invariant.holds c.next_queued-name.ensures.next)
+    (subst (λ (x : Coursed). Tells x.told a b) c.next_queued-name.ensures.same c.block-block.ensures) in
+    let beside : LendsBeside parts_ s w.told t v (s.need v) gr.block gr.size gr.fresh gr.given_up a b =
+    record { granted = i; next = c.next_queued-name.ensures.next; lends = l } in
     let input = c.in-Ok.input in
     let named : name_of input ≡ a = lent-name parts_ w.told t a b (name_of input) (parts_ input) l c.in-Ok.ensures.part in
     let part : IsPartOf (kept_at t b) a (parts_ input) = subst (λ (x : FrameName). IsPartOf (kept_at t b) x (parts_ input)) named c.in-Ok.ensures.part in
     let T = c.storage_for.new.table in
     let blank = c.in-Ok-storage_for.field-0.blank in
     let x = c.in-Ok-storage_for.field-0.regrown in
-    let place : T ≡ with_storage gr.block gr.fresh (lent_out t b) = c.in-Ok-storage_for.ensures.place ∙ ap (λ (u : List Kept). with_storage gr.block gr.fresh u) c.in-Ok.ensures.rest in
+    let place : T ≡ with_storage gr.block gr.fresh (lent_out t b) =
+    c.in-Ok-storage_for.ensures.place ∙ ap (λ (u : List Kept). with_storage gr.block gr.fresh u) c.in-Ok.ensures.rest in
     subst (λ (u : List Kept). gr.block < length u) (sym place)
-    (storage-there gr.block gr.fresh (lent_out t b) (omega (arith, (grant_laws parts_).next s w.told t (s.need v) gr.block gr.size gr.fresh gr.given_up i, kept-length t b (less_one (kept_at t b)))))
+    (storage-there gr.block gr.fresh (lent_out t b)
+    (omega (arith, (grant_laws parts_).next s w.told t (s.need v) gr.block gr.size gr.fresh gr.given_up i, kept-length t b (less_one (kept_at t b)))))
 
 pub invariant_of-self-2 : goal.invariant_of-self-2
 invariant_of-self-2 g c =
@@ -341,19 +435,28 @@ invariant_of-self-2 g c =
     let a = c.next_queued-name.result in
     let b = c.block-block.result in
     let w0 = c.next_queued-name.new.self in
-    let allowed : take_refusal {F = g.row.F.Denot} {B = g.row.F-Blank.Denot} {O = g.row.F-Of.Denot} s r v (past w.told) ≡ None = subst (λ (x : BoardState). take_refusal {F = g.row.F.Denot} {B = g.row.F-Blank.Denot} {O = g.row.F-Of.Denot} s r v (past x) ≡ None) (sym c.self.view_is) c.requires.allowed in
-    let given : grant s (past w.told) (s.need v) ≡ Granted gr.block gr.size gr.fresh gr.given_up = subst (λ (x : BoardState). grant s (past x) (s.need v) ≡ Granted gr.block gr.size gr.fresh gr.given_up) (sym c.self.view_is) c.requires.granted in
-    let i : IsGranted parts_ s w.told t (s.need v) gr.block gr.size gr.fresh gr.given_up = record { run = c.self.invariant.run; holds = c.self.invariant.holds; granted = given } in
-    let l : LendsAt parts_ w.told t a b = lends-at parts_ w.told t a b ((look_laws parts_).queued s w.told t v a c.self.invariant.run c.self.invariant.holds c.next_queued-name.ensures.next) (subst (λ (x : Coursed). Tells x.told a b) c.next_queued-name.ensures.same c.block-block.ensures) in
-    let beside : LendsBeside parts_ s w.told t v (s.need v) gr.block gr.size gr.fresh gr.given_up a b = record { granted = i; next = c.next_queued-name.ensures.next; lends = l } in
+    let allowed : take_refusal {F = g.row.F.Denot} {B = g.row.F-Blank.Denot} {O = g.row.F-Of.Denot} s r v (past w.told) ≡ None =
+    subst (λ (x : BoardState). take_refusal {F = g.row.F.Denot} {B = g.row.F-Blank.Denot} {O = g.row.F-Of.Denot} s r v (past x) ≡ None) (sym c.self.view_is)
+    c.requires.allowed in
+    let given : grant s (past w.told) (s.need v) ≡ Granted gr.block gr.size gr.fresh gr.given_up =
+    subst (λ (x : BoardState). grant s (past x) (s.need v) ≡ Granted gr.block gr.size gr.fresh gr.given_up) (sym c.self.view_is) c.requires.granted in
+    let i : IsGranted parts_ s w.told t (s.need v) gr.block gr.size gr.fresh gr.given_up =
+    record { run = c.self.invariant.run; holds = c.self.invariant.holds; granted = given } in
+    let l : LendsAt parts_ w.told t a b =
+    lends-at parts_ w.told t a b ((look_laws parts_).queued s w.told t v a c.self.invariant.run c.self.invariant.holds c.next_queued-name.ensures.next)
+    (subst (λ (x : Coursed). Tells x.told a b) c.next_queued-name.ensures.same c.block-block.ensures) in
+    let beside : LendsBeside parts_ s w.told t v (s.need v) gr.block gr.size gr.fresh gr.given_up a b =
+    record { granted = i; next = c.next_queued-name.ensures.next; lends = l } in
     let input = c.in-Ok.input in
     let named : name_of input ≡ a = lent-name parts_ w.told t a b (name_of input) (parts_ input) l c.in-Ok.ensures.part in
     let part : IsPartOf (kept_at t b) a (parts_ input) = subst (λ (x : FrameName). IsPartOf (kept_at t b) x (parts_ input)) named c.in-Ok.ensures.part in
     let T = c.storage_for.new.table in
     let blank = c.in-Ok-storage_for.field-0.blank in
     let x = c.in-Ok-storage_for.field-0.regrown in
-    let place : T ≡ with_storage gr.block gr.fresh (lent_out t b) = c.in-Ok-storage_for.ensures.place ∙ ap (λ (u : List Kept). with_storage gr.block gr.fresh u) c.in-Ok.ensures.rest in
-    let next : is_next (name_of input) (queued v (past w.told)) ≡ true = subst (λ (y : FrameName). is_next y (queued v (past w.told)) ≡ true) (sym named) c.next_queued-name.ensures.next in
+    let place : T ≡ with_storage gr.block gr.fresh (lent_out t b) =
+    c.in-Ok-storage_for.ensures.place ∙ ap (λ (u : List Kept). with_storage gr.block gr.fresh u) c.in-Ok.ensures.rest in
+    let next : is_next (name_of input) (queued v (past w.told)) ≡ true =
+    subst (λ (y : FrameName). is_next y (queued v (past w.told)) ≡ true) (sym named) c.next_queued-name.ensures.next in
     let ls : LendsAt parts_ w.told t (name_of input) b = subst (λ (y : FrameName). LendsAt parts_ w.told t y b) (sym named) l in
     let m : Makes O name_of parts_ bytes s w t r v b gr.block gr.size gr.fresh gr.given_up x input blank =
     record {
@@ -369,8 +472,11 @@ invariant_of-self-2 g c =
       part = c.in-Ok.ensures.part;
     } in
     let told : c.take_block.new.self ≡ record w { told = made name_of parts_ s r v gr.block gr.size gr.fresh gr.given_up x input w.told } =
-    c.in-Ok-take_block.ensures.taken ∙ ap (λ (y : Coursed). record y { told = made name_of parts_ s r v gr.block gr.size gr.fresh gr.given_up x input y.told }) c.next_queued-name.ensures.same in
-    made-board O name_of parts_ bytes (look_laws parts_) (grant_laws parts_) s w c.take_block.new.self t c.forget.new.self r v b gr.block gr.size gr.fresh gr.given_up x input blank m told
+    c.in-Ok-take_block.ensures.taken
+    ∙ ap (λ (y : Coursed). record y { told = made name_of parts_ s r v gr.block gr.size gr.fresh gr.given_up x input y.told })
+    c.next_queued-name.ensures.same in
+    made-board O name_of parts_ bytes (look_laws parts_)
+    (grant_laws parts_) s w c.take_block.new.self t c.forget.new.self r v b gr.block gr.size gr.fresh gr.given_up x input blank m told
     (c.forget.ensures ∙ ap (λ (u : List Kept). with_kept u gr.block Empty) place)
 
 pub returns-clause-gives : goal.returns-clause-gives
@@ -388,19 +494,28 @@ returns-clause-gives g c =
     let a = c.next_queued-name.result in
     let b = c.block-block.result in
     let w0 = c.next_queued-name.new.self in
-    let allowed : take_refusal {F = g.row.F.Denot} {B = g.row.F-Blank.Denot} {O = g.row.F-Of.Denot} s r v (past w.told) ≡ None = subst (λ (x : BoardState). take_refusal {F = g.row.F.Denot} {B = g.row.F-Blank.Denot} {O = g.row.F-Of.Denot} s r v (past x) ≡ None) (sym c.self.view_is) c.requires.allowed in
-    let given : grant s (past w.told) (s.need v) ≡ Granted gr.block gr.size gr.fresh gr.given_up = subst (λ (x : BoardState). grant s (past x) (s.need v) ≡ Granted gr.block gr.size gr.fresh gr.given_up) (sym c.self.view_is) c.requires.granted in
-    let i : IsGranted parts_ s w.told t (s.need v) gr.block gr.size gr.fresh gr.given_up = record { run = c.self.invariant.run; holds = c.self.invariant.holds; granted = given } in
-    let l : LendsAt parts_ w.told t a b = lends-at parts_ w.told t a b ((look_laws parts_).queued s w.told t v a c.self.invariant.run c.self.invariant.holds c.next_queued-name.ensures.next) (subst (λ (x : Coursed). Tells x.told a b) c.next_queued-name.ensures.same c.block-block.ensures) in
-    let beside : LendsBeside parts_ s w.told t v (s.need v) gr.block gr.size gr.fresh gr.given_up a b = record { granted = i; next = c.next_queued-name.ensures.next; lends = l } in
+    let allowed : take_refusal {F = g.row.F.Denot} {B = g.row.F-Blank.Denot} {O = g.row.F-Of.Denot} s r v (past w.told) ≡ None =
+    subst (λ (x : BoardState). take_refusal {F = g.row.F.Denot} {B = g.row.F-Blank.Denot} {O = g.row.F-Of.Denot} s r v (past x) ≡ None) (sym c.self.view_is)
+    c.requires.allowed in
+    let given : grant s (past w.told) (s.need v) ≡ Granted gr.block gr.size gr.fresh gr.given_up =
+    subst (λ (x : BoardState). grant s (past x) (s.need v) ≡ Granted gr.block gr.size gr.fresh gr.given_up) (sym c.self.view_is) c.requires.granted in
+    let i : IsGranted parts_ s w.told t (s.need v) gr.block gr.size gr.fresh gr.given_up =
+    record { run = c.self.invariant.run; holds = c.self.invariant.holds; granted = given } in
+    let l : LendsAt parts_ w.told t a b =
+    lends-at parts_ w.told t a b ((look_laws parts_).queued s w.told t v a c.self.invariant.run c.self.invariant.holds c.next_queued-name.ensures.next)
+    (subst (λ (x : Coursed). Tells x.told a b) c.next_queued-name.ensures.same c.block-block.ensures) in
+    let beside : LendsBeside parts_ s w.told t v (s.need v) gr.block gr.size gr.fresh gr.given_up a b =
+    record { granted = i; next = c.next_queued-name.ensures.next; lends = l } in
     let input = c.in-Ok.input in
     let named : name_of input ≡ a = lent-name parts_ w.told t a b (name_of input) (parts_ input) l c.in-Ok.ensures.part in
     let part : IsPartOf (kept_at t b) a (parts_ input) = subst (λ (x : FrameName). IsPartOf (kept_at t b) x (parts_ input)) named c.in-Ok.ensures.part in
     let T = c.storage_for.new.table in
     let blank = c.in-Ok-storage_for.field-0.blank in
     let x = c.in-Ok-storage_for.field-0.regrown in
-    let place : T ≡ with_storage gr.block gr.fresh (lent_out t b) = c.in-Ok-storage_for.ensures.place ∙ ap (λ (u : List Kept). with_storage gr.block gr.fresh u) c.in-Ok.ensures.rest in
-    let next : is_next (name_of input) (queued v (past w.told)) ≡ true = subst (λ (y : FrameName). is_next y (queued v (past w.told)) ≡ true) (sym named) c.next_queued-name.ensures.next in
+    let place : T ≡ with_storage gr.block gr.fresh (lent_out t b) =
+    c.in-Ok-storage_for.ensures.place ∙ ap (λ (u : List Kept). with_storage gr.block gr.fresh u) c.in-Ok.ensures.rest in
+    let next : is_next (name_of input) (queued v (past w.told)) ≡ true =
+    subst (λ (y : FrameName). is_next y (queued v (past w.told)) ≡ true) (sym named) c.next_queued-name.ensures.next in
     let ls : LendsAt parts_ w.told t (name_of input) b = subst (λ (y : FrameName). LendsAt parts_ w.told t y b) (sym named) l in
     let m : Makes O name_of parts_ bytes s w t r v b gr.block gr.size gr.fresh gr.given_up x input blank =
     record {
@@ -416,9 +531,13 @@ returns-clause-gives g c =
       part = c.in-Ok.ensures.part;
     } in
     let told : c.take_block.new.self ≡ record w { told = made name_of parts_ s r v gr.block gr.size gr.fresh gr.given_up x input w.told } =
-    c.in-Ok-take_block.ensures.taken ∙ ap (λ (y : Coursed). record y { told = made name_of parts_ s r v gr.block gr.size gr.fresh gr.given_up x input y.told }) c.next_queued-name.ensures.same in
-    subst (λ (y : BoardState). TakeGives {F = g.row.F.Denot} {B = g.row.F-Blank.Denot} {O = g.row.F-Of.Denot} name_of parts_ bytes s y r v (take.Job v input (Some blank)) c.take_block.new.self.told) c.self.view_is
-    (made-gives O name_of parts_ bytes (look_laws parts_) (grant_laws parts_) s w t r v b gr.block gr.size gr.fresh gr.given_up x input blank c.take_block.new.self.told m (ap (λ (y : Coursed). y.told) told))
+    c.in-Ok-take_block.ensures.taken
+    ∙ ap (λ (y : Coursed). record y { told = made name_of parts_ s r v gr.block gr.size gr.fresh gr.given_up x input y.told })
+    c.next_queued-name.ensures.same in
+    subst (λ (y : BoardState). TakeGives {F = g.row.F.Denot} {B = g.row.F-Blank.Denot} {O = g.row.F-Of.Denot} name_of parts_ bytes s y r v
+    (take.Job v input (Some blank)) c.take_block.new.self.told) c.self.view_is
+    (made-gives O name_of parts_ bytes (look_laws parts_)
+    (grant_laws parts_) s w t r v b gr.block gr.size gr.fresh gr.given_up x input blank c.take_block.new.self.told m (ap (λ (y : Coursed). y.told) told))
 
 pub returns-clause-lent : goal.returns-clause-lent
 returns-clause-lent g c =
@@ -435,19 +554,28 @@ returns-clause-lent g c =
     let a = c.next_queued-name.result in
     let b = c.block-block.result in
     let w0 = c.next_queued-name.new.self in
-    let allowed : take_refusal {F = g.row.F.Denot} {B = g.row.F-Blank.Denot} {O = g.row.F-Of.Denot} s r v (past w.told) ≡ None = subst (λ (x : BoardState). take_refusal {F = g.row.F.Denot} {B = g.row.F-Blank.Denot} {O = g.row.F-Of.Denot} s r v (past x) ≡ None) (sym c.self.view_is) c.requires.allowed in
-    let given : grant s (past w.told) (s.need v) ≡ Granted gr.block gr.size gr.fresh gr.given_up = subst (λ (x : BoardState). grant s (past x) (s.need v) ≡ Granted gr.block gr.size gr.fresh gr.given_up) (sym c.self.view_is) c.requires.granted in
-    let i : IsGranted parts_ s w.told t (s.need v) gr.block gr.size gr.fresh gr.given_up = record { run = c.self.invariant.run; holds = c.self.invariant.holds; granted = given } in
-    let l : LendsAt parts_ w.told t a b = lends-at parts_ w.told t a b ((look_laws parts_).queued s w.told t v a c.self.invariant.run c.self.invariant.holds c.next_queued-name.ensures.next) (subst (λ (x : Coursed). Tells x.told a b) c.next_queued-name.ensures.same c.block-block.ensures) in
-    let beside : LendsBeside parts_ s w.told t v (s.need v) gr.block gr.size gr.fresh gr.given_up a b = record { granted = i; next = c.next_queued-name.ensures.next; lends = l } in
+    let allowed : take_refusal {F = g.row.F.Denot} {B = g.row.F-Blank.Denot} {O = g.row.F-Of.Denot} s r v (past w.told) ≡ None =
+    subst (λ (x : BoardState). take_refusal {F = g.row.F.Denot} {B = g.row.F-Blank.Denot} {O = g.row.F-Of.Denot} s r v (past x) ≡ None) (sym c.self.view_is)
+    c.requires.allowed in
+    let given : grant s (past w.told) (s.need v) ≡ Granted gr.block gr.size gr.fresh gr.given_up =
+    subst (λ (x : BoardState). grant s (past x) (s.need v) ≡ Granted gr.block gr.size gr.fresh gr.given_up) (sym c.self.view_is) c.requires.granted in
+    let i : IsGranted parts_ s w.told t (s.need v) gr.block gr.size gr.fresh gr.given_up =
+    record { run = c.self.invariant.run; holds = c.self.invariant.holds; granted = given } in
+    let l : LendsAt parts_ w.told t a b =
+    lends-at parts_ w.told t a b ((look_laws parts_).queued s w.told t v a c.self.invariant.run c.self.invariant.holds c.next_queued-name.ensures.next)
+    (subst (λ (x : Coursed). Tells x.told a b) c.next_queued-name.ensures.same c.block-block.ensures) in
+    let beside : LendsBeside parts_ s w.told t v (s.need v) gr.block gr.size gr.fresh gr.given_up a b =
+    record { granted = i; next = c.next_queued-name.ensures.next; lends = l } in
     let input = c.in-Ok.input in
     let named : name_of input ≡ a = lent-name parts_ w.told t a b (name_of input) (parts_ input) l c.in-Ok.ensures.part in
     let part : IsPartOf (kept_at t b) a (parts_ input) = subst (λ (x : FrameName). IsPartOf (kept_at t b) x (parts_ input)) named c.in-Ok.ensures.part in
     let T = c.storage_for.new.table in
     let blank = c.in-Ok-storage_for.field-0.blank in
     let x = c.in-Ok-storage_for.field-0.regrown in
-    let place : T ≡ with_storage gr.block gr.fresh (lent_out t b) = c.in-Ok-storage_for.ensures.place ∙ ap (λ (u : List Kept). with_storage gr.block gr.fresh u) c.in-Ok.ensures.rest in
-    let next : is_next (name_of input) (queued v (past w.told)) ≡ true = subst (λ (y : FrameName). is_next y (queued v (past w.told)) ≡ true) (sym named) c.next_queued-name.ensures.next in
+    let place : T ≡ with_storage gr.block gr.fresh (lent_out t b) =
+    c.in-Ok-storage_for.ensures.place ∙ ap (λ (u : List Kept). with_storage gr.block gr.fresh u) c.in-Ok.ensures.rest in
+    let next : is_next (name_of input) (queued v (past w.told)) ≡ true =
+    subst (λ (y : FrameName). is_next y (queued v (past w.told)) ≡ true) (sym named) c.next_queued-name.ensures.next in
     let ls : LendsAt parts_ w.told t (name_of input) b = subst (λ (y : FrameName). LendsAt parts_ w.told t y b) (sym named) l in
     let m : Makes O name_of parts_ bytes s w t r v b gr.block gr.size gr.fresh gr.given_up x input blank =
     record {
@@ -463,5 +591,8 @@ returns-clause-lent g c =
       part = c.in-Ok.ensures.part;
     } in
     let told : c.take_block.new.self ≡ record w { told = made name_of parts_ s r v gr.block gr.size gr.fresh gr.given_up x input w.told } =
-    c.in-Ok-take_block.ensures.taken ∙ ap (λ (y : Coursed). record y { told = made name_of parts_ s r v gr.block gr.size gr.fresh gr.given_up x input y.told }) c.next_queued-name.ensures.same in
-    made-lends O name_of parts_ bytes (look_laws parts_) s w t r v b gr.block gr.size gr.fresh gr.given_up x input blank c.take_block.new.self.told m (ap (λ (y : Coursed). y.told) told)
+    c.in-Ok-take_block.ensures.taken
+    ∙ ap (λ (y : Coursed). record y { told = made name_of parts_ s r v gr.block gr.size gr.fresh gr.given_up x input y.told })
+    c.next_queued-name.ensures.same in
+    made-lends O name_of parts_ bytes (look_laws parts_) s w t r v b gr.block gr.size gr.fresh gr.given_up x input blank c.take_block.new.self.told m
+    (ap (λ (y : Coursed). y.told) told)

@@ -19,6 +19,10 @@ invariant_of-self g c =
     let t = c.self.inside.table in
     let r = c.args.role in
     let v = c.args.node in
-    let allowed : take_refusal {F = g.row.F.Denot} {B = g.row.F-Blank.Denot} {O = g.row.F-Of.Denot} s r v (past w.told) ≡ None = subst (λ (x : BoardState). take_refusal {F = g.row.F.Denot} {B = g.row.F-Blank.Denot} {O = g.row.F-Of.Denot} s r v (past x) ≡ None) (sym c.self.view_is) c.requires.allowed in
-    let given : grant s (past w.told) (s.need v) ≡ Refused = subst (λ (x : BoardState). grant s (past x) (s.need v) ≡ Refused) (sym c.self.view_is) c.requires.refused in
-    dropped-board O name_of parts_ bytes (move_laws O name_of parts_ bytes) s w c.drop_at_pool-index.new.self t r v c.drop_at_pool-index.result c.self.invariant c.requires.role allowed c.requires.makes given c.drop_at_pool-index.ensures.next c.drop_at_pool-index.ensures.told
+    let allowed : take_refusal {F = g.row.F.Denot} {B = g.row.F-Blank.Denot} {O = g.row.F-Of.Denot} s r v (past w.told) ≡ None =
+    subst (λ (x : BoardState). take_refusal {F = g.row.F.Denot} {B = g.row.F-Blank.Denot} {O = g.row.F-Of.Denot} s r v (past x) ≡ None) (sym c.self.view_is)
+    c.requires.allowed in
+    let given : grant s (past w.told) (s.need v) ≡ Refused =
+    subst (λ (x : BoardState). grant s (past x) (s.need v) ≡ Refused) (sym c.self.view_is) c.requires.refused in
+    dropped-board O name_of parts_ bytes (move_laws O name_of parts_ bytes) s w c.drop_at_pool-index.new.self t r v c.drop_at_pool-index.result c.self.invariant
+    c.requires.role allowed c.requires.makes given c.drop_at_pool-index.ensures.next c.drop_at_pool-index.ensures.told

@@ -12,4 +12,5 @@ invariant_of-self g c =
     let s = run_setting g.F.Of.Run.graph g.F.Of.Run.stack in
     let w = c.self.inside.course in
     let t = c.self.inside.table in
-    closes-board (Unit {0}) name_of parts_ bytes (move_laws (Unit {0}) name_of parts_ bytes) s w c.close.new.self t c.args.role c.self.invariant c.requires.role (sym c.waits_to_close.ensures ∙ c.if-waits_to_close.false) (sym c.is_closed.ensures ∙ c.if-not-is_closed.true) c.close.ensures
+    closes-board (Unit {0}) name_of parts_ bytes (move_laws (Unit {0}) name_of parts_ bytes) s w c.close.new.self t c.args.role c.self.invariant c.requires.role
+    (sym c.waits_to_close.ensures ∙ c.if-waits_to_close.false) (sym c.is_closed.ensures ∙ c.if-not-is_closed.true) c.close.ensures

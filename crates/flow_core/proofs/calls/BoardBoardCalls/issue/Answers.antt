@@ -29,9 +29,12 @@ invariant_of-self g c =
     let t = c.self.inside.table in
     let f = c.args.frame in
     let named : c.name-name.result ≡ name_of f = c.name-name.ensures in
-    let loaded : is_load_of (name_of f) (hand c.args.role (past w.told)) ≡ true = subst (λ (a : FrameName). is_load_of a (hand c.args.role (past w.told)) ≡ true) named (sym c.is_load_of.ensures ∙ c.if-not-is_load_of.false) in
+    let loaded : is_load_of (name_of f) (hand c.args.role (past w.told)) ≡ true =
+    subst (λ (a : FrameName). is_load_of a (hand c.args.role (past w.told)) ≡ true) named (sym c.is_load_of.ensures ∙ c.if-not-is_load_of.false) in
     let view : BoardState → Type 0 = λ b. IsWholeOf (granted_size (hand c.args.role (past b))) (parts_ f) in
-    let loaded_now : is_load_of (name_of f) (hand c.args.role (past c.args.self.now)) ≡ true = ap (λ (b : BoardState). is_load_of (name_of f) (hand c.args.role (past b))) (sym c.self.view_is) ∙ loaded in
+    let loaded_now : is_load_of (name_of f) (hand c.args.role (past c.args.self.now)) ≡ true =
+    ap (λ (b : BoardState). is_load_of (name_of f) (hand c.args.role (past b))) (sym c.self.view_is) ∙ loaded in
     let whole = subst view (sym c.self.view_is) (c.requires.whole loaded_now) in
-    issued-board {O = Unit {0}} name_of parts_ bytes (move_laws (Unit {0}) name_of parts_ bytes) s w c.issue.new.self t c.keep.new.self c.args.role c.in-Some.block.number f c.self.invariant loaded c.in-Some.ensures.block whole
+    issued-board {O = Unit {0}} name_of parts_ bytes (move_laws (Unit {0}) name_of parts_ bytes) s w c.issue.new.self t c.keep.new.self c.args.role
+    c.in-Some.block.number f c.self.invariant loaded c.in-Some.ensures.block whole
     (c.issue.ensures ∙ ap (λ (a : FrameName). issued_after s w c.args.role a) named) c.keep.ensures

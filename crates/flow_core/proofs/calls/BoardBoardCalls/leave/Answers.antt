@@ -12,4 +12,5 @@ invariant_of-self g c =
     let s = run_setting g.F.Of.Run.graph g.F.Of.Run.stack in
     let w = c.self.inside.course in
     let t = c.self.inside.table in
-    leaves-board (Unit {0}) name_of parts_ bytes (move_laws (Unit {0}) name_of parts_ bytes) s w c.leave.new.self t c.args.role c.self.invariant c.requires.role (sym c.has_left.ensures ∙ c.if-not-has_left.true) c.leave.ensures
+    leaves-board (Unit {0}) name_of parts_ bytes (move_laws (Unit {0}) name_of parts_ bytes) s w c.leave.new.self t c.args.role c.self.invariant c.requires.role
+    (sym c.has_left.ensures ∙ c.if-not-has_left.true) c.leave.ensures

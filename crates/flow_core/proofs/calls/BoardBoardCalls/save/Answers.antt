@@ -26,7 +26,9 @@ lend-requires-clause-place g c =
     let v = c.args.node in
     let a = c.next_unsaved-name.result in
     let b = c.block-block.result in
-    let l : LendsAt parts_ w.told t a b = lends-at parts_ w.told t a b ((look_laws parts_).unsaved s w.told t v a c.self.invariant.run c.self.invariant.holds c.next_unsaved-name.ensures) c.block-block.ensures in
+    let l : LendsAt parts_ w.told t a b =
+    lends-at parts_ w.told t a b
+    ((look_laws parts_).unsaved s w.told t v a c.self.invariant.run c.self.invariant.holds c.next_unsaved-name.ensures) c.block-block.ensures in
     l.place
 
 pub lend-requires-clause-frame : goal.lend-requires-clause-frame
@@ -41,7 +43,9 @@ lend-requires-clause-frame g c =
     let v = c.args.node in
     let a = c.next_unsaved-name.result in
     let b = c.block-block.result in
-    let l : LendsAt parts_ w.told t a b = lends-at parts_ w.told t a b ((look_laws parts_).unsaved s w.told t v a c.self.invariant.run c.self.invariant.holds c.next_unsaved-name.ensures) c.block-block.ensures in
+    let l : LendsAt parts_ w.told t a b =
+    lends-at parts_ w.told t a b
+    ((look_laws parts_).unsaved s w.told t v a c.self.invariant.run c.self.invariant.holds c.next_unsaved-name.ensures) c.block-block.ensures in
     l.may
 
 pub returns-in_default-lend-clause-gives : goal.returns-in_default-lend-clause-gives
@@ -56,7 +60,9 @@ returns-in_default-lend-clause-gives g c =
     let v = c.args.node in
     let a = c.next_unsaved-name.result in
     let b = c.block-block.result in
-    let l : LendsAt parts_ w.told t a b = lends-at parts_ w.told t a b ((look_laws parts_).unsaved s w.told t v a c.self.invariant.run c.self.invariant.holds c.next_unsaved-name.ensures) c.block-block.ensures in
+    let l : LendsAt parts_ w.told t a b =
+    lends-at parts_ w.told t a b
+    ((look_laws parts_).unsaved s w.told t v a c.self.invariant.run c.self.invariant.holds c.next_unsaved-name.ensures) c.block-block.ensures in
     let allowed : save_refusal {F = g.row.F.Denot} s r v (past w.told) ≡ None = sym c.save_refusal.ensures ∙ c.in_default.is in
     subst (λ (x : BoardState). SaveGives name_of parts_ s x r v save.OutOfMemory w.told) c.self.view_is
     (save-gives name_of parts_ s w.told w.told r v None save.OutOfMemory allowed (λ tell. l.tells tell c.in_default-lend.ensures.err.0, refl))
@@ -73,10 +79,13 @@ save-group-requires-clause-next g c =
     let v = c.args.node in
     let a = c.next_unsaved-name.result in
     let b = c.block-block.result in
-    let l : LendsAt parts_ w.told t a b = lends-at parts_ w.told t a b ((look_laws parts_).unsaved s w.told t v a c.self.invariant.run c.self.invariant.holds c.next_unsaved-name.ensures) c.block-block.ensures in
+    let l : LendsAt parts_ w.told t a b =
+    lends-at parts_ w.told t a b
+    ((look_laws parts_).unsaved s w.told t v a c.self.invariant.run c.self.invariant.holds c.next_unsaved-name.ensures) c.block-block.ensures in
     let input = c.in-Ok.input in
     let named : name_of input ≡ a = lent-name parts_ w.told t a b (name_of input) (parts_ input) l c.in-Ok.ensures.part in
-    let next : is_next (name_of input) (unsaved s v (past w.told)) ≡ true = subst (λ (x : FrameName). is_next x (unsaved s v (past w.told)) ≡ true) (sym named) c.next_unsaved-name.ensures in
+    let next : is_next (name_of input) (unsaved s v (past w.told)) ≡ true =
+    subst (λ (x : FrameName). is_next x (unsaved s v (past w.told)) ≡ true) (sym named) c.next_unsaved-name.ensures in
     next
 
 pub invariant_of-self-2 : goal.invariant_of-self-2
@@ -91,11 +100,14 @@ invariant_of-self-2 g c =
     let v = c.args.node in
     let a = c.next_unsaved-name.result in
     let b = c.block-block.result in
-    let l : LendsAt parts_ w.told t a b = lends-at parts_ w.told t a b ((look_laws parts_).unsaved s w.told t v a c.self.invariant.run c.self.invariant.holds c.next_unsaved-name.ensures) c.block-block.ensures in
+    let l : LendsAt parts_ w.told t a b =
+    lends-at parts_ w.told t a b
+    ((look_laws parts_).unsaved s w.told t v a c.self.invariant.run c.self.invariant.holds c.next_unsaved-name.ensures) c.block-block.ensures in
     let allowed : save_refusal {F = g.row.F.Denot} s r v (past w.told) ≡ None = sym c.save_refusal.ensures ∙ c.in_default.is in
     let input = c.in-Ok.input in
     let named : name_of input ≡ a = lent-name parts_ w.told t a b (name_of input) (parts_ input) l c.in-Ok.ensures.part in
-    let next : is_next (name_of input) (unsaved s v (past w.told)) ≡ true = subst (λ (x : FrameName). is_next x (unsaved s v (past w.told)) ≡ true) (sym named) c.next_unsaved-name.ensures in
+    let next : is_next (name_of input) (unsaved s v (past w.told)) ≡ true =
+    subst (λ (x : FrameName). is_next x (unsaved s v (past w.told)) ≡ true) (sym named) c.next_unsaved-name.ensures in
     let i : SavesPiece name_of parts_ s w t r v b input c.save-group.result c.next_place-place.result c.next_size-of.result =
     record {
       board = c.self.invariant;
@@ -108,7 +120,8 @@ invariant_of-self-2 g c =
       placed = c.next_place-place.ensures;
       sized = c.next_size-of.ensures;
     } in
-    piece-board {O = Unit {0}} name_of parts_ bytes (look_laws parts_) (move_laws (Unit {0}) name_of parts_ bytes) s w c.save-group.new.self t c.lend.new.self r v b input c.save-group.result c.next_place-place.result c.next_size-of.result i c.save-group.ensures.told c.in-Ok.ensures.rest
+    piece-board {O = Unit {0}} name_of parts_ bytes (look_laws parts_) (move_laws (Unit {0}) name_of parts_ bytes) s w c.save-group.new.self t c.lend.new.self r
+    v b input c.save-group.result c.next_place-place.result c.next_size-of.result i c.save-group.ensures.told c.in-Ok.ensures.rest
 
 pub returns-clause-gives : goal.returns-clause-gives
 returns-clause-gives g c =
@@ -122,11 +135,14 @@ returns-clause-gives g c =
     let v = c.args.node in
     let a = c.next_unsaved-name.result in
     let b = c.block-block.result in
-    let l : LendsAt parts_ w.told t a b = lends-at parts_ w.told t a b ((look_laws parts_).unsaved s w.told t v a c.self.invariant.run c.self.invariant.holds c.next_unsaved-name.ensures) c.block-block.ensures in
+    let l : LendsAt parts_ w.told t a b =
+    lends-at parts_ w.told t a b
+    ((look_laws parts_).unsaved s w.told t v a c.self.invariant.run c.self.invariant.holds c.next_unsaved-name.ensures) c.block-block.ensures in
     let allowed : save_refusal {F = g.row.F.Denot} s r v (past w.told) ≡ None = sym c.save_refusal.ensures ∙ c.in_default.is in
     let input = c.in-Ok.input in
     let named : name_of input ≡ a = lent-name parts_ w.told t a b (name_of input) (parts_ input) l c.in-Ok.ensures.part in
-    let next : is_next (name_of input) (unsaved s v (past w.told)) ≡ true = subst (λ (x : FrameName). is_next x (unsaved s v (past w.told)) ≡ true) (sym named) c.next_unsaved-name.ensures in
+    let next : is_next (name_of input) (unsaved s v (past w.told)) ≡ true =
+    subst (λ (x : FrameName). is_next x (unsaved s v (past w.told)) ≡ true) (sym named) c.next_unsaved-name.ensures in
     let i : SavesPiece name_of parts_ s w t r v b input c.save-group.result c.next_place-place.result c.next_size-of.result =
     record {
       board = c.self.invariant;
@@ -139,5 +155,7 @@ returns-clause-gives g c =
       placed = c.next_place-place.ensures;
       sized = c.next_size-of.ensures;
     } in
-    subst (λ (x : BoardState). SaveGives name_of parts_ s x r v (save.Piece input c.save-group.result c.next_place-place.result c.next_size-of.result) c.save-group.new.self.told) c.self.view_is
-    (piece-gives name_of parts_ (look_laws parts_) s w t r v b input c.save-group.result c.next_place-place.result c.next_size-of.result c.save-group.new.self.told i (ap (λ (x : Coursed). x.told) c.save-group.ensures.told))
+    subst (λ (x : BoardState). SaveGives name_of parts_ s x r v
+    (save.Piece input c.save-group.result c.next_place-place.result c.next_size-of.result) c.save-group.new.self.told) c.self.view_is
+    (piece-gives name_of parts_ (look_laws parts_) s w t r v b input c.save-group.result c.next_place-place.result c.next_size-of.result
+    c.save-group.new.self.told i (ap (λ (x : Coursed). x.told) c.save-group.ensures.told))

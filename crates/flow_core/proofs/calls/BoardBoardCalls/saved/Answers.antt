@@ -37,8 +37,11 @@ give_back-requires-clause-frame g c =
     let o = hand c.args.role (past w.told) in
     let piece : is_piece_on a o ≡ true = sym c.is_piece_on.ensures ∙ c.if-not-is_piece_on.false in
     let l = lent-at parts_ (look_laws parts_) s w t c.args.role a c.block-block.result c.self.invariant c.block-block.ensures (piece-shares a o piece) in
-    let mine : is_piece_on (g.F.Named.name_of f) (hand c.args.role (past c.args.self.now)) ≡ true = subst (λ (b : BoardState). is_piece_on (g.F.Named.name_of f) (hand c.args.role (past b)) ≡ true) c.self.view_is (subst (λ (x : FrameName). is_piece_on x o ≡ true) c.name-name.ensures piece) in
-    let own : parts_ f ≡ lent_to c.args.role w.told = subst (λ (b : BoardState). parts_ f ≡ lent_to c.args.role b) (sym c.self.view_is) (c.requires.brings mine) in
+    let mine : is_piece_on (g.F.Named.name_of f) (hand c.args.role (past c.args.self.now)) ≡ true =
+    subst (λ (b : BoardState). is_piece_on (g.F.Named.name_of f) (hand c.args.role (past b)) ≡ true) c.self.view_is
+    (subst (λ (x : FrameName). is_piece_on x o ≡ true) c.name-name.ensures piece) in
+    let own : parts_ f ≡ lent_to c.args.role w.told =
+    subst (λ (b : BoardState). parts_ f ≡ lent_to c.args.role b) (sym c.self.view_is) (c.requires.brings mine) in
     subst (λ (q : Option Parts). MayGiveBack (kept_at t c.block-block.result) q) (sym own) l.may
 
 pub invariant_of-self : goal.invariant_of-self
@@ -53,11 +56,17 @@ invariant_of-self g c =
     let named = c.name-name.ensures in
     let o = hand c.args.role (past w.told) in
     let b = c.block-block.result in
-    let piece : is_piece_on (name_of f) o ≡ true = subst (λ (x : FrameName). is_piece_on x o ≡ true) named (sym c.is_piece_on.ensures ∙ c.if-not-is_piece_on.false) in
-    let mine : is_piece_on (name_of f) (hand c.args.role (past c.args.self.now)) ≡ true = subst (λ (x : BoardState). is_piece_on (name_of f) (hand c.args.role (past x)) ≡ true) c.self.view_is piece in
-    let own : parts_ f ≡ lent_to c.args.role w.told = subst (λ (x : BoardState). parts_ f ≡ lent_to c.args.role x) (sym c.self.view_is) (c.requires.brings mine) in
+    let piece : is_piece_on (name_of f) o ≡ true =
+    subst (λ (x : FrameName). is_piece_on x o ≡ true) named (sym c.is_piece_on.ensures ∙ c.if-not-is_piece_on.false) in
+    let mine : is_piece_on (name_of f) (hand c.args.role (past c.args.self.now)) ≡ true =
+    subst (λ (x : BoardState). is_piece_on (name_of f) (hand c.args.role (past x)) ≡ true) c.self.view_is piece in
+    let own : parts_ f ≡ lent_to c.args.role w.told =
+    subst (λ (x : BoardState). parts_ f ≡ lent_to c.args.role x) (sym c.self.view_is) (c.requires.brings mine) in
     let l : LentAt c.args.role w.told t (name_of f) b =
     subst (λ (x : FrameName). LentAt c.args.role w.told t x b) named
-    (lent-at parts_ (look_laws parts_) s w t c.args.role c.name-name.result b c.self.invariant c.block-block.ensures (piece-shares c.name-name.result o (sym c.is_piece_on.ensures ∙ c.if-not-is_piece_on.false))) in
-    saved-board {O = Unit {0}} name_of parts_ bytes (move_laws (Unit {0}) name_of parts_ bytes) s w c.saved.new.self t c.give_back.new.self c.args.role b f c.self.invariant piece l.has own
-    (c.saved.ensures ∙ ap (λ (x : FrameName). record w { told = moved s (plain (Saved c.args.role (hand_node o) x.maker x.index)) w.told }) named) c.give_back.ensures
+    (lent-at parts_ (look_laws parts_) s w t c.args.role c.name-name.result b c.self.invariant c.block-block.ensures
+    (piece-shares c.name-name.result o (sym c.is_piece_on.ensures ∙ c.if-not-is_piece_on.false))) in
+    saved-board {O = Unit {0}} name_of parts_ bytes
+    (move_laws (Unit {0}) name_of parts_ bytes) s w c.saved.new.self t c.give_back.new.self c.args.role b f c.self.invariant piece l.has own
+    (c.saved.ensures ∙ ap (λ (x : FrameName). record w { told = moved s (plain (Saved c.args.role (hand_node o) x.maker x.index)) w.told }) named)
+    c.give_back.ensures

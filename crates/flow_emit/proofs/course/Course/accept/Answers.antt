@@ -28,7 +28,8 @@ unreachable-requires g c =
     let view = sym c.self.view_is in
     let q = place-of s c.args.child c.requires.child in
     let n = c.index_mut-node.result.now in
-    let at : slice_get k.nodes (c.args.child - 1) ≡ Some n = read-at k.nodes (c.args.child - 1) n (omega (arith, q.1, i.nodes.all)) c.index_mut-node.ensures.value in
+    let at : slice_get k.nodes (c.args.child - 1) ≡ Some n =
+    read-at k.nodes (c.args.child - 1) n (omega (arith, q.1, i.nodes.all)) c.index_mut-node.ensures.value in
     let room : has_room s (log_of k) c.args.child ≡ true = subst (λ (v : Coursed). has_room s (past v.told) c.args.child ≡ true) view c.requires.room in
     let node_is : IsNode m s c.args.child (log_of k) n = subst (λ v. IsNode m s v (log_of k) n) q.0 (i.nodes.each (c.args.child - 1) n at) in
     absurd (true≢false (sym room ∙ full-of m s c.args.child (log_of k) n node_is (c.in_default.ensures.full.0 refl)))
@@ -42,9 +43,11 @@ hold-requires-clause-has_hold g c =
     let i : IsCourse m s k = c.self.invariant in
     let view = sym c.self.view_is in
     let name = c.args.name in
-    let transit : k.transit ≡ name ∷ drop 1 k.transit = first-of k.transit name (subst (λ (v : Coursed). slice_get v.transit 0 ≡ Some name) view c.requires.next) in
+    let transit : k.transit ≡ name ∷ drop 1 k.transit =
+    first-of k.transit name (subst (λ (v : Coursed). slice_get v.transit 0 ≡ Some name) view c.requires.next) in
     let has = next-block m s k name (drop 1 k.transit) i transit in
-    let found : c.block-block.result ≡ has.0 = c.block-block.ensures has.0 (subst (λ (v : Coursed). block_of (past v.told) name ≡ has.0 ∷ []) c.self.view_is has.1) in
+    let found : c.block-block.result ≡ has.0 =
+    c.block-block.ensures has.0 (subst (λ (v : Coursed). block_of (past v.told) name ≡ has.0 ∷ []) c.self.view_is has.1) in
     let block : block_of (log_of k) name ≡ c.block-block.result ∷ [] = has.1 ∙ ap (λ b. b ∷ []) (sym found) in
     let held = next-held m s k name (drop 1 k.transit) c.block-block.result i transit block in
     held
@@ -58,9 +61,11 @@ hold-requires-clause-below_max g c =
     let i : IsCourse m s k = c.self.invariant in
     let view = sym c.self.view_is in
     let name = c.args.name in
-    let transit : k.transit ≡ name ∷ drop 1 k.transit = first-of k.transit name (subst (λ (v : Coursed). slice_get v.transit 0 ≡ Some name) view c.requires.next) in
+    let transit : k.transit ≡ name ∷ drop 1 k.transit =
+    first-of k.transit name (subst (λ (v : Coursed). slice_get v.transit 0 ≡ Some name) view c.requires.next) in
     let has = next-block m s k name (drop 1 k.transit) i transit in
-    let found : c.block-block.result ≡ has.0 = c.block-block.ensures has.0 (subst (λ (v : Coursed). block_of (past v.told) name ≡ has.0 ∷ []) c.self.view_is has.1) in
+    let found : c.block-block.result ≡ has.0 =
+    c.block-block.ensures has.0 (subst (λ (v : Coursed). block_of (past v.told) name ≡ has.0 ∷ []) c.self.view_is has.1) in
     let block : block_of (log_of k) name ≡ c.block-block.result ∷ [] = has.1 ∙ ap (λ b. b ∷ []) (sym found) in
     let held = next-held m s k name (drop 1 k.transit) c.block-block.result i transit block in
     holds-below m s k c.block-block.result i
@@ -84,7 +89,8 @@ push-requires-clause-room g c =
     let k = parts a in
     let i : IsCourse m s k = c.self.invariant in
     let view = sym c.self.view_is in
-    let legal : is_legal s (Accept c.args.child c.args.name.maker c.args.name.index ∷ log_of k) ≡ true = subst (λ (v : Coursed). is_legal s (Accept c.args.child c.args.name.maker c.args.name.index ∷ past v.told) ≡ true) view c.requires.legal in
+    let legal : is_legal s (Accept c.args.child c.args.name.maker c.args.name.index ∷ log_of k) ≡ true =
+    subst (λ (v : Coursed). is_legal s (Accept c.args.child c.args.name.maker c.args.name.index ∷ past v.told) ≡ true) view c.requires.legal in
     room-for m s k (Accept c.args.child c.args.name.maker c.args.name.index) i legal
 
 pub invariant_of-self : goal.invariant_of-self
@@ -96,15 +102,20 @@ invariant_of-self g c =
     let i : IsCourse m s k = c.self.invariant in
     let view = sym c.self.view_is in
     let name = c.args.name in
-    let transit : k.transit ≡ name ∷ drop 1 k.transit = first-of k.transit name (subst (λ (v : Coursed). slice_get v.transit 0 ≡ Some name) view c.requires.next) in
+    let transit : k.transit ≡ name ∷ drop 1 k.transit =
+    first-of k.transit name (subst (λ (v : Coursed). slice_get v.transit 0 ≡ Some name) view c.requires.next) in
     let has = next-block m s k name (drop 1 k.transit) i transit in
-    let found : c.block-block.result ≡ has.0 = c.block-block.ensures has.0 (subst (λ (v : Coursed). block_of (past v.told) name ≡ has.0 ∷ []) c.self.view_is has.1) in
+    let found : c.block-block.result ≡ has.0 =
+    c.block-block.ensures has.0 (subst (λ (v : Coursed). block_of (past v.told) name ≡ has.0 ∷ []) c.self.view_is has.1) in
     let block : block_of (log_of k) name ≡ c.block-block.result ∷ [] = has.1 ∙ ap (λ b. b ∷ []) (sym found) in
     let held = next-held m s k name (drop 1 k.transit) c.block-block.result i transit block in
     let q = place-of s c.args.child c.requires.child in
     let n = c.index_mut-node.result.now in
-    let at : slice_get k.nodes (c.args.child - 1) ≡ Some n = read-at k.nodes (c.args.child - 1) n (omega (arith, q.1, i.nodes.all)) c.index_mut-node.ensures.value in
-    let legal : is_legal s (Accept c.args.child c.args.name.maker c.args.name.index ∷ log_of k) ≡ true = subst (λ (v : Coursed). is_legal s (Accept c.args.child c.args.name.maker c.args.name.index ∷ past v.told) ≡ true) view c.requires.legal in
+    let at : slice_get k.nodes (c.args.child - 1) ≡ Some n =
+    read-at k.nodes (c.args.child - 1) n (omega (arith, q.1, i.nodes.all)) c.index_mut-node.ensures.value in
+    let legal : is_legal s (Accept c.args.child c.args.name.maker c.args.name.index ∷ log_of k) ≡ true =
+    subst (λ (v : Coursed). is_legal s (Accept c.args.child c.args.name.maker c.args.name.index ∷ past v.told) ≡ true) view c.requires.legal in
     let room : has_room s (log_of k) c.args.child ≡ true = subst (λ (v : Coursed). has_room s (past v.told) c.args.child ≡ true) view c.requires.room in
     let together = subst (λ (v : Coursed). (u : ℕ) → deals s u ≡ true → has_just_emitted u (past v.told) ≡ false) view c.requires.together in
-    rw (c.push.ensures, c.hold.ensures, c.in-Ok.ensures.ok) (accepted_at m s k c.args.child (c.args.child - 1) c.args.name.maker c.args.name.index c.block-block.result n q.0 i legal at room together block held)
+    rw (c.push.ensures, c.hold.ensures, c.in-Ok.ensures.ok)
+    (accepted_at m s k c.args.child (c.args.child - 1) c.args.name.maker c.args.name.index c.block-block.result n q.0 i legal at room together block held)

@@ -19,4 +19,6 @@ returns g c =
     let k = parts c.self.inside in
     let i : IsCourse m s k = c.self.invariant in
     let legal : is_history s (log_of k) ≡ true = ap (λ (w : Coursed). is_history s (past w.told)) c.self.view_is ∙ c.requires in
-    c.all_are_over.ensures ∙ (ap (list_all is_over) c.deref.ensures.value ∙ (nodes-over m s (log_of k) k.nodes legal i.nodes ∙ ap (λ (w : Coursed). list_all (is_done s (past w.told)) (node_numbers s)) c.self.view_is))
+    c.all_are_over.ensures
+    ∙ (ap (list_all is_over) c.deref.ensures.value
+    ∙ (nodes-over m s (log_of k) k.nodes legal i.nodes ∙ ap (λ (w : Coursed). list_all (is_done s (past w.told)) (node_numbers s)) c.self.view_is))

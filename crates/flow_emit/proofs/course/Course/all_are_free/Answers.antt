@@ -17,4 +17,6 @@ returns g c =
     let s = run_setting g.F.Of.Run.graph g.F.Of.Run.stack in
     let k = parts c.self.inside in
     let i : IsCourse m s k = c.self.invariant in
-    c.all_have_free_hands.ensures ∙ (ap (list_all has_free_hand) c.deref.ensures.value ∙ (hands-free s (log_of k) k.roles i.roles i.legal ∙ ap (λ (w : Coursed). none_left (hands (past w.told))) c.self.view_is))
+    c.all_have_free_hands.ensures
+    ∙ (ap (list_all has_free_hand) c.deref.ensures.value
+    ∙ (hands-free s (log_of k) k.roles i.roles i.legal ∙ ap (λ (w : Coursed). none_left (hands (past w.told))) c.self.view_is))

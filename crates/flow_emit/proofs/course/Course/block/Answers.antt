@@ -13,4 +13,5 @@ returns g c b has =
     c.block_at.ensures
     ∙ (ap (λ (bs : List ℕ). slice_index_or bs (n.maker * length c.as_slice.result.now + n.index) 0) c.deref.ensures.value
     ∙ (ap (λ ids. slice_index_or a.blocks.items (n.maker * length ids + n.index) 0) c.as_slice.ensures
-    ∙ found-is (run_measure g.F.Of.Run.graph g.F.Of.Run.stack) (run_setting g.F.Of.Run.graph g.F.Of.Run.stack) _ n b c.self.invariant (subst (λ (v : Coursed). block_of (past v.told) n ≡ b ∷ []) (sym c.self.view_is) has)))
+    ∙ found-is (run_measure g.F.Of.Run.graph g.F.Of.Run.stack) (run_setting g.F.Of.Run.graph g.F.Of.Run.stack) _ n b c.self.invariant
+    (subst (λ (v : Coursed). block_of (past v.told) n ≡ b ∷ []) (sym c.self.view_is) has)))

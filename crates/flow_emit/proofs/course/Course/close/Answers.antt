@@ -13,7 +13,8 @@ push-requires-clause-room g c =
     let s = run_setting g.F.Of.Run.graph g.F.Of.Run.stack in
     let k = parts c.self.inside in
     let h = c.requires in
-    room-for (run_measure g.F.Of.Run.graph g.F.Of.Run.stack) s k (Close c.args.role) c.self.invariant (may-close s k c.args.self.now c.args.role c.self.view_is h.history h.role h.open h.offered)
+    room-for (run_measure g.F.Of.Run.graph g.F.Of.Run.stack) s k (Close c.args.role) c.self.invariant
+    (may-close s k c.args.self.now c.args.role c.self.view_is h.history h.role h.open h.offered)
 
 pub invariant_of-self : goal.invariant_of-self
 invariant_of-self g c =

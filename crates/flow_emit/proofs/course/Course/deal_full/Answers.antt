@@ -45,7 +45,8 @@ push-requires-clause-room g c =
     let k = parts a in
     let i : IsCourse m s k = c.self.invariant in
     let view = sym c.self.view_is in
-    let legal : is_legal s (Full c.args.child c.args.name.maker c.args.name.index ∷ log_of k) ≡ true = subst (λ (v : Coursed). is_legal s (Full c.args.child c.args.name.maker c.args.name.index ∷ past v.told) ≡ true) view c.requires.legal in
+    let legal : is_legal s (Full c.args.child c.args.name.maker c.args.name.index ∷ log_of k) ≡ true =
+    subst (λ (v : Coursed). is_legal s (Full c.args.child c.args.name.maker c.args.name.index ∷ past v.told) ≡ true) view c.requires.legal in
     room-for m s k (Full c.args.child c.args.name.maker c.args.name.index) i legal
 
 pub invariant_of-self : goal.invariant_of-self
@@ -56,10 +57,13 @@ invariant_of-self g c =
     let k = parts a in
     let i : IsCourse m s k = c.self.invariant in
     let view = sym c.self.view_is in
-    let legal : is_legal s (Full c.args.child c.args.name.maker c.args.name.index ∷ log_of k) ≡ true = subst (λ (v : Coursed). is_legal s (Full c.args.child c.args.name.maker c.args.name.index ∷ past v.told) ≡ true) view c.requires.legal in
+    let legal : is_legal s (Full c.args.child c.args.name.maker c.args.name.index ∷ log_of k) ≡ true =
+    subst (λ (v : Coursed). is_legal s (Full c.args.child c.args.name.maker c.args.name.index ∷ past v.told) ≡ true) view c.requires.legal in
     let f = place-of s c.args.from c.requires.from in
     let x = c.index_mut.result.now in
     let at : slice_get k.nodes (c.args.from - 1) ≡ Some x = read-at k.nodes (c.args.from - 1) x (omega (arith, f.1, i.nodes.all)) c.index_mut.ensures.value in
-    let turned : c.args.next_turn ≡ turn s c.args.from (Full c.args.child c.args.name.maker c.args.name.index ∷ log_of k) = c.requires.turn ∙ ap (λ (v : Coursed). turn s c.args.from (Full c.args.child c.args.name.maker c.args.name.index ∷ past v.told)) view in
+    let turned : c.args.next_turn ≡ turn s c.args.from (Full c.args.child c.args.name.maker c.args.name.index ∷ log_of k) =
+    c.requires.turn ∙ ap (λ (v : Coursed). turn s c.args.from (Full c.args.child c.args.name.maker c.args.name.index ∷ past v.told)) view in
     let only = subst (λ (v : Coursed). OnlyDealt s c.args.from (past v.told)) view c.requires.only in
-    rw c.push.ensures (dealt-full m s k c.args.from c.args.child (c.args.from - 1) c.args.next_turn c.args.name.maker c.args.name.index x f.0 i legal at turned only)
+    rw c.push.ensures
+    (dealt-full m s k c.args.from c.args.child (c.args.from - 1) c.args.next_turn c.args.name.maker c.args.name.index x f.0 i legal at turned only)

@@ -34,11 +34,15 @@ unreachable-requires g c =
     let made = set k.nodes (c.args.from - 1) (record x { turn = c.args.next_turn }) in
     let q = place-of s c.args.child c.requires.child in
     let n = c.index_mut-2.result.now in
-    let child : slice_get made (c.args.child - 1) ≡ Some n = read-at made (c.args.child - 1) n (omega (arith, q.1, i.nodes.all, length-set k.nodes (c.args.from - 1) (record x { turn = c.args.next_turn }))) c.index_mut-2.ensures.value in
+    let child : slice_get made (c.args.child - 1) ≡ Some n =
+    read-at made (c.args.child - 1) n
+    (omega (arith, q.1, i.nodes.all, length-set k.nodes (c.args.from - 1) (record x { turn = c.args.next_turn }))) c.index_mut-2.ensures.value in
     let room : has_room s (log_of k) c.args.child ≡ true = subst (λ (v : Coursed). has_room s (past v.told) c.args.child ≡ true) view c.requires.room in
-    let turned : c.args.next_turn ≡ turn s c.args.from (Accept c.args.child c.args.name.maker c.args.name.index ∷ log_of k) = c.requires.turn ∙ ap (λ (v : Coursed). turn s c.args.from (Accept c.args.child c.args.name.maker c.args.name.index ∷ past v.told)) view in
+    let turned : c.args.next_turn ≡ turn s c.args.from (Accept c.args.child c.args.name.maker c.args.name.index ∷ log_of k) =
+    c.requires.turn ∙ ap (λ (v : Coursed). turn s c.args.from (Accept c.args.child c.args.name.maker c.args.name.index ∷ past v.told)) view in
     let only = subst (λ (v : Coursed). OnlyDealt s c.args.from (past v.told)) view c.requires.only in
-    absurd (true≢false (sym room ∙ dealt-room m s k c.args.from c.args.child (c.args.from - 1) (c.args.child - 1) c.args.next_turn c.args.name.maker c.args.name.index x n f.0 q.0 i at turned only child (c.in_default.ensures.full.0 refl)))
+    absurd (true≢false (sym room ∙ dealt-room m s k c.args.from c.args.child (c.args.from - 1) (c.args.child - 1) c.args.next_turn c.args.name.maker
+    c.args.name.index x n f.0 q.0 i at turned only child (c.in_default.ensures.full.0 refl)))
 
 pub hold-requires-clause-has_hold : goal.hold-requires-clause-has_hold
 hold-requires-clause-has_hold g c =
@@ -49,9 +53,11 @@ hold-requires-clause-has_hold g c =
     let i : IsCourse m s k = c.self.invariant in
     let view = sym c.self.view_is in
     let name = c.args.name in
-    let transit : k.transit ≡ name ∷ drop 1 k.transit = first-of k.transit name (subst (λ (v : Coursed). slice_get v.transit 0 ≡ Some name) view c.requires.next) in
+    let transit : k.transit ≡ name ∷ drop 1 k.transit =
+    first-of k.transit name (subst (λ (v : Coursed). slice_get v.transit 0 ≡ Some name) view c.requires.next) in
     let has = next-block m s k name (drop 1 k.transit) i transit in
-    let found : c.block-block.result ≡ has.0 = c.block-block.ensures has.0 (subst (λ (v : Coursed). block_of (past v.told) name ≡ has.0 ∷ []) c.self.view_is has.1) in
+    let found : c.block-block.result ≡ has.0 =
+    c.block-block.ensures has.0 (subst (λ (v : Coursed). block_of (past v.told) name ≡ has.0 ∷ []) c.self.view_is has.1) in
     let block : block_of (log_of k) name ≡ c.block-block.result ∷ [] = has.1 ∙ ap (λ b. b ∷ []) (sym found) in
     let held = next-held m s k name (drop 1 k.transit) c.block-block.result i transit block in
     held
@@ -65,9 +71,11 @@ hold-requires-clause-below_max g c =
     let i : IsCourse m s k = c.self.invariant in
     let view = sym c.self.view_is in
     let name = c.args.name in
-    let transit : k.transit ≡ name ∷ drop 1 k.transit = first-of k.transit name (subst (λ (v : Coursed). slice_get v.transit 0 ≡ Some name) view c.requires.next) in
+    let transit : k.transit ≡ name ∷ drop 1 k.transit =
+    first-of k.transit name (subst (λ (v : Coursed). slice_get v.transit 0 ≡ Some name) view c.requires.next) in
     let has = next-block m s k name (drop 1 k.transit) i transit in
-    let found : c.block-block.result ≡ has.0 = c.block-block.ensures has.0 (subst (λ (v : Coursed). block_of (past v.told) name ≡ has.0 ∷ []) c.self.view_is has.1) in
+    let found : c.block-block.result ≡ has.0 =
+    c.block-block.ensures has.0 (subst (λ (v : Coursed). block_of (past v.told) name ≡ has.0 ∷ []) c.self.view_is has.1) in
     let block : block_of (log_of k) name ≡ c.block-block.result ∷ [] = has.1 ∙ ap (λ b. b ∷ []) (sym found) in
     let held = next-held m s k name (drop 1 k.transit) c.block-block.result i transit block in
     holds-below m s k c.block-block.result i
@@ -91,7 +99,8 @@ push-requires-clause-room g c =
     let k = parts a in
     let i : IsCourse m s k = c.self.invariant in
     let view = sym c.self.view_is in
-    let legal : is_legal s (Accept c.args.child c.args.name.maker c.args.name.index ∷ log_of k) ≡ true = subst (λ (v : Coursed). is_legal s (Accept c.args.child c.args.name.maker c.args.name.index ∷ past v.told) ≡ true) view c.requires.legal in
+    let legal : is_legal s (Accept c.args.child c.args.name.maker c.args.name.index ∷ log_of k) ≡ true =
+    subst (λ (v : Coursed). is_legal s (Accept c.args.child c.args.name.maker c.args.name.index ∷ past v.told) ≡ true) view c.requires.legal in
     room-for m s k (Accept c.args.child c.args.name.maker c.args.name.index) i legal
 
 pub invariant_of-self : goal.invariant_of-self
@@ -103,9 +112,11 @@ invariant_of-self g c =
     let i : IsCourse m s k = c.self.invariant in
     let view = sym c.self.view_is in
     let name = c.args.name in
-    let transit : k.transit ≡ name ∷ drop 1 k.transit = first-of k.transit name (subst (λ (v : Coursed). slice_get v.transit 0 ≡ Some name) view c.requires.next) in
+    let transit : k.transit ≡ name ∷ drop 1 k.transit =
+    first-of k.transit name (subst (λ (v : Coursed). slice_get v.transit 0 ≡ Some name) view c.requires.next) in
     let has = next-block m s k name (drop 1 k.transit) i transit in
-    let found : c.block-block.result ≡ has.0 = c.block-block.ensures has.0 (subst (λ (v : Coursed). block_of (past v.told) name ≡ has.0 ∷ []) c.self.view_is has.1) in
+    let found : c.block-block.result ≡ has.0 =
+    c.block-block.ensures has.0 (subst (λ (v : Coursed). block_of (past v.told) name ≡ has.0 ∷ []) c.self.view_is has.1) in
     let block : block_of (log_of k) name ≡ c.block-block.result ∷ [] = has.1 ∙ ap (λ b. b ∷ []) (sym found) in
     let held = next-held m s k name (drop 1 k.transit) c.block-block.result i transit block in
     let f = place-of s c.args.from c.requires.from in
@@ -114,9 +125,14 @@ invariant_of-self g c =
     let made = set k.nodes (c.args.from - 1) (record x { turn = c.args.next_turn }) in
     let q = place-of s c.args.child c.requires.child in
     let n = c.index_mut-2.result.now in
-    let child : slice_get made (c.args.child - 1) ≡ Some n = read-at made (c.args.child - 1) n (omega (arith, q.1, i.nodes.all, length-set k.nodes (c.args.from - 1) (record x { turn = c.args.next_turn }))) c.index_mut-2.ensures.value in
-    let legal : is_legal s (Accept c.args.child c.args.name.maker c.args.name.index ∷ log_of k) ≡ true = subst (λ (v : Coursed). is_legal s (Accept c.args.child c.args.name.maker c.args.name.index ∷ past v.told) ≡ true) view c.requires.legal in
+    let child : slice_get made (c.args.child - 1) ≡ Some n =
+    read-at made (c.args.child - 1) n
+    (omega (arith, q.1, i.nodes.all, length-set k.nodes (c.args.from - 1) (record x { turn = c.args.next_turn }))) c.index_mut-2.ensures.value in
+    let legal : is_legal s (Accept c.args.child c.args.name.maker c.args.name.index ∷ log_of k) ≡ true =
+    subst (λ (v : Coursed). is_legal s (Accept c.args.child c.args.name.maker c.args.name.index ∷ past v.told) ≡ true) view c.requires.legal in
     let room : has_room s (log_of k) c.args.child ≡ true = subst (λ (v : Coursed). has_room s (past v.told) c.args.child ≡ true) view c.requires.room in
-    let turned : c.args.next_turn ≡ turn s c.args.from (Accept c.args.child c.args.name.maker c.args.name.index ∷ log_of k) = c.requires.turn ∙ ap (λ (v : Coursed). turn s c.args.from (Accept c.args.child c.args.name.maker c.args.name.index ∷ past v.told)) view in
+    let turned : c.args.next_turn ≡ turn s c.args.from (Accept c.args.child c.args.name.maker c.args.name.index ∷ log_of k) =
+    c.requires.turn ∙ ap (λ (v : Coursed). turn s c.args.from (Accept c.args.child c.args.name.maker c.args.name.index ∷ past v.told)) view in
     let only = subst (λ (v : Coursed). OnlyDealt s c.args.from (past v.told)) view c.requires.only in
-    rw (c.push.ensures, c.hold.ensures, c.in-Ok.ensures.ok) (dealt m s k c.args.from c.args.child (c.args.from - 1) (c.args.child - 1) c.args.next_turn c.args.name.maker c.args.name.index c.block-block.result x n f.0 q.0 i legal at turned only child room block held)
+    rw (c.push.ensures, c.hold.ensures, c.in-Ok.ensures.ok) (dealt m s k c.args.from c.args.child (c.args.from - 1) (c.args.child - 1) c.args.next_turn
+    c.args.name.maker c.args.name.index c.block-block.result x n f.0 q.0 i legal at turned only child room block held)

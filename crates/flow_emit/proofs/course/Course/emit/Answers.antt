@@ -11,7 +11,8 @@ use Rattle.flow_emit.proofs.course.Course.emit.Goals as goal
 pub leave_driver-requires-clause-legal : goal.leave_driver-requires-clause-legal
 leave_driver-requires-clause-legal g c =
     let s = run_setting g.F.Of.Run.graph g.F.Of.Run.stack in
-    subst (λ (v : ℕ). is_legal s (Emit v c.args.name.maker c.args.name.index c.args.why ∷ past c.args.self.now.told) ≡ true) c.if-from-eq0.true (emission-legal s c.args.from c.args.why c.args.name c.args.self.now.told c.requires.legal)
+    subst (λ (v : ℕ). is_legal s (Emit v c.args.name.maker c.args.name.index c.args.why ∷ past c.args.self.now.told) ≡ true) c.if-from-eq0.true
+    (emission-legal s c.args.from c.args.why c.args.name c.args.self.now.told c.requires.legal)
 
 pub leave_node-requires-clause-legal : goal.leave_node-requires-clause-legal
 leave_node-requires-clause-legal g c =
@@ -21,6 +22,9 @@ leave_node-requires-clause-legal g c =
 pub pass_on-requires-clause-from : goal.pass_on-requires-clause-from
 pass_on-requires-clause-from g c =
     elim c.if-from-eq0.branch [
-      | then-from-eq0 w ↦ (c.args.why, c.args.self.now.told, ap (λ (v : Coursed). v.told) (w.self-is ∙ w.leave_driver.ensures) ∙ ap (λ (u : ℕ). plain (Emit u c.args.name.maker c.args.name.index c.args.why) ∷ c.args.self.now.told) (sym w.if-from-eq0.true))
+      | then-from-eq0 w ↦
+          (c.args.why, c.args.self.now.told,
+          ap (λ (v : Coursed). v.told) (w.self-is ∙ w.leave_driver.ensures)
+          ∙ ap (λ (u : ℕ). plain (Emit u c.args.name.maker c.args.name.index c.args.why) ∷ c.args.self.now.told) (sym w.if-from-eq0.true))
       | else-from-eq0 w ↦ (c.args.why, c.args.self.now.told, ap (λ (v : Coursed). v.told) (w.self-is ∙ w.leave_node.ensures))
     ]

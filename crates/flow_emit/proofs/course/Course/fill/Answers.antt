@@ -41,7 +41,8 @@ push-requires-clause-room g c =
     let k = parts a in
     let i : IsCourse m s k = c.self.invariant in
     let view = sym c.self.view_is in
-    let legal : is_legal s (Full c.args.child c.args.name.maker c.args.name.index ∷ log_of k) ≡ true = subst (λ (v : Coursed). is_legal s (Full c.args.child c.args.name.maker c.args.name.index ∷ past v.told) ≡ true) view c.requires.legal in
+    let legal : is_legal s (Full c.args.child c.args.name.maker c.args.name.index ∷ log_of k) ≡ true =
+    subst (λ (v : Coursed). is_legal s (Full c.args.child c.args.name.maker c.args.name.index ∷ past v.told) ≡ true) view c.requires.legal in
     room-for m s k (Full c.args.child c.args.name.maker c.args.name.index) i legal
 
 pub invariant_of-self : goal.invariant_of-self
@@ -52,6 +53,7 @@ invariant_of-self g c =
     let k = parts a in
     let i : IsCourse m s k = c.self.invariant in
     let view = sym c.self.view_is in
-    let legal : is_legal s (Full c.args.child c.args.name.maker c.args.name.index ∷ log_of k) ≡ true = subst (λ (v : Coursed). is_legal s (Full c.args.child c.args.name.maker c.args.name.index ∷ past v.told) ≡ true) view c.requires.legal in
+    let legal : is_legal s (Full c.args.child c.args.name.maker c.args.name.index ∷ log_of k) ≡ true =
+    subst (λ (v : Coursed). is_legal s (Full c.args.child c.args.name.maker c.args.name.index ∷ past v.told) ≡ true) view c.requires.legal in
     let together = subst (λ (v : Coursed). (u : ℕ) → deals s u ≡ true → has_just_emitted u (past v.told) ≡ false) view c.requires.together in
     rw c.push.ensures (filled m s k c.args.child c.args.name.maker c.args.name.index i legal together)

@@ -8,4 +8,5 @@ use Rattle.flow_emit.proofs.course.Course.have_room.Given as goal
 -- all of those before have room
 abbrev pub invariant-loop-node : goal.invariant-loop-node
 invariant-loop-node g l =
-    list_all (has_room (run_setting g.F.Of.Run.graph g.F.Of.Run.stack) (past l.self.told)) (drop l.node-index l.nodes) ≡ list_all (has_room (run_setting g.F.Of.Run.graph g.F.Of.Run.stack) (past l.self.told)) l.nodes
+    list_all (has_room (run_setting g.F.Of.Run.graph g.F.Of.Run.stack) (past l.self.told)) (drop l.node-index l.nodes)
+    ≡ list_all (has_room (run_setting g.F.Of.Run.graph g.F.Of.Run.stack) (past l.self.told)) l.nodes

@@ -21,12 +21,16 @@ pub returns-in-Makes : goal.returns-in-Makes
 returns-in-Makes g c =
     let n = c.index-as_slice-node.result in
     let s = run_setting g.F.Of.Run.graph g.F.Of.Run.stack in
-    let rule : as_node n ≡ node s c.args.node = rule-found s c.self.inside.rules c.args.node n c.self.invariant.ruled c.requires (c.index-as_slice-node.is ∙ ap (λ (ns : List NodeRules). get_or ns (c.args.node - 1) n) c.as_slice.ensures) in
+    let rule : as_node n ≡ node s c.args.node =
+    rule-found s c.self.inside.rules c.args.node n c.self.invariant.ruled c.requires
+    (c.index-as_slice-node.is ∙ ap (λ (ns : List NodeRules). get_or ns (c.args.node - 1) n) c.as_slice.ensures) in
     sym (ap (λ (o : Node). may_sort o.work && ltb 0 o.sort) (sym rule) ∙ ap (λ b. b && ltb 0 n.sort) (sorts n.work c.in-Makes.is))
 
 pub returns-in-Watches : goal.returns-in-Watches
 returns-in-Watches g c =
     let n = c.index-as_slice-node.result in
     let s = run_setting g.F.Of.Run.graph g.F.Of.Run.stack in
-    let rule : as_node n ≡ node s c.args.node = rule-found s c.self.inside.rules c.args.node n c.self.invariant.ruled c.requires (c.index-as_slice-node.is ∙ ap (λ (ns : List NodeRules). get_or ns (c.args.node - 1) n) c.as_slice.ensures) in
+    let rule : as_node n ≡ node s c.args.node =
+    rule-found s c.self.inside.rules c.args.node n c.self.invariant.ruled c.requires
+    (c.index-as_slice-node.is ∙ ap (λ (ns : List NodeRules). get_or ns (c.args.node - 1) n) c.as_slice.ensures) in
     sym (ap (λ (o : Node). may_sort o.work && ltb 0 o.sort) (sym rule) ∙ ap (λ b. b && ltb 0 n.sort) (sorts-not n.work c.in-Watches.is))

@@ -17,7 +17,8 @@ push-requires-clause-room g c =
     let k = parts a in
     let i : IsCourse m s k = c.self.invariant in
     let view = sym c.self.view_is in
-    let legal : is_legal s (Emit 0 c.args.name.maker c.args.name.index c.args.why ∷ log_of k) ≡ true = subst (λ (v : Coursed). is_legal s (Emit 0 c.args.name.maker c.args.name.index c.args.why ∷ past v.told) ≡ true) view c.requires.legal in
+    let legal : is_legal s (Emit 0 c.args.name.maker c.args.name.index c.args.why ∷ log_of k) ≡ true =
+    subst (λ (v : Coursed). is_legal s (Emit 0 c.args.name.maker c.args.name.index c.args.why ∷ past v.told) ≡ true) view c.requires.legal in
     room-for m s k (Emit 0 c.args.name.maker c.args.name.index c.args.why) i legal
 
 pub invariant_of-self : goal.invariant_of-self
@@ -28,5 +29,6 @@ invariant_of-self g c =
     let k = parts a in
     let i : IsCourse m s k = c.self.invariant in
     let view = sym c.self.view_is in
-    let legal : is_legal s (Emit 0 c.args.name.maker c.args.name.index c.args.why ∷ log_of k) ≡ true = subst (λ (v : Coursed). is_legal s (Emit 0 c.args.name.maker c.args.name.index c.args.why ∷ past v.told) ≡ true) view c.requires.legal in
+    let legal : is_legal s (Emit 0 c.args.name.maker c.args.name.index c.args.why ∷ log_of k) ≡ true =
+    subst (λ (v : Coursed). is_legal s (Emit 0 c.args.name.maker c.args.name.index c.args.why ∷ past v.told) ≡ true) view c.requires.legal in
     rw c.push.ensures (emitted_by_driver m s k c.args.name.maker c.args.name.index c.args.why i legal)

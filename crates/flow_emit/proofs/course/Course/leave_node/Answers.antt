@@ -22,8 +22,10 @@ keep_measure-requires g c =
     let view = sym c.self.view_is in
     let q = place-of s c.args.node c.requires.node in
     let n = c.index_mut-state.result.now in
-    let at : slice_get k.nodes (c.args.node - 1) ≡ Some n = read-at k.nodes (c.args.node - 1) n (omega (arith, q.1, i.nodes.all)) c.index_mut-state.ensures.value in
-    let legal : is_legal s (Emit c.args.node c.args.name.maker c.args.name.index c.args.why ∷ log_of k) ≡ true = subst (λ (v : Coursed). is_legal s (Emit c.args.node c.args.name.maker c.args.name.index c.args.why ∷ past v.told) ≡ true) view c.requires.legal in
+    let at : slice_get k.nodes (c.args.node - 1) ≡ Some n =
+    read-at k.nodes (c.args.node - 1) n (omega (arith, q.1, i.nodes.all)) c.index_mut-state.ensures.value in
+    let legal : is_legal s (Emit c.args.node c.args.name.maker c.args.name.index c.args.why ∷ log_of k) ≡ true =
+    subst (λ (v : Coursed). is_legal s (Emit c.args.node c.args.name.maker c.args.name.index c.args.why ∷ past v.told) ≡ true) view c.requires.legal in
     λ x is. room-to-measure m s k c.args.node (c.args.node - 1) c.args.name.maker c.args.name.index c.args.why n x q.0 i at legal (sym c.requires.measured ∙ is)
 
 pub push-requires-clause-room : goal.push-requires-clause-room
@@ -34,7 +36,8 @@ push-requires-clause-room g c =
     let k = parts a in
     let i : IsCourse m s k = c.self.invariant in
     let view = sym c.self.view_is in
-    let legal : is_legal s (Emit c.args.node c.args.name.maker c.args.name.index c.args.why ∷ log_of k) ≡ true = subst (λ (v : Coursed). is_legal s (Emit c.args.node c.args.name.maker c.args.name.index c.args.why ∷ past v.told) ≡ true) view c.requires.legal in
+    let legal : is_legal s (Emit c.args.node c.args.name.maker c.args.name.index c.args.why ∷ log_of k) ≡ true =
+    subst (λ (v : Coursed). is_legal s (Emit c.args.node c.args.name.maker c.args.name.index c.args.why ∷ past v.told) ≡ true) view c.requires.legal in
     room-for m s k (Emit c.args.node c.args.name.maker c.args.name.index c.args.why) i legal
 
 pub invariant_of-self : goal.invariant_of-self
@@ -47,6 +50,11 @@ invariant_of-self g c =
     let view = sym c.self.view_is in
     let q = place-of s c.args.node c.requires.node in
     let n = c.index_mut-state.result.now in
-    let at : slice_get k.nodes (c.args.node - 1) ≡ Some n = read-at k.nodes (c.args.node - 1) n (omega (arith, q.1, i.nodes.all)) c.index_mut-state.ensures.value in
-    let legal : is_legal s (Emit c.args.node c.args.name.maker c.args.name.index c.args.why ∷ log_of k) ≡ true = subst (λ (v : Coursed). is_legal s (Emit c.args.node c.args.name.maker c.args.name.index c.args.why ∷ past v.told) ≡ true) view c.requires.legal in
-    rw c.push.ensures (emitted_at_once_at m s k c.args.node (c.args.node - 1) c.args.name.maker c.args.name.index c.args.why n (record n { measures = c.keep_measure.new.measures }) q.0 i legal at c.requires.unsorted refl (c.keep_measure.ensures.items ∙ ap (λ o. n.measures.items ++ listed o) c.requires.measured) (λ b x is. rw c.keep_measure.ensures.capacity ((node-is m s k c.args.node (c.args.node - 1) n q.0 i at).measures_room b x is)))
+    let at : slice_get k.nodes (c.args.node - 1) ≡ Some n =
+    read-at k.nodes (c.args.node - 1) n (omega (arith, q.1, i.nodes.all)) c.index_mut-state.ensures.value in
+    let legal : is_legal s (Emit c.args.node c.args.name.maker c.args.name.index c.args.why ∷ log_of k) ≡ true =
+    subst (λ (v : Coursed). is_legal s (Emit c.args.node c.args.name.maker c.args.name.index c.args.why ∷ past v.told) ≡ true) view c.requires.legal in
+    rw c.push.ensures (emitted_at_once_at m s k c.args.node (c.args.node - 1) c.args.name.maker c.args.name.index c.args.why n
+    (record n { measures = c.keep_measure.new.measures }) q.0 i legal at c.requires.unsorted refl
+    (c.keep_measure.ensures.items ∙ ap (λ o. n.measures.items ++ listed o) c.requires.measured)
+    (λ b x is. rw c.keep_measure.ensures.capacity ((node-is m s k c.args.node (c.args.node - 1) n q.0 i at).measures_room b x is)))

@@ -22,7 +22,8 @@ emit-requires-clause-legal g c =
     let k = parts c.self.inside in
     let name = c.in-Some.next.now in
     let why = c.if-len-gt1.why in
-    let inside : slice_get k.transit 0 ≡ Some name = read-at k.transit 0 name (subst (λ (w : Coursed). 0 < length w.transit) (sym c.self.view_is) c.requires.some) c.in-Some.ensures.lookup in
+    let inside : slice_get k.transit 0 ≡ Some name =
+    read-at k.transit 0 name (subst (λ (w : Coursed). 0 < length w.transit) (sym c.self.view_is) c.requires.some) c.in-Some.ensures.lookup in
     let next : slice_get ts 0 ≡ Some name = subst (λ (w : Coursed). slice_get w.transit 0 ≡ Some name) c.self.view_is inside in
     let long = ap (λ (w : Coursed). length w.transit) c.self.view_is in
     let more : 1 < length ts → why ≡ Ring = elim c.if-len-gt1.branch [
@@ -33,4 +34,5 @@ emit-requires-clause-legal g c =
       | then-len-gt1 w ↦ λ h. absurd (omega (arith, h, w.if-len-gt1.true, c.len.ensures, long))
       | else-len-gt1 w ↦ λ h. w.why-is
     ] in
-    subst (λ (ds : List Entry). is_legal s (past (with_all s 0 2 ds told)) ≡ true) (first-out v ts name why next more last) (first-out-legal s v ts told c.requires.legal)
+    subst (λ (ds : List Entry). is_legal s (past (with_all s 0 2 ds told)) ≡ true) (first-out v ts name why next more last)
+    (first-out-legal s v ts told c.requires.legal)

@@ -16,4 +16,5 @@ tick-requires-clause-legal g c =
     let h = c.requires in
     let old = c.args.self.now in
     subst (λ (w : Coursed). is_legal s (past (with_all s c.args.tick 3 (Tick (now (past w.told)) ∷ []) w.told)) ≡ true) (sym c.in_ok-note_load.ensures.loaded)
-    (and_parts _ _ (load-legal {B = g.row.F-Blank.Denot} s old.told c.args.role c.args.tick c.args.grant.block c.args.grant.size c.args.grant.fresh c.args.grant.given_up c.args.regrown refl h.history h.role h.allowed h.granted h.stale)).0
+    (and_parts _ _ (load-legal {B = g.row.F-Blank.Denot} s old.told c.args.role c.args.tick c.args.grant.block c.args.grant.size c.args.grant.fresh
+    c.args.grant.given_up c.args.regrown refl h.history h.role h.allowed h.granted h.stale)).0

@@ -18,7 +18,8 @@ returns-in-Saves g c =
     let v = c.args.node in
     let n = c.index.result.now in
     let at = node-found m s k v n i c.requires c.index.ensures in
-    group-saves (node s v).work _ _ n.saves (length (standing_saves v (past c.args.self.now.told))) (work-at m s k v _ _ c.as_slice.result.now i c.requires c.as_slice.ensures c.in-Saves.is)
+    group-saves (node s v).work _ _ n.saves (length (standing_saves v (past c.args.self.now.told)))
+    (work-at m s k v _ _ c.as_slice.result.now i c.requires c.as_slice.ensures c.in-Saves.is)
     ((node-is m s k v n i c.requires at).pieces ∙ ap (λ (w : Coursed). length (standing_saves v (past w.told))) c.self.view_is)
 
 pub returns-in_default : goal.returns-in_default
@@ -28,4 +29,5 @@ returns-in_default g c =
     let k = parts c.self.inside in
     let i : IsCourse m s k = c.self.invariant in
     let v = c.args.node in
-    group-none (node s v).work _ (length (standing_saves v (past c.args.self.now.told))) (work-at m s k v _ _ c.as_slice.result.now i c.requires c.as_slice.ensures refl) c.in_default.not-Saves
+    group-none (node s v).work _ (length (standing_saves v (past c.args.self.now.told)))
+    (work-at m s k v _ _ c.as_slice.result.now i c.requires c.as_slice.ensures refl) c.in_default.not-Saves

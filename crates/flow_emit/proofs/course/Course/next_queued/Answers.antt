@@ -19,7 +19,9 @@ next_of-requires-clause-some g c =
     let i : IsCourse m s k = c.self.invariant in
     let v = c.args.node in
     let n = c.index_mut.result.now in
-    let here : IsNode m s v (past c.args.self.now.told) n = subst (λ (w : Coursed). IsNode m s v (past w.told) n) c.self.view_is (node-is m s k v n i c.requires.node (node-found m s k v n i c.requires.node c.index_mut.ensures.value)) in
+    let here : IsNode m s v (past c.args.self.now.told) n =
+    subst (λ (w : Coursed). IsNode m s v (past w.told) n) c.self.view_is
+    (node-is m s k v n i c.requires.node (node-found m s k v n i c.requires.node c.index_mut.ensures.value)) in
     omega (arith, ap length (queue-items m s v (past c.args.self.now.told) n here), some-there (queued v (past c.args.self.now.told)) c.requires.some)
 
 pub next_of-requires-clause-fits : goal.next_of-requires-clause-fits
@@ -41,5 +43,7 @@ returns-clause-next g c =
     let v = c.args.node in
     let n = c.index_mut.result.now in
     let P = past c.args.self.now.told in
-    let here : IsNode m s v P n = subst (λ (w : Coursed). IsNode m s v (past w.told) n) c.self.view_is (node-is m s k v n i c.requires.node (node-found m s k v n i c.requires.node c.index_mut.ensures.value)) in
+    let here : IsNode m s v P n =
+    subst (λ (w : Coursed). IsNode m s v (past w.told) n) c.self.view_is
+    (node-is m s k v n i c.requires.node (node-found m s k v n i c.requires.node c.index_mut.ensures.value)) in
     first-next (queued v P) c.next_of.result (ap (λ (xs : List FrameName). slice_get xs 0) (sym (queue-items m s v P n here)) ∙ c.next_of.ensures.next)

@@ -38,7 +38,8 @@ unreachable-requires g c =
     let n = c.index_mut.result.now in
     let at : slice_get k.nodes (v - 1) ≡ Some n = node-found m s k v n i h.node c.index_mut.ensures.value in
     let none : queued v (log_of k) ≡ [] = none-popped m s k v n i h.node at (c.in_default.ensures.empty.0 refl) in
-    true≢false (sym (ap none_left (sym (ap (λ (w : Coursed). queued v (past w.told)) c.self.view_is) ∙ none)) ∙ (may_take {F = g.row.F.Denot} {B = g.row.F-Blank.Denot} {O = g.row.F-Of.Denot} s r v (past c.args.self.now.told) h.allowed).some)
+    true≢false (sym (ap none_left (sym (ap (λ (w : Coursed). queued v (past w.told)) c.self.view_is) ∙ none))
+    ∙ (may_take {F = g.row.F.Denot} {B = g.row.F-Blank.Denot} {O = g.row.F-Of.Denot} s r v (past c.args.self.now.told) h.allowed).some)
 
 pub overflow_add-self : goal.overflow_add-self
 overflow_add-self g c =
@@ -64,14 +65,20 @@ push-requires-clause-room g c =
     let a = c.in-Some.name in
     let P : Past = past c.args.self.now.told in
     let same : log_of k ≡ P = ap (λ (w : Coursed). past w.told) c.self.view_is in
-    let next : is_next a (queued v P) ≡ true = subst (λ (Q : Past). is_next a (queued v Q) ≡ true) same (next-popped m s k v n a i h.node at (sym c.pop.ensures.front ∙ c.in-Some.is)) in
+    let next : is_next a (queued v P) ≡ true =
+    subst (λ (Q : Past). is_next a (queued v Q) ≡ true) same (next-popped m s k v n a i h.node at (sym c.pop.ensures.front ∙ c.in-Some.is)) in
     let read = c.index-as_slice-place.result in
     let rule : NodeRules = get_or c.as_slice.result.now (v - 1) read in
-    let need : rule.need ≡ s.need v = ap (λ (z : NodeRules). z.need) (sym c.index-as_slice-place.is) ∙ need-is m s k v read i h.node h.makes (subst (λ (rs : List NodeRules). read ≡ get_or rs (v - 1) read) c.as_slice.ensures c.index-as_slice-place.is) in
+    let need : rule.need ≡ s.need v =
+    ap (λ (z : NodeRules). z.need) (sym c.index-as_slice-place.is)
+    ∙ need-is m s k v read i h.node h.makes (subst (λ (rs : List NodeRules). read ≡ get_or rs (v - 1) read) c.as_slice.ensures c.index-as_slice-place.is) in
     let there : c.held-held.result ≡ held s P = c.held-held.ensures ∙ (held-is m s k i still ∙ ap (held s) same) in
-    let drop_legal : is_legal s (PoolDrop r v a.maker a.index (s.need v) (held s P) ∷ log_of k) ≡ true = may-drop {F = g.row.F.Denot} {B = g.row.F-Blank.Denot} {O = g.row.F-Of.Denot} s k c.args.self.now r v a c.self.view_is i.ruled.pooled h.history h.role h.allowed h.makes h.refused next in
+    let drop_legal : is_legal s (PoolDrop r v a.maker a.index (s.need v) (held s P) ∷ log_of k) ≡ true =
+    may-drop {F = g.row.F.Denot} {B = g.row.F-Blank.Denot} {O = g.row.F-Of.Denot} s k c.args.self.now r v a c.self.view_is i.ruled.pooled h.history h.role
+    h.allowed h.makes h.refused next in
     let legal : is_legal s (PoolDrop r v a.maker a.index rule.need c.held-held.result ∷ log_of k) ≡ true =
-    subst (λ (j : ℕ). is_legal s (PoolDrop r v a.maker a.index j c.held-held.result ∷ log_of k) ≡ true) (sym need) (subst (λ (j : ℕ). is_legal s (PoolDrop r v a.maker a.index (s.need v) j ∷ log_of k) ≡ true) (sym there) drop_legal) in
+    subst (λ (j : ℕ). is_legal s (PoolDrop r v a.maker a.index j c.held-held.result ∷ log_of k) ≡ true) (sym need)
+    (subst (λ (j : ℕ). is_legal s (PoolDrop r v a.maker a.index (s.need v) j ∷ log_of k) ≡ true) (sym there) drop_legal) in
     room-for m s k (PoolDrop r v a.maker a.index rule.need c.held-held.result) i legal
 
 pub invariant_of-self : goal.invariant_of-self
@@ -89,16 +96,24 @@ invariant_of-self g c =
     let a = c.in-Some.name in
     let P : Past = past c.args.self.now.told in
     let same : log_of k ≡ P = ap (λ (w : Coursed). past w.told) c.self.view_is in
-    let next : is_next a (queued v P) ≡ true = subst (λ (Q : Past). is_next a (queued v Q) ≡ true) same (next-popped m s k v n a i h.node at (sym c.pop.ensures.front ∙ c.in-Some.is)) in
+    let next : is_next a (queued v P) ≡ true =
+    subst (λ (Q : Past). is_next a (queued v Q) ≡ true) same (next-popped m s k v n a i h.node at (sym c.pop.ensures.front ∙ c.in-Some.is)) in
     let read = c.index-as_slice-place.result in
     let rule : NodeRules = get_or c.as_slice.result.now (v - 1) read in
-    let need : rule.need ≡ s.need v = ap (λ (z : NodeRules). z.need) (sym c.index-as_slice-place.is) ∙ need-is m s k v read i h.node h.makes (subst (λ (rs : List NodeRules). read ≡ get_or rs (v - 1) read) c.as_slice.ensures c.index-as_slice-place.is) in
+    let need : rule.need ≡ s.need v =
+    ap (λ (z : NodeRules). z.need) (sym c.index-as_slice-place.is)
+    ∙ need-is m s k v read i h.node h.makes (subst (λ (rs : List NodeRules). read ≡ get_or rs (v - 1) read) c.as_slice.ensures c.index-as_slice-place.is) in
     let there : c.held-held.result ≡ held s P = c.held-held.ensures ∙ (held-is m s k i still ∙ ap (held s) same) in
-    let drop_legal : is_legal s (PoolDrop r v a.maker a.index (s.need v) (held s P) ∷ log_of k) ≡ true = may-drop {F = g.row.F.Denot} {B = g.row.F-Blank.Denot} {O = g.row.F-Of.Denot} s k c.args.self.now r v a c.self.view_is i.ruled.pooled h.history h.role h.allowed h.makes h.refused next in
+    let drop_legal : is_legal s (PoolDrop r v a.maker a.index (s.need v) (held s P) ∷ log_of k) ≡ true =
+    may-drop {F = g.row.F.Denot} {B = g.row.F-Blank.Denot} {O = g.row.F-Of.Denot} s k c.args.self.now r v a c.self.view_is i.ruled.pooled h.history h.role
+    h.allowed h.makes h.refused next in
     let legal : is_legal s (PoolDrop r v a.maker a.index rule.need c.held-held.result ∷ log_of k) ≡ true =
-    subst (λ (j : ℕ). is_legal s (PoolDrop r v a.maker a.index j c.held-held.result ∷ log_of k) ≡ true) (sym need) (subst (λ (j : ℕ). is_legal s (PoolDrop r v a.maker a.index (s.need v) j ∷ log_of k) ≡ true) (sym there) drop_legal) in
-    course-as m s (record k { log = record k.log { told = plain (PoolDrop r v a.maker a.index rule.need c.held-held.result) ∷ k.log.told }; nodes = set k.nodes (v - 1) (record n { inbox = without_front n.inbox }); facts = record k.facts { dropped = k.facts.dropped + 1 }; transit = a ∷ [] })
-    _ _ _ _ _ _ _ _ (sym c.push.ensures) (ap (λ (b : InboxState FrameName). set k.nodes (v - 1) (record n { inbox = b })) (sym c.pop.ensures.rest)) refl refl refl refl
+    subst (λ (j : ℕ). is_legal s (PoolDrop r v a.maker a.index j c.held-held.result ∷ log_of k) ≡ true) (sym need)
+    (subst (λ (j : ℕ). is_legal s (PoolDrop r v a.maker a.index (s.need v) j ∷ log_of k) ≡ true) (sym there) drop_legal) in
+    course-as m s (record k { log = record k.log { told = plain (PoolDrop r v a.maker a.index rule.need c.held-held.result) ∷ k.log.told };
+    nodes = set k.nodes (v - 1) (record n { inbox = without_front n.inbox }); facts = record k.facts { dropped = k.facts.dropped + 1 }; transit = a ∷ [] })
+    _ _ _ _ _ _ _ _ (sym c.push.ensures)
+    (ap (λ (b : InboxState FrameName). set k.nodes (v - 1) (record n { inbox = b })) (sym c.pop.ensures.rest)) refl refl refl refl
     (sym (c.push_back_reserved.ensures.items ∙ ap (λ (ts : List FrameName). ts ++ a ∷ []) still)) (sym c.push_back_reserved.ensures.capacity)
     (dropped_by_pool_at m s k v r (v - 1) a.maker a.index rule.need c.held-held.result n (place-of s v h.node).0 i legal at still)
 
@@ -117,14 +132,20 @@ returns-clause-next g c =
     let a = c.in-Some.name in
     let P : Past = past c.args.self.now.told in
     let same : log_of k ≡ P = ap (λ (w : Coursed). past w.told) c.self.view_is in
-    let next : is_next a (queued v P) ≡ true = subst (λ (Q : Past). is_next a (queued v Q) ≡ true) same (next-popped m s k v n a i h.node at (sym c.pop.ensures.front ∙ c.in-Some.is)) in
+    let next : is_next a (queued v P) ≡ true =
+    subst (λ (Q : Past). is_next a (queued v Q) ≡ true) same (next-popped m s k v n a i h.node at (sym c.pop.ensures.front ∙ c.in-Some.is)) in
     let read = c.index-as_slice-place.result in
     let rule : NodeRules = get_or c.as_slice.result.now (v - 1) read in
-    let need : rule.need ≡ s.need v = ap (λ (z : NodeRules). z.need) (sym c.index-as_slice-place.is) ∙ need-is m s k v read i h.node h.makes (subst (λ (rs : List NodeRules). read ≡ get_or rs (v - 1) read) c.as_slice.ensures c.index-as_slice-place.is) in
+    let need : rule.need ≡ s.need v =
+    ap (λ (z : NodeRules). z.need) (sym c.index-as_slice-place.is)
+    ∙ need-is m s k v read i h.node h.makes (subst (λ (rs : List NodeRules). read ≡ get_or rs (v - 1) read) c.as_slice.ensures c.index-as_slice-place.is) in
     let there : c.held-held.result ≡ held s P = c.held-held.ensures ∙ (held-is m s k i still ∙ ap (held s) same) in
-    let drop_legal : is_legal s (PoolDrop r v a.maker a.index (s.need v) (held s P) ∷ log_of k) ≡ true = may-drop {F = g.row.F.Denot} {B = g.row.F-Blank.Denot} {O = g.row.F-Of.Denot} s k c.args.self.now r v a c.self.view_is i.ruled.pooled h.history h.role h.allowed h.makes h.refused next in
+    let drop_legal : is_legal s (PoolDrop r v a.maker a.index (s.need v) (held s P) ∷ log_of k) ≡ true =
+    may-drop {F = g.row.F.Denot} {B = g.row.F-Blank.Denot} {O = g.row.F-Of.Denot} s k c.args.self.now r v a c.self.view_is i.ruled.pooled h.history h.role
+    h.allowed h.makes h.refused next in
     let legal : is_legal s (PoolDrop r v a.maker a.index rule.need c.held-held.result ∷ log_of k) ≡ true =
-    subst (λ (j : ℕ). is_legal s (PoolDrop r v a.maker a.index j c.held-held.result ∷ log_of k) ≡ true) (sym need) (subst (λ (j : ℕ). is_legal s (PoolDrop r v a.maker a.index (s.need v) j ∷ log_of k) ≡ true) (sym there) drop_legal) in
+    subst (λ (j : ℕ). is_legal s (PoolDrop r v a.maker a.index j c.held-held.result ∷ log_of k) ≡ true) (sym need)
+    (subst (λ (j : ℕ). is_legal s (PoolDrop r v a.maker a.index (s.need v) j ∷ log_of k) ≡ true) (sym there) drop_legal) in
     next
 
 pub returns-clause-told : goal.returns-clause-told
@@ -142,14 +163,20 @@ returns-clause-told g c =
     let a = c.in-Some.name in
     let P : Past = past c.args.self.now.told in
     let same : log_of k ≡ P = ap (λ (w : Coursed). past w.told) c.self.view_is in
-    let next : is_next a (queued v P) ≡ true = subst (λ (Q : Past). is_next a (queued v Q) ≡ true) same (next-popped m s k v n a i h.node at (sym c.pop.ensures.front ∙ c.in-Some.is)) in
+    let next : is_next a (queued v P) ≡ true =
+    subst (λ (Q : Past). is_next a (queued v Q) ≡ true) same (next-popped m s k v n a i h.node at (sym c.pop.ensures.front ∙ c.in-Some.is)) in
     let read = c.index-as_slice-place.result in
     let rule : NodeRules = get_or c.as_slice.result.now (v - 1) read in
-    let need : rule.need ≡ s.need v = ap (λ (z : NodeRules). z.need) (sym c.index-as_slice-place.is) ∙ need-is m s k v read i h.node h.makes (subst (λ (rs : List NodeRules). read ≡ get_or rs (v - 1) read) c.as_slice.ensures c.index-as_slice-place.is) in
+    let need : rule.need ≡ s.need v =
+    ap (λ (z : NodeRules). z.need) (sym c.index-as_slice-place.is)
+    ∙ need-is m s k v read i h.node h.makes (subst (λ (rs : List NodeRules). read ≡ get_or rs (v - 1) read) c.as_slice.ensures c.index-as_slice-place.is) in
     let there : c.held-held.result ≡ held s P = c.held-held.ensures ∙ (held-is m s k i still ∙ ap (held s) same) in
-    let drop_legal : is_legal s (PoolDrop r v a.maker a.index (s.need v) (held s P) ∷ log_of k) ≡ true = may-drop {F = g.row.F.Denot} {B = g.row.F-Blank.Denot} {O = g.row.F-Of.Denot} s k c.args.self.now r v a c.self.view_is i.ruled.pooled h.history h.role h.allowed h.makes h.refused next in
+    let drop_legal : is_legal s (PoolDrop r v a.maker a.index (s.need v) (held s P) ∷ log_of k) ≡ true =
+    may-drop {F = g.row.F.Denot} {B = g.row.F-Blank.Denot} {O = g.row.F-Of.Denot} s k c.args.self.now r v a c.self.view_is i.ruled.pooled h.history h.role
+    h.allowed h.makes h.refused next in
     let legal : is_legal s (PoolDrop r v a.maker a.index rule.need c.held-held.result ∷ log_of k) ≡ true =
-    subst (λ (j : ℕ). is_legal s (PoolDrop r v a.maker a.index j c.held-held.result ∷ log_of k) ≡ true) (sym need) (subst (λ (j : ℕ). is_legal s (PoolDrop r v a.maker a.index (s.need v) j ∷ log_of k) ≡ true) (sym there) drop_legal) in
+    subst (λ (j : ℕ). is_legal s (PoolDrop r v a.maker a.index j c.held-held.result ∷ log_of k) ≡ true) (sym need)
+    (subst (λ (j : ℕ). is_legal s (PoolDrop r v a.maker a.index (s.need v) j ∷ log_of k) ≡ true) (sym there) drop_legal) in
     coursed-as (ap (λ (l : ToldState). l.told) c.push.ensures
     ∙ (ap (λ (j : ℕ). plain (PoolDrop r v a.maker a.index j c.held-held.result) ∷ k.log.told) need
     ∙ (ap (λ (j : ℕ). plain (PoolDrop r v a.maker a.index (s.need v) j) ∷ k.log.told) there

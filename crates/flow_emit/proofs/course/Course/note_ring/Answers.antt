@@ -24,7 +24,8 @@ give_up_ring-requires-clause-pending g c =
     let i : IsCourse m s k = c.self.invariant in
     let r = c.args.role in
     let v = c.args.node in
-    let legal : is_legal s (Settle r v ∷ log_of k) ≡ true = subst (λ (w : Coursed). is_legal s (Settle r v ∷ past w.told) ≡ true) (sym c.self.view_is) c.requires.legal in
+    let legal : is_legal s (Settle r v ∷ log_of k) ≡ true =
+    subst (λ (w : Coursed). is_legal s (Settle r v ∷ past w.told) ≡ true) (sym c.self.view_is) c.requires.legal in
     let unsettled : is_settled v (log_of k) ≡ false = ap (λ (w : Coursed). is_settled v (past w.told)) c.self.view_is ∙ c.requires.unsettled in
     let still : k.transit ≡ [] = ap (λ (w : Coursed). w.transit) c.self.view_is ∙ c.requires.still in
     let q = place-of s v c.requires.node in
@@ -41,7 +42,8 @@ give_up_ring-requires-clause-still g c =
     let i : IsCourse m s k = c.self.invariant in
     let r = c.args.role in
     let v = c.args.node in
-    let legal : is_legal s (Settle r v ∷ log_of k) ≡ true = subst (λ (w : Coursed). is_legal s (Settle r v ∷ past w.told) ≡ true) (sym c.self.view_is) c.requires.legal in
+    let legal : is_legal s (Settle r v ∷ log_of k) ≡ true =
+    subst (λ (w : Coursed). is_legal s (Settle r v ∷ past w.told) ≡ true) (sym c.self.view_is) c.requires.legal in
     let unsettled : is_settled v (log_of k) ≡ false = ap (λ (w : Coursed). is_settled v (past w.told)) c.self.view_is ∙ c.requires.unsettled in
     let still : k.transit ≡ [] = ap (λ (w : Coursed). w.transit) c.self.view_is ∙ c.requires.still in
     let q = place-of s v c.requires.node in
@@ -58,7 +60,8 @@ give_up_ring-requires-clause-room g c =
     let i : IsCourse m s k = c.self.invariant in
     let r = c.args.role in
     let v = c.args.node in
-    let legal : is_legal s (Settle r v ∷ log_of k) ≡ true = subst (λ (w : Coursed). is_legal s (Settle r v ∷ past w.told) ≡ true) (sym c.self.view_is) c.requires.legal in
+    let legal : is_legal s (Settle r v ∷ log_of k) ≡ true =
+    subst (λ (w : Coursed). is_legal s (Settle r v ∷ past w.told) ≡ true) (sym c.self.view_is) c.requires.legal in
     let unsettled : is_settled v (log_of k) ≡ false = ap (λ (w : Coursed). is_settled v (past w.told)) c.self.view_is ∙ c.requires.unsettled in
     let still : k.transit ≡ [] = ap (λ (w : Coursed). w.transit) c.self.view_is ∙ c.requires.still in
     let q = place-of s v c.requires.node in
@@ -75,7 +78,8 @@ push-requires-clause-room g c =
     let i : IsCourse m s k = c.self.invariant in
     let r = c.args.role in
     let v = c.args.node in
-    let legal : is_legal s (Settle r v ∷ log_of k) ≡ true = subst (λ (w : Coursed). is_legal s (Settle r v ∷ past w.told) ≡ true) (sym c.self.view_is) c.requires.legal in
+    let legal : is_legal s (Settle r v ∷ log_of k) ≡ true =
+    subst (λ (w : Coursed). is_legal s (Settle r v ∷ past w.told) ≡ true) (sym c.self.view_is) c.requires.legal in
     let unsettled : is_settled v (log_of k) ≡ false = ap (λ (w : Coursed). is_settled v (past w.told)) c.self.view_is ∙ c.requires.unsettled in
     let still : k.transit ≡ [] = ap (λ (w : Coursed). w.transit) c.self.view_is ∙ c.requires.still in
     let q = place-of s v c.requires.node in
@@ -92,7 +96,8 @@ invariant_of-self g c =
     let i : IsCourse m s k = c.self.invariant in
     let r = c.args.role in
     let v = c.args.node in
-    let legal : is_legal s (Settle r v ∷ log_of k) ≡ true = subst (λ (w : Coursed). is_legal s (Settle r v ∷ past w.told) ≡ true) (sym c.self.view_is) c.requires.legal in
+    let legal : is_legal s (Settle r v ∷ log_of k) ≡ true =
+    subst (λ (w : Coursed). is_legal s (Settle r v ∷ past w.told) ≡ true) (sym c.self.view_is) c.requires.legal in
     let unsettled : is_settled v (log_of k) ≡ false = ap (λ (w : Coursed). is_settled v (past w.told)) c.self.view_is ∙ c.requires.unsettled in
     let still : k.transit ≡ [] = ap (λ (w : Coursed). w.transit) c.self.view_is ∙ c.requires.still in
     let q = place-of s v c.requires.node in
@@ -101,7 +106,8 @@ invariant_of-self g c =
     let has = has-ring m s k v n i c.requires.node at c.requires.kind unsettled in
     let y = record n { window = c.give_up_ring.new.window } in
     let few : length (ring s v (log_of k)) ≤ 4097 = omega (arith, ap (length {A = FrameName}) has.same, has.few) in
-    course-as m s (record k { log = record k.log { told = plain (Settle r v) ∷ k.log.told }; nodes = set k.nodes (v - 1) (record n { settled = true; window = y.window }); transit = ring s v (log_of k) })
+    course-as m s (record k { log = record k.log { told = plain (Settle r v) ∷ k.log.told };
+    nodes = set k.nodes (v - 1) (record n { settled = true; window = y.window }); transit = ring s v (log_of k) })
     _ _ _ _ _ _ _ _ (sym c.push.ensures) refl refl refl refl refl (sym (c.give_up_ring.ensures.items ∙ has.same)) (sym c.give_up_ring.ensures.capacity)
     (settled_with_at m s k v r (v - 1) n y q.0 i legal at still c.give_up_ring.ensures.ring c.give_up_ring.ensures.pending few)
 
@@ -113,7 +119,8 @@ returns g c =
     let i : IsCourse m s k = c.self.invariant in
     let r = c.args.role in
     let v = c.args.node in
-    let legal : is_legal s (Settle r v ∷ log_of k) ≡ true = subst (λ (w : Coursed). is_legal s (Settle r v ∷ past w.told) ≡ true) (sym c.self.view_is) c.requires.legal in
+    let legal : is_legal s (Settle r v ∷ log_of k) ≡ true =
+    subst (λ (w : Coursed). is_legal s (Settle r v ∷ past w.told) ≡ true) (sym c.self.view_is) c.requires.legal in
     let unsettled : is_settled v (log_of k) ≡ false = ap (λ (w : Coursed). is_settled v (past w.told)) c.self.view_is ∙ c.requires.unsettled in
     let still : k.transit ≡ [] = ap (λ (w : Coursed). w.transit) c.self.view_is ∙ c.requires.still in
     let q = place-of s v c.requires.node in

@@ -30,7 +30,9 @@ overflow_sub-node g c =
     let a = c.args.name in
     let p = piece-held s k c.args.self.now r v a c.self.view_is h.hand h.node in
     let here : is_node s v ≡ true = piece-node m s k r v a.maker a.index p.0 i p.1 in
-    let legal : is_legal s (Saved r v a.maker a.index ∷ log_of k) ≡ true = subst (λ (u : ℕ). is_legal s (Saved r u a.maker a.index ∷ log_of k) ≡ true) (sym h.node) (may-saved s k c.args.self.now r a c.self.view_is h.history h.hand) in
+    let legal : is_legal s (Saved r v a.maker a.index ∷ log_of k) ≡ true =
+    subst (λ (u : ℕ). is_legal s (Saved r u a.maker a.index ∷ log_of k) ≡ true) (sym h.node)
+    (may-saved s k c.args.self.now r a c.self.view_is h.history h.hand) in
     let at = place-of s v here in omega (arith, at.0)
 
 pub index_mut-requires : goal.index_mut-requires
@@ -46,7 +48,9 @@ index_mut-requires g c =
     let a = c.args.name in
     let p = piece-held s k c.args.self.now r v a c.self.view_is h.hand h.node in
     let here : is_node s v ≡ true = piece-node m s k r v a.maker a.index p.0 i p.1 in
-    let legal : is_legal s (Saved r v a.maker a.index ∷ log_of k) ≡ true = subst (λ (u : ℕ). is_legal s (Saved r u a.maker a.index ∷ log_of k) ≡ true) (sym h.node) (may-saved s k c.args.self.now r a c.self.view_is h.history h.hand) in
+    let legal : is_legal s (Saved r v a.maker a.index ∷ log_of k) ≡ true =
+    subst (λ (u : ℕ). is_legal s (Saved r u a.maker a.index ∷ log_of k) ≡ true) (sym h.node)
+    (may-saved s k c.args.self.now r a c.self.view_is h.history h.hand) in
     let at = place-of s v here in omega (arith, at.1, i.nodes.all)
 
 pub overflow_add-self : goal.overflow_add-self
@@ -71,7 +75,9 @@ push-requires-clause-room g c =
     let a = c.args.name in
     let p = piece-held s k c.args.self.now r v a c.self.view_is h.hand h.node in
     let here : is_node s v ≡ true = piece-node m s k r v a.maker a.index p.0 i p.1 in
-    let legal : is_legal s (Saved r v a.maker a.index ∷ log_of k) ≡ true = subst (λ (u : ℕ). is_legal s (Saved r u a.maker a.index ∷ log_of k) ≡ true) (sym h.node) (may-saved s k c.args.self.now r a c.self.view_is h.history h.hand) in
+    let legal : is_legal s (Saved r v a.maker a.index ∷ log_of k) ≡ true =
+    subst (λ (u : ℕ). is_legal s (Saved r u a.maker a.index ∷ log_of k) ≡ true) (sym h.node)
+    (may-saved s k c.args.self.now r a c.self.view_is h.history h.hand) in
     room-for m s k (Saved r v a.maker a.index) i legal
 
 pub invariant_of-self : goal.invariant_of-self
@@ -87,10 +93,15 @@ invariant_of-self g c =
     let a = c.args.name in
     let p = piece-held s k c.args.self.now r v a c.self.view_is h.hand h.node in
     let here : is_node s v ≡ true = piece-node m s k r v a.maker a.index p.0 i p.1 in
-    let legal : is_legal s (Saved r v a.maker a.index ∷ log_of k) ≡ true = subst (λ (u : ℕ). is_legal s (Saved r u a.maker a.index ∷ log_of k) ≡ true) (sym h.node) (may-saved s k c.args.self.now r a c.self.view_is h.history h.hand) in
+    let legal : is_legal s (Saved r v a.maker a.index ∷ log_of k) ≡ true =
+    subst (λ (u : ℕ). is_legal s (Saved r u a.maker a.index ∷ log_of k) ≡ true) (sym h.node)
+    (may-saved s k c.args.self.now r a c.self.view_is h.history h.hand) in
     let x = c.index_mut-2.result.now in
     let n = c.index_mut.result.now in
-    course-as m s (record k { log = record k.log { told = plain (Saved r v a.maker a.index) ∷ k.log.told }; nodes = set k.nodes (v - 1) (record n { saving = false }); roles = set k.roles r (record x { hand = Free }); facts = record k.facts { saved = k.facts.saved + 1 }; transit = a ∷ [] })
+    course-as m s
+    (record k { log = record k.log { told = plain (Saved r v a.maker a.index) ∷ k.log.told }; nodes = set k.nodes (v - 1) (record n { saving = false });
+    roles = set k.roles r (record x { hand = Free }); facts = record k.facts { saved = k.facts.saved + 1 }; transit = a ∷ [] })
     _ _ _ _ _ _ _ _ (sym c.push.ensures) refl refl refl refl refl
     (sym (c.push_back_reserved.ensures.items ∙ ap (λ (ts : List FrameName). ts ++ a ∷ []) still)) (sym c.push_back_reserved.ensures.capacity)
-    (saved_one_at m s k v r (v - 1) a.maker a.index r p.0 x n (place-of s v here).0 i legal (role-found m s k r x i h.role c.index_mut-2.ensures.value) (node-found m s k v n i here c.index_mut.ensures.value) still p.1)
+    (saved_one_at m s k v r (v - 1) a.maker a.index r p.0 x n (place-of s v here).0 i legal (role-found m s k r x i h.role c.index_mut-2.ensures.value)
+    (node-found m s k v n i here c.index_mut.ensures.value) still p.1)

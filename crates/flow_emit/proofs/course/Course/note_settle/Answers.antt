@@ -19,7 +19,8 @@ push-requires-clause-room g c =
     let s = run_setting g.F.Of.Run.graph g.F.Of.Run.stack in
     let k = parts c.self.inside in
     let i : IsCourse m s k = c.self.invariant in
-    let legal : is_legal s (Settle c.args.role c.args.node ∷ log_of k) ≡ true = subst (λ (w : Coursed). is_legal s (Settle c.args.role c.args.node ∷ past w.told) ≡ true) (sym c.self.view_is) c.requires.legal in
+    let legal : is_legal s (Settle c.args.role c.args.node ∷ log_of k) ≡ true =
+    subst (λ (w : Coursed). is_legal s (Settle c.args.role c.args.node ∷ past w.told) ≡ true) (sym c.self.view_is) c.requires.legal in
     room-for m s k (Settle c.args.role c.args.node) i legal
 
 pub invariant_of-self : goal.invariant_of-self
@@ -30,12 +31,14 @@ invariant_of-self g c =
     let i : IsCourse m s k = c.self.invariant in
     let r = c.args.role in
     let v = c.args.node in
-    let legal : is_legal s (Settle r v ∷ log_of k) ≡ true = subst (λ (w : Coursed). is_legal s (Settle r v ∷ past w.told) ≡ true) (sym c.self.view_is) c.requires.legal in
+    let legal : is_legal s (Settle r v ∷ log_of k) ≡ true =
+    subst (λ (w : Coursed). is_legal s (Settle r v ∷ past w.told) ≡ true) (sym c.self.view_is) c.requires.legal in
     let still : k.transit ≡ [] = ap (λ (w : Coursed). w.transit) c.self.view_is ∙ c.requires.still in
     let q = place-of s v c.requires.node in
     let n = c.index_mut.result.now in
     let at : slice_get k.nodes (v - 1) ≡ Some n = read-at k.nodes (v - 1) n (omega (arith, q.1, i.nodes.all)) c.index_mut.ensures.value in
-    course-as m s (record k { log = record k.log { told = plain (Settle r v) ∷ k.log.told }; nodes = set k.nodes (v - 1) (record n { settled = true }); transit = [] })
+    course-as m s
+    (record k { log = record k.log { told = plain (Settle r v) ∷ k.log.told }; nodes = set k.nodes (v - 1) (record n { settled = true }); transit = [] })
     _ _ _ _ _ _ _ _ (sym c.push.ensures) refl refl refl refl refl (sym still) refl
     (settled_plain m s k v r (v - 1) n q.0 i legal at still c.requires.kind)
 

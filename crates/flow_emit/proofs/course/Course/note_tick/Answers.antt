@@ -24,7 +24,8 @@ push-requires-clause-room g c =
     let kept : k.facts.tick ≡ now P = ap (λ (f : Facts). f.tick) i.facts ∙ ap now same in
     let here : c.max-tick.result ≡ max (now P) c.args.tick = c.max-tick.ensures ∙ ap (λ (t : ℕ). max t c.args.tick) kept in
     let legal : is_legal s (Tick c.max-tick.result ∷ log_of k) ≡ true =
-    subst (λ (t : ℕ). is_legal s (Tick t ∷ log_of k) ≡ true) (sym here) (subst (λ (Q : Past). is_legal s (Tick (max (now P) c.args.tick) ∷ Q) ≡ true) (sym same) c.requires) in
+    subst (λ (t : ℕ). is_legal s (Tick t ∷ log_of k) ≡ true) (sym here)
+    (subst (λ (Q : Past). is_legal s (Tick (max (now P) c.args.tick) ∷ Q) ≡ true) (sym same) c.requires) in
     room-for m s k (Tick c.max-tick.result) i legal
 
 pub invariant_of-self : goal.invariant_of-self
@@ -38,7 +39,8 @@ invariant_of-self g c =
     let kept : k.facts.tick ≡ now P = ap (λ (f : Facts). f.tick) i.facts ∙ ap now same in
     let here : c.max-tick.result ≡ max (now P) c.args.tick = c.max-tick.ensures ∙ ap (λ (t : ℕ). max t c.args.tick) kept in
     let legal : is_legal s (Tick c.max-tick.result ∷ log_of k) ≡ true =
-    subst (λ (t : ℕ). is_legal s (Tick t ∷ log_of k) ≡ true) (sym here) (subst (λ (Q : Past). is_legal s (Tick (max (now P) c.args.tick) ∷ Q) ≡ true) (sym same) c.requires) in
+    subst (λ (t : ℕ). is_legal s (Tick t ∷ log_of k) ≡ true) (sym here)
+    (subst (λ (Q : Past). is_legal s (Tick (max (now P) c.args.tick) ∷ Q) ≡ true) (sym same) c.requires) in
     let least : now (log_of k) ≤ c.max-tick.result = omega (arith, here, ap now same) in
     course-as m s (record k { log = record k.log { told = plain (Tick c.max-tick.result) ∷ k.log.told }; facts = record k.facts { tick = c.max-tick.result } })
     _ _ _ _ _ _ _ _ (sym c.push.ensures) refl refl refl refl refl refl refl

@@ -11,7 +11,8 @@ has_room-requires g c =
     let s = run_setting g.F.Of.Run.graph g.F.Of.Run.stack in
     let now = c.self-in-loop-place in
     let kids : c.children_of.result.now ≡ children s c.args.from = c.children_of.ensures ∙ now.invariant.ruled.children c.args.from c.requires.node in
-    let end : c.children_of-place-end.result.now ≡ children s c.args.from = c.children_of-place-end.ensures ∙ c.self.invariant.ruled.children c.args.from c.requires.node in
+    let end : c.children_of-place-end.result.now ≡ children s c.args.from =
+    c.children_of-place-end.ensures ∙ c.self.invariant.ruled.children c.args.from c.requires.node in
     let lt : c.loop-place.place < length c.children_of.result.now = omega (arith, c.loop-place-test.true, ap (length {A = ℕ}) kids, ap (length {A = ℕ}) end) in
     child-node s c.args.from c.loop-place.place _ c.children_of.result.now kids lt
 
@@ -20,29 +21,36 @@ accept-requires-clause-legal g c =
     let s = run_setting g.F.Of.Run.graph g.F.Of.Run.stack in
     let now = c.self-in-loop-place in
     let kids : c.children_of.result.now ≡ children s c.args.from = c.children_of.ensures ∙ now.invariant.ruled.children c.args.from c.requires.node in
-    let end : c.children_of-place-end.result.now ≡ children s c.args.from = c.children_of-place-end.ensures ∙ c.self.invariant.ruled.children c.args.from c.requires.node in
+    let end : c.children_of-place-end.result.now ≡ children s c.args.from =
+    c.children_of-place-end.ensures ∙ c.self.invariant.ruled.children c.args.from c.requires.node in
     let lt : c.loop-place.place < length c.children_of.result.now = omega (arith, c.loop-place-test.true, ap (length {A = ℕ}) kids, ap (length {A = ℕ}) end) in
-    next-legal s c.args.from c.args.name c.loop-place.place _ c.children_of.result.now c.args.self.now c.loop-place.self _ kids lt c.loop-place.invariant c.requires.legal (offered-room s c.loop-place.self.told c.args.name _ (sym c.has_room.ensures ∙ c.if-has_room.true))
+    next-legal s c.args.from c.args.name c.loop-place.place _ c.children_of.result.now c.args.self.now c.loop-place.self _ kids lt c.loop-place.invariant
+    c.requires.legal (offered-room s c.loop-place.self.told c.args.name _ (sym c.has_room.ensures ∙ c.if-has_room.true))
 
 pub fill-requires-clause-legal : goal.fill-requires-clause-legal
 fill-requires-clause-legal g c =
     let s = run_setting g.F.Of.Run.graph g.F.Of.Run.stack in
     let now = c.self-in-loop-place in
     let kids : c.children_of.result.now ≡ children s c.args.from = c.children_of.ensures ∙ now.invariant.ruled.children c.args.from c.requires.node in
-    let end : c.children_of-place-end.result.now ≡ children s c.args.from = c.children_of-place-end.ensures ∙ c.self.invariant.ruled.children c.args.from c.requires.node in
+    let end : c.children_of-place-end.result.now ≡ children s c.args.from =
+    c.children_of-place-end.ensures ∙ c.self.invariant.ruled.children c.args.from c.requires.node in
     let lt : c.loop-place.place < length c.children_of.result.now = omega (arith, c.loop-place-test.true, ap (length {A = ℕ}) kids, ap (length {A = ℕ}) end) in
-    next-legal s c.args.from c.args.name c.loop-place.place _ c.children_of.result.now c.args.self.now c.loop-place.self _ kids lt c.loop-place.invariant c.requires.legal (offered-full s c.loop-place.self.told c.args.name _ (sym c.has_room.ensures ∙ c.if-has_room.false))
+    next-legal s c.args.from c.args.name c.loop-place.place _ c.children_of.result.now c.args.self.now c.loop-place.self _ kids lt c.loop-place.invariant
+    c.requires.legal (offered-full s c.loop-place.self.told c.args.name _ (sym c.has_room.ensures ∙ c.if-has_room.false))
 
 pub loop-place-preserved : goal.loop-place-preserved
 loop-place-preserved g c =
     let s = run_setting g.F.Of.Run.graph g.F.Of.Run.stack in
     let now = c.self-in-loop-place in
     let kids : c.children_of.result.now ≡ children s c.args.from = c.children_of.ensures ∙ now.invariant.ruled.children c.args.from c.requires.node in
-    let end : c.children_of-place-end.result.now ≡ children s c.args.from = c.children_of-place-end.ensures ∙ c.self.invariant.ruled.children c.args.from c.requires.node in
+    let end : c.children_of-place-end.result.now ≡ children s c.args.from =
+    c.children_of-place-end.ensures ∙ c.self.invariant.ruled.children c.args.from c.requires.node in
     let lt : c.loop-place.place < length c.children_of.result.now = omega (arith, c.loop-place-test.true, ap (length {A = ℕ}) kids, ap (length {A = ℕ}) end) in
     elim c.if-has_room.branch [
       | then-has_room w ↦ subst (OffersMade s c.args.from c.args.name (c.loop-place.place + 1) c.args.self.now) (sym (w.self-is ∙ w.accept.ensures))
-          (one-more s c.args.from c.args.name c.loop-place.place _ c.children_of.result.now c.args.self.now c.loop-place.self _ kids lt c.loop-place.invariant (offered-room s c.loop-place.self.told c.args.name _ (sym c.has_room.ensures ∙ w.if-has_room.true)) (λ u. refl))
+          (one-more s c.args.from c.args.name c.loop-place.place _ c.children_of.result.now c.args.self.now c.loop-place.self _ kids lt c.loop-place.invariant
+          (offered-room s c.loop-place.self.told c.args.name _ (sym c.has_room.ensures ∙ w.if-has_room.true)) (λ u. refl))
       | else-has_room w ↦ subst (OffersMade s c.args.from c.args.name (c.loop-place.place + 1) c.args.self.now) (sym (w.self-is ∙ w.fill.ensures))
-          (one-more s c.args.from c.args.name c.loop-place.place _ c.children_of.result.now c.args.self.now c.loop-place.self _ kids lt c.loop-place.invariant (offered-full s c.loop-place.self.told c.args.name _ (sym c.has_room.ensures ∙ w.if-has_room.false)) (λ u. refl))
+          (one-more s c.args.from c.args.name c.loop-place.place _ c.children_of.result.now c.args.self.now c.loop-place.self _ kids lt c.loop-place.invariant
+          (offered-full s c.loop-place.self.told c.args.name _ (sym c.has_room.ensures ∙ w.if-has_room.false)) (λ u. refl))
     ]

@@ -26,4 +26,5 @@ returns g c =
     let P = past c.args.self.now.told in
     let facts : k.facts ≡ facts_of P = i.facts ∙ ap (λ (w : Coursed). facts_of (past w.told)) c.self.view_is in
     let many : c.len.result ≡ length P = c.len.ensures ∙ (sym (past-length k.log.told) ∙ ap (λ (w : Coursed). length (past w.told)) c.self.view_is) in
-    ap (λ n. progress_with n k.facts c.finished.result) many ∙ (ap (λ (f : Facts). progress_with (length P) f c.finished.result) facts ∙ ap (λ b. progress_with (length P) (facts_of P) b) c.finished.ensures)
+    ap (λ n. progress_with n k.facts c.finished.result) many
+    ∙ (ap (λ (f : Facts). progress_with (length P) f c.finished.result) facts ∙ ap (λ b. progress_with (length P) (facts_of P) b) c.finished.ensures)

@@ -19,22 +19,31 @@ pub put_plain-requires-clause-legal : goal.put_plain-requires-clause-legal
 put_plain-requires-clause-legal g c =
     let s = run_setting g.F.Of.Run.graph g.F.Of.Run.stack in
     let b = c.args.self.now.told in
-    put-legal s c.args.node c.args.role c.args.name c.args.fired b c.requires.history (job-on s c.args.node c.args.role c.args.name (past b) (and_parts _ _ c.requires.history).0 c.requires.hand) c.requires.fired
+    put-legal s c.args.node c.args.role c.args.name c.args.fired b c.requires.history
+    (job-on s c.args.node c.args.role c.args.name (past b) (and_parts _ _ c.requires.history).0 c.requires.hand) c.requires.fired
 
 pub emit-requires-clause-measured : goal.emit-requires-clause-measured
 emit-requires-clause-measured g c =
-    c.requires.measured ∙ (result-measures g.F.Of.Run.graph g.F.Of.Run.stack c.args.node c.args.name ∙ ap (run_measure g.F.Of.Run.graph g.F.Of.Run.stack c.args.node) (sym c.result_name-made.ensures))
+    c.requires.measured
+    ∙ (result-measures g.F.Of.Run.graph g.F.Of.Run.stack c.args.node c.args.name
+    ∙ ap (run_measure g.F.Of.Run.graph g.F.Of.Run.stack c.args.node) (sym c.result_name-made.ensures))
 
 pub emit-requires-clause-legal : goal.emit-requires-clause-legal
 emit-requires-clause-legal g c =
     let s = run_setting g.F.Of.Run.graph g.F.Of.Run.stack in
     let b = c.args.self.now.told in
-    let whole = put-whole s c.args.node c.args.role c.args.name c.args.fired b c.requires.history (job-on s c.args.node c.args.role c.args.name (past b) (and_parts _ _ c.requires.history).0 c.requires.hand) c.requires.fired in
+    let whole =
+    put-whole s c.args.node c.args.role c.args.name c.args.fired b c.requires.history
+    (job-on s c.args.node c.args.role c.args.name (past b) (and_parts _ _ c.requires.history).0 c.requires.hand) c.requires.fired in
     let legal : is_legal s (past (moved s (plain (put_of s c.args.role c.args.node c.args.name c.args.fired)) b)) ≡ true = (and_parts _ _ whole).0 in
     let made : FrameName = result_name s c.args.node c.args.name in
     let told = ap (λ (v : Coursed). v.told) c.put_plain.ensures in
-    let out : is_legal s (past (with_all s 0 2 (emit c.args.node Plain made ∷ []) (plain (put_of s c.args.role c.args.node c.args.name c.args.fired) ∷ b))) ≡ true = subst (λ (n : BoardState). is_legal s (past n) ≡ true) (moved-result s c.args.node c.args.role c.args.name c.args.fired b c.requires.kind c.requires.unsorted) legal in
-    subst (λ (n : FrameName). is_legal s (past (with_all s 0 2 (emit c.args.node Plain n ∷ []) c.put_plain.new.self.told)) ≡ true) (sym c.result_name-made.ensures)
+    let out : is_legal s (past (with_all s 0 2 (emit c.args.node Plain made ∷ []) (plain (put_of s c.args.role c.args.node c.args.name c.args.fired) ∷ b)))
+    ≡ true =
+    subst (λ (n : BoardState). is_legal s (past n) ≡ true)
+    (moved-result s c.args.node c.args.role c.args.name c.args.fired b c.requires.kind c.requires.unsorted) legal in
+    subst (λ (n : FrameName). is_legal s (past (with_all s 0 2 (emit c.args.node Plain n ∷ []) c.put_plain.new.self.told)) ≡ true)
+    (sym c.result_name-made.ensures)
     (subst (λ (d : BoardState). is_legal s (past (with_all s 0 2 (emit c.args.node Plain made ∷ []) d)) ≡ true) (sym told) out)
 
 pub returns-then-makes : goal.returns-then-makes
@@ -43,10 +52,13 @@ returns-then-makes g c =
     let v = c.args.node in
     let makes : is_maker s v ≡ true = sym c.makes.ensures ∙ c.if-makes.true in
     let none : drop 1 (drop 1 (job_arrays s v c.args.name)) ≡ [] = rw makes refl in
-    let out = emitted-put s v c.args.role c.args.name c.result_name-made.result c.args.fired c.args.self.now c.put_plain.new.self c.emit.new.self c.requires.kind c.requires.unsorted c.result_name-made.ensures c.put_plain.ensures c.emit.ensures in
+    let out =
+    emitted-put s v c.args.role c.args.name c.result_name-made.result c.args.fired c.args.self.now c.put_plain.new.self c.emit.new.self c.requires.kind
+    c.requires.unsorted c.result_name-made.ensures c.put_plain.ensures c.emit.ensures in
     c.release.ensures
     ∙ (ap (λ (w : Coursed). record w { transit = drop 1 w.transit }) out
-    ∙ ap (λ (ts : List FrameName). record c.args.self.now { told = moved s (plain (put_of s c.args.role v c.args.name c.args.fired)) c.args.self.now.told; transit = ts }) (none ∙ sym c.requires.still))
+    ∙ ap (λ (ts : List FrameName). record c.args.self.now { told = moved s (plain (put_of s c.args.role v c.args.name c.args.fired)) c.args.self.now.told;
+    transit = ts }) (none ∙ sym c.requires.still))
 
 pub returns-else-makes : goal.returns-else-makes
 returns-else-makes g c =
@@ -54,5 +66,9 @@ returns-else-makes g c =
     let v = c.args.node in
     let makes : is_maker s v ≡ false = sym c.makes.ensures ∙ c.if-makes.false in
     let none : drop 1 (job_arrays s v c.args.name) ≡ [] = rw makes refl in
-    let out = emitted-put s v c.args.role c.args.name c.result_name-made.result c.args.fired c.args.self.now c.put_plain.new.self c.emit.new.self c.requires.kind c.requires.unsorted c.result_name-made.ensures c.put_plain.ensures c.emit.ensures in
-    out ∙ ap (λ (ts : List FrameName). record c.args.self.now { told = moved s (plain (put_of s c.args.role v c.args.name c.args.fired)) c.args.self.now.told; transit = ts }) (none ∙ sym c.requires.still)
+    let out =
+    emitted-put s v c.args.role c.args.name c.result_name-made.result c.args.fired c.args.self.now c.put_plain.new.self c.emit.new.self c.requires.kind
+    c.requires.unsorted c.result_name-made.ensures c.put_plain.ensures c.emit.ensures in
+    out
+    ∙ ap (λ (ts : List FrameName). record c.args.self.now { told = moved s (plain (put_of s c.args.role v c.args.name c.args.fired)) c.args.self.now.told;
+    transit = ts }) (none ∙ sym c.requires.still)

@@ -32,7 +32,8 @@ count_put-requires-clause-some g c =
     let m = run_measure g.F.Of.Run.graph g.F.Of.Run.stack in
     let k = parts c.self.inside in
     let n = c.index_mut-state.result.now in
-    some-job m s k c.args.node c.args.role c.args.name n c.self.invariant c.requires.node (node-found m s k c.args.node n c.self.invariant c.requires.node c.index_mut-state.ensures.value)
+    some-job m s k c.args.node c.args.role c.args.name n c.self.invariant c.requires.node
+    (node-found m s k c.args.node n c.self.invariant c.requires.node c.index_mut-state.ensures.value)
     (subst (λ (w : Coursed). is_job_on c.args.node c.args.name (hand c.args.role (past w.told)) ≡ true) (sym c.self.view_is) c.requires.hand)
 
 pub count_put-requires-clause-few : goal.count_put-requires-clause-few
@@ -41,7 +42,8 @@ count_put-requires-clause-few g c =
     let m = run_measure g.F.Of.Run.graph g.F.Of.Run.stack in
     let k = parts c.self.inside in
     let n = c.index_mut-state.result.now in
-    few-puts m s k c.args.node n c.self.invariant c.requires.node (node-found m s k c.args.node n c.self.invariant c.requires.node c.index_mut-state.ensures.value)
+    few-puts m s k c.args.node n c.self.invariant c.requires.node
+    (node-found m s k c.args.node n c.self.invariant c.requires.node c.index_mut-state.ensures.value)
 
 pub watch-watched-requires-clause-stands : goal.watch-watched-requires-clause-stands
 watch-watched-requires-clause-stands g c =
@@ -60,7 +62,8 @@ watch-watched-requires-clause-stands g c =
     let job = job-on s v r a (log_of k) i.legal on in
     let running = put-unsettled s r v (result_name s v a).maker a.index f (log_of k) i.legal (put-first s v r a f (log_of k) job c.requires.fired) in
     let window = window-at m s k v n i (node-is m s k v n i c.requires.node at) c.requires.kind running in
-    let stands : StandsAt c.count_put.new.node.window (firings v (log_of k)) (puts v (log_of k)) = subst (λ (y : NodeState). StandsAt y.window (firings v (log_of k)) (puts v (log_of k))) (sym c.count_put.ensures) window.stands in
+    let stands : StandsAt c.count_put.new.node.window (firings v (log_of k)) (puts v (log_of k)) =
+    subst (λ (y : NodeState). StandsAt y.window (firings v (log_of k)) (puts v (log_of k))) (sym c.count_put.ensures) window.stands in
     (firings v (log_of k), puts v (log_of k), stands)
 
 pub watch-watched-requires-clause-room : goal.watch-watched-requires-clause-room
@@ -80,7 +83,8 @@ watch-watched-requires-clause-room g c =
     let job = job-on s v r a (log_of k) i.legal on in
     let running = put-unsettled s r v (result_name s v a).maker a.index f (log_of k) i.legal (put-first s v r a f (log_of k) job c.requires.fired) in
     let window = window-at m s k v n i (node-is m s k v n i c.requires.node at) c.requires.kind running in
-    let stands : StandsAt c.count_put.new.node.window (firings v (log_of k)) (puts v (log_of k)) = subst (λ (y : NodeState). StandsAt y.window (firings v (log_of k)) (puts v (log_of k))) (sym c.count_put.ensures) window.stands in
+    let stands : StandsAt c.count_put.new.node.window (firings v (log_of k)) (puts v (log_of k)) =
+    subst (λ (y : NodeState). StandsAt y.window (firings v (log_of k)) (puts v (log_of k))) (sym c.count_put.ensures) window.stands in
     omega (arith, ap (λ (y : NodeState). length y.window.ring) c.count_put.ensures, window.few, i.transit_room)
 
 pub push-requires-clause-room : goal.push-requires-clause-room
@@ -117,11 +121,14 @@ invariant_of-self g c =
     let job = job-on s v r a (log_of k) i.legal on in
     let running = put-unsettled s r v (result_name s v a).maker a.index f (log_of k) i.legal (put-first s v r a f (log_of k) job c.requires.fired) in
     let window = window-at m s k v n i (node-is m s k v n i c.requires.node at) c.requires.kind running in
-    let stands : StandsAt c.count_put.new.node.window (firings v (log_of k)) (puts v (log_of k)) = subst (λ (y : NodeState). StandsAt y.window (firings v (log_of k)) (puts v (log_of k))) (sym c.count_put.ensures) window.stands in
+    let stands : StandsAt c.count_put.new.node.window (firings v (log_of k)) (puts v (log_of k)) =
+    subst (λ (y : NodeState). StandsAt y.window (firings v (log_of k)) (puts v (log_of k))) (sym c.count_put.ensures) window.stands in
     let out = c.watch-watched.new.transit.items in
     let q = c.watch-watched.result in
     let new = c.watch-watched.new.window in
-    let watched : IsWatched (firings v (log_of k)) (puts v (log_of k)) f a n.window new out q = subst (λ (y : NodeState). IsWatched (firings v (log_of k)) (puts v (log_of k)) f a y.window new out q) c.count_put.ensures (c.watch-watched.ensures.watched (firings v (log_of k)) (puts v (log_of k)) stands) in
+    let watched : IsWatched (firings v (log_of k)) (puts v (log_of k)) f a n.window new out q =
+    subst (λ (y : NodeState). IsWatched (firings v (log_of k)) (puts v (log_of k)) f a y.window new out q) c.count_put.ensures
+    (c.watch-watched.ensures.watched (firings v (log_of k)) (puts v (log_of k)) stands) in
     let name : result_name s v a ≡ a = rw (watch-passes s v c.requires.kind) refl in
     let x = c.index_mut.result.now in
     let y : NodeState = record n { window = new } in
@@ -154,12 +161,18 @@ returns g c =
     let job = job-on s v r a (log_of k) i.legal on in
     let running = put-unsettled s r v (result_name s v a).maker a.index f (log_of k) i.legal (put-first s v r a f (log_of k) job c.requires.fired) in
     let window = window-at m s k v n i (node-is m s k v n i c.requires.node at) c.requires.kind running in
-    let stands : StandsAt c.count_put.new.node.window (firings v (log_of k)) (puts v (log_of k)) = subst (λ (y : NodeState). StandsAt y.window (firings v (log_of k)) (puts v (log_of k))) (sym c.count_put.ensures) window.stands in
+    let stands : StandsAt c.count_put.new.node.window (firings v (log_of k)) (puts v (log_of k)) =
+    subst (λ (y : NodeState). StandsAt y.window (firings v (log_of k)) (puts v (log_of k))) (sym c.count_put.ensures) window.stands in
     let out = c.watch-watched.new.transit.items in
     let q = c.watch-watched.result in
     let new = c.watch-watched.new.window in
-    let watched : IsWatched (firings v (log_of k)) (puts v (log_of k)) f a n.window new out q = subst (λ (y : NodeState). IsWatched (firings v (log_of k)) (puts v (log_of k)) f a y.window new out q) c.count_put.ensures (c.watch-watched.ensures.watched (firings v (log_of k)) (puts v (log_of k)) stands) in
+    let watched : IsWatched (firings v (log_of k)) (puts v (log_of k)) f a n.window new out q =
+    subst (λ (y : NodeState). IsWatched (firings v (log_of k)) (puts v (log_of k)) f a y.window new out q) c.count_put.ensures
+    (c.watch-watched.ensures.watched (firings v (log_of k)) (puts v (log_of k)) stands) in
     let name : result_name s v a ≡ a = rw (watch-passes s v c.requires.kind) refl in (
-      ap (λ (l : ToldState). l.told) c.push.ensures ∙ (ap (λ (b : FrameName). plain (Put r v b.maker a.index f) ∷ k.log.told) (sym name) ∙ ap (λ (w : Coursed). plain (put_of s r v a f) ∷ w.told) c.self.view_is),
-      subst (λ (w : Coursed). IsOnItsWay v (calls_for s (past w.told) (put_of s r v a f)) out q) c.self.view_is (calls-on-way s v r a f (log_of k) n.window new out q c.requires.kind window watched),
+      ap (λ (l : ToldState). l.told) c.push.ensures
+      ∙ (ap (λ (b : FrameName). plain (Put r v b.maker a.index f) ∷ k.log.told) (sym name)
+      ∙ ap (λ (w : Coursed). plain (put_of s r v a f) ∷ w.told) c.self.view_is),
+      subst (λ (w : Coursed). IsOnItsWay v (calls_for s (past w.told) (put_of s r v a f)) out q) c.self.view_is
+      (calls-on-way s v r a f (log_of k) n.window new out q c.requires.kind window watched),
     )

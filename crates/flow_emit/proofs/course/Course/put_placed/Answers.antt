@@ -75,7 +75,8 @@ place-placement-requires-clause-room g c =
     let on = subst (λ (w : Coursed). is_job_on v a (hand r (past w.told)) ≡ true) (sym c.self.view_is) c.requires.hand in
     let history : is_history s (log_of k) ≡ true = subst (λ (w : Coursed). is_history s (past w.told) ≡ true) (sym c.self.view_is) c.requires.history in
     let job = job-on s v r a (log_of k) i.legal on in
-    let id : to_z w64 (of_z w64 c.id_at-id.result) ≡ id_at s a.index = to_z-of_z w64 c.id_at-id.result (record { sfits = c.id_at-id.type_inv }) ∙ c.id_at-id.ensures in
+    let id : to_z w64 (of_z w64 c.id_at-id.result) ≡ id_at s a.index =
+    to_z-of_z w64 c.id_at-id.result (record { sfits = c.id_at-id.type_inv }) ∙ c.id_at-id.ensures in
     λ w h some. measures-room m s k v r a f n _ w i history job c.requires.fired c.requires.sorted c.requires.node at id h
     (sym (c.requires.measured ∙ result-measures g.F.Of.Run.graph g.F.Of.Run.stack v a) ∙ some)
 
@@ -111,17 +112,22 @@ push-requires-in-Out-clause-room g c =
     let on = subst (λ (w : Coursed). is_job_on v a (hand r (past w.told)) ≡ true) (sym c.self.view_is) c.requires.hand in
     let history : is_history s (log_of k) ≡ true = subst (λ (w : Coursed). is_history s (past w.told) ≡ true) (sym c.self.view_is) c.requires.history in
     let job = job-on s v r a (log_of k) i.legal on in
-    let id : to_z w64 (of_z w64 c.id_at-id.result) ≡ id_at s a.index = to_z-of_z w64 c.id_at-id.result (record { sfits = c.id_at-id.type_inv }) ∙ c.id_at-id.ensures in
+    let id : to_z w64 (of_z w64 c.id_at-id.result) ≡ id_at s a.index =
+    to_z-of_z w64 c.id_at-id.result (record { sfits = c.id_at-id.type_inv }) ∙ c.id_at-id.ensures in
     let y = c.place-placement.new.node in
     let tick = c.self.inside.facts.tick in
-    let kept : (let q : Kept = record { name = c.result_name-made.result; measured = c.args.measured } in q) ≡ kept_of m s v a = ap (λ (b : FrameName). record { name = b; measured = c.args.measured }) c.result_name-made.ensures ∙ ap (λ o. record { name = result_name s v a; measured = o }) (c.requires.measured ∙ result-measures g.F.Of.Run.graph g.F.Of.Run.stack v a) in
+    let kept : (let q : Kept = record { name = c.result_name-made.result; measured = c.args.measured } in q) ≡ kept_of m s v a =
+    ap (λ (b : FrameName). record { name = b; measured = c.args.measured }) c.result_name-made.ensures
+    ∙ ap (λ o. record { name = result_name s v a; measured = o }) (c.requires.measured ∙ result-measures g.F.Of.Run.graph g.F.Of.Run.stack v a) in
     let l : IsListed (id_at s a.index) tick (kept_of m s v a) n y Out =
     subst (λ (q : Placement). IsListed (id_at s a.index) tick (kept_of m s v a) n y q) c.in-Out.is
     (subst (λ (b : Kept). IsListed (id_at s a.index) tick b n y c.place-placement.result) kept
-    (subst (λ (j : ℤ). IsListed j tick (record { name = c.result_name-made.result; measured = c.args.measured }) n y c.place-placement.result) id c.place-placement.ensures)) in
+    (subst (λ (j : ℤ). IsListed j tick (record { name = c.result_name-made.result; measured = c.args.measured }) n y c.place-placement.result) id
+    c.place-placement.ensures)) in
     let was = node-is m s k v n i c.requires.node at in
     let step = step-known m s v (log_of k) n (id_at s a.index) (id_at s a.index) true was c.requires.sorted refl l.1 in
-    rw c.push.ensures (room-for-two m s k (Emit v (result_name s v a).maker a.index Step) (put_of s r v a f) i (out-legal s v r a f (log_of k) history job c.requires.fired c.requires.sorted step))
+    rw c.push.ensures (room-for-two m s k (Emit v (result_name s v a).maker a.index Step) (put_of s r v a f) i
+    (out-legal s v r a f (log_of k) history job c.requires.fired c.requires.sorted step))
 
 pub invariant_of-self : goal.invariant_of-self
 invariant_of-self g c =
@@ -138,17 +144,23 @@ invariant_of-self g c =
     let on = subst (λ (w : Coursed). is_job_on v a (hand r (past w.told)) ≡ true) (sym c.self.view_is) c.requires.hand in
     let history : is_history s (log_of k) ≡ true = subst (λ (w : Coursed). is_history s (past w.told) ≡ true) (sym c.self.view_is) c.requires.history in
     let job = job-on s v r a (log_of k) i.legal on in
-    let id : to_z w64 (of_z w64 c.id_at-id.result) ≡ id_at s a.index = to_z-of_z w64 c.id_at-id.result (record { sfits = c.id_at-id.type_inv }) ∙ c.id_at-id.ensures in
+    let id : to_z w64 (of_z w64 c.id_at-id.result) ≡ id_at s a.index =
+    to_z-of_z w64 c.id_at-id.result (record { sfits = c.id_at-id.type_inv }) ∙ c.id_at-id.ensures in
     let x = c.index_mut-2.result.now in
     let empty = ap (λ (w : Coursed). w.transit) c.self.view_is ∙ c.requires.still in
-    let p : Putting m s k v r a f x n = record { here = c.requires.node; role = role-found m s k r x i c.requires.role c.index_mut-2.ensures.value; at = at; empty = empty; history = history; job = job; fires = c.requires.fired; sorted = c.requires.sorted } in
+    let p : Putting m s k v r a f x n =
+    record { here = c.requires.node; role = role-found m s k r x i c.requires.role c.index_mut-2.ensures.value; at = at; empty = empty; history = history;
+    job = job; fires = c.requires.fired; sorted = c.requires.sorted } in
     let y = c.place-placement.new.node in
     let tick = c.self.inside.facts.tick in
-    let kept : (let q : Kept = record { name = c.result_name-made.result; measured = c.args.measured } in q) ≡ kept_of m s v a = ap (λ (b : FrameName). record { name = b; measured = c.args.measured }) c.result_name-made.ensures ∙ ap (λ o. record { name = result_name s v a; measured = o }) (c.requires.measured ∙ result-measures g.F.Of.Run.graph g.F.Of.Run.stack v a) in
+    let kept : (let q : Kept = record { name = c.result_name-made.result; measured = c.args.measured } in q) ≡ kept_of m s v a =
+    ap (λ (b : FrameName). record { name = b; measured = c.args.measured }) c.result_name-made.ensures
+    ∙ ap (λ o. record { name = result_name s v a; measured = o }) (c.requires.measured ∙ result-measures g.F.Of.Run.graph g.F.Of.Run.stack v a) in
     let l : IsListed (id_at s a.index) tick (kept_of m s v a) n y Out =
     subst (λ (q : Placement). IsListed (id_at s a.index) tick (kept_of m s v a) n y q) c.in-Out.is
     (subst (λ (b : Kept). IsListed (id_at s a.index) tick b n y c.place-placement.result) kept
-    (subst (λ (j : ℤ). IsListed j tick (record { name = c.result_name-made.result; measured = c.args.measured }) n y c.place-placement.result) id c.place-placement.ensures)) in
+    (subst (λ (j : ℤ). IsListed j tick (record { name = c.result_name-made.result; measured = c.args.measured }) n y c.place-placement.result) id
+    c.place-placement.ensures)) in
     rw (c.push-in-Out.ensures, c.push.ensures, c.let_go.ensures, c.carry.ensures.items, c.carry.ensures.room, c.result_name-made.ensures, c.makes-makes.ensures)
     (out-course m s k v r a f x n y (id_at s a.index) tick i p refl l)
 
@@ -167,17 +179,23 @@ invariant_of-self-in-Waits g c =
     let on = subst (λ (w : Coursed). is_job_on v a (hand r (past w.told)) ≡ true) (sym c.self.view_is) c.requires.hand in
     let history : is_history s (log_of k) ≡ true = subst (λ (w : Coursed). is_history s (past w.told) ≡ true) (sym c.self.view_is) c.requires.history in
     let job = job-on s v r a (log_of k) i.legal on in
-    let id : to_z w64 (of_z w64 c.id_at-id.result) ≡ id_at s a.index = to_z-of_z w64 c.id_at-id.result (record { sfits = c.id_at-id.type_inv }) ∙ c.id_at-id.ensures in
+    let id : to_z w64 (of_z w64 c.id_at-id.result) ≡ id_at s a.index =
+    to_z-of_z w64 c.id_at-id.result (record { sfits = c.id_at-id.type_inv }) ∙ c.id_at-id.ensures in
     let x = c.index_mut-2.result.now in
     let empty = ap (λ (w : Coursed). w.transit) c.self.view_is ∙ c.requires.still in
-    let p : Putting m s k v r a f x n = record { here = c.requires.node; role = role-found m s k r x i c.requires.role c.index_mut-2.ensures.value; at = at; empty = empty; history = history; job = job; fires = c.requires.fired; sorted = c.requires.sorted } in
+    let p : Putting m s k v r a f x n =
+    record { here = c.requires.node; role = role-found m s k r x i c.requires.role c.index_mut-2.ensures.value; at = at; empty = empty; history = history;
+    job = job; fires = c.requires.fired; sorted = c.requires.sorted } in
     let y = c.place-placement.new.node in
     let tick = c.self.inside.facts.tick in
-    let kept : (let q : Kept = record { name = c.result_name-made.result; measured = c.args.measured } in q) ≡ kept_of m s v a = ap (λ (b : FrameName). record { name = b; measured = c.args.measured }) c.result_name-made.ensures ∙ ap (λ o. record { name = result_name s v a; measured = o }) (c.requires.measured ∙ result-measures g.F.Of.Run.graph g.F.Of.Run.stack v a) in
+    let kept : (let q : Kept = record { name = c.result_name-made.result; measured = c.args.measured } in q) ≡ kept_of m s v a =
+    ap (λ (b : FrameName). record { name = b; measured = c.args.measured }) c.result_name-made.ensures
+    ∙ ap (λ o. record { name = result_name s v a; measured = o }) (c.requires.measured ∙ result-measures g.F.Of.Run.graph g.F.Of.Run.stack v a) in
     let l : IsListed (id_at s a.index) tick (kept_of m s v a) n y Waits =
     subst (λ (q : Placement). IsListed (id_at s a.index) tick (kept_of m s v a) n y q) c.in-Waits.is
     (subst (λ (b : Kept). IsListed (id_at s a.index) tick b n y c.place-placement.result) kept
-    (subst (λ (j : ℤ). IsListed j tick (record { name = c.result_name-made.result; measured = c.args.measured }) n y c.place-placement.result) id c.place-placement.ensures)) in
+    (subst (λ (j : ℤ). IsListed j tick (record { name = c.result_name-made.result; measured = c.args.measured }) n y c.place-placement.result) id
+    c.place-placement.ensures)) in
     rw (c.push.ensures, c.let_go.ensures, c.carry_input.ensures.items, c.carry_input.ensures.room, c.result_name-made.ensures, c.makes-makes.ensures)
     (waits-course m s k v r a f x n y (id_at s a.index) tick i p refl (ap (λ (q : Facts). q.tick) i.facts) l)
 
@@ -203,18 +221,23 @@ push-requires-in-Full-clause-room g c =
     let on = subst (λ (w : Coursed). is_job_on v a (hand r (past w.told)) ≡ true) (sym c.self.view_is) c.requires.hand in
     let history : is_history s (log_of k) ≡ true = subst (λ (w : Coursed). is_history s (past w.told) ≡ true) (sym c.self.view_is) c.requires.history in
     let job = job-on s v r a (log_of k) i.legal on in
-    let id : to_z w64 (of_z w64 c.id_at-id.result) ≡ id_at s a.index = to_z-of_z w64 c.id_at-id.result (record { sfits = c.id_at-id.type_inv }) ∙ c.id_at-id.ensures in
+    let id : to_z w64 (of_z w64 c.id_at-id.result) ≡ id_at s a.index =
+    to_z-of_z w64 c.id_at-id.result (record { sfits = c.id_at-id.type_inv }) ∙ c.id_at-id.ensures in
     let y = c.place-placement.new.node in
     let tick = c.self.inside.facts.tick in
-    let kept : (let q : Kept = record { name = c.result_name-made.result; measured = c.args.measured } in q) ≡ kept_of m s v a = ap (λ (b : FrameName). record { name = b; measured = c.args.measured }) c.result_name-made.ensures ∙ ap (λ o. record { name = result_name s v a; measured = o }) (c.requires.measured ∙ result-measures g.F.Of.Run.graph g.F.Of.Run.stack v a) in
+    let kept : (let q : Kept = record { name = c.result_name-made.result; measured = c.args.measured } in q) ≡ kept_of m s v a =
+    ap (λ (b : FrameName). record { name = b; measured = c.args.measured }) c.result_name-made.ensures
+    ∙ ap (λ o. record { name = result_name s v a; measured = o }) (c.requires.measured ∙ result-measures g.F.Of.Run.graph g.F.Of.Run.stack v a) in
     let l : IsListed (id_at s a.index) tick (kept_of m s v a) n y Full =
     subst (λ (q : Placement). IsListed (id_at s a.index) tick (kept_of m s v a) n y q) c.in-Full.is
     (subst (λ (b : Kept). IsListed (id_at s a.index) tick b n y c.place-placement.result) kept
-    (subst (λ (j : ℤ). IsListed j tick (record { name = c.result_name-made.result; measured = c.args.measured }) n y c.place-placement.result) id c.place-placement.ensures)) in
+    (subst (λ (j : ℤ). IsListed j tick (record { name = c.result_name-made.result; measured = c.args.measured }) n y c.place-placement.result) id
+    c.place-placement.ensures)) in
     let was = node-is m s k v n i c.requires.node at in
     let step = step-known m s v (log_of k) n (id_at s a.index) (id_at s a.index) false was c.requires.sorted refl l.1 in
     let full : length (waiting s v (log_of k)) ≡ (node s v).sort = omega (arith, waits-known m s v (log_of k) n was, was.list_size, l.2) in
-    rw c.push.ensures (room-for-two m s k (SortDrop v (result_name s v a).maker a.index) (put_of s r v a f) i (full-legal s v r a f (log_of k) history job c.requires.fired c.requires.sorted step full))
+    rw c.push.ensures (room-for-two m s k (SortDrop v (result_name s v a).maker a.index) (put_of s r v a f) i
+    (full-legal s v r a f (log_of k) history job c.requires.fired c.requires.sorted step full))
 
 pub invariant_of-self-in-Full : goal.invariant_of-self-in-Full
 invariant_of-self-in-Full g c =
@@ -231,18 +254,25 @@ invariant_of-self-in-Full g c =
     let on = subst (λ (w : Coursed). is_job_on v a (hand r (past w.told)) ≡ true) (sym c.self.view_is) c.requires.hand in
     let history : is_history s (log_of k) ≡ true = subst (λ (w : Coursed). is_history s (past w.told) ≡ true) (sym c.self.view_is) c.requires.history in
     let job = job-on s v r a (log_of k) i.legal on in
-    let id : to_z w64 (of_z w64 c.id_at-id.result) ≡ id_at s a.index = to_z-of_z w64 c.id_at-id.result (record { sfits = c.id_at-id.type_inv }) ∙ c.id_at-id.ensures in
+    let id : to_z w64 (of_z w64 c.id_at-id.result) ≡ id_at s a.index =
+    to_z-of_z w64 c.id_at-id.result (record { sfits = c.id_at-id.type_inv }) ∙ c.id_at-id.ensures in
     let x = c.index_mut-2.result.now in
     let empty = ap (λ (w : Coursed). w.transit) c.self.view_is ∙ c.requires.still in
-    let p : Putting m s k v r a f x n = record { here = c.requires.node; role = role-found m s k r x i c.requires.role c.index_mut-2.ensures.value; at = at; empty = empty; history = history; job = job; fires = c.requires.fired; sorted = c.requires.sorted } in
+    let p : Putting m s k v r a f x n =
+    record { here = c.requires.node; role = role-found m s k r x i c.requires.role c.index_mut-2.ensures.value; at = at; empty = empty; history = history;
+    job = job; fires = c.requires.fired; sorted = c.requires.sorted } in
     let y = c.place-placement.new.node in
     let tick = c.self.inside.facts.tick in
-    let kept : (let q : Kept = record { name = c.result_name-made.result; measured = c.args.measured } in q) ≡ kept_of m s v a = ap (λ (b : FrameName). record { name = b; measured = c.args.measured }) c.result_name-made.ensures ∙ ap (λ o. record { name = result_name s v a; measured = o }) (c.requires.measured ∙ result-measures g.F.Of.Run.graph g.F.Of.Run.stack v a) in
+    let kept : (let q : Kept = record { name = c.result_name-made.result; measured = c.args.measured } in q) ≡ kept_of m s v a =
+    ap (λ (b : FrameName). record { name = b; measured = c.args.measured }) c.result_name-made.ensures
+    ∙ ap (λ o. record { name = result_name s v a; measured = o }) (c.requires.measured ∙ result-measures g.F.Of.Run.graph g.F.Of.Run.stack v a) in
     let l : IsListed (id_at s a.index) tick (kept_of m s v a) n y Full =
     subst (λ (q : Placement). IsListed (id_at s a.index) tick (kept_of m s v a) n y q) c.in-Full.is
     (subst (λ (b : Kept). IsListed (id_at s a.index) tick b n y c.place-placement.result) kept
-    (subst (λ (j : ℤ). IsListed j tick (record { name = c.result_name-made.result; measured = c.args.measured }) n y c.place-placement.result) id c.place-placement.ensures)) in
-    rw (c.push-in-Full.ensures, c.push.ensures, c.let_go.ensures, c.carry-in-Full.ensures.items, c.carry-in-Full.ensures.room, c.result_name-made.ensures, c.makes-makes.ensures)
+    (subst (λ (j : ℤ). IsListed j tick (record { name = c.result_name-made.result; measured = c.args.measured }) n y c.place-placement.result) id
+    c.place-placement.ensures)) in
+    rw (c.push-in-Full.ensures, c.push.ensures, c.let_go.ensures, c.carry-in-Full.ensures.items, c.carry-in-Full.ensures.room,
+    c.result_name-made.ensures, c.makes-makes.ensures)
     (full-course m s k v r a f x n y (id_at s a.index) tick i p refl l)
 
 pub returns-in-Out : goal.returns-in-Out
@@ -257,18 +287,24 @@ returns-in-Out g c =
     let f = c.args.fired in
     let n = c.index_mut.result.now in
     let at = node-found m s k v n i c.requires.node c.index_mut.ensures.value in
-    let id : to_z w64 (of_z w64 c.id_at-id.result) ≡ id_at s a.index = to_z-of_z w64 c.id_at-id.result (record { sfits = c.id_at-id.type_inv }) ∙ c.id_at-id.ensures in
+    let id : to_z w64 (of_z w64 c.id_at-id.result) ≡ id_at s a.index =
+    to_z-of_z w64 c.id_at-id.result (record { sfits = c.id_at-id.type_inv }) ∙ c.id_at-id.ensures in
     let y = c.place-placement.new.node in
     let tick = c.self.inside.facts.tick in
-    let kept : (let q : Kept = record { name = c.result_name-made.result; measured = c.args.measured } in q) ≡ kept_of m s v a = ap (λ (b : FrameName). record { name = b; measured = c.args.measured }) c.result_name-made.ensures ∙ ap (λ o. record { name = result_name s v a; measured = o }) (c.requires.measured ∙ result-measures g.F.Of.Run.graph g.F.Of.Run.stack v a) in
+    let kept : (let q : Kept = record { name = c.result_name-made.result; measured = c.args.measured } in q) ≡ kept_of m s v a =
+    ap (λ (b : FrameName). record { name = b; measured = c.args.measured }) c.result_name-made.ensures
+    ∙ ap (λ o. record { name = result_name s v a; measured = o }) (c.requires.measured ∙ result-measures g.F.Of.Run.graph g.F.Of.Run.stack v a) in
     let l : IsListed (id_at s a.index) tick (kept_of m s v a) n y Out =
     subst (λ (q : Placement). IsListed (id_at s a.index) tick (kept_of m s v a) n y q) c.in-Out.is
     (subst (λ (b : Kept). IsListed (id_at s a.index) tick b n y c.place-placement.result) kept
-    (subst (λ (j : ℤ). IsListed j tick (record { name = c.result_name-made.result; measured = c.args.measured }) n y c.place-placement.result) id c.place-placement.ensures)) in
+    (subst (λ (j : ℤ). IsListed j tick (record { name = c.result_name-made.result; measured = c.args.measured }) n y c.place-placement.result) id
+    c.place-placement.ensures)) in
     let was = node-is m s k v n i c.requires.node at in
     let step = step-known m s v (log_of k) n (id_at s a.index) (id_at s a.index) true was c.requires.sorted refl l.1 in
     let known = subst (λ (w : Coursed). keeps_step (prev s v (past w.told)) (id_at s a.index) ≡ true) c.self.view_is step in
-    (known, rw (c.push-in-Out.ensures, c.push.ensures, c.carry.ensures.items, c.result_name-made.ensures, c.makes-makes.ensures) (ap (λ (w : Coursed). record { told = plain (Emit v (result_name s v a).maker a.index Step) ∷ plain (put_of s r v a f) ∷ w.told; transit = job_arrays s v a }) c.self.view_is))
+    (known,
+    rw (c.push-in-Out.ensures, c.push.ensures, c.carry.ensures.items, c.result_name-made.ensures, c.makes-makes.ensures) (ap (λ (w : Coursed).
+    record { told = plain (Emit v (result_name s v a).maker a.index Step) ∷ plain (put_of s r v a f) ∷ w.told; transit = job_arrays s v a }) c.self.view_is))
 
 pub returns-in-Waits : goal.returns-in-Waits
 returns-in-Waits g c =
@@ -282,21 +318,26 @@ returns-in-Waits g c =
     let f = c.args.fired in
     let n = c.index_mut.result.now in
     let at = node-found m s k v n i c.requires.node c.index_mut.ensures.value in
-    let id : to_z w64 (of_z w64 c.id_at-id.result) ≡ id_at s a.index = to_z-of_z w64 c.id_at-id.result (record { sfits = c.id_at-id.type_inv }) ∙ c.id_at-id.ensures in
+    let id : to_z w64 (of_z w64 c.id_at-id.result) ≡ id_at s a.index =
+    to_z-of_z w64 c.id_at-id.result (record { sfits = c.id_at-id.type_inv }) ∙ c.id_at-id.ensures in
     let y = c.place-placement.new.node in
     let tick = c.self.inside.facts.tick in
-    let kept : (let q : Kept = record { name = c.result_name-made.result; measured = c.args.measured } in q) ≡ kept_of m s v a = ap (λ (b : FrameName). record { name = b; measured = c.args.measured }) c.result_name-made.ensures ∙ ap (λ o. record { name = result_name s v a; measured = o }) (c.requires.measured ∙ result-measures g.F.Of.Run.graph g.F.Of.Run.stack v a) in
+    let kept : (let q : Kept = record { name = c.result_name-made.result; measured = c.args.measured } in q) ≡ kept_of m s v a =
+    ap (λ (b : FrameName). record { name = b; measured = c.args.measured }) c.result_name-made.ensures
+    ∙ ap (λ o. record { name = result_name s v a; measured = o }) (c.requires.measured ∙ result-measures g.F.Of.Run.graph g.F.Of.Run.stack v a) in
     let l : IsListed (id_at s a.index) tick (kept_of m s v a) n y Waits =
     subst (λ (q : Placement). IsListed (id_at s a.index) tick (kept_of m s v a) n y q) c.in-Waits.is
     (subst (λ (b : Kept). IsListed (id_at s a.index) tick b n y c.place-placement.result) kept
-    (subst (λ (j : ℤ). IsListed j tick (record { name = c.result_name-made.result; measured = c.args.measured }) n y c.place-placement.result) id c.place-placement.ensures)) in
+    (subst (λ (j : ℤ). IsListed j tick (record { name = c.result_name-made.result; measured = c.args.measured }) n y c.place-placement.result) id
+    c.place-placement.ensures)) in
     let was = node-is m s k v n i c.requires.node at in
     let step = step-known m s v (log_of k) n (id_at s a.index) (id_at s a.index) false was c.requires.sorted refl l.1 in
     let known = subst (λ (w : Coursed). keeps_step (prev s v (past w.told)) (id_at s a.index) ≡ false) c.self.view_is step in
     let short : length (waiting s v (log_of k)) < (node s v).sort = omega (arith, waits-known m s v (log_of k) n was, was.list_size, l.2) in (
       known,
       subst (λ (w : Coursed). length (waiting s v (past w.told)) < (node s v).sort) c.self.view_is short,
-      rw (c.push.ensures, c.carry_input.ensures.items, c.result_name-made.ensures, c.makes-makes.ensures) (ap (λ (w : Coursed). record { told = plain (put_of s r v a f) ∷ w.told; transit = inputs s v a }) c.self.view_is),
+      rw (c.push.ensures, c.carry_input.ensures.items, c.result_name-made.ensures,
+      c.makes-makes.ensures) (ap (λ (w : Coursed). record { told = plain (put_of s r v a f) ∷ w.told; transit = inputs s v a }) c.self.view_is),
     )
 
 pub returns-in-Full : goal.returns-in-Full
@@ -311,19 +352,24 @@ returns-in-Full g c =
     let f = c.args.fired in
     let n = c.index_mut.result.now in
     let at = node-found m s k v n i c.requires.node c.index_mut.ensures.value in
-    let id : to_z w64 (of_z w64 c.id_at-id.result) ≡ id_at s a.index = to_z-of_z w64 c.id_at-id.result (record { sfits = c.id_at-id.type_inv }) ∙ c.id_at-id.ensures in
+    let id : to_z w64 (of_z w64 c.id_at-id.result) ≡ id_at s a.index =
+    to_z-of_z w64 c.id_at-id.result (record { sfits = c.id_at-id.type_inv }) ∙ c.id_at-id.ensures in
     let y = c.place-placement.new.node in
     let tick = c.self.inside.facts.tick in
-    let kept : (let q : Kept = record { name = c.result_name-made.result; measured = c.args.measured } in q) ≡ kept_of m s v a = ap (λ (b : FrameName). record { name = b; measured = c.args.measured }) c.result_name-made.ensures ∙ ap (λ o. record { name = result_name s v a; measured = o }) (c.requires.measured ∙ result-measures g.F.Of.Run.graph g.F.Of.Run.stack v a) in
+    let kept : (let q : Kept = record { name = c.result_name-made.result; measured = c.args.measured } in q) ≡ kept_of m s v a =
+    ap (λ (b : FrameName). record { name = b; measured = c.args.measured }) c.result_name-made.ensures
+    ∙ ap (λ o. record { name = result_name s v a; measured = o }) (c.requires.measured ∙ result-measures g.F.Of.Run.graph g.F.Of.Run.stack v a) in
     let l : IsListed (id_at s a.index) tick (kept_of m s v a) n y Full =
     subst (λ (q : Placement). IsListed (id_at s a.index) tick (kept_of m s v a) n y q) c.in-Full.is
     (subst (λ (b : Kept). IsListed (id_at s a.index) tick b n y c.place-placement.result) kept
-    (subst (λ (j : ℤ). IsListed j tick (record { name = c.result_name-made.result; measured = c.args.measured }) n y c.place-placement.result) id c.place-placement.ensures)) in
+    (subst (λ (j : ℤ). IsListed j tick (record { name = c.result_name-made.result; measured = c.args.measured }) n y c.place-placement.result) id
+    c.place-placement.ensures)) in
     let was = node-is m s k v n i c.requires.node at in
     let step = step-known m s v (log_of k) n (id_at s a.index) (id_at s a.index) false was c.requires.sorted refl l.1 in
     let known = subst (λ (w : Coursed). keeps_step (prev s v (past w.told)) (id_at s a.index) ≡ false) c.self.view_is step in
     let long : length (waiting s v (log_of k)) ≡ (node s v).sort = omega (arith, waits-known m s v (log_of k) n was, was.list_size, l.2) in (
       known,
       subst (λ (w : Coursed). length (waiting s v (past w.told)) ≡ (node s v).sort) c.self.view_is long,
-      rw (c.push-in-Full.ensures, c.push.ensures, c.carry-in-Full.ensures.items, c.result_name-made.ensures, c.makes-makes.ensures) (ap (λ (w : Coursed). record { told = plain (SortDrop v (result_name s v a).maker a.index) ∷ plain (put_of s r v a f) ∷ w.told; transit = job_arrays s v a }) c.self.view_is),
+      rw (c.push-in-Full.ensures, c.push.ensures, c.carry-in-Full.ensures.items, c.result_name-made.ensures, c.makes-makes.ensures) (ap (λ (w : Coursed).
+      record { told = plain (SortDrop v (result_name s v a).maker a.index) ∷ plain (put_of s r v a f) ∷ w.told; transit = job_arrays s v a }) c.self.view_is),
     )

@@ -34,7 +34,8 @@ pass_on-requires-clause-from g c =
     let w : Coursed = c.put_placed.new.self in
     let put : BoardState = plain (put_of s r v a f) ∷ b in
     let q : IsPlaced s r v a f c.args.self.now w Out = subst (λ (x : Placement). IsPlaced s r v a f c.args.self.now w x) c.in-Out.is c.put_placed.ensures in
-    (Step, put, ap (λ (x : Coursed). x.told) q.1 ∙ ap (λ (n : FrameName). plain (Emit v n.maker n.index Step) ∷ put) (whole-name s v a ∙ sym c.result_name-made.ensures))
+    (Step, put,
+    ap (λ (x : Coursed). x.told) q.1 ∙ ap (λ (n : FrameName). plain (Emit v n.maker n.index Step) ∷ put) (whole-name s v a ∙ sym c.result_name-made.ensures))
 
 pub pass_on-requires-clause-legal : goal.pass_on-requires-clause-legal
 pass_on-requires-clause-legal g c =
@@ -49,13 +50,15 @@ pass_on-requires-clause-legal g c =
     let q : IsPlaced s r v a f c.args.self.now w Out = subst (λ (x : Placement). IsPlaced s r v a f c.args.self.now w x) c.in-Out.is c.put_placed.ensures in
     let job = job-on s v r a (past b) (and_parts _ _ c.requires.history).0 c.requires.hand in
     let first = put-legal s v r a f b c.requires.history job c.requires.fired in
-    let all : is_legal s (past (moved s (plain (put_of s r v a f)) b)) ≡ true = (and_parts _ _ (put-whole s v r a f b c.requires.history job c.requires.fired)).0 in
+    let all : is_legal s (past (moved s (plain (put_of s r v a f)) b)) ≡ true =
+    (and_parts _ _ (put-whole s v r a f b c.requires.history job c.requires.fired)).0 in
     let made : FrameName = c.result_name-made.result in
     let e : BoardState = plain (Emit v (result_name s v a).maker a.index Step) ∷ put in
     let told : w.told ≡ e = ap (λ (x : Coursed). x.told) q.1 in
     let after : BoardState → BoardState = λ d. with_all s 0 1 (map (offer made) (offered_to s (before_emission d) v)) d in
     let whole = moved-out s v r a made f b c.requires.sorted first q.0 c.result_name-made.ensures in
-    let last : is_legal s (past (with_all s 0 2 (look s v (past (after e))) (after e))) ≡ true = subst (λ (d : BoardState). is_legal s (past d) ≡ true) whole all in
+    let last : is_legal s (past (with_all s 0 2 (look s v (past (after e))) (after e))) ≡ true =
+    subst (λ (d : BoardState). is_legal s (past d) ≡ true) whole all in
     subst (λ (d : BoardState). is_legal s (past (after d)) ≡ true) (sym told) (legal-before s 0 2 (look s v (past (after e))) (after e) last)
 
 pub release_input-requires-clause-input : goal.release_input-requires-clause-input
@@ -69,9 +72,12 @@ release_input-requires-clause-input g c =
     let w : Coursed = c.put_placed.new.self in
     let job = job-on s v r a (past old.told) (and_parts _ _ c.requires.history).0 c.requires.hand in
     let first = put-legal s v r a f old.told c.requires.history job c.requires.fired in
-    let placed : (x : Placement) → c.put_placed.result ≡ x → IsPlaced s r v a f old w x = λ x is. subst (λ (y : Placement). IsPlaced s r v a f old w y) is c.put_placed.ensures in
+    let placed : (x : Placement) → c.put_placed.result ≡ x → IsPlaced s r v a f old w x =
+    λ x is. subst (λ (y : Placement). IsPlaced s r v a f old w y) is c.put_placed.ensures in
     let left : LookLeft s v r a f old c.match-put_placed.self = elim c.match-put_placed.branch [
-      | in-Out x ↦ left-out s v r a c.result_name-made.result f old w _ c.requires.sorted first c.result_name-made.ensures (placed Out x.in-Out.is) (x.self-is ∙ x.pass_on.ensures)
+      | in-Out x ↦
+          left-out s v r a c.result_name-made.result f old w _ c.requires.sorted first c.result_name-made.ensures
+          (placed Out x.in-Out.is) (x.self-is ∙ x.pass_on.ensures)
       | in-Waits x ↦ subst (LookLeft s v r a f old) (sym x.self-is) (left-waits s v r a f old w c.requires.sorted first (placed Waits x.in-Waits.is))
       | in-Full x ↦ left-full s v r a f old w _ c.requires.sorted first (placed Full x.in-Full.is) (x.self-is ∙ x.release.ensures)
     ] in
@@ -88,13 +94,17 @@ look-requires-clause-legal g c =
     let w : Coursed = c.put_placed.new.self in
     let job = job-on s v r a (past old.told) (and_parts _ _ c.requires.history).0 c.requires.hand in
     let first = put-legal s v r a f old.told c.requires.history job c.requires.fired in
-    let placed : (x : Placement) → c.put_placed.result ≡ x → IsPlaced s r v a f old w x = λ x is. subst (λ (y : Placement). IsPlaced s r v a f old w y) is c.put_placed.ensures in
+    let placed : (x : Placement) → c.put_placed.result ≡ x → IsPlaced s r v a f old w x =
+    λ x is. subst (λ (y : Placement). IsPlaced s r v a f old w y) is c.put_placed.ensures in
     let left : LookLeft s v r a f old c.match-put_placed.self = elim c.match-put_placed.branch [
-      | in-Out x ↦ left-out s v r a c.result_name-made.result f old w _ c.requires.sorted first c.result_name-made.ensures (placed Out x.in-Out.is) (x.self-is ∙ x.pass_on.ensures)
+      | in-Out x ↦
+          left-out s v r a c.result_name-made.result f old w _ c.requires.sorted first c.result_name-made.ensures
+          (placed Out x.in-Out.is) (x.self-is ∙ x.pass_on.ensures)
       | in-Waits x ↦ subst (LookLeft s v r a f old) (sym x.self-is) (left-waits s v r a f old w c.requires.sorted first (placed Waits x.in-Waits.is))
       | in-Full x ↦ left-full s v r a f old w _ c.requires.sorted first (placed Full x.in-Full.is) (x.self-is ∙ x.release.ensures)
     ] in
-    left-legal s v r a f old c.match-put_placed.self c.release_input.new.self left c.release_input.ensures (and_parts _ _ (put-whole s v r a f old.told c.requires.history job c.requires.fired)).0
+    left-legal s v r a f old c.match-put_placed.self c.release_input.new.self left c.release_input.ensures
+    (and_parts _ _ (put-whole s v r a f old.told c.requires.history job c.requires.fired)).0
 
 pub returns : goal.returns
 returns g c =
@@ -107,9 +117,12 @@ returns g c =
     let w : Coursed = c.put_placed.new.self in
     let job = job-on s v r a (past old.told) (and_parts _ _ c.requires.history).0 c.requires.hand in
     let first = put-legal s v r a f old.told c.requires.history job c.requires.fired in
-    let placed : (x : Placement) → c.put_placed.result ≡ x → IsPlaced s r v a f old w x = λ x is. subst (λ (y : Placement). IsPlaced s r v a f old w y) is c.put_placed.ensures in
+    let placed : (x : Placement) → c.put_placed.result ≡ x → IsPlaced s r v a f old w x =
+    λ x is. subst (λ (y : Placement). IsPlaced s r v a f old w y) is c.put_placed.ensures in
     let left : LookLeft s v r a f old c.match-put_placed.self = elim c.match-put_placed.branch [
-      | in-Out x ↦ left-out s v r a c.result_name-made.result f old w _ c.requires.sorted first c.result_name-made.ensures (placed Out x.in-Out.is) (x.self-is ∙ x.pass_on.ensures)
+      | in-Out x ↦
+          left-out s v r a c.result_name-made.result f old w _ c.requires.sorted first c.result_name-made.ensures
+          (placed Out x.in-Out.is) (x.self-is ∙ x.pass_on.ensures)
       | in-Waits x ↦ subst (LookLeft s v r a f old) (sym x.self-is) (left-waits s v r a f old w c.requires.sorted first (placed Waits x.in-Waits.is))
       | in-Full x ↦ left-full s v r a f old w _ c.requires.sorted first (placed Full x.in-Full.is) (x.self-is ∙ x.release.ensures)
     ] in

@@ -25,7 +25,8 @@ keep_unsaved-requires-clause-some g c =
     let m = run_measure g.F.Of.Run.graph g.F.Of.Run.stack in
     let k = parts c.self.inside in
     let n = c.index_mut.result.now in
-    some-job m s k c.args.node c.args.role c.args.name n c.self.invariant c.requires.node (node-found m s k c.args.node n c.self.invariant c.requires.node c.index_mut.ensures.value)
+    some-job m s k c.args.node c.args.role c.args.name n c.self.invariant c.requires.node
+    (node-found m s k c.args.node n c.self.invariant c.requires.node c.index_mut.ensures.value)
     (subst (λ (w : Coursed). is_job_on c.args.node c.args.name (hand c.args.role (past w.told)) ≡ true) (sym c.self.view_is) c.requires.hand)
 
 pub keep_unsaved-requires-clause-few : goal.keep_unsaved-requires-clause-few
@@ -47,8 +48,10 @@ keep_unsaved-requires-clause-room g c =
     let a = c.args.name in
     let n = c.index_mut.result.now in
     let job = job-on s v r a (log_of k) i.legal (subst (λ (w : Coursed). is_job_on v a (hand r (past w.told)) ≡ true) (sym c.self.view_is) c.requires.hand) in
-    unsaved-short m s k v r (result_name s v a).maker a.index c.args.fired n i c.requires.node (node-found m s k v n i c.requires.node c.index_mut.ensures.value) c.requires.kind
-    (put-legal s v r a c.args.fired k.log.told (subst (λ (w : Coursed). is_history s (past w.told) ≡ true) (sym c.self.view_is) c.requires.history) job c.requires.fired)
+    unsaved-short m s k v r (result_name s v a).maker a.index c.args.fired n i c.requires.node
+    (node-found m s k v n i c.requires.node c.index_mut.ensures.value) c.requires.kind
+    (put-legal s v r a c.args.fired k.log.told
+    (subst (λ (w : Coursed). is_history s (past w.told) ≡ true) (sym c.self.view_is) c.requires.history) job c.requires.fired)
 
 pub push-requires-clause-room : goal.push-requires-clause-room
 push-requires-clause-room g c =
@@ -60,7 +63,8 @@ push-requires-clause-room g c =
     let a = c.args.name in
     let job = job-on s v r a (log_of k) i.legal (subst (λ (w : Coursed). is_job_on v a (hand r (past w.told)) ≡ true) (sym c.self.view_is) c.requires.hand) in
     room-for (run_measure g.F.Of.Run.graph g.F.Of.Run.stack) s k (Put r v (result_name s v a).maker a.index c.args.fired) i
-    (put-legal s v r a c.args.fired k.log.told (subst (λ (w : Coursed). is_history s (past w.told) ≡ true) (sym c.self.view_is) c.requires.history) job c.requires.fired)
+    (put-legal s v r a c.args.fired k.log.told
+    (subst (λ (w : Coursed). is_history s (past w.told) ≡ true) (sym c.self.view_is) c.requires.history) job c.requires.fired)
 
 pub invariant_of-self : goal.invariant_of-self
 invariant_of-self g c =
@@ -79,9 +83,13 @@ invariant_of-self g c =
     let job = job-on s v r a (log_of k) i.legal (subst (λ (w : Coursed). is_job_on v a (hand r (past w.told)) ≡ true) (sym c.self.view_is) c.requires.hand) in
     let passes = file-passes s v c.requires.kind in
     let name : result_name s v a ≡ a = rw passes refl in
-    let legal : is_legal s (Put r v a.maker a.index f ∷ log_of k) ≡ true = subst (λ (b : FrameName). is_legal s (Put r v b.maker a.index f ∷ log_of k) ≡ true) name (put-legal s v r a f k.log.told (subst (λ (w : Coursed). is_history s (past w.told) ≡ true) (sym c.self.view_is) c.requires.history) job c.requires.fired) in
+    let legal : is_legal s (Put r v a.maker a.index f ∷ log_of k) ≡ true =
+    subst (λ (b : FrameName). is_legal s (Put r v b.maker a.index f ∷ log_of k) ≡ true) name (put-legal s v r a f k.log.told
+    (subst (λ (w : Coursed). is_history s (past w.told) ≡ true) (sym c.self.view_is) c.requires.history) job c.requires.fired) in
     let taken = taken-as s v r a (log_of k) job passes in
-    let done = put_file_at m s k v r (v - 1) a.maker a.index f taken.0 x n c.keep_unsaved.new.node (place-of s v c.requires.node).0 i legal here at (ap (λ (w : Coursed). w.transit) c.self.view_is ∙ c.requires.still) taken.1 c.requires.kind c.keep_unsaved.ensures.items c.keep_unsaved.ensures.room in
+    let done =
+    put_file_at m s k v r (v - 1) a.maker a.index f taken.0 x n c.keep_unsaved.new.node (place-of s v c.requires.node).0 i legal here at (ap
+    (λ (w : Coursed). w.transit) c.self.view_is ∙ c.requires.still) taken.1 c.requires.kind c.keep_unsaved.ensures.items c.keep_unsaved.ensures.room in
     rw (c.push.ensures, c.keep_unsaved.ensures.node, c.let_go.ensures) done
 
 pub returns : goal.returns

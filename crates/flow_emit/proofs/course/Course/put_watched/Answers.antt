@@ -25,7 +25,8 @@ let_ring_out-requires-clause-legal g c =
     let old : Coursed = c.args.self.now in
     let mid : Coursed = c.put_in_ring.new.self in
     let q : IsPutInRing s r v a f old mid Out = subst (λ (x : Watched). IsPutInRing s r v a f old mid x) c.in-Out.is c.put_in_ring.ensures in
-    let whole : moved s (plain (put_of s r v a f)) old.told ≡ with_all s 0 2 (ring_outs v mid.transit) mid.told = moved-ring s v r a f mid.transit old.told q.1 ∙ ap (with_all s 0 2 (ring_outs v mid.transit)) (sym q.0) in
+    let whole : moved s (plain (put_of s r v a f)) old.told ≡ with_all s 0 2 (ring_outs v mid.transit) mid.told =
+    moved-ring s v r a f mid.transit old.told q.1 ∙ ap (with_all s 0 2 (ring_outs v mid.transit)) (sym q.0) in
     let job = job-on s v r a (past old.told) (and_parts _ _ c.requires.history).0 c.requires.hand in
     subst (λ (b : BoardState). is_legal s (past b) ≡ true) whole (and_parts _ _ (put-whole s v r a f old.told c.requires.history job c.requires.fired)).0
 
@@ -39,7 +40,8 @@ returns-in-Out g c =
     let old : Coursed = c.args.self.now in
     let mid : Coursed = c.put_in_ring.new.self in
     let q : IsPutInRing s r v a f old mid Out = subst (λ (x : Watched). IsPutInRing s r v a f old mid x) c.in-Out.is c.put_in_ring.ensures in
-    let whole : moved s (plain (put_of s r v a f)) old.told ≡ with_all s 0 2 (ring_outs v mid.transit) mid.told = moved-ring s v r a f mid.transit old.told q.1 ∙ ap (with_all s 0 2 (ring_outs v mid.transit)) (sym q.0) in
+    let whole : moved s (plain (put_of s r v a f)) old.told ≡ with_all s 0 2 (ring_outs v mid.transit) mid.told =
+    moved-ring s v r a f mid.transit old.told q.1 ∙ ap (with_all s 0 2 (ring_outs v mid.transit)) (sym q.0) in
     c.let_ring_out.ensures
     ∙ (ap (λ (b : BoardState). (let w : Coursed = record { told = b; transit = [] } in w)) (sym whole)
     ∙ ap (λ (ts : List FrameName). (let w : Coursed = record { told = moved s (plain (put_of s r v a f)) old.told; transit = ts } in w)) (sym c.requires.still))

@@ -29,7 +29,8 @@ unreachable-requires g c =
     let r = c.args.role in
     let legal : is_legal s (Reclaim r ∷ log_of k) ≡ true = may-reclaim s k c.args.self.now r c.self.view_is h.history h.allowed in
     let P : Past = log_of k in
-    let free : hand_of (hand r (past c.args.self.now.told)) ≡ Free = hand-read m s k c.args.self.now r _ Free i c.self.view_is h.role (subst (λ (y : RoleState). y.hand ≡ Free) c.index.ensures c.in-Free.is) in
+    let free : hand_of (hand r (past c.args.self.now.told)) ≡ Free =
+    hand-read m s k c.args.self.now r _ Free i c.self.view_is h.role (subst (λ (y : RoleState). y.hand ≡ Free) c.index.ensures c.in-Free.is) in
     let none : hand r P ≡ None = hand-free r (hand r P) (names_role r P) (hand-there k c.args.self.now r Free c.self.view_is free) in
     true≢false (sym (ap is_none none) ∙ reclaim-held s r P legal)
 
@@ -40,7 +41,8 @@ reclaim_load-requires-clause-hand g c =
     let k = parts c.self.inside in
     let h = c.requires in
     let i : IsCourse m s k = c.self.invariant in
-    hand-read m s k c.args.self.now c.args.role _ (Loaded c.in-Loaded.index c.in-Loaded.block) i c.self.view_is h.role (subst (λ (y : RoleState). y.hand ≡ (Loaded c.in-Loaded.index c.in-Loaded.block)) c.index.ensures (c.in-Loaded.is))
+    hand-read m s k c.args.self.now c.args.role _ (Loaded c.in-Loaded.index c.in-Loaded.block) i c.self.view_is h.role
+    (subst (λ (y : RoleState). y.hand ≡ (Loaded c.in-Loaded.index c.in-Loaded.block)) c.index.ensures (c.in-Loaded.is))
 
 pub reclaim_taken-requires-clause-hand : goal.reclaim_taken-requires-clause-hand
 reclaim_taken-requires-clause-hand g c =
@@ -49,7 +51,8 @@ reclaim_taken-requires-clause-hand g c =
     let k = parts c.self.inside in
     let h = c.requires in
     let i : IsCourse m s k = c.self.invariant in
-    hand-read m s k c.args.self.now c.args.role _ (Job c.in-Job.node c.in-Job.name None) i c.self.view_is h.role (subst (λ (y : RoleState). y.hand ≡ (Job c.in-Job.node c.in-Job.name None)) c.index.ensures (c.in-Job.is ∙ ap (Job c.in-Job.node c.in-Job.name) c.in-None.is))
+    hand-read m s k c.args.self.now c.args.role _ (Job c.in-Job.node c.in-Job.name None) i c.self.view_is h.role (subst
+    (λ (y : RoleState). y.hand ≡ (Job c.in-Job.node c.in-Job.name None)) c.index.ensures (c.in-Job.is ∙ ap (Job c.in-Job.node c.in-Job.name) c.in-None.is))
 
 pub reclaim_making-requires-clause-hand : goal.reclaim_making-requires-clause-hand
 reclaim_making-requires-clause-hand g c =
@@ -58,7 +61,8 @@ reclaim_making-requires-clause-hand g c =
     let k = parts c.self.inside in
     let h = c.requires in
     let i : IsCourse m s k = c.self.invariant in
-    hand-read m s k c.args.self.now c.args.role _ (Job c.in-Job.node c.in-Job.name (Some c.in-Some.block)) i c.self.view_is h.role (subst (λ (y : RoleState). y.hand ≡ (Job c.in-Job.node c.in-Job.name (Some c.in-Some.block))) c.index.ensures (c.in-Job.is ∙ ap (Job c.in-Job.node c.in-Job.name) c.in-Some.is))
+    hand-read m s k c.args.self.now c.args.role _ (Job c.in-Job.node c.in-Job.name (Some c.in-Some.block)) i c.self.view_is h.role (subst (λ (y : RoleState).
+    y.hand ≡ (Job c.in-Job.node c.in-Job.name (Some c.in-Some.block))) c.index.ensures (c.in-Job.is ∙ ap (Job c.in-Job.node c.in-Job.name) c.in-Some.is))
 
 pub reclaim_piece-requires-clause-hand : goal.reclaim_piece-requires-clause-hand
 reclaim_piece-requires-clause-hand g c =
@@ -67,4 +71,5 @@ reclaim_piece-requires-clause-hand g c =
     let k = parts c.self.inside in
     let h = c.requires in
     let i : IsCourse m s k = c.self.invariant in
-    hand-read m s k c.args.self.now c.args.role _ (Piece c.in-Piece.node c.in-Piece.name) i c.self.view_is h.role (subst (λ (y : RoleState). y.hand ≡ (Piece c.in-Piece.node c.in-Piece.name)) c.index.ensures (c.in-Piece.is))
+    hand-read m s k c.args.self.now c.args.role _ (Piece c.in-Piece.node c.in-Piece.name) i c.self.view_is h.role
+    (subst (λ (y : RoleState). y.hand ≡ (Piece c.in-Piece.node c.in-Piece.name)) c.index.ensures (c.in-Piece.is))

@@ -33,7 +33,9 @@ overflow_sub-node g c =
     let v = c.args.node in
     let a = c.args.name in
     let p = hand-piece (hand r (log_of k)) v a (hand-there k c.args.self.now r (Piece v a) c.self.view_is h.hand) in
-    let here : is_node s v ≡ true = piece-node m s k r v a.maker a.index p.1 i (subst (λ (q : ℕ). hand r (log_of k) ≡ Some (Save q v a.maker a.index p.1)) (role-named r p.0 v a.maker a.index p.1 (log_of k) p.2) p.2) in
+    let here : is_node s v ≡ true =
+    piece-node m s k r v a.maker a.index p.1 i
+    (subst (λ (q : ℕ). hand r (log_of k) ≡ Some (Save q v a.maker a.index p.1)) (role-named r p.0 v a.maker a.index p.1 (log_of k) p.2) p.2) in
     let z = place-of s v here in omega (arith, z.0)
 
 pub index_mut-state-requires : goal.index_mut-state-requires
@@ -49,7 +51,9 @@ index_mut-state-requires g c =
     let v = c.args.node in
     let a = c.args.name in
     let p = hand-piece (hand r (log_of k)) v a (hand-there k c.args.self.now r (Piece v a) c.self.view_is h.hand) in
-    let here : is_node s v ≡ true = piece-node m s k r v a.maker a.index p.1 i (subst (λ (q : ℕ). hand r (log_of k) ≡ Some (Save q v a.maker a.index p.1)) (role-named r p.0 v a.maker a.index p.1 (log_of k) p.2) p.2) in
+    let here : is_node s v ≡ true =
+    piece-node m s k r v a.maker a.index p.1 i
+    (subst (λ (q : ℕ). hand r (log_of k) ≡ Some (Save q v a.maker a.index p.1)) (role-named r p.0 v a.maker a.index p.1 (log_of k) p.2) p.2) in
     let z = place-of s v here in omega (arith, z.1, i.nodes.all)
 
 pub push_front_reserved-requires : goal.push_front_reserved-requires
@@ -65,7 +69,9 @@ push_front_reserved-requires g c =
     let v = c.args.node in
     let a = c.args.name in
     let p = hand-piece (hand r (log_of k)) v a (hand-there k c.args.self.now r (Piece v a) c.self.view_is h.hand) in
-    let here : is_node s v ≡ true = piece-node m s k r v a.maker a.index p.1 i (subst (λ (q : ℕ). hand r (log_of k) ≡ Some (Save q v a.maker a.index p.1)) (role-named r p.0 v a.maker a.index p.1 (log_of k) p.2) p.2) in
+    let here : is_node s v ≡ true =
+    piece-node m s k r v a.maker a.index p.1 i
+    (subst (λ (q : ℕ). hand r (log_of k) ≡ Some (Save q v a.maker a.index p.1)) (role-named r p.0 v a.maker a.index p.1 (log_of k) p.2) p.2) in
     let n = c.index_mut-state.result.now in
     let at : slice_get k.nodes (v - 1) ≡ Some n = node-found m s k v n i here c.index_mut-state.ensures.value in
     omega (arith, unsaved-room m s k v r p.0 a.maker a.index p.1 n i here at p.2)
@@ -83,7 +89,9 @@ overflow_sub-state g c =
     let v = c.args.node in
     let a = c.args.name in
     let p = hand-piece (hand r (log_of k)) v a (hand-there k c.args.self.now r (Piece v a) c.self.view_is h.hand) in
-    let here : is_node s v ≡ true = piece-node m s k r v a.maker a.index p.1 i (subst (λ (q : ℕ). hand r (log_of k) ≡ Some (Save q v a.maker a.index p.1)) (role-named r p.0 v a.maker a.index p.1 (log_of k) p.2) p.2) in
+    let here : is_node s v ≡ true =
+    piece-node m s k r v a.maker a.index p.1 i
+    (subst (λ (q : ℕ). hand r (log_of k) ≡ Some (Save q v a.maker a.index p.1)) (role-named r p.0 v a.maker a.index p.1 (log_of k) p.2) p.2) in
     let n = c.index_mut-state.result.now in
     let at : slice_get k.nodes (v - 1) ≡ Some n = node-found m s k v n i here c.index_mut-state.ensures.value in
     omega (arith, piece-there m s k v r p.0 a.maker a.index p.1 n i here at p.2)
@@ -125,11 +133,16 @@ invariant_of-self g c =
     let v = c.args.node in
     let a = c.args.name in
     let p = hand-piece (hand r (log_of k)) v a (hand-there k c.args.self.now r (Piece v a) c.self.view_is h.hand) in
-    let here : is_node s v ≡ true = piece-node m s k r v a.maker a.index p.1 i (subst (λ (q : ℕ). hand r (log_of k) ≡ Some (Save q v a.maker a.index p.1)) (role-named r p.0 v a.maker a.index p.1 (log_of k) p.2) p.2) in
+    let here : is_node s v ≡ true =
+    piece-node m s k r v a.maker a.index p.1 i
+    (subst (λ (q : ℕ). hand r (log_of k) ≡ Some (Save q v a.maker a.index p.1)) (role-named r p.0 v a.maker a.index p.1 (log_of k) p.2) p.2) in
     let n = c.index_mut-state.result.now in
     let at : slice_get k.nodes (v - 1) ≡ Some n = node-found m s k v n i here c.index_mut-state.ensures.value in
     let x = c.index_mut-state-2.result.now in
     let y : NodeState = record n { unsaved = c.push_front_reserved.new.self } in
-    course-as m s (record k { log = record k.log { told = loses r c.args.lost ∷ k.log.told }; nodes = set k.nodes (v - 1) (record n { unsaved = y.unsaved; saves = n.saves - 1; saving = false }); roles = set k.roles r (record x { hand = Free; was_reclaimed = true }); transit = [] })
+    course-as m s (record k { log = record k.log { told = loses r c.args.lost ∷ k.log.told }; nodes = set k.nodes (v - 1) (record n { unsaved = y.unsaved;
+    saves = n.saves - 1; saving = false }); roles = set k.roles r (record x { hand = Free; was_reclaimed = true }); transit = [] })
     _ _ _ _ _ _ _ _ (sym c.push_reclaim.ensures) refl refl refl refl refl (sym still) refl
-    (back_piece_at m s k v r p.0 (v - 1) a.maker a.index p.1 x n y c.args.lost (place-of s v here).0 i legal (role-found m s k r x i h.role c.index_mut-state-2.ensures.value) at still p.2 c.push_front_reserved.ensures.items (omega (arith, c.push_front_reserved.ensures.capacity, (node-is m s k v n i here at).unsaved_room (piece-file s r p.0 v a.maker a.index p.1 (log_of k) i.legal p.2))))
+    (back_piece_at m s k v r p.0 (v - 1) a.maker a.index p.1 x n y c.args.lost (place-of s v here).0 i legal
+    (role-found m s k r x i h.role c.index_mut-state-2.ensures.value) at still p.2 c.push_front_reserved.ensures.items (omega (arith,
+    c.push_front_reserved.ensures.capacity, (node-is m s k v n i here at).unsaved_room (piece-file s r p.0 v a.maker a.index p.1 (log_of k) i.legal p.2))))

@@ -17,9 +17,11 @@ drop_hold-requires g c =
     let i : IsCourse m s k = c.self.invariant in
     let view = sym c.self.view_is in
     let name = c.in-Some.name.now in
-    let transit : k.transit ≡ name ∷ drop 1 k.transit = first-of k.transit name (read-at k.transit 0 name (subst (λ (v : Coursed). 0 < length v.transit) view c.requires.some) c.in-Some.ensures.lookup) in
+    let transit : k.transit ≡ name ∷ drop 1 k.transit =
+    first-of k.transit name (read-at k.transit 0 name (subst (λ (v : Coursed). 0 < length v.transit) view c.requires.some) c.in-Some.ensures.lookup) in
     let has = next-block m s k name (drop 1 k.transit) i transit in
-    let found : c.block-block.result ≡ has.0 = c.block-block.ensures has.0 (subst (λ (v : Coursed). block_of (past v.told) name ≡ has.0 ∷ []) c.self.view_is has.1) in
+    let found : c.block-block.result ≡ has.0 =
+    c.block-block.ensures has.0 (subst (λ (v : Coursed). block_of (past v.told) name ≡ has.0 ∷ []) c.self.view_is has.1) in
     let block : block_of (log_of k) name ≡ c.block-block.result ∷ [] = has.1 ∙ ap (λ b. b ∷ []) (sym found) in
     next-held m s k name (drop 1 k.transit) c.block-block.result i transit block
 
@@ -32,8 +34,11 @@ invariant_of-self g c =
     let i : IsCourse m s k = c.self.invariant in
     let view = sym c.self.view_is in
     let name = c.in-Some.name.now in
-    let transit : k.transit ≡ name ∷ drop 1 k.transit = first-of k.transit name (read-at k.transit 0 name (subst (λ (v : Coursed). 0 < length v.transit) view c.requires.some) c.in-Some.ensures.lookup) in
+    let transit : k.transit ≡ name ∷ drop 1 k.transit =
+    first-of k.transit name (read-at k.transit 0 name (subst (λ (v : Coursed). 0 < length v.transit) view c.requires.some) c.in-Some.ensures.lookup) in
     let has = next-block m s k name (drop 1 k.transit) i transit in
-    let found : c.block-block.result ≡ has.0 = c.block-block.ensures has.0 (subst (λ (v : Coursed). block_of (past v.told) name ≡ has.0 ∷ []) c.self.view_is has.1) in
+    let found : c.block-block.result ≡ has.0 =
+    c.block-block.ensures has.0 (subst (λ (v : Coursed). block_of (past v.told) name ≡ has.0 ∷ []) c.self.view_is has.1) in
     let block : block_of (log_of k) name ≡ c.block-block.result ∷ [] = has.1 ∙ ap (λ b. b ∷ []) (sym found) in
-    rw (c.drop_hold.ensures.after, c.pop_front.ensures.capacity, c.pop_front.ensures.rest) (released m s k name (drop 1 k.transit) c.block-block.result i transit block)
+    rw (c.drop_hold.ensures.after, c.pop_front.ensures.capacity,
+    c.pop_front.ensures.rest) (released m s k name (drop 1 k.transit) c.block-block.result i transit block)

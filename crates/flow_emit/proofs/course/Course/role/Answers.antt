@@ -14,4 +14,5 @@ returns g c =
     let k = parts c.self.inside in
     let i : IsCourse m s k = c.self.invariant in
     let x = c.index.result.now in
-    i.roles.each c.args.role x (role-found m s k c.args.role x i c.requires c.index.ensures) ∙ ap (λ (w : Coursed). role_of (past w.told) c.args.role) c.self.view_is
+    i.roles.each c.args.role x (role-found m s k c.args.role x i c.requires c.index.ensures)
+    ∙ ap (λ (w : Coursed). role_of (past w.told) c.args.role) c.self.view_is

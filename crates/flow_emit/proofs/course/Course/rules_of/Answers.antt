@@ -12,17 +12,21 @@ use Rattle.flow_emit.proofs.course.Course.rules_of.Goals as goal
 pub returns-clause-rule : goal.returns-clause-rule
 returns-clause-rule g c =
     let s = run_setting g.F.Of.Run.graph g.F.Of.Run.stack in
-    sym (rule-of c.self.inside.rules s c.args.node (c.args.node - 1) c.node.result.now (place-of s c.args.node c.requires).0 c.self.invariant.ruled c.node.ensures)
+    sym (rule-of c.self.inside.rules s c.args.node (c.args.node - 1) c.node.result.now
+    (place-of s c.args.node c.requires).0 c.self.invariant.ruled c.node.ensures)
 
 pub returns-clause-within : goal.returns-clause-within
 returns-clause-within g c =
     let r = c.node.result.now in
     let ns = c.self.inside.rules.nodes in
-    subst (λ (x : NodeRules). IsWorkWithin x.work) (get_or_from_slice_get ns (c.args.node - 1) r r c.node.ensures) (c.self.invariant.ruled.works (c.args.node - 1) r (slice_get_within ns (c.args.node - 1) r c.node.ensures))
+    subst (λ (x : NodeRules). IsWorkWithin x.work) (get_or_from_slice_get ns (c.args.node - 1) r r c.node.ensures)
+    (c.self.invariant.ruled.works (c.args.node - 1) r (slice_get_within ns (c.args.node - 1) r c.node.ensures))
 
 pub returns-clause-input : goal.returns-clause-input
 returns-clause-input g c =
     let r = c.node.result.now in
     let ns = c.self.inside.rules.nodes in
-    let within : IsWithin (length ns) r = subst (λ (x : NodeRules). IsWithin (length ns) x) (get_or_from_slice_get ns (c.args.node - 1) r r c.node.ensures) (c.self.invariant.ruled.within (c.args.node - 1) r (slice_get_within ns (c.args.node - 1) r c.node.ensures)) in
+    let within : IsWithin (length ns) r =
+    subst (λ (x : NodeRules). IsWithin (length ns) x) (get_or_from_slice_get ns (c.args.node - 1) r r c.node.ensures)
+    (c.self.invariant.ruled.within (c.args.node - 1) r (slice_get_within ns (c.args.node - 1) r c.node.ensures)) in
     omega (arith, within.0, ap length c.self.invariant.ruled.nodes, length-map ns as_node)

@@ -47,7 +47,8 @@ push_lent-requires-clause-room g c =
     let at : slice_get k.nodes (v - 1) ≡ Some n = node-found m s k v n i h.node c.index_mut-state.ensures.value in
     let legal : is_legal s (Save r v a.maker a.index z ∷ log_of k) ≡ true =
     subst (λ (b : FrameName). is_legal s (Save r v b.maker b.index z ∷ log_of k) ≡ true) (sym c.name-name.ensures)
-    (subst (λ (j : ℕ). is_legal s (Save r v (g.F.Named.name_of c.args.part.now).maker (g.F.Named.name_of c.args.part.now).index j ∷ log_of k) ≡ true) (sym c.next_group-group.ensures)
+    (subst (λ (j : ℕ). is_legal s (Save r v (g.F.Named.name_of c.args.part.now).maker (g.F.Named.name_of c.args.part.now).index j ∷ log_of k) ≡ true)
+    (sym c.next_group-group.ensures)
     (may-save g.F.Named.name_of c.args.part.now s k c.args.self.now r v c.self.view_is h.history h.role h.allowed h.next)) in
     room-for m s k (Save r v a.maker a.index z) i legal
 
@@ -66,11 +67,14 @@ invariant_of-self g c =
     let at : slice_get k.nodes (v - 1) ≡ Some n = node-found m s k v n i h.node c.index_mut-state.ensures.value in
     let legal : is_legal s (Save r v a.maker a.index z ∷ log_of k) ≡ true =
     subst (λ (b : FrameName). is_legal s (Save r v b.maker b.index z ∷ log_of k) ≡ true) (sym c.name-name.ensures)
-    (subst (λ (j : ℕ). is_legal s (Save r v (g.F.Named.name_of c.args.part.now).maker (g.F.Named.name_of c.args.part.now).index j ∷ log_of k) ≡ true) (sym c.next_group-group.ensures)
+    (subst (λ (j : ℕ). is_legal s (Save r v (g.F.Named.name_of c.args.part.now).maker (g.F.Named.name_of c.args.part.now).index j ∷ log_of k) ≡ true)
+    (sym c.next_group-group.ensures)
     (may-save g.F.Named.name_of c.args.part.now s k c.args.self.now r v c.self.view_is h.history h.role h.allowed h.next)) in
     let x = c.index_mut.result.now in
     let y : NodeState = record n { unsaved = c.pop_front.new.self } in
     let part = g.F.Held.parts c.args.part.now in
-    course-as m s (record k { log = record k.log { told = lends (Save r v a.maker a.index z) part ∷ k.log.told }; nodes = set k.nodes (v - 1) (record n { unsaved = y.unsaved; saves = n.saves + 1; saving = true }); roles = set k.roles r (record x { hand = Piece v a }) })
+    course-as m s (record k { log = record k.log { told = lends (Save r v a.maker a.index z) part ∷ k.log.told };
+    nodes = set k.nodes (v - 1) (record n { unsaved = y.unsaved; saves = n.saves + 1; saving = true }); roles = set k.roles r (record x { hand = Piece v a }) })
     _ _ _ _ _ _ _ _ (sym c.push_lent.ensures) refl refl refl refl refl refl refl
-    (saving_one_at m s k v r (v - 1) a.maker a.index z x n y part (place-of s v h.node).0 i legal (role-found m s k r x i h.role c.index_mut.ensures.value) at c.pop_front.ensures.rest (omega (arith, c.pop_front.ensures.capacity, (node-is m s k v n i h.node at).unsaved_room)))
+    (saving_one_at m s k v r (v - 1) a.maker a.index z x n y part (place-of s v h.node).0 i legal (role-found m s k r x i h.role
+    c.index_mut.ensures.value) at c.pop_front.ensures.rest (omega (arith, c.pop_front.ensures.capacity, (node-is m s k v n i h.node at).unsaved_room)))

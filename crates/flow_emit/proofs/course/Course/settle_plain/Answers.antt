@@ -29,7 +29,8 @@ flush-requires-clause-legal g c =
     let v = c.args.node in
     let b = c.args.self.now.told in
     subst (λ (w : Coursed). is_legal s (past (with_all s 0 2 (flush s v (past w.told)) w.told)) ≡ true) (sym c.note_settle.ensures)
-    (subst (λ (d : BoardState). is_legal s (past d) ≡ true) (moved-flush s r v b) (and_parts _ _ (settle-legal s b r v h.history h.role h.node h.ready h.unsettled)).0)
+    (subst (λ (d : BoardState). is_legal s (past d) ≡ true) (moved-flush s r v b)
+    (and_parts _ _ (settle-legal s b r v h.history h.role h.node h.ready h.unsettled)).0)
 
 pub returns-then-is_sorted : goal.returns-then-is_sorted
 returns-then-is_sorted g c =

@@ -18,7 +18,8 @@ look_at_all-requires-clause-still g c = ap (λ (w : Coursed). w.transit) c.note_
 pub look_at_all-requires-clause-legal : goal.look_at_all-requires-clause-legal
 look_at_all-requires-clause-legal g c =
     let s = run_setting g.F.Of.Run.graph g.F.Of.Run.stack in
-    subst (λ (w : Coursed). is_legal s (past (all_looked s w.told)) ≡ true) (sym c.note_tick.ensures) (tick-legal s c.args.tick c.args.self.now.told c.requires.legal).1
+    subst (λ (w : Coursed). is_legal s (past (all_looked s w.told)) ≡ true) (sym c.note_tick.ensures)
+    (tick-legal s c.args.tick c.args.self.now.told c.requires.legal).1
 
 pub returns : goal.returns
 returns g c =

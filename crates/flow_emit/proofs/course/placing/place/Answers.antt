@@ -18,7 +18,8 @@ returns-in-Ok-Out c =
     let kind : Placed Kept → Result (Placed Kept) (SortFull Kept) = λ p. Ok p in
     placed-out c.args.id c.args.tick kept c.in-Ok-Out.kept c.args.node.now c.count_put.new.node _ c.count_put.ensures refl
     (sym (ap kind c.in-Ok-Out.field-0-is) ∙ (sym c.in-Ok-Out.is ∙ (c.put.ensures.answer ∙ ap (λ (i : ℤ). put_answer list i kept) id)))
-    (c.put.ensures.after ∙ ap (λ (i : ℤ). after_put list (record { id = i; tick = c.args.tick; item = kept })) id) c.keep_measure.ensures.items c.keep_measure.ensures.capacity
+    (c.put.ensures.after ∙ ap (λ (i : ℤ). after_put list (record { id = i; tick = c.args.tick; item = kept })) id)
+    c.keep_measure.ensures.items c.keep_measure.ensures.capacity
 
 pub returns-in-Err : goal.returns-in-Err
 returns-in-Err c =
@@ -35,8 +36,14 @@ keep_measure-requires c =
     let id = to_z-of_z w64 c.args.id c.ranges.id in
     let list = c.count_put.new.node.list in
     let kind : Placed Kept → Result (Placed Kept) (SortFull Kept) = λ p. Ok p in
-    let step = step-of list c.args.id kept c.in-Ok-Out.kept (sym (ap kind c.in-Ok-Out.field-0-is) ∙ (sym c.in-Ok-Out.is ∙ (c.put.ensures.answer ∙ ap (λ (i : ℤ). put_answer list i kept) id))) in
+    let step =
+    step-of list c.args.id kept c.in-Ok-Out.kept
+    (sym (ap kind c.in-Ok-Out.field-0-is) ∙ (sym c.in-Ok-Out.is ∙ (c.put.ensures.answer ∙ ap (λ (i : ℤ). put_answer list i kept) id))) in
     λ m some.
-    let same : c.in-Ok-Out.kept ≡ kept = out-is list c.args.id kept c.in-Ok-Out.kept (sym (ap kind c.in-Ok-Out.field-0-is) ∙ (sym c.in-Ok-Out.is ∙ (c.put.ensures.answer ∙ ap (λ (i : ℤ). put_answer list i kept) id))) in
-    let room = c.requires.room m (subst (λ (n : NodeState). keeps_step n.list.last c.args.id ≡ true) c.count_put.ensures step) (sym (ap (λ (y : Kept). y.measured) same) ∙ some) in
+    let same : c.in-Ok-Out.kept ≡ kept =
+    out-is list c.args.id kept c.in-Ok-Out.kept
+    (sym (ap kind c.in-Ok-Out.field-0-is) ∙ (sym c.in-Ok-Out.is ∙ (c.put.ensures.answer ∙ ap (λ (i : ℤ). put_answer list i kept) id))) in
+    let room =
+    c.requires.room m (subst (λ (n : NodeState). keeps_step n.list.last c.args.id ≡ true) c.count_put.ensures step)
+    (sym (ap (λ (y : Kept). y.measured) same) ∙ some) in
     subst (λ (n : NodeState). vec_len n.measures < vec_capacity n.measures) (sym c.count_put.ensures) room

@@ -4,7 +4,8 @@ use Rattle.queue_sort.specs.declared.sort_lists.Waiting.{Waiting}
 use Rattle.flow_emit.specs.declared.node.Kept.{Kept}
 use Rattle.flow_emit.proofs.course.settling.take_least.Goals as goal
 
-least-of : (ws : List (Waiting Kept)) (k : Kept) → option_map (λ (w : Waiting Kept). w.item) (slice_get ws 0) ≡ Some k → (w : Waiting Kept) × (rest : List (Waiting Kept)) × (ws ≡ w ∷ rest) × (w.item ≡ k)
+least-of : (ws : List (Waiting Kept)) (k : Kept) → option_map (λ (w : Waiting Kept). w.item) (slice_get ws 0) ≡ Some k
+    → (w : Waiting Kept) × (rest : List (Waiting Kept)) × (ws ≡ w ∷ rest) × (w.item ≡ k)
 least-of [] k h = absurd (cc)
 least-of (w ∷ ws) k h = (w, ws, refl, cc)
 

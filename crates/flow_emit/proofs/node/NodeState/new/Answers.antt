@@ -11,7 +11,8 @@ pub returns : goal.returns
 returns c =
     λ measure s v i.
     let listed : ℤ → SortState Kept = λ first. record { size = c.args.rules.now.sort; last = first -ℤ pos 1; disordered = 0; waiting = [] } in
-    fresh-node measure s v c.args.rules.now c.args.frames c.args.first _ i c.in_ok-new.ensures (c.in_ok-new-2.ensures ∙ ap listed (to_z-of_z w64 c.args.first c.ranges.first)) (c.in_ok-window_of.ensures s v (ap (λ (n : Node). n.work) i.ruled))
+    fresh-node measure s v c.args.rules.now c.args.frames c.args.first _ i c.in_ok-new.ensures
+    (c.in_ok-new-2.ensures ∙ ap listed (to_z-of_z w64 c.args.first c.ranges.first)) (c.in_ok-window_of.ensures s v (ap (λ (n : Node). n.work) i.ruled))
     c.in_ok-with_capacity.ensures.items c.in_ok-with_capacity-2.ensures.items
     (c.in_ok-with_capacity.ensures.exact ∙ c.room_to_save.ensures)
     (c.in_ok-with_capacity-2.ensures.exact ∙ c.room_to_measure.ensures)

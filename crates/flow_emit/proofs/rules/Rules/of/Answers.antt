@@ -14,7 +14,8 @@ returns g c =
     let stack = g.R.Run.stack in
     let s : Setting = run_setting graph stack in
     let planned = c.requires.plan in
-    let of_plan : AreNodeRules s c.in_ok-nodes.nodes.items = subst (λ (p : Plan). AreNodeRules (setting_of p.graph p.makers stack.arrays) c.in_ok-nodes.nodes.items) planned (c.in_ok-nodes.ensures stack.arrays) in
+    let of_plan : AreNodeRules s c.in_ok-nodes.nodes.items =
+    subst (λ (p : Plan). AreNodeRules (setting_of p.graph p.makers stack.arrays) c.in_ok-nodes.nodes.items) planned (c.in_ok-nodes.ensures stack.arrays) in
     are_rules graph stack _ c.requires.graph c.requires.stack
     (ap (λ (p : Plan). p.graph.wait) planned)
     (ap (λ (p : Plan). p.graph.limit) planned)

@@ -12,5 +12,6 @@ returns-else-eq c e fits same =
     let numbers : c.deref.result.now ≡ numbers_in c.args.line.now = c.deref.ensures.value ∙ c.in_ok-read_numbers.ensures in
     let made : c.entry-entry.result ≡ entry_of c.in-Some.kind (numbers_in c.args.line.now) (why_in c.args.line.now) = cc c.entry-entry.ensures in
     let again : spelling c.entry-entry.result ≡ c.args.line.now = read-again c.args.line.now c.in-Some.kind e c.entry-entry.result kind made fits same in
-    let written : c.as_bytes.result.now ≡ c.args.line.now = c.as_bytes.ensures.value ∙ (c.in_ok-write.ensures.bytes ∙ (ap (λ (xs : List ℕ). xs ++ spelling c.entry-entry.result) c.clear.ensures.bytes ∙ again)) in
+    let written : c.as_bytes.result.now ≡ c.args.line.now =
+    c.as_bytes.ensures.value ∙ (c.in_ok-write.ensures.bytes ∙ (ap (λ (xs : List ℕ). xs ++ spelling c.entry-entry.result) c.clear.ensures.bytes ∙ again)) in
     true≢false (sym (same-pointwise c.as_bytes.result.now c.args.line.now written) ∙ (sym c.eq.ensures ∙ c.if-eq.false))

@@ -10,5 +10,6 @@ use Rattle.flow_roles.proofs.left_desk.LeftDeskDesk.close.Goals as goal
 pub returns-clause-called : goal.returns-clause-called
 returns-clause-called g c =
     let s = run_setting g.F.Of.Run.graph g.F.Of.Run.stack in
-    told_by_call s (λ old new. CloseGives s old c.args.role NotYet new) Other c.args.pass.now c.answered.new.self c.args.role c.requires.pass.1 (below c.args.role (last_role s) c.requires.role) c.answered.ensures
+    told_by_call s (λ old new. CloseGives s old c.args.role NotYet new) Other c.args.pass.now c.answered.new.self c.args.role c.requires.pass.1
+    (below c.args.role (last_role s) c.requires.role) c.answered.ensures
     (close_not_yet s c.args.role c.args.pass.now.stage (some_ids g.F.Of.Run.graph g.F.Of.Run.stack c.requires.pass.0))

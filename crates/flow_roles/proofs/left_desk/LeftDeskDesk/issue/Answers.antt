@@ -11,5 +11,7 @@ use Rattle.flow_roles.proofs.left_desk.LeftDeskDesk.issue.Goals as goal
 pub returns-clause-called : goal.returns-clause-called
 returns-clause-called g c =
     let s = run_setting g.F.Of.Run.graph g.F.Of.Run.stack in
-    told_by_call s (λ old new. IssueGives {E = Unit {0}} g.F.Named.name_of s old c.args.role c.args.frame (Err c.of_frame.result) new) NotYours c.args.pass.now c.answered.new.self c.args.role c.requires.pass.1 (below c.args.role (last_role s) c.requires.role) c.answered.ensures
-    (issue_back g.F.Named.name_of s c.args.role c.args.frame c.of_frame.result c.args.pass.now.stage (back_named 0 c.name.result (g.F.Named.name_of c.args.frame) (just 0 c.args.frame) c.of_frame.result c.of_frame.ensures c.name.ensures))
+    told_by_call s (λ old new. IssueGives {E = Unit {0}} g.F.Named.name_of s old c.args.role c.args.frame (Err c.of_frame.result) new) NotYours c.args.pass.now
+    c.answered.new.self c.args.role c.requires.pass.1 (below c.args.role (last_role s) c.requires.role) c.answered.ensures
+    (issue_back g.F.Named.name_of s c.args.role c.args.frame c.of_frame.result c.args.pass.now.stage
+    (back_named 0 c.name.result (g.F.Named.name_of c.args.frame) (just 0 c.args.frame) c.of_frame.result c.of_frame.ensures c.name.ensures))

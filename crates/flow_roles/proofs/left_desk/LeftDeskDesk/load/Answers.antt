@@ -10,5 +10,6 @@ use Rattle.flow_roles.proofs.left_desk.LeftDeskDesk.load.Goals as goal
 pub returns-clause-called : goal.returns-clause-called
 returns-clause-called g c =
     let s = run_setting g.F.Of.Run.graph g.F.Of.Run.stack in
-    told_by_call s (λ old new. LoadGives g.F.Held.parts g.F.Held.bytes_of s old c.args.role c.args.tick Left new) last_left c.args.pass.now c.answered.new.self c.args.role c.requires.pass.1 (below c.args.role (last_role s) c.requires.role) c.answered.ensures
+    told_by_call s (λ old new. LoadGives g.F.Held.parts g.F.Held.bytes_of s old c.args.role c.args.tick Left new) last_left c.args.pass.now c.answered.new.self
+    c.args.role c.requires.pass.1 (below c.args.role (last_role s) c.requires.role) c.answered.ensures
     (load_left g.F.Held.parts g.F.Held.bytes_of s c.args.role c.args.tick c.args.pass.now.stage c.requires.role)

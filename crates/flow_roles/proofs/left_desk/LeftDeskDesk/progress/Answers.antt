@@ -15,5 +15,6 @@ told n = record { entries = n; offered = 0; dropped = 0; saved = 0; left = true;
 pub returns-clause-called : goal.returns-clause-called
 returns-clause-called g c =
     let s = run_setting g.F.Of.Run.graph g.F.Of.Run.stack in
-    told_by_call s (λ old new. (told c.leaves.result ≡ progress_of s (past old)) × (new ≡ old)) Left c.args.pass.now c.answered.new.self c.args.role c.requires.pass.1 c.requires.role c.answered.ensures
+    told_by_call s (λ old new. (told c.leaves.result ≡ progress_of s (past old)) × (new ≡ old)) Left c.args.pass.now c.answered.new.self c.args.role
+    c.requires.pass.1 c.requires.role c.answered.ensures
     (ap told (c.leaves.ensures ∙ ap (λ (p : LeftPass). leaves_at p.stage) c.answered.ensures) ∙ progress_told s c.args.role c.args.pass.now.stage, refl)

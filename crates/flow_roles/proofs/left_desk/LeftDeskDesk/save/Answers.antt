@@ -10,5 +10,6 @@ use Rattle.flow_roles.proofs.left_desk.LeftDeskDesk.save.Goals as goal
 pub returns-clause-called : goal.returns-clause-called
 returns-clause-called g c =
     let s = run_setting g.F.Of.Run.graph g.F.Of.Run.stack in
-    told_by_call s (λ old new. SaveGives g.F.Named.name_of g.F.Held.parts s old c.args.role c.args.node NotYet new) Other c.args.pass.now c.answered.new.self c.args.role c.requires.pass.1 (at_end c.args.role (last_role s) c.requires.role) c.answered.ensures
+    told_by_call s (λ old new. SaveGives g.F.Named.name_of g.F.Held.parts s old c.args.role c.args.node NotYet new) Other c.args.pass.now c.answered.new.self
+    c.args.role c.requires.pass.1 (at_end c.args.role (last_role s) c.requires.role) c.answered.ensures
     (save_not_yet g.F.Named.name_of g.F.Held.parts s c.args.role c.args.node c.args.pass.now.stage)

@@ -25,4 +25,5 @@ pub returns : goal.returns
 returns g c =
     let fs = frames_of g.F.Named.name_of g.F.Held.parts g.F.Held.bytes_of (run_measure g.F.Of.Run.graph g.F.Of.Run.stack) in
     let self = c.args.self.now in
-    played fs (run_setting g.F.Of.Run.graph g.F.Of.Run.stack) (g.B.BoardCalls.shown self.board) (g.B.BoardCalls.shown c.play.new.board) c.args.op c.play.result refl self.legal self.drained c.requires c.play.ensures.replies c.play.ensures.lends
+    played fs (run_setting g.F.Of.Run.graph g.F.Of.Run.stack) (g.B.BoardCalls.shown self.board)
+    (g.B.BoardCalls.shown c.play.new.board) c.args.op c.play.result refl self.legal self.drained c.requires c.play.ensures.replies c.play.ensures.lends

@@ -6,7 +6,8 @@ use Rattle.flow_roles.proofs.turn_desk.TurnLockPlayedDesk.save.Goals as goal
 
 pub unreachable-requires : goal.unreachable-requires
 unreachable-requires g c =
-    save-replied (frames_of g.F.Named.name_of g.F.Held.parts g.F.Held.bytes_of (run_measure g.F.Of.Run.graph g.F.Of.Run.stack)) (run_setting g.F.Of.Run.graph g.F.Of.Run.stack)
+    save-replied (frames_of g.F.Named.name_of g.F.Held.parts g.F.Held.bytes_of (run_measure g.F.Of.Run.graph g.F.Of.Run.stack))
+    (run_setting g.F.Of.Run.graph g.F.Of.Run.stack)
     c.args.role c.args.node c.make.result Fresh _ _ c.in_default.not-Save (c.make.ensures.called Fresh Fresh)
 
 pub returns-clause-called : goal.returns-clause-called

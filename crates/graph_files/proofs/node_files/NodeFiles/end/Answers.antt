@@ -21,14 +21,16 @@ returns-in_err-end-clause-err g c =
     let x = c.args.self.now in
     let is : x.current ≡ Some c.in-Some.file = search rules in
     let some : 1 ≤ x.count = search rules in
-    rw p.1 (λ arrays few h. end-stops x _ _ some arrays h c.in-Some.file is (changed-may _ _ c.in-Some.file.name c.in-Some.file.numrecs c.in-Some.file.count c.in_err-end.ensures.err) few c.in_err-end.ensures.err)
+    rw p.1 (λ arrays few h. end-stops x _ _ some arrays h c.in-Some.file is
+    (changed-may _ _ c.in-Some.file.name c.in-Some.file.numrecs c.in-Some.file.count c.in_err-end.ensures.err) few c.in_err-end.ensures.err)
 
 pub returns-in_err-end-clause-changed : goal.returns-in_err-end-clause-changed
 returns-in_err-end-clause-changed g c =
     let x = c.args.self.now in
     let is : x.current ≡ Some c.in-Some.file = search rules in
     let some : 1 ≤ x.count = search rules in
-    λ arrays h. end-changed x _ _ some arrays h c.in-Some.file is (changed-may _ _ c.in-Some.file.name c.in-Some.file.numrecs c.in-Some.file.count c.in_err-end.ensures.err)
+    λ arrays h.
+    end-changed x _ _ some arrays h c.in-Some.file is (changed-may _ _ c.in-Some.file.name c.in-Some.file.numrecs c.in-Some.file.count c.in_err-end.ensures.err)
 
 pub returns-clause-ok : goal.returns-clause-ok
 returns-clause-ok g c =
@@ -36,11 +38,13 @@ returns-clause-ok g c =
     let is : x.current ≡ Some c.in-Some.file = search rules in
     let some : 1 ≤ x.count = search rules in
     let filled = subst IsFilled is c.requires.filled in
-    λ arrays few h. end-some x _ _ some arrays h c.in-Some.file is (changed-count _ _ c.in-Some.file.name c.in-Some.file.numrecs c.in-Some.file.count c.in_ok-end.ensures.ok) few filled.0 c.in_ok-end.ensures.layout
+    λ arrays few h. end-some x _ _ some arrays h c.in-Some.file is
+    (changed-count _ _ c.in-Some.file.name c.in-Some.file.numrecs c.in-Some.file.count c.in_ok-end.ensures.ok) few filled.0 c.in_ok-end.ensures.layout
 
 pub returns-clause-changed : goal.returns-clause-changed
 returns-clause-changed g c =
     let x = c.args.self.now in
     let is : x.current ≡ Some c.in-Some.file = search rules in
     let some : 1 ≤ x.count = search rules in
-    λ arrays h. end-changed x _ _ some arrays h c.in-Some.file is (changed-count _ _ c.in-Some.file.name c.in-Some.file.numrecs c.in-Some.file.count c.in_ok-end.ensures.ok)
+    λ arrays h.
+    end-changed x _ _ some arrays h c.in-Some.file is (changed-count _ _ c.in-Some.file.name c.in-Some.file.numrecs c.in-Some.file.count c.in_ok-end.ensures.ok)

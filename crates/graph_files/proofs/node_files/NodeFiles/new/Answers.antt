@@ -19,5 +19,6 @@ invariant_of-result c =
       few = omega (arith, room, min-le_left c.args.rule.now.count (length c.args.stack.now.arrays));
       within =
           subst (λ (n : _). length_of c.in_ok-shape.shape n ≤ longest_of c.in_ok-shape.shape.form) (sym room)
-          (subst (λ (sh : FileShape). length_of sh (min c.args.rule.now.count (length c.args.stack.now.arrays)) ≤ longest_of sh.form) (sym shape) c.requires.within);
+          (subst (λ (sh : FileShape). length_of sh (min c.args.rule.now.count (length c.args.stack.now.arrays)) ≤ longest_of sh.form)
+          (sym shape) c.requires.within);
     }

@@ -28,7 +28,9 @@ add_row-requires-clause-rows g c =
     let is : x.current ≡ Some c.in-Some.file = search rules in
     let w = c.requires.written in
     let f = open-is x w.0 c.args.group c.args.place _ w.1 w.2 c.in-Some.file is in
-    (group_of x.count c.args.group w.0, subst (λ (k : Stream). HasRows (g.K.Shelf.held c.args.shelf.now) k (group_of x.count c.args.group w.0)) (sym f) (open-has x w.0 c.args.group c.args.place _ w.1 w.2 c.in-Some.file is))
+    (group_of x.count c.args.group w.0,
+    subst (λ (k : Stream). HasRows (g.K.Shelf.held c.args.shelf.now) k (group_of x.count c.args.group w.0)) (sym f)
+    (open-has x w.0 c.args.group c.args.place _ w.1 w.2 c.in-Some.file is))
 
 pub returns-in-Some-clause-numrecs : goal.returns-in-Some-clause-numrecs
 returns-in-Some-clause-numrecs g c =
@@ -36,7 +38,9 @@ returns-in-Some-clause-numrecs g c =
     let is : x.current ≡ Some c.in-Some.file = search rules in
     let w = c.requires.written in
     let f = open-is x w.0 c.args.group c.args.place _ w.1 w.2 c.in-Some.file is in
-    let rows = subst (λ (k : Stream). HasRows (g.K.Shelf.held c.args.shelf.now) k (group_of x.count c.args.group w.0)) (sym f) (open-has x w.0 c.args.group c.args.place _ w.1 w.2 c.in-Some.file is) in
+    let rows =
+    subst (λ (k : Stream). HasRows (g.K.Shelf.held c.args.shelf.now) k (group_of x.count c.args.group w.0)) (sym f)
+    (open-has x w.0 c.args.group c.args.place _ w.1 w.2 c.in-Some.file is) in
     let given : c.in-Some.file.numrecs ≡ first_count x.late c.args.of = subst (HasNumrecs (first_count x.late c.args.of)) is c.requires.numrecs in
     numrecs-after c.add_row.result _ c.in-Some.file _ _ _ _ _ (first_count x.late c.args.of) given rows c.add_row.ensures.ok c.add_row.ensures.err
 
@@ -49,7 +53,8 @@ returns-in-Some-clause-ok g c =
     let small : c.args.group < 2 ^ 64 = omega arith in
     let make : FileShape → Array = λ shape. array_of c.args.head.now shape.kind shape.dims c.args.samples.now in
     on-ok c.add_row.result c.add_row.ensures.ok (λ ok arrays place h.
-    some-goes x c.add_row.new.self c.args.group c.args.place small make _ _ node arrays place h c.in-Some.file is c.add_row.ensures.changed c.self.inside.count many ok)
+    some-goes x c.add_row.new.self c.args.group c.args.place small make _ _ node arrays place h c.in-Some.file is
+    c.add_row.ensures.changed c.self.inside.count many ok)
 
 pub returns-in-Some-clause-err : goal.returns-in-Some-clause-err
 returns-in-Some-clause-err g c =
@@ -60,7 +65,8 @@ returns-in-Some-clause-err g c =
     let make : FileShape → Array = λ shape. array_of c.args.head.now shape.kind shape.dims c.args.samples.now in
     let given : c.in-Some.file.numrecs ≡ first_count x.late c.args.of = subst (HasNumrecs (first_count x.late c.args.of)) is c.requires.numrecs in
     if-err c.add_row.result c.add_row.ensures.err (λ fault stops arrays place h.
-    some-stops x c.add_row.new.self c.args.group c.args.place small make _ _ node arrays place h c.in-Some.file is c.add_row.ensures.changed fault (first_count x.late c.args.of) given stops)
+    some-stops x c.add_row.new.self c.args.group c.args.place small make _ _ node arrays place h c.in-Some.file is c.add_row.ensures.changed fault
+    (first_count x.late c.args.of) given stops)
 
 pub returns-in-Some-clause-changed : goal.returns-in-Some-clause-changed
 returns-in-Some-clause-changed g c =
@@ -81,8 +87,10 @@ returns-in_err-file-in-None-clause-err g c =
     let u = g.K.Shelf.held c.begin.new.shelf in
     let fault = c.in_err-file-in-None.field-0.0 in
     let stops : BeginStops fault t (name_of x c.args.group) (header x.shape (first_count x.late c.args.of)) u =
-    subst (λ (k : NodeFile). BeginStops fault t (name_of k c.args.group) (header k.shape (first_count k.late c.args.of)) u) c.self.view_is c.in_err-file-in-None.ensures.err in
-    rw (p.1, p.2) (λ arrays place h. begin-stops x _ c.args.group c.args.place small make t u (search rules) arrays place h none_ (first_count x.late c.args.of) fault (search rules) stops)
+    subst (λ (k : NodeFile). BeginStops fault t (name_of k c.args.group) (header k.shape (first_count k.late c.args.of)) u) c.self.view_is
+    c.in_err-file-in-None.ensures.err in
+    rw (p.1, p.2) (λ arrays place h. begin-stops x _ c.args.group c.args.place small make t u (search rules) arrays place h none_
+    (first_count x.late c.args.of) fault (search rules) stops)
 
 pub returns-in_err-file-in-None-clause-changed : goal.returns-in_err-file-in-None-clause-changed
 returns-in_err-file-in-None-clause-changed g c =
@@ -91,7 +99,8 @@ returns-in_err-file-in-None-clause-changed g c =
     let u = g.K.Shelf.held c.begin.new.shelf in
     let fault = c.in_err-file-in-None.field-0.0 in
     changed-begin fault t u (name_of x c.args.group) _
-    (subst (λ (k : NodeFile). BeginStops fault t (name_of k c.args.group) (header k.shape (first_count k.late c.args.of)) u) c.self.view_is c.in_err-file-in-None.ensures.err)
+    (subst (λ (k : NodeFile). BeginStops fault t (name_of k c.args.group) (header k.shape (first_count k.late c.args.of)) u)
+    c.self.view_is c.in_err-file-in-None.ensures.err)
 
 pub add_row-requires-in-None-clause-room : goal.add_row-requires-in-None-clause-room
 add_row-requires-in-None-clause-room g c =
@@ -107,7 +116,8 @@ returns-in_ok-file-in-None-clause-numrecs g c =
     let x = c.args.self.now in
     let f = c.in_ok-file-in-None.file in
     let value = subst (λ (k : NodeFile). f ≡ stream_of k c.args.group 0 (first_count k.late c.args.of)) c.self.view_is c.in_ok-file-in-None.ensures.value in
-    numrecs-after c.add_row-in-None.result _ f [] _ _ _ _ (first_count x.late c.args.of) (ap (λ (k : Stream). k.numrecs) value) c.in_ok-file-in-None.ensures.rows
+    numrecs-after c.add_row-in-None.result _ f [] _ _ _ _ (first_count x.late c.args.of)
+    (ap (λ (k : Stream). k.numrecs) value) c.in_ok-file-in-None.ensures.rows
     c.add_row-in-None.ensures.ok c.add_row-in-None.ensures.err
 
 pub returns-in_ok-file-in-None-clause-ok : goal.returns-in_ok-file-in-None-clause-ok
@@ -122,9 +132,12 @@ returns-in_ok-file-in-None-clause-ok g c =
     let t = g.K.Shelf.held c.args.shelf.now in
     let v = g.K.Shelf.held c.begin.new.shelf in
     let value = subst (λ (k : NodeFile). f ≡ stream_of k c.args.group 0 (first_count k.late c.args.of)) c.self.view_is c.in_ok-file-in-None.ensures.value in
-    let made = subst (λ (k : NodeFile). v ≡ with_file t (name_of k c.args.group) (header k.shape (first_count k.late c.args.of))) c.self.view_is c.in_ok-file-in-None.ensures.ok in
+    let made =
+    subst (λ (k : NodeFile). v ≡ with_file t (name_of k c.args.group) (header k.shape (first_count k.late c.args.of)))
+    c.self.view_is c.in_ok-file-in-None.ensures.ok in
     on-ok c.add_row-in-None.result c.add_row-in-None.ensures.ok (λ ok arrays place h.
-    none-goes x c.add_row-in-None.new.self c.args.group c.args.place small make t _ node arrays place h none_ (first_count x.late c.args.of) f value v made c.in_ok-file-in-None.ensures.rows
+    none-goes x c.add_row-in-None.new.self c.args.group c.args.place small make t _ node arrays place h none_
+    (first_count x.late c.args.of) f value v made c.in_ok-file-in-None.ensures.rows
     c.add_row-in-None.ensures.changed c.self.inside.count many ok)
 
 pub returns-in_ok-file-in-None-clause-err : goal.returns-in_ok-file-in-None-clause-err
@@ -138,9 +151,12 @@ returns-in_ok-file-in-None-clause-err g c =
     let t = g.K.Shelf.held c.args.shelf.now in
     let v = g.K.Shelf.held c.begin.new.shelf in
     let value = subst (λ (k : NodeFile). f ≡ stream_of k c.args.group 0 (first_count k.late c.args.of)) c.self.view_is c.in_ok-file-in-None.ensures.value in
-    let made = subst (λ (k : NodeFile). v ≡ with_file t (name_of k c.args.group) (header k.shape (first_count k.late c.args.of))) c.self.view_is c.in_ok-file-in-None.ensures.ok in
+    let made =
+    subst (λ (k : NodeFile). v ≡ with_file t (name_of k c.args.group) (header k.shape (first_count k.late c.args.of)))
+    c.self.view_is c.in_ok-file-in-None.ensures.ok in
     if-err c.add_row-in-None.result c.add_row-in-None.ensures.err (λ fault stops arrays place h.
-    none-stops x c.add_row-in-None.new.self c.args.group c.args.place small make t _ node arrays place h none_ (first_count x.late c.args.of) f value v made c.in_ok-file-in-None.ensures.rows
+    none-stops x c.add_row-in-None.new.self c.args.group c.args.place small make t _ node arrays place h none_
+    (first_count x.late c.args.of) f value v made c.in_ok-file-in-None.ensures.rows
     c.add_row-in-None.ensures.changed fault stops)
 
 pub returns-in_ok-file-in-None-clause-changed : goal.returns-in_ok-file-in-None-clause-changed
@@ -151,7 +167,9 @@ returns-in_ok-file-in-None-clause-changed g c =
     let v = g.K.Shelf.held c.begin.new.shelf in
     let u = g.K.Shelf.held c.add_row-in-None.new.shelf in
     let value = subst (λ (k : NodeFile). f ≡ stream_of k c.args.group 0 (first_count k.late c.args.of)) c.self.view_is c.in_ok-file-in-None.ensures.value in
-    let made = subst (λ (k : NodeFile). v ≡ with_file t (name_of k c.args.group) (header k.shape (first_count k.late c.args.of))) c.self.view_is c.in_ok-file-in-None.ensures.ok in
+    let made =
+    subst (λ (k : NodeFile). v ≡ with_file t (name_of k c.args.group) (header k.shape (first_count k.late c.args.of)))
+    c.self.view_is c.in_ok-file-in-None.ensures.ok in
     changed-then t v u (name_of x c.args.group) (Wrote _ made) (subst (λ (k : Stream). IsChangedAt v k.name u) value c.add_row-in-None.ensures.changed)
 
 pub returns-in-Some-clause-ended : goal.returns-in-Some-clause-ended
@@ -161,11 +179,16 @@ returns-in-Some-clause-ended g c =
     let many : c.self.inside.count ≡ x.count = search rules in
     let w = c.requires.written in
     let f = open-is x w.0 c.args.group c.args.place _ w.1 w.2 c.in-Some.file is in
-    let rows = subst (λ (k : Stream). HasRows (g.K.Shelf.held c.args.shelf.now) k (group_of x.count c.args.group w.0)) (sym f) (open-has x w.0 c.args.group c.args.place _ w.1 w.2 c.in-Some.file is) in
-    on-ok c.add_row.result c.add_row.ensures.ok (λ ok last. ended-by (ltb (c.args.place + 1) c.self.inside.count) c.in-Some.file _ c.add_row.new.self.current (g.K.Shelf.held c.add_row.new.shelf) (c.args.place + 1) c.self.inside.count refl (last ∙ sym many) (ok _ rows))
+    let rows =
+    subst (λ (k : Stream). HasRows (g.K.Shelf.held c.args.shelf.now) k (group_of x.count c.args.group w.0)) (sym f)
+    (open-has x w.0 c.args.group c.args.place _ w.1 w.2 c.in-Some.file is) in
+    on-ok c.add_row.result c.add_row.ensures.ok (λ ok last. ended-by (ltb (c.args.place + 1) c.self.inside.count) c.in-Some.file _ c.add_row.new.self.current
+    (g.K.Shelf.held c.add_row.new.shelf) (c.args.place + 1) c.self.inside.count refl (last ∙ sym many) (ok _ rows))
 
 pub returns-in_ok-file-in-None-clause-ended : goal.returns-in_ok-file-in-None-clause-ended
 returns-in_ok-file-in-None-clause-ended g c =
     let x = c.args.self.now in
     let many : c.self.inside.count ≡ x.count = search rules in
-    on-ok c.add_row-in-None.result c.add_row-in-None.ensures.ok (λ ok last. ended-by (ltb (c.args.place + 1) c.self.inside.count) c.in_ok-file-in-None.file _ c.add_row-in-None.new.self.current (g.K.Shelf.held c.add_row-in-None.new.shelf) (c.args.place + 1) c.self.inside.count refl (last ∙ sym many) (ok [] c.in_ok-file-in-None.ensures.rows))
+    on-ok c.add_row-in-None.result c.add_row-in-None.ensures.ok
+    (λ ok last. ended-by (ltb (c.args.place + 1) c.self.inside.count) c.in_ok-file-in-None.file _ c.add_row-in-None.new.self.current
+    (g.K.Shelf.held c.add_row-in-None.new.shelf) (c.args.place + 1) c.self.inside.count refl (last ∙ sym many) (ok [] c.in_ok-file-in-None.ensures.rows))

@@ -14,14 +14,18 @@ pub end-requires-clause-written : goal.end-requires-clause-written
 end-requires-clause-written g c =
     let x = c.index_mut.result.now in
     let xs = c.args.self.now in
-    let at : slice_get xs c.args.at ≡ Some x = slice_get_read xs (length xs) c.args.at x refl c.requires.at (subst (λ (zs : List NodeFile). x ≡ get_or zs c.args.at x) c.self.view_is c.index_mut.ensures.value) in
+    let at : slice_get xs c.args.at ≡ Some x =
+    slice_get_read xs (length xs) c.args.at x refl c.requires.at
+    (subst (λ (zs : List NodeFile). x ≡ get_or zs c.args.at x) c.self.view_is c.index_mut.ensures.value) in
     c.requires.written x at
 
 pub end-requires-clause-filled : goal.end-requires-clause-filled
 end-requires-clause-filled g c =
     let x = c.index_mut.result.now in
     let xs = c.args.self.now in
-    let at : slice_get xs c.args.at ≡ Some x = slice_get_read xs (length xs) c.args.at x refl c.requires.at (subst (λ (zs : List NodeFile). x ≡ get_or zs c.args.at x) c.self.view_is c.index_mut.ensures.value) in
+    let at : slice_get xs c.args.at ≡ Some x =
+    slice_get_read xs (length xs) c.args.at x refl c.requires.at
+    (subst (λ (zs : List NodeFile). x ≡ get_or zs c.args.at x) c.self.view_is c.index_mut.ensures.value) in
     c.requires.filled x at
 
 pub invariant_of-self : goal.invariant_of-self
@@ -32,14 +36,17 @@ invariant_of-self g c =
     let at : slice_get xs c.args.at ≡ Some x = slice_get_read xs (length xs) c.args.at x refl within c.index_mut.ensures.value in
     subst (λ (y : NodeFile). AreApart (set xs c.args.at y)) (sym c.end.ensures.node) (apart-kept xs c.args.at x None at c.self.invariant)
 
-made : (xs ys : List NodeFile) (k : ℕ) (y z x : NodeFile) → slice_get xs k ≡ Some z → slice_get xs k ≡ Some x → y ≡ closed z → ys ≡ set xs k y → ys ≡ set xs k (closed x)
+made : (xs ys : List NodeFile) (k : ℕ) (y z x : NodeFile) → slice_get xs k ≡ Some z → slice_get xs k ≡ Some x → y ≡ closed z
+    → ys ≡ set xs k y → ys ≡ set xs k (closed x)
 made xs ys k y z x at is node put = put ∙ ap (set xs k) (node ∙ ap closed (same_Some z x (sym at ∙ is)))
 
 pub returns-clause-nodes : goal.returns-clause-nodes
 returns-clause-nodes g c =
     let z = c.index_mut.result.now in
     let xs = c.args.self.now in
-    let at : slice_get xs c.args.at ≡ Some z = slice_get_read xs (length xs) c.args.at z refl c.requires.at (subst (λ (zs : List NodeFile). z ≡ get_or zs c.args.at z) c.self.view_is c.index_mut.ensures.value) in
+    let at : slice_get xs c.args.at ≡ Some z =
+    slice_get_read xs (length xs) c.args.at z refl c.requires.at
+    (subst (λ (zs : List NodeFile). z ≡ get_or zs c.args.at z) c.self.view_is c.index_mut.ensures.value) in
     λ x is. made xs _ c.args.at c.end.new.self z x at is c.end.ensures.node (ap (λ (zs : List NodeFile). set zs c.args.at c.end.new.self) c.self.view_is)
 
 pub returns-clause-ok : goal.returns-clause-ok
@@ -48,7 +55,9 @@ returns-clause-ok g c =
     let xs = c.args.self.now in
     let t = g.K.Shelf.held c.args.shelf.now in
     let u = g.K.Shelf.held c.end.new.shelf in
-    let at : slice_get xs c.args.at ≡ Some z = slice_get_read xs (length xs) c.args.at z refl c.requires.at (subst (λ (zs : List NodeFile). z ≡ get_or zs c.args.at z) c.self.view_is c.index_mut.ensures.value) in
+    let at : slice_get xs c.args.at ≡ Some z =
+    slice_get_read xs (length xs) c.args.at z refl c.requires.at
+    (subst (λ (zs : List NodeFile). z ≡ get_or zs c.args.at z) c.self.view_is c.index_mut.ensures.value) in
     on-ok c.end.result c.end.ensures.ok (λ ok before written x is here stand.
     let same : z ≡ x = same_Some z x (sym at ∙ is) in
     let ys = made xs _ c.args.at c.end.new.self z x at is c.end.ensures.node (ap (λ (zs : List NodeFile). set zs c.args.at c.end.new.self) c.self.view_is) in
@@ -56,7 +65,8 @@ returns-clause-ok g c =
     let some : 1 ≤ x.count = subst (λ (w : NodeFile). 1 ≤ w.count) same c.end.ensures.some in
     subst (λ (zs : List NodeFile). AllStand before zs written u) (sym ys)
     (one-ended before xs written c.args.at x is (subst AreApart c.self.view_is c.self.invariant) some t u stand here
-    (subst (λ (w : NodeFile). (arrays : List Array) → AreWritten w arrays t → IsChangedAt t (name_of w (length arrays / w.count)) u) same c.end.ensures.changed (written x.node) here)
+    (subst (λ (w : NodeFile). (arrays : List Array) → AreWritten w arrays t → IsChangedAt t (name_of w (length arrays / w.count)) u) same
+    c.end.ensures.changed (written x.node) here)
     (subst (λ (w : NodeFile). IsFilled w.current) same (c.requires.filled z at))
     (subst (λ (w : NodeFile). w.current ≡ None → u ≡ t) same c.end.ensures.still)
     (subst (λ (w : NodeFile). (arrays : List Array) → length arrays < 2 ^ 64 → AreWritten w arrays t → AreEnded w arrays u) same ok (written x.node) few here)))
@@ -67,7 +77,9 @@ returns-clause-err g c =
     let xs = c.args.self.now in
     let t = g.K.Shelf.held c.args.shelf.now in
     let u = g.K.Shelf.held c.end.new.shelf in
-    let at : slice_get xs c.args.at ≡ Some z = slice_get_read xs (length xs) c.args.at z refl c.requires.at (subst (λ (zs : List NodeFile). z ≡ get_or zs c.args.at z) c.self.view_is c.index_mut.ensures.value) in
+    let at : slice_get xs c.args.at ≡ Some z =
+    slice_get_read xs (length xs) c.args.at z refl c.requires.at
+    (subst (λ (zs : List NodeFile). z ≡ get_or zs c.args.at z) c.self.view_is c.index_mut.ensures.value) in
     on-err c.end.result c.end.ensures.err (λ err before written x is here stand.
     let same : z ≡ x = same_Some z x (sym at ∙ is) in
     let ys = made xs _ c.args.at c.end.new.self z x at is c.end.ensures.node (ap (λ (zs : List NodeFile). set zs c.args.at c.end.new.self) c.self.view_is) in
@@ -75,9 +87,11 @@ returns-clause-err g c =
     let some : 1 ≤ x.count = subst (λ (w : NodeFile). 1 ≤ w.count) same c.end.ensures.some in
     subst (λ (zs : List NodeFile). OneEndStops before x zs written t u) (sym ys)
     (one-stops before xs written c.args.at x is (subst AreApart c.self.view_is c.self.invariant) some t u stand here
-    (subst (λ (w : NodeFile). (arrays : List Array) → AreWritten w arrays t → IsChangedAt t (name_of w (length arrays / w.count)) u) same c.end.ensures.changed (written x.node) here)
+    (subst (λ (w : NodeFile). (arrays : List Array) → AreWritten w arrays t → IsChangedAt t (name_of w (length arrays / w.count)) u) same
+    c.end.ensures.changed (written x.node) here)
     (subst (λ (w : NodeFile). IsFilled w.current) same (c.requires.filled z at))
-    (subst (λ (w : NodeFile). (arrays : List Array) → length arrays < 2 ^ 64 → AreWritten w arrays t → EndStops w arrays t u) same err (written x.node) few here)))
+    (subst (λ (w : NodeFile). (arrays : List Array) → length arrays < 2 ^ 64 → AreWritten w arrays t → EndStops w arrays t u) same err
+    (written x.node) few here)))
 
 pub returns-clause-others : goal.returns-clause-others
 returns-clause-others g c =
@@ -85,9 +99,12 @@ returns-clause-others g c =
     let xs = c.args.self.now in
     let t = g.K.Shelf.held c.args.shelf.now in
     let u = g.K.Shelf.held c.end.new.shelf in
-    let at : slice_get xs c.args.at ≡ Some z = slice_get_read xs (length xs) c.args.at z refl c.requires.at (subst (λ (zs : List NodeFile). z ≡ get_or zs c.args.at z) c.self.view_is c.index_mut.ensures.value) in
+    let at : slice_get xs c.args.at ≡ Some z =
+    slice_get_read xs (length xs) c.args.at z refl c.requires.at
+    (subst (λ (zs : List NodeFile). z ≡ get_or zs c.args.at z) c.self.view_is c.index_mut.ensures.value) in
     λ before written x is here stand.
     let same : z ≡ x = same_Some z x (sym at ∙ is) in
     let some : 1 ≤ x.count = subst (λ (w : NodeFile). 1 ≤ w.count) same c.end.ensures.some in
     others-kept before xs written c.args.at x is (subst AreApart c.self.view_is c.self.invariant) some t u stand here
-    (subst (λ (w : NodeFile). (arrays : List Array) → AreWritten w arrays t → IsChangedAt t (name_of w (length arrays / w.count)) u) same c.end.ensures.changed (written x.node) here)
+    (subst (λ (w : NodeFile). (arrays : List Array) → AreWritten w arrays t → IsChangedAt t (name_of w (length arrays / w.count)) u) same
+    c.end.ensures.changed (written x.node) here)

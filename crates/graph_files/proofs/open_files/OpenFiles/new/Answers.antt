@@ -15,7 +15,9 @@ new-requires-clause-form c =
     let n = c.rule-item.result in
     let place = c.loop-place.place in
     let next : place + 1 ≡ suc place = omega arith in
-    let at : slice_get nodes place ≡ Some n = slice_get_read nodes (length nodes) place n refl (subst (λ (ns : List NodeRule). place < length ns) c.as_slice-rule-items.ensures c.loop-place-test.true) (subst (λ (ns : List NodeRule). n ≡ get_or ns place n) c.as_slice-rule-items.ensures c.rule-item.is) in
+    let at : slice_get nodes place ≡ Some n =
+    slice_get_read nodes (length nodes) place n refl (subst (λ (ns : List NodeRule). place < length ns) c.as_slice-rule-items.ensures c.loop-place-test.true)
+    (subst (λ (ns : List NodeRule). n ≡ get_or ns place n) c.as_slice-rule-items.ensures c.rule-item.is) in
     sym (form_at-rule c.args.plan.now.graph (place + 1) n c.in-File.file (sym (ap (rule_at nodes) next ∙ at)) c.in-File.is)
 
 pub new-requires-clause-within : goal.new-requires-clause-within
@@ -24,14 +26,19 @@ new-requires-clause-within c =
     let n = c.rule-item.result in
     let place = c.loop-place.place in
     let next : place + 1 ≡ suc place = omega arith in
-    let at : slice_get nodes place ≡ Some n = slice_get_read nodes (length nodes) place n refl (subst (λ (ns : List NodeRule). place < length ns) c.as_slice-rule-items.ensures c.loop-place-test.true) (subst (λ (ns : List NodeRule). n ≡ get_or ns place n) c.as_slice-rule-items.ensures c.rule-item.is) in
+    let at : slice_get nodes place ≡ Some n =
+    slice_get_read nodes (length nodes) place n refl (subst (λ (ns : List NodeRule). place < length ns) c.as_slice-rule-items.ensures c.loop-place-test.true)
+    (subst (λ (ns : List NodeRule). n ≡ get_or ns place n) c.as_slice-rule-items.ensures c.rule-item.is) in
     longest_fits c.args.plan.now.graph c.args.stack.now (place + 1) n c.in-File.file c.requires.within (sym (ap (rule_at nodes) next ∙ at)) c.in-File.is
 
 pub invariant_of-result : goal.invariant_of-result
 invariant_of-result c =
     let nodes = c.args.plan.now.graph.nodes in
     let files = file_nodes c.args.plan.now.graph c.args.stack.now c.args.prefix.now in
-    let none_left : drop c.loop-place.place nodes ≡ [] = drop_all c.loop-place.place nodes (subst (λ (ns : List NodeRule). length ns ≤ c.loop-place.place) c.as_slice-rule-items.ensures c.loop-place-test.false) in
+    let none_left : drop c.loop-place.place nodes ≡ [] =
+    drop_all c.loop-place.place nodes (subst (λ (ns : List NodeRule). length ns ≤ c.loop-place.place) c.as_slice-rule-items.ensures c.loop-place-test.false) in
     let all : c.loop-place.nodes.items ≡ files =
-    sym (append-nil c.loop-place.nodes.items) ∙ ap (λ (ns : List NodeRule). c.loop-place.nodes.items ++ nodes_from c.args.plan.now.graph c.args.stack.now c.args.prefix.now (c.loop-place.place + 1) ns) (sym none_left) ∙ c.loop-place.invariant in
+    sym (append-nil c.loop-place.nodes.items)
+    ∙ ap (λ (ns : List NodeRule). c.loop-place.nodes.items ++ nodes_from c.args.plan.now.graph c.args.stack.now c.args.prefix.now (c.loop-place.place + 1) ns)
+    (sym none_left) ∙ c.loop-place.invariant in
     subst AreApart (sym all) (file_nodes-apart c.args.plan.now.graph c.args.stack.now c.args.prefix.now c.requires.graph)
