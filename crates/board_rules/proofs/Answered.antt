@@ -129,9 +129,11 @@ put-has : {F : Type 0} (name_of : F → FrameName) (s : Setting) (old : BoardSta
     → (a : Result (Unit {0}) (NotYours F)) × (new : BoardState) × PutGives name_of s old r done a new
 put-has name_of s old r done =
     elim (cases_Bool (is_job_on done.node (name_of done.input) (hand r (past old)))) [
-      | inl yes_ ↦
-          (Ok tt, moved s (plain (Put r done.node (result_name s done.node (name_of done.input)).maker (name_of done.input).index done.fired)) old,
-          (yes_, refl))
+      | inl yes_ ↦ (
+        Ok tt,
+        moved s (plain (Put r done.node (result_name s done.node (name_of done.input)).maker (name_of done.input).index done.fired)) old,
+        (yes_, refl),
+      )
       | inr no_ ↦ (Err (record { kept = hand_name (hand r (past old)); given = at done.node (name_of done.input); back = done }), old, (no_, refl, refl))
     ]
 

@@ -220,8 +220,13 @@ load-facts {B} s r k P role none turn =
     let more : next_index P < length s.ids = leb-false (length s.ids) (next_index P) m.more in
     let room : s.wait ≡ true → list_all (has_room s P) (children s 0) ≡ true =
     λ w. not-false _ (and_right s.wait (not (list_all (has_room s P) (children s 0))) w m.room) in
-    record { acts = acts-from s r P role m.stays m.free; unloaded = m.unloaded; in_turn = turn;
-    some = subst (λ (i : ℕ). i < length s.ids) (sym turn) more; room = room }
+    record {
+      acts = acts-from s r P role m.stays m.free;
+      unloaded = m.unloaded;
+      in_turn = turn;
+      some = subst (λ (i : ℕ). i < length s.ids) (sym turn) more;
+      room = room;
+    }
 
 -- a block that isn't fresh alone is regrown
 stale-from : (x f : Bool) → (x && f) ≡ false → x ≡ true → f ≡ false
@@ -310,8 +315,12 @@ take-facts : {F B O : Type 0} (s : Setting) (r v : ℕ) (a : FrameName) (P : Pas
     → is_next a (queued v P) ≡ true → TakeFacts s r v a P
 take-facts {F} {B} {O} s r v a P role none next =
     let m = may_take {F = F} {B = B} {O = O} s r v P none in
-    record { acts = acts-from s r P role m.stays m.free; unsettled = m.unsettled; front = first_of a (queued v P) next;
-    room = leb-false (node s v).threads (jobs v P) m.idle }
+    record {
+      acts = acts-from s r P role m.stays m.free;
+      unsettled = m.unsettled;
+      front = first_of a (queued v P) next;
+      room = leb-false (node s v).threads (jobs v P) m.idle;
+    }
 
 -- what the pool was asked for a take
 asked-by : (maker : Bool) (x : Answer) (o : Option Answer) → (if maker then Some x else None) ≡ o → ((g : Answer) → o ≡ Some g
@@ -408,7 +417,7 @@ result_in s r v a (Some (Take q w m k)) up fit h =
     inl (
       subst (λ (j : ℕ). is_maker s j ≡ false) here (not-true (is_maker s w) (fit (Take q w m k) refl)),
       ap (λ (i : ℕ). f i w (frame m k)) (eqb-true q r (up (Take q w m k) refl))
-      ∙ (ap (λ (j : ℕ). f r j (frame m k)) here ∙ ap (λ (b : FrameName). f r v b) (sym (same-true a (frame m k) p.1))),
+          ∙ (ap (λ (j : ℕ). f r j (frame m k)) here ∙ ap (λ (b : FrameName). f r v b) (sym (same-true a (frame m k) p.1))),
     )
 result_in s r v a (Some (TakeBlock f x q w m k b n g)) up fit h =
     let p = and_parts (eqb w v) (same a (frame m k)) h in
@@ -417,8 +426,15 @@ result_in s r v a (Some (TakeBlock f x q w m k b n g)) up fit h =
     let t : ℕ → ℕ → ℕ → Option Entry = λ i j l. Some (TakeBlock f x i j m l b n g) in
     inr (
       subst (λ (j : ℕ). is_maker s j ≡ true) here (fit (TakeBlock f x q w m k b n g) refl),
-      (m, b, n, f, g, x,
-      ap (λ (i : ℕ). t i w k) (eqb-true q r (up (TakeBlock f x q w m k b n g) refl)) ∙ (ap (λ (j : ℕ). t r j k) here ∙ ap (λ (l : ℕ). t r v l) index)),
+      (
+        m,
+        b,
+        n,
+        f,
+        g,
+        x,
+        ap (λ (i : ℕ). t i w k) (eqb-true q r (up (TakeBlock f x q w m k b n g) refl)) ∙ (ap (λ (j : ℕ). t r j k) here ∙ ap (λ (l : ℕ). t r v l) index),
+      ),
     )
 result_in s r v a (Some _) up fit h = absurd (false≢true h)
 

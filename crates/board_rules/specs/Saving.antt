@@ -81,6 +81,9 @@ SavedGives name_of s old r f (Ok _) new =
     × (new ≡ moved s (plain (entry.Saved r (hand_node (hand r (past old))) (name_of f).maker (name_of f).index)) old)
 SavedGives name_of s old r f (Err e) new =
     (is_piece_on (name_of f) (hand r (past old)) ≡ false)
-    × (e ≡ record { kept = hand_name (hand r (past old)); given = at (hand_node (hand r (past old))) (name_of f);
-    back = just (hand_node (hand r (past old))) f })
+    × (e ≡ record {
+      kept = hand_name (hand r (past old));
+      given = at (hand_node (hand r (past old))) (name_of f);
+      back = just (hand_node (hand r (past old))) f;
+    })
     × (new ≡ old)

@@ -19,8 +19,27 @@ use Rattle.board_rules.specs.WorkedCalls.{sorting, all_at_once}
 -- a measure that tells its id alone
 abbrev pub of_id : ℤ → Measure
 of_id id =
-    record { id = id; n = 0; min = pos 0; min_at = 0; max = pos 0; max_at = 0; total = pos 0; squares = 0; border = pos 0; border_n = 0; over = 0; m0 = pos 0;
-    mx = pos 0; my = pos 0; below = 0; bins = []; above = 0; x = []; y = [] }
+    record {
+      id = id;
+      n = 0;
+      min = pos 0;
+      min_at = 0;
+      max = pos 0;
+      max_at = 0;
+      total = pos 0;
+      squares = 0;
+      border = pos 0;
+      border_n = 0;
+      over = 0;
+      m0 = pos 0;
+      mx = pos 0;
+      my = pos 0;
+      below = 0;
+      bins = [];
+      above = 0;
+      x = [];
+      y = [];
+    }
 
 -- of the arrays put in the order 3, 1, 2
 in_the_order_of_emission : measured (λ v a. Some (of_id (id_at sorting a.index))) sorting (past all_at_once)

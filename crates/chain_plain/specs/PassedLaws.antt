@@ -96,8 +96,11 @@ rule_outputs-few (Some n) arrays ks = kind_outputs-few n.kind arrays ks
 passed_within-few : (nodes : List NodeRule) (arrays : List Array) (steps v : ℕ) → length (passed_within nodes arrays steps v) ≤ length arrays
 passed_within-few nodes arrays zero v = omega (arith, length-range_with_len 0 (length arrays))
 passed_within-few nodes arrays (suc steps) v =
-    omega (arith, rule_outputs-few (rule_at nodes v) arrays (passed_within nodes arrays steps (input_of nodes v)),
-    passed_within-few nodes arrays steps (input_of nodes v))
+    omega (
+      arith,
+      rule_outputs-few (rule_at nodes v) arrays (passed_within nodes arrays steps (input_of nodes v)),
+      passed_within-few nodes arrays steps (input_of nodes v),
+    )
 
 -- what goes out of a node are at most as many as the stack has
 pub passed-few : (g : Graph) (s : StackValue) (v : ℕ) → length (passed g s v) ≤ length s.arrays

@@ -105,10 +105,12 @@ pub refused-gives : {F B : Type 0} (parts : F → Option Parts) (bytes_of : B �
     → new ≡ moved_at s tick (plain (LoadRefused r (next_index (past old)) (s.need 0) (held s (past old)))) old
     → LoadGives parts bytes_of s old r tick (load.Refused k h) new
 refused-gives parts bytes_of s old new r tick k h none given turn holds is =
-    load-gives parts bytes_of s old new r tick None pool.Refused (load.Refused k h) none given
-    (turn, holds,
-    is ∙ (ap (λ (i : ℕ). moved_at s tick (plain (LoadRefused r i (s.need 0) (held s (past old)))) old) (sym turn)
-    ∙ ap (λ (i : ℕ). moved_at s tick (plain (LoadRefused r k (s.need 0) i)) old) (sym holds)))
+    load-gives parts bytes_of s old new r tick None pool.Refused (load.Refused k h) none given (
+      turn,
+      holds,
+      is ∙ (ap (λ (i : ℕ). moved_at s tick (plain (LoadRefused r i (s.need 0) (held s (past old)))) old) (sym turn)
+          ∙ ap (λ (i : ℕ). moved_at s tick (plain (LoadRefused r k (s.need 0) i)) old) (sym holds)),
+    )
 
 pub refused-board : {F B : Type 0} (O : Type 0) (name_of : F → FrameName) (parts : F → Option Parts)
     (bytes_of : B → ℕ) (moves : MoveLaws O name_of parts bytes_of) (s : Setting) (w w' : Coursed) (t : List Kept) (r tick : ℕ) → IsBoard parts s w t

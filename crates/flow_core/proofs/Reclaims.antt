@@ -116,8 +116,13 @@ may-back : {F B O : Type 0} (name_of : F → FrameName) (parts : F → Option Pa
     (r : ℕ) (left : Left F B O) → TakesBack {F = F} {B = B} {O = O} name_of parts bytes_of s w t r left
     → MayTakeBack {F = F} {B = B} {O = O} name_of parts bytes_of s w.told t r left
 may-back {F} {B} {O} name_of parts bytes_of s w t r left i =
-    record { run = i.board.run; holds = i.board.holds; allowed = i.allowed; brings = i.brings;
-    legal = legal-of s (taken_back name_of s r left w.told) (back-history {F = F} {B = B} {O = O} name_of parts bytes_of s w t r left i) }
+    record {
+      run = i.board.run;
+      holds = i.board.holds;
+      allowed = i.allowed;
+      brings = i.brings;
+      legal = legal-of s (taken_back name_of s r left w.told) (back-history {F = F} {B = B} {O = O} name_of parts bytes_of s w t r left i);
+    }
 
 back-board : {F B O : Type 0} (name_of : F → FrameName) (parts : F → Option Parts) (bytes_of : B → ℕ) (s : Setting) (w w' : Coursed) (t t' : List Kept)
     (r : ℕ) (left : Left F B O) (lost : List ℕ) → TakesBack {F = F} {B = B} {O = O} name_of parts bytes_of s w t r left

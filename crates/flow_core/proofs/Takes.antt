@@ -170,9 +170,12 @@ made-gives {F} {B} O name_of parts bytes_of look laws s w t r v c b z f g x inpu
       refl,
       (i.next, look.one (kept_at t c) (name_of input) (parts input) i.part),
       i.size,
-      (x,
-      lent-regrown parts laws s w.told t v (s.need v) b z f g x (name_of input) c
-      (making O name_of parts bytes_of s w t r v c b z f g x input blank i) i.remade, is),
+      (
+        x,
+        lent-regrown parts laws s w.told t v (s.need v) b z f g x (name_of input) c
+            (making O name_of parts bytes_of s w t r v c b z f g x input blank i) i.remade,
+        is,
+      ),
     )
 
 made-history : {F B : Type 0} (O : Type 0) (name_of : F → FrameName) (parts : F → Option Parts) (bytes_of : B → ℕ) (look : LookLaws parts)
@@ -185,9 +188,12 @@ made-history {F} {B} O name_of parts bytes_of look laws s w t r v c b z f g x in
       refl,
       (i.next, look.one (kept_at t c) (name_of input) (parts input) i.part),
       i.size,
-      (x,
-      lent-regrown parts laws s w.told t v (s.need v) b z f g x (name_of input) c
-      (making O name_of parts bytes_of s w t r v c b z f g x input blank i) i.remade, refl),
+      (
+        x,
+        lent-regrown parts laws s w.told t v (s.need v) b z f g x (name_of input) c
+            (making O name_of parts bytes_of s w t r v c b z f g x input blank i) i.remade,
+        refl,
+      ),
     )
 
 pub made-board : {F B : Type 0} (O : Type 0) (name_of : F → FrameName) (parts : F → Option Parts) (bytes_of : B → ℕ) (look : LookLaws parts)
@@ -216,9 +222,10 @@ pub made-lends : {F B : Type 0} (O : Type 0) (name_of : F → FrameName) (parts 
 made-lends O name_of parts bytes_of look s w t r v c b z f g x input blank new i is =
     let e = lends (take_block r v (name_of input) b z f g x) (parts input) in
     let has = look.handed s w.told 0 r e (eq-eqb r r refl) in
-    let hold : hand r (past new) ≡ Some e.entry = ap (λ (u : BoardState). hand r (past u)) is ∙ has.0 in
-    (ap (lent_to r) is ∙ has.1,
-    (subst (λ n. s.need v ≤ n) (sym i.size) (enough s (past w.told) (s.need v) b z f g i.board.run.pooled i.granted), i.size ∙ sym (ap granted_size hold)))
+    let hold : hand r (past new) ≡ Some e.entry = ap (λ (u : BoardState). hand r (past u)) is ∙ has.0 in (
+      ap (lent_to r) is ∙ has.1,
+      (subst (λ n. s.need v ≤ n) (sym i.size) (enough s (past w.told) (s.need v) b z f g i.board.run.pooled i.granted), i.size ∙ sym (ap granted_size hold)),
+    )
 
 pub made-no_memory : {F B : Type 0} (O : Type 0) (name_of : F → FrameName) (parts : F → Option Parts)
     (bytes_of : B → ℕ) (s : Setting) (old new : BoardState) (r v b z : ℕ) (f : Bool) (g : ℕ) → take_refusal {F = F} {B = B} {O = O} s r v (past old) ≡ None
@@ -309,9 +316,11 @@ back-again parts look s told t now_ a c q l part back =
     let within = subst IsWithin (sym back.same_) l.within in
     let mine : IsPartOf (kept_at L c) a q = subst (λ (k : Kept). IsPartOf k a q) (sym back.same_) part in
     let again = look.lent_and_back L c a q back.place may within mine in
-    subst (λ (u : List Kept). (c < length u) × MayGiveBack (kept_at u c) q × HoldsBlocks parts s told (with_kept u c (united (kept_at u c) q))) (sym back.lent)
-    (omega (arith, back.place, kept-length L c (less_one (kept_at L c))), again.0,
-    subst (λ (u : List Kept). HoldsBlocks parts s told u) (sym again.1) back.holds)
+    subst (λ (u : List Kept). (c < length u) × MayGiveBack (kept_at u c) q × HoldsBlocks parts s told (with_kept u c (united (kept_at u c) q))) (sym back.lent) (
+      omega (arith, back.place, kept-length L c (less_one (kept_at L c))),
+      again.0,
+      subst (λ (u : List Kept). HoldsBlocks parts s told u) (sym again.1) back.holds,
+    )
 
 -- A DROP AT THE POOL
 pub dropped-gives : {F B : Type 0} (O : Type 0) (name_of : F → FrameName) (parts : F → Option Parts)

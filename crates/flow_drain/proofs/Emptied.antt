@@ -112,16 +112,23 @@ waits-owed s (SortDrop w m k ∷ P) v t nz sorted h c =
 waits-owed s (Tick u ∷ P) v t nz sorted h c =
     let a = owed-answered s (Tick u) P refl h in
     let other : out_of v t a.head ≡ false = ap (out_of v t) (answers-by_Tick s P u a.head a.answer).1 in
-    omega (arith, waits-owed s P v t nz sorted (and_parts _ _ h).0 c, head-other (out_of v t) (owed s P) a.head a.rest a.is other,
-    count-append (out_of v t) (calls_for s P (Tick u)) (drop 1 (owed s P)))
+    omega (
+      arith,
+      waits-owed s P v t nz sorted (and_parts _ _ h).0 c,
+      head-other (out_of v t) (owed s P) a.head a.rest a.is other,
+      count-append (out_of v t) (calls_for s P (Tick u)) (drop 1 (owed s P)),
+    )
 waits-owed s (Accept w m k ∷ P) v t nz sorted h c =
     let a = owed-answered s (Accept w m k) P refl h in
     let other : out_of v t a.head ≡ false = ap (out_of v t) (answers-by_Accept s P w m k a.head a.answer) in
     omega (arith, waits-owed s P v t nz sorted (and_parts _ _ h).0 c, head-other (out_of v t) (owed s P) a.head a.rest a.is other)
 waits-owed s (Full w m k ∷ P) v t nz sorted h c =
     let a = owed-answered s (Full w m k) P refl h in
-    omega (arith, waits-owed s P v t nz sorted (and_parts _ _ h).0 c,
-    head-other (out_of v t) (owed s P) a.head a.rest a.is (full-head s P w m k v t a.head a.answer))
+    omega (
+      arith,
+      waits-owed s P v t nz sorted (and_parts _ _ h).0 c,
+      head-other (out_of v t) (owed s P) a.head a.rest a.is (full-head s P w m k v t a.head a.answer),
+    )
 waits-owed s (Load r k b n f g x ∷ P) v t nz sorted h c =
     omega (arith, after-first s (Load r k b n f g x) P v t _ (λ d. refl) h (waits-owed s P v t nz sorted (and_parts _ _ h).0 c))
 waits-owed s (LoadRefused r k n z ∷ P) v t nz sorted h c =
@@ -200,8 +207,10 @@ looks-come : (s : Setting) (P : Past) (v : ℕ) (us : List ℕ) → count (comes
 looks-come s P v [] = refl
 looks-come s P v (u ∷ us) =
     let one : count (comes_to v) (cond (is_sorted s u) (look s u P) []) ≡ 0 =
-    elim (is_sorted s u) as (λ b. count (comes_to v) (cond b (look s u P) []) ≡ 0) [ true ↦ none-come u v (look s u P) (goes_out-at s u _ _ _)
-    | false ↦ refl ] in
+    elim (is_sorted s u) as (λ b. count (comes_to v) (cond b (look s u P) []) ≡ 0) [
+      | true ↦ none-come u v (look s u P) (goes_out-at s u _ _ _)
+      | false ↦ refl
+    ] in
     omega (arith, count-append (comes_to v) (cond (is_sorted s u) (look s u P) []) (looks s P us), one, looks-come s P v us)
 
 offers-come : (v : ℕ) (a : FrameName) (cs : List ℕ) → count (comes_to v) (map (offer a) cs) ≡ count (is_number v) cs
@@ -215,8 +224,13 @@ over-with : (s : Setting) (e : Entry) (P : Past) (u v : ℕ) → IsOver s P u v 
 over-with s e P u v i out come =
     record {
       emissions =
-          omega (arith, i.emissions, out, count-append (out_of u (λ a. true)) (calls_for s P e) (drop 1 (owed s P)),
-          count-drop (out_of u (λ a. true)) (owed s P));
+          omega (
+            arith,
+            i.emissions,
+            out,
+            count-append (out_of u (λ a. true)) (calls_for s P e) (drop 1 (owed s P)),
+            count-drop (out_of u (λ a. true)) (owed s P),
+          );
       offers = omega (arith, i.offers, come, count-append (comes_to v) (calls_for s P e) (drop 1 (owed s P)), count-drop (comes_to v) (owed s P));
     }
 

@@ -270,7 +270,7 @@ module _ (g : Graph) (stack : StackValue) (old : BoardState) (r v : ℕ) (is : r
   may-put = λ this. (
     d.result,
     ap parts_of d.given
-    ∙ (lent-by (lent_to (last_role (run_setting g stack)) old) (Some job.hand) input blank job.held ∙ ap (λ (i : ℕ). lent_to i old) (sym is)),
+        ∙ (lent-by (lent_to (last_role (run_setting g stack)) old) (Some job.hand) input blank job.held ∙ ap (λ (i : ℕ). lent_to i old) (sym is)),
     subst (λ (o : Option Entry). OfSome (λ (f : Sealed). IsWholeOf (granted_size o) (parts_of f)) done.made) (sym job-hand)
         (granted-by (lent_to (last_role (run_setting g stack)) old) (Some job.hand) input blank done.made job.held d.whole),
   )
@@ -308,8 +308,10 @@ settled-by s r v old new false c = inr c
 pub settle-idle : (s : Setting) (r v : ℕ) (old new : BoardState) (a : Settled) → r ≡ last_role s → is_node s v ≡ true → IsIdle s old
     → SettleGives s old r v a new → IsIdle s new
 settle-idle s r v old new settled.NotYet is here idle c =
-    record { legal = settle-by s old new r v settled.NotYet idle.legal (omega (arith, is)) here c;
-    free = ap (λ (b : BoardState). hands (past b)) c.1 ∙ idle.free }
+    record {
+      legal = settle-by s old new r v settled.NotYet idle.legal (omega (arith, is)) here c;
+      free = ap (λ (b : BoardState). hands (past b)) c.1 ∙ idle.free;
+    }
 settle-idle s r v old new settled.Done is here idle c =
     record {
       legal = settle-by s old new r v settled.Done idle.legal (omega (arith, is)) here c;

@@ -54,9 +54,12 @@ emits-listed v (_ ∷ P) = emits-listed v P
 
 pub puts-short : (s : Setting) (P : Past) (v : ℕ) → is_legal s P ≡ true → length (puts v P) ≤ length s.ids
 puts-short s P v h =
-    omega (arith, puts-listed v P,
-    one_in_buckets (puts_there v) index_of (puts_at v) (puts-buckets v) (length s.ids) P
-    (λ k. omega (arith, puts-taken s P v k h, takes-accepted s P v k h, arrives-le v k P, arrives-few s P v k h)))
+    omega (
+      arith,
+      puts-listed v P,
+      one_in_buckets (puts_there v) index_of (puts_at v) (puts-buckets v) (length s.ids) P
+          (λ k. omega (arith, puts-taken s P v k h, takes-accepted s P v k h, arrives-le v k P, arrives-few s P v k h)),
+    )
 
 pub emits-short : (s : Setting) (P : Past) (v : ℕ) → is_legal s P ≡ true → length (emitted v P) ≤ length s.ids
 emits-short s P v h =

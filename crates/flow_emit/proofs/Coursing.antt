@@ -158,11 +158,15 @@ node-is measure s k v c n is i at = subst (λ u. IsNode measure s u (log_of k) n
 pub listed-some : (v : ℕ) (measure : Measuring) (x : Measure) (xs : List FrameName) → length (flat_map (λ a. listed_one (measure v a)) xs) ≤ length xs
 listed-some v measure x [] = omega arith
 listed-some v measure x (a ∷ xs) =
-    omega (arith, length-append (listed_one (measure v a)) (flat_map (λ b. listed_one (measure v b)) xs),
-    one-listed (measure v a), listed-some v measure x xs) where
-  one-listed : (o : Option Measure) → length (listed_one o) ≤ 1
-  one-listed None = omega arith
-  one-listed (Some y) = omega arith
+    omega (
+      arith,
+      length-append (listed_one (measure v a)) (flat_map (λ b. listed_one (measure v b)) xs),
+      one-listed (measure v a),
+      listed-some v measure x xs,
+    ) where
+      one-listed : (o : Option Measure) → length (listed_one o) ≤ 1
+      one-listed None = omega arith
+      one-listed (Some y) = omega arith
 
 -- a node that measures has room for one more
 pub room-to-measure : (measure : Measuring) (s : Setting) (k : Parts) (v c m j : ℕ) (why : Why) (n : NodeState) (x : Measure) → suc c ≡ v → IsCourse measure s k
@@ -261,9 +265,12 @@ closed measure s k r i legal =
 pub accepted : (measure : Measuring) (s : Setting) (k : Parts) (c m j b : ℕ) (n : NodeState) → IsCourse measure s k
     → is_legal s (Accept (suc c) m j ∷ log_of k) ≡ true → slice_get k.nodes c ≡ Some n → has_room s (log_of k) (suc c) ≡ true
     → ((v : ℕ) → deals s v ≡ true → has_just_emitted v (log_of k) ≡ false) → block_of (log_of k) (frame m j) ≡ b ∷ [] → 0 < ledger.refs k.pool b
-    → IsCourse measure s (record k { log = record k.log { told = plain (Accept (suc c) m j) ∷ k.log.told };
-    nodes = set k.nodes c (record n { inbox = with_last n.inbox (frame m j) }); pool = with_refs b (ledger.refs k.pool b + 1) k.pool;
-    facts = record k.facts { came = k.facts.came + 1 } })
+    → IsCourse measure s (record k {
+      log = record k.log { told = plain (Accept (suc c) m j) ∷ k.log.told };
+      nodes = set k.nodes c (record n { inbox = with_last n.inbox (frame m j) });
+      pool = with_refs b (ledger.refs k.pool b + 1) k.pool;
+      facts = record k.facts { came = k.facts.came + 1 };
+    })
 accepted measure s k c m j b n i legal at room together has some =
     let P = log_of k in
     record {
@@ -287,8 +294,10 @@ accepted measure s k c m j b n i legal at room together has some =
 
 pub filled : (measure : Measuring) (s : Setting) (k : Parts) (v m j : ℕ) → IsCourse measure s k → is_legal s (Full v m j ∷ log_of k) ≡ true
     → ((u : ℕ) → deals s u ≡ true → has_just_emitted u (log_of k) ≡ false)
-    → IsCourse measure s (record k { log = record k.log { told = plain (Full v m j) ∷ k.log.told };
-    facts = record k.facts { came = k.facts.came + 1; dropped = k.facts.dropped + 1 } })
+    → IsCourse measure s (record k {
+      log = record k.log { told = plain (Full v m j) ∷ k.log.told };
+      facts = record k.facts { came = k.facts.came + 1; dropped = k.facts.dropped + 1 };
+    })
 filled measure s k v m j i legal together =
     let P = log_of k in
     record {
@@ -308,8 +317,11 @@ filled measure s k v m j i legal together =
 
 pub left_by : (measure : Measuring) (s : Setting) (k : Parts) (r : ℕ) (x : RoleState) → IsCourse measure s k
     → is_legal s (Leave r ∷ log_of k) ≡ true → slice_get k.roles r ≡ Some x
-    → IsCourse measure s (record k { log = record k.log { told = plain (Leave r) ∷ k.log.told }; roles = set k.roles r (record x { has_left = true });
-    facts = record k.facts { left = true } })
+    → IsCourse measure s (record k {
+      log = record k.log { told = plain (Leave r) ∷ k.log.told };
+      roles = set k.roles r (record x { has_left = true });
+      facts = record k.facts { left = true };
+    })
 left_by measure s k r x i legal at =
     let P = log_of k in
     record {
@@ -329,8 +341,12 @@ left_by measure s k r x i legal at =
 
 pub issued : (measure : Measuring) (s : Setting) (k : Parts) (r j : ℕ) (x : RoleState) (q b n : ℕ) (f : Bool) (g : ℕ) (w : Bool) → IsCourse measure s k
     → is_legal s (Issue r j ∷ log_of k) ≡ true → slice_get k.roles r ≡ Some x → k.transit ≡ [] → hand r (log_of k) ≡ Some (Load q j b n f g w)
-    → IsCourse measure s (record k { log = record k.log { told = plain (Issue r j) ∷ k.log.told }; roles = set k.roles r (record x { hand = Free });
-    facts = record k.facts { loaded = false }; transit = frame 0 j ∷ [] })
+    → IsCourse measure s (record k {
+      log = record k.log { told = plain (Issue r j) ∷ k.log.told };
+      roles = set k.roles r (record x { hand = Free });
+      facts = record k.facts { loaded = false };
+      transit = frame 0 j ∷ [];
+    })
 issued measure s k r j x q b n f g w i legal at empty held =
     let P = log_of k in
     record {
@@ -373,8 +389,10 @@ emitted_by_driver measure s k m j why i legal =
 pub emitted_at_once : (measure : Measuring) (s : Setting) (k : Parts) (c m j : ℕ) (why : Why) (n y : NodeState) → IsCourse measure s k
     → is_legal s (Emit (suc c) m j why ∷ log_of k) ≡ true → slice_get k.nodes c ≡ Some n → is_sorted s (suc c) ≡ false → y.list ≡ n.list
     → y.measures.items ≡ n.measures.items ++ listed_one (measure (suc c) (frame m j)) → HasRoomToMeasure measure s (suc c) y
-    → IsCourse measure s (record k { log = record k.log { told = plain (Emit (suc c) m j why) ∷ k.log.told };
-    nodes = set k.nodes c (record n { list = y.list; measures = y.measures }) })
+    → IsCourse measure s (record k {
+      log = record k.log { told = plain (Emit (suc c) m j why) ∷ k.log.told };
+      nodes = set k.nodes c (record n { list = y.list; measures = y.measures });
+    })
 emitted_at_once measure s k c m j why n y i legal at plain_one same items room =
     let P = log_of k in
     record {
@@ -403,8 +421,11 @@ pub emitted_more : (measure : Measuring) (s : Setting) (k : Parts) (c m j : ℕ)
     → HasBlock (log_of k) (frame m j) → y.list.size ≡ n.list.size → y.list.last ≡ id_at s j
     → y.list.waiting ≡ list_of measure s (suc c) (Emit (suc c) m j why ∷ log_of k)
     → y.measures.items ≡ n.measures.items ++ listed_one (measure (suc c) (frame m j)) → HasRoomToMeasure measure s (suc c) y
-    → IsCourse measure s (record k { log = record k.log { told = plain (Emit (suc c) m j why) ∷ k.log.told };
-    nodes = set k.nodes c (record n { list = y.list; measures = y.measures }); transit = frame m j ∷ k.transit })
+    → IsCourse measure s (record k {
+      log = record k.log { told = plain (Emit (suc c) m j why) ∷ k.log.told };
+      nodes = set k.nodes c (record n { list = y.list; measures = y.measures });
+      transit = frame m j ∷ k.transit;
+    })
 emitted_more measure s k c m j why n y i legal at sorted few has size last waits items room =
     let P = log_of k in
     record {
@@ -431,17 +452,27 @@ pub emitted_from_list : (measure : Measuring) (s : Setting) (k : Parts) (c m j :
     → HasBlock (log_of k) (frame m j) → y.list.size ≡ n.list.size → y.list.last ≡ id_at s j
     → y.list.waiting ≡ list_of measure s (suc c) (Emit (suc c) m j why ∷ log_of k)
     → y.measures.items ≡ n.measures.items ++ listed_one (measure (suc c) (frame m j)) → HasRoomToMeasure measure s (suc c) y
-    → IsCourse measure s (record k { log = record k.log { told = plain (Emit (suc c) m j why) ∷ k.log.told };
-    nodes = set k.nodes c (record n { list = y.list; measures = y.measures }); transit = frame m j ∷ [] })
+    → IsCourse measure s (record k {
+      log = record k.log { told = plain (Emit (suc c) m j why) ∷ k.log.told };
+      nodes = set k.nodes c (record n { list = y.list; measures = y.measures });
+      transit = frame m j ∷ [];
+    })
 emitted_from_list measure s k c m j why n y i legal at sorted empty has size last waits items room =
-    subst (λ (ts : List FrameName). IsCourse measure s (record k { log = record k.log { told = plain (Emit (suc c) m j why) ∷ k.log.told };
-    nodes = set k.nodes c (record n { list = y.list; measures = y.measures }); transit = frame m j ∷ ts })) empty
+    subst (λ (ts : List FrameName). IsCourse measure s (record k {
+      log = record k.log { told = plain (Emit (suc c) m j why) ∷ k.log.told };
+      nodes = set k.nodes c (record n { list = y.list; measures = y.measures });
+      transit = frame m j ∷ ts;
+    })) empty
     (emitted_more measure s k c m j why n y i legal at sorted (omega (arith, ap length empty)) has size last waits items room)
 
 pub took : (measure : Measuring) (s : Setting) (k : Parts) (r c m j : ℕ) (x : RoleState) (n : NodeState) (part : Option Parts_of) → IsCourse measure s k
     → is_legal s (Take r (suc c) m j ∷ log_of k) ≡ true → slice_get k.roles r ≡ Some x → slice_get k.nodes c ≡ Some n
-    → IsCourse measure s (record k { log = record k.log { told = lends (Take r (suc c) m j) part ∷ k.log.told }; nodes = set k.nodes c
-    (record n { inbox = without_front n.inbox; jobs = n.jobs + 1 }); roles = set k.roles r (record x { hand = Job (suc c) (frame m j) None }) })
+    → IsCourse measure s (record k {
+      log = record k.log { told = lends (Take r (suc c) m j) part ∷ k.log.told };
+      nodes = set k.nodes c
+          (record n { inbox = without_front n.inbox; jobs = n.jobs + 1 });
+      roles = set k.roles r (record x { hand = Job (suc c) (frame m j) None });
+    })
 took measure s k r c m j x n part i legal at here =
     let P = log_of k in
     record {
@@ -463,8 +494,12 @@ took measure s k r c m j x n part i legal at here =
 
 pub dropped_by_pool : (measure : Measuring) (s : Setting) (k : Parts) (r c m j need held : ℕ) (n : NodeState) → IsCourse measure s k
     → is_legal s (PoolDrop r (suc c) m j need held ∷ log_of k) ≡ true → slice_get k.nodes c ≡ Some n → k.transit ≡ []
-    → IsCourse measure s (record k { log = record k.log { told = plain (PoolDrop r (suc c) m j need held) ∷ k.log.told };
-    nodes = set k.nodes c (record n { inbox = without_front n.inbox }); facts = record k.facts { dropped = k.facts.dropped + 1 }; transit = frame m j ∷ [] })
+    → IsCourse measure s (record k {
+      log = record k.log { told = plain (PoolDrop r (suc c) m j need held) ∷ k.log.told };
+      nodes = set k.nodes c (record n { inbox = without_front n.inbox });
+      facts = record k.facts { dropped = k.facts.dropped + 1 };
+      transit = frame m j ∷ [];
+    })
 dropped_by_pool measure s k r c m j need held n i legal here empty =
     let P = log_of k in
     record {
@@ -492,8 +527,12 @@ pub dropped_by_list : (measure : Measuring) (s : Setting) (k : Parts) (c m j : �
     → is_legal s (SortDrop (suc c) m j ∷ log_of k) ≡ true → slice_get k.nodes c ≡ Some n → is_sorted s (suc c) ≡ true → HasBlock (log_of k) (frame m j)
     → y.list.size ≡ n.list.size → y.list.last ≡ prev s (suc c) (log_of k)
     → y.list.waiting ≡ list_of measure s (suc c) (SortDrop (suc c) m j ∷ log_of k) → length k.transit ≤ 4096
-    → IsCourse measure s (record k { log = record k.log { told = plain (SortDrop (suc c) m j) ∷ k.log.told };
-    nodes = set k.nodes c (record n { list = y.list }); facts = record k.facts { dropped = k.facts.dropped + 1 }; transit = frame m j ∷ k.transit })
+    → IsCourse measure s (record k {
+      log = record k.log { told = plain (SortDrop (suc c) m j) ∷ k.log.told };
+      nodes = set k.nodes c (record n { list = y.list });
+      facts = record k.facts { dropped = k.facts.dropped + 1 };
+      transit = frame m j ∷ k.transit;
+    })
 dropped_by_list measure s k c m j n y i legal here sorted has size last waits few =
     let P = log_of k in
     record {
@@ -516,8 +555,11 @@ dropped_by_list measure s k c m j n y i legal here sorted has size last waits fe
 pub settled_with : (measure : Measuring) (s : Setting) (k : Parts) (r c : ℕ) (n y : NodeState) → IsCourse measure s k
     → is_legal s (Settle r (suc c) ∷ log_of k) ≡ true → slice_get k.nodes c ≡ Some n → k.transit ≡ [] → y.window.ring ≡ [] → y.window.pending ≡ []
     → length (ring s (suc c) (log_of k)) ≤ 4097
-    → IsCourse measure s (record k { log = record k.log { told = plain (Settle r (suc c)) ∷ k.log.told };
-    nodes = set k.nodes c (record n { settled = true; window = y.window }); transit = ring s (suc c) (log_of k) })
+    → IsCourse measure s (record k {
+      log = record k.log { told = plain (Settle r (suc c)) ∷ k.log.told };
+      nodes = set k.nodes c (record n { settled = true; window = y.window });
+      transit = ring s (suc c) (log_of k);
+    })
 settled_with measure s k r c n y i legal here empty none pending few =
     let P = log_of k in
     record {
@@ -542,8 +584,12 @@ settled_with measure s k r c n y i legal here empty none pending few =
 pub saving_one : (measure : Measuring) (s : Setting) (k : Parts) (r c m j g : ℕ) (x : RoleState) (n y : NodeState) (part : Option Parts_of)
     → IsCourse measure s k → is_legal s (Save r (suc c) m j g ∷ log_of k) ≡ true → slice_get k.roles r ≡ Some x → slice_get k.nodes c ≡ Some n
     → y.unsaved.items ≡ drop 1 n.unsaved.items → HasRoomToSave s (suc c) y
-    → IsCourse measure s (record k { log = record k.log { told = lends (Save r (suc c) m j g) part ∷ k.log.told }; nodes = set k.nodes c
-    (record n { unsaved = y.unsaved; saves = n.saves + 1; saving = true }); roles = set k.roles r (record x { hand = Piece (suc c) (frame m j) }) })
+    → IsCourse measure s (record k {
+      log = record k.log { told = lends (Save r (suc c) m j g) part ∷ k.log.told };
+      nodes = set k.nodes c
+          (record n { unsaved = y.unsaved; saves = n.saves + 1; saving = true });
+      roles = set k.roles r (record x { hand = Piece (suc c) (frame m j) });
+    })
 saving_one measure s k r c m j g x n y part i legal at here items room =
     let P = log_of k in
     record {
@@ -567,8 +613,13 @@ pub saved_one : (measure : Measuring) (s : Setting) (k : Parts) (r c m j q g : �
     → is_legal s (Saved r (suc c) m j ∷ log_of k) ≡ true → slice_get k.roles r ≡ Some x → slice_get k.nodes c ≡ Some n → k.transit ≡ []
     → hand r (log_of k) ≡ Some (Save q (suc c) m j g)
     → IsCourse measure s
-    (record k { log = record k.log { told = plain (Saved r (suc c) m j) ∷ k.log.told }; nodes = set k.nodes c (record n { saving = false });
-    roles = set k.roles r (record x { hand = Free }); facts = record k.facts { saved = k.facts.saved + 1 }; transit = frame m j ∷ [] })
+    (record k {
+      log = record k.log { told = plain (Saved r (suc c) m j) ∷ k.log.told };
+      nodes = set k.nodes c (record n { saving = false });
+      roles = set k.roles r (record x { hand = Free });
+      facts = record k.facts { saved = k.facts.saved + 1 };
+      transit = frame m j ∷ [];
+    })
 saved_one measure s k r c m j q g x n i legal at here empty held =
     let P = log_of k in
     record {
@@ -596,13 +647,21 @@ pub accepted_at : (measure : Measuring) (s : Setting) (k : Parts) (v : ℕ) (c m
     → is_legal s (Accept v m j ∷ log_of k) ≡ true → slice_get k.nodes c ≡ Some n → has_room s (log_of k) v ≡ true
     → ((v : ℕ) → deals s v ≡ true → has_just_emitted v (log_of k) ≡ false) → block_of (log_of k) (frame m j) ≡ b ∷ [] → 0 < ledger.refs k.pool b
     → IsCourse measure s
-    (record k { log = record k.log { told = plain (Accept v m j) ∷ k.log.told }; nodes = set k.nodes c (record n { inbox = with_last n.inbox (frame m j) });
-    pool = with_refs b (ledger.refs k.pool b + 1) k.pool; facts = record k.facts { came = k.facts.came + 1 } })
+    (record k {
+      log = record k.log { told = plain (Accept v m j) ∷ k.log.told };
+      nodes = set k.nodes c (record n { inbox = with_last n.inbox (frame m j) });
+      pool = with_refs b (ledger.refs k.pool b + 1) k.pool;
+      facts = record k.facts { came = k.facts.came + 1 };
+    })
 accepted_at measure s k v c m j b n is i =
     subst (λ u. is_legal s (Accept u m j ∷ log_of k) ≡ true → slice_get k.nodes c ≡ Some n → has_room s (log_of k) u ≡ true → ((v : ℕ) → deals s v ≡ true
     → has_just_emitted v (log_of k) ≡ false) → block_of (log_of k) (frame m j) ≡ b ∷ [] → 0 < ledger.refs k.pool b → IsCourse measure s
-    (record k { log = record k.log { told = plain (Accept u m j) ∷ k.log.told }; nodes = set k.nodes c (record n { inbox = with_last n.inbox (frame m j) });
-    pool = with_refs b (ledger.refs k.pool b + 1) k.pool; facts = record k.facts { came = k.facts.came + 1 } })) is (accepted measure s k c m j b n i)
+    (record k {
+      log = record k.log { told = plain (Accept u m j) ∷ k.log.told };
+      nodes = set k.nodes c (record n { inbox = with_last n.inbox (frame m j) });
+      pool = with_refs b (ledger.refs k.pool b + 1) k.pool;
+      facts = record k.facts { came = k.facts.came + 1 };
+    })) is (accepted measure s k c m j b n i)
 
 pub emitted_at_once_at : (measure : Measuring) (s : Setting) (k : Parts) (v : ℕ) (c m j : ℕ) (why : Why) (n y : NodeState) → suc c ≡ v → IsCourse measure s k
     → is_legal s (Emit v m j why ∷ log_of k) ≡ true → slice_get k.nodes c ≡ Some n → is_sorted s v ≡ false → y.list ≡ n.list
@@ -619,75 +678,126 @@ pub emitted_from_list_at : (measure : Measuring) (s : Setting) (k : Parts) (v : 
     → is_legal s (Emit v m j why ∷ log_of k) ≡ true → slice_get k.nodes c ≡ Some n → is_sorted s v ≡ true → k.transit ≡ [] → HasBlock (log_of k) (frame m j)
     → y.list.size ≡ n.list.size → y.list.last ≡ id_at s j → y.list.waiting ≡ list_of measure s v (Emit v m j why ∷ log_of k)
     → y.measures.items ≡ n.measures.items ++ listed_one (measure v (frame m j)) → HasRoomToMeasure measure s v y
-    → IsCourse measure s (record k { log = record k.log { told = plain (Emit v m j why) ∷ k.log.told };
-    nodes = set k.nodes c (record n { list = y.list; measures = y.measures }); transit = frame m j ∷ [] })
+    → IsCourse measure s (record k {
+      log = record k.log { told = plain (Emit v m j why) ∷ k.log.told };
+      nodes = set k.nodes c (record n { list = y.list; measures = y.measures });
+      transit = frame m j ∷ [];
+    })
 emitted_from_list_at measure s k v c m j why n y is i =
     subst (λ u. is_legal s (Emit u m j why ∷ log_of k) ≡ true → slice_get k.nodes c ≡ Some n → is_sorted s u ≡ true → k.transit ≡ []
     → HasBlock (log_of k) (frame m j) → y.list.size ≡ n.list.size → y.list.last ≡ id_at s j → y.list.waiting ≡ list_of measure s u (Emit u m j why ∷ log_of k)
     → y.measures.items ≡ n.measures.items ++ listed_one (measure u (frame m j)) → HasRoomToMeasure measure s u y
-    → IsCourse measure s (record k { log = record k.log { told = plain (Emit u m j why) ∷ k.log.told };
-    nodes = set k.nodes c (record n { list = y.list; measures = y.measures }); transit = frame m j ∷ [] })) is (emitted_from_list measure s k c m j why n y i)
+    → IsCourse measure s (record k {
+      log = record k.log { told = plain (Emit u m j why) ∷ k.log.told };
+      nodes = set k.nodes c (record n { list = y.list; measures = y.measures });
+      transit = frame m j ∷ [];
+    })) is (emitted_from_list measure s k c m j why n y i)
 
 pub took_at : (measure : Measuring) (s : Setting) (k : Parts) (v : ℕ) (r c m j : ℕ) (x : RoleState) (n : NodeState) (part : Option Parts_of) → suc c ≡ v
     → IsCourse measure s k → is_legal s (Take r v m j ∷ log_of k) ≡ true → slice_get k.roles r ≡ Some x → slice_get k.nodes c ≡ Some n
-    → IsCourse measure s (record k { log = record k.log { told = lends (Take r v m j) part ∷ k.log.told };
-    nodes = set k.nodes c (record n { inbox = without_front n.inbox; jobs = n.jobs + 1 }); roles = set k.roles r (record x { hand = Job v (frame m j) None }) })
+    → IsCourse measure s (record k {
+      log = record k.log { told = lends (Take r v m j) part ∷ k.log.told };
+      nodes = set k.nodes c (record n { inbox = without_front n.inbox; jobs = n.jobs + 1 });
+      roles = set k.roles r (record x { hand = Job v (frame m j) None });
+    })
 took_at measure s k v r c m j x n part is i =
     subst (λ u. is_legal s (Take r u m j ∷ log_of k) ≡ true → slice_get k.roles r ≡ Some x → slice_get k.nodes c ≡ Some n
-    → IsCourse measure s (record k { log = record k.log { told = lends (Take r u m j) part ∷ k.log.told }; nodes = set k.nodes c
-    (record n { inbox = without_front n.inbox; jobs = n.jobs + 1 }); roles = set k.roles r (record x { hand = Job u (frame m j) None }) })) is
+    → IsCourse measure s (record k {
+      log = record k.log { told = lends (Take r u m j) part ∷ k.log.told };
+      nodes = set k.nodes c
+          (record n { inbox = without_front n.inbox; jobs = n.jobs + 1 });
+      roles = set k.roles r (record x { hand = Job u (frame m j) None });
+    })) is
     (took measure s k r c m j x n part i)
 
 pub dropped_by_pool_at : (measure : Measuring) (s : Setting) (k : Parts) (v : ℕ) (r c m j need held : ℕ) (n : NodeState) → suc c ≡ v → IsCourse measure s k
     → is_legal s (PoolDrop r v m j need held ∷ log_of k) ≡ true → slice_get k.nodes c ≡ Some n → k.transit ≡ []
-    → IsCourse measure s (record k { log = record k.log { told = plain (PoolDrop r v m j need held) ∷ k.log.told };
-    nodes = set k.nodes c (record n { inbox = without_front n.inbox }); facts = record k.facts { dropped = k.facts.dropped + 1 }; transit = frame m j ∷ [] })
+    → IsCourse measure s (record k {
+      log = record k.log { told = plain (PoolDrop r v m j need held) ∷ k.log.told };
+      nodes = set k.nodes c (record n { inbox = without_front n.inbox });
+      facts = record k.facts { dropped = k.facts.dropped + 1 };
+      transit = frame m j ∷ [];
+    })
 dropped_by_pool_at measure s k v r c m j need held n is i =
     subst (λ u. is_legal s (PoolDrop r u m j need held ∷ log_of k) ≡ true → slice_get k.nodes c ≡ Some n → k.transit ≡ []
-    → IsCourse measure s (record k { log = record k.log { told = plain (PoolDrop r u m j need held) ∷ k.log.told };
-    nodes = set k.nodes c (record n { inbox = without_front n.inbox }); facts = record k.facts { dropped = k.facts.dropped + 1 }; transit = frame m j ∷ [] }))
+    → IsCourse measure s (record k {
+      log = record k.log { told = plain (PoolDrop r u m j need held) ∷ k.log.told };
+      nodes = set k.nodes c (record n { inbox = without_front n.inbox });
+      facts = record k.facts { dropped = k.facts.dropped + 1 };
+      transit = frame m j ∷ [];
+    }))
     is (dropped_by_pool measure s k r c m j need held n i)
 
 pub dropped_by_list_at : (measure : Measuring) (s : Setting) (k : Parts) (v : ℕ) (c m j : ℕ) (n y : NodeState) → suc c ≡ v → IsCourse measure s k
     → is_legal s (SortDrop v m j ∷ log_of k) ≡ true → slice_get k.nodes c ≡ Some n → is_sorted s v ≡ true → HasBlock (log_of k) (frame m j)
     → y.list.size ≡ n.list.size → y.list.last ≡ prev s v (log_of k) → y.list.waiting ≡ list_of measure s v (SortDrop v m j ∷ log_of k) → length k.transit ≤ 4096
-    → IsCourse measure s (record k { log = record k.log { told = plain (SortDrop v m j) ∷ k.log.told }; nodes = set k.nodes c (record n { list = y.list });
-    facts = record k.facts { dropped = k.facts.dropped + 1 }; transit = frame m j ∷ k.transit })
+    → IsCourse measure s (record k {
+      log = record k.log { told = plain (SortDrop v m j) ∷ k.log.told };
+      nodes = set k.nodes c (record n { list = y.list });
+      facts = record k.facts { dropped = k.facts.dropped + 1 };
+      transit = frame m j ∷ k.transit;
+    })
 dropped_by_list_at measure s k v c m j n y is i =
     subst (λ u. is_legal s (SortDrop u m j ∷ log_of k) ≡ true → slice_get k.nodes c ≡ Some n → is_sorted s u ≡ true → HasBlock (log_of k) (frame m j)
     → y.list.size ≡ n.list.size → y.list.last ≡ prev s u (log_of k) → y.list.waiting ≡ list_of measure s u (SortDrop u m j ∷ log_of k) → length k.transit ≤ 4096
-    → IsCourse measure s (record k { log = record k.log { told = plain (SortDrop u m j) ∷ k.log.told }; nodes = set k.nodes c (record n { list = y.list });
-    facts = record k.facts { dropped = k.facts.dropped + 1 }; transit = frame m j ∷ k.transit })) is (dropped_by_list measure s k c m j n y i)
+    → IsCourse measure s (record k {
+      log = record k.log { told = plain (SortDrop u m j) ∷ k.log.told };
+      nodes = set k.nodes c (record n { list = y.list });
+      facts = record k.facts { dropped = k.facts.dropped + 1 };
+      transit = frame m j ∷ k.transit;
+    })) is (dropped_by_list measure s k c m j n y i)
 
 pub settled_with_at : (measure : Measuring) (s : Setting) (k : Parts) (v : ℕ) (r c : ℕ) (n y : NodeState) → suc c ≡ v → IsCourse measure s k
     → is_legal s (Settle r v ∷ log_of k) ≡ true → slice_get k.nodes c ≡ Some n → k.transit ≡ [] → y.window.ring ≡ [] → y.window.pending ≡ []
     → length (ring s v (log_of k)) ≤ 4097
-    → IsCourse measure s (record k { log = record k.log { told = plain (Settle r v) ∷ k.log.told };
-    nodes = set k.nodes c (record n { settled = true; window = y.window }); transit = ring s v (log_of k) })
+    → IsCourse measure s (record k {
+      log = record k.log { told = plain (Settle r v) ∷ k.log.told };
+      nodes = set k.nodes c (record n { settled = true; window = y.window });
+      transit = ring s v (log_of k);
+    })
 settled_with_at measure s k v r c n y is i =
     subst (λ u. is_legal s (Settle r u ∷ log_of k) ≡ true → slice_get k.nodes c ≡ Some n → k.transit ≡ [] → y.window.ring ≡ [] → y.window.pending ≡ []
-    → length (ring s u (log_of k)) ≤ 4097 → IsCourse measure s (record k { log = record k.log { told = plain (Settle r u) ∷ k.log.told };
-    nodes = set k.nodes c (record n { settled = true; window = y.window }); transit = ring s u (log_of k) })) is (settled_with measure s k r c n y i)
+    → length (ring s u (log_of k)) ≤ 4097 → IsCourse measure s (record k {
+      log = record k.log { told = plain (Settle r u) ∷ k.log.told };
+      nodes = set k.nodes c (record n { settled = true; window = y.window });
+      transit = ring s u (log_of k);
+    })) is (settled_with measure s k r c n y i)
 
 pub saving_one_at : (measure : Measuring) (s : Setting) (k : Parts) (v : ℕ) (r c m j g : ℕ) (x : RoleState) (n y : NodeState) (part : Option Parts_of)
     → suc c ≡ v → IsCourse measure s k → is_legal s (Save r v m j g ∷ log_of k) ≡ true → slice_get k.roles r ≡ Some x → slice_get k.nodes c ≡ Some n
     → y.unsaved.items ≡ drop 1 n.unsaved.items → HasRoomToSave s v y
-    → IsCourse measure s (record k { log = record k.log { told = lends (Save r v m j g) part ∷ k.log.told }; nodes = set k.nodes c
-    (record n { unsaved = y.unsaved; saves = n.saves + 1; saving = true }); roles = set k.roles r (record x { hand = Piece v (frame m j) }) })
+    → IsCourse measure s (record k {
+      log = record k.log { told = lends (Save r v m j g) part ∷ k.log.told };
+      nodes = set k.nodes c
+          (record n { unsaved = y.unsaved; saves = n.saves + 1; saving = true });
+      roles = set k.roles r (record x { hand = Piece v (frame m j) });
+    })
 saving_one_at measure s k v r c m j g x n y part is i =
     subst (λ u. is_legal s (Save r u m j g ∷ log_of k) ≡ true → slice_get k.roles r ≡ Some x → slice_get k.nodes c ≡ Some n → y.unsaved.items
-    ≡ drop 1 n.unsaved.items → HasRoomToSave s u y → IsCourse measure s (record k { log = record k.log { told = lends (Save r u m j g) part ∷ k.log.told };
-    nodes = set k.nodes c (record n { unsaved = y.unsaved; saves = n.saves + 1; saving = true });
-    roles = set k.roles r (record x { hand = Piece u (frame m j) }) })) is (saving_one measure s k r c m j g x n y part i)
+    ≡ drop 1 n.unsaved.items → HasRoomToSave s u y → IsCourse measure s (record k {
+      log = record k.log { told = lends (Save r u m j g) part ∷ k.log.told };
+      nodes = set k.nodes c (record n { unsaved = y.unsaved; saves = n.saves + 1; saving = true });
+      roles = set k.roles r (record x { hand = Piece u (frame m j) });
+    })) is (saving_one measure s k r c m j g x n y part i)
 
 pub saved_one_at : (measure : Measuring) (s : Setting) (k : Parts) (v : ℕ) (r c m j q g : ℕ) (x : RoleState) (n : NodeState) → suc c ≡ v → IsCourse measure s k
     → is_legal s (Saved r v m j ∷ log_of k) ≡ true → slice_get k.roles r ≡ Some x → slice_get k.nodes c ≡ Some n → k.transit ≡ []
     → hand r (log_of k) ≡ Some (Save q v m j g)
-    → IsCourse measure s (record k { log = record k.log { told = plain (Saved r v m j) ∷ k.log.told }; nodes = set k.nodes c (record n { saving = false });
-    roles = set k.roles r (record x { hand = Free }); facts = record k.facts { saved = k.facts.saved + 1 }; transit = frame m j ∷ [] })
+    → IsCourse measure s (record k {
+      log = record k.log { told = plain (Saved r v m j) ∷ k.log.told };
+      nodes = set k.nodes c (record n { saving = false });
+      roles = set k.roles r (record x { hand = Free });
+      facts = record k.facts { saved = k.facts.saved + 1 };
+      transit = frame m j ∷ [];
+    })
 saved_one_at measure s k v r c m j q g x n is i =
     subst (λ u. is_legal s (Saved r u m j ∷ log_of k) ≡ true → slice_get k.roles r ≡ Some x → slice_get k.nodes c ≡ Some n → k.transit ≡ []
     → hand r (log_of k) ≡ Some (Save q u m j g)
-    → IsCourse measure s (record k { log = record k.log { told = plain (Saved r u m j) ∷ k.log.told }; nodes = set k.nodes c (record n { saving = false });
-    roles = set k.roles r (record x { hand = Free }); facts = record k.facts { saved = k.facts.saved + 1 }; transit = frame m j ∷ [] })) is
+    → IsCourse measure s (record k {
+      log = record k.log { told = plain (Saved r u m j) ∷ k.log.told };
+      nodes = set k.nodes c (record n { saving = false });
+      roles = set k.roles r (record x { hand = Free });
+      facts = record k.facts { saved = k.facts.saved + 1 };
+      transit = frame m j ∷ [];
+    })) is
     (saved_one measure s k r c m j q g x n i)

@@ -80,9 +80,12 @@ dealt-suc : (measure : Measuring) (s : Setting) (k : Parts) (a c t m j b : ℕ) 
     → t ≡ turn s (suc a) (Accept (suc c) m j ∷ log_of k) → OnlyDealt s (suc a) (log_of k)
     → slice_get (set k.nodes a (record x { turn = t })) c ≡ Some n → has_room s (log_of k) (suc c) ≡ true
     → block_of (log_of k) (frame m j) ≡ b ∷ [] → 0 < ledger.refs k.pool b
-    → IsCourse measure s (record k { log = record k.log { told = plain (Accept (suc c) m j) ∷ k.log.told };
-    nodes = set (set k.nodes a (record x { turn = t })) c (record n { inbox = with_last n.inbox (frame m j) });
-    pool = with_refs b (ledger.refs k.pool b + 1) k.pool; facts = record k.facts { came = k.facts.came + 1 } })
+    → IsCourse measure s (record k {
+      log = record k.log { told = plain (Accept (suc c) m j) ∷ k.log.told };
+      nodes = set (set k.nodes a (record x { turn = t })) c (record n { inbox = with_last n.inbox (frame m j) });
+      pool = with_refs b (ledger.refs k.pool b + 1) k.pool;
+      facts = record k.facts { came = k.facts.came + 1 };
+    })
 dealt-suc measure s k a c t m j b x n i legal at turned quiet child room has some =
     let P = log_of k in
     record {
@@ -105,8 +108,11 @@ dealt-suc measure s k a c t m j b x n i legal at turned quiet child room has som
 -- none of the children has room: the one whose turn it is drops the array
 dealt-full-suc : (measure : Measuring) (s : Setting) (k : Parts) (a v t m j : ℕ) (x : NodeState) → IsCourse measure s k
     → is_legal s (Full v m j ∷ log_of k) ≡ true → slice_get k.nodes a ≡ Some x → t ≡ turn s (suc a) (Full v m j ∷ log_of k) → OnlyDealt s (suc a) (log_of k)
-    → IsCourse measure s (record k { log = record k.log { told = plain (Full v m j) ∷ k.log.told }; nodes = set k.nodes a (record x { turn = t });
-    facts = record k.facts { came = k.facts.came + 1; dropped = k.facts.dropped + 1 } })
+    → IsCourse measure s (record k {
+      log = record k.log { told = plain (Full v m j) ∷ k.log.told };
+      nodes = set k.nodes a (record x { turn = t });
+      facts = record k.facts { came = k.facts.came + 1; dropped = k.facts.dropped + 1 };
+    })
 dealt-full-suc measure s k a v t m j x i legal at turned quiet =
     let P = log_of k in
     record {
@@ -198,29 +204,44 @@ pub dealt : (measure : Measuring) (s : Setting) (k : Parts) (v u a c t m j b : �
     → is_legal s (Accept u m j ∷ log_of k) ≡ true → slice_get k.nodes a ≡ Some x → t ≡ turn s v (Accept u m j ∷ log_of k) → OnlyDealt s v (log_of k)
     → slice_get (set k.nodes a (record x { turn = t })) c ≡ Some n → has_room s (log_of k) u ≡ true
     → block_of (log_of k) (frame m j) ≡ b ∷ [] → 0 < ledger.refs k.pool b
-    → IsCourse measure s (record k { log = record k.log { told = plain (Accept u m j) ∷ k.log.told };
-    nodes = set (set k.nodes a (record x { turn = t })) c (record n { inbox = with_last n.inbox (frame m j) });
-    pool = with_refs b (ledger.refs k.pool b + 1) k.pool; facts = record k.facts { came = k.facts.came + 1 } })
+    → IsCourse measure s (record k {
+      log = record k.log { told = plain (Accept u m j) ∷ k.log.told };
+      nodes = set (set k.nodes a (record x { turn = t })) c (record n { inbox = with_last n.inbox (frame m j) });
+      pool = with_refs b (ledger.refs k.pool b + 1) k.pool;
+      facts = record k.facts { came = k.facts.came + 1 };
+    })
 dealt measure s k v u a c t m j b x n from child i =
     subst (λ (w : ℕ). is_legal s (Accept w m j ∷ log_of k) ≡ true → slice_get k.nodes a ≡ Some x → t ≡ turn s v (Accept w m j ∷ log_of k)
     → OnlyDealt s v (log_of k) → slice_get (set k.nodes a (record x { turn = t })) c ≡ Some n → has_room s (log_of k) w ≡ true → block_of (log_of k) (frame m j)
-    ≡ b ∷ [] → 0 < ledger.refs k.pool b → IsCourse measure s (record k { log = record k.log { told = plain (Accept w m j) ∷ k.log.told };
-    nodes = set (set k.nodes a (record x { turn = t })) c (record n { inbox = with_last n.inbox (frame m j) });
-    pool = with_refs b (ledger.refs k.pool b + 1) k.pool; facts = record k.facts { came = k.facts.came + 1 } })) child
+    ≡ b ∷ [] → 0 < ledger.refs k.pool b → IsCourse measure s (record k {
+      log = record k.log { told = plain (Accept w m j) ∷ k.log.told };
+      nodes = set (set k.nodes a (record x { turn = t })) c (record n { inbox = with_last n.inbox (frame m j) });
+      pool = with_refs b (ledger.refs k.pool b + 1) k.pool;
+      facts = record k.facts { came = k.facts.came + 1 };
+    })) child
     (subst (λ (w : ℕ). is_legal s (Accept (suc c) m j ∷ log_of k) ≡ true → slice_get k.nodes a ≡ Some x → t ≡ turn s w (Accept (suc c) m j ∷ log_of k)
     → OnlyDealt s w (log_of k) → slice_get (set k.nodes a (record x { turn = t })) c ≡ Some n → has_room s (log_of k) (suc c) ≡ true → block_of (log_of k)
-    (frame m j) ≡ b ∷ [] → 0 < ledger.refs k.pool b → IsCourse measure s (record k { log = record k.log { told = plain (Accept (suc c) m j) ∷ k.log.told };
-    nodes = set (set k.nodes a (record x { turn = t })) c (record n { inbox = with_last n.inbox (frame m j) });
-    pool = with_refs b (ledger.refs k.pool b + 1) k.pool; facts = record k.facts { came = k.facts.came + 1 } })) from (dealt-suc measure s k a c t m j b x n i))
+    (frame m j) ≡ b ∷ [] → 0 < ledger.refs k.pool b → IsCourse measure s (record k {
+      log = record k.log { told = plain (Accept (suc c) m j) ∷ k.log.told };
+      nodes = set (set k.nodes a (record x { turn = t })) c (record n { inbox = with_last n.inbox (frame m j) });
+      pool = with_refs b (ledger.refs k.pool b + 1) k.pool;
+      facts = record k.facts { came = k.facts.came + 1 };
+    })) from (dealt-suc measure s k a c t m j b x n i))
 
 pub dealt-full : (measure : Measuring) (s : Setting) (k : Parts) (v u a t m j : ℕ) (x : NodeState) → suc a ≡ v → IsCourse measure s k
     → is_legal s (Full u m j ∷ log_of k) ≡ true → slice_get k.nodes a ≡ Some x → t ≡ turn s v (Full u m j ∷ log_of k) → OnlyDealt s v (log_of k)
-    → IsCourse measure s (record k { log = record k.log { told = plain (Full u m j) ∷ k.log.told }; nodes = set k.nodes a (record x { turn = t });
-    facts = record k.facts { came = k.facts.came + 1; dropped = k.facts.dropped + 1 } })
+    → IsCourse measure s (record k {
+      log = record k.log { told = plain (Full u m j) ∷ k.log.told };
+      nodes = set k.nodes a (record x { turn = t });
+      facts = record k.facts { came = k.facts.came + 1; dropped = k.facts.dropped + 1 };
+    })
 dealt-full measure s k v u a t m j x from i =
     subst (λ (w : ℕ). is_legal s (Full u m j ∷ log_of k) ≡ true → slice_get k.nodes a ≡ Some x → t ≡ turn s w (Full u m j ∷ log_of k) → OnlyDealt s w (log_of k)
-    → IsCourse measure s (record k { log = record k.log { told = plain (Full u m j) ∷ k.log.told }; nodes = set k.nodes a (record x { turn = t });
-    facts = record k.facts { came = k.facts.came + 1; dropped = k.facts.dropped + 1 } })) from (dealt-full-suc measure s k a u t m j x i)
+    → IsCourse measure s (record k {
+      log = record k.log { told = plain (Full u m j) ∷ k.log.told };
+      nodes = set k.nodes a (record x { turn = t });
+      facts = record k.facts { came = k.facts.came + 1; dropped = k.facts.dropped + 1 };
+    })) from (dealt-full-suc measure s k a u t m j x i)
 
 -- the queue of the child has room where its inbox takes one more
 ready-full : (measure : Measuring) (s : Setting) (k : Parts) (a c t m j : ℕ) (x n : NodeState) → IsCourse measure s k → slice_get k.nodes a ≡ Some x

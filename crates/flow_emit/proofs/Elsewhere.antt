@@ -462,10 +462,32 @@ same-reclaim s v r h P legal was held job piece =
 -- an offer changes nothing of another node but its turn
 pub facts-accept : (s : Setting) (v w m k : ℕ) (P : Past) → w ≢ v → SameFacts s v P (Accept w m k ∷ P)
 facts-accept s v w m k P ne =
-    record { inbox = queue_laws.accept_elsewhere v w m k P ne; in_hand = hands-none v (Accept w m k) P refl; ended = refl; last = refl; waits = refl;
-    time = omega arith; results = refl; flags = refl; kept = refl; pieces = refl; gone = refl }
+    record {
+      inbox = queue_laws.accept_elsewhere v w m k P ne;
+      in_hand = hands-none v (Accept w m k) P refl;
+      ended = refl;
+      last = refl;
+      waits = refl;
+      time = omega arith;
+      results = refl;
+      flags = refl;
+      kept = refl;
+      pieces = refl;
+      gone = refl;
+    }
 
 pub facts-full : (s : Setting) (v w m k : ℕ) (P : Past) → SameFacts s v P (Full w m k ∷ P)
 facts-full s v w m k P =
-    record { inbox = refl; in_hand = hands-none v (Full w m k) P refl; ended = refl; last = refl; waits = refl; time = omega arith; results = refl;
-    flags = refl; kept = refl; pieces = refl; gone = refl }
+    record {
+      inbox = refl;
+      in_hand = hands-none v (Full w m k) P refl;
+      ended = refl;
+      last = refl;
+      waits = refl;
+      time = omega arith;
+      results = refl;
+      flags = refl;
+      kept = refl;
+      pieces = refl;
+      gone = refl;
+    }

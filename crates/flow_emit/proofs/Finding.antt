@@ -168,10 +168,11 @@ coursed-as {b} {c} {ts} {us} e f = ap (λ (x : BoardState). the_coursed x ts) e 
 pub piece-held : (s : Setting) (k : Parts) (w : Coursed) (r v : ℕ) (a : FrameName) → seen k ≡ w → is_piece_on a (hand r (past w.told)) ≡ true
     → v ≡ hand_node (hand r (past w.told)) → (g : ℕ) × (hand r (log_of k) ≡ Some (Save r v a.maker a.index g))
 piece-held s k w r v a is holds node_is =
-    let p = piece_in r a (hand r (past w.told)) (names_role r (past w.told)) holds in
-    (p.0,
-    subst (λ (x : Coursed). hand r (past x.told) ≡ Some (Save r v a.maker a.index p.0)) (sym is)
-    (subst (λ u. hand r (past w.told) ≡ Some (Save r u a.maker a.index p.0)) (sym node_is) p.1))
+    let p = piece_in r a (hand r (past w.told)) (names_role r (past w.told)) holds in (
+      p.0,
+      subst (λ (x : Coursed). hand r (past x.told) ≡ Some (Save r v a.maker a.index p.0)) (sym is)
+          (subst (λ u. hand r (past w.told) ≡ Some (Save r u a.maker a.index p.0)) (sym node_is) p.1),
+    )
 
 pub piece-node : (measure : Measuring) (s : Setting) (k : Parts) (r v j l g : ℕ) → IsCourse measure s k
     → hand r (log_of k) ≡ Some (Save r v j l g) → is_node s v ≡ true
@@ -217,8 +218,14 @@ pub few-saves : (measure : Measuring) (s : Setting) (k : Parts) (v : ℕ) (n : N
     → slice_get k.nodes (v - 1) ≡ Some n → n.saves ≤ 65536
 few-saves measure s k v n i h at =
     let frames : length s.ids ≤ 65536 = omega (arith, ap length i.ruled.ids, i.ruled.few_frames) in
-    omega (arith, (node-is measure s k v n i h at).pieces, ap length (saves-front s (log_of k) v i.legal),
-    length-append (standing_saves v (log_of k)) (minus (puts v (log_of k)) (standing_saves v (log_of k))), puts-short s (log_of k) v i.legal, frames)
+    omega (
+      arith,
+      (node-is measure s k v n i h at).pieces,
+      ap length (saves-front s (log_of k) v i.legal),
+      length-append (standing_saves v (log_of k)) (minus (puts v (log_of k)) (standing_saves v (log_of k))),
+      puts-short s (log_of k) v i.legal,
+      frames,
+    )
 
 -- a node with a thread is there
 pub threads-node : (s : Setting) (v j : ℕ) → j < (node s v).threads → is_node s v ≡ true

@@ -103,16 +103,23 @@ waits-owed s (SortDrop w m k ∷ P) v t nz sorted h c =
 waits-owed s (Tick u ∷ P) v t nz sorted h c =
     let a = owed-answered s (Tick u) P refl h in
     let other : out_of v t a.head ≡ false = ap (out_of v t) (answers-by_Tick s P u a.head a.answer).1 in
-    omega (arith, waits-owed s P v t nz sorted (and_parts _ _ h).0 c, head-other (out_of v t) (owed s P) a.head a.rest a.is other,
-    count-append (out_of v t) (calls_for s P (Tick u)) (drop 1 (owed s P)))
+    omega (
+      arith,
+      waits-owed s P v t nz sorted (and_parts _ _ h).0 c,
+      head-other (out_of v t) (owed s P) a.head a.rest a.is other,
+      count-append (out_of v t) (calls_for s P (Tick u)) (drop 1 (owed s P)),
+    )
 waits-owed s (Accept w m k ∷ P) v t nz sorted h c =
     let a = owed-answered s (Accept w m k) P refl h in
     let other : out_of v t a.head ≡ false = ap (out_of v t) (answers-by_Accept s P w m k a.head a.answer) in
     omega (arith, waits-owed s P v t nz sorted (and_parts _ _ h).0 c, head-other (out_of v t) (owed s P) a.head a.rest a.is other)
 waits-owed s (Full w m k ∷ P) v t nz sorted h c =
     let a = owed-answered s (Full w m k) P refl h in
-    omega (arith, waits-owed s P v t nz sorted (and_parts _ _ h).0 c,
-    head-other (out_of v t) (owed s P) a.head a.rest a.is (full-head s P w m k v t a.head a.answer))
+    omega (
+      arith,
+      waits-owed s P v t nz sorted (and_parts _ _ h).0 c,
+      head-other (out_of v t) (owed s P) a.head a.rest a.is (full-head s P w m k v t a.head a.answer),
+    )
 waits-owed s (Load r k b n f g x ∷ P) v t nz sorted h c =
     omega (arith, after-first s (Load r k b n f g x) P v t _ (λ d. refl) h (waits-owed s P v t nz sorted (and_parts _ _ h).0 c))
 waits-owed s (LoadRefused r k n z ∷ P) v t nz sorted h c =

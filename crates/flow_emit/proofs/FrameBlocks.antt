@@ -53,9 +53,10 @@ blocks-granted s P Q bs a b are within maker is others =
       by c d has (inl this) =
           let e : c ≡ a = same-true c a this in
           let f : b ∷ [] ≡ d ∷ [] = sym is ∙ (ap (block_of Q) (sym e) ∙ has) in
-          let g : b ≡ d = cc in
-          (subst (λ (x : FrameName). x.index < length s.ids) (sym e) within,
-          ap (λ x. slice_index_or (set bs (place_of s a) b) (place_of s x) 0) e ∙ (get_or-set_same bs (place_of s a) b 0 room ∙ g))
+          let g : b ≡ d = cc in (
+            subst (λ (x : FrameName). x.index < length s.ids) (sym e) within,
+            ap (λ x. slice_index_or (set bs (place_of s a) b) (place_of s x) 0) e ∙ (get_or-set_same bs (place_of s a) b 0 room ∙ g),
+          )
       by c d has (inr other) =
           let was = are.each c d (sym (others c other) ∙ has) in
           let ne : place_of s c ≢ place_of s a = λ e. true≢false (sym (ap (λ x. same x a) (one-place s c a was.0 within e) ∙ same_refl a) ∙ other) in

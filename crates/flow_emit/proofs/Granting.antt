@@ -64,9 +64,14 @@ take-short measure s k r v m j b z f g w i legal =
 pub loaded : (measure : Measuring) (s : Setting) (k : Parts) (r j b z : ℕ) (f : Bool) (g : ℕ) (w : Bool) (x : RoleState) (p : Ledger) → IsCourse measure s k
     → is_legal s (Load r j b z f g w ∷ log_of k) ≡ true → slice_get k.roles r ≡ Some x → k.transit ≡ []
     → IsAccount s (Load r j b z f g w ∷ log_of k) [] (all_named p)
-    → IsCourse measure s (record k { log = record k.log { told = plain (Load r j b z f g w) ∷ k.log.told };
-    roles = set k.roles r (record x { hand = Loaded j (record { number = b; size = z }) }); pool = p; blocks = set k.blocks (place_of s (frame 0 j)) b;
-    facts = record k.facts { offered = k.facts.offered + 1; loaded = true }; transit = [] })
+    → IsCourse measure s (record k {
+      log = record k.log { told = plain (Load r j b z f g w) ∷ k.log.told };
+      roles = set k.roles r (record x { hand = Loaded j (record { number = b; size = z }) });
+      pool = p;
+      blocks = set k.blocks (place_of s (frame 0 j)) b;
+      facts = record k.facts { offered = k.facts.offered + 1; loaded = true };
+      transit = [];
+    })
 loaded measure s k r j b z f g w x p i legal at still account =
     let P = log_of k in
     let e = Load r j b z f g w in
@@ -90,10 +95,14 @@ loaded measure s k r j b z f g w x p i legal at still account =
 pub took_block : (measure : Measuring) (s : Setting) (k : Parts) (r c m j b z : ℕ) (f : Bool) (g : ℕ) (w : Bool) (x : RoleState) (n : NodeState) (p : Ledger)
     (part : Option Parts_of) → IsCourse measure s k → is_legal s (TakeBlock f w r (suc c) m j b z g ∷ log_of k) ≡ true → slice_get k.roles r ≡ Some x
     → slice_get k.nodes c ≡ Some n → k.transit ≡ [] → IsAccount s (TakeBlock f w r (suc c) m j b z g ∷ log_of k) [] (all_named p)
-    → IsCourse measure s (record k { log = record k.log { told = lends (TakeBlock f w r (suc c) m j b z g) part ∷ k.log.told };
-    nodes = set k.nodes c (record n { inbox = without_front n.inbox; jobs = n.jobs + 1 });
-    roles = set k.roles r (record x { hand = Job (suc c) (frame m j) (Some (record { number = b; size = z })) }); pool = p;
-    blocks = set k.blocks (place_of s (frame (suc c) j)) b; transit = [] })
+    → IsCourse measure s (record k {
+      log = record k.log { told = lends (TakeBlock f w r (suc c) m j b z g) part ∷ k.log.told };
+      nodes = set k.nodes c (record n { inbox = without_front n.inbox; jobs = n.jobs + 1 });
+      roles = set k.roles r (record x { hand = Job (suc c) (frame m j) (Some (record { number = b; size = z })) });
+      pool = p;
+      blocks = set k.blocks (place_of s (frame (suc c) j)) b;
+      transit = [];
+    })
 took_block measure s k r c m j b z f g w x n p part i legal at here still account =
     let P = log_of k in
     let e = TakeBlock f w r (suc c) m j b z g in
@@ -122,23 +131,35 @@ took_block measure s k r c m j b z f g w x n p part i legal at here still accoun
 pub took_block_at : (measure : Measuring) (s : Setting) (k : Parts) (v : ℕ) (r c m j b z : ℕ) (f : Bool) (g : ℕ) (w : Bool) (x : RoleState) (n : NodeState)
     (p : Ledger) (part : Option Parts_of) → suc c ≡ v → IsCourse measure s k → is_legal s (TakeBlock f w r v m j b z g ∷ log_of k) ≡ true
     → slice_get k.roles r ≡ Some x → slice_get k.nodes c ≡ Some n → k.transit ≡ [] → IsAccount s (TakeBlock f w r v m j b z g ∷ log_of k) [] (all_named p)
-    → IsCourse measure s (record k { log = record k.log { told = lends (TakeBlock f w r v m j b z g) part ∷ k.log.told };
-    nodes = set k.nodes c (record n { inbox = without_front n.inbox; jobs = n.jobs + 1 });
-    roles = set k.roles r (record x { hand = Job v (frame m j) (Some (record { number = b; size = z })) }); pool = p;
-    blocks = set k.blocks (place_of s (frame v j)) b; transit = [] })
+    → IsCourse measure s (record k {
+      log = record k.log { told = lends (TakeBlock f w r v m j b z g) part ∷ k.log.told };
+      nodes = set k.nodes c (record n { inbox = without_front n.inbox; jobs = n.jobs + 1 });
+      roles = set k.roles r (record x { hand = Job v (frame m j) (Some (record { number = b; size = z })) });
+      pool = p;
+      blocks = set k.blocks (place_of s (frame v j)) b;
+      transit = [];
+    })
 took_block_at measure s k v r c m j b z f g w x n p part is i =
     subst (λ u. is_legal s (TakeBlock f w r u m j b z g ∷ log_of k) ≡ true → slice_get k.roles r ≡ Some x → slice_get k.nodes c ≡ Some n → k.transit ≡ []
     → IsAccount s (TakeBlock f w r u m j b z g ∷ log_of k) [] (all_named p)
-    → IsCourse measure s (record k { log = record k.log { told = lends (TakeBlock f w r u m j b z g) part ∷ k.log.told };
-    nodes = set k.nodes c (record n { inbox = without_front n.inbox; jobs = n.jobs + 1 });
-    roles = set k.roles r (record x { hand = Job u (frame m j) (Some (record { number = b; size = z })) }); pool = p;
-    blocks = set k.blocks (place_of s (frame u j)) b; transit = [] })) is (took_block measure s k r c m j b z f g w x n p part i)
+    → IsCourse measure s (record k {
+      log = record k.log { told = lends (TakeBlock f w r u m j b z g) part ∷ k.log.told };
+      nodes = set k.nodes c (record n { inbox = without_front n.inbox; jobs = n.jobs + 1 });
+      roles = set k.roles r (record x { hand = Job u (frame m j) (Some (record { number = b; size = z })) });
+      pool = p;
+      blocks = set k.blocks (place_of s (frame u j)) b;
+      transit = [];
+    })) is (took_block measure s k r c m j b z f g w x n p part i)
 
 -- THE POOL
 pub few-known : (measure : Measuring) (s : Setting) (k : Parts) → IsCourse measure s k → k.transit ≡ [] → length k.pool.known < 4294967295
 few-known measure s k i still =
-    tell_laws.known_fit s (log_of k) (all_named k.pool) [] (omega (arith, ap length i.ruled.ids, i.ruled.few_frames)) (omega (arith, i.ruled.few_nodes,
-    ap length i.ruled.nodes, length-map k.rules.nodes as_node)) i.ruled.few_threads i.legal (still-account measure s k i still)
+    tell_laws.known_fit s (log_of k) (all_named k.pool) [] (omega (arith, ap length i.ruled.ids, i.ruled.few_frames)) (omega (
+      arith,
+      i.ruled.few_nodes,
+      ap length i.ruled.nodes,
+      length-map k.rules.nodes as_node,
+    )) i.ruled.few_threads i.legal (still-account measure s k i still)
 
 -- room is no part of an answer
 pub after-room : (p : Ledger) (x b n : ℕ) (f : Bool) (g : ℕ)

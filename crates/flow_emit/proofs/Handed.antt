@@ -52,8 +52,11 @@ job-on s v r a P legal h = by (hand r P) refl h where
   by (Some (Take q w m k)) is h =
       let p = and_parts (eqb w v) (same a (frame m k)) h in
       let here : w ≡ v = eqb-true w v p.0 in
-      on (Take q w m k) is p.0 (subst (λ u. is_maker s u ≡ false) here (not-true (is_maker s w) (hand-suits s P r (Take q w m k) legal is)),
-      here, sym (same-true a (frame m k) p.1))
+      on (Take q w m k) is p.0 (
+        subst (λ u. is_maker s u ≡ false) here (not-true (is_maker s w) (hand-suits s P r (Take q w m k) legal is)),
+        here,
+        sym (same-true a (frame m k) p.1),
+      )
   by (Some (TakeBlock f x q w m k b n g)) is h =
       let p = and_parts (eqb w v) (same a (frame m k)) h in
       let here : w ≡ v = eqb-true w v p.0 in

@@ -72,5 +72,5 @@ placed-full id tick kept y old mid new done is answer after within =
       is ∙ (ap (λ (l : SortState Kept). record mid { list = l }) now ∙ done),
       subst (λ (l : SortState Kept). keeps_step l.last id ≡ false) same was.0,
       subst (λ (l : SortState Kept). length l.waiting ≡ l.size) same
-      (omega (arith, leb-true mid.list.size (length mid.list.waiting) was.1, subst (λ (l : SortState Kept). length l.waiting ≤ l.size) now within)),
+          (omega (arith, leb-true mid.list.size (length mid.list.waiting) was.1, subst (λ (l : SortState Kept). length l.waiting ≤ l.size) now within)),
     )

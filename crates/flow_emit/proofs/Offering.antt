@@ -33,8 +33,8 @@ grown s t (suc n) (d ∷ ds) b =
     let outer = grown s t (suc n) ds (with_all s t n (calls_for s (past b) e) (plain e ∷ b)) in (
       outer.0 ++ (inner.0 ++ plain e ∷ []),
       outer.1
-      ∙ (ap (λ (xs : BoardState). outer.0 ++ xs) (inner.1 ∙ sym (append_assoc inner.0 (plain e ∷ []) b))
-      ∙ sym (append_assoc outer.0 (inner.0 ++ plain e ∷ []) b)),
+          ∙ (ap (λ (xs : BoardState). outer.0 ++ xs) (inner.1 ∙ sym (append_assoc inner.0 (plain e ∷ []) b))
+          ∙ sym (append_assoc outer.0 (inner.0 ++ plain e ∷ []) b)),
     )
 
 past-append : (xs ys : BoardState) → past (xs ++ ys) ≡ past xs ++ past ys

@@ -96,23 +96,35 @@ pub record Putting (measure : Measuring) (s : Setting) (k : Parts) (v r : ℕ) (
 pub out-course : (measure : Measuring) (s : Setting) (k : Parts) (v r : ℕ) (a : FrameName) (f : Bool) (x : RoleState) (n y : NodeState) (id : ℤ) (tick : ℕ)
     → IsCourse measure s k → Putting measure s k v r a f x n → id ≡ id_at s a.index → IsListed id tick (kept_of measure s v a) n y Out
     → IsCourse measure s
-    (record k { log = record k.log { told = plain (Emit v (result_name s v a).maker a.index Step) ∷ plain (put_of s r v a f) ∷ k.log.told };
-    nodes = set k.nodes (v - 1) y; roles = set k.roles r (record x { hand = Free }); transit = job_arrays s v a })
+    (record k {
+      log = record k.log { told = plain (Emit v (result_name s v a).maker a.index Step) ∷ plain (put_of s r v a f) ∷ k.log.told };
+      nodes = set k.nodes (v - 1) y;
+      roles = set k.roles r (record x { hand = Free });
+      transit = job_arrays s v a;
+    })
 out-course measure s k v r a f x n y id tick i p is l =
     let P = log_of k in
     let was = node-is measure s k v n i p.here p.at in
     let step = step-known measure s v P n id (id_at s a.index) true was p.sorted is l.1 in
     subst (λ (z : NodeState). IsCourse measure s
-    (record k { log = record k.log { told = plain (Emit v (result_name s v a).maker a.index Step) ∷ plain (put_of s r v a f) ∷ k.log.told };
-    nodes = set k.nodes (v - 1) z; roles = set k.roles r (record x { hand = Free }); transit = job_arrays s v a })) (sym l.0)
+    (record k {
+      log = record k.log { told = plain (Emit v (result_name s v a).maker a.index Step) ∷ plain (put_of s r v a f) ∷ k.log.told };
+      nodes = set k.nodes (v - 1) z;
+      roles = set k.roles r (record x { hand = Free });
+      transit = job_arrays s v a;
+    })) (sym l.0)
     (put_out_at measure s k v r (v - 1) a f x n y (place-of s v p.here).0 i (put-legal s v r a f k.log.told p.history p.job p.fires)
     (out-legal s v r a f P p.history p.job p.fires p.sorted step) p.role p.at p.empty p.job p.sorted l.2 (l.3 ∙ is) l.4 l.5
     (λ b w some. omega (arith, l.6, was.measures_room b w some)))
 
 pub waits-course : (measure : Measuring) (s : Setting) (k : Parts) (v r : ℕ) (a : FrameName) (f : Bool) (x : RoleState) (n y : NodeState) (id : ℤ) (tick : ℕ)
     → IsCourse measure s k → Putting measure s k v r a f x n → id ≡ id_at s a.index → tick ≡ now (log_of k) → IsListed id tick (kept_of measure s v a) n y Waits
-    → IsCourse measure s (record k { log = record k.log { told = plain (put_of s r v a f) ∷ k.log.told }; nodes = set k.nodes (v - 1) y;
-    roles = set k.roles r (record x { hand = Free }); transit = inputs s v a })
+    → IsCourse measure s (record k {
+      log = record k.log { told = plain (put_of s r v a f) ∷ k.log.told };
+      nodes = set k.nodes (v - 1) y;
+      roles = set k.roles r (record x { hand = Free });
+      transit = inputs s v a;
+    })
 waits-course measure s k v r a f x n y id tick i p is time l =
     let P = log_of k in
     let was = node-is measure s k v n i p.here p.at in
@@ -125,24 +137,38 @@ waits-course measure s k v r a f x n y id tick i p is time l =
     ∙ (ap (λ (b : FrameName). sorting.placed (record { id = id_at s a.index; tick = now P; item = record { name = b; measured = measure v b } })
     (list_of measure s v P)) (sym name)
     ∙ sym (list-comes measure s r v (result_name s v a).maker a.index f P p.sorted))))) in
-    subst (λ (z : NodeState). IsCourse measure s (record k { log = record k.log { told = plain (put_of s r v a f) ∷ k.log.told }; nodes = set k.nodes (v - 1) z;
-    roles = set k.roles r (record x { hand = Free }); transit = inputs s v a })) (sym l.0)
+    subst (λ (z : NodeState). IsCourse measure s (record k {
+      log = record k.log { told = plain (put_of s r v a f) ∷ k.log.told };
+      nodes = set k.nodes (v - 1) z;
+      roles = set k.roles r (record x { hand = Free });
+      transit = inputs s v a;
+    })) (sym l.0)
     (put_in_list_at measure s k v r (v - 1) a f x n y.list (place-of s v p.here).0 i (put-legal s v r a f k.log.told p.history p.job p.fires) p.role p.at
     p.empty p.job p.sorted (ap (λ (q : SortState Kept). q.size) l.3) (ap (λ (q : SortState Kept). q.last) l.3) list)
 
 pub full-course : (measure : Measuring) (s : Setting) (k : Parts) (v r : ℕ) (a : FrameName) (f : Bool) (x : RoleState) (n y : NodeState) (id : ℤ) (tick : ℕ)
     → IsCourse measure s k → Putting measure s k v r a f x n → id ≡ id_at s a.index → IsListed id tick (kept_of measure s v a) n y Full
-    → IsCourse measure s (record k { log = record k.log { told = plain (SortDrop v (result_name s v a).maker a.index) ∷ plain (put_of s r v a f) ∷ k.log.told };
-    nodes = set k.nodes (v - 1) y; roles = set k.roles r (record x { hand = Free });
-    facts = record k.facts { dropped = k.facts.dropped + 1 }; transit = job_arrays s v a })
+    → IsCourse measure s (record k {
+      log = record k.log { told = plain (SortDrop v (result_name s v a).maker a.index) ∷ plain (put_of s r v a f) ∷ k.log.told };
+      nodes = set k.nodes (v - 1) y;
+      roles = set k.roles r (record x { hand = Free });
+      facts = record k.facts { dropped = k.facts.dropped + 1 };
+      transit = job_arrays s v a;
+    })
 full-course measure s k v r a f x n y id tick i p is l =
     let P = log_of k in
     let was = node-is measure s k v n i p.here p.at in
     let step = step-known measure s v P n id (id_at s a.index) false was p.sorted is l.1 in
     let full : length (waiting s v P) ≡ (node s v).sort = omega (arith, waits-known measure s v P n was, was.list_size, l.2) in
     subst (λ (z : NodeState). IsCourse measure s
-    (record k { log = record k.log { told = plain (SortDrop v (result_name s v a).maker a.index) ∷ plain (put_of s r v a f) ∷ k.log.told }; nodes = set k.nodes
-    (v - 1) z; roles = set k.roles r (record x { hand = Free }); facts = record k.facts { dropped = k.facts.dropped + 1 }; transit = job_arrays s v a }))
+    (record k {
+      log = record k.log { told = plain (SortDrop v (result_name s v a).maker a.index) ∷ plain (put_of s r v a f) ∷ k.log.told };
+      nodes = set k.nodes
+          (v - 1) z;
+      roles = set k.roles r (record x { hand = Free });
+      facts = record k.facts { dropped = k.facts.dropped + 1 };
+      transit = job_arrays s v a;
+    }))
     (sym l.0)
     (put_full_at measure s k v r (v - 1) a f x n (place-of s v p.here).0 i (put-legal s v r a f k.log.told p.history p.job p.fires)
     (full-legal s v r a f P p.history p.job p.fires p.sorted step full) p.role p.at p.empty p.job p.sorted)
@@ -160,8 +186,15 @@ measures-room measure s k v r a f n id w i history job fires sorted here at is k
     let Q : Past = put_of s r v a f ∷ P in
     let gone = emits-short s (Emit v m a.index Step ∷ Q) v (out-legal s v r a f P history job fires sorted step) in
     let few = listed-some v measure w (emitted v P) in
-    omega (arith, gone, few, ap length (comes_here v (frame m a.index) (emitted v P)), length-append (emitted v P) (frame m a.index ∷ []),
-    ap length was.measures, was.measures_room (result_name s v a) w some)
+    omega (
+      arith,
+      gone,
+      few,
+      ap length (comes_here v (frame m a.index) (emitted v P)),
+      length-append (emitted v P) (frame m a.index ∷ []),
+      ap length was.measures,
+      was.measures_room (result_name s v a) w some,
+    )
 
 -- and in the log for two more entries
 pub room-for-two : (measure : Measuring) (s : Setting) (k : Parts) (e d : Entry) → IsCourse measure s k → is_legal s (e ∷ d ∷ log_of k) ≡ true

@@ -146,8 +146,13 @@ pub put_in_list : (measure : Measuring) (s : Setting) (k : Parts) (r c : ℕ) (a
     → IsCourse measure s k → is_legal s (put_of s r (suc c) a f ∷ log_of k) ≡ true → slice_get k.roles r ≡ Some x → slice_get k.nodes c ≡ Some n
     → k.transit ≡ [] → JobOn s (suc c) r a (log_of k) → is_sorted s (suc c) ≡ true → l.size ≡ n.list.size → l.last ≡ n.list.last
     → l.waiting ≡ list_of measure s (suc c) (put_of s r (suc c) a f ∷ log_of k)
-    → IsCourse measure s (record k { log = record k.log { told = plain (put_of s r (suc c) a f) ∷ k.log.told }; nodes = set k.nodes c
-    (record n { jobs = n.jobs - 1; puts = n.puts + 1; list = l }); roles = set k.roles r (record x { hand = Free }); transit = inputs s (suc c) a })
+    → IsCourse measure s (record k {
+      log = record k.log { told = plain (put_of s r (suc c) a f) ∷ k.log.told };
+      nodes = set k.nodes c
+          (record n { jobs = n.jobs - 1; puts = n.puts + 1; list = l });
+      roles = set k.roles r (record x { hand = Free });
+      transit = inputs s (suc c) a;
+    })
 put_in_list measure s k r c a f x n l i legal at here empty job sorted size last waits =
     let P = log_of k in
     let v = suc c in
@@ -171,9 +176,12 @@ pub put_out : (measure : Measuring) (s : Setting) (k : Parts) (r c : ℕ) (a : F
     → y.list.last ≡ id_at s a.index → y.list.waiting ≡ n.list.waiting
     → y.measures.items ≡ n.measures.items ++ listed_one (measure (suc c) (result_name s (suc c) a)) → HasRoomToMeasure measure s (suc c) y
     → IsCourse measure s
-    (record k { log = record k.log { told = plain (Emit (suc c) (result_name s (suc c) a).maker a.index Step) ∷ plain (put_of s r (suc c) a f) ∷ k.log.told };
-    nodes = set k.nodes c (record n { jobs = n.jobs - 1; puts = n.puts + 1; list = y.list; measures = y.measures });
-    roles = set k.roles r (record x { hand = Free }); transit = job_arrays s (suc c) a })
+    (record k {
+      log = record k.log { told = plain (Emit (suc c) (result_name s (suc c) a).maker a.index Step) ∷ plain (put_of s r (suc c) a f) ∷ k.log.told };
+      nodes = set k.nodes c (record n { jobs = n.jobs - 1; puts = n.puts + 1; list = y.list; measures = y.measures });
+      roles = set k.roles r (record x { hand = Free });
+      transit = job_arrays s (suc c) a;
+    })
 put_out measure s k r c a f x n y i legal next here at empty job sorted size last waits items room =
     let P = log_of k in
     let v = suc c in
@@ -182,8 +190,12 @@ put_out measure s k r c a f x n y i legal next here at empty job sorted size las
     let l : SortState Kept = record n.list { waiting = list_of measure s v Q } in
     let n1 : NodeState = record n { jobs = n.jobs - 1; puts = n.puts + 1; list = l } in
     let k1 : Parts =
-    record k { log = record k.log { told = plain (put_of s r v a f) ∷ k.log.told }; nodes = set k.nodes c n1;
-    roles = set k.roles r (record x { hand = Free }); transit = inputs s v a } in
+    record k {
+      log = record k.log { told = plain (put_of s r v a f) ∷ k.log.told };
+      nodes = set k.nodes c n1;
+      roles = set k.roles r (record x { hand = Free });
+      transit = inputs s v a;
+    } in
     let i1 : IsCourse measure s k1 = put_in_list measure s k r c a f x n l i legal here at empty job sorted refl refl refl in
     let has : HasBlock P (result_name s v a) =
     All-head (HasBlock P) (result_name s v a) (inputs s v a) (has-arrays s v r a P job.entry i.legal job.has.held job.kind).standing in
@@ -195,10 +207,18 @@ put_out measure s k r c a f x n y i legal next here at empty job sorted size las
     (waits ∙ ((i.nodes.each c n at).waits ∙ sym (list-again measure s r v m a.index f Step P sorted legal)))
     (items ∙ ap (λ (b : FrameName). n.measures.items ++ listed_one (measure v b)) (sym name)) room in
     let told = plain (Emit v m a.index Step) ∷ plain (put_of s r v a f) ∷ k.log.told in
-    subst (λ (ns : List NodeState). IsCourse measure s (record k { log = record k.log { told = told }; nodes = ns;
-    roles = set k.roles r (record x { hand = Free }); transit = job_arrays s v a })) (set-set k.nodes c n1 n2)
-    (subst (λ (b : FrameName). IsCourse measure s (record k { log = record k.log { told = told }; nodes = set (set k.nodes c n1) c n2;
-    roles = set k.roles r (record x { hand = Free }); transit = b ∷ inputs s v a })) name i2)
+    subst (λ (ns : List NodeState). IsCourse measure s (record k {
+      log = record k.log { told = told };
+      nodes = ns;
+      roles = set k.roles r (record x { hand = Free });
+      transit = job_arrays s v a;
+    })) (set-set k.nodes c n1 n2)
+    (subst (λ (b : FrameName). IsCourse measure s (record k {
+      log = record k.log { told = told };
+      nodes = set (set k.nodes c n1) c n2;
+      roles = set k.roles r (record x { hand = Free });
+      transit = b ∷ inputs s v a;
+    })) name i2)
 
 -- the same of a result that found no place
 pub put_full : (measure : Measuring) (s : Setting) (k : Parts) (r c : ℕ) (a : FrameName) (f : Bool) (x : RoleState) (n : NodeState) → IsCourse measure s k
@@ -206,9 +226,13 @@ pub put_full : (measure : Measuring) (s : Setting) (k : Parts) (r c : ℕ) (a : 
     → is_legal s (SortDrop (suc c) (result_name s (suc c) a).maker a.index ∷ put_of s r (suc c) a f ∷ log_of k) ≡ true → slice_get k.roles r ≡ Some x
     → slice_get k.nodes c ≡ Some n → k.transit ≡ [] → JobOn s (suc c) r a (log_of k) → is_sorted s (suc c) ≡ true
     → IsCourse measure s
-    (record k { log = record k.log { told = plain (SortDrop (suc c) (result_name s (suc c) a).maker a.index) ∷ plain (put_of s r (suc c) a f) ∷ k.log.told };
-    nodes = set k.nodes c (record n { jobs = n.jobs - 1; puts = n.puts + 1 }); roles = set k.roles r (record x { hand = Free });
-    facts = record k.facts { dropped = k.facts.dropped + 1 }; transit = job_arrays s (suc c) a })
+    (record k {
+      log = record k.log { told = plain (SortDrop (suc c) (result_name s (suc c) a).maker a.index) ∷ plain (put_of s r (suc c) a f) ∷ k.log.told };
+      nodes = set k.nodes c (record n { jobs = n.jobs - 1; puts = n.puts + 1 });
+      roles = set k.roles r (record x { hand = Free });
+      facts = record k.facts { dropped = k.facts.dropped + 1 };
+      transit = job_arrays s (suc c) a;
+    })
 put_full measure s k r c a f x n i legal next here at empty job sorted =
     let P = log_of k in
     let v = suc c in
@@ -217,8 +241,12 @@ put_full measure s k r c a f x n i legal next here at empty job sorted =
     let l : SortState Kept = record n.list { waiting = list_of measure s v Q } in
     let n1 : NodeState = record n { jobs = n.jobs - 1; puts = n.puts + 1; list = l } in
     let k1 : Parts =
-    record k { log = record k.log { told = plain (put_of s r v a f) ∷ k.log.told }; nodes = set k.nodes c n1;
-    roles = set k.roles r (record x { hand = Free }); transit = inputs s v a } in
+    record k {
+      log = record k.log { told = plain (put_of s r v a f) ∷ k.log.told };
+      nodes = set k.nodes c n1;
+      roles = set k.roles r (record x { hand = Free });
+      transit = inputs s v a;
+    } in
     let i1 : IsCourse measure s k1 = put_in_list measure s k r c a f x n l i legal here at empty job sorted refl refl refl in
     let has : HasBlock P (result_name s v a) =
     All-head (HasBlock P) (result_name s v a) (inputs s v a) (has-arrays s v r a P job.entry i.legal job.has.held job.kind).standing in
@@ -230,10 +258,20 @@ put_full measure s k r c a f x n i legal next here at empty job sorted =
     (was.waits ∙ sym (list-dropped measure s r v m a.index f P sorted legal)) (omega (arith, few-inputs s v a)) in
     let told = plain (SortDrop v m a.index) ∷ plain (put_of s r v a f) ∷ k.log.told in
     let facts = record k.facts { dropped = k.facts.dropped + 1 } in
-    subst (λ (ns : List NodeState). IsCourse measure s (record k { log = record k.log { told = told }; nodes = ns;
-    roles = set k.roles r (record x { hand = Free }); facts = facts; transit = job_arrays s v a })) (set-set k.nodes c n1 n2)
-    (subst (λ (b : FrameName). IsCourse measure s (record k { log = record k.log { told = told }; nodes = set (set k.nodes c n1) c n2;
-    roles = set k.roles r (record x { hand = Free }); facts = facts; transit = b ∷ inputs s v a })) name i2)
+    subst (λ (ns : List NodeState). IsCourse measure s (record k {
+      log = record k.log { told = told };
+      nodes = ns;
+      roles = set k.roles r (record x { hand = Free });
+      facts = facts;
+      transit = job_arrays s v a;
+    })) (set-set k.nodes c n1 n2)
+    (subst (λ (b : FrameName). IsCourse measure s (record k {
+      log = record k.log { told = told };
+      nodes = set (set k.nodes c n1) c n2;
+      roles = set k.roles r (record x { hand = Free });
+      facts = facts;
+      transit = b ∷ inputs s v a;
+    })) name i2)
 
 -- AT A NODE
 -- The same of a node by its number, where its state stands at the place before.
@@ -241,13 +279,26 @@ pub put_in_list_at : (measure : Measuring) (s : Setting) (k : Parts) (v : ℕ) (
     (l : SortState Kept) → suc c ≡ v → IsCourse measure s k → is_legal s (put_of s r v a f ∷ log_of k) ≡ true → slice_get k.roles r ≡ Some x
     → slice_get k.nodes c ≡ Some n → k.transit ≡ [] → JobOn s v r a (log_of k) → is_sorted s v ≡ true → l.size ≡ n.list.size → l.last ≡ n.list.last
     → l.waiting ≡ list_of measure s v (put_of s r v a f ∷ log_of k)
-    → IsCourse measure s (record k { log = record k.log { told = plain (put_of s r v a f) ∷ k.log.told }; nodes = set k.nodes c
-    (record n { jobs = n.jobs - 1; puts = n.puts + 1; list = l }); roles = set k.roles r (record x { hand = Free }); transit = inputs s v a })
+    → IsCourse measure s (record k {
+      log = record k.log { told = plain (put_of s r v a f) ∷ k.log.told };
+      nodes = set k.nodes c
+          (record n { jobs = n.jobs - 1; puts = n.puts + 1; list = l });
+      roles = set k.roles r (record x { hand = Free });
+      transit = inputs s v a;
+    })
 put_in_list_at measure s k v r c a f x n l is i =
     subst (λ u. is_legal s (put_of s r u a f ∷ log_of k) ≡ true → slice_get k.roles r ≡ Some x → slice_get k.nodes c ≡ Some n → k.transit ≡ [] → JobOn s u r a
     (log_of k) → is_sorted s u ≡ true → l.size ≡ n.list.size → l.last ≡ n.list.last → l.waiting ≡ list_of measure s u (put_of s r u a f ∷ log_of k)
-    → IsCourse measure s (record k { log = record k.log { told = plain (put_of s r u a f) ∷ k.log.told }; nodes = set k.nodes c (record n { jobs = n.jobs - 1;
-    puts = n.puts + 1; list = l }); roles = set k.roles r (record x { hand = Free }); transit = inputs s u a })) is (put_in_list measure s k r c a f x n l i)
+    → IsCourse measure s (record k {
+      log = record k.log { told = plain (put_of s r u a f) ∷ k.log.told };
+      nodes = set k.nodes c (record n {
+        jobs = n.jobs - 1;
+        puts = n.puts + 1;
+        list = l;
+      });
+      roles = set k.roles r (record x { hand = Free });
+      transit = inputs s u a;
+    })) is (put_in_list measure s k r c a f x n l i)
 
 pub put_out_at : (measure : Measuring) (s : Setting) (k : Parts) (v : ℕ) (r c : ℕ) (a : FrameName) (f : Bool) (x : RoleState) (n y : NodeState) → suc c ≡ v
     → IsCourse measure s k → is_legal s (put_of s r v a f ∷ log_of k) ≡ true
@@ -256,28 +307,42 @@ pub put_out_at : (measure : Measuring) (s : Setting) (k : Parts) (v : ℕ) (r c 
     → y.list.last ≡ id_at s a.index → y.list.waiting ≡ n.list.waiting
     → y.measures.items ≡ n.measures.items ++ listed_one (measure v (result_name s v a)) → HasRoomToMeasure measure s v y
     → IsCourse measure s
-    (record k { log = record k.log { told = plain (Emit v (result_name s v a).maker a.index Step) ∷ plain (put_of s r v a f) ∷ k.log.told };
-    nodes = set k.nodes c (record n { jobs = n.jobs - 1; puts = n.puts + 1; list = y.list; measures = y.measures });
-    roles = set k.roles r (record x { hand = Free }); transit = job_arrays s v a })
+    (record k {
+      log = record k.log { told = plain (Emit v (result_name s v a).maker a.index Step) ∷ plain (put_of s r v a f) ∷ k.log.told };
+      nodes = set k.nodes c (record n { jobs = n.jobs - 1; puts = n.puts + 1; list = y.list; measures = y.measures });
+      roles = set k.roles r (record x { hand = Free });
+      transit = job_arrays s v a;
+    })
 put_out_at measure s k v r c a f x n y is i =
     subst (λ u. is_legal s (put_of s r u a f ∷ log_of k) ≡ true → is_legal s (Emit u (result_name s u a).maker a.index Step ∷ put_of s r u a f ∷ log_of k)
     ≡ true → slice_get k.roles r ≡ Some x → slice_get k.nodes c ≡ Some n → k.transit ≡ [] → JobOn s u r a (log_of k) → is_sorted s u ≡ true
     → y.list.size ≡ n.list.size → y.list.last ≡ id_at s a.index → y.list.waiting ≡ n.list.waiting
     → y.measures.items ≡ n.measures.items ++ listed_one (measure u (result_name s u a)) → HasRoomToMeasure measure s u y → IsCourse measure s
-    (record k { log = record k.log { told = plain (Emit u (result_name s u a).maker a.index Step) ∷ plain (put_of s r u a f) ∷ k.log.told };
-    nodes = set k.nodes c (record n { jobs = n.jobs - 1; puts = n.puts + 1; list = y.list; measures = y.measures });
-    roles = set k.roles r (record x { hand = Free }); transit = job_arrays s u a })) is (put_out measure s k r c a f x n y i)
+    (record k {
+      log = record k.log { told = plain (Emit u (result_name s u a).maker a.index Step) ∷ plain (put_of s r u a f) ∷ k.log.told };
+      nodes = set k.nodes c (record n { jobs = n.jobs - 1; puts = n.puts + 1; list = y.list; measures = y.measures });
+      roles = set k.roles r (record x { hand = Free });
+      transit = job_arrays s u a;
+    })) is (put_out measure s k r c a f x n y i)
 
 pub put_full_at : (measure : Measuring) (s : Setting) (k : Parts) (v : ℕ) (r c : ℕ) (a : FrameName) (f : Bool) (x : RoleState) (n : NodeState) → suc c ≡ v
     → IsCourse measure s k → is_legal s (put_of s r v a f ∷ log_of k) ≡ true
     → is_legal s (SortDrop v (result_name s v a).maker a.index ∷ put_of s r v a f ∷ log_of k) ≡ true → slice_get k.roles r ≡ Some x
     → slice_get k.nodes c ≡ Some n → k.transit ≡ [] → JobOn s v r a (log_of k) → is_sorted s v ≡ true
-    → IsCourse measure s (record k { log = record k.log { told = plain (SortDrop v (result_name s v a).maker a.index) ∷ plain (put_of s r v a f) ∷ k.log.told };
-    nodes = set k.nodes c (record n { jobs = n.jobs - 1; puts = n.puts + 1 }); roles = set k.roles r (record x { hand = Free });
-    facts = record k.facts { dropped = k.facts.dropped + 1 }; transit = job_arrays s v a })
+    → IsCourse measure s (record k {
+      log = record k.log { told = plain (SortDrop v (result_name s v a).maker a.index) ∷ plain (put_of s r v a f) ∷ k.log.told };
+      nodes = set k.nodes c (record n { jobs = n.jobs - 1; puts = n.puts + 1 });
+      roles = set k.roles r (record x { hand = Free });
+      facts = record k.facts { dropped = k.facts.dropped + 1 };
+      transit = job_arrays s v a;
+    })
 put_full_at measure s k v r c a f x n is i =
     subst (λ u. is_legal s (put_of s r u a f ∷ log_of k) ≡ true → is_legal s (SortDrop u (result_name s u a).maker a.index ∷ put_of s r u a f ∷ log_of k) ≡ true
     → slice_get k.roles r ≡ Some x → slice_get k.nodes c ≡ Some n → k.transit ≡ [] → JobOn s u r a (log_of k) → is_sorted s u ≡ true
-    → IsCourse measure s (record k { log = record k.log { told = plain (SortDrop u (result_name s u a).maker a.index) ∷ plain (put_of s r u a f) ∷ k.log.told };
-    nodes = set k.nodes c (record n { jobs = n.jobs - 1; puts = n.puts + 1 }); roles = set k.roles r (record x { hand = Free });
-    facts = record k.facts { dropped = k.facts.dropped + 1 }; transit = job_arrays s u a })) is (put_full measure s k r c a f x n i)
+    → IsCourse measure s (record k {
+      log = record k.log { told = plain (SortDrop u (result_name s u a).maker a.index) ∷ plain (put_of s r u a f) ∷ k.log.told };
+      nodes = set k.nodes c (record n { jobs = n.jobs - 1; puts = n.puts + 1 });
+      roles = set k.roles r (record x { hand = Free });
+      facts = record k.facts { dropped = k.facts.dropped + 1 };
+      transit = job_arrays s u a;
+    })) is (put_full measure s k r c a f x n i)

@@ -85,8 +85,13 @@ pub record WatchedPut (measure : Measuring) (s : Setting) (k : Parts) (v c r : �
 
 put_in_ring : (measure : Measuring) (s : Setting) (k : Parts) (c r : ℕ) (a : FrameName) (f : Bool) (x : RoleState) (n y : NodeState) (out : List FrameName)
     (q : Watched) → IsCourse measure s k → WatchedPut measure s k (suc c) c r a f x n y out q
-    → IsCourse measure s (record k { log = record k.log { told = plain (Put r (suc c) a.maker a.index f) ∷ k.log.told }; nodes = set k.nodes c
-    (record n { jobs = n.jobs - 1; puts = n.puts + 1; window = y.window }); roles = set k.roles r (record x { hand = Free }); transit = out })
+    → IsCourse measure s (record k {
+      log = record k.log { told = plain (Put r (suc c) a.maker a.index f) ∷ k.log.told };
+      nodes = set k.nodes c
+          (record n { jobs = n.jobs - 1; puts = n.puts + 1; window = y.window });
+      roles = set k.roles r (record x { hand = Free });
+      transit = out;
+    })
 put_in_ring measure s k c r a f x n y out q i p =
     let v = suc c in
     let P = log_of k in
@@ -135,18 +140,34 @@ put_in_ring measure s k c r a f x n y out q i p =
         let g = flat_map (block_of P) in
         let left : g out ++ g after ≡ g before ++ (block_of P a ++ []) =
         sym (flat_map-append (block_of P) out after) ∙ (ap g is ∙ flat_map-append (block_of P) before (a ∷ [])) in
-        omega (arith, ap (times_among b) left, times-append b (g before) (block_of P a ++ []), ap (times_among b) (append-nil (block_of P a)),
-        times-append b (block_of P a ++ g before) [], times-append b (block_of P a) (g before))
+        omega (
+          arith,
+          ap (times_among b) left,
+          times-append b (g before) (block_of P a ++ []),
+          ap (times_among b) (append-nil (block_of P a)),
+          times-append b (block_of P a ++ g before) [],
+          times-append b (block_of P a) (g before),
+        )
 
 -- the same of a node by its number
 pub put_in_ring_at : (measure : Measuring) (s : Setting) (k : Parts) (v c r : ℕ) (a : FrameName) (f : Bool) (x : RoleState) (n y : NodeState)
     (out : List FrameName) (q : Watched) → suc c ≡ v → IsCourse measure s k → WatchedPut measure s k v c r a f x n y out q
-    → IsCourse measure s (record k { log = record k.log { told = plain (Put r v a.maker a.index f) ∷ k.log.told }; nodes = set k.nodes c
-    (record n { jobs = n.jobs - 1; puts = n.puts + 1; window = y.window }); roles = set k.roles r (record x { hand = Free }); transit = out })
+    → IsCourse measure s (record k {
+      log = record k.log { told = plain (Put r v a.maker a.index f) ∷ k.log.told };
+      nodes = set k.nodes c
+          (record n { jobs = n.jobs - 1; puts = n.puts + 1; window = y.window });
+      roles = set k.roles r (record x { hand = Free });
+      transit = out;
+    })
 put_in_ring_at measure s k v c r a f x n y out q is i =
     subst (λ u. WatchedPut measure s k u c r a f x n y out q
-    → IsCourse measure s (record k { log = record k.log { told = plain (Put r u a.maker a.index f) ∷ k.log.told }; nodes = set k.nodes c
-    (record n { jobs = n.jobs - 1; puts = n.puts + 1; window = y.window }); roles = set k.roles r (record x { hand = Free }); transit = out })) is
+    → IsCourse measure s (record k {
+      log = record k.log { told = plain (Put r u a.maker a.index f) ∷ k.log.told };
+      nodes = set k.nodes c
+          (record n { jobs = n.jobs - 1; puts = n.puts + 1; window = y.window });
+      roles = set k.roles r (record x { hand = Free });
+      transit = out;
+    })) is
     (put_in_ring measure s k c r a f x n y out q i)
 
 -- WHAT IT CALLS FOR

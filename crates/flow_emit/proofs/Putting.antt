@@ -69,9 +69,12 @@ pub put_with : (measure : Measuring) (s : Setting) (k : Parts) (r c m j : ℕ) (
     → IsCourse measure s k → is_legal s (Put r (suc c) m j f ∷ log_of k) ≡ true → slice_get k.roles r ≡ Some x → slice_get k.nodes c ≡ Some n
     → HasJob (suc c) r (log_of k) h → Keeps measure s (suc c) (log_of k) (Put r (suc c) m j f ∷ log_of k) y
     → IsAccount s (Put r (suc c) m j f ∷ log_of k) (flat_map (block_of (log_of k)) ts) (all_named k.pool) → All (HasBlock (log_of k)) ts → length ts ≤ 4097
-    → IsCourse measure s (record k { log = record k.log { told = plain (Put r (suc c) m j f) ∷ k.log.told };
-    nodes = set k.nodes c (record n { jobs = n.jobs - 1; puts = n.puts + 1; list = y.list; window = y.window; unsaved = y.unsaved });
-    roles = set k.roles r (record x { hand = Free }); transit = ts })
+    → IsCourse measure s (record k {
+      log = record k.log { told = plain (Put r (suc c) m j f) ∷ k.log.told };
+      nodes = set k.nodes c (record n { jobs = n.jobs - 1; puts = n.puts + 1; list = y.list; window = y.window; unsaved = y.unsaved });
+      roles = set k.roles r (record x { hand = Free });
+      transit = ts;
+    })
 put_with measure s k r c m j f h x n y ts i legal at here has keeps account standing few =
     let P = log_of k in
     let e = Put r (suc c) m j f in
@@ -97,8 +100,11 @@ pub some-job : (measure : Measuring) (s : Setting) (k : Parts) (v r : ℕ) (a : 
     → slice_get k.nodes (v - 1) ≡ Some n → is_job_on v a (hand r (log_of k)) ≡ true → 0 < n.jobs
 some-job measure s k v r a n i h at on =
     let job = job-on s v r a (log_of k) i.legal on in
-    omega (arith, (node-is measure s k v n i h at).working,
-    job_laws.down (is_job v) r job.entry (Put r v 0 0 false) (log_of k) (eq-eqb r r refl) job.has.held job.has.job)
+    omega (
+      arith,
+      (node-is measure s k v n i h at).working,
+      job_laws.down (is_job v) r job.entry (Put r v 0 0 false) (log_of k) (eq-eqb r r refl) job.has.held job.has.job,
+    )
 
 pub few-puts : (measure : Measuring) (s : Setting) (k : Parts) (v : ℕ) (n : NodeState) → IsCourse measure s k → is_node s v ≡ true
     → slice_get k.nodes (v - 1) ≡ Some n → n.puts < 4294967295
@@ -145,8 +151,13 @@ keeps-none measure s v P Q n goes plain_one i =
 pub put_at_once : (measure : Measuring) (s : Setting) (k : Parts) (r c m j : ℕ) (f : Bool) (h : Entry) (a : FrameName) (x : RoleState) (n : NodeState)
     → IsCourse measure s k → is_legal s (Put r (suc c) m j f ∷ log_of k) ≡ true → slice_get k.roles r ≡ Some x → slice_get k.nodes c ≡ Some n → k.transit ≡ []
     → HasJob (suc c) r (log_of k) h → passes_all s (suc c) ≡ true → is_sorted s (suc c) ≡ false → HasArrays s (suc c) a (log_of k) h
-    → IsCourse measure s (record k { log = record k.log { told = plain (Put r (suc c) m j f) ∷ k.log.told }; nodes = set k.nodes c
-    (record n { jobs = n.jobs - 1; puts = n.puts + 1 }); roles = set k.roles r (record x { hand = Free }); transit = job_arrays s (suc c) a })
+    → IsCourse measure s (record k {
+      log = record k.log { told = plain (Put r (suc c) m j f) ∷ k.log.told };
+      nodes = set k.nodes c
+          (record n { jobs = n.jobs - 1; puts = n.puts + 1 });
+      roles = set k.roles r (record x { hand = Free });
+      transit = job_arrays s (suc c) a;
+    })
 put_at_once measure s k r c m j f h a x n i legal at here empty has goes plain_one arrays =
     let P = log_of k in
     let v = suc c in
@@ -180,8 +191,11 @@ pub put_file : (measure : Measuring) (s : Setting) (k : Parts) (r c m j : ℕ) (
     → is_legal s (Put r (suc c) m j f ∷ log_of k) ≡ true → slice_get k.roles r ≡ Some x → slice_get k.nodes c ≡ Some n → k.transit ≡ []
     → hand r (log_of k) ≡ Some (Take q (suc c) m j) → saves_all s (suc c) ≡ true → y.unsaved.items ≡ n.unsaved.items ++ frame m j ∷ []
     → deque_capacity y.unsaved ≡ deque_capacity n.unsaved
-    → IsCourse measure s (record k { log = record k.log { told = plain (Put r (suc c) m j f) ∷ k.log.told };
-    nodes = set k.nodes c (record n { jobs = n.jobs - 1; puts = n.puts + 1; unsaved = y.unsaved }); roles = set k.roles r (record x { hand = Free }) })
+    → IsCourse measure s (record k {
+      log = record k.log { told = plain (Put r (suc c) m j f) ∷ k.log.told };
+      nodes = set k.nodes c (record n { jobs = n.jobs - 1; puts = n.puts + 1; unsaved = y.unsaved });
+      roles = set k.roles r (record x { hand = Free });
+    })
 put_file measure s k r c m j f q x n y i legal at here empty held file items room =
     let P = log_of k in
     let v = suc c in
@@ -208,31 +222,53 @@ unsaved-short measure s k v r m j f n i h at file legal =
     let P = log_of k in
     let was = node-is measure s k v n i h at in
     let all = save_laws.front s v P i.legal file in
-    omega (arith, was.unsaved_room, ap length was.kept, ap length all, length-append (standing_saves v P) (unsaved s v P),
-    puts-short s (Put r v m j f ∷ P) v legal, ap length (node_puts.array r v m j f P), length-append (puts v P) (frame m j ∷ []))
+    omega (
+      arith,
+      was.unsaved_room,
+      ap length was.kept,
+      ap length all,
+      length-append (standing_saves v P) (unsaved s v P),
+      puts-short s (Put r v m j f ∷ P) v legal,
+      ap length (node_puts.array r v m j f P),
+      length-append (puts v P) (frame m j ∷ []),
+    )
 
 -- AT A NODE
 -- The same of a node by its number, where its state stands at the place before.
 pub put_at_once_at : (measure : Measuring) (s : Setting) (k : Parts) (v : ℕ) (r c m j : ℕ) (f : Bool) (h : Entry) (a : FrameName) (x : RoleState)
     (n : NodeState) → suc c ≡ v → IsCourse measure s k → is_legal s (Put r v m j f ∷ log_of k) ≡ true → slice_get k.roles r ≡ Some x
     → slice_get k.nodes c ≡ Some n → k.transit ≡ [] → HasJob v r (log_of k) h → passes_all s v ≡ true → is_sorted s v ≡ false → HasArrays s v a (log_of k) h
-    → IsCourse measure s (record k { log = record k.log { told = plain (Put r v m j f) ∷ k.log.told };
-    nodes = set k.nodes c (record n { jobs = n.jobs - 1; puts = n.puts + 1 }); roles = set k.roles r (record x { hand = Free }); transit = job_arrays s v a })
+    → IsCourse measure s (record k {
+      log = record k.log { told = plain (Put r v m j f) ∷ k.log.told };
+      nodes = set k.nodes c (record n { jobs = n.jobs - 1; puts = n.puts + 1 });
+      roles = set k.roles r (record x { hand = Free });
+      transit = job_arrays s v a;
+    })
 put_at_once_at measure s k v r c m j f h a x n is i =
     subst (λ u. is_legal s (Put r u m j f ∷ log_of k) ≡ true → slice_get k.roles r ≡ Some x → slice_get k.nodes c ≡ Some n → k.transit ≡ []
     → HasJob u r (log_of k) h → passes_all s u ≡ true → is_sorted s u ≡ false → HasArrays s u a (log_of k) h → IsCourse measure s
-    (record k { log = record k.log { told = plain (Put r u m j f) ∷ k.log.told }; nodes = set k.nodes c (record n { jobs = n.jobs - 1; puts = n.puts + 1 });
-    roles = set k.roles r (record x { hand = Free }); transit = job_arrays s u a })) is (put_at_once measure s k r c m j f h a x n i)
+    (record k {
+      log = record k.log { told = plain (Put r u m j f) ∷ k.log.told };
+      nodes = set k.nodes c (record n { jobs = n.jobs - 1; puts = n.puts + 1 });
+      roles = set k.roles r (record x { hand = Free });
+      transit = job_arrays s u a;
+    })) is (put_at_once measure s k r c m j f h a x n i)
 
 pub put_file_at : (measure : Measuring) (s : Setting) (k : Parts) (v : ℕ) (r c m j : ℕ) (f : Bool) (q : ℕ) (x : RoleState) (n y : NodeState) → suc c ≡ v
     → IsCourse measure s k → is_legal s (Put r v m j f ∷ log_of k) ≡ true → slice_get k.roles r ≡ Some x → slice_get k.nodes c ≡ Some n → k.transit ≡ []
     → hand r (log_of k) ≡ Some (Take q v m j) → saves_all s v ≡ true → y.unsaved.items ≡ n.unsaved.items ++ frame m j ∷ []
     → deque_capacity y.unsaved ≡ deque_capacity n.unsaved
-    → IsCourse measure s (record k { log = record k.log { told = plain (Put r v m j f) ∷ k.log.told };
-    nodes = set k.nodes c (record n { jobs = n.jobs - 1; puts = n.puts + 1; unsaved = y.unsaved }); roles = set k.roles r (record x { hand = Free }) })
+    → IsCourse measure s (record k {
+      log = record k.log { told = plain (Put r v m j f) ∷ k.log.told };
+      nodes = set k.nodes c (record n { jobs = n.jobs - 1; puts = n.puts + 1; unsaved = y.unsaved });
+      roles = set k.roles r (record x { hand = Free });
+    })
 put_file_at measure s k v r c m j f q x n y is i =
     subst (λ u. is_legal s (Put r u m j f ∷ log_of k) ≡ true → slice_get k.roles r ≡ Some x → slice_get k.nodes c ≡ Some n → k.transit ≡ []
     → hand r (log_of k) ≡ Some (Take q u m j) → saves_all s u ≡ true → y.unsaved.items ≡ n.unsaved.items ++ frame m j ∷ []
-    → deque_capacity y.unsaved ≡ deque_capacity n.unsaved → IsCourse measure s (record k { log = record k.log { told = plain (Put r u m j f) ∷ k.log.told };
-    nodes = set k.nodes c (record n { jobs = n.jobs - 1; puts = n.puts + 1; unsaved = y.unsaved }); roles = set k.roles r (record x { hand = Free }) })) is
+    → deque_capacity y.unsaved ≡ deque_capacity n.unsaved → IsCourse measure s (record k {
+      log = record k.log { told = plain (Put r u m j f) ∷ k.log.told };
+      nodes = set k.nodes c (record n { jobs = n.jobs - 1; puts = n.puts + 1; unsaved = y.unsaved });
+      roles = set k.roles r (record x { hand = Free });
+    })) is
     (put_file measure s k r c m j f q x n y i)

@@ -71,12 +71,22 @@ none_astray : (s : Setting) (P : Past) → is_legal s P ≡ true → count (is_a
 none_astray s [] h = refl
 none_astray s (Take r v m k ∷ P) h =
     let here = threads-node s v _ ((row_laws.take s P r v m k).0 (row_of s (Take r v m k) P (λ d. refl) h)).0.room in
-    omega (arith, none_astray s P (and_parts _ _ h).0, count-cons (is_astray s) (Take r v m k) (let_go r (hands P)), count-let_go-le (is_astray s) r (hands P),
-    ap (λ (b : Bool). bit (not b)) here)
+    omega (
+      arith,
+      none_astray s P (and_parts _ _ h).0,
+      count-cons (is_astray s) (Take r v m k) (let_go r (hands P)),
+      count-let_go-le (is_astray s) r (hands P),
+      ap (λ (b : Bool). bit (not b)) here,
+    )
 none_astray s (TakeBlock f x r v m k b n g ∷ P) h =
     let here = threads-node s v _ ((row_laws.take_block s P r v m k b n f g x).0 (row_of s (TakeBlock f x r v m k b n g) P (λ d. refl) h)).0.room in
-    omega (arith, none_astray s P (and_parts _ _ h).0, count-cons (is_astray s) (TakeBlock f x r v m k b n g) (let_go r (hands P)),
-    count-let_go-le (is_astray s) r (hands P), ap (λ (y : Bool). bit (not y)) here)
+    omega (
+      arith,
+      none_astray s P (and_parts _ _ h).0,
+      count-cons (is_astray s) (TakeBlock f x r v m k b n g) (let_go r (hands P)),
+      count-let_go-le (is_astray s) r (hands P),
+      ap (λ (y : Bool). bit (not y)) here,
+    )
 none_astray s (Issue r k ∷ P) h = omega (arith, none_astray s P (and_parts _ _ h).0, count-let_go-le (is_astray s) r (hands P))
 none_astray s (Put r v m k f ∷ P) h = omega (arith, none_astray s P (and_parts _ _ h).0, count-let_go-le (is_astray s) r (hands P))
 none_astray s (Saved r v m k ∷ P) h = omega (arith, none_astray s P (and_parts _ _ h).0, count-let_go-le (is_astray s) r (hands P))
@@ -99,8 +109,11 @@ role-back s r P rs x are at legal =
     let was = are.each r x at in
     let e = Reclaim r in
     role-changed s P (e ∷ P) rs r _ are (rw (was, hand_laws.down s r e P legal (eq-eqb r r refl), role_laws.left_others r e P refl, role_laws.reclaim r P) refl)
-    (λ q ne. rw (hand_laws.others q e P refl (ne_eqb r q (λ d. ne (sym d))), role_laws.left_others q e P refl,
-    role_laws.reclaimed_others q e P (ne_eqb r q (λ d. ne (sym d)))) refl)
+    (λ q ne. rw (
+      hand_laws.others q e P refl (ne_eqb r q (λ d. ne (sym d))),
+      role_laws.left_others q e P refl,
+      role_laws.reclaimed_others q e P (ne_eqb r q (λ d. ne (sym d))),
+    ) refl)
 
 -- the pool, once it dropped the hold of a granted block
 dropped : (s : Setting) (P : Past) (k : Parts) (c : ℕ) → IsAccount s P (c ∷ []) (all_named k.pool)
@@ -126,8 +139,13 @@ pub back_loaded : (measure : Measuring) (s : Setting) (k : Parts) (r q j b n : �
     → IsCourse measure s k → is_legal s (Reclaim r ∷ log_of k) ≡ true → slice_get k.roles r ≡ Some x → k.transit ≡ []
     → hand r (log_of k) ≡ Some (Load q j b n f g w)
     → IsCourse measure s
-    (record k { log = record k.log { told = loses r lost ∷ k.log.told }; roles = set k.roles r (record x { hand = Free; was_reclaimed = true });
-    pool = with_refs b (ledger.refs k.pool b - 1) k.pool; facts = record k.facts { offered = k.facts.offered - 1; loaded = false }; transit = [] })
+    (record k {
+      log = record k.log { told = loses r lost ∷ k.log.told };
+      roles = set k.roles r (record x { hand = Free; was_reclaimed = true });
+      pool = with_refs b (ledger.refs k.pool b - 1) k.pool;
+      facts = record k.facts { offered = k.facts.offered - 1; loaded = false };
+      transit = [];
+    })
 back_loaded measure s k r q j b n f g w x lost i legal at still held =
     let P = log_of k in
     let e = Load q j b n f g w in
@@ -150,9 +168,12 @@ back_loaded measure s k r q j b n f g w x lost i legal at still held =
 pub back_taken : (measure : Measuring) (s : Setting) (k : Parts) (r q c m j : ℕ) (x : RoleState) (n : NodeState) (lost : List ℕ) → IsCourse measure s k
     → is_legal s (Reclaim r ∷ log_of k) ≡ true → slice_get k.roles r ≡ Some x → slice_get k.nodes c ≡ Some n → k.transit ≡ []
     → hand r (log_of k) ≡ Some (Take q (suc c) m j)
-    → IsCourse measure s (record k { log = record k.log { told = loses r lost ∷ k.log.told };
-    nodes = set k.nodes c (record n { inbox = with_front n.inbox (frame m j); jobs = n.jobs - 1 });
-    roles = set k.roles r (record x { hand = Free; was_reclaimed = true }); transit = [] })
+    → IsCourse measure s (record k {
+      log = record k.log { told = loses r lost ∷ k.log.told };
+      nodes = set k.nodes c (record n { inbox = with_front n.inbox (frame m j); jobs = n.jobs - 1 });
+      roles = set k.roles r (record x { hand = Free; was_reclaimed = true });
+      transit = [];
+    })
 back_taken measure s k r q c m j x n lost i legal at here still held =
     let P = log_of k in
     let e = Take q (suc c) m j in
@@ -176,9 +197,13 @@ back_taken measure s k r q c m j x n lost i legal at here still held =
 pub back_making : (measure : Measuring) (s : Setting) (k : Parts) (r q c m j b z : ℕ) (f : Bool) (g : ℕ) (w : Bool) (x : RoleState) (n : NodeState)
     (lost : List ℕ) → IsCourse measure s k → is_legal s (Reclaim r ∷ log_of k) ≡ true → slice_get k.roles r ≡ Some x → slice_get k.nodes c ≡ Some n
     → k.transit ≡ [] → hand r (log_of k) ≡ Some (TakeBlock f w q (suc c) m j b z g)
-    → IsCourse measure s (record k { log = record k.log { told = loses r lost ∷ k.log.told };
-    nodes = set k.nodes c (record n { inbox = with_front n.inbox (frame m j); jobs = n.jobs - 1 });
-    roles = set k.roles r (record x { hand = Free; was_reclaimed = true }); pool = with_refs b (ledger.refs k.pool b - 1) k.pool; transit = [] })
+    → IsCourse measure s (record k {
+      log = record k.log { told = loses r lost ∷ k.log.told };
+      nodes = set k.nodes c (record n { inbox = with_front n.inbox (frame m j); jobs = n.jobs - 1 });
+      roles = set k.roles r (record x { hand = Free; was_reclaimed = true });
+      pool = with_refs b (ledger.refs k.pool b - 1) k.pool;
+      transit = [];
+    })
 back_making measure s k r q c m j b z f g w x n lost i legal at here still held =
     let P = log_of k in
     let e = TakeBlock f w q (suc c) m j b z g in
@@ -202,8 +227,16 @@ back_making measure s k r q c m j b z f g w x n lost i legal at here still held 
 pub back_piece : (measure : Measuring) (s : Setting) (k : Parts) (r q c m j g : ℕ) (x : RoleState) (n y : NodeState) (lost : List ℕ) → IsCourse measure s k
     → is_legal s (Reclaim r ∷ log_of k) ≡ true → slice_get k.roles r ≡ Some x → slice_get k.nodes c ≡ Some n → k.transit ≡ []
     → hand r (log_of k) ≡ Some (Save q (suc c) m j g) → y.unsaved.items ≡ frame m j ∷ n.unsaved.items → length s.ids ≤ deque_capacity y.unsaved
-    → IsCourse measure s (record k { log = record k.log { told = loses r lost ∷ k.log.told }; nodes = set k.nodes c (record n { unsaved = y.unsaved;
-    saves = n.saves - 1; saving = false }); roles = set k.roles r (record x { hand = Free; was_reclaimed = true }); transit = [] })
+    → IsCourse measure s (record k {
+      log = record k.log { told = loses r lost ∷ k.log.told };
+      nodes = set k.nodes c (record n {
+        unsaved = y.unsaved;
+        saves = n.saves - 1;
+        saving = false;
+      });
+      roles = set k.roles r (record x { hand = Free; was_reclaimed = true });
+      transit = [];
+    })
 back_piece measure s k r q c m j g x n y lost i legal at here still held items room =
     let P = log_of k in
     let e = Save q (suc c) m j g in
@@ -230,38 +263,68 @@ back_piece measure s k r q c m j g x n y lost i legal at here still held items r
 pub back_taken_at : (measure : Measuring) (s : Setting) (k : Parts) (v : ℕ) (r q c m j : ℕ) (x : RoleState) (n : NodeState) (lost : List ℕ) → suc c ≡ v
     → IsCourse measure s k → is_legal s (Reclaim r ∷ log_of k) ≡ true → slice_get k.roles r ≡ Some x → slice_get k.nodes c ≡ Some n → k.transit ≡ []
     → hand r (log_of k) ≡ Some (Take q v m j)
-    → IsCourse measure s (record k { log = record k.log { told = loses r lost ∷ k.log.told };
-    nodes = set k.nodes c (record n { inbox = with_front n.inbox (frame m j); jobs = n.jobs - 1 });
-    roles = set k.roles r (record x { hand = Free; was_reclaimed = true }); transit = [] })
+    → IsCourse measure s (record k {
+      log = record k.log { told = loses r lost ∷ k.log.told };
+      nodes = set k.nodes c (record n { inbox = with_front n.inbox (frame m j); jobs = n.jobs - 1 });
+      roles = set k.roles r (record x { hand = Free; was_reclaimed = true });
+      transit = [];
+    })
 back_taken_at measure s k v r q c m j x n lost is i =
     subst (λ u. is_legal s (Reclaim r ∷ log_of k) ≡ true → slice_get k.roles r ≡ Some x → slice_get k.nodes c ≡ Some n → k.transit ≡ []
-    → hand r (log_of k) ≡ Some (Take q u m j) → IsCourse measure s (record k { log = record k.log { told = loses r lost ∷ k.log.told };
-    nodes = set k.nodes c (record n { inbox = with_front n.inbox (frame m j); jobs = n.jobs - 1 });
-    roles = set k.roles r (record x { hand = Free; was_reclaimed = true }); transit = [] })) is (back_taken measure s k r q c m j x n lost i)
+    → hand r (log_of k) ≡ Some (Take q u m j) → IsCourse measure s (record k {
+      log = record k.log { told = loses r lost ∷ k.log.told };
+      nodes = set k.nodes c (record n { inbox = with_front n.inbox (frame m j); jobs = n.jobs - 1 });
+      roles = set k.roles r (record x { hand = Free; was_reclaimed = true });
+      transit = [];
+    })) is (back_taken measure s k r q c m j x n lost i)
 
 pub back_making_at : (measure : Measuring) (s : Setting) (k : Parts) (v : ℕ) (r q c m j b z : ℕ) (f : Bool) (g : ℕ) (w : Bool) (x : RoleState) (n : NodeState)
     (lost : List ℕ) → suc c ≡ v → IsCourse measure s k → is_legal s (Reclaim r ∷ log_of k) ≡ true → slice_get k.roles r ≡ Some x → slice_get k.nodes c ≡ Some n
     → k.transit ≡ [] → hand r (log_of k) ≡ Some (TakeBlock f w q v m j b z g)
-    → IsCourse measure s (record k { log = record k.log { told = loses r lost ∷ k.log.told };
-    nodes = set k.nodes c (record n { inbox = with_front n.inbox (frame m j); jobs = n.jobs - 1 });
-    roles = set k.roles r (record x { hand = Free; was_reclaimed = true }); pool = with_refs b (ledger.refs k.pool b - 1) k.pool; transit = [] })
+    → IsCourse measure s (record k {
+      log = record k.log { told = loses r lost ∷ k.log.told };
+      nodes = set k.nodes c (record n { inbox = with_front n.inbox (frame m j); jobs = n.jobs - 1 });
+      roles = set k.roles r (record x { hand = Free; was_reclaimed = true });
+      pool = with_refs b (ledger.refs k.pool b - 1) k.pool;
+      transit = [];
+    })
 back_making_at measure s k v r q c m j b z f g w x n lost is i =
     subst (λ u. is_legal s (Reclaim r ∷ log_of k) ≡ true → slice_get k.roles r ≡ Some x → slice_get k.nodes c ≡ Some n → k.transit ≡ []
-    → hand r (log_of k) ≡ Some (TakeBlock f w q u m j b z g) → IsCourse measure s (record k { log = record k.log { told = loses r lost ∷ k.log.told };
-    nodes = set k.nodes c (record n { inbox = with_front n.inbox (frame m j); jobs = n.jobs - 1 });
-    roles = set k.roles r (record x { hand = Free; was_reclaimed = true }); pool = with_refs b (ledger.refs k.pool b - 1) k.pool; transit = [] })) is
+    → hand r (log_of k) ≡ Some (TakeBlock f w q u m j b z g) → IsCourse measure s (record k {
+      log = record k.log { told = loses r lost ∷ k.log.told };
+      nodes = set k.nodes c (record n { inbox = with_front n.inbox (frame m j); jobs = n.jobs - 1 });
+      roles = set k.roles r (record x { hand = Free; was_reclaimed = true });
+      pool = with_refs b (ledger.refs k.pool b - 1) k.pool;
+      transit = [];
+    })) is
     (back_making measure s k r q c m j b z f g w x n lost i)
 
 pub back_piece_at : (measure : Measuring) (s : Setting) (k : Parts) (v : ℕ) (r q c m j g : ℕ) (x : RoleState) (n y : NodeState) (lost : List ℕ) → suc c ≡ v
     → IsCourse measure s k → is_legal s (Reclaim r ∷ log_of k) ≡ true → slice_get k.roles r ≡ Some x → slice_get k.nodes c ≡ Some n → k.transit ≡ []
     → hand r (log_of k) ≡ Some (Save q v m j g) → y.unsaved.items ≡ frame m j ∷ n.unsaved.items → length s.ids ≤ deque_capacity y.unsaved
-    → IsCourse measure s (record k { log = record k.log { told = loses r lost ∷ k.log.told }; nodes = set k.nodes c (record n { unsaved = y.unsaved;
-    saves = n.saves - 1; saving = false }); roles = set k.roles r (record x { hand = Free; was_reclaimed = true }); transit = [] })
+    → IsCourse measure s (record k {
+      log = record k.log { told = loses r lost ∷ k.log.told };
+      nodes = set k.nodes c (record n {
+        unsaved = y.unsaved;
+        saves = n.saves - 1;
+        saving = false;
+      });
+      roles = set k.roles r (record x { hand = Free; was_reclaimed = true });
+      transit = [];
+    })
 back_piece_at measure s k v r q c m j g x n y lost is i =
     subst (λ u. is_legal s (Reclaim r ∷ log_of k) ≡ true → slice_get k.roles r ≡ Some x → slice_get k.nodes c ≡ Some n → k.transit ≡ []
     → hand r (log_of k) ≡ Some (Save q u m j g) → y.unsaved.items ≡ frame m j ∷ n.unsaved.items → length s.ids ≤ deque_capacity y.unsaved
-    → IsCourse measure s (record k { log = record k.log { told = loses r lost ∷ k.log.told }; nodes = set k.nodes c (record n { unsaved = y.unsaved;
-    saves = n.saves - 1; saving = false }); roles = set k.roles r (record x { hand = Free; was_reclaimed = true }); transit = [] })) is
+    → IsCourse measure s (record k {
+      log = record k.log { told = loses r lost ∷ k.log.told };
+      nodes = set k.nodes c (record n {
+        unsaved = y.unsaved;
+        saves = n.saves - 1;
+        saving = false;
+      });
+      roles = set k.roles r (record x { hand = Free; was_reclaimed = true });
+      transit = [];
+    })) is
     (back_piece measure s k r q c m j g x n y lost i)
 
 -- WHAT A HAND IS
@@ -296,10 +359,15 @@ hand-making (Some (Take r w m k)) v a z h = cc
 hand-making (Some (TakeBlock f x r w m k b n g)) v a z h =
     let e : w ≡ v = cc in
     let d : frame m k ≡ a = cc in
-    let c : record { number = b; size = n } ≡ z = cc in
-    (r, n, f, g, x,
-    ap (λ i. Some (TakeBlock f x r i m k b n g)) e
-    ∙ (ap (λ (y : FrameName). Some (TakeBlock f x r v y.maker y.index b n g)) d ∙ ap (λ (y : Block). Some (TakeBlock f x r v a.maker a.index y.number n g)) c))
+    let c : record { number = b; size = n } ≡ z = cc in (
+      r,
+      n,
+      f,
+      g,
+      x,
+      ap (λ i. Some (TakeBlock f x r i m k b n g)) e
+          ∙ (ap (λ (y : FrameName). Some (TakeBlock f x r v y.maker y.index b n g)) d ∙ ap (λ (y : Block). Some (TakeBlock f x r v a.maker a.index y.number n g)) c),
+    )
 hand-making (Some (Save r w m k g)) v a z h = cc
 hand-making (Some _) v a z h = cc
 
@@ -378,8 +446,12 @@ back-room measure s k v n i here at some =
 pub piece-there : (measure : Measuring) (s : Setting) (k : Parts) (v r q m j g : ℕ) (n : NodeState) → IsCourse measure s k → is_node s v ≡ true
     → slice_get k.nodes (v - 1) ≡ Some n → hand r (log_of k) ≡ Some (Save q v m j g) → 0 < n.saves
 piece-there measure s k v r q m j g n i here at held =
-    omega (arith, (node-is measure s k v n i here at).pieces, ap length (last_piece s (log_of k) r q v m j g i.legal held),
-    length-append (saves v (let_go r (standing (log_of k)))) (frame m j ∷ []))
+    omega (
+      arith,
+      (node-is measure s k v n i here at).pieces,
+      ap length (last_piece s (log_of k) r q v m j g i.legal held),
+      length-append (saves v (let_go r (standing (log_of k)))) (frame m j ∷ []),
+    )
 
 pub unsaved-room : (measure : Measuring) (s : Setting) (k : Parts) (v r q m j g : ℕ) (n : NodeState) → IsCourse measure s k → is_node s v ≡ true
     → slice_get k.nodes (v - 1) ≡ Some n → hand r (log_of k) ≡ Some (Save q v m j g) → length n.unsaved.items < deque_capacity n.unsaved
@@ -387,8 +459,16 @@ unsaved-room measure s k v r q m j g n i here at held =
     let P = log_of k in
     let o = node-is measure s k v n i here at in
     let front = save_laws.front s v P i.legal (piece-file s r q v m j g P i.legal held) in
-    omega (arith, o.unsaved_room (piece-file s r q v m j g P i.legal held), ap length o.kept, ap length front,
-    length-append (standing_saves v P) (unsaved s v P), puts-short s P v i.legal, piece-there measure s k v r q m j g n i here at held, o.pieces)
+    omega (
+      arith,
+      o.unsaved_room (piece-file s r q v m j g P i.legal held),
+      ap length o.kept,
+      ap length front,
+      length-append (standing_saves v P) (unsaved s v P),
+      puts-short s P v i.legal,
+      piece-there measure s k v r q m j g n i here at held,
+      o.pieces,
+    )
 
 pub role-named : (r q v m j g : ℕ) (P : Past) → hand r P ≡ Some (Save q v m j g) → q ≡ r
 role-named r q v m j g P held = eqb-true q r (names_role r P (Save q v m j g) held)

@@ -101,6 +101,10 @@ window-at measure s k v n i node_is kind running =
       stands = record { after = w.after; items = sym (ring_laws.flags v P); ring = w.ring; pending = is.2 };
       ring = w.ring ∙ sym (ring_laws.kept_is s v P n.window.pre n.window.post n.window.preset w.rule running);
       few =
-          omega (arith, ap length w.ring, kept-few n.window.pre n.window.post n.window.preset (firings v P) (puts v P),
-          few-before s k measure v n.window.pre n.window.post n.window.preset i w.rule);
+          omega (
+            arith,
+            ap length w.ring,
+            kept-few n.window.pre n.window.post n.window.preset (firings v P) (puts v P),
+            few-before s k measure v n.window.pre n.window.post n.window.preset i w.rule,
+          );
     }

@@ -69,8 +69,17 @@ few-threads s ru are = omega (arith, last-is s ru are, are.few_threads)
 pub course-none : (measure : Measuring) (s : Setting) (ru : Rules) (ns : List NodeState) (rs : List RoleState) (bs : List ℕ) (last : ℕ) → AreRules ru s
     → AreNodes measure s [] ns → last ≡ sum_by (λ (n : NodeRules). n.threads) ru.nodes + 1
     → rs ≡ replicate (last + 1) free_role → bs ≡ replicate ((length ru.nodes + 1) * length ru.ids) 0
-    → IsCourse measure s (record { log = empty_log (most_entries s) last; rules = ru; nodes = ns; roles = rs; pool = empty_ledger ru.limit 0; blocks = bs;
-    facts = facts_of []; transit = []; room = 4097 })
+    → IsCourse measure s (record {
+      log = empty_log (most_entries s) last;
+      rules = ru;
+      nodes = ns;
+      roles = rs;
+      pool = empty_ledger ru.limit 0;
+      blocks = bs;
+      facts = facts_of [];
+      transit = [];
+      room = 4097;
+    })
 course-none measure s ru ns rs bs last ruled nodes is roles blocks =
     let l : last ≡ last_role s = is ∙ last-is s ru ruled in
     let many : length ru.nodes ≡ length s.nodes = sym (length-map ru.nodes as_node) ∙ ap length ruled.nodes in

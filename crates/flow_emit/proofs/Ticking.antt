@@ -38,12 +38,12 @@ goes-of : (s : Setting) (v : ℕ) (before : ℤ) (t : ℕ) (ws : List Waiting) �
 goes-of s v before t [] = refl
 goes-of s v before t (w ∷ ws) =
     split (keeps_step before (id_at s w.array.index)) (ltb (w.tick + (node s v).sort_time) t) (goes-of s v (id_at s w.array.index) t ws) where
-  split : (a b : Bool) → list_all (is_out_of v) (goes_out s v (id_at s w.array.index) t ws) ≡ true
-      → list_all (is_out_of v) (if a then emit v Step w.array ∷ goes_out s v (id_at s w.array.index) t ws
-      else if b then emit v Late w.array ∷ goes_out s v (id_at s w.array.index) t ws else []) ≡ true
-  split true b more = and_from _ _ (eq-eqb v v refl) more
-  split false true more = and_from _ _ (eq-eqb v v refl) more
-  split false false more = refl
+      split : (a b : Bool) → list_all (is_out_of v) (goes_out s v (id_at s w.array.index) t ws) ≡ true
+          → list_all (is_out_of v) (if a then emit v Step w.array ∷ goes_out s v (id_at s w.array.index) t ws
+          else if b then emit v Late w.array ∷ goes_out s v (id_at s w.array.index) t ws else []) ≡ true
+      split true b more = and_from _ _ (eq-eqb v v refl) more
+      split false true more = and_from _ _ (eq-eqb v v refl) more
+      split false false more = refl
 
 -- all of it goes out of that node
 look-of : (s : Setting) (v : ℕ) (P : Past) → list_all (is_out_of v) (look s v P) ≡ true

@@ -139,8 +139,15 @@ take_block-count s r v m k c n f g x P b h =
     let others : total u s P ≡ total t s P =
     tests-same u t (frame v k) s P (λ a other. ap (list_any (is_number b)) (block_laws.take_block_other r v m k c n f g x P a other))
     (untaken-nowhere s r v m k c n f g x P h) in
-    omega (arith, refs-total s b (e ∷ P) h, total-take_block u s r v m k c n f g x P h, ap bit (made ∙ or-false (eqb c b)),
-    others, before s e P b h, one_among b c)
+    omega (
+      arith,
+      refs-total s b (e ∷ P) h,
+      total-take_block u s r v m k c n f g x P h,
+      ap bit (made ∙ or-false (eqb c b)),
+      others,
+      before s e P b h,
+      one_among b c,
+    )
 
 -- where a hand is reclaimed in which a frame was made, its block goes with it
 reclaim_load-count : (s : Setting) (r q k c n : ℕ) (f : Bool) (g : ℕ) (x : Bool) (P : Past) (b : ℕ) → is_legal s (Reclaim r ∷ P) ≡ true
@@ -154,8 +161,15 @@ reclaim_load-count s r q k c n f g x P b h held =
     let others : total u s (Reclaim r ∷ P) ≡ total t s (Reclaim r ∷ P) =
     tests-same u t (frame 0 k) s (Reclaim r ∷ P) (λ a other. ap (list_any (is_number b)) (block_laws.reclaim_load s r q k c n f g x P a legal held other))
     (reclaimed-nowhere s r q k c n f g x P h held) in
-    omega (arith, refs-total s b (Reclaim r ∷ P) h, refs-total s b P legal, total-reclaim t s r e P h held, others,
-    ap bit (made ∙ or-false (eqb c b)), one_among b c)
+    omega (
+      arith,
+      refs-total s b (Reclaim r ∷ P) h,
+      refs-total s b P legal,
+      total-reclaim t s r e P h held,
+      others,
+      ap bit (made ∙ or-false (eqb c b)),
+      one_among b c,
+    )
 
 reclaim_block-count : (s : Setting) (r q v m k c n : ℕ) (f : Bool) (g : ℕ) (x : Bool) (P : Past) (b : ℕ) → is_legal s (Reclaim r ∷ P) ≡ true
     → hand r P ≡ Some (TakeBlock f x q v m k c n g) → refs s P b ≡ refs s (Reclaim r ∷ P) b + times_among b (c ∷ [])
@@ -168,8 +182,15 @@ reclaim_block-count s r q v m k c n f g x P b h held =
     let others : total u s (Reclaim r ∷ P) ≡ total t s (Reclaim r ∷ P) =
     tests-same u t (frame v k) s (Reclaim r ∷ P) (λ a other. ap (list_any (is_number b)) (block_laws.reclaim_block s r q v m k c n f g x P a legal held other))
     (untaken-again s r q v m k c n f g x P h held) in
-    omega (arith, refs-total s b (Reclaim r ∷ P) h, refs-total s b P legal, total-reclaim t s r e P h held, others,
-    ap bit (made ∙ or-false (eqb c b)), one_among b c)
+    omega (
+      arith,
+      refs-total s b (Reclaim r ∷ P) h,
+      refs-total s b P legal,
+      total-reclaim t s r e P h held,
+      others,
+      ap bit (made ∙ or-false (eqb c b)),
+      one_among b c,
+    )
 
 reclaim_other-count : (s : Setting) (r : ℕ) (e : Entry) (P : Past) (b : ℕ) → is_legal s (Reclaim r ∷ P) ≡ true → hand r P ≡ Some e → moves_blocks e ≡ false
     → refs s (Reclaim r ∷ P) b ≡ refs s P b
@@ -223,8 +244,13 @@ count_laws = record {
       λ s r k P b h. let t = has (is_number b) P in
       omega (arith, refs-more s (Issue r k) P b refl h, before s (Issue r k) P b h, total-issue t s r k P h, one_held P b (frame 0 k));
   pool_drop =
-      λ s r v m k n z P b h. let t = has (is_number b) P in omega (arith, refs-more s (PoolDrop r v m k n z) P b refl h, before s (PoolDrop r v m k n z) P b h,
-      total-pool_drop t s r v m k n z P h, one_held P b (frame m k));
+      λ s r v m k n z P b h. let t = has (is_number b) P in omega (
+        arith,
+        refs-more s (PoolDrop r v m k n z) P b refl h,
+        before s (PoolDrop r v m k n z) P b h,
+        total-pool_drop t s r v m k n z P h,
+        one_held P b (frame m k),
+      );
   saved =
       λ s r v m k P b h. let t = has (is_number b) P in
       omega (arith, refs-more s (Saved r v m k) P b refl h, before s (Saved r v m k) P b h, total-saved t s r v m k P h, one_held P b (frame m k));

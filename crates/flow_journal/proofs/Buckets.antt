@@ -67,8 +67,15 @@ one_more : (p : Entry → Bool) (of : Entry → ℕ) (q : ℕ → Entry → Bool
     → count (λ e. p e && ltb (of e) (suc n)) es ≡ count (λ e. p e && ltb (of e) n) es + count (q n) es
 one_more p of q are n [] = refl
 one_more p of q are n (e ∷ es) =
-    omega (arith, one_more p of q are n es, count-cons (λ d. p d && ltb (of d) (suc n)) e es, count-cons (λ d. p d && ltb (of d) n) e es, count-cons (q n) e es,
-    and-next (p e) (of e) n, ap bit (are e n))
+    omega (
+      arith,
+      one_more p of q are n es,
+      count-cons (λ d. p d && ltb (of d) (suc n)) e es,
+      count-cons (λ d. p d && ltb (of d) n) e es,
+      count-cons (q n) e es,
+      and-next (p e) (of e) n,
+      ap bit (are e n),
+    )
 
 summed : (p : Entry → Bool) (of : Entry → ℕ) (q : ℕ → Entry → Bool) → AreBuckets p of q → (n : ℕ) (es : List Entry)
     → count (λ e. p e && ltb (of e) n) es ≡ sum_to (λ v. count (q v) es) n

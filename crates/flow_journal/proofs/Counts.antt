@@ -64,17 +64,25 @@ still_other r q e hs away h = sym (find-let_go q r hs (eqb-false q r away)) ∙ 
 pub hand-standing : (s : Setting) (P : Past) (r : ℕ) (e : Entry) → is_legal s P ≡ true → hand r P ≡ Some e → find (takes_up r) (standing P) ≡ Some e
 hand-standing s [] r e l h = cc
 hand-standing s (Load q k b n f g x ∷ P) r e l h =
-    elim (cases_Bool (eqb q r)) [ inl here ↦ rw here (rw here at h)
-    | inr away ↦ rw away (hand-standing s P r e (and_parts _ _ l).0 (still_other r q e (hands P) away (rw away at h))) ]
+    elim (cases_Bool (eqb q r)) [
+      | inl here ↦ rw here (rw here at h)
+      | inr away ↦ rw away (hand-standing s P r e (and_parts _ _ l).0 (still_other r q e (hands P) away (rw away at h)))
+    ]
 hand-standing s (Take q v m k ∷ P) r e l h =
-    elim (cases_Bool (eqb q r)) [ inl here ↦ rw here (rw here at h)
-    | inr away ↦ rw away (hand-standing s P r e (and_parts _ _ l).0 (still_other r q e (hands P) away (rw away at h))) ]
+    elim (cases_Bool (eqb q r)) [
+      | inl here ↦ rw here (rw here at h)
+      | inr away ↦ rw away (hand-standing s P r e (and_parts _ _ l).0 (still_other r q e (hands P) away (rw away at h)))
+    ]
 hand-standing s (TakeBlock f x q v m k b n g ∷ P) r e l h =
-    elim (cases_Bool (eqb q r)) [ inl here ↦ rw here (rw here at h)
-    | inr away ↦ rw away (hand-standing s P r e (and_parts _ _ l).0 (still_other r q e (hands P) away (rw away at h))) ]
+    elim (cases_Bool (eqb q r)) [
+      | inl here ↦ rw here (rw here at h)
+      | inr away ↦ rw away (hand-standing s P r e (and_parts _ _ l).0 (still_other r q e (hands P) away (rw away at h)))
+    ]
 hand-standing s (Save q v m k g ∷ P) r e l h =
-    elim (cases_Bool (eqb q r)) [ inl here ↦ rw here (rw here at h)
-    | inr away ↦ rw away (hand-standing s P r e (and_parts _ _ l).0 (still_other r q e (hands P) away (rw away at h))) ]
+    elim (cases_Bool (eqb q r)) [
+      | inl here ↦ rw here (rw here at h)
+      | inr away ↦ rw away (hand-standing s P r e (and_parts _ _ l).0 (still_other r q e (hands P) away (rw away at h)))
+    ]
 hand-standing s (Issue q k ∷ P) r e l h = hand-standing s P r e (and_parts _ _ l).0 (still_held r q e (hands P) (hands-Apart P) h).1
 hand-standing s (Put q v m k f ∷ P) r e l h = hand-standing s P r e (and_parts _ _ l).0 (still_held r q e (hands P) (hands-Apart P) h).1
 hand-standing s (Saved q v m k ∷ P) r e l h = hand-standing s P r e (and_parts _ _ l).0 (still_held r q e (hands P) (hands-Apart P) h).1

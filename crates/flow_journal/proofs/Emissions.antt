@@ -181,9 +181,14 @@ owed-waits s (Put r w m i f ∷ P) v t nz sorted h =
           ∙ ap (λ (ds : List Entry). count (out_of v t) (calls_for s P (Put r v m i f)) + count (out_of v t) (drop 1 ds)) none in
           let as_sorted : calls_for s P (Put r v m i f) ≡ sorted_result s v (frame m i) (waiting s v P) (Put 0 v m i f ∷ P) =
           result-sorted s v (frame m i) f P (node s v).work (and_parts _ _ sorted).0 sorted in
-          omega (arith, whole_v, ap (count (out_of v t)) as_sorted,
-          count-sorted_result s v t (frame m i) (now P) (waiting s v P) (Put 0 v m i f ∷ P) (waiting-put s v 0 m i f P sorted),
-          ap (count (waits t)) (waiting-put s v r m i f P sorted), ap (count (waits t)) (waiting-put s v 0 m i f P sorted)))
+          omega (
+            arith,
+            whole_v,
+            ap (count (out_of v t)) as_sorted,
+            count-sorted_result s v t (frame m i) (now P) (waiting s v P) (Put 0 v m i f ∷ P) (waiting-put s v 0 m i f P sorted),
+            ap (count (waits t)) (waiting-put s v r m i f P sorted),
+            ap (count (waits t)) (waiting-put s v 0 m i f P sorted),
+          ))
       | inr away ↦
           let ne : w ≢ v = λ e. true≢false (sym (eq-eqb w v e) ∙ away) in
           omega (arith, whole, none_elsewhere w v t (calls_for s P (Put r w m i f)) ne (result-at s w (frame m i) f P (node s w).work))
@@ -199,8 +204,16 @@ owed-waits s (Emit w m i why ∷ P) v t nz sorted h =
           omega (arith, owed-waits s P v (λ x. same x (frame m i)) nz sorted legal, there, ap bit (and_from _ _ here (same_refl (frame m i)))) in
           let hit : (eqb w v && t (frame m i)) ≡ t (frame m i) = ap (λ (x : Bool). x && t (frame m i)) here in
           let goes : waiting s v (Emit w m i why ∷ P) ≡ not_waiting (frame m i) (waiting s v P) = rw here refl in
-          omega (arith, whole, no_outs_in_offers v t (frame m i) (offered_to s P w), was, ap bit hit, owed-waits s P v t nz sorted legal,
-          removed (frame m i) t (waiting s v P) some, ap (count (waits t)) goes)
+          omega (
+            arith,
+            whole,
+            no_outs_in_offers v t (frame m i) (offered_to s P w),
+            was,
+            ap bit hit,
+            owed-waits s P v t nz sorted legal,
+            removed (frame m i) t (waiting s v P) some,
+            ap (count (waits t)) goes,
+          )
       | inr away ↦
           let stays : waiting s v (Emit w m i why ∷ P) ≡ waiting s v P = rw away refl in
           omega (arith, whole, no_outs_in_offers v t (frame m i) (offered_to s P w), was, owed-waits s P v t nz sorted legal, ap (count (waits t)) stays)
@@ -246,8 +259,13 @@ owed-waits s (Settle r w ∷ P) v t nz sorted h =
     ]
 owed-waits s (Issue r i ∷ P) v t nz sorted h =
     let away : (eqb 0 v && t (frame 0 i)) ≡ false = ap (λ (x : Bool). x && t (frame 0 i)) (ne_eqb 0 v (λ e. nz (sym e))) in
-    omega (arith, owed-waits s P v t nz sorted (and_parts _ _ h).0, count-cons (out_of v t) (Emit 0 0 i Plain) (drop 1 (owed s P)), ap bit away,
-    count-drop (out_of v t) (owed s P))
+    omega (
+      arith,
+      owed-waits s P v t nz sorted (and_parts _ _ h).0,
+      count-cons (out_of v t) (Emit 0 0 i Plain) (drop 1 (owed s P)),
+      ap bit away,
+      count-drop (out_of v t) (owed s P),
+    )
 owed-waits s (_ ∷ P) v t nz sorted h = omega (arith, owed-waits s P v t nz sorted (and_parts _ _ h).0, count-drop (out_of v t) (owed s P))
 
 pub puts-of_index : (v k : ℕ) (P : Past) → count (puts_of v (of_index k)) P ≡ count (puts_at v k) P
@@ -261,15 +279,23 @@ pub drop-waits : (s : Setting) (v m i : ℕ) (P : Past) → v ≢ 0 → is_sorte
     → 1 ≤ count (waits (λ x. same x (frame m i))) (waiting s v P)
 drop-waits s v m i P nz sorted h =
     let there = owed-SortDrop_out s v m i P v (λ x. same x (frame m i)) h in
-    omega (arith, owed-waits s P v (λ x. same x (frame m i)) nz sorted (and_parts _ _ h).0, there,
-    ap bit (and_from _ _ (eq-eqb v v refl) (same_refl (frame m i))))
+    omega (
+      arith,
+      owed-waits s P v (λ x. same x (frame m i)) nz sorted (and_parts _ _ h).0,
+      there,
+      ap bit (and_from _ _ (eq-eqb v v refl) (same_refl (frame m i))),
+    )
 
 emit-waits : (s : Setting) (v m i : ℕ) (why : Why) (P : Past) → v ≢ 0 → is_sorted s v ≡ true → is_legal s (Emit v m i why ∷ P) ≡ true
     → 1 ≤ count (waits (λ x. same x (frame m i))) (waiting s v P)
 emit-waits s v m i why P nz sorted h =
     let there = owed-Emit_out s v m i why P v (λ x. same x (frame m i)) h in
-    omega (arith, owed-waits s P v (λ x. same x (frame m i)) nz sorted (and_parts _ _ h).0, there,
-    ap bit (and_from _ _ (eq-eqb v v refl) (same_refl (frame m i))))
+    omega (
+      arith,
+      owed-waits s P v (λ x. same x (frame m i)) nz sorted (and_parts _ _ h).0,
+      there,
+      ap bit (and_from _ _ (eq-eqb v v refl) (same_refl (frame m i))),
+    )
 
 -- what was put at a sorted node went out, was dropped or waits
 pub sorted-outs : (s : Setting) (P : Past) (v : ℕ) (t : FrameName → Bool) → v ≢ 0 → is_sorted s v ≡ true → is_legal s P ≡ true
@@ -283,12 +309,24 @@ sorted-outs s (Put r w m i f ∷ P) v t nz sorted h =
           let goes : waiting s v (Put r w m i f ∷ P) ≡ waiting s v P ++ new ∷ [] =
           subst (λ (u : ℕ). waiting s v (Put r u m i f ∷ P) ≡ waiting s v P ++ new ∷ []) (sym (eqb-true w v here)) (waiting-put s v r m i f P sorted) in
           let hit : puts_of v t (Put r w m i f) ≡ t (frame m i) = ap (λ (x : Bool). x && t (frame m i)) here in
-          omega (arith, before, ap (count (waits t)) goes, count-append (waits t) (waiting s v P) (new ∷ []), count-cons (waits t) new [],
-          count-cons (puts_of v t) (Put r w m i f) P, ap bit hit)
+          omega (
+            arith,
+            before,
+            ap (count (waits t)) goes,
+            count-append (waits t) (waiting s v P) (new ∷ []),
+            count-cons (waits t) new [],
+            count-cons (puts_of v t) (Put r w m i f) P,
+            ap bit hit,
+          )
       | inr away ↦
           let miss : puts_of v t (Put r w m i f) ≡ false = ap (λ (x : Bool). x && t (frame m i)) away in
-          omega (arith, before, ap (count (waits t)) (waiting-put_elsewhere s v r w m i f P sorted (eqb-false w v away)),
-          count-cons (puts_of v t) (Put r w m i f) P, ap bit miss)
+          omega (
+            arith,
+            before,
+            ap (count (waits t)) (waiting-put_elsewhere s v r w m i f P sorted (eqb-false w v away)),
+            count-cons (puts_of v t) (Put r w m i f) P,
+            ap bit miss,
+          )
     ]
 sorted-outs s (Emit w m i why ∷ P) v t nz sorted h =
     let before = sorted-outs s P v t nz sorted (and_parts _ _ h).0 in
@@ -431,8 +469,15 @@ unsorted-outs s (Put r w m i f ∷ P) v t nz u h =
           ap (λ (fs : List Bool). ring_of (node s v).work fs (puts v (Put r v m i f ∷ P))) flags
           ∙ ap (λ (xs : List FrameName). ring_of (node s v).work (firings v P ++ f ∷ []) xs) arrays in
           let hit : puts_of v t (Put r v m i f) ≡ t (frame m i) = ap (λ (x : Bool). x && t (frame m i)) (eq-eqb v v refl) in
-          omega (arith, before, whole, ap (count t) after, result-unsorted s v t (frame m i) f P (node s v).work u (flags-puts v P) (ring-le s v P t),
-          count-cons (puts_of v t) (Put r v m i f) P, ap bit hit))
+          omega (
+            arith,
+            before,
+            whole,
+            ap (count t) after,
+            result-unsorted s v t (frame m i) f P (node s v).work u (flags-puts v P) (ring-le s v P t),
+            count-cons (puts_of v t) (Put r v m i f) P,
+            ap bit hit,
+          ))
       | inr away ↦
           let ne : w ≢ v = λ e. true≢false (sym (eq-eqb w v e) ∙ away) in
           let whole = count-append (out_of v t) (calls_for s P (Put r w m i f)) (drop 1 (owed s P)) in
@@ -441,21 +486,38 @@ unsorted-outs s (Put r w m i f ∷ P) v t nz u h =
           let after : kept_at s v (Put r w m i f ∷ P) ≡ kept_at s v P =
           ap (λ (fs : List Bool). ring_of (node s v).work fs (puts v (Put r w m i f ∷ P))) flags
           ∙ ap (λ (xs : List FrameName). ring_of (node s v).work (firings v P) xs) arrays in
-          omega (arith, before, whole, none_elsewhere w v t (calls_for s P (Put r w m i f)) ne (result-at s w (frame m i) f P (node s w).work),
-          count-drop (out_of v t) (owed s P), ap (count t) after, count-cons (puts_of v t) (Put r w m i f) P)
+          omega (
+            arith,
+            before,
+            whole,
+            none_elsewhere w v t (calls_for s P (Put r w m i f)) ne (result-at s w (frame m i) f P (node s w).work),
+            count-drop (out_of v t) (owed s P),
+            ap (count t) after,
+            count-cons (puts_of v t) (Put r w m i f) P,
+          )
     ]
 unsorted-outs s (Emit w m i why ∷ P) v t nz u h =
-    omega (arith, unsorted-outs s P v t nz u (and_parts _ _ h).0, owed-Emit_out s w m i why P v t h,
-    count-append (out_of v t) (map (offer (frame m i)) (offered_to s P w)) (drop 1 (owed s P)), no_outs_in_offers v t (frame m i) (offered_to s P w),
-    count-cons (out_of v t) (Emit w m i why) P)
+    omega (
+      arith,
+      unsorted-outs s P v t nz u (and_parts _ _ h).0,
+      owed-Emit_out s w m i why P v t h,
+      count-append (out_of v t) (map (offer (frame m i)) (offered_to s P w)) (drop 1 (owed s P)),
+      no_outs_in_offers v t (frame m i) (offered_to s P w),
+      count-cons (out_of v t) (Emit w m i why) P,
+    )
 unsorted-outs s (SortDrop w m i ∷ P) v t nz u h =
     omega (arith, unsorted-outs s P v t nz u (and_parts _ _ h).0, owed-SortDrop_out s w m i P v t h, count-cons (out_of v t) (SortDrop w m i) P)
 unsorted-outs s (Tick z ∷ P) v t nz u h =
     let none : count (out_of v t) (looks s (Tick z ∷ P) (node_numbers s)) ≤ 0 =
     subst (λ (b : Bool). count (out_of v t) (looks s (Tick z ∷ P) (node_numbers s)) ≤ cond b (count (waits t) (waiting s v P)) 0) u
     (looks-le s (Tick z ∷ P) v t (node_numbers s) (once_numbered s v)) in
-    omega (arith, unsorted-outs s P v t nz u (and_parts _ _ h).0, count-append (out_of v t) (calls_for s P (Tick z)) (drop 1 (owed s P)), none,
-    count-drop (out_of v t) (owed s P))
+    omega (
+      arith,
+      unsorted-outs s P v t nz u (and_parts _ _ h).0,
+      count-append (out_of v t) (calls_for s P (Tick z)) (drop 1 (owed s P)),
+      none,
+      count-drop (out_of v t) (owed s P),
+    )
 unsorted-outs s (Settle r w ∷ P) v t nz u h =
     let whole = count-append (out_of v t) (calls_for s P (Settle r w)) (drop 1 (owed s P)) in
     elim (cases_Bool (eqb w v)) [
@@ -467,13 +529,23 @@ unsorted-outs s (Settle r w ∷ P) v t nz u h =
           omega (arith, unsorted-outs s P v t nz u (and_parts _ _ h).0, whole, ap (count (out_of v t)) calls, count-drop (out_of v t) (owed s P))
       | inr away ↦
           let ne : w ≢ v = λ e. true≢false (sym (eq-eqb w v e) ∙ away) in
-          omega (arith, unsorted-outs s P v t nz u (and_parts _ _ h).0, whole,
-          none_elsewhere w v t (calls_for s P (Settle r w)) ne (flush-at w (least_first s (waiting s w P))), count-drop (out_of v t) (owed s P))
+          omega (
+            arith,
+            unsorted-outs s P v t nz u (and_parts _ _ h).0,
+            whole,
+            none_elsewhere w v t (calls_for s P (Settle r w)) ne (flush-at w (least_first s (waiting s w P))),
+            count-drop (out_of v t) (owed s P),
+          )
     ]
 unsorted-outs s (Issue r i ∷ P) v t nz u h =
     let away : (eqb 0 v && t (frame 0 i)) ≡ false = ap (λ (x : Bool). x && t (frame 0 i)) (ne_eqb 0 v (λ e. nz (sym e))) in
-    omega (arith, unsorted-outs s P v t nz u (and_parts _ _ h).0, count-cons (out_of v t) (Emit 0 0 i Plain) (drop 1 (owed s P)), ap bit away,
-    count-drop (out_of v t) (owed s P))
+    omega (
+      arith,
+      unsorted-outs s P v t nz u (and_parts _ _ h).0,
+      count-cons (out_of v t) (Emit 0 0 i Plain) (drop 1 (owed s P)),
+      ap bit away,
+      count-drop (out_of v t) (owed s P),
+    )
 unsorted-outs s (_ ∷ P) v t nz u h = omega (arith, unsorted-outs s P v t nz u (and_parts _ _ h).0, count-drop (out_of v t) (owed s P))
 
 -- so no more goes out of a node than was put there

@@ -75,11 +75,24 @@ grants-le : (a : FrameName) (es : List Entry)
     → length (grants_of a es) ≤ cond (eqb a.maker 0) (count (loads_at a.index) es) 0 + count (takes_at a.maker a.index) es
 grants-le a [] = omega arith
 grants-le a (Load r k b n f g x ∷ es) =
-    omega (arith, grants-le a es, length-append (granted_for a (Load r k b n f g x)) (grants_of a es), one_if (same a (frame 0 k)) b, same-load a r k b n f g x,
-    loads-cons a (Load r k b n f g x) es)
+    omega (
+      arith,
+      grants-le a es,
+      length-append (granted_for a (Load r k b n f g x)) (grants_of a es),
+      one_if (same a (frame 0 k)) b,
+      same-load a r k b n f g x,
+      loads-cons a (Load r k b n f g x) es,
+    )
 grants-le a (TakeBlock f x r v m k b n g ∷ es) =
-    omega (arith, grants-le a es, length-append (granted_for a (TakeBlock f x r v m k b n g)) (grants_of a es), one_if (same a (frame v k)) b,
-    same-take a r v m k b n f g x, loads-cons a (TakeBlock f x r v m k b n g) es, count-cons (takes_at a.maker a.index) (TakeBlock f x r v m k b n g) es)
+    omega (
+      arith,
+      grants-le a es,
+      length-append (granted_for a (TakeBlock f x r v m k b n g)) (grants_of a es),
+      one_if (same a (frame v k)) b,
+      same-take a r v m k b n f g x,
+      loads-cons a (TakeBlock f x r v m k b n g) es,
+      count-cons (takes_at a.maker a.index) (TakeBlock f x r v m k b n g) es,
+    )
 grants-le a (Take r v m k ∷ es) =
     omega (arith, grants-le a es, loads-cons a (Take r v m k) es, count-cons (takes_at a.maker a.index) (Take r v m k) es)
 grants-le a (_ ∷ es) = grants-le a es

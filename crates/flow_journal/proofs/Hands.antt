@@ -81,9 +81,10 @@ next-first s P e never (d ∷ ds) h = absurd (true≢false (sym h ∙ never d))
 
 -- the new hand takes the place of the old one
 Apart-more : (r : ℕ) (e : Entry) (P : Past) → takes_up r e ≡ true → Apart (hands P) → Apart (e ∷ let_go r (hands P))
-Apart-more r e P up apart =
-    (λ q u. subst (λ i. list_any (takes_up i) (let_go r (hands P)) ≡ false) (eqb-true r q (sym (takes_up-one r q e up) ∙ u)) (free-let_go r (hands P) apart),
-    Apart-let_go r (hands P) apart)
+Apart-more r e P up apart = (
+  λ q u. subst (λ i. list_any (takes_up i) (let_go r (hands P)) ≡ false) (eqb-true r q (sym (takes_up-one r q e up) ∙ u)) (free-let_go r (hands P) apart),
+  Apart-let_go r (hands P) apart,
+)
 
 load-free : (s : Setting) (r k : ℕ) (P : Past) → may_load s r k P ≡ true → is_free r P ≡ true
 load-free s r k P h = none-free r P (load-facts s r k P h).acts.free

@@ -175,8 +175,12 @@ came_before s (TakeBlock f x r w i j b n g ∷ P) v m k h any =
           let p = and_parts (eqb w v) (same (frame m k) (frame i j)) now_ in
           let index : j ≡ k = sym (eqb-true k j (and_parts (eqb m i) (eqb k j) p.1).1) in
           let out : (eqb w v && eqb j k) ≡ true = ap (λ (c : Bool). c && eqb j k) p.0 ∙ eq-eqb j k index in
-          omega (arith, leaves-accepted s (TakeBlock f x r w i j b n g ∷ P) v k h,
-          count-cons (leaves_at v k) (TakeBlock f x r w i j b n g) (standing P), ap bit out)
+          omega (
+            arith,
+            leaves-accepted s (TakeBlock f x r w i j b n g ∷ P) v k h,
+            count-cons (leaves_at v k) (TakeBlock f x r w i j b n g) (standing P),
+            ap bit out,
+          )
     ]
 came_before s (PoolDrop r w i j n z ∷ P) v m k h any =
     elim (or_cases (eqb w v && same (frame m k) (frame i j)) (list_any (takes_out v (frame m k)) P) any) [
@@ -197,8 +201,13 @@ never_taken s P v m k h =
       | inr none ↦ none
       | inl some ↦
           let own : (eqb v v && eqb k k) ≡ true = ap (λ (b : Bool). b && eqb k k) (eq-eqb v v refl) ∙ eq-eqb k k refl in
-          absurd (omega (arith, accepts-once s (Accept v m k ∷ P) v k h, count-cons (accepts_at v k) (Accept v m k) P, ap bit own,
-          came_before s P v m k (and_parts _ _ h).0 some))
+          absurd (omega (
+            arith,
+            accepts-once s (Accept v m k ∷ P) v k h,
+            count-cons (accepts_at v k) (Accept v m k) P,
+            ap bit own,
+            came_before s P v m k (and_parts _ _ h).0 some,
+          ))
     ]
 
 stays_all : (v : ℕ) (xs : List FrameName) → stays_in v [] xs ≡ xs

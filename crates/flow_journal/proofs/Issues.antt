@@ -41,14 +41,29 @@ accepts-count v k (_ ∷ P) = accepts-count v k P
 gone-leaves : (v k : ℕ) (P : Past) → times_by (of_index k) (flat_map (gone_at v) P) ≡ count (leaves_at v k) P
 gone-leaves v k [] = refl
 gone-leaves v k (Take r w m i ∷ P) =
-    omega (arith, gone-leaves v k P, comes-count v w m i k [], count-append (of_index k) (comes_at v w (frame m i) []) (flat_map (gone_at v) P),
-    count-cons (leaves_at v k) (Take r w m i) P)
+    omega (
+      arith,
+      gone-leaves v k P,
+      comes-count v w m i k [],
+      count-append (of_index k) (comes_at v w (frame m i) []) (flat_map (gone_at v) P),
+      count-cons (leaves_at v k) (Take r w m i) P,
+    )
 gone-leaves v k (TakeBlock f x r w m i b n g ∷ P) =
-    omega (arith, gone-leaves v k P, comes-count v w m i k [], count-append (of_index k) (comes_at v w (frame m i) []) (flat_map (gone_at v) P),
-    count-cons (leaves_at v k) (TakeBlock f x r w m i b n g) P)
+    omega (
+      arith,
+      gone-leaves v k P,
+      comes-count v w m i k [],
+      count-append (of_index k) (comes_at v w (frame m i) []) (flat_map (gone_at v) P),
+      count-cons (leaves_at v k) (TakeBlock f x r w m i b n g) P,
+    )
 gone-leaves v k (PoolDrop r w m i n z ∷ P) =
-    omega (arith, gone-leaves v k P, comes-count v w m i k [], count-append (of_index k) (comes_at v w (frame m i) []) (flat_map (gone_at v) P),
-    count-cons (leaves_at v k) (PoolDrop r w m i n z) P)
+    omega (
+      arith,
+      gone-leaves v k P,
+      comes-count v w m i k [],
+      count-append (of_index k) (comes_at v w (frame m i) []) (flat_map (gone_at v) P),
+      count-cons (leaves_at v k) (PoolDrop r w m i n z) P,
+    )
 gone-leaves v k (_ ∷ P) = gone-leaves v k P
 
 -- what left the queue was accepted
@@ -65,8 +80,14 @@ puts_at_node s r w m i f P h at_0 =
     let legal : is_legal s P ≡ true = (and_parts _ _ h).0 in
     let e = putting_hand s r w m i f P h in
     let is : takes_at 0 i e.0 ≡ true = e.2 0 i ∙ and_from _ _ (eq-eqb w 0 at_0) (eq-eqb i i refl) in
-    omega (arith, count-let_go (takes_at 0 i) r e.0 (hands P) e.1, ap bit is, puts-taken s P 0 i legal,
-    takes-accepted s P 0 i legal, none_at_driver s P i legal)
+    omega (
+      arith,
+      count-let_go (takes_at 0 i) r e.0 (hands P) e.1,
+      ap bit is,
+      puts-taken s P 0 i legal,
+      takes-accepted s P 0 i legal,
+      none_at_driver s P i legal,
+    )
 
 pub settles_node : (s : Setting) (r w : ℕ) (P : Past) → is_legal s (Settle r w ∷ P) ≡ true → w ≢ 0
 settles_node s r w P h at_0 =
@@ -96,8 +117,12 @@ looks-none s P v t (u ∷ us) h =
       | inr away ↦
           let ne : u ≢ v = λ e. true≢false (sym (eq-eqb u v e) ∙ away) in
           let left : count (is_number v) us ≡ 0 = omega (arith, count-cons (is_number v) u us, h) in
-          omega (arith, count-append (out_of v t) (cond (is_sorted s u) (look s u P) []) (looks s P us),
-          look_if-elsewhere s P v u t (is_sorted s u) ne, looks-none s P v t us left)
+          omega (
+            arith,
+            count-append (out_of v t) (cond (is_sorted s u) (look s u P) []) (looks s P us),
+            look_if-elsewhere s P v u t (is_sorted s u) ne,
+            looks-none s P v t us left,
+          )
     ]
 
 pub looks-le : (s : Setting) (P : Past) (v : ℕ) (t : FrameName → Bool) (us : List ℕ) → count (is_number v) us ≤ 1
@@ -115,8 +140,12 @@ looks-le s P v t (u ∷ us) h =
       | inr away ↦
           let ne : u ≢ v = λ e. true≢false (sym (eq-eqb u v e) ∙ away) in
           let left : count (is_number v) us ≤ 1 = omega (arith, count-cons (is_number v) u us, h) in
-          omega (arith, count-append (out_of v t) (cond (is_sorted s u) (look s u P) []) (looks s P us),
-          look_if-elsewhere s P v u t (is_sorted s u) ne, looks-le s P v t us left)
+          omega (
+            arith,
+            count-append (out_of v t) (cond (is_sorted s u) (look s u P) []) (looks s P us),
+            look_if-elsewhere s P v u t (is_sorted s u) ne,
+            looks-le s P v t us left,
+          )
     ]
 
 pub no_emits_in_offers : (v k : ℕ) (a : FrameName) (cs : List ℕ) → count (emits_at v k) (map (offer a) cs) ≡ 0

@@ -62,11 +62,21 @@ pub puts-taken : (s : Setting) (P : Past) (v k : ℕ) → is_legal s P ≡ true
 puts-taken s [] v k h = omega arith
 puts-taken s (Load r i b n f g x ∷ P) v k h = omega (arith, puts-taken s P v k (before s (Load r i b n f g x) P h), count-let_go-le (takes_at v k) r (hands P))
 puts-taken s (Take r w m i ∷ P) v k h =
-    omega (arith, puts-taken s P v k (before s (Take r w m i) P h), count-cons (takes_at v k) (Take r w m i) (let_go r (hands P)),
-    count-let_go-le (takes_at v k) r (hands P), count-cons (takes_at v k) (Take r w m i) (standing P))
+    omega (
+      arith,
+      puts-taken s P v k (before s (Take r w m i) P h),
+      count-cons (takes_at v k) (Take r w m i) (let_go r (hands P)),
+      count-let_go-le (takes_at v k) r (hands P),
+      count-cons (takes_at v k) (Take r w m i) (standing P),
+    )
 puts-taken s (TakeBlock f x r w m i b n g ∷ P) v k h =
-    omega (arith, puts-taken s P v k (before s (TakeBlock f x r w m i b n g) P h), count-cons (takes_at v k) (TakeBlock f x r w m i b n g) (let_go r (hands P)),
-    count-let_go-le (takes_at v k) r (hands P), count-cons (takes_at v k) (TakeBlock f x r w m i b n g) (standing P))
+    omega (
+      arith,
+      puts-taken s P v k (before s (TakeBlock f x r w m i b n g) P h),
+      count-cons (takes_at v k) (TakeBlock f x r w m i b n g) (let_go r (hands P)),
+      count-let_go-le (takes_at v k) r (hands P),
+      count-cons (takes_at v k) (TakeBlock f x r w m i b n g) (standing P),
+    )
 puts-taken s (Save r w m i g ∷ P) v k h = omega (arith, puts-taken s P v k (before s (Save r w m i g) P h), count-let_go-le (takes_at v k) r (hands P))
 puts-taken s (Issue r i ∷ P) v k h = omega (arith, puts-taken s P v k (before s (Issue r i) P h), count-let_go-le (takes_at v k) r (hands P))
 puts-taken s (Saved r w m i ∷ P) v k h = omega (arith, puts-taken s P v k (before s (Saved r w m i) P h), count-let_go-le (takes_at v k) r (hands P))
@@ -78,6 +88,11 @@ puts-taken s (Put r w m i f ∷ P) v k h =
 puts-taken s (Reclaim r ∷ P) v k h =
     let e = reclaim_hand s r P h in
     let legal = before s (Reclaim r) P h in
-    omega (arith, puts-taken s P v k legal, count-let_go (takes_at v k) r e.0 (hands P) e.1,
-    count-let_go (takes_at v k) r e.0 (standing P) (hand-standing s P r e.0 legal e.1), ap (count (takes_at v k)) (stands-less s r P h))
+    omega (
+      arith,
+      puts-taken s P v k legal,
+      count-let_go (takes_at v k) r e.0 (hands P) e.1,
+      count-let_go (takes_at v k) r e.0 (standing P) (hand-standing s P r e.0 legal e.1),
+      ap (count (takes_at v k)) (stands-less s r P h),
+    )
 puts-taken s (_ ∷ P) v k h = puts-taken s P v k (and_parts _ _ h).0

@@ -54,17 +54,27 @@ pub none_out : (s : Setting) (P : Past) (v : ℕ) → is_file (node s v).work �
     → count (out_of v any_array) P + count (out_of v any_array) (owed s P) ≡ 0
 none_out s [] v file h = refl
 none_out s (Emit w m i why ∷ P) v file h =
-    omega (arith, none_out s P v file (and_parts _ _ h).0, owed-Emit_out s w m i why P v any_array h,
-    count-append (out_of v any_array) (map (offer (frame m i)) (offered_to s P w)) (drop 1 (owed s P)),
-    no_outs_in_offers v any_array (frame m i) (offered_to s P w), count-cons (out_of v any_array) (Emit w m i why) P)
+    omega (
+      arith,
+      none_out s P v file (and_parts _ _ h).0,
+      owed-Emit_out s w m i why P v any_array h,
+      count-append (out_of v any_array) (map (offer (frame m i)) (offered_to s P w)) (drop 1 (owed s P)),
+      no_outs_in_offers v any_array (frame m i) (offered_to s P w),
+      count-cons (out_of v any_array) (Emit w m i why) P,
+    )
 none_out s (SortDrop w m i ∷ P) v file h =
     omega (arith, none_out s P v file (and_parts _ _ h).0, owed-SortDrop_out s w m i P v any_array h, count-cons (out_of v any_array) (SortDrop w m i) P)
 none_out s (Tick t ∷ P) v file h =
     let none : count (out_of v any_array) (looks s (Tick t ∷ P) (node_numbers s)) ≤ 0 =
     subst (λ (b : Bool). count (out_of v any_array) (looks s (Tick t ∷ P) (node_numbers s)) ≤ cond b (count (waits any_array) (waiting s v P)) 0)
     (unsorted_file s v file) (looks-le s (Tick t ∷ P) v any_array (node_numbers s) (once_numbered s v)) in
-    omega (arith, none_out s P v file (and_parts _ _ h).0, count-append (out_of v any_array) (calls_for s P (Tick t)) (drop 1 (owed s P)), none,
-    count-drop (out_of v any_array) (owed s P))
+    omega (
+      arith,
+      none_out s P v file (and_parts _ _ h).0,
+      count-append (out_of v any_array) (calls_for s P (Tick t)) (drop 1 (owed s P)),
+      none,
+      count-drop (out_of v any_array) (owed s P),
+    )
 none_out s (Put r w m i f ∷ P) v file h =
     let whole = count-append (out_of v any_array) (calls_for s P (Put r w m i f)) (drop 1 (owed s P)) in
     elim (cases_Bool (eqb w v)) [
@@ -74,9 +84,13 @@ none_out s (Put r w m i f ∷ P) v file h =
           ap (λ (u : ℕ). calls_for s P (Put r u m i f)) is ∙ file_result s v (frame m i) f P (node s v).work file in
           omega (arith, none_out s P v file (and_parts _ _ h).0, whole, ap (count (out_of v any_array)) calls, count-drop (out_of v any_array) (owed s P))
       | inr away ↦
-          omega (arith, none_out s P v file (and_parts _ _ h).0, whole,
-          none_elsewhere w v any_array (calls_for s P (Put r w m i f)) (eqb-false w v away) (result-at s w (frame m i) f P (node s w).work),
-          count-drop (out_of v any_array) (owed s P))
+          omega (
+            arith,
+            none_out s P v file (and_parts _ _ h).0,
+            whole,
+            none_elsewhere w v any_array (calls_for s P (Put r w m i f)) (eqb-false w v away) (result-at s w (frame m i) f P (node s w).work),
+            count-drop (out_of v any_array) (owed s P),
+          )
     ]
 none_out s (Settle r w ∷ P) v file h =
     let whole = count-append (out_of v any_array) (calls_for s P (Settle r w)) (drop 1 (owed s P)) in
@@ -86,17 +100,32 @@ none_out s (Settle r w ∷ P) v file h =
           let calls : count (out_of v any_array) (calls_for s P (Settle r w)) ≡ count (waits any_array) (waiting s v P) =
           subst (λ (u : ℕ). count (out_of v any_array) (calls_for s P (Settle r u)) ≡ count (waits any_array) (waiting s v P)) (sym is)
           (count-flush v any_array (least_first s (waiting s v P)) ∙ count-least_first s (waits any_array) (waiting s v P)) in
-          omega (arith, none_out s P v file (and_parts _ _ h).0, whole, calls, ap (count (waits any_array)) (waiting-unsorted s v P (unsorted_file s v file)),
-          count-drop (out_of v any_array) (owed s P))
+          omega (
+            arith,
+            none_out s P v file (and_parts _ _ h).0,
+            whole,
+            calls,
+            ap (count (waits any_array)) (waiting-unsorted s v P (unsorted_file s v file)),
+            count-drop (out_of v any_array) (owed s P),
+          )
       | inr away ↦
-          omega (arith, none_out s P v file (and_parts _ _ h).0, whole,
-          none_elsewhere w v any_array (calls_for s P (Settle r w)) (eqb-false w v away) (flush-at w (least_first s (waiting s w P))),
-          count-drop (out_of v any_array) (owed s P))
+          omega (
+            arith,
+            none_out s P v file (and_parts _ _ h).0,
+            whole,
+            none_elsewhere w v any_array (calls_for s P (Settle r w)) (eqb-false w v away) (flush-at w (least_first s (waiting s w P))),
+            count-drop (out_of v any_array) (owed s P),
+          )
     ]
 none_out s (Issue r i ∷ P) v file h =
     let away : (eqb 0 v && true) ≡ false = ap (λ (x : Bool). x && true) (ne_eqb 0 v (λ e. file_nonzero s v file (sym e))) in
-    omega (arith, none_out s P v file (and_parts _ _ h).0, count-cons (out_of v any_array) (Emit 0 0 i Plain) (drop 1 (owed s P)), ap bit away,
-    count-drop (out_of v any_array) (owed s P))
+    omega (
+      arith,
+      none_out s P v file (and_parts _ _ h).0,
+      count-cons (out_of v any_array) (Emit 0 0 i Plain) (drop 1 (owed s P)),
+      ap bit away,
+      count-drop (out_of v any_array) (owed s P),
+    )
 none_out s (_ ∷ P) v file h = omega (arith, none_out s P v file (and_parts _ _ h).0, count-drop (out_of v any_array) (owed s P))
 
 none_emitted : (b : Bool) → bit (b && true) ≡ 0 → b ≡ false

@@ -64,8 +64,10 @@ pub all-stand : (p : Entry → Bool) → PassNoHand p → (P : Past) → count p
 all-stand p h [] = refl
 all-stand p h (Reclaim r ∷ P) =
     let kept : count p (cond (is_free r P) (standing P) (let_go r (standing P))) ≡ count p (standing P) =
-    elim (is_free r P) as (λ b. count p (cond b (standing P) (let_go r (standing P))) ≡ count p (standing P)) [ true ↦ refl
-    | false ↦ kept-let_go p h r (standing P) ] in
+    elim (is_free r P) as (λ b. count p (cond b (standing P) (let_go r (standing P))) ≡ count p (standing P)) [
+      | true ↦ refl
+      | false ↦ kept-let_go p h r (standing P)
+    ] in
     omega (arith, all-stand p h P, kept, count-cons p (Reclaim r) (cond (is_free r P) (standing P) (let_go r (standing P))), count-cons p (Reclaim r) P)
 all-stand p h (e ∷ P) = omega (arith, all-stand p h P, count-cons p e (standing P), count-cons p e P)
 
@@ -79,8 +81,15 @@ stand-most s [] p h = omega arith
 stand-most s (Reclaim r ∷ P) p h =
     let e = reclaim_hand s r P h in
     let legal : is_legal s P ≡ true = (and_parts _ _ h).0 in
-    omega (arith, stand-most s P p legal, ap (count p) (stood r e.0 P e.1), count-let_go p r e.0 (standing P) (hand-standing s P r e.0 legal e.1),
-    bit-le (p e.0), count-cons p (Reclaim r) (let_go r (standing P)), count-cons p (Reclaim r) P)
+    omega (
+      arith,
+      stand-most s P p legal,
+      ap (count p) (stood r e.0 P e.1),
+      count-let_go p r e.0 (standing P) (hand-standing s P r e.0 legal e.1),
+      bit-le (p e.0),
+      count-cons p (Reclaim r) (let_go r (standing P)),
+      count-cons p (Reclaim r) P,
+    )
   where
     bit-le : (b : Bool) → bit b ≤ 1
     bit-le true = omega arith
@@ -220,22 +229,37 @@ saved-saves : (s : Setting) (P : Past) (v k : ℕ) → is_legal s P ≡ true
     → count (saved_at v k) P + count (saves_at v k) (hands P) ≤ count (saves_at v k) (standing P)
 saved-saves s [] v k h = omega arith
 saved-saves s (Save r w m j g ∷ P) v k h =
-    omega (arith, saved-saves s P v k (and_parts _ _ h).0, count-cons (saves_at v k) (Save r w m j g) (let_go r (hands P)),
-    count-let_go-le (saves_at v k) r (hands P), count-cons (saves_at v k) (Save r w m j g) (standing P))
+    omega (
+      arith,
+      saved-saves s P v k (and_parts _ _ h).0,
+      count-cons (saves_at v k) (Save r w m j g) (let_go r (hands P)),
+      count-let_go-le (saves_at v k) r (hands P),
+      count-cons (saves_at v k) (Save r w m j g) (standing P),
+    )
 saved-saves s (Load r j b n f g x ∷ P) v k h = omega (arith, saved-saves s P v k (and_parts _ _ h).0, count-let_go-le (saves_at v k) r (hands P))
 saved-saves s (Take r w m j ∷ P) v k h = omega (arith, saved-saves s P v k (and_parts _ _ h).0, count-let_go-le (saves_at v k) r (hands P))
 saved-saves s (TakeBlock f x r w m j b n g ∷ P) v k h = omega (arith, saved-saves s P v k (and_parts _ _ h).0, count-let_go-le (saves_at v k) r (hands P))
 saved-saves s (Saved r w m j ∷ P) v k h =
     let piece = (row_laws.saved s P r w m j).0 (row_of s (Saved r w m j) P (λ d. refl) h) in
-    omega (arith, saved-saves s P v k (and_parts _ _ h).0, count-cons (saved_at v k) (Saved r w m j) P, count-cons (saves_at v k) (Save r w m j piece.0) [],
-    count-let_go (saves_at v k) r (Save r w m j piece.0) (hands P) piece.1)
+    omega (
+      arith,
+      saved-saves s P v k (and_parts _ _ h).0,
+      count-cons (saved_at v k) (Saved r w m j) P,
+      count-cons (saves_at v k) (Save r w m j piece.0) [],
+      count-let_go (saves_at v k) r (Save r w m j piece.0) (hands P) piece.1,
+    )
 saved-saves s (Issue r j ∷ P) v k h = omega (arith, saved-saves s P v k (and_parts _ _ h).0, count-let_go-le (saves_at v k) r (hands P))
 saved-saves s (Put r w m j f ∷ P) v k h = omega (arith, saved-saves s P v k (and_parts _ _ h).0, count-let_go-le (saves_at v k) r (hands P))
 saved-saves s (Reclaim r ∷ P) v k h =
     let e = reclaim_hand s r P h in
     let legal : is_legal s P ≡ true = (and_parts _ _ h).0 in
-    omega (arith, saved-saves s P v k legal, ap (count (saves_at v k)) (stood r e.0 P e.1), count-let_go (saves_at v k) r e.0 (hands P) e.1,
-    count-let_go (saves_at v k) r e.0 (standing P) (hand-standing s P r e.0 legal e.1))
+    omega (
+      arith,
+      saved-saves s P v k legal,
+      ap (count (saves_at v k)) (stood r e.0 P e.1),
+      count-let_go (saves_at v k) r e.0 (hands P) e.1,
+      count-let_go (saves_at v k) r e.0 (standing P) (hand-standing s P r e.0 legal e.1),
+    )
 saved-saves s (_ ∷ P) v k h = saved-saves s P v k (and_parts _ _ h).0
 
 saves-listed : (v k : ℕ) (es : List Entry) → count (saves_at v k) es ≡ times_by (of_index k) (saves v es)
@@ -251,8 +275,13 @@ puts-listed v k (_ ∷ es) = puts-listed v k es
 -- what is saved was put
 saves-puts : (s : Setting) (P : Past) (v k : ℕ) → is_legal s P ≡ true → count (saves_at v k) (standing P) ≤ count (puts_at v k) P
 saves-puts s P v k h =
-    omega (arith, saves-listed v k (standing P), puts-listed v k P, ap (times_by (of_index k)) (saves-front s P v h),
-    count-append (of_index k) (standing_saves v P) (rest_of v P))
+    omega (
+      arith,
+      saves-listed v k (standing P),
+      puts-listed v k P,
+      ap (times_by (of_index k)) (saves-front s P v h),
+      count-append (of_index k) (standing_saves v P) (rest_of v P),
+    )
 
 -- only file nodes save
 no_saves : (s : Setting) (P : Past) (v k : ℕ) → is_file (node s v).work ≡ false → is_legal s P ≡ true → count (saves_at v k) (standing P) ≡ 0
@@ -277,11 +306,21 @@ one-le false c = omega arith
 outs-any : (v k : ℕ) (es : List Entry) → count (out_of v (of_index k)) es ≤ count (out_of v any_array) es
 outs-any v k [] = omega arith
 outs-any v k (Emit w m j why ∷ es) =
-    omega (arith, outs-any v k es, one-le (eqb w v) (eqb j k), count-cons (out_of v (of_index k)) (Emit w m j why) es,
-    count-cons (out_of v any_array) (Emit w m j why) es)
+    omega (
+      arith,
+      outs-any v k es,
+      one-le (eqb w v) (eqb j k),
+      count-cons (out_of v (of_index k)) (Emit w m j why) es,
+      count-cons (out_of v any_array) (Emit w m j why) es,
+    )
 outs-any v k (SortDrop w m j ∷ es) =
-    omega (arith, outs-any v k es, one-le (eqb w v) (eqb j k), count-cons (out_of v (of_index k)) (SortDrop w m j) es,
-    count-cons (out_of v any_array) (SortDrop w m j) es)
+    omega (
+      arith,
+      outs-any v k es,
+      one-le (eqb w v) (eqb j k),
+      count-cons (out_of v (of_index k)) (SortDrop w m j) es,
+      count-cons (out_of v any_array) (SortDrop w m j) es,
+    )
 outs-any v k (_ ∷ es) = outs-any v k es
 
 -- at a node an array that was put goes out or is dropped, or is saved and comes back
@@ -310,8 +349,14 @@ standing-parts : (P : Past) (v k : ℕ)
     → count (flows_of v k) (standing P) ≡ count (arrives_at v k) P + count (leaves_at v k) (standing P) + count (puts_at v k) P
     + count (out_of v (of_index k)) P + count (saves_at v k) (standing P) + count (saved_at v k) P
 standing-parts P v k =
-    omega (arith, parts v k (standing P), all-stand (arrives_at v k) (arrivals-stand v k) P, all-stand (puts_at v k) (puts-stand v k) P,
-    all-stand (out_of v (of_index k)) (outs-stand v k) P, all-stand (saved_at v k) (saved-stand v k) P)
+    omega (
+      arith,
+      parts v k (standing P),
+      all-stand (arrives_at v k) (arrivals-stand v k) P,
+      all-stand (puts_at v k) (puts-stand v k) P,
+      all-stand (out_of v (of_index k)) (outs-stand v k) P,
+      all-stand (saved_at v k) (saved-stand v k) P,
+    )
 
 -- five entries an arrival
 flows-few : (s : Setting) (P : Past) (v k : ℕ) → v ≢ 0 → is_legal s P ≡ true → count (flows_of v k) (standing P) ≤ 5 * count (arrives_at v k) P
@@ -322,8 +367,20 @@ flows-few s P v k nz h =
 driver-few : (s : Setting) (P : Past) (k : ℕ) → is_legal s P ≡ true → count (flows_of 0 k) (standing P) ≤ bit (ltb k (length s.ids))
 driver-few s P k h =
     let none = none_arrives s P 0 k (none_numbered_0 s) h in
-    omega (arith, standing-parts P 0 k, none, leaves-accepted s P 0 k h, arrives-le 0 k P, puts-taken s P 0 k h, takes-le 0 k (standing P),
-    no_saves s P 0 k refl h, saved-saves s P 0 k h, outs-issued s P k h, issues-loads s P k h, load-few s P k h)
+    omega (
+      arith,
+      standing-parts P 0 k,
+      none,
+      leaves-accepted s P 0 k h,
+      arrives-le 0 k P,
+      puts-taken s P 0 k h,
+      takes-le 0 k (standing P),
+      no_saves s P 0 k refl h,
+      saved-saves s P 0 k h,
+      outs-issued s P k h,
+      issues-loads s P k h,
+      load-few s P k h,
+    )
 
 -- what isn't numbered has no arrivals
 not_numbered : (s : Setting) (v : ℕ) → length s.nodes < v → count (is_number v) (node_numbers s) ≡ 0
@@ -376,8 +433,11 @@ flows-node : (s : Setting) (P : Past) (v : ℕ) → is_legal s P ≡ true
     → count (flows_at v) (standing P) ≤ cond (ltb v (suc (length s.nodes))) (length s.ids * cond (eqb v 0) 1 5) 0
 flows-node s P v h =
     let few : count (flows_at v) (standing P) ≤ length s.ids * weight s v =
-    omega (arith, few_in_buckets (flows_at v) index_of (flows_of v) (λ e k. refl) (length s.ids) (λ k. weight s v) (standing P) (λ k. weighed s P v k h),
-    sum_same (weight s v) (length s.ids)) in
+    omega (
+      arith,
+      few_in_buckets (flows_at v) index_of (flows_of v) (λ e k. refl) (length s.ids) (λ k. weight s v) (standing P) (λ k. weighed s P v k h),
+      sum_same (weight s v) (length s.ids),
+    ) in
     omega (arith, few, out (ltb v (suc (length s.nodes))) (cond (eqb v 0) 1 5))
   where
     out : (b : Bool) (n : ℕ) → length s.ids * cond b n 0 ≡ cond b (length s.ids * n) 0
@@ -433,8 +493,11 @@ settles-once s (_ ∷ P) v h = settles-once s P v (and_parts _ _ h).0
 
 settles-few : (s : Setting) (P : Past) → is_legal s P ≡ true → count is_settle P ≤ length s.nodes
 settles-few s P h =
-    omega (arith, few_in_buckets is_settle node_of settles settle-buckets (suc (length s.nodes)) (λ v. cond (eqb v 0) 0 1) P (λ v. settles-once s P v h),
-    sum_nodes 0 1 (length s.nodes))
+    omega (
+      arith,
+      few_in_buckets is_settle node_of settles settle-buckets (suc (length s.nodes)) (λ v. cond (eqb v 0) 0 1) P (λ v. settles-once s P v h),
+      sum_nodes 0 1 (length s.nodes),
+    )
 
 closes-once : (s : Setting) (P : Past) → is_legal s P ≡ true → count closes P ≤ 1
 closes-once s [] h = omega arith
@@ -476,23 +539,43 @@ role-idle s [] r high h = refl
 role-idle s (Load q k b n f g x ∷ P) r high h =
     let facts = load-facts s q k P (and_parts (may_load s q k P) (pool_grants s 0 b n f g x P) (row_of s (Load q k b n f g x) P (λ d. refl) h)).0 in
     let ne : q ≢ r = λ e. absurd (omega (arith, facts.acts.role, high, e)) in
-    omega (arith, role-idle s P r high (and_parts _ _ h).0, count-cons (takes_up r) (Load q k b n f g x) (let_go q (hands P)),
-    count-let_go-le (takes_up r) q (hands P), ap bit (ne_eqb q r ne))
+    omega (
+      arith,
+      role-idle s P r high (and_parts _ _ h).0,
+      count-cons (takes_up r) (Load q k b n f g x) (let_go q (hands P)),
+      count-let_go-le (takes_up r) q (hands P),
+      ap bit (ne_eqb q r ne),
+    )
 role-idle s (Take q v m k ∷ P) r high h =
     let facts = take-facts s q v (frame m k) P (may-Take s q v m k P h) in
     let ne : q ≢ r = λ e. absurd (omega (arith, facts.acts.role, high, e)) in
-    omega (arith, role-idle s P r high (and_parts _ _ h).0, count-cons (takes_up r) (Take q v m k) (let_go q (hands P)),
-    count-let_go-le (takes_up r) q (hands P), ap bit (ne_eqb q r ne))
+    omega (
+      arith,
+      role-idle s P r high (and_parts _ _ h).0,
+      count-cons (takes_up r) (Take q v m k) (let_go q (hands P)),
+      count-let_go-le (takes_up r) q (hands P),
+      ap bit (ne_eqb q r ne),
+    )
 role-idle s (TakeBlock f x q v m k b n g ∷ P) r high h =
     let facts = take-facts s q v (frame m k) P (may-TakeBlock s q v m k b n f g x P h) in
     let ne : q ≢ r = λ e. absurd (omega (arith, facts.acts.role, high, e)) in
-    omega (arith, role-idle s P r high (and_parts _ _ h).0, count-cons (takes_up r) (TakeBlock f x q v m k b n g) (let_go q (hands P)),
-    count-let_go-le (takes_up r) q (hands P), ap bit (ne_eqb q r ne))
+    omega (
+      arith,
+      role-idle s P r high (and_parts _ _ h).0,
+      count-cons (takes_up r) (TakeBlock f x q v m k b n g) (let_go q (hands P)),
+      count-let_go-le (takes_up r) q (hands P),
+      ap bit (ne_eqb q r ne),
+    )
 role-idle s (Save q v m k g ∷ P) r high h =
     let facts = (row_laws.save s P q v m k g).0 (row_of s (Save q v m k g) P (λ d. refl) h) in
     let ne : q ≢ r = λ e. absurd (omega (arith, facts.role, high, e)) in
-    omega (arith, role-idle s P r high (and_parts _ _ h).0, count-cons (takes_up r) (Save q v m k g) (let_go q (hands P)),
-    count-let_go-le (takes_up r) q (hands P), ap bit (ne_eqb q r ne))
+    omega (
+      arith,
+      role-idle s P r high (and_parts _ _ h).0,
+      count-cons (takes_up r) (Save q v m k g) (let_go q (hands P)),
+      count-let_go-le (takes_up r) q (hands P),
+      ap bit (ne_eqb q r ne),
+    )
 role-idle s (Issue q k ∷ P) r high h = omega (arith, role-idle s P r high (and_parts _ _ h).0, count-let_go-le (takes_up r) q (hands P))
 role-idle s (Put q v m k f ∷ P) r high h = omega (arith, role-idle s P r high (and_parts _ _ h).0, count-let_go-le (takes_up r) q (hands P))
 role-idle s (Saved q v m k ∷ P) r high h = omega (arith, role-idle s P r high (and_parts _ _ h).0, count-let_go-le (takes_up r) q (hands P))
@@ -514,8 +597,13 @@ reclaims-once s (Reclaim q ∷ P) r h =
       | inl here ↦
           let is : q ≡ r = eqb-true q r here in
           let none : count (reclaims r) P ≡ 0 = subst (λ (u : ℕ). count (reclaims u) P ≡ 0) is (none_counted (reclaims q) P facts.once) in
-          omega (arith, one, none, ap bit here,
-          ap bit (lt-ltb r (last_role s) (subst (λ (u : ℕ). u < last_role s) is (worker legal facts.holds.0 facts.holds.1 facts.worker))))
+          omega (
+            arith,
+            one,
+            none,
+            ap bit here,
+            ap bit (lt-ltb r (last_role s) (subst (λ (u : ℕ). u < last_role s) is (worker legal facts.holds.0 facts.holds.1 facts.worker))),
+          )
       | inr away ↦ omega (arith, before, one, ap bit away)
     ]
   where

@@ -113,8 +113,15 @@ held_ones is_free bs = filter (λ b. not (is_free b.number)) bs
 all_sizes : (is_free : ℕ → Bool) (bs : List Block) → sizes (order is_free bs) + sizes (held_ones is_free bs) ≡ sizes bs
 all_sizes is_free bs =
     let free : List Block = filter (λ (b : Block). is_free b.number) bs in
-    omega (arith, sizes_of-any (order is_free bs), sizes_of-any (held_ones is_free bs), sizes_of-any bs, sizes_of-reverse any_block (in_order free),
-    sizes_of-in_order any_block free, parted any_block (λ (b : Block). is_free b.number) bs)
+    omega (
+      arith,
+      sizes_of-any (order is_free bs),
+      sizes_of-any (held_ones is_free bs),
+      sizes_of-any bs,
+      sizes_of-reverse any_block (in_order free),
+      sizes_of-in_order any_block free,
+      parted any_block (λ (b : Block). is_free b.number) bs,
+    )
 
 -- what is left are the free ones that aren't given up, and the others
 left-le : (k : ℕ) (is_free : ℕ → Bool) (bs : List Block) → sizes (left_after k is_free bs) ≤ sizes (drop k (order is_free bs)) + sizes (held_ones is_free bs)
@@ -124,8 +131,17 @@ left-le k is_free bs =
     let free : List Block = filter (λ (b : Block). is_free b.number) bs in
     let rest : List Block = drop k (order is_free bs) in
     let split : sizes_of p (order is_free bs) ≡ sizes_of p (gone ++ rest) = ap (sizes_of p) (sym (take-append-drop k (order is_free bs))) in
-    omega (arith, parted p (λ (b : Block). is_free b.number) bs, sizes_of-in_order p free, sizes_of-reverse p (in_order free), split,
-    sizes_of-append p gone rest, none_left [] gone, sizes_of-le p rest, sizes_of-le p (held_ones is_free bs))
+    omega (
+      arith,
+      parted p (λ (b : Block). is_free b.number) bs,
+      sizes_of-in_order p free,
+      sizes_of-reverse p (in_order free),
+      split,
+      sizes_of-append p gone rest,
+      none_left [] gone,
+      sizes_of-le p rest,
+      sizes_of-le p (held_ones is_free bs),
+    )
 
 -- HOW MANY ARE GIVEN UP
 

@@ -34,8 +34,14 @@ other_unloaded s P r p e d h ne he hd le =
     let other : find (takes_up p) (let_go r (hands P)) ≡ Some d = find-let_go r p (hands P) ne ∙ hd in
     elim (cases_Bool (is_loaded d)) [
       | inl loaded ↦
-          absurd (omega (arith, one-loaded s P h, count-let_go is_loaded r e (hands P) he,
-          count-let_go is_loaded p d (let_go r (hands P)) other, ap bit le, ap bit loaded))
+          absurd (omega (
+            arith,
+            one-loaded s P h,
+            count-let_go is_loaded r e (hands P) he,
+            count-let_go is_loaded p d (let_go r (hands P)) other,
+            ap bit le,
+            ap bit loaded,
+          ))
       | inr none ↦ none
     ]
 

@@ -84,8 +84,15 @@ not_yet s r v m k f P sorted h =
     let taken = puts-taken s (Put r v m k f ∷ P) v k h in
     let put_here : puts_at v k (Put r v m k f) ≡ true = and_from _ _ (eq-eqb v v refl) (eq-eqb k k refl) in
     let one : bit (puts_at v k (Put r v m k f)) ≡ 1 = ap bit put_here in
-    omega (arith, taken, one, count-cons (puts_at v k) (Put r v m k f) P, takes-accepted s (Put r v m k f ∷ P) v k h, accepts-once s (Put r v m k f ∷ P) v k h,
-    sorted-emits s P v k (sorted_node s v sorted) sorted legal)
+    omega (
+      arith,
+      taken,
+      one,
+      count-cons (puts_at v k) (Put r v m k f) P,
+      takes-accepted s (Put r v m k f ∷ P) v k h,
+      accepts-once s (Put r v m k f ∷ P) v k h,
+      sorted-emits s P v k (sorted_node s v sorted) sorted legal,
+    )
 
 not_waiting-last : (a : FrameName) (w : Waiting) (ws : List Waiting) → w.array ≡ a → count (waits (of_index a.index)) ws ≡ 0 → not_waiting a (ws ++ w ∷ []) ≡ ws
 not_waiting-last a w [] is none =

@@ -138,14 +138,27 @@ making-cons a e hs = omega (arith, loads-cons a e hs, count-cons (takes_at a.mak
 hands-held : (a : FrameName) (hs : List Entry) → count (holds (is_frame a)) hs ≤ count (holds_by no_frame (is_frame a)) hs + in_making a hs
 hands-held a [] = omega arith
 hands-held a (e ∷ hs) =
-    omega (arith, hands-held a hs, held-split a e, made-most a e, making-cons a e hs, count-cons (holds (is_frame a)) e hs,
-    count-cons (holds_by no_frame (is_frame a)) e hs)
+    omega (
+      arith,
+      hands-held a hs,
+      held-split a e,
+      made-most a e,
+      making-cons a e hs,
+      count-cons (holds (is_frame a)) e hs,
+      count-cons (holds_by no_frame (is_frame a)) e hs,
+    )
 
 nowhere : (s : Setting) (P : Past) (a : FrameName) → is_legal s P ≡ true → let_out a P ≡ 0 → in_making a (hands P) ≡ 0 → Clear (is_frame a) s P
 nowhere s P a h none idle =
     let c = unmade-clear s P a h none in
-    record { queues = c.queues; lists = c.lists; rings = c.rings; files = c.files;
-    roles = omega (arith, hands-held a (hands P), c.roles, idle); calls = c.calls }
+    record {
+      queues = c.queues;
+      lists = c.lists;
+      rings = c.rings;
+      files = c.files;
+      roles = omega (arith, hands-held a (hands P), c.roles, idle);
+      calls = c.calls;
+    }
 
 -- nobody takes from the driver
 none_taken : (s : Setting) (P : Past) (k : ℕ) → is_legal s P ≡ true → count (takes_at 0 k) (standing P) ≡ 0

@@ -154,8 +154,12 @@ look_if s P c k u false = refl
 no_offers-tick : (s : Setting) (P : Past) (c k : ℕ) (us : List ℕ) → count (arrives_at c k) (flat_map (λ u. cond (is_sorted s u) (look s u P) []) us) ≡ 0
 no_offers-tick s P c k [] = refl
 no_offers-tick s P c k (u ∷ us) =
-    omega (arith, count-append (arrives_at c k) (cond (is_sorted s u) (look s u P) []) (flat_map (λ x. cond (is_sorted s x) (look s x P) []) us),
-    look_if s P c k u (is_sorted s u), no_offers-tick s P c k us)
+    omega (
+      arith,
+      count-append (arrives_at c k) (cond (is_sorted s u) (look s u P) []) (flat_map (λ x. cond (is_sorted s x) (look s x P) []) us),
+      look_if s P c k u (is_sorted s u),
+      no_offers-tick s P c k us,
+    )
 
 -- what came and what is still offered was emitted by the input
 pub arrives-emitted : (s : Setting) (P : Past) (c k : ℕ) → is_legal s P ≡ true
@@ -179,17 +183,38 @@ arrives-emitted s (Full w m i ∷ P) c k h =
 arrives-emitted s (Emit w m i why ∷ P) c k h =
     let calls = offers_of_emit s P w m i c k in
     let all = count-append (arrives_at c k) (map (offer (frame m i)) (offered_to s P w)) (drop 1 (owed s P)) in
-    omega (arith, arrives-emitted s P c k (and_parts _ _ h).0, calls, all, count-drop (arrives_at c k) (owed s P),
-    count-cons (emits_at (node s c).input k) (Emit w m i why) P)
+    omega (
+      arith,
+      arrives-emitted s P c k (and_parts _ _ h).0,
+      calls,
+      all,
+      count-drop (arrives_at c k) (owed s P),
+      count-cons (emits_at (node s c).input k) (Emit w m i why) P,
+    )
 arrives-emitted s (Tick t ∷ P) c k h =
-    omega (arith, arrives-emitted s P c k (and_parts _ _ h).0, count-append (arrives_at c k) (calls_for s P (Tick t)) (drop 1 (owed s P)),
-    no_offers-tick s (Tick t ∷ P) c k (node_numbers s), count-drop (arrives_at c k) (owed s P))
+    omega (
+      arith,
+      arrives-emitted s P c k (and_parts _ _ h).0,
+      count-append (arrives_at c k) (calls_for s P (Tick t)) (drop 1 (owed s P)),
+      no_offers-tick s (Tick t ∷ P) c k (node_numbers s),
+      count-drop (arrives_at c k) (owed s P),
+    )
 arrives-emitted s (Put r w m i f ∷ P) c k h =
-    omega (arith, arrives-emitted s P c k (and_parts _ _ h).0, count-append (arrives_at c k) (calls_for s P (Put r w m i f)) (drop 1 (owed s P)),
-    no_offers w c k (calls_for s P (Put r w m i f)) (result-at s w (frame m i) f P (node s w).work), count-drop (arrives_at c k) (owed s P))
+    omega (
+      arith,
+      arrives-emitted s P c k (and_parts _ _ h).0,
+      count-append (arrives_at c k) (calls_for s P (Put r w m i f)) (drop 1 (owed s P)),
+      no_offers w c k (calls_for s P (Put r w m i f)) (result-at s w (frame m i) f P (node s w).work),
+      count-drop (arrives_at c k) (owed s P),
+    )
 arrives-emitted s (Settle r w ∷ P) c k h =
-    omega (arith, arrives-emitted s P c k (and_parts _ _ h).0, count-append (arrives_at c k) (calls_for s P (Settle r w)) (drop 1 (owed s P)),
-    no_offers w c k (calls_for s P (Settle r w)) (flush-at w (least_first s (waiting s w P))), count-drop (arrives_at c k) (owed s P))
+    omega (
+      arith,
+      arrives-emitted s P c k (and_parts _ _ h).0,
+      count-append (arrives_at c k) (calls_for s P (Settle r w)) (drop 1 (owed s P)),
+      no_offers w c k (calls_for s P (Settle r w)) (flush-at w (least_first s (waiting s w P))),
+      count-drop (arrives_at c k) (owed s P),
+    )
 arrives-emitted s (_ ∷ P) c k h = omega (arith, arrives-emitted s P c k (and_parts _ _ h).0, count-drop (arrives_at c k) (owed s P))
 
 -- nothing is offered to what isn't numbered
@@ -212,17 +237,37 @@ none_arrives s (Full w m i ∷ P) c k none h =
     let left : count (arrives_at c k) (drop 1 (owed s P)) ≡ count (arrives_at c k) a.rest = ap (λ (ds : List Entry). count (arrives_at c k) (drop 1 ds)) a.is in
     omega (arith, none_arrives s P c k none (and_parts _ _ h).0, was, left, count-cons (arrives_at c k) (Full w m i) P)
 none_arrives s (Emit w m i why ∷ P) c k none h =
-    omega (arith, none_arrives s P c k none (and_parts _ _ h).0, none_to s P c w m i k none,
-    count-append (arrives_at c k) (map (offer (frame m i)) (offered_to s P w)) (drop 1 (owed s P)), count-drop (arrives_at c k) (owed s P))
+    omega (
+      arith,
+      none_arrives s P c k none (and_parts _ _ h).0,
+      none_to s P c w m i k none,
+      count-append (arrives_at c k) (map (offer (frame m i)) (offered_to s P w)) (drop 1 (owed s P)),
+      count-drop (arrives_at c k) (owed s P),
+    )
 none_arrives s (Tick t ∷ P) c k none h =
-    omega (arith, none_arrives s P c k none (and_parts _ _ h).0, count-append (arrives_at c k) (calls_for s P (Tick t)) (drop 1 (owed s P)),
-    no_offers-tick s (Tick t ∷ P) c k (node_numbers s), count-drop (arrives_at c k) (owed s P))
+    omega (
+      arith,
+      none_arrives s P c k none (and_parts _ _ h).0,
+      count-append (arrives_at c k) (calls_for s P (Tick t)) (drop 1 (owed s P)),
+      no_offers-tick s (Tick t ∷ P) c k (node_numbers s),
+      count-drop (arrives_at c k) (owed s P),
+    )
 none_arrives s (Put r w m i f ∷ P) c k none h =
-    omega (arith, none_arrives s P c k none (and_parts _ _ h).0, count-append (arrives_at c k) (calls_for s P (Put r w m i f)) (drop 1 (owed s P)),
-    no_offers w c k (calls_for s P (Put r w m i f)) (result-at s w (frame m i) f P (node s w).work), count-drop (arrives_at c k) (owed s P))
+    omega (
+      arith,
+      none_arrives s P c k none (and_parts _ _ h).0,
+      count-append (arrives_at c k) (calls_for s P (Put r w m i f)) (drop 1 (owed s P)),
+      no_offers w c k (calls_for s P (Put r w m i f)) (result-at s w (frame m i) f P (node s w).work),
+      count-drop (arrives_at c k) (owed s P),
+    )
 none_arrives s (Settle r w ∷ P) c k none h =
-    omega (arith, none_arrives s P c k none (and_parts _ _ h).0, count-append (arrives_at c k) (calls_for s P (Settle r w)) (drop 1 (owed s P)),
-    no_offers w c k (calls_for s P (Settle r w)) (flush-at w (least_first s (waiting s w P))), count-drop (arrives_at c k) (owed s P))
+    omega (
+      arith,
+      none_arrives s P c k none (and_parts _ _ h).0,
+      count-append (arrives_at c k) (calls_for s P (Settle r w)) (drop 1 (owed s P)),
+      no_offers w c k (calls_for s P (Settle r w)) (flush-at w (least_first s (waiting s w P))),
+      count-drop (arrives_at c k) (owed s P),
+    )
 none_arrives s (_ ∷ P) c k none h = omega (arith, none_arrives s P c k none (and_parts _ _ h).0, count-drop (arrives_at c k) (owed s P))
 
 pub none_at : (s : Setting) (P : Past) (c k : ℕ) → count (is_number c) (node_numbers s) ≡ 0 → is_legal s P ≡ true

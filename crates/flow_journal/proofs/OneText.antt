@@ -33,8 +33,13 @@ pub front_entries : (es before : List Entry) (rest : List ℕ) → All Fits es �
     → (ds : List Entry) × (es ≡ before ++ ds) × (rest ≡ text_of ds) × All Fits ds
 front_entries es [] rest fes fit same = (es, refl, sym same, fes)
 front_entries [] (d ∷ before) rest fes fit same =
-    absurd (omega (arith, ap length same, length-append (text_of (d ∷ before)) rest, length-append (line d) (text_of before),
-    length-append (spelling d) (10 ∷ [])))
+    absurd (omega (
+      arith,
+      ap length same,
+      length-append (text_of (d ∷ before)) rest,
+      length-append (line d) (text_of before),
+      length-append (spelling d) (10 ∷ []),
+    ))
 front_entries (e ∷ es) (d ∷ before) rest fes fit same =
     let whole : text_of (e ∷ es) ≡ line d ++ (text_of before ++ rest) = same ∙ append_assoc (line d) (text_of before) rest in
     let one = same_line (text_of (e ∷ es)) e d (text_of es) (text_of before ++ rest) (All-head Fits e es fes) (All-head Fits d before fit) refl whole in

@@ -52,9 +52,9 @@ goes_out-at s v before now (w ∷ ws) =
       | false ↦
           elim (ltb (w.tick + (node s v).sort_time) now) as (λ b. list_all (is_out_at v)
           (cond b (emit v Late w.array ∷ goes_out s v (id_at s w.array.index) now ws) []) ≡ true) [
-        | true ↦ and_from _ _ (here v) more
-        | false ↦ refl
-      ]
+            | true ↦ and_from _ _ (here v) more
+            | false ↦ refl
+          ]
     ]
 
 pub emits-at : (v : ℕ) (why : Why) (xs : List FrameName) → AllOutAt v (map (emit v why) xs)
@@ -80,10 +80,14 @@ watched_result-at : (pre post preset v : ℕ) (a : FrameName) (f : Bool) (kept :
 watched_result-at pre post preset v a f kept flags =
     all-append (is_out_at v) (cond (is_trigger post preset (flags ++ f ∷ []) (length flags)) (map (emit v Ring) kept) [])
     (cond (is_passed pre post preset (flags ++ f ∷ []) (length flags)) (emit v Now a ∷ []) [])
-    (elim (is_trigger post preset (flags ++ f ∷ []) (length flags)) as (λ b. AllOutAt v (cond b (map (emit v Ring) kept) [])) [ true ↦ emits-at v Ring kept
-    | false ↦ refl ])
-    (elim (is_passed pre post preset (flags ++ f ∷ []) (length flags)) as (λ b. AllOutAt v (cond b (emit v Now a ∷ []) [])) [ true ↦ and_from _ _ (here v) refl
-    | false ↦ refl ])
+    (elim (is_trigger post preset (flags ++ f ∷ []) (length flags)) as (λ b. AllOutAt v (cond b (map (emit v Ring) kept) [])) [
+      | true ↦ emits-at v Ring kept
+      | false ↦ refl
+    ])
+    (elim (is_passed pre post preset (flags ++ f ∷ []) (length flags)) as (λ b. AllOutAt v (cond b (emit v Now a ∷ []) [])) [
+      | true ↦ and_from _ _ (here v) refl
+      | false ↦ refl
+    ])
 
 sorted-or-plain-at : (b : Bool) (v : ℕ) (a : FrameName) (ds : List Entry) → AllOutAt v ds → AllOutAt v (cond b ds (emit v Plain a ∷ []))
 sorted-or-plain-at true v a ds h = h
@@ -172,9 +176,9 @@ count-goes_out s v t before now (w ∷ ws) =
       | true ↦ omega (arith, more, one, count-cons (out_of v t) (emit v Step w.array) rest, same_out v t (t w.array))
       | false ↦
           elim (ltb (w.tick + (node s v).sort_time) now) as (λ b. count (out_of v t) (cond b (emit v Late w.array ∷ rest) []) ≤ count (waits t) (w ∷ ws)) [
-        | true ↦ omega (arith, more, one, count-cons (out_of v t) (emit v Late w.array) rest, same_out v t (t w.array))
-        | false ↦ omega arith
-      ]
+            | true ↦ omega (arith, more, one, count-cons (out_of v t) (emit v Late w.array) rest, same_out v t (t w.array))
+            | false ↦ omega arith
+          ]
     ]
 
 pub count-look : (s : Setting) (v : ℕ) (t : FrameName → Bool) (P : Past) → count (out_of v t) (look s v P) ≤ count (waits t) (waiting s v P)
@@ -183,8 +187,13 @@ count-look s v t P = omega (arith, count-goes_out s v t (prev s v P) (now P) (le
 pub count-flush : (v : ℕ) (t : FrameName → Bool) (ws : List Waiting) → count (out_of v t) (map (λ (w : Waiting). emit v Flush w.array) ws) ≡ count (waits t) ws
 count-flush v t [] = refl
 count-flush v t (w ∷ ws) =
-    omega (arith, count-flush v t ws, count-cons (out_of v t) (emit v Flush w.array) (map (λ (x : Waiting). emit v Flush x.array) ws),
-    count-cons (waits t) w ws, same_out v t (t w.array))
+    omega (
+      arith,
+      count-flush v t ws,
+      count-cons (out_of v t) (emit v Flush w.array) (map (λ (x : Waiting). emit v Flush x.array) ws),
+      count-cons (waits t) w ws,
+      same_out v t (t w.array),
+    )
 
 -- of the list with the result, no more goes out or is dropped than there is
 pub count-sorted_result : (s : Setting) (v : ℕ) (t : FrameName → Bool) (a : FrameName) (tick : ℕ) (before : List Waiting) (P : Past)
@@ -195,12 +204,24 @@ count-sorted_result s v t a tick before P is =
     ap (count (waits t)) is ∙ (count-append (waits t) before (w ∷ []) ∙ omega (arith, count-cons (waits t) w [])) in
     elim (cases_Bool (keeps_step (prev s v P) (id_at s a.index))) [
       | inl step ↦
-          rw step (omega (arith, all, count-cons (out_of v t) (emit v Step a) (goes_out s v (id_at s a.index) (now P) (least_first s before)),
-          same_out v t (t a), count-goes_out s v t (id_at s a.index) (now P) (least_first s before), count-least_first s (waits t) before))
+          rw step (omega (
+            arith,
+            all,
+            count-cons (out_of v t) (emit v Step a) (goes_out s v (id_at s a.index) (now P) (least_first s before)),
+            same_out v t (t a),
+            count-goes_out s v t (id_at s a.index) (now P) (least_first s before),
+            count-least_first s (waits t) before,
+          ))
       | inr out ↦ elim (cases_Bool (eqb (length before) (node s v).sort)) [
         | inl full ↦
-            rw (out, full) (omega (arith, all, count-cons (out_of v t) (SortDrop v a.maker a.index) (goes_out s v (prev s v P) (now P) (least_first s before)),
-            same_out v t (t a), count-goes_out s v t (prev s v P) (now P) (least_first s before), count-least_first s (waits t) before))
+            rw (out, full) (omega (
+              arith,
+              all,
+              count-cons (out_of v t) (SortDrop v a.maker a.index) (goes_out s v (prev s v P) (now P) (least_first s before)),
+              same_out v t (t a),
+              count-goes_out s v t (prev s v P) (now P) (least_first s before),
+              count-least_first s (waits t) before,
+            ))
         | inr room ↦ rw (out, room) (count-look s v t P)
       ]
     ]

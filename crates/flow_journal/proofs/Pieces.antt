@@ -51,8 +51,14 @@ no_two_pieces s P v r q e d h ne he hd pe =
     let other : find (takes_up q) (let_go r (hands P)) ≡ Some d = find-let_go r q (hands P) ne ∙ hd in
     elim (cases_Bool (is_piece v d)) [
       | inl piece ↦
-          absurd (omega (arith, one-piece s P v h, count-let_go (is_piece v) r e (hands P) he,
-          count-let_go (is_piece v) q d (let_go r (hands P)) other, ap bit pe, ap bit piece))
+          absurd (omega (
+            arith,
+            one-piece s P v h,
+            count-let_go (is_piece v) r e (hands P) he,
+            count-let_go (is_piece v) q d (let_go r (hands P)) other,
+            ap bit pe,
+            ap bit piece,
+          ))
       | inr none ↦ none
     ]
 
@@ -65,8 +71,13 @@ none_stray : (s : Setting) (P : Past) → is_legal s P ≡ true → count (is_st
 none_stray s [] h = refl
 none_stray s (Save r v m k g ∷ P) h =
     let facts = (save-facts s r v m k g P (row_of s (Save r v m k g) P (λ d. refl) h)).piece in
-    omega (arith, none_stray s P (and_parts _ _ h).0, count-cons (is_stray s) (Save r v m k g) (let_go r (hands P)), count-let_go-le (is_stray s) r (hands P),
-    ap (λ (b : Bool). bit (not b)) facts.file)
+    omega (
+      arith,
+      none_stray s P (and_parts _ _ h).0,
+      count-cons (is_stray s) (Save r v m k g) (let_go r (hands P)),
+      count-let_go-le (is_stray s) r (hands P),
+      ap (λ (b : Bool). bit (not b)) facts.file,
+    )
 none_stray s (Issue r k ∷ P) h = omega (arith, none_stray s P (and_parts _ _ h).0, count-let_go-le (is_stray s) r (hands P))
 none_stray s (Put r v m k f ∷ P) h = omega (arith, none_stray s P (and_parts _ _ h).0, count-let_go-le (is_stray s) r (hands P))
 none_stray s (Saved r v m k ∷ P) h = omega (arith, none_stray s P (and_parts _ _ h).0, count-let_go-le (is_stray s) r (hands P))

@@ -139,8 +139,13 @@ pub arrays-count : (t : FrameName → Bool) (s : Setting) (P : Past) (v : ℕ)
     → count t (arrays_at s P v) ≡ count t (queued v P) + count (waits t) (waiting s v P) + count t (ring s v P) + count t (unsaved s v P)
 arrays-count t s P v =
     let ws : List FrameName = map (λ w. w.array) (waiting s v P) in
-    omega (arith, count-append t (queued v P ++ ws ++ ring s v P) (unsaved s v P), count-append t (queued v P ++ ws) (ring s v P),
-    count-append t (queued v P) ws, map-count t (waiting s v P))
+    omega (
+      arith,
+      count-append t (queued v P ++ ws ++ ring s v P) (unsaved s v P),
+      count-append t (queued v P ++ ws) (ring s v P),
+      count-append t (queued v P) ws,
+      map-count t (waiting s v P),
+    )
 
 at_some : (t : FrameName → Bool) (s : Setting) (P : Past) (v : ℕ) → list_any t (arrays_at s P v) ≡ false → AtNode t s P v
 at_some t s P v h =

@@ -128,8 +128,10 @@ fired pre post preset flags q xs a long more b =
     passed_now pre post preset flags true ∙ ap (ltb (length flags)) end in
     let one : length (xs ++ a ∷ []) ≡ length xs + 1 = omega (arith, length-append xs (a ∷ [])) in
     let at_most : cond b (count q (kept pre post preset flags xs)) 0 ≤ count q (kept pre post preset flags xs) =
-    elim b as (λ c. cond c (count q (kept pre post preset flags xs)) 0 ≤ count q (kept pre post preset flags xs)) [ true ↦ omega arith
-    | false ↦ omega arith ] in
+    elim b as (λ c. cond c (count q (kept pre post preset flags xs)) 0 ≤ count q (kept pre post preset flags xs)) [
+      | true ↦ omega arith
+      | false ↦ omega arith
+    ] in
     elim (cases_lt 0 post) [
       | inl some ↦
           let passed_on : is_passed pre post preset (flags ++ true ∷ []) (length flags) ≡ true =

@@ -36,11 +36,21 @@ settled-idle s (Settle r w ∷ P) v h settled =
       | inr away ↦ settled-idle s P v (and_parts _ _ h).0 (rw away at settled)
     ]
 settled-idle s (Take r w m k ∷ P) v h settled =
-    omega (arith, settled-idle s P v (and_parts _ _ h).0 settled, count-cons (is_job v) (Take r w m k) (let_go r (hands P)),
-    count-let_go-le (is_job v) r (hands P), ap bit (taken-elsewhere s r v w (frame m k) P (may-Take s r w m k P h) settled))
+    omega (
+      arith,
+      settled-idle s P v (and_parts _ _ h).0 settled,
+      count-cons (is_job v) (Take r w m k) (let_go r (hands P)),
+      count-let_go-le (is_job v) r (hands P),
+      ap bit (taken-elsewhere s r v w (frame m k) P (may-Take s r w m k P h) settled),
+    )
 settled-idle s (TakeBlock f x r w m k b n g ∷ P) v h settled =
-    omega (arith, settled-idle s P v (and_parts _ _ h).0 settled, count-cons (is_job v) (TakeBlock f x r w m k b n g) (let_go r (hands P)),
-    count-let_go-le (is_job v) r (hands P), ap bit (taken-elsewhere s r v w (frame m k) P (may-TakeBlock s r w m k b n f g x P h) settled))
+    omega (
+      arith,
+      settled-idle s P v (and_parts _ _ h).0 settled,
+      count-cons (is_job v) (TakeBlock f x r w m k b n g) (let_go r (hands P)),
+      count-let_go-le (is_job v) r (hands P),
+      ap bit (taken-elsewhere s r v w (frame m k) P (may-TakeBlock s r w m k b n f g x P h) settled),
+    )
 settled-idle s (Issue r k ∷ P) v h settled = omega (arith, settled-idle s P v (and_parts _ _ h).0 settled, count-let_go-le (is_job v) r (hands P))
 settled-idle s (Put r w m k f ∷ P) v h settled = omega (arith, settled-idle s P v (and_parts _ _ h).0 settled, count-let_go-le (is_job v) r (hands P))
 settled-idle s (Saved r w m k ∷ P) v h settled = omega (arith, settled-idle s P v (and_parts _ _ h).0 settled, count-let_go-le (is_job v) r (hands P))

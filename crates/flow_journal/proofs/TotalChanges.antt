@@ -228,9 +228,12 @@ total-reclaim t s r (Load q k b n f g x) P h held =
     let e : Entry = Reclaim r in
     let legal : is_legal s P ≡ true = (and_parts _ _ h).0 in
     let gone : sum_of (held_by t) (hands P) ≡ held_by t d + sum_of (held_by t) (hands (e ∷ P)) = sum-let_go (held_by t) r d (hands P) held in
-    omega (arith, gone,
-    nodes-same t s P
-    (e ∷ P) (λ u. at-same t s P (e ∷ P) u (queue_laws.reclaim_other u r d P held refl) refl refl (save_laws.reclaim_other s r u d P legal held refl)))
+    omega (
+      arith,
+      gone,
+      nodes-same t s P
+          (e ∷ P) (λ u. at-same t s P (e ∷ P) u (queue_laws.reclaim_other u r d P held refl) refl refl (save_laws.reclaim_other s r u d P legal held refl)),
+    )
 total-reclaim t s r (Take q v m k) P h held =
     let d : Entry = Take q v m k in
     let e : Entry = Reclaim r in

@@ -58,8 +58,11 @@ sum-one f g w (u ∷ us) same one =
           let rest : sum_of f us ≡ sum_of g us = sum-but f g w us same (omega (arith, one, count-cons (is_number w) u us, ap bit here)) in
           omega (arith, rest, ap f is, ap g is)
       | inr away ↦
-          omega (arith, same u (λ e. true≢false (sym (eq-eqb u w e) ∙ away)),
-          sum-one f g w us same (omega (arith, one, count-cons (is_number w) u us, ap bit away)))
+          omega (
+            arith,
+            same u (λ e. true≢false (sym (eq-eqb u w e) ∙ away)),
+            sum-one f g w us same (omega (arith, one, count-cons (is_number w) u us, ap bit away)),
+          )
     ]
 
 -- THE TOTAL
@@ -98,8 +101,12 @@ hand-count s q P (Load r k b n f g x) h stands =
     omega (arith, count-cons q b [], ap bit (any-one q b (block_of P (frame 0 k)) (load-block s P r k b n f g x h (stands r (eq-eqb r r refl)))))
 hand-count s q P (Take r v m k) h stands = frame-count q P (frame m k)
 hand-count s q P (TakeBlock f x r v m k b n g) h stands =
-    omega (arith, count-cons q b (block_of P (frame m k)), frame-count q P (frame m k),
-    ap bit (any-one q b (block_of P (frame v k)) (take-block s P r v m k b n f g x h (stands r (eq-eqb r r refl)))))
+    omega (
+      arith,
+      count-cons q b (block_of P (frame m k)),
+      frame-count q P (frame m k),
+      ap bit (any-one q b (block_of P (frame v k)) (take-block s P r v m k b n f g x h (stands r (eq-eqb r r refl)))),
+    )
 hand-count s q P (Save r v m k g) h stands = frame-count q P (frame m k)
 hand-count s q P _ h stands = refl
 
@@ -134,8 +141,20 @@ nodes-but t s e P w h same =
           let legal : is_legal s P ≡ true = (and_parts _ _ h).0 in
           let n = at_none t s P w legal away in
           let m = at_none t s (e ∷ P) w h away in
-          omega (arith, sum-but now_at was_at w (node_numbers s) same none, arrays-count t s P w, arrays-count t s (e ∷ P) w, n.queue, n.list, n.kept,
-          n.file, m.queue, m.list, m.kept, m.file)
+          omega (
+            arith,
+            sum-but now_at was_at w (node_numbers s) same none,
+            arrays-count t s P w,
+            arrays-count t s (e ∷ P) w,
+            n.queue,
+            n.list,
+            n.kept,
+            n.file,
+            m.queue,
+            m.list,
+            m.kept,
+            m.file,
+          )
     ]
   where
     some_counted : (p : ℕ → Bool) (us : List ℕ) → list_any p us ≡ true → 1 ≤ count p us

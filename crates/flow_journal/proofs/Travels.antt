@@ -190,8 +190,12 @@ queues-more u t s v (Take r w m k) P h c = omega (arith, goes-le t v w (frame m 
 queues-more u t s v (TakeBlock f x r w m k b n g) P h c = omega (arith, goes-le t v w (frame m k) (queued v P), c.queues v)
 queues-more u t s v (PoolDrop r w m k n z) P h c = omega (arith, goes-le t v w (frame m k) (queued v P), c.queues v)
 queues-more u t s v (Reclaim r) P h c =
-    omega (arith, count-append t (job_array v (hand r P)) (queued v P),
-    job-clear u t v (hand r P) (λ e held. hand-clear (holds_by u t) r e P held c.roles), c.queues v)
+    omega (
+      arith,
+      count-append t (job_array v (hand r P)) (queued v P),
+      job-clear u t v (hand r P) (λ e held. hand-clear (holds_by u t) r e P held c.roles),
+      c.queues v,
+    )
 queues-more u t s v _ P h c = c.queues v
 
 -- SORT LISTS
@@ -350,8 +354,12 @@ looks-clear : (t : FrameName → Bool) (s : Setting) (P : Past) (us : List ℕ) 
     → count (carries t) (looks s P us) ≡ 0
 looks-clear t s P [] h = refl
 looks-clear t s P (u ∷ us) h =
-    omega (arith, count-append (carries t) (cond (is_sorted s u) (look s u P) []) (looks s P us),
-    look-clear t s u P (is_sorted s u) (h u), looks-clear t s P us h)
+    omega (
+      arith,
+      count-append (carries t) (cond (is_sorted s u) (look s u P) []) (looks s P us),
+      look-clear t s u P (is_sorted s u) (h u),
+      looks-clear t s P us h,
+    )
 
 offers-clear : (t : FrameName → Bool) (a : FrameName) (cs : List ℕ) → t a ≡ false → count (carries t) (map (offer a) cs) ≡ 0
 offers-clear t a [] h = refl
@@ -378,9 +386,15 @@ sorted-clear u t s v m k f P sorted none c =
     let all : count (waits t) (waiting s v (Put 0 v m k f ∷ P)) ≡ count (waits t) (waiting s v P) + count (waits t) (new ∷ []) =
     ap (count (waits t)) is ∙ count-append (waits t) (waiting s v P) (new ∷ []) in
     let most = count-sorted_result s v t (frame m k) (now P) (waiting s v P) (Put 0 v m k f ∷ P) is in
-    omega (arith,
-    carried v t (sorted_result s v (frame m k) (waiting s v P) (Put 0 v m k f ∷ P)) (sorted_result-at s v (frame m k) (waiting s v P) (Put 0 v m k f ∷ P)),
-    most, all, count-cons (waits t) new [], none-bit (t (frame m k)) none, c.lists v)
+    omega (
+      arith,
+      carried v t (sorted_result s v (frame m k) (waiting s v P) (Put 0 v m k f ∷ P)) (sorted_result-at s v (frame m k) (waiting s v P) (Put 0 v m k f ∷ P)),
+      most,
+      all,
+      count-cons (waits t) new [],
+      none-bit (t (frame m k)) none,
+      c.lists v,
+    )
 
 either_clear : (p : Entry → Bool) (b : Bool) (xs ys : List Entry) → (b ≡ true → count p xs ≡ 0) → count p ys ≡ 0 → count p (cond b xs ys) ≡ 0
 either_clear p true xs ys h g = h refl
@@ -402,8 +416,11 @@ put-calls u t s v m k f P (Watches pre post preset) none c =
     let b : Bool = is_trigger post preset (flags ++ f ∷ []) (length flags) in
     let d : Bool = is_passed pre post preset (flags ++ f ∷ []) (length flags) in
     count-append (carries t) (cond b (map (emit v Ring) (ring s v P)) []) (cond d (emit v Now (frame m k) ∷ []) [])
-    ∙ omega (arith, only_if (carries t) b (map (emit v Ring) (ring s v P)) (emits-clear t v Ring (ring s v P) (c.rings v)),
-    only_if (carries t) d (emit v Now (frame m k) ∷ []) (one_emit-clear t v Now (frame m k) none))
+    ∙ omega (
+      arith,
+      only_if (carries t) b (map (emit v Ring) (ring s v P)) (emits-clear t v Ring (ring s v P) (c.rings v)),
+      only_if (carries t) d (emit v Now (frame m k) ∷ []) (one_emit-clear t v Now (frame m k) none),
+    )
 
 calls-clear : (u t : FrameName → Bool) (s : Setting) (e : Entry) (P : Past) → is_legal s (e ∷ P) ≡ true → count t (issued_by e) ≡ 0 → ClearBy u t s P
     → count (carries t) (calls_for s P e) ≡ 0

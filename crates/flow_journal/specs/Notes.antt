@@ -29,8 +29,14 @@ how_many p P = length (filter p P)
 -- how far a run has come
 abbrev pub progress_of : Setting → Past → Progress
 progress_of s P =
-    record { entries = length P; offered = how_many offers P; dropped = how_many drops P; saved = how_many saves P;
-    left = has_left_any P; done = is_finished s P }
+    record {
+      entries = length P;
+      offered = how_many offers P;
+      dropped = how_many drops P;
+      saved = how_many saves P;
+      left = has_left_any P;
+      done = is_finished s P;
+    }
 
 -- the notes with this one at the end, where they are told
 abbrev pub with_note : Option (List Progress) → Progress → Option (List Progress)

@@ -215,9 +215,10 @@ close-ends s old new n c =
     let last_ = ap (λ (l : Last). feeder_ends l (past new.seen) false) c.last in
     elim (cases_Bool (is_closed (past b))) [
       | inl closed ↦
-          let same : new.seen ≡ b = c.answer.1 ∙ rw closed refl in
-          (kept feeder_logs 0 old new role_ (unmoved s g last.Closed old new 0 n.role c same) n,
-          last_ ∙ (ap (λ (w : BoardState). is_closed (past w)) same ∙ closed))
+          let same : new.seen ≡ b = c.answer.1 ∙ rw closed refl in (
+            kept feeder_logs 0 old new role_ (unmoved s g last.Closed old new 0 n.role c same) n,
+            last_ ∙ (ap (λ (w : BoardState). is_closed (past w)) same ∙ closed),
+          )
       | inr open_ ↦
           let m = moved s g last.Closed old new 0 n.role c feeder_logs 0 (plain (Close 0)) (c.answer.1 ∙ rw open_ refl) refl feeder-quiet refl n.moves in
           (record { role = role_; moves = m.moves; free = m.hand ∙ (hand-before s g last.Closed old new 0 n.role c ∙ n.free) }, last_ ∙ m.seen closes refl)

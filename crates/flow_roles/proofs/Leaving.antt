@@ -64,14 +64,47 @@ pub told_called : (s : Setting) (gives : BoardState → BoardState → Type 0) (
     → gives (seen_at s r (told_by stage)) (seen_at s r (told_by stage))
     → Called s gives answered (pass_at s r stage before) (pass_at s r (told_by stage) answered)
 told_called s gives answered before r New h g =
-    record { between = other_left s r; added = []; seen = refl; answer = g; move = tt; made = refl; exact = told-moves s r; role = refl; last = refl;
-    legal = told-legal s r; drained = refl }
+    record {
+      between = other_left s r;
+      added = [];
+      seen = refl;
+      answer = g;
+      move = tt;
+      made = refl;
+      exact = told-moves s r;
+      role = refl;
+      last = refl;
+      legal = told-legal s r;
+      drained = refl;
+    }
 told_called s gives answered before r Told h g =
-    record { between = []; added = []; seen = refl; answer = g; move = tt; made = refl; exact = told-moves s r; role = refl; last = refl;
-    legal = told-legal s r; drained = refl }
+    record {
+      between = [];
+      added = [];
+      seen = refl;
+      answer = g;
+      move = tt;
+      made = refl;
+      exact = told-moves s r;
+      role = refl;
+      last = refl;
+      legal = told-legal s r;
+      drained = refl;
+    }
 told_called s gives answered before r Gone h g =
-    record { between = []; added = []; seen = refl; answer = g; move = tt; made = refl; exact = gone-moves s r; role = refl; last = refl;
-    legal = gone-legal s r h; drained = refl }
+    record {
+      between = [];
+      added = [];
+      seen = refl;
+      answer = g;
+      move = tt;
+      made = refl;
+      exact = gone-moves s r;
+      role = refl;
+      last = refl;
+      legal = gone-legal s r h;
+      drained = refl;
+    }
 
 leave-gives : (s : Setting) (r : ℕ) → LeaveGives s (other_left s r) r (plain (Leave r) ∷ other_left s r)
 leave-gives s r = rw (other-isnt s r) refl
@@ -80,14 +113,47 @@ leave-gives s r = rw (other-isnt s r) refl
 pub gone_called : (s : Setting) (before : Last) (r : ℕ) (stage : Stage) → r ≤ last_role s
     → Called s (λ old new. LeaveGives s old r new) last.Gone (pass_at s r stage before) (pass_at s r Gone last.Gone)
 gone_called s before r New h =
-    record { between = other_left s r; added = plain (Leave r) ∷ []; seen = refl; answer = leave-gives s r; move = refl; made = refl; exact = gone-moves s r;
-    role = refl; last = refl; legal = gone-legal s r h; drained = refl }
+    record {
+      between = other_left s r;
+      added = plain (Leave r) ∷ [];
+      seen = refl;
+      answer = leave-gives s r;
+      move = refl;
+      made = refl;
+      exact = gone-moves s r;
+      role = refl;
+      last = refl;
+      legal = gone-legal s r h;
+      drained = refl;
+    }
 gone_called s before r Told h =
-    record { between = []; added = plain (Leave r) ∷ []; seen = refl; answer = leave-gives s r; move = refl; made = refl; exact = gone-moves s r; role = refl;
-    last = refl; legal = gone-legal s r h; drained = refl }
+    record {
+      between = [];
+      added = plain (Leave r) ∷ [];
+      seen = refl;
+      answer = leave-gives s r;
+      move = refl;
+      made = refl;
+      exact = gone-moves s r;
+      role = refl;
+      last = refl;
+      legal = gone-legal s r h;
+      drained = refl;
+    }
 gone_called s before r Gone h =
-    record { between = []; added = []; seen = refl; answer = rw (eq-eqb r r refl) refl; move = tt; made = refl; exact = gone-moves s r; role = refl;
-    last = refl; legal = gone-legal s r h; drained = refl }
+    record {
+      between = [];
+      added = [];
+      seen = refl;
+      answer = rw (eq-eqb r r refl) refl;
+      move = tt;
+      made = refl;
+      exact = gone-moves s r;
+      role = refl;
+      last = refl;
+      legal = gone-legal s r h;
+      drained = refl;
+    }
 
 -- WHAT THE BOARD ANSWERS
 
@@ -136,11 +202,17 @@ pub settle_not_yet : (s : Setting) (r v : ℕ) (stage : Stage) → SettleGives s
 settle_not_yet s r v stage =
     elim (cases_Bool (eqb (node s v).input 0)) [
       | inl driver ↦
-          elim stage as (λ g. SettleGives s (seen_at s r (told_by g)) r v settled.NotYet (seen_at s r (told_by g))) [ New ↦ rw driver (refl, refl)
-          | Told ↦ rw driver (refl, refl) | Gone ↦ rw driver (refl, refl) ]
+          elim stage as (λ g. SettleGives s (seen_at s r (told_by g)) r v settled.NotYet (seen_at s r (told_by g))) [
+            | New ↦ rw driver (refl, refl)
+            | Told ↦ rw driver (refl, refl)
+            | Gone ↦ rw driver (refl, refl)
+          ]
       | inr node_ ↦
-          elim stage as (λ g. SettleGives s (seen_at s r (told_by g)) r v settled.NotYet (seen_at s r (told_by g))) [ New ↦ rw node_ (refl, refl)
-          | Told ↦ rw node_ (refl, refl) | Gone ↦ rw node_ (refl, refl) ]
+          elim stage as (λ g. SettleGives s (seen_at s r (told_by g)) r v settled.NotYet (seen_at s r (told_by g))) [
+            | New ↦ rw node_ (refl, refl)
+            | Told ↦ rw node_ (refl, refl)
+            | Gone ↦ rw node_ (refl, refl)
+          ]
     ]
 
 pub save_not_yet : {F : Type 0} (name_of : F → FrameName) (parts : F → Option Parts) (s : Setting) (r v : ℕ) (stage : Stage)
@@ -148,19 +220,28 @@ pub save_not_yet : {F : Type 0} (name_of : F → FrameName) (parts : F → Optio
 save_not_yet name_of parts s r v stage =
     elim (cases_Bool (is_file (node s v).work)) [
       | inl file ↦
-          elim stage as (λ g. SaveGives name_of parts s (seen_at s r (told_by g)) r v save.NotYet (seen_at s r (told_by g))) [ New ↦ rw file (refl, refl)
-          | Told ↦ rw file (refl, refl) | Gone ↦ rw file (refl, refl) ]
+          elim stage as (λ g. SaveGives name_of parts s (seen_at s r (told_by g)) r v save.NotYet (seen_at s r (told_by g))) [
+            | New ↦ rw file (refl, refl)
+            | Told ↦ rw file (refl, refl)
+            | Gone ↦ rw file (refl, refl)
+          ]
       | inr other ↦
-          elim stage as (λ g. SaveGives name_of parts s (seen_at s r (told_by g)) r v save.NotYet (seen_at s r (told_by g))) [ New ↦ rw other (refl, refl)
-          | Told ↦ rw other (refl, refl) | Gone ↦ rw other (refl, refl) ]
+          elim stage as (λ g. SaveGives name_of parts s (seen_at s r (told_by g)) r v save.NotYet (seen_at s r (told_by g))) [
+            | New ↦ rw other (refl, refl)
+            | Told ↦ rw other (refl, refl)
+            | Gone ↦ rw other (refl, refl)
+          ]
     ]
 
 pub close_not_yet : (s : Setting) (r : ℕ) (stage : Stage) → 0 < length s.ids
     → CloseGives s (seen_at s r (told_by stage)) r settled.NotYet (seen_at s r (told_by stage))
 close_not_yet s r stage h =
     let some : eqb 0 (length s.ids) ≡ false = ne_eqb 0 (length s.ids) (λ e. omega arith) in
-    elim stage as (λ g. CloseGives s (seen_at s r (told_by g)) r settled.NotYet (seen_at s r (told_by g))) [ New ↦ rw some (refl, refl)
-    | Told ↦ rw some (refl, refl) | Gone ↦ rw some (refl, refl) ]
+    elim stage as (λ g. CloseGives s (seen_at s r (told_by g)) r settled.NotYet (seen_at s r (told_by g))) [
+      | New ↦ rw some (refl, refl)
+      | Told ↦ rw some (refl, refl)
+      | Gone ↦ rw some (refl, refl)
+    ]
 
 pub progress_told : (s : Setting) (r : ℕ) (stage : Stage)
     → record { entries = leaves_at (told_by stage); offered = 0; dropped = 0; saved = 0; left = true; done = false }

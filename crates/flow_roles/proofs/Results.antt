@@ -290,8 +290,11 @@ module _ (g : Graph) (stack : StackValue) (v : ℕ) (n : NodeRule) (input : Seal
   pub result-circular : (r : CircularRule) (b : Bool) → n.kind ≡ Circular r → b ≡ s.fires v input.name.index
       → IsResult name_of (run_measure g stack) s (record { node = v; input = input; made = None; measured = None; fired = b })
   result-circular r b kind is =
-      record { made = made-as false (maker-is (Circular r) kind) None tt; measured = sym (measures-as (Circular r) kind);
-      fired = is ∙ sym (fires-as (Circular r) kind) }
+      record {
+        made = made-as false (maker-is (Circular r) kind) None tt;
+        measured = sym (measures-as (Circular r) kind);
+        fired = is ∙ sym (fires-as (Circular r) kind);
+      }
 
   pub result-file : (r : FileRule) → n.kind ≡ File r
       → IsResult name_of (run_measure g stack) s (record { node = v; input = input; made = None; measured = None; fired = false })

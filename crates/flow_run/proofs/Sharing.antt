@@ -122,8 +122,10 @@ module _ {O P : Type 0} (ours : P → Type 0) (knows : P → Pass) (s : Setting)
             let role : 0 + k ≡ k = omega arith in
             let end = subst (λ (r : ℕ). IsRoleEnd s r v (knows i.0.pass) i.0.left i.0.want) role (e.each k v i.0 at i.1).1 in (
               subst (λ (q : Pass). HasMade b q) i.2 (made-at k i.0 i.1),
-              (i.0.want,
-              subst (λ (l : Left Sealed (List ℕ) O). IsRoleEnd s k v p l i.0.want) left_is (subst (λ (q : Pass). IsRoleEnd s k v q i.0.left i.0.want) i.2 end)),
+              (
+                i.0.want,
+                subst (λ (l : Left Sealed (List ℕ) O). IsRoleEnd s k v p l i.0.want) left_is (subst (λ (q : Pass). IsRoleEnd s k v q i.0.left i.0.want) i.2 end),
+              ),
             )
 
     -- the feeder's ticks

@@ -129,10 +129,11 @@ take-front : {X : Type 0} (n : ℕ) (xs ys : List X) → (more : List X) × (tak
 take-front n xs ys =
     elim (cases_lt (length xs) n) [
       | inl short ↦
-          let e : length xs + (n - length xs) ≡ n = omega (arith, short) in
-          (take (n - length xs) ys,
-          ap (λ k. take k (xs ++ ys)) (sym e) ∙ take-append-add xs ys (n - length xs)
-          ∙ ap (λ zs. zs ++ take (n - length xs) ys) (sym (take_all n xs (omega (arith, short)))))
+          let e : length xs + (n - length xs) ≡ n = omega (arith, short) in (
+            take (n - length xs) ys,
+            ap (λ k. take k (xs ++ ys)) (sym e) ∙ take-append-add xs ys (n - length xs)
+                ∙ ap (λ zs. zs ++ take (n - length xs) ys) (sym (take_all n xs (omega (arith, short)))),
+          )
       | inr long ↦ ([], take-append-le n xs ys (omega (arith, long)) ∙ sym (append-nil (take n xs)))
     ]
 

@@ -173,8 +173,11 @@ moved-nothing : (s : Setting) (at r : ℕ) (t : Told) (b new : BoardState) → b
 moved-nothing s at r t b new first none is =
     let f = followers s at t b in
     let after = from-move r f.more t (one-move r f.more t f.go first) in
-    record { more = f.more ++ t ∷ []; is = is ∙ f.whole ∙ sym (append_assoc f.more (t ∷ []) b);
-    none = all-append saves_not f.more (t ∷ []) (quiet-all f.more after) (and_from _ _ none refl) }
+    record {
+      more = f.more ++ t ∷ [];
+      is = is ∙ f.whole ∙ sym (append_assoc f.more (t ∷ []) b);
+      none = all-append saves_not f.more (t ∷ []) (quiet-all f.more after) (and_from _ _ none refl);
+    }
 
 drain-begins : (s : Setting) (e : Entry) → is_drains s e ≡ true → (begins e ≡ Some (last_role s)) × (saves_not e ≡ true)
 drain-begins s (Load r k b n f g x) h = (ap Some (eqb-true r (last_role s) h), refl)
@@ -259,7 +262,7 @@ module _ (g : Graph) (stack : StackValue) (before : Option Files)
   saved-still false h = (
     all-same before xs (written_by g stack (past o)) (written_by g stack (past (more ++ o))) held written-still h.0,
     λ k x f at is.
-    subst (λ (zs : List Array). IsFirstCount seen x.node x.count (length zs / x.count) x.late f.numrecs) (written-still x.node) (h.1 k x f at is),
+        subst (λ (zs : List Array). IsFirstCount seen x.node x.count (length zs / x.count) x.late f.numrecs) (written-still x.node) (h.1 k x f at is),
   )
   saved-still true h = record {
     later = past more ++ h.later;

@@ -84,8 +84,12 @@ puts-named g makers arrays P v n sound rule none h =
     let m = maker_at g.nodes n.input in
     let legal = (and_parts (is_legal (setting_of g makers arrays) P) _ h).0 in
     let zero_ : count (wrong m) (puts v P) ≡ 0 =
-    omega (arith, puts-list v (wrong m) P, puts-accepted (setting_of g makers arrays) P v (wrong m) none legal,
-    accepts-named g makers arrays P sound h v n rule) in
+    omega (
+      arith,
+      puts-list v (wrong m) P,
+      puts-accepted (setting_of g makers arrays) P v (wrong m) none legal,
+      accepts-named g makers arrays P sound h v n rule,
+    ) in
     all-named m (puts v P) zero_
 
 -- AS THE LOG GROWS

@@ -90,8 +90,12 @@ length-listed (Some a) = omega arith
 length-contents : (nodes : List NodeRule) (arrays : List Array) (names : List FrameName) → length (contents nodes arrays names) ≤ length names
 length-contents nodes arrays [] = omega arith
 length-contents nodes arrays (n ∷ names) =
-    omega (arith, length-append (listed (content nodes arrays n)) (contents nodes arrays names), length-listed (content nodes arrays n),
-    length-contents nodes arrays names)
+    omega (
+      arith,
+      length-append (listed (content nodes arrays n)) (contents nodes arrays names),
+      length-listed (content nodes arrays n),
+      length-contents nodes arrays names,
+    )
 
 module _ (g : Graph) (stack : StackValue) (sound : IsGraph g) (kept : IsKeptStack stack) (v : ℕ) where
   abbrev shape : FileShape

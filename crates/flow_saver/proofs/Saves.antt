@@ -43,8 +43,10 @@ standing-all p [] all = refl
 standing-all p (Reclaim r ∷ P) all =
     let parts = and_parts (p (Reclaim r)) (list_all p P) all in
     let rest = standing-all p P parts.1 in
-    elim (cases_Bool (is_free r P)) [ inl yes_ ↦ rw yes_ (and_from _ _ parts.0 rest)
-    | inr no_ ↦ rw no_ (and_from _ _ parts.0 (let_go-all p r (standing P) rest)) ]
+    elim (cases_Bool (is_free r P)) [
+      | inl yes_ ↦ rw yes_ (and_from _ _ parts.0 rest)
+      | inr no_ ↦ rw no_ (and_from _ _ parts.0 (let_go-all p r (standing P) rest))
+    ]
 standing-all p (e ∷ P) all = let parts = and_parts (p e) (list_all p P) all in and_from _ _ parts.0 (standing-all p P parts.1)
 
 -- the hand of another role is no piece

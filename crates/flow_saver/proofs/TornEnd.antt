@@ -252,7 +252,7 @@ module _ (g : Graph) (stack : StackValue) (sound : IsGraph g) (prefix : List ℕ
           let is = begun-has f.at x f.listed i off_ (subst (λ (zs : List Array). 1 ≤ length zs) (sym same) some) in (
             is.0,
             subst (λ (late : Bool). StandsAsCount late (group_of r.count i (contents g.nodes stack.arrays (standing_saves v (past b))))
-            (group_of r.count i (F v)) is.0) f.late
+                (group_of r.count i (F v)) is.0) f.late
                 (subst (λ (zs : List Array). StandsAsCount x.late zs (group_of r.count i (F v)) is.0) all
                 (subst (λ (zs : List Array). StandsAsCount x.late (group_of x.count i (F x.node)) zs is.0) same is.1)),
             subst (λ (name : List ℕ). HasFile now name (begun_file (file_shape g stack v) is.0 (group_of r.count i (F v)))) (f.named i)
@@ -354,7 +354,7 @@ module _ (g : Graph) (stack : StackValue) (sound : IsGraph g) (prefix : List ℕ
                 Some (length (group_of x.count i (F x.node))),
                 inr (refl, refl),
                 subst (HasBytes now (name_of x i)) (closed-file x (F x.node) i ∙ whole-is x.shape (group_of x.count i (F x.node)) some)
-                (e.stops.0.each j (closed x) i ended off),
+                    (e.stops.0.each j (closed x) i ended off),
               )
               | inr open_ ↦
                   let is = open-count j x at i some (group-has x (F x.node) (some-at j x at) (h.saving.saved.0.each j x at).begun i) in

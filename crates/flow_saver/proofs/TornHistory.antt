@@ -197,9 +197,10 @@ module _ (g : Graph) (stack : StackValue) (sound : IsGraph g) (prefix : List ℕ
   fronts v =
       let r = back-then v in
       elim (cases_eq v t.node.node) [
-        | inl here ↦
-            (t.array ∷ [] ++ r.0,
-            r.1 ∙ ap (λ zs. zs ++ r.0) (ap back here ∙ back-here ∙ ap (λ (w : ℕ). W w ++ t.array ∷ []) (sym here)) ∙ append_assoc (W v) (t.array ∷ []) r.0)
+        | inl here ↦ (
+          t.array ∷ [] ++ r.0,
+          r.1 ∙ ap (λ zs. zs ++ r.0) (ap back here ∙ back-here ∙ ap (λ (w : ℕ). W w ++ t.array ∷ []) (sym here)) ∙ append_assoc (W v) (t.array ∷ []) r.0,
+        )
         | inr apart ↦ (r.0, r.1 ∙ ap (λ zs. zs ++ r.0) (back-other v apart))
       ]
 
@@ -381,8 +382,12 @@ module _ (g : Graph) (stack : StackValue) (sound : IsGraph g) (prefix : List ℕ
       let front = group-front t.node.count t.group (W t.node.node ++ t.array ∷ []) r.0 in
       let more = group-more t.node.count (W t.node.node) t.array t.group t.place t.place_is in
       let whole = ap length (ap (group_of t.node.count t.group) all ∙ front.1 ∙ ap (λ zs. zs ++ front.0) more) in
-      omega (arith, whole, length-append (group_of t.node.count t.group (W t.node.node) ++ t.array ∷ []) front.0,
-      length-append (group_of t.node.count t.group (W t.node.node)) (t.array ∷ []))
+      omega (
+        arith,
+        whole,
+        length-append (group_of t.node.count t.group (W t.node.node) ++ t.array ∷ []) front.0,
+        length-append (group_of t.node.count t.group (W t.node.node)) (t.array ∷ []),
+      )
 
   front-long : (x : NodeFile) (i : ℕ) → 1 ≤ length (group_of x.count i (W x.node)) → 1 ≤ length (group_of x.count i (F x.node))
   front-long x i some =
@@ -594,7 +599,7 @@ module _ (g : Graph) (stack : StackValue) (sound : IsGraph g) (prefix : List ℕ
         let has = subst (HasBytes held (name_of x i)) is.2 (t.stops.0.each f.at x i f.listed off_) in (
           is.0,
           subst (λ (late : Bool). StandsAsCount late (group_of r.count i (contents g.nodes stack.arrays (standing_saves v (past b))))
-          (group_of r.count i (W v)) is.0) f.late
+              (group_of r.count i (W v)) is.0) f.late
               (subst (λ (zs : List Array). StandsAsCount x.late zs (group_of r.count i (W v)) is.0) all
               (subst (λ (zs : List Array). StandsAsCount x.late (group_of x.count i (F x.node)) zs is.0) same is.1)),
           subst (λ (name : List ℕ). HasFile held name (begun_file (file_shape g stack v) is.0 (group_of r.count i (W v)))) (f.named i)

@@ -26,13 +26,35 @@ file_node lines = codes "[[node]]\nname = 'cap'\nkind = 'file'\ninput = 'driver'
 abbrev stats_node : List ℕ → List ℕ
 stats_node lines = codes "[[node]]\nname = 'st'\nkind = 'stats'\ninput = 'driver'\n" ++ lines
 
-one_file_node : of_text (file_node (codes "count = 5\n")) ≡ Ok (record { wait = false; limit = 0; nodes = record { name = codes "cap";
-    kind = File (record { mode = Capture; count = 5; form = Classic }); input = 0; queue = 20; threads = 1; sort = 0; sort_time = 100 } ∷ [] })
+one_file_node : of_text (file_node (codes "count = 5\n")) ≡ Ok (record {
+  wait = false;
+  limit = 0;
+  nodes = record {
+    name = codes "cap";
+    kind = File (record { mode = Capture; count = 5; form = Classic });
+    input = 0;
+    queue = 20;
+    threads = 1;
+    sort = 0;
+    sort_time = 100;
+  } ∷ [];
+})
 unfolding toml_on_literals graph_of run_table node_key linked node_of roi_rule stats_rule circular_rule file_rule
 one_file_node = refl
 
-wide_file_node : of_text (file_node (codes "cdf = 2\n")) ≡ Ok (record { wait = false; limit = 0; nodes = record { name = codes "cap";
-    kind = File (record { mode = Capture; count = 1; form = Wide }); input = 0; queue = 20; threads = 1; sort = 0; sort_time = 100 } ∷ [] })
+wide_file_node : of_text (file_node (codes "cdf = 2\n")) ≡ Ok (record {
+  wait = false;
+  limit = 0;
+  nodes = record {
+    name = codes "cap";
+    kind = File (record { mode = Capture; count = 1; form = Wide });
+    input = 0;
+    queue = 20;
+    threads = 1;
+    sort = 0;
+    sort_time = 100;
+  } ∷ [];
+})
 unfolding toml_on_literals graph_of run_table node_key linked node_of roi_rule stats_rule circular_rule file_rule
 wide_file_node = refl
 
@@ -105,8 +127,26 @@ unfolding toml_on_literals graph_of run_table node_key linked node_of roi_rule s
 histogram_of_one_value = refl
 
 no_histogram : of_text (stats_node (codes "hist_lo = 7\nhist_hi = 7\n"))
-    ≡ Ok (record { wait = false; limit = 0; nodes = record { name = codes "st"; kind = Stats (record { threshold = pos 0; border = 0; hist_size = 0;
-    hist_lo = pos 7; hist_hi = pos 7; profiles = false }); input = 0; queue = 20; threads = 1; sort = 0; sort_time = 100 } ∷ [] })
+    ≡ Ok (record {
+      wait = false;
+      limit = 0;
+      nodes = record {
+        name = codes "st";
+        kind = Stats (record {
+          threshold = pos 0;
+          border = 0;
+          hist_size = 0;
+          hist_lo = pos 7;
+          hist_hi = pos 7;
+          profiles = false;
+        });
+        input = 0;
+        queue = 20;
+        threads = 1;
+        sort = 0;
+        sort_time = 100;
+      } ∷ [];
+    })
 unfolding toml_on_literals graph_of run_table node_key linked node_of roi_rule stats_rule circular_rule file_rule
 no_histogram = refl
 
@@ -126,10 +166,24 @@ region_of_a_region : of_text (codes "[run]\nfeed = 'wait'\npool = 64\n[[node]]\n
   wait = true;
   limit = 64;
   nodes =
-      record { name = codes "r"; kind = Roi (record { min = []; size = []; bin = pos 2 ∷ pos 2 ∷ []; reverse = []; auto = []; scale = 1; out = Some UInt16 });
-      input = 2; queue = 20; threads = 1; sort = 0; sort_time = 100 }
-      ∷ record { name = codes "q"; kind = Roi (record { min = []; size = []; bin = []; reverse = []; auto = []; scale = 1; out = None }); input = 0; queue = 20;
-      threads = 1; sort = 0; sort_time = 100 } ∷ [];
+      record {
+        name = codes "r";
+        kind = Roi (record { min = []; size = []; bin = pos 2 ∷ pos 2 ∷ []; reverse = []; auto = []; scale = 1; out = Some UInt16 });
+        input = 2;
+        queue = 20;
+        threads = 1;
+        sort = 0;
+        sort_time = 100;
+      }
+      ∷ record {
+        name = codes "q";
+        kind = Roi (record { min = []; size = []; bin = []; reverse = []; auto = []; scale = 1; out = None });
+        input = 0;
+        queue = 20;
+        threads = 1;
+        sort = 0;
+        sort_time = 100;
+      } ∷ [];
 })
 unfolding toml_on_literals graph_of run_table node_key linked node_of roi_rule stats_rule circular_rule file_rule
 region_of_a_region = refl

@@ -225,9 +225,10 @@ stops-then before xs zs written n x first t u listed name made stops =
       at = n;
       node = x;
       listed = listed;
-      stops =
-          (subst (λ (ws : List NodeFile). AllWrittenBut before ws written x (open_group x written) u) done stops.0,
-          torn-from x.current x (open_group x written) (group_of x.count (open_group x written) (written x.node)) first t u name stops.1);
+      stops = (
+        subst (λ (ws : List NodeFile). AllWrittenBut before ws written x (open_group x written) u) done stops.0,
+        torn-from x.current x (open_group x written) (group_of x.count (open_group x written) (written x.node)) first t u name stops.1,
+      );
     }
 
 pub ended_to-more : (n : ℕ) (xs zs : List NodeFile) (x : NodeFile) → slice_get xs n ≡ Some x → zs ≡ set (ended_to n xs) n (closed x) → zs ≡ ended_to (n + 1) xs

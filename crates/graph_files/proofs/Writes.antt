@@ -96,9 +96,10 @@ module _ (x y : NodeFile) (g p : ℕ) (small : g < 2 ^ 64) (make : FileShape →
     pub some-stops : (fault : SaveFault) (numrecs : Option ℕ) → f.numrecs ≡ numrecs → RowStops fault f (make f.shape) y.current t u
         → WriteStops fault x arrays g numrecs (make x.shape) y t u
     some-stops OutOfMemory numrecs given stops =
-        let same : y ≡ x = node ∙ ap (λ o. record x { current = o }) (stops.0 ∙ sym is) in
-        (subst (λ (z : NodeFile). AreWritten z arrays u) (sym same) (subst (λ (w : Option Files). AreWritten x arrays w) (sym stops.1) h),
-        subst (λ (o : Option Stream). IsHeldBack o y.current t u) (sym is) (stops.0, stops.1))
+        let same : y ≡ x = node ∙ ap (λ o. record x { current = o }) (stops.0 ∙ sym is) in (
+          subst (λ (z : NodeFile). AreWritten z arrays u) (sym same) (subst (λ (w : Option Files). AreWritten x arrays w) (sym stops.1) h),
+          subst (λ (o : Option Stream). IsHeldBack o y.current t u) (sym is) (stops.0, stops.1),
+        )
     some-stops Failed numrecs given stops =
         let zs : List Array = group_of x.count g arrays ++ make x.shape ∷ [] in (
           stops.0,
@@ -119,12 +120,15 @@ module _ (x y : NodeFile) (g p : ℕ) (small : g < 2 ^ 64) (make : FileShape →
     pub begin-stops : (fault : SaveFault) → y.current ≡ None → BeginStops fault t (name_of x g) (header x.shape numrecs) u
         → WriteStops fault x arrays g numrecs (make x.shape) y t u
     begin-stops OutOfMemory still stops =
-        let same : y ≡ x = node ∙ ap (λ o. record x { current = o }) (still ∙ sym none_) in
-        (subst (λ (z : NodeFile). AreWritten z arrays u) (sym same) (subst (λ (w : Option Files). AreWritten x arrays w) (sym stops) h),
-        subst (λ (o : Option Stream). IsHeldBack o y.current t u) (sym none_) (subst (λ (o : Option Stream). IsHeldBack None o t u) (sym still) stops))
-    begin-stops Failed still stops =
-        (still, but still (changed-begin Failed t u (name_of x g) (header x.shape numrecs) stops),
-        torn-begin t u (name_of x g) x.shape numrecs (group_of x.count g arrays ++ make x.shape ∷ []) stops)
+        let same : y ≡ x = node ∙ ap (λ o. record x { current = o }) (still ∙ sym none_) in (
+          subst (λ (z : NodeFile). AreWritten z arrays u) (sym same) (subst (λ (w : Option Files). AreWritten x arrays w) (sym stops) h),
+          subst (λ (o : Option Stream). IsHeldBack o y.current t u) (sym none_) (subst (λ (o : Option Stream). IsHeldBack None o t u) (sym still) stops),
+        )
+    begin-stops Failed still stops = (
+      still,
+      but still (changed-begin Failed t u (name_of x g) (header x.shape numrecs) stops),
+      torn-begin t u (name_of x g) x.shape numrecs (group_of x.count g arrays ++ make x.shape ∷ []) stops,
+    )
 
     module _ (f : Stream) (is : f ≡ stream_of x g 0 numrecs) (v : Option Files)
         (made : v ≡ with_file t (name_of x g) (header x.shape numrecs)) (has : HasRows v f [])
@@ -169,7 +173,7 @@ module _ (x y : NodeFile) (g p : ℕ) (small : g < 2 ^ 64) (make : FileShape →
             stops.0,
             but stops.0 all-changed,
             subst (λ (zs : List Array). IsTorn (file_at t (name_of x g)) x.shape numrecs (zs ++ make x.shape ∷ []) (file_at u (name_of x g)))
-            (sym no_rows) (torn-then u torn),
+                (sym no_rows) (torn-then u torn),
           )
 
 -- THE END
@@ -230,6 +234,7 @@ module _ (x : NodeFile) (t u : Option Files) (some : 1 ≤ x.count) (arrays : Li
     end-stops few may =
         let torn =
         subst (λ (k : Stream). IsTorn (file_at t k.name) k.shape k.numrecs (group_of x.count g arrays) (file_at u k.name)) end-this
-        (torn-count t u f (group_of x.count g arrays) f.count end-rows may) in
-        (open-but x arrays g p t u place (small-group x.count arrays few) h end-changed,
-        subst (λ (o : Option Stream). EndTorn o x g (group_of x.count g arrays) t u) (sym is) torn)
+        (torn-count t u f (group_of x.count g arrays) f.count end-rows may) in (
+          open-but x arrays g p t u place (small-group x.count arrays few) h end-changed,
+          subst (λ (o : Option Stream). EndTorn o x g (group_of x.count g arrays) t u) (sym is) torn,
+        )

@@ -59,17 +59,32 @@ pub record IsOfNode (g : Graph) (s : StackValue) (prefix : List ℕ) (v : ℕ) (
 module _ (g : Graph) (s : StackValue) (prefix : List ℕ) where
   later : (v : ℕ) (n : NodeRule) (ns : List NodeRule) (x : NodeFile) → IsOfNode g s prefix (v + 1) ns x → IsOfNode g s prefix v (n ∷ ns) x
   later v n ns x h =
-      record { place = suc h.place; rule = h.rule; file = h.file; at = h.at; kind = h.kind; node = h.node ∙ omega arith; stem = h.stem;
-      whole = h.whole ∙ ap (λ (w : ℕ). node_file g s prefix w h.file h.rule.name) (let e : v + 1 + h.place ≡ v + suc h.place = omega arith in e) }
+      record {
+        place = suc h.place;
+        rule = h.rule;
+        file = h.file;
+        at = h.at;
+        kind = h.kind;
+        node = h.node ∙ omega arith;
+        stem = h.stem;
+        whole = h.whole ∙ ap (λ (w : ℕ). node_file g s prefix w h.file h.rule.name) (let e : v + 1 + h.place ≡ v + suc h.place = omega arith in e);
+      }
 
   by_kind : (v : ℕ) (n : NodeRule) (ns : List NodeRule)
       → ((k : ℕ) (x : NodeFile) → slice_get (nodes_from g s prefix (v + 1) ns) k ≡ Some x → IsOfNode g s prefix (v + 1) ns x) → (c : Kind) → n.kind ≡ c
       → (k : ℕ) (x : NodeFile) → slice_get (kind_node g s prefix v n.name c ++ nodes_from g s prefix (v + 1) ns) k ≡ Some x → IsOfNode g s prefix v (n ∷ ns) x
   by_kind v n ns rest (File r) is zero x h =
       let same : node_file g s prefix v r n.name ≡ x = some-same h in
-      record { place = 0; rule = n; file = r; at = refl; kind = is; node = ap (λ (y : NodeFile). y.node) (sym same) ∙ omega arith;
-      stem = ap (λ (y : NodeFile). y.stem) (sym same);
-      whole = sym same ∙ ap (λ (w : ℕ). node_file g s prefix w r n.name) (let e : v ≡ v + 0 = omega arith in e) }
+      record {
+        place = 0;
+        rule = n;
+        file = r;
+        at = refl;
+        kind = is;
+        node = ap (λ (y : NodeFile). y.node) (sym same) ∙ omega arith;
+        stem = ap (λ (y : NodeFile). y.stem) (sym same);
+        whole = sym same ∙ ap (λ (w : ℕ). node_file g s prefix w r n.name) (let e : v ≡ v + 0 = omega arith in e);
+      }
   by_kind v n ns rest (File r) is (suc k) x h = later v n ns x (rest k x h)
   by_kind v n ns rest (Roi r) is k x h = later v n ns x (rest k x h)
   by_kind v n ns rest (Stats r) is k x h = later v n ns x (rest k x h)
@@ -195,8 +210,12 @@ module _ (xs : List NodeFile) (k : ℕ) (x : NodeFile) (o : Option Stream) (at :
       elim (cases_eq j k) [
         | inl here ↦
             let same : record x { current = o } ≡ y = some-same (sym (get-set_same xs k x (record x { current = o }) at) ∙ ap (slice_get ys) (sym here) ∙ h) in
-            record { old = x; is = ap (slice_get xs) here ∙ at; node = ap (λ (z : NodeFile). z.node) (sym same);
-            names = λ i. ap (λ (z : NodeFile). name_of z i) (sym same) }
+            record {
+              old = x;
+              is = ap (slice_get xs) here ∙ at;
+              node = ap (λ (z : NodeFile). z.node) (sym same);
+              names = λ i. ap (λ (z : NodeFile). name_of z i) (sym same);
+            }
         | inr apart ↦ record { old = y; is = sym (get-set_other xs k j (record x { current = o }) apart) ∙ h; node = refl; names = λ i. refl }
       ]
 

@@ -45,8 +45,12 @@ none-of : (P : Past) (b : ℕ) (hs : List Entry)
 none-of P b [] none = refl
 none-of P b (e ∷ hs) none =
     let rest = none-of P b hs (λ x on. omega (arith, none x on, count-cons (holds_by no_frame (is_frame x)) e hs)) in
-    omega (arith, rest, count-cons (has_part P b) e hs,
-    ap bit (off e (λ x on. bit-none (holds_by no_frame (is_frame x) e) (omega (arith, none x on, count-cons (holds_by no_frame (is_frame x)) e hs)))))
+    omega (
+      arith,
+      rest,
+      count-cons (has_part P b) e hs,
+      ap bit (off e (λ x on. bit-none (holds_by no_frame (is_frame x) e) (omega (arith, none x on, count-cons (holds_by no_frame (is_frame x)) e hs)))),
+    )
   where
     one-block : (bs : List ℕ) → length bs ≤ 1 → is_among b bs ≡ true → bs ≡ b ∷ []
     one-block [] few h = absurd (false≢true h)

@@ -323,8 +323,12 @@ fewer-hands : (a : FrameName) (hs : List Entry) → count (holds (is_frame a)) h
 fewer-hands a [] h = refl
 fewer-hands a (e ∷ hs) h =
     let n = bit-none (holds (is_frame a) e) (omega (arith, count-cons (holds (is_frame a)) e hs, h)) in
-    omega (arith, count-cons (holds_by no_frame (is_frame a)) e hs, ap bit (only-made a e n),
-    fewer-hands a hs (omega (arith, count-cons (holds (is_frame a)) e hs, h)))
+    omega (
+      arith,
+      count-cons (holds_by no_frame (is_frame a)) e hs,
+      ap bit (only-made a e n),
+      fewer-hands a hs (omega (arith, count-cons (holds (is_frame a)) e hs, h)),
+    )
 
 pub alone-from : (s : Setting) (P : Past) (a : FrameName) → Clear (is_frame a) s P → ClearBy no_frame (is_frame a) s P
 alone-from s P a c = record { queues = c.queues; lists = c.lists; rings = c.rings; files = c.files; roles = fewer-hands a (hands P) c.roles; calls = c.calls }

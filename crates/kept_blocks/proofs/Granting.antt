@@ -145,8 +145,10 @@ room-keeps t b c = elim (ltb b (length t)) as (λ y. kept_at (if y then t else t
 
 room-longer : (t : List Kept) (b : ℕ) → length t ≤ length (with_room t b)
 room-longer t b =
-    elim (ltb b (length t)) as (λ y. length t ≤ length (if y then t else t ++ Empty ∷ [])) [ true ↦ omega arith
-    | false ↦ omega (arith, length-append t (Empty ∷ [])) ]
+    elim (ltb b (length t)) as (λ y. length t ≤ length (if y then t else t ++ Empty ∷ [])) [
+      | true ↦ omega arith
+      | false ↦ omega (arith, length-append t (Empty ∷ []))
+    ]
 
 pub room-holds : {F : Type 0} (parts : F → Option Parts) (s : Setting) (B : BoardState) (t : List Kept) (b : ℕ) → HoldsBlocks parts s B t
     → HoldsBlocks parts s B (with_room t b)

@@ -145,8 +145,12 @@ load-law parts s B t tick r k need b z f g x i place legal =
     let in_hands : (j : ℕ) → parts_in_hand (e ∷ P) j ≡ parts_in_hand P j = λ j.
     let whole : parts_in_hand (e ∷ P) j ≡ count (has_part (e ∷ P) j) (e ∷ hands P) =
     ap (count (has_part (e ∷ P) j)) (hands-more s r e P (eq-eqb r r refl) first_legal) in
-    omega (arith, whole, count-cons (has_part (e ∷ P) j) e (hands P),
-    same-parts (e ∷ P) P (is_frame (frame 0 k)) (λ y off. block_laws.load_other r k b z f g x P y off) j (hands P) nowhere.roles) in
+    omega (
+      arith,
+      whole,
+      count-cons (has_part (e ∷ P) j) e (hands P),
+      same-parts (e ∷ P) P (is_frame (frame 0 k)) (λ y off. block_laws.load_other r k b z f g x P y off) j (hands P) nowhere.roles,
+    ) in
     let others : (j : ℕ) → j ≢ b → has_number j (known s P) ≡ true → IsKeptIn parts s (lends e None ∷ B) j (last_grant j P) (kept_at new j) = λ j ne is.
     let gone = gone-other j b e None B ne refl in
     let here : parts_here (lends e None ∷ B) j ≡ parts_here B j =

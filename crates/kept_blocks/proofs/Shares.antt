@@ -30,23 +30,43 @@ role-idle s [] r high h = refl
 role-idle s (Load q k b n f g x ∷ P) r high h =
     let facts = load-facts s q k P (and_parts (may_load s q k P) (pool_grants s 0 b n f g x P) (row_of s (Load q k b n f g x) P (λ d. refl) h)).0 in
     let ne : q ≢ r = λ e. absurd (omega (arith, facts.acts.role, high, e)) in
-    omega (arith, role-idle s P r high (and_parts _ _ h).0, count-cons (takes_up r) (Load q k b n f g x) (let_go q (hands P)),
-    count-let_go-le (takes_up r) q (hands P), ap bit (ne_eqb q r ne))
+    omega (
+      arith,
+      role-idle s P r high (and_parts _ _ h).0,
+      count-cons (takes_up r) (Load q k b n f g x) (let_go q (hands P)),
+      count-let_go-le (takes_up r) q (hands P),
+      ap bit (ne_eqb q r ne),
+    )
 role-idle s (Take q v m k ∷ P) r high h =
     let facts = take-facts s q v (frame m k) P (may-Take s q v m k P h) in
     let ne : q ≢ r = λ e. absurd (omega (arith, facts.acts.role, high, e)) in
-    omega (arith, role-idle s P r high (and_parts _ _ h).0, count-cons (takes_up r) (Take q v m k) (let_go q (hands P)),
-    count-let_go-le (takes_up r) q (hands P), ap bit (ne_eqb q r ne))
+    omega (
+      arith,
+      role-idle s P r high (and_parts _ _ h).0,
+      count-cons (takes_up r) (Take q v m k) (let_go q (hands P)),
+      count-let_go-le (takes_up r) q (hands P),
+      ap bit (ne_eqb q r ne),
+    )
 role-idle s (TakeBlock f x q v m k b n g ∷ P) r high h =
     let facts = take-facts s q v (frame m k) P (may-TakeBlock s q v m k b n f g x P h) in
     let ne : q ≢ r = λ e. absurd (omega (arith, facts.acts.role, high, e)) in
-    omega (arith, role-idle s P r high (and_parts _ _ h).0, count-cons (takes_up r) (TakeBlock f x q v m k b n g) (let_go q (hands P)),
-    count-let_go-le (takes_up r) q (hands P), ap bit (ne_eqb q r ne))
+    omega (
+      arith,
+      role-idle s P r high (and_parts _ _ h).0,
+      count-cons (takes_up r) (TakeBlock f x q v m k b n g) (let_go q (hands P)),
+      count-let_go-le (takes_up r) q (hands P),
+      ap bit (ne_eqb q r ne),
+    )
 role-idle s (Save q v m k g ∷ P) r high h =
     let facts = (row_laws.save s P q v m k g).0 (row_of s (Save q v m k g) P (λ d. refl) h) in
     let ne : q ≢ r = λ e. absurd (omega (arith, facts.role, high, e)) in
-    omega (arith, role-idle s P r high (and_parts _ _ h).0, count-cons (takes_up r) (Save q v m k g) (let_go q (hands P)),
-    count-let_go-le (takes_up r) q (hands P), ap bit (ne_eqb q r ne))
+    omega (
+      arith,
+      role-idle s P r high (and_parts _ _ h).0,
+      count-cons (takes_up r) (Save q v m k g) (let_go q (hands P)),
+      count-let_go-le (takes_up r) q (hands P),
+      ap bit (ne_eqb q r ne),
+    )
 role-idle s (Issue q k ∷ P) r high h = omega (arith, role-idle s P r high (and_parts _ _ h).0, count-let_go-le (takes_up r) q (hands P))
 role-idle s (Put q v m k f ∷ P) r high h = omega (arith, role-idle s P r high (and_parts _ _ h).0, count-let_go-le (takes_up r) q (hands P))
 role-idle s (Saved q v m k ∷ P) r high h = omega (arith, role-idle s P r high (and_parts _ _ h).0, count-let_go-le (takes_up r) q (hands P))
@@ -154,8 +174,13 @@ pub same-parts : (Q P : Past) (w : FrameName → Bool) → ((x : FrameName) → 
 same-parts Q P w others b [] none = refl
 same-parts Q P w others b (e ∷ hs) none =
     let off : holds w e ≡ false = bit-none (holds w e) (omega (arith, none, count-cons (holds w) e hs)) in
-    omega (arith, same-parts Q P w others b hs (omega (arith, none, count-cons (holds w) e hs)), count-cons (has_part Q b) e hs,
-    count-cons (has_part P b) e hs, ap bit (same-part e off))
+    omega (
+      arith,
+      same-parts Q P w others b hs (omega (arith, none, count-cons (holds w) e hs)),
+      count-cons (has_part Q b) e hs,
+      count-cons (has_part P b) e hs,
+      ap bit (same-part e off),
+    )
   where
     same-part : (e : Entry) → holds w e ≡ false → has_part Q b e ≡ has_part P b e
     same-part (Take r v m k) off = ap (is_among b) (others (frame m k) off)

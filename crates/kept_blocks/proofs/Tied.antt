@@ -314,9 +314,12 @@ missing-left limit n held_ b z given is_free bs h =
         let number : new_number (left_after (given_up limit n is_free bs) is_free bs) ≡ b = cc in
         let size : n ≡ z = cc in
         let gone : given_up limit n is_free bs ≡ given = cc in
-        let left : new_number (left_after given is_free bs) ≡ b = subst (λ (k : ℕ). new_number (left_after k is_free bs) ≡ b) gone number in
-        (sym (number-among b (left_after given is_free bs)) ∙ subst (λ (k : ℕ). is_among k (map (λ (c : Block). c.number) (left_after given is_free bs))
-        ≡ false) left (least_missing-not_among (map (λ (c : Block). c.number) (left_after given is_free bs))), sym size, sym left)
+        let left : new_number (left_after given is_free bs) ≡ b = subst (λ (k : ℕ). new_number (left_after k is_free bs) ≡ b) gone number in (
+          sym (number-among b (left_after given is_free bs)) ∙ subst (λ (k : ℕ). is_among k (map (λ (c : Block). c.number) (left_after given is_free bs))
+              ≡ false) left (least_missing-not_among (map (λ (c : Block). c.number) (left_after given is_free bs))),
+          sym size,
+          sym left,
+        )
 
 pub fit-there : (limit n held_ b z given : ℕ) (is_free : ℕ → Bool) (bs : List Block) → granted limit n held_ is_free bs ≡ Granted b z false given
     → (c : Block) × (smallest_fit n is_free bs ≡ Some c) × (c.number ≡ b) × (c.size ≡ z)

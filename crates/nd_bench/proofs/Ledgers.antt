@@ -29,8 +29,11 @@ known-after p Refused = omega arith
 known-after p (Granted b n false given) = omega (arith, length-map p.known (recounted b 1))
 known-after p (Granted b n true given) =
     let gone = take given (largest_first p) in
-    omega (arith, length-with_known (record { number = b; size = n; count = 1 }) (without gone p.known),
-    length-filter-le (λ k. not (has_number k.number gone)) p.known)
+    omega (
+      arith,
+      length-with_known (record { number = b; size = n; count = 1 }) (without gone p.known),
+      length-filter-le (λ k. not (has_number k.number gone)) p.known,
+    )
 
 pub length-with_count : (b count : ℕ) (ks : List Known) → length (with_count b count ks) ≡ length ks
 length-with_count b count ks = length-map ks (recounted b count)

@@ -97,8 +97,15 @@ keeps-ring s r v m k f pre post preset P b work legal row =
     let after : times_held P b (kept_at s (Put r v m k f ∷ P) v) ≡ count t (kept pre post preset (firings v P ++ f ∷ []) (puts v P ++ frame m k ∷ [])) =
     ap (times_held P b) (kept_laws.watched s v pre post preset (Put r v m k f ∷ P) work ∙ ring_laws.put s r v m k f P pre post preset work legal row)
     ∙ blocks-count (is_number b) P (kept pre post preset (firings v P ++ f ∷ []) (puts v P ++ frame m k ∷ [])) in
-    omega (arith, before, after, ring-push pre post preset (firings v P) f t (puts v P) (frame m k) (flags-puts v P), few-held P b (frame m k),
-    held-one P b (frame m k) (block_of P (frame m k)) refl, frame-count (is_number b) P (frame m k))
+    omega (
+      arith,
+      before,
+      after,
+      ring-push pre post preset (firings v P) f t (puts v P) (frame m k) (flags-puts v P),
+      few-held P b (frame m k),
+      held-one P b (frame m k) (block_of P (frame m k)) refl,
+      frame-count (is_number b) P (frame m k),
+    )
 
 keeps-one : (s : Setting) (r v m k : ℕ) (f : Bool) (P : Past) (b : ℕ) → is_legal s P ≡ true
     → first s P (Put r v m k f) ≡ true → KeepsOne s P (Put r v m k f) v b
@@ -130,8 +137,11 @@ adds-put s r v m k f P b h =
     elim ((row_laws.put s P r v m k f).0 row).0 [
       | inl job ↦ omega (arith, count_laws.put s r v m k f (Take r v m k) P b h job, kept_then)
       | inr making ↦
-          omega (arith,
-          count_laws.put s r v m k f (TakeBlock making.1.3 making.1.5 r v making.1.0 k making.1.1 making.1.2 making.1.4) P b h making.1.6, kept_then)
+          omega (
+            arith,
+            count_laws.put s r v m k f (TakeBlock making.1.3 making.1.5 r v making.1.0 k making.1.1 making.1.2 making.1.4) P b h making.1.6,
+            kept_then,
+          )
     ]
 
 -- at a node without a sort list nothing goes out of it

@@ -126,8 +126,14 @@ made : (s : Setting) (P : Past) (r q v m k b n : ℕ) (f : Bool) (g : ℕ) (x fi
 made s P r q v m k b n f g x fired p bs carried held more is h =
     let own : block_of P (frame v k) ≡ b ∷ [] = block_laws.in_hand_block s r q v m k b n f g x P (and_parts _ _ h).0 held in
     exchanged s P r v v k fired (TakeBlock f x q v m k b n g) p carried (bs ++ carried) held
-    (λ c. omega (arith, held-more s P r v v k fired c more, held-one P c (frame v k) (b ∷ []) own, times-cons c b (block_of P (frame m k)),
-    ap (times_among c) is, times-append c bs carried)) h
+    (λ c. omega (
+      arith,
+      held-more s P r v v k fired c more,
+      held-one P c (frame v k) (b ∷ []) own,
+      times-cons c b (block_of P (frame m k)),
+      ap (times_among c) is,
+      times-append c bs carried,
+    )) h
 
 -- at a node that keeps nothing
 kept-none : (s : Setting) (P : Past) (v b : ℕ) → kept_at s P v ≡ [] → times_held P b (kept_at s P v) ≡ 0
@@ -139,15 +145,23 @@ put_laws = record {
       λ s P r v m k f e p carried others held same. exchanged s P r v m k f e p carried others held (λ b. parted b others
       (flat_map (block_of P) (kept_at s (Put r v m k f ∷ P) v)) (blocks_in_hand P e) (flat_map (block_of P) (kept_at s P v)) carried (same b));
   plain = λ s P r v m k f e p carried held makes plain. exchanged s P r v m k f e p carried (blocks_in_hand P e ++ carried) held
-      (λ b. omega (arith, kept-none s P v b (kept_laws.unsorted s v P makes plain),
-      kept-none s (Put r v m k f ∷ P) v b (kept_laws.unsorted s v (Put r v m k f ∷ P) makes plain), times-append b (blocks_in_hand P e) carried));
+      (λ b. omega (
+        arith,
+        kept-none s P v b (kept_laws.unsorted s v P makes plain),
+        kept-none s (Put r v m k f ∷ P) v b (kept_laws.unsorted s v (Put r v m k f ∷ P) makes plain),
+        times-append b (blocks_in_hand P e) carried,
+      ));
   sorted = λ s P r q v m k f p carried held sorted. passed_on s P r q v m k f p carried held (kept_laws.sorted s r v m k f P sorted);
   sorted_maker =
       λ s P r q v m k b n f g x fired p bs carried held sorted.
       made s P r q v m k b n f g x fired p bs carried held (kept_laws.sorted s r v v k fired P sorted);
   file = λ s P r q v m k f p carried held file h. passed_on s P r q v m k f p carried held (kept_laws.file s r v m k f P file (and_parts _ _ h).0) h;
   watched = λ s P r v m k f pre post preset e p carried others held work same. exchanged s P r v m k f e p carried others held
-      (λ b. omega (arith, parted b others (flat_map (block_of P) (ring s v (Put r v m k f ∷ P))) (blocks_in_hand P e)
-      (flat_map (block_of P) (ring s v P)) carried (same b), ap (times_held P b) (kept_laws.watched s v pre post preset P work),
-      ap (times_held P b) (kept_laws.watched s v pre post preset (Put r v m k f ∷ P) work)));
+      (λ b. omega (
+        arith,
+        parted b others (flat_map (block_of P) (ring s v (Put r v m k f ∷ P))) (blocks_in_hand P e)
+            (flat_map (block_of P) (ring s v P)) carried (same b),
+        ap (times_held P b) (kept_laws.watched s v pre post preset P work),
+        ap (times_held P b) (kept_laws.watched s v pre post preset (Put r v m k f ∷ P) work),
+      ));
 }

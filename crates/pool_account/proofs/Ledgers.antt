@@ -77,8 +77,12 @@ held-blocks counts (k ∷ ks) h =
     elim (cases_Bool (ltb 0 k.count)) [
       | inl some ↦
           let has : ltb 0 (counts k.number) ≡ true = ap (ltb 0) same ∙ some in
-          rw (some, has) (omega (arith, rest, sum_by-cons (λ (j : Known). j.size) k (filter (λ j. ltb 0 j.count) ks),
-          sum_by-cons (λ (c : Block). c.size) (block_of k) (filter (λ c. ltb 0 (counts c.number)) (map block_of ks))))
+          rw (some, has) (omega (
+            arith,
+            rest,
+            sum_by-cons (λ (j : Known). j.size) k (filter (λ j. ltb 0 j.count) ks),
+            sum_by-cons (λ (c : Block). c.size) (block_of k) (filter (λ c. ltb 0 (counts c.number)) (map block_of ks)),
+          ))
       | inr none ↦ let lacks : ltb 0 (counts k.number) ≡ false = ap (ltb 0) same ∙ none in rw (none, lacks) rest
     ]
 

@@ -49,8 +49,11 @@ module _ (g : Graph) (s : StackValue) (v : ℕ) (n : NodeRule) (sound : IsGraph 
 
   -- a statistics node its rows
   node_files-stats : (prefix : List ℕ) (r : StatsRule) → n.kind ≡ Stats r →
-      node_files g s prefix v ≡ record { name = stats_name prefix n.name;
-      bytes = flat_map row (map (measure_of_array r) (arrays_out g.nodes s.arrays v (passed g s v))); late = false } ∷ []
+      node_files g s prefix v ≡ record {
+        name = stats_name prefix n.name;
+        bytes = flat_map row (map (measure_of_array r) (arrays_out g.nodes s.arrays v (passed g s v)));
+        late = false;
+      } ∷ []
   node_files-stats prefix r kind =
       node_files-kind g s prefix v n (Stats r) is kind
       ∙ ap (λ ms. record { name = stats_name prefix n.name; bytes = flat_map row ms; late = false } ∷ []) (measures-stats r kind)

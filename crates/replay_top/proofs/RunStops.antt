@@ -79,8 +79,12 @@ module _ (complete : RowsComplete) (reads : GroupsReadBack) (c : RunCommand) (o 
   ends Done true groups some rest = absurd (let no : true ≡ false = rest.0 in cc)
   ends Done false groups some rest = record { source = source; log = is_log; files = holds groups rest.1; back = back; printed = rest.2 }
   ends ShelfFault true groups some rest =
-      record { source = source; log = is_log;
-      files = AtGroups (subst (λ (w : Option Files). HasSavedRun g stack c.prefix log.past o.held true w) (sym rest.0) groups); unprinted = rest.1 }
+      record {
+        source = source;
+        log = is_log;
+        files = AtGroups (subst (λ (w : Option Files). HasSavedRun g stack c.prefix log.past o.held true w) (sym rest.0) groups);
+        unprinted = rest.1;
+      }
   ends ShelfFault false groups some rest = record { source = source; log = is_log; files = AfterGroups mid groups rest.0; unprinted = rest.1 }
   ends OutFault true groups some rest = absurd (let no : true ≡ false = rest.0 in cc)
   ends OutFault false groups some rest = record { source = source; log = is_log; files = holds groups rest.1; back = back; printed = rest.2 }

@@ -27,9 +27,21 @@ use Rattle.frame_table.proofs.table.FrameTable.TheSendSync as table_sent
 pub pool-send : IsSend pool.the_row
 pool-send = search (crosses, sendable, knot.crosses, slot.the_send) depth 30
 
-pub ruleset sent =
-    (pool-send, rules_sent.the_send, facts_sent.the_send, node_sent.the_send, role_sent.the_send, room_sent.the_send, log_sent.the_send, name_sent.the_send,
-    table_sent.the_send, lost_sent.the_send, place_sent.the_send, crosses, sendable)
+pub ruleset sent = (
+  pool-send,
+  rules_sent.the_send,
+  facts_sent.the_send,
+  node_sent.the_send,
+  role_sent.the_send,
+  room_sent.the_send,
+  log_sent.the_send,
+  name_sent.the_send,
+  table_sent.the_send,
+  lost_sent.the_send,
+  place_sent.the_send,
+  crosses,
+  sendable,
+)
 
 module _ (F B R : RattleType) (h : held.Ghosts F.Denot B.Denot R.Denot) (n : named.Ghosts F.Denot R.Denot) (r : run.Ghosts R.Denot)
     (f : IsSend F) (b : IsSend B) where

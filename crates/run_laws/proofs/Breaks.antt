@@ -63,8 +63,12 @@ counted s (Emit w m k why ∷ P) v sorted h =
     let steps : Bool = keeps_step (prev s v P) (id_at s k) in
     elim (cases_Bool (eqb w v)) [
       | inr away ↦
-          omega (arith, before, break_laws.emit_elsewhere s v w m k why P (eqb-false w v away),
-          ap (λ (b : Bool). let n : ℕ = cond (b && not steps) 1 0 in n) (elsewhere why away))
+          omega (
+            arith,
+            before,
+            break_laws.emit_elsewhere s v w m k why P (eqb-false w v away),
+            ap (λ (b : Bool). let n : ℕ = cond (b && not steps) 1 0 in n) (elsewhere why away),
+          )
       | inl here ↦
           let is : w ≡ v = eqb-true w v here in
           let now_breaks : breaks s v (Emit w m k why ∷ P) ≡ breaks s v P + cond steps 0 1 =

@@ -51,8 +51,12 @@ no_offers-if s P v u false = refl
 pub no_offers-looks : (s : Setting) (P : Past) (v : ℕ) (us : List ℕ) → count (offers_to v) (flat_map (λ u. cond (is_sorted s u) (look s u P) []) us) ≡ 0
 no_offers-looks s P v [] = refl
 no_offers-looks s P v (u ∷ us) =
-    omega (arith, count-append (offers_to v) (cond (is_sorted s u) (look s u P) []) (flat_map (λ w. cond (is_sorted s w) (look s w P) []) us),
-    no_offers-if s P v u (is_sorted s u), no_offers-looks s P v us)
+    omega (
+      arith,
+      count-append (offers_to v) (cond (is_sorted s u) (look s u P) []) (flat_map (λ w. cond (is_sorted s w) (look s w P) []) us),
+      no_offers-if s P v u (is_sorted s u),
+      no_offers-looks s P v us,
+    )
 
 offers-are : (v : ℕ) (a : FrameName) (cs : List ℕ) → count (offers_to v) (map (offer a) cs) ≡ count (is_number v) cs
 offers-are v a [] = refl
@@ -107,8 +111,16 @@ fed s (Load r k b n f g x ∷ P) v child wait input h quiet =
     let offers : count (offers_to v) (owed s P) ≡ 0 = ap (count (offers_to v)) none in
     record {
       few =
-          omega (arith, unloaded, outs, offers, less-owed s (out_of 0 any) (Load r k b n f g x) P, less-owed s (offers_to v) (Load r k b n f g x) P,
-          ap (count is_loaded) (takes-alone s r (Load r k b n f g x) P (eq-eqb r r refl) h), count-cons is_loaded (Load r k b n f g x) (let_go r (hands P)));
+          omega (
+            arith,
+            unloaded,
+            outs,
+            offers,
+            less-owed s (out_of 0 any) (Load r k b n f g x) P,
+            less-owed s (offers_to v) (Load r k b n f g x) P,
+            ap (count is_loaded) (takes-alone s r (Load r k b n f g x) P (eq-eqb r r refl) h),
+            count-cons is_loaded (Load r k b n f g x) (let_go r (hands P)),
+          );
       room = λ some. listed (has_room s P) v (children s 0) (facts.room wait) child;
       none = before.none;
     }
@@ -116,20 +128,39 @@ fed s (LoadRefused r k n z ∷ P) v child wait input h quiet =
     go_on s v (LoadRefused r k n z) P (omega (arith, less-owed s (out_of 0 any) (LoadRefused r k n z) P, less-owed s (offers_to v) (LoadRefused r k n z) P))
     (λ room. room) refl (fed s P v child wait input (and_parts _ _ h).0 quiet)
 fed s (Tick t ∷ P) v child wait input h quiet =
-    go_on s v (Tick t) P (omega (arith, less-owed s (out_of 0 any) (Tick t) P, less-owed s (offers_to v) (Tick t) P,
-    looks-none s (Tick t ∷ P) 0 any (node_numbers s) (none_numbered_0 s), no_offers-looks s (Tick t ∷ P) v (node_numbers s))) (λ room. room) refl
+    go_on s v (Tick t) P (omega (
+      arith,
+      less-owed s (out_of 0 any) (Tick t) P,
+      less-owed s (offers_to v) (Tick t) P,
+      looks-none s (Tick t ∷ P) 0 any (node_numbers s) (none_numbered_0 s),
+      no_offers-looks s (Tick t ∷ P) v (node_numbers s),
+    )) (λ room. room) refl
     (fed s P v child wait input (and_parts _ _ h).0 quiet)
 fed s (Issue r k ∷ P) v child wait input h quiet =
     let l = (row_laws.issue s P r k).0 (row_of s (Issue r k) P (λ d. refl) h) in
-    go_on s v (Issue r k) P (omega (arith, less-owed s (out_of 0 any) (Issue r k) P, less-owed s (offers_to v) (Issue r k) P,
-    count-let_go is_loaded r _ (hands P) l.5)) (λ room. room) refl (fed s P v child wait input (and_parts _ _ h).0 quiet)
+    go_on s v (Issue r k) P (omega (
+      arith,
+      less-owed s (out_of 0 any) (Issue r k) P,
+      less-owed s (offers_to v) (Issue r k) P,
+      count-let_go is_loaded r _ (hands P) l.5,
+    )) (λ room. room) refl (fed s P v child wait input (and_parts _ _ h).0 quiet)
 fed s (Emit w m i why ∷ P) v child wait input h quiet =
     let whole_outs = count-append (out_of 0 any) (map (offer (frame m i)) (offered_to s P w)) (drop 1 (owed s P)) in
     let whole_offers = count-append (offers_to v) (map (offer (frame m i)) (offered_to s P w)) (drop 1 (owed s P)) in
     let was = owed-Emit_out s w m i why P 0 any h in
     let at_input : bit (eqb (node s v).input w) ≡ bit (eqb w 0 && true) = ap (λ (u : ℕ). bit (eqb u w)) input ∙ turned w in
-    go_on s v (Emit w m i why) P (omega (arith, whole_outs, whole_offers, was, no_outs_in_offers 0 any (frame m i) (offered_to s P w),
-    offers-are v (frame m i) (offered_to s P w), count-offered (is_number v) s P w, child_once s w v, at_input, count-drop (offers_to v) (owed s P)))
+    go_on s v (Emit w m i why) P (omega (
+      arith,
+      whole_outs,
+      whole_offers,
+      was,
+      no_outs_in_offers 0 any (frame m i) (offered_to s P w),
+      offers-are v (frame m i) (offered_to s P w),
+      count-offered (is_number v) s P w,
+      child_once s w v,
+      at_input,
+      count-drop (offers_to v) (owed s P),
+    ))
     (λ room. room) refl (fed s P v child wait input (and_parts _ _ h).0 quiet)
   where
     turned : (w : ℕ) → bit (eqb 0 w) ≡ bit (eqb w 0 && true)
@@ -180,8 +211,12 @@ fed s (Take r w m i ∷ P) v child wait input h quiet =
           (omega (arith, less-owed s (out_of 0 any) (Take r v m i) P, less-owed s (offers_to v) (Take r v m i) P, count-let_go-le is_loaded r (hands P)))
           (shorter s v (Take r v m i) (frame m i) P (queue_laws.take s r v m i P (row_of s (Take r v m i) P (λ d. refl) g))) refl before) h
       | inr away ↦
-          go_on s v (Take r w m i) P (omega (arith, less-owed s (out_of 0 any) (Take r w m i) P, less-owed s (offers_to v) (Take r w m i) P,
-          count-let_go-le is_loaded r (hands P))) (stays s v (Take r w m i) P (queue_laws.take_elsewhere r v w m i P (eqb-false w v away))) refl before
+          go_on s v (Take r w m i) P (omega (
+            arith,
+            less-owed s (out_of 0 any) (Take r w m i) P,
+            less-owed s (offers_to v) (Take r w m i) P,
+            count-let_go-le is_loaded r (hands P),
+          )) (stays s v (Take r w m i) P (queue_laws.take_elsewhere r v w m i P (eqb-false w v away))) refl before
     ]
 fed s (TakeBlock f x r w m i b n g ∷ P) v child wait input h quiet =
     let before = fed s P v child wait input (and_parts _ _ h).0 quiet in
@@ -209,24 +244,44 @@ fed s (PoolDrop r w m i n z ∷ P) v child wait input h quiet =
     ]
 fed s (Put r w m i f ∷ P) v child wait input h quiet =
     let at : AllOutAt w (calls_for s P (Put r w m i f)) = result-at s w (frame m i) f P (node s w).work in
-    go_on s v (Put r w m i f) P (omega (arith, less-owed s (out_of 0 any) (Put r w m i f) P, less-owed s (offers_to v) (Put r w m i f) P, none_elsewhere w 0 any
-    (calls_for s P (Put r w m i f)) (puts_at_node s r w m i f P h) at, no_offers v w (calls_for s P (Put r w m i f)) at, count-let_go-le is_loaded r (hands P)))
+    go_on s v (Put r w m i f) P (omega (
+      arith,
+      less-owed s (out_of 0 any) (Put r w m i f) P,
+      less-owed s (offers_to v) (Put r w m i f) P,
+      none_elsewhere w 0 any
+          (calls_for s P (Put r w m i f)) (puts_at_node s r w m i f P h) at,
+      no_offers v w (calls_for s P (Put r w m i f)) at,
+      count-let_go-le is_loaded r (hands P),
+    ))
     (λ room. room) refl (fed s P v child wait input (and_parts _ _ h).0 quiet)
 fed s (Settle r w ∷ P) v child wait input h quiet =
     let at : AllOutAt w (calls_for s P (Settle r w)) = flush-at w (least_first s (waiting s w P)) in
-    go_on s v (Settle r w) P (omega (arith, less-owed s (out_of 0 any) (Settle r w) P, less-owed s (offers_to v) (Settle r w) P,
-    none_elsewhere w 0 any (calls_for s P (Settle r w)) (settles_node s r w P h) at, no_offers v w (calls_for s P (Settle r w)) at)) (λ room. room) refl
+    go_on s v (Settle r w) P (omega (
+      arith,
+      less-owed s (out_of 0 any) (Settle r w) P,
+      less-owed s (offers_to v) (Settle r w) P,
+      none_elsewhere w 0 any (calls_for s P (Settle r w)) (settles_node s r w P h) at,
+      no_offers v w (calls_for s P (Settle r w)) at,
+    )) (λ room. room) refl
     (fed s P v child wait input (and_parts _ _ h).0 quiet)
 fed s (Saved r w m i ∷ P) v child wait input h quiet =
-    go_on s v (Saved r w m i) P (omega (arith, less-owed s (out_of 0 any) (Saved r w m i) P, less-owed s (offers_to v) (Saved r w m i) P,
-    count-let_go-le is_loaded r (hands P))) (λ room. room) refl (fed s P v child wait input (and_parts _ _ h).0 quiet)
+    go_on s v (Saved r w m i) P (omega (
+      arith,
+      less-owed s (out_of 0 any) (Saved r w m i) P,
+      less-owed s (offers_to v) (Saved r w m i) P,
+      count-let_go-le is_loaded r (hands P),
+    )) (λ room. room) refl (fed s P v child wait input (and_parts _ _ h).0 quiet)
 fed s (Reclaim r ∷ P) v child wait input h quiet = absurd (true≢false quiet)
 fed s (SortDrop w m i ∷ P) v child wait input h quiet =
     go_on s v (SortDrop w m i) P (omega (arith, less-owed s (out_of 0 any) (SortDrop w m i) P, less-owed s (offers_to v) (SortDrop w m i) P))
     (λ room. room) refl (fed s P v child wait input (and_parts _ _ h).0 quiet)
 fed s (Save r w m i g ∷ P) v child wait input h quiet =
-    go_on s v (Save r w m i g) P (omega (arith, less-owed s (out_of 0 any) (Save r w m i g) P, less-owed s (offers_to v) (Save r w m i g) P,
-    count-let_go-le is_loaded r (hands P))) (λ room. room) refl (fed s P v child wait input (and_parts _ _ h).0 quiet)
+    go_on s v (Save r w m i g) P (omega (
+      arith,
+      less-owed s (out_of 0 any) (Save r w m i g) P,
+      less-owed s (offers_to v) (Save r w m i g) P,
+      count-let_go-le is_loaded r (hands P),
+    )) (λ room. room) refl (fed s P v child wait input (and_parts _ _ h).0 quiet)
 fed s (Close r ∷ P) v child wait input h quiet =
     go_on s v (Close r) P (omega (arith, less-owed s (out_of 0 any) (Close r) P, less-owed s (offers_to v) (Close r) P)) (λ room. room) refl
     (fed s P v child wait input (and_parts _ _ h).0 quiet)

@@ -73,8 +73,14 @@ ends s P v number h =
     let four = append-none (queued v P ++ map (λ w. w.array) (waiting s v P) ++ ring s v P) (unsaved s v P) (none_left-nil (arrays_at s P v) d.1) in
     let three = append-none (queued v P ++ map (λ w. w.array) (waiting s v P)) (ring s v P) four.0 in
     let two = append-none (queued v P) (map (λ w. w.array) (waiting s v P)) three.0 in
-    record { above = omega (arith, low); settled = d.0; empty = two.0; lists = unmapped _ (waiting s v P) two.1;
-    unsaved_none = four.1; idle = ended-idle s P h }
+    record {
+      above = omega (arith, low);
+      settled = d.0;
+      empty = two.0;
+      lists = unmapped _ (waiting s v P) two.1;
+      unsaved_none = four.1;
+      idle = ended-idle s P h;
+    }
   where
     at : (v : ℕ) → 0 < v → v ≤ length s.nodes → list_all (is_done s P) (node_numbers s) ≡ true → is_done s P v ≡ true
     at zero low high all = absurd (omega (arith, low))

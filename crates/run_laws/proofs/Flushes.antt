@@ -49,8 +49,11 @@ none-result s v u a f P =
     elim (cases_Bool (is_sorted s u)) [
       | inr plain ↦ none-unsorted (flushes v) (misses v) s u a f P (node s u).work plain
       | inl sorted ↦
-          omega (arith, ap (count (flushes v)) (result-sorted s u a f P (node s u).work (and_parts _ _ sorted).0 sorted),
-          none-sorted s v u a (waiting s u P) (Put 0 u a.maker a.index f ∷ P))
+          omega (
+            arith,
+            ap (count (flushes v)) (result-sorted s u a f P (node s u).work (and_parts _ _ sorted).0 sorted),
+            none-sorted s v u a (waiting s u P) (Put 0 u a.maker a.index f ∷ P),
+          )
     ]
 
 none-elsewhere : (v w : ℕ) (ws : List Waiting) → eqb w v ≡ false → count (flushes v) (map (λ (u : Waiting). emit w Flush u.array) ws) ≡ 0

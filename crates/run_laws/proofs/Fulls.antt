@@ -42,8 +42,12 @@ no_fulls-if s P u false = refl
 no_fulls-looks : (s : Setting) (P : Past) (us : List ℕ) → count is_any_full (flat_map (λ u. cond (is_sorted s u) (look s u P) []) us) ≡ 0
 no_fulls-looks s P [] = refl
 no_fulls-looks s P (u ∷ us) =
-    omega (arith, count-append is_any_full (cond (is_sorted s u) (look s u P) []) (flat_map (λ w. cond (is_sorted s w) (look s w P) []) us),
-    no_fulls-if s P u (is_sorted s u), no_fulls-looks s P us)
+    omega (
+      arith,
+      count-append is_any_full (cond (is_sorted s u) (look s u P) []) (flat_map (λ w. cond (is_sorted s w) (look s w P) []) us),
+      no_fulls-if s P u (is_sorted s u),
+      no_fulls-looks s P us,
+    )
 
 no_fulls-offers : (a : FrameName) (cs : List ℕ) → count is_any_full (map (offer a) cs) ≡ 0
 no_fulls-offers a [] = refl
@@ -55,11 +59,19 @@ no_full_owed s (Tick t ∷ P) = omega (arith, no_full_owed s P, less-owed s is_a
 no_full_owed s (Emit w m i why ∷ P) =
     omega (arith, no_full_owed s P, less-owed s is_any_full (Emit w m i why) P, no_fulls-offers (frame m i) (offered_to s P w))
 no_full_owed s (Put r w m i f ∷ P) =
-    omega (arith, no_full_owed s P, less-owed s is_any_full (Put r w m i f) P,
-    no_fulls w (calls_for s P (Put r w m i f)) (result-at s w (frame m i) f P (node s w).work))
+    omega (
+      arith,
+      no_full_owed s P,
+      less-owed s is_any_full (Put r w m i f) P,
+      no_fulls w (calls_for s P (Put r w m i f)) (result-at s w (frame m i) f P (node s w).work),
+    )
 no_full_owed s (Settle r w ∷ P) =
-    omega (arith, no_full_owed s P, less-owed s is_any_full (Settle r w) P,
-    no_fulls w (calls_for s P (Settle r w)) (flush-at w (least_first s (waiting s w P))))
+    omega (
+      arith,
+      no_full_owed s P,
+      less-owed s is_any_full (Settle r w) P,
+      no_fulls w (calls_for s P (Settle r w)) (flush-at w (least_first s (waiting s w P))),
+    )
 no_full_owed s (e ∷ P) = omega (arith, no_full_owed s P, count-drop is_any_full (owed s P))
 
 -- what answers an offer that finds no room

@@ -111,12 +111,20 @@ lates-looks s P v t (u ∷ us) once =
     elim (cases_Bool (eqb u v)) [
       | inl here ↦
           let none : count (is_number v) us ≡ 0 = omega (arith, once, count-cons (is_number v) u us, ap bit here) in
-          omega (arith, both,
-          subst (λ (x : ℕ). count (lates v t) (cond (is_sorted s x) (look s x P) []) ≤ count (overdue s v (now P) t) (waiting s v P)) (sym (eqb-true u v here))
-          (own (is_sorted s v)), others us none)
+          omega (
+            arith,
+            both,
+            subst (λ (x : ℕ). count (lates v t) (cond (is_sorted s x) (look s x P) []) ≤ count (overdue s v (now P) t) (waiting s v P)) (sym (eqb-true u v here))
+                (own (is_sorted s v)),
+            others us none,
+          )
       | inr away ↦
-          omega (arith, both, lates-if s P v u t (is_sorted s u) (eqb-false u v away),
-          lates-looks s P v t us (omega (arith, once, count-cons (is_number v) u us, ap bit away)))
+          omega (
+            arith,
+            both,
+            lates-if s P v u t (is_sorted s u) (eqb-false u v away),
+            lates-looks s P v t us (omega (arith, once, count-cons (is_number v) u us, ap bit away)),
+          )
     ]
   where
     own : (b : Bool) → count (lates v t) (cond b (look s v P) []) ≤ count (overdue s v (now P) t) (waiting s v P)
@@ -127,8 +135,12 @@ lates-looks s P v t (u ∷ us) once =
     others [] none = refl
     others (x ∷ xs) none =
         let ne : x ≢ v = λ e. omega (arith, none, count-cons (is_number v) x xs, ap bit (eq-eqb x v e)) in
-        omega (arith, count-append (lates v t) (cond (is_sorted s x) (look s x P) []) (looks s P xs), lates-if s P v x t (is_sorted s x) ne,
-        others xs (omega (arith, none, count-cons (is_number v) x xs)))
+        omega (
+          arith,
+          count-append (lates v t) (cond (is_sorted s x) (look s x P) []) (looks s P xs),
+          lates-if s P v x t (is_sorted s x) ne,
+          others xs (omega (arith, none, count-cons (is_number v) x xs)),
+        )
 
 lates-flush : (v w : ℕ) (t : FrameName → Bool) (ws : List Waiting) → count (lates v t) (map (λ (u : Waiting). emit w Flush u.array) ws) ≡ 0
 lates-flush v w t [] = refl
@@ -188,15 +200,23 @@ late-owed s (Tick u ∷ P) v m k nz sorted h =
     omega (arith, whole, lates-looks s (Tick u ∷ P) v t (node_numbers s) (once_numbered s v))
 late-owed s (Settle r w ∷ P) v m k nz sorted h =
     let t : FrameName → Bool = λ x. same x (frame m k) in
-    omega (arith, late-owed s P v m k nz sorted (and_parts _ _ h).0, count-append (lates v t) (calls_for s P (Settle r w)) (drop 1 (owed s P)),
-    lates-flush v w t (least_first s (waiting s w P)), count-drop (lates v t) (owed s P))
+    omega (
+      arith,
+      late-owed s P v m k nz sorted (and_parts _ _ h).0,
+      count-append (lates v t) (calls_for s P (Settle r w)) (drop 1 (owed s P)),
+      lates-flush v w t (least_first s (waiting s w P)),
+      count-drop (lates v t) (owed s P),
+    )
 late-owed s (Emit w i j why ∷ P) v m k nz sorted h =
     let t : FrameName → Bool = λ x. same x (frame m k) in
     let legal : is_legal s P ≡ true = (and_parts _ _ h).0 in
     let before = late-owed s P v m k nz sorted legal in
     let less : count (lates v t) (owed s (Emit w i j why ∷ P)) ≤ count (lates v t) (drop 1 (owed s P)) =
-    omega (arith, count-append (lates v t) (map (offer (frame i j)) (offered_to s P w)) (drop 1 (owed s P)),
-    none-offers (lates v t) (misses v t) (frame i j) (offered_to s P w)) in
+    omega (
+      arith,
+      count-append (lates v t) (map (offer (frame i j)) (offered_to s P w)) (drop 1 (owed s P)),
+      none-offers (lates v t) (misses v t) (frame i j) (offered_to s P w),
+    ) in
     elim (cases_Bool (eqb w v)) [
       | inr away ↦
           let stays : waiting s v (Emit w i j why ∷ P) ≡ waiting s v P = rw away refl in
@@ -205,11 +225,24 @@ late-owed s (Emit w i j why ∷ P) v m k nz sorted h =
           let goes : waiting s v (Emit w i j why ∷ P) ≡ not_waiting (frame i j) (waiting s v P) = rw here refl in
           elim (cases_Bool (t (frame i j))) [
             | inr other ↦
-                omega (arith, before, less, count-drop (lates v t) (owed s P), ap (count (overdue s v (now P) t)) goes,
-                kept-overdue s v (now P) i j t (waiting s v P) other)
+                omega (
+                  arith,
+                  before,
+                  less,
+                  count-drop (lates v t) (owed s P),
+                  ap (count (overdue s v (now P) t)) goes,
+                  kept-overdue s v (now P) i j t (waiting s v P) other,
+                )
             | inl ours ↦
-                omega (arith, less, lates-le v t (drop 1 (owed s P)), owed-Emit_out s w i j why P v t h, ap bit (and_from _ _ here ours),
-                owed-waits s P v t nz sorted legal, waits-once s P v m k nz sorted legal)
+                omega (
+                  arith,
+                  less,
+                  lates-le v t (drop 1 (owed s P)),
+                  owed-Emit_out s w i j why P v t h,
+                  ap bit (and_from _ _ here ours),
+                  owed-waits s P v t nz sorted legal,
+                  waits-once s P v m k nz sorted legal,
+                )
           ]
     ]
 late-owed s (SortDrop w i j ∷ P) v m k nz sorted h =
@@ -224,11 +257,22 @@ late-owed s (SortDrop w i j ∷ P) v m k nz sorted h =
           let goes : waiting s v (SortDrop w i j ∷ P) ≡ not_waiting (frame i j) (waiting s v P) = rw here refl in
           elim (cases_Bool (t (frame i j))) [
             | inr other ↦
-                omega (arith, before, count-drop (lates v t) (owed s P), ap (count (overdue s v (now P) t)) goes,
-                kept-overdue s v (now P) i j t (waiting s v P) other)
+                omega (
+                  arith,
+                  before,
+                  count-drop (lates v t) (owed s P),
+                  ap (count (overdue s v (now P) t)) goes,
+                  kept-overdue s v (now P) i j t (waiting s v P) other,
+                )
             | inl ours ↦
-                omega (arith, lates-le v t (drop 1 (owed s P)), owed-SortDrop_out s w i j P v t h, ap bit (and_from _ _ here ours),
-                owed-waits s P v t nz sorted legal, waits-once s P v m k nz sorted legal)
+                omega (
+                  arith,
+                  lates-le v t (drop 1 (owed s P)),
+                  owed-SortDrop_out s w i j P v t h,
+                  ap bit (and_from _ _ here ours),
+                  owed-waits s P v t nz sorted legal,
+                  waits-once s P v m k nz sorted legal,
+                )
           ]
     ]
 late-owed s (e ∷ P) v m k nz sorted h =

@@ -53,8 +53,14 @@ line-accept s v m i P plain h l =
     let legal : is_legal s P ≡ true = (and_parts _ _ h).0 in
     let one : accepts_at v i (Accept v m i) ≡ true = and_from _ _ (eq-eqb v v refl) (eq-eqb i i refl) in
     let none : count (pool_drops_at v i) P ≡ 0 =
-    omega (arith, accepts-once s (Accept v m i ∷ P) v i h, count-cons (accepts_at v i) (Accept v m i) P, ap bit one,
-    accepts-all s P v i legal, accepts-count v i P) in
+    omega (
+      arith,
+      accepts-once s (Accept v m i ∷ P) v i h,
+      count-cons (accepts_at v i) (Accept v m i) P,
+      ap bit one,
+      accepts-all s P v i legal,
+      accepts-count v i P,
+    ) in
     let kept : list_any (is_dropped_by s v (frame m i)) P ≡ false = undropped s v (frame m i) P none (no_sort_drops s P v plain legal) in
     let D : FrameName → Bool = λ a. list_any (is_dropped_by s v a) P in
     let last : filter (λ a. not (D a)) (frame m i ∷ []) ≡ frame m i ∷ [] = rw kept refl in

@@ -44,19 +44,37 @@ one-owed s (Issue r k ∷ P) h =
     let none : owed s P ≡ [] = owed-first s (Issue r k) P (λ d. refl) h in
     omega (arith, count-cons (out_of 0 any) (Emit 0 0 k Plain) (drop 1 (owed s P)), ap (λ (ds : List Entry). count (out_of 0 any) (drop 1 ds)) none)
 one-owed s (Emit w m i why ∷ P) h =
-    omega (arith, one-owed s P (and_parts _ _ h).0, count-append (out_of 0 any) (map (offer (frame m i)) (offered_to s P w)) (drop 1 (owed s P)),
-    no_outs_in_offers 0 any (frame m i) (offered_to s P w), count-drop (out_of 0 any) (owed s P))
+    omega (
+      arith,
+      one-owed s P (and_parts _ _ h).0,
+      count-append (out_of 0 any) (map (offer (frame m i)) (offered_to s P w)) (drop 1 (owed s P)),
+      no_outs_in_offers 0 any (frame m i) (offered_to s P w),
+      count-drop (out_of 0 any) (owed s P),
+    )
 one-owed s (Tick u ∷ P) h =
-    omega (arith, one-owed s P (and_parts _ _ h).0, count-append (out_of 0 any) (calls_for s P (Tick u)) (drop 1 (owed s P)),
-    looks-none s (Tick u ∷ P) 0 any (node_numbers s) (none_numbered_0 s), count-drop (out_of 0 any) (owed s P))
+    omega (
+      arith,
+      one-owed s P (and_parts _ _ h).0,
+      count-append (out_of 0 any) (calls_for s P (Tick u)) (drop 1 (owed s P)),
+      looks-none s (Tick u ∷ P) 0 any (node_numbers s) (none_numbered_0 s),
+      count-drop (out_of 0 any) (owed s P),
+    )
 one-owed s (Put r w m i f ∷ P) h =
-    omega (arith, one-owed s P (and_parts _ _ h).0, count-append (out_of 0 any) (calls_for s P (Put r w m i f)) (drop 1 (owed s P)),
-    none_elsewhere w 0 any (calls_for s P (Put r w m i f)) (puts_at_node s r w m i f P h) (result-at s w (frame m i) f P (node s w).work),
-    count-drop (out_of 0 any) (owed s P))
+    omega (
+      arith,
+      one-owed s P (and_parts _ _ h).0,
+      count-append (out_of 0 any) (calls_for s P (Put r w m i f)) (drop 1 (owed s P)),
+      none_elsewhere w 0 any (calls_for s P (Put r w m i f)) (puts_at_node s r w m i f P h) (result-at s w (frame m i) f P (node s w).work),
+      count-drop (out_of 0 any) (owed s P),
+    )
 one-owed s (Settle r w ∷ P) h =
-    omega (arith, one-owed s P (and_parts _ _ h).0, count-append (out_of 0 any) (calls_for s P (Settle r w)) (drop 1 (owed s P)),
-    none_elsewhere w 0 any (calls_for s P (Settle r w)) (settles_node s r w P h) (flush-at w (least_first s (waiting s w P))),
-    count-drop (out_of 0 any) (owed s P))
+    omega (
+      arith,
+      one-owed s P (and_parts _ _ h).0,
+      count-append (out_of 0 any) (calls_for s P (Settle r w)) (drop 1 (owed s P)),
+      none_elsewhere w 0 any (calls_for s P (Settle r w)) (settles_node s r w P h) (flush-at w (least_first s (waiting s w P))),
+      count-drop (out_of 0 any) (owed s P),
+    )
 one-owed s (e ∷ P) h = omega (arith, one-owed s P (and_parts _ _ h).0, count-drop (out_of 0 any) (owed s P))
 
 -- INDICES
@@ -101,8 +119,11 @@ one-block r e k (x ∷ es) found index loaded few =
           let is : x ≡ e = cc in
           let rest : loaded_of es ≡ [] =
           none-loaded es (omega (arith, few, count-cons is_loaded x es, ap (λ (d : Entry). bit (is_loaded d)) is, ap bit loaded)) in
-          rw here (ap (λ (d : Entry). load_index d ++ loaded_of es) is
-          ∙ (ap (λ (ks : List ℕ). ks ++ loaded_of es) index ∙ ap (λ (ks : List ℕ). k ∷ ks) rest), rest)
+          rw here (
+            ap (λ (d : Entry). load_index d ++ loaded_of es) is
+                ∙ (ap (λ (ks : List ℕ). ks ++ loaded_of es) index ∙ ap (λ (ks : List ℕ). k ∷ ks) rest),
+            rest,
+          )
       | inr away ↦
           let later : find (takes_up r) es ≡ Some e = rw away at found in
           let some : 1 ≤ count is_loaded es = omega (arith, count-let_go is_loaded r e es later, ap bit loaded) in
@@ -160,8 +181,12 @@ begun-still : (s : Setting) (e : Entry) (P : Past) → ((d : Entry) → answers 
     → count (out_of 0 any) (calls_for s P e) ≡ 0 → emits_of_driver (owed s (e ∷ P)) ≡ emits_of_driver (owed s P)
 begun-still s e P never h calls =
     let none : owed s P ≡ [] = owed-first s e P never h in
-    no_emits (owed s (e ∷ P)) (omega (arith, calls, count-append (out_of 0 any) (calls_for s P e) (drop 1 (owed s P)),
-    ap (λ (ds : List Entry). count (out_of 0 any) (drop 1 ds)) none)) ∙ sym (ap emits_of_driver none)
+    no_emits (owed s (e ∷ P)) (omega (
+      arith,
+      calls,
+      count-append (out_of 0 any) (calls_for s P e) (drop 1 (owed s P)),
+      ap (λ (ds : List Entry). count (out_of 0 any) (drop 1 ds)) none,
+    )) ∙ sym (ap emits_of_driver none)
 
 -- what follows, and is no emission
 drop-still : (ds : List Entry) (head : Entry) (rest : List Entry) → ds ≡ head ∷ rest → emit_index head ≡ [] → emits_of_driver (drop 1 ds) ≡ emits_of_driver ds
@@ -215,8 +240,13 @@ in_turn s (Emit w m i why ∷ P) h =
           still s (Emit w m i why) P refl (left ∙ sym was) (ap (λ (b : Bool). cond b (i ∷ []) [] ++ outs s 0 P) away) refl before
       | inl here ↦
           let none : emits_of_driver a.rest ≡ [] =
-          no_emits a.rest (omega (arith, one-owed s P legal, ap (count (out_of 0 any)) whole, count-cons (out_of 0 any) (Emit w m i x.0) a.rest,
-          ap (λ (b : Bool). bit (b && true)) here)) in
+          no_emits a.rest (omega (
+            arith,
+            one-owed s P legal,
+            ap (count (out_of 0 any)) whole,
+            count-cons (out_of 0 any) (Emit w m i x.0) a.rest,
+            ap (λ (b : Bool). bit (b && true)) here,
+          )) in
           let was : emits_of_driver (owed s P) ≡ i ∷ [] =
           ap emits_of_driver whole ∙ (ap (λ (b : Bool). cond b (i ∷ []) [] ++ emits_of_driver a.rest) here ∙ ap (λ (ks : List ℕ). i ∷ ks) none) in
           let out : outs s 0 (Emit w m i why ∷ P) ≡ i ∷ outs s 0 P = ap (λ (b : Bool). cond b (i ∷ []) [] ++ outs s 0 P) here in
@@ -242,8 +272,12 @@ in_turn s (Tick t ∷ P) h =
     let was : emits_of_driver (owed s P) ≡ [] =
     ap emits_of_driver (a.is ∙ ap (λ (d : Entry). d ∷ a.rest) (answers-by_Tick s P t a.head a.answer).1) ∙ ap emits_of_driver alone in
     let now_none : emits_of_driver (owed s (Tick t ∷ P)) ≡ [] =
-    no_emits (owed s (Tick t ∷ P)) (omega (arith, count-append (out_of 0 any) (calls_for s P (Tick t)) (drop 1 (owed s P)),
-    looks-none s (Tick t ∷ P) 0 any (node_numbers s) (none_numbered_0 s), ap (count (out_of 0 any)) (tick-alone s t P h))) in
+    no_emits (owed s (Tick t ∷ P)) (omega (
+      arith,
+      count-append (out_of 0 any) (calls_for s P (Tick t)) (drop 1 (owed s P)),
+      looks-none s (Tick t ∷ P) 0 any (node_numbers s) (none_numbered_0 s),
+      ap (count (out_of 0 any)) (tick-alone s t P h),
+    )) in
     still s (Tick t) P refl (now_none ∙ sym was) refl refl (in_turn s P (and_parts _ _ h).0)
 in_turn s (Put r w m i f ∷ P) h =
     let legal : is_legal s P ≡ true = (and_parts _ _ h).0 in

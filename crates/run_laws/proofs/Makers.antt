@@ -116,24 +116,36 @@ module _ (g : Graph) (makers : List Maker) (arrays : List Array) (P : Past) (sou
           by_kind (Roi r) kind =
               let work = work-is (suc k) n (Roi r) rule kind in
               subst (λ (m : ℕ). count (emits_of (suc k) (wrong m)) P ≡ 0) (sym (maker_of_region g (suc k) n sound is (ap makes_arrays kind)))
-              (omega (arith, emits-put s P (suc k) (wrong (suc k)) (at_node (suc k) n rule) (ap may_sort work) h,
-              makers-name s P (suc k) (wrong (suc k)) (ap makes work) (right (suc k)) legal))
+              (omega (
+                arith,
+                emits-put s P (suc k) (wrong (suc k)) (at_node (suc k) n rule) (ap may_sort work) h,
+                makers-name s P (suc k) (wrong (suc k)) (ap makes work) (right (suc k)) legal,
+              ))
           by_kind (Stats r) kind =
               let work = work-is (suc k) n (Stats r) rule kind in
               subst (λ (m : ℕ). count (emits_of (suc k) (wrong m)) P ≡ 0) (sym (maker_of_other g (suc k) n sound is (ap makes_arrays kind)))
-              (omega (arith, emits-put s P (suc k) (wrong (maker_at g.nodes n.input)) (at_node (suc k) n rule) (ap may_sort work) h,
-              put_so (suc k) n (maker_at g.nodes n.input) rule (ap makes work) before))
+              (omega (
+                arith,
+                emits-put s P (suc k) (wrong (maker_at g.nodes n.input)) (at_node (suc k) n rule) (ap may_sort work) h,
+                put_so (suc k) n (maker_at g.nodes n.input) rule (ap makes work) before,
+              ))
           by_kind Scatter kind =
               let work = work-is (suc k) n Scatter rule kind in
               subst (λ (m : ℕ). count (emits_of (suc k) (wrong m)) P ≡ 0) (sym (maker_of_other g (suc k) n sound is (ap makes_arrays kind)))
-              (omega (arith, emits-put s P (suc k) (wrong (maker_at g.nodes n.input)) (at_node (suc k) n rule) (ap may_sort work) h,
-              put_so (suc k) n (maker_at g.nodes n.input) rule (ap makes work) before))
+              (omega (
+                arith,
+                emits-put s P (suc k) (wrong (maker_at g.nodes n.input)) (at_node (suc k) n rule) (ap may_sort work) h,
+                put_so (suc k) n (maker_at g.nodes n.input) rule (ap makes work) before,
+              ))
           by_kind (Circular r) kind =
               let work = work-is (suc k) n (Circular r) rule kind in
               let sound_rule : IsCircular r = subst IsKind kind (stands g (suc k) n sound is).sound.kind in
               subst (λ (m : ℕ). count (emits_of (suc k) (wrong m)) P ≡ 0) (sym (maker_of_other g (suc k) n sound is (ap makes_arrays kind)))
-              (omega (arith, watched-put s P (suc k) r.pre r.post r.preset (wrong (maker_at g.nodes n.input)) work sound_rule.post.0 h,
-              put_so (suc k) n (maker_at g.nodes n.input) rule (ap makes work) before))
+              (omega (
+                arith,
+                watched-put s P (suc k) r.pre r.post r.preset (wrong (maker_at g.nodes n.input)) work sound_rule.post.0 h,
+                put_so (suc k) n (maker_at g.nodes n.input) rule (ap makes work) before,
+              ))
           by_kind (File r) kind = absurd (false≢true (sym (ap may_feed kind) ∙ feeds))
 
   -- what a node accepted, dropped later or not, has the name of its input's maker
@@ -159,8 +171,12 @@ module _ (g : Graph) (makers : List Maker) (arrays : List Array) (P : Past) (sou
           ap (λ (o : Option NodeRule). option_map_or (λ (n : NodeRule). may_feed n.kind) o false) rule ∙ feeds in
           let out : put_out s (suc k) P ≡ emitted (suc k) P =
           out-emitted g makers arrays (suc k) P (ap is_file (work-is (suc k) n n.kind rule refl) ∙ no_file n feeds) in
-          omega (arith, ap (count (wrong (maker_at g.nodes (suc k)))) out, emitted-of (suc k) (wrong (maker_at g.nodes (suc k))) P,
-          named (suc (depth g.nodes (length g.nodes) (suc k))) (suc k) (omega arith) source)
+          omega (
+            arith,
+            ap (count (wrong (maker_at g.nodes (suc k)))) out,
+            emitted-of (suc k) (wrong (maker_at g.nodes (suc k))) P,
+            named (suc (depth g.nodes (length g.nodes) (suc k))) (suc k) (omega arith) source,
+          )
 
       by_kind : (c : Kind) → n.kind ≡ c → count (wrong (maker_at g.nodes (suc k))) (put_out s (suc k) P) ≡ 0
       by_kind (Roi r) kind = sends (ap may_feed kind)

@@ -88,8 +88,13 @@ offers-some : (c m i : ℕ) (t : FrameName → Bool) (cs : List ℕ) → t (fram
 offers-some c m i t [] h = refl
 offers-some c m i t (u ∷ us) h =
     let one : (eqb u c && t (frame m i)) ≡ eqb u c = elim (eqb u c) as (λ b. (b && t (frame m i)) ≡ b) [ true ↦ h | false ↦ refl ] in
-    omega (arith, offers-some c m i t us h, count-cons (accepts_of c t) (offer (frame m i) u) (map (offer (frame m i)) us),
-    count-cons (is_number c) u us, ap bit one)
+    omega (
+      arith,
+      offers-some c m i t us h,
+      count-cons (accepts_of c t) (offer (frame m i) u) (map (offer (frame m i)) us),
+      count-cons (is_number c) u us,
+      ap bit one,
+    )
 
 turn : (a b : ℕ) → bit (eqb a b) ≤ bit (eqb b a)
 turn a b = elim (cases_Bool (eqb a b)) [ inl is ↦ omega (arith, ap bit is, ap bit (eq-eqb b a (sym (eqb-true a b is)))) | inr off ↦ omega (arith, ap bit off) ]
@@ -118,20 +123,41 @@ accepts-emitted-of s (Accept w m i ∷ P) c t h =
     let left : count (accepts_of c t) (drop 1 (owed s P)) ≡ count (accepts_of c t) a.rest = ap (λ (ds : List Entry). count (accepts_of c t) (drop 1 ds)) a.is in
     omega (arith, accepts-emitted-of s P c t (and_parts _ _ h).0, was, left, count-cons (accepts_of c t) (Accept w m i) P)
 accepts-emitted-of s (Emit w m i why ∷ P) c t h =
-    omega (arith, accepts-emitted-of s P c t (and_parts _ _ h).0, offers-of_emit s P w m i c t,
-    count-append (accepts_of c t) (map (offer (frame m i)) (offered_to s P w)) (drop 1 (owed s P)), count-drop (accepts_of c t) (owed s P),
-    count-cons (emits_of (node s c).input t) (Emit w m i why) P)
+    omega (
+      arith,
+      accepts-emitted-of s P c t (and_parts _ _ h).0,
+      offers-of_emit s P w m i c t,
+      count-append (accepts_of c t) (map (offer (frame m i)) (offered_to s P w)) (drop 1 (owed s P)),
+      count-drop (accepts_of c t) (owed s P),
+      count-cons (emits_of (node s c).input t) (Emit w m i why) P,
+    )
 accepts-emitted-of s (Tick u ∷ P) c t h =
-    omega (arith, accepts-emitted-of s P c t (and_parts _ _ h).0, count-append (accepts_of c t) (calls_for s P (Tick u)) (drop 1 (owed s P)),
-    offers-le c t (calls_for s P (Tick u)), no_offers-looks s (Tick u ∷ P) c (node_numbers s), count-drop (accepts_of c t) (owed s P))
+    omega (
+      arith,
+      accepts-emitted-of s P c t (and_parts _ _ h).0,
+      count-append (accepts_of c t) (calls_for s P (Tick u)) (drop 1 (owed s P)),
+      offers-le c t (calls_for s P (Tick u)),
+      no_offers-looks s (Tick u ∷ P) c (node_numbers s),
+      count-drop (accepts_of c t) (owed s P),
+    )
 accepts-emitted-of s (Put r w m i f ∷ P) c t h =
-    omega (arith, accepts-emitted-of s P c t (and_parts _ _ h).0, count-append (accepts_of c t) (calls_for s P (Put r w m i f)) (drop 1 (owed s P)),
-    offers-le c t (calls_for s P (Put r w m i f)), no_offers c w (calls_for s P (Put r w m i f)) (result-at s w (frame m i) f P (node s w).work),
-    count-drop (accepts_of c t) (owed s P))
+    omega (
+      arith,
+      accepts-emitted-of s P c t (and_parts _ _ h).0,
+      count-append (accepts_of c t) (calls_for s P (Put r w m i f)) (drop 1 (owed s P)),
+      offers-le c t (calls_for s P (Put r w m i f)),
+      no_offers c w (calls_for s P (Put r w m i f)) (result-at s w (frame m i) f P (node s w).work),
+      count-drop (accepts_of c t) (owed s P),
+    )
 accepts-emitted-of s (Settle r w ∷ P) c t h =
-    omega (arith, accepts-emitted-of s P c t (and_parts _ _ h).0, count-append (accepts_of c t) (calls_for s P (Settle r w)) (drop 1 (owed s P)),
-    offers-le c t (calls_for s P (Settle r w)), no_offers c w (calls_for s P (Settle r w)) (flush-at w (least_first s (waiting s w P))),
-    count-drop (accepts_of c t) (owed s P))
+    omega (
+      arith,
+      accepts-emitted-of s P c t (and_parts _ _ h).0,
+      count-append (accepts_of c t) (calls_for s P (Settle r w)) (drop 1 (owed s P)),
+      offers-le c t (calls_for s P (Settle r w)),
+      no_offers c w (calls_for s P (Settle r w)) (flush-at w (least_first s (waiting s w P))),
+      count-drop (accepts_of c t) (owed s P),
+    )
 accepts-emitted-of s (_ ∷ P) c t h = omega (arith, accepts-emitted-of s P c t (and_parts _ _ h).0, count-drop (accepts_of c t) (owed s P))
 
 -- EMISSIONS
@@ -163,8 +189,13 @@ emits-put s P v t nz sorts h =
 pub watched-put : (s : Setting) (P : Past) (v pre post preset : ℕ) (t : FrameName → Bool) → (node s v).work ≡ Watches pre post preset → 1 ≤ post
     → is_history s P ≡ true → count (emits_of v t) P ≤ count (puts_of v t) P
 watched-put s P v pre post preset t work positive h =
-    omega (arith, ap (times_by t) (output_laws.circular s v pre post preset P work positive h),
-    passed-le t (is_passed pre post preset (firings v P)) 0 (puts v P), emitted-of v t P, puts-list v t P)
+    omega (
+      arith,
+      ap (times_by t) (output_laws.circular s v pre post preset P work positive h),
+      passed-le t (is_passed pre post preset (firings v P)) 0 (puts v P),
+      emitted-of v t P,
+      puts-list v t P,
+    )
 
 -- a maker gives its results its own name
 pub makers-name : (s : Setting) (P : Past) (v : ℕ) (t : FrameName → Bool) → is_maker s v ≡ true → ((k : ℕ) → t (frame v k) ≡ false)
@@ -193,24 +224,48 @@ pub driver-names : (s : Setting) (P : Past) (t : FrameName → Bool) → ((k : �
     → count (out_of 0 t) P + count (out_of 0 t) (owed s P) ≡ 0
 driver-names s [] t own h = refl
 driver-names s (Issue r k ∷ P) t own h =
-    omega (arith, driver-names s P t own (and_parts _ _ h).0, count-cons (out_of 0 t) (Emit 0 0 k Plain) (drop 1 (owed s P)), ap bit (own k),
-    count-drop (out_of 0 t) (owed s P))
+    omega (
+      arith,
+      driver-names s P t own (and_parts _ _ h).0,
+      count-cons (out_of 0 t) (Emit 0 0 k Plain) (drop 1 (owed s P)),
+      ap bit (own k),
+      count-drop (out_of 0 t) (owed s P),
+    )
 driver-names s (Emit w m i why ∷ P) t own h =
-    omega (arith, driver-names s P t own (and_parts _ _ h).0, owed-Emit_out s w m i why P 0 t h,
-    count-append (out_of 0 t) (map (offer (frame m i)) (offered_to s P w)) (drop 1 (owed s P)), no_outs_in_offers 0 t (frame m i) (offered_to s P w),
-    count-cons (out_of 0 t) (Emit w m i why) P)
+    omega (
+      arith,
+      driver-names s P t own (and_parts _ _ h).0,
+      owed-Emit_out s w m i why P 0 t h,
+      count-append (out_of 0 t) (map (offer (frame m i)) (offered_to s P w)) (drop 1 (owed s P)),
+      no_outs_in_offers 0 t (frame m i) (offered_to s P w),
+      count-cons (out_of 0 t) (Emit w m i why) P,
+    )
 driver-names s (SortDrop w m i ∷ P) t own h =
     omega (arith, driver-names s P t own (and_parts _ _ h).0, owed-SortDrop_out s w m i P 0 t h, count-cons (out_of 0 t) (SortDrop w m i) P)
 driver-names s (Tick u ∷ P) t own h =
-    omega (arith, driver-names s P t own (and_parts _ _ h).0, count-append (out_of 0 t) (calls_for s P (Tick u)) (drop 1 (owed s P)),
-    looks-none s (Tick u ∷ P) 0 t (node_numbers s) (none_numbered_0 s), count-drop (out_of 0 t) (owed s P))
+    omega (
+      arith,
+      driver-names s P t own (and_parts _ _ h).0,
+      count-append (out_of 0 t) (calls_for s P (Tick u)) (drop 1 (owed s P)),
+      looks-none s (Tick u ∷ P) 0 t (node_numbers s) (none_numbered_0 s),
+      count-drop (out_of 0 t) (owed s P),
+    )
 driver-names s (Put r w m i f ∷ P) t own h =
-    omega (arith, driver-names s P t own (and_parts _ _ h).0, count-append (out_of 0 t) (calls_for s P (Put r w m i f)) (drop 1 (owed s P)),
-    none_elsewhere w 0 t (calls_for s P (Put r w m i f)) (puts_at_node s r w m i f P h) (result-at s w (frame m i) f P (node s w).work),
-    count-drop (out_of 0 t) (owed s P))
+    omega (
+      arith,
+      driver-names s P t own (and_parts _ _ h).0,
+      count-append (out_of 0 t) (calls_for s P (Put r w m i f)) (drop 1 (owed s P)),
+      none_elsewhere w 0 t (calls_for s P (Put r w m i f)) (puts_at_node s r w m i f P h) (result-at s w (frame m i) f P (node s w).work),
+      count-drop (out_of 0 t) (owed s P),
+    )
 driver-names s (Settle r w ∷ P) t own h =
-    omega (arith, driver-names s P t own (and_parts _ _ h).0, count-append (out_of 0 t) (calls_for s P (Settle r w)) (drop 1 (owed s P)),
-    none_elsewhere w 0 t (calls_for s P (Settle r w)) (settles_node s r w P h) (flush-at w (least_first s (waiting s w P))), count-drop (out_of 0 t) (owed s P))
+    omega (
+      arith,
+      driver-names s P t own (and_parts _ _ h).0,
+      count-append (out_of 0 t) (calls_for s P (Settle r w)) (drop 1 (owed s P)),
+      none_elsewhere w 0 t (calls_for s P (Settle r w)) (settles_node s r w P h) (flush-at w (least_first s (waiting s w P))),
+      count-drop (out_of 0 t) (owed s P),
+    )
 driver-names s (_ ∷ P) t own h = omega (arith, driver-names s P t own (and_parts _ _ h).0, count-drop (out_of 0 t) (owed s P))
 
 pub driver-emits : (s : Setting) (P : Past) (t : FrameName → Bool) → ((k : ℕ) → t (frame 0 k) ≡ false) → is_legal s P ≡ true → count (emits_of 0 t) P ≡ 0

@@ -37,8 +37,15 @@ permutes (x ∷ xs) ys h =
     let s = stands x ys (omega (arith, h x, count-cons (λ j. eqb j x) x xs, ap bit (eq-eqb x x refl))) in
     let rest : IsPermutation xs (s.front ++ s.back) = permutes xs (s.front ++ s.back) (λ k.
     let whole : count (λ j. eqb j k) ys ≡ count (λ j. eqb j k) (s.front ++ x ∷ s.back) = ap (count (λ j. eqb j k)) s.is in
-    omega (arith, h k, whole, count-cons (λ j. eqb j k) x xs, count-append (λ j. eqb j k) s.front (x ∷ s.back), count-cons (λ j. eqb j k) x s.back,
-    count-append (λ j. eqb j k) s.front s.back)) in
+    omega (
+      arith,
+      h k,
+      whole,
+      count-cons (λ j. eqb j k) x xs,
+      count-append (λ j. eqb j k) s.front (x ∷ s.back),
+      count-cons (λ j. eqb j k) x s.back,
+      count-append (λ j. eqb j k) s.front s.back,
+    )) in
     let there : IsPermutation (x ∷ xs) (s.front ++ x ∷ s.back) =
     IsPermutation-trans (x ∷ xs) (x ∷ (s.front ++ s.back)) (s.front ++ x ∷ s.back) (IsPermutation-cons x xs (s.front ++ s.back) rest)
     (IsPermutation-sym (s.front ++ x ∷ s.back) (x ∷ (s.front ++ s.back)) (IsPermutation-middle s.front x s.back)) in
@@ -52,8 +59,15 @@ permutes-pieces f (x ∷ xs) ys h =
     let s = stands x ys (omega (arith, h x, count-cons (λ j. eqb j x) x xs, ap bit (eq-eqb x x refl))) in
     let rest : IsPermutation (flat_map f xs) (flat_map f (s.front ++ s.back)) = permutes-pieces f xs (s.front ++ s.back) (λ k.
     let whole : count (λ j. eqb j k) ys ≡ count (λ j. eqb j k) (s.front ++ x ∷ s.back) = ap (count (λ j. eqb j k)) s.is in
-    omega (arith, h k, whole, count-cons (λ j. eqb j k) x xs, count-append (λ j. eqb j k) s.front (x ∷ s.back), count-cons (λ j. eqb j k) x s.back,
-    count-append (λ j. eqb j k) s.front s.back)) in
+    omega (
+      arith,
+      h k,
+      whole,
+      count-cons (λ j. eqb j k) x xs,
+      count-append (λ j. eqb j k) s.front (x ∷ s.back),
+      count-cons (λ j. eqb j k) x s.back,
+      count-append (λ j. eqb j k) s.front s.back,
+    )) in
     let A = flat_map f s.front in
     let B = flat_map f s.back in
     let parts : IsPermutation (flat_map f xs) (A ++ B) = subst (λ zs. IsPermutation (flat_map f xs) zs) (flat_map-append f s.front s.back) rest in

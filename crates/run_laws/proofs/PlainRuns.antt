@@ -196,8 +196,10 @@ module _ (g : Graph) (makers : List Maker) (stack : StackValue) (P : Past) (soun
       by None is = absurd (false≢true (ap (λ (o : Option NodeRule). option_map_or (λ (n : NodeRule). may_feed n.kind) o false) is ∙ source))
       by (Some n) is =
           let may : may_feed n.kind ≡ true = ap (λ (o : Option NodeRule). option_map_or (λ (n : NodeRule). may_feed n.kind) o false) is ∙ source in
-          record { within = rule_within g.nodes (suc k) n is;
-          no_save = ap (λ (m : Node). is_file m.work) (node-is g makers stack.arrays (suc k) n (sym is)) ∙ no_file n may }
+          record {
+            within = rule_within g.nodes (suc k) n is;
+            no_save = ap (λ (m : Node). is_file m.work) (node-is g makers stack.arrays (suc k) n (sym is)) ∙ no_file n may;
+          }
 
   at_node : (v : ℕ) (n : NodeRule) → rule_at g.nodes v ≡ Some n → indices (emitted n.input P) ≡ passed g stack n.input
       → indices (put_out s v P) ≡ passed g stack v
@@ -236,8 +238,13 @@ module _ (g : Graph) (makers : List Maker) (stack : StackValue) (P : Past) (soun
           (subst Inside (sym taken) frames) in
           let same : outs s v P ≡ outs s n.input P = same_falling (outs s v P) (outs s n.input P)
           (falling v (rule_within g.nodes v n (sym rule)) no_save inside) (falling n.input input.within input.no_save (subst Inside (sym before) frames))
-          (λ k. omega (arith, times-out v k no_save, times-out n.input k input.no_save,
-          emits-accepted s P v k d.number sorts smooth.run, ap (count (of_index k)) all)) in
+          (λ k. omega (
+            arith,
+            times-out v k no_save,
+            times-out n.input k input.no_save,
+            emits-accepted s P v k d.number sorts smooth.run,
+            ap (count (of_index k)) all,
+          )) in
           ap indices (out-emitted g makers stack.arrays v P no_save)
           ∙ (emitted-outs s P v no_save legal ∙ (ap reverse same ∙ (sym (emitted-outs s P n.input input.no_save legal) ∙ (before
           ∙ (sym (outputs-are g makers stack.arrays v n n.kind (passed g stack n.input) rule refl ∙ p.0) ∙ sym onward)))))

@@ -120,8 +120,12 @@ undropped s v a (_ ∷ P) pool sort = undropped s v a P pool sort
 drops-of_index : (v k : ℕ) (P : Past) → count (drops_by v (λ j. eqb j k)) P ≡ count (pool_drops_at v k) P + count (sort_drops_at v k) P
 drops-of_index v k [] = refl
 drops-of_index v k (PoolDrop r w m i n z ∷ P) =
-    omega (arith, drops-of_index v k P, count-cons (drops_by v (λ j. eqb j k)) (PoolDrop r w m i n z) P,
-    count-cons (pool_drops_at v k) (PoolDrop r w m i n z) P)
+    omega (
+      arith,
+      drops-of_index v k P,
+      count-cons (drops_by v (λ j. eqb j k)) (PoolDrop r w m i n z) P,
+      count-cons (pool_drops_at v k) (PoolDrop r w m i n z) P,
+    )
 drops-of_index v k (SortDrop w m i ∷ P) =
     omega (arith, drops-of_index v k P, count-cons (drops_by v (λ j. eqb j k)) (SortDrop w m i) P, count-cons (sort_drops_at v k) (SortDrop w m i) P)
 drops-of_index v k (_ ∷ P) = drops-of_index v k P
@@ -197,8 +201,13 @@ shares s (PoolDrop r w m i n z ∷ P) v u nz h =
           drop-here (eqb w v) T D (accepts v P) here ∙ told m i (λ a. not (D a)) (accepts v P) some once in
           share-drop s v i u (PoolDrop r w m i n z) P refl (ap (λ (b : Bool). bit (b && u i)) here) goes ours before
       | inr away ↦
-          omega (arith, before, ap (count (by_index u)) (drop-away (eqb w v) (λ a. same a (frame m i)) D (accepts v P) away),
-          count-cons (drops_by v u) (PoolDrop r w m i n z) P, ap (λ (b : Bool). bit (b && u i)) away)
+          omega (
+            arith,
+            before,
+            ap (count (by_index u)) (drop-away (eqb w v) (λ a. same a (frame m i)) D (accepts v P) away),
+            count-cons (drops_by v u) (PoolDrop r w m i n z) P,
+            ap (λ (b : Bool). bit (b && u i)) away,
+          )
     ]
 shares s (SortDrop w m i ∷ P) v u nz h =
     let legal : is_legal s P ≡ true = (and_parts _ _ h).0 in
@@ -230,8 +239,13 @@ shares s (SortDrop w m i ∷ P) v u nz h =
                 (drop-here (eqb w v) C D (accepts v P) here ∙ named) ours before
           ]
       | inr away ↦
-          omega (arith, before, ap (count (by_index u)) (drop-away (eqb w v) C D (accepts v P) away), count-cons (drops_by v u) (SortDrop w m i) P,
-          ap (λ (b : Bool). bit (b && u i)) away)
+          omega (
+            arith,
+            before,
+            ap (count (by_index u)) (drop-away (eqb w v) C D (accepts v P) away),
+            count-cons (drops_by v u) (SortDrop w m i) P,
+            ap (λ (b : Bool). bit (b && u i)) away,
+          )
     ]
 shares s (_ ∷ P) v u nz h = shares s P v u nz (and_parts _ _ h).0
 

@@ -110,8 +110,12 @@ forces : (s : Setting) (P : Past) (v m k w i j : ℕ) (f : Bool) (rest : List En
 forces s P v m k w i j f rest calls =
     elim (cases_Bool (is_sorted s w)) [
       | inr plain ↦
-          absurd (omega (arith, ap (count is_any_sort_drop) calls, none-unsorted is_any_sort_drop misses s w (frame i j) f P (node s w).work plain,
-          count-cons is_any_sort_drop (SortDrop v m k) rest))
+          absurd (omega (
+            arith,
+            ap (count is_any_sort_drop) calls,
+            none-unsorted is_any_sort_drop misses s w (frame i j) f P (node s w).work plain,
+            count-cons is_any_sort_drop (SortDrop v m k) rest,
+          ))
       | inl sorted ↦
           let whole : sorted_result s w (frame i j) (waiting s w P) (Put 0 w i j f ∷ P) ≡ SortDrop v m k ∷ rest =
           sym (result-sorted s w (frame i j) f P (node s w).work (and_parts _ _ sorted).0 sorted) ∙ calls in
@@ -137,8 +141,13 @@ forces s P v m k w i j f rest calls =
                   }
               | inr room ↦
                   let looked : look s w (Put 0 w i j f ∷ P) ≡ SortDrop v m k ∷ rest = rw (out, room) at whole in
-                  absurd (omega (arith, ap (count is_any_sort_drop) looked, none-goes_out is_any_sort_drop misses_looks s w (prev s w P) (now P)
-                  (least_first s (waiting s w (Put 0 w i j f ∷ P))), count-cons is_any_sort_drop (SortDrop v m k) rest))
+                  absurd (omega (
+                    arith,
+                    ap (count is_any_sort_drop) looked,
+                    none-goes_out is_any_sort_drop misses_looks s w (prev s w P) (now P)
+                        (least_first s (waiting s w (Put 0 w i j f ∷ P))),
+                    count-cons is_any_sort_drop (SortDrop v m k) rest,
+                  ))
             ]
           ]
     ]
@@ -157,8 +166,15 @@ no_put : (s : Setting) (v m k : ℕ) (e : Entry) (P : Past) → count is_any_sor
 no_put s v m k e P none h =
     let a = owed-answered s (SortDrop v m k) (e ∷ P) refl h in
     let head : bit (is_any_sort_drop a.head) ≡ 1 = ap (λ (d : Entry). bit (is_any_sort_drop d)) (answers-by_SortDrop s (e ∷ P) v m k a.head a.answer) in
-    absurd (omega (arith, none, none-behind s P, head, ap (count is_any_sort_drop) a.is, count-cons is_any_sort_drop a.head a.rest,
-    count-append is_any_sort_drop (calls_for s P e) (drop 1 (owed s P))))
+    absurd (omega (
+      arith,
+      none,
+      none-behind s P,
+      head,
+      ap (count is_any_sort_drop) a.is,
+      count-cons is_any_sort_drop a.head a.rest,
+      count-append is_any_sort_drop (calls_for s P e) (drop 1 (owed s P)),
+    ))
 
 forced : (s : Setting) (P : Past) (v m k : ℕ) → is_legal s (SortDrop v m k ∷ P) ≡ true → FullListFacts s v m k P
 forced s [] v m k h = absurd (false≢true h)

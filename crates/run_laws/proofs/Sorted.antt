@@ -54,8 +54,10 @@ pub none-at : (v k : ℕ) (P : Past) → count (sort_drops_at v k) P ≤ count (
 none-at v k [] = omega arith
 none-at v k (SortDrop w m i ∷ P) =
     let one : bit (eqb w v && eqb i k) ≤ bit (eqb w v) =
-    elim (eqb w v) as (λ b. bit (b && eqb i k) ≤ bit b) [ true ↦ elim (eqb i k) as (λ c. bit c ≤ 1) [ true ↦ omega arith | false ↦ omega arith ]
-    | false ↦ omega arith ] in
+    elim (eqb w v) as (λ b. bit (b && eqb i k) ≤ bit b) [
+      | true ↦ elim (eqb i k) as (λ c. bit c ≤ 1) [ true ↦ omega arith | false ↦ omega arith ]
+      | false ↦ omega arith
+    ] in
     omega (arith, none-at v k P, one, count-cons (sort_drops_at v k) (SortDrop w m i) P, count-cons (is_sort_drop v) (SortDrop w m i) P)
 none-at v k (_ ∷ P) = none-at v k P
 
@@ -72,12 +74,21 @@ puts-taken-of : (s : Setting) (P : Past) (v : ℕ) (t : FrameName → Bool) → 
     → count (puts_of v t) P + count (takes_of v t) (hands P) ≡ count (takes_of v t) (standing P)
 puts-taken-of s [] v t pass h = refl
 puts-taken-of s (Take r w m i ∷ P) v t pass h =
-    omega (arith, puts-taken-of s P v t pass (and_parts _ _ h).0, ap (count (takes_of v t)) (takes-alone s r (Take r w m i) P (eq-eqb r r refl) h),
-    count-cons (takes_of v t) (Take r w m i) (let_go r (hands P)), count-cons (takes_of v t) (Take r w m i) (standing P))
+    omega (
+      arith,
+      puts-taken-of s P v t pass (and_parts _ _ h).0,
+      ap (count (takes_of v t)) (takes-alone s r (Take r w m i) P (eq-eqb r r refl) h),
+      count-cons (takes_of v t) (Take r w m i) (let_go r (hands P)),
+      count-cons (takes_of v t) (Take r w m i) (standing P),
+    )
 puts-taken-of s (TakeBlock f x r w m i b n g ∷ P) v t pass h =
-    omega (arith, puts-taken-of s P v t pass (and_parts _ _ h).0,
-    ap (count (takes_of v t)) (takes-alone s r (TakeBlock f x r w m i b n g) P (eq-eqb r r refl) h),
-    count-cons (takes_of v t) (TakeBlock f x r w m i b n g) (let_go r (hands P)), count-cons (takes_of v t) (TakeBlock f x r w m i b n g) (standing P))
+    omega (
+      arith,
+      puts-taken-of s P v t pass (and_parts _ _ h).0,
+      ap (count (takes_of v t)) (takes-alone s r (TakeBlock f x r w m i b n g) P (eq-eqb r r refl) h),
+      count-cons (takes_of v t) (TakeBlock f x r w m i b n g) (let_go r (hands P)),
+      count-cons (takes_of v t) (TakeBlock f x r w m i b n g) (standing P),
+    )
 puts-taken-of s (Issue r i ∷ P) v t pass h =
     let l = (row_laws.issue s P r i).0 (row_of s (Issue r i) P (λ d. refl) h) in
     omega (arith, puts-taken-of s P v t pass (and_parts _ _ h).0, count-let_go (takes_of v t) r _ (hands P) l.5)
@@ -104,8 +115,13 @@ puts-taken-of s (Put r w m i f ∷ P) v t pass h =
 puts-taken-of s (Reclaim r ∷ P) v t pass h =
     let e = reclaim_hand s r P h in
     let legal : is_legal s P ≡ true = (and_parts _ _ h).0 in
-    omega (arith, puts-taken-of s P v t pass legal, ap (count (takes_of v t)) (stood r e.0 P e.1), count-let_go (takes_of v t) r e.0 (hands P) e.1,
-    count-let_go (takes_of v t) r e.0 (standing P) (hand-standing s P r e.0 legal e.1))
+    omega (
+      arith,
+      puts-taken-of s P v t pass legal,
+      ap (count (takes_of v t)) (stood r e.0 P e.1),
+      count-let_go (takes_of v t) r e.0 (hands P) e.1,
+      count-let_go (takes_of v t) r e.0 (standing P) (hand-standing s P r e.0 legal e.1),
+    )
 puts-taken-of s (Load r i b n f g x ∷ P) v t pass h =
     omega (arith, puts-taken-of s P v t pass (and_parts _ _ h).0, ap (count (takes_of v t)) (takes-alone s r (Load r i b n f g x) P (eq-eqb r r refl) h))
 puts-taken-of s (Save r w m i g ∷ P) v t pass h =
@@ -122,11 +138,21 @@ comes-of v w t a =
 gone-of : (v : ℕ) (t : FrameName → Bool) (P : Past) → count (takes_of v t) P ≤ times_by t (flat_map (gone_at v) P)
 gone-of v t [] = omega arith
 gone-of v t (Take r w m i ∷ P) =
-    omega (arith, gone-of v t P, comes-of v w t (frame m i), count-append t (comes_at v w (frame m i) []) (flat_map (gone_at v) P),
-    count-cons (takes_of v t) (Take r w m i) P)
+    omega (
+      arith,
+      gone-of v t P,
+      comes-of v w t (frame m i),
+      count-append t (comes_at v w (frame m i) []) (flat_map (gone_at v) P),
+      count-cons (takes_of v t) (Take r w m i) P,
+    )
 gone-of v t (TakeBlock f x r w m i b n g ∷ P) =
-    omega (arith, gone-of v t P, comes-of v w t (frame m i), count-append t (comes_at v w (frame m i) []) (flat_map (gone_at v) P),
-    count-cons (takes_of v t) (TakeBlock f x r w m i b n g) P)
+    omega (
+      arith,
+      gone-of v t P,
+      comes-of v w t (frame m i),
+      count-append t (comes_at v w (frame m i) []) (flat_map (gone_at v) P),
+      count-cons (takes_of v t) (TakeBlock f x r w m i b n g) P,
+    )
 gone-of v t (PoolDrop r w m i n z ∷ P) = omega (arith, gone-of v t P, count-append t (comes_at v w (frame m i) []) (flat_map (gone_at v) P))
 gone-of v t (_ ∷ P) = gone-of v t P
 

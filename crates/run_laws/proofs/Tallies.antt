@@ -41,14 +41,29 @@ pool_drops_at v k _ = false
 gone-split : (v k : ℕ) (P : Past) → times_by (of_index k) (flat_map (gone_at v) P) ≡ count (takes_at v k) P + count (pool_drops_at v k) P
 gone-split v k [] = refl
 gone-split v k (Take r w m i ∷ P) =
-    omega (arith, gone-split v k P, comes-count v w m i k [], count-append (of_index k) (comes_at v w (frame m i) []) (flat_map (gone_at v) P),
-    count-cons (takes_at v k) (Take r w m i) P)
+    omega (
+      arith,
+      gone-split v k P,
+      comes-count v w m i k [],
+      count-append (of_index k) (comes_at v w (frame m i) []) (flat_map (gone_at v) P),
+      count-cons (takes_at v k) (Take r w m i) P,
+    )
 gone-split v k (TakeBlock f x r w m i b n g ∷ P) =
-    omega (arith, gone-split v k P, comes-count v w m i k [], count-append (of_index k) (comes_at v w (frame m i) []) (flat_map (gone_at v) P),
-    count-cons (takes_at v k) (TakeBlock f x r w m i b n g) P)
+    omega (
+      arith,
+      gone-split v k P,
+      comes-count v w m i k [],
+      count-append (of_index k) (comes_at v w (frame m i) []) (flat_map (gone_at v) P),
+      count-cons (takes_at v k) (TakeBlock f x r w m i b n g) P,
+    )
 gone-split v k (PoolDrop r w m i n z ∷ P) =
-    omega (arith, gone-split v k P, comes-count v w m i k [], count-append (of_index k) (comes_at v w (frame m i) []) (flat_map (gone_at v) P),
-    count-cons (pool_drops_at v k) (PoolDrop r w m i n z) P)
+    omega (
+      arith,
+      gone-split v k P,
+      comes-count v w m i k [],
+      count-append (of_index k) (comes_at v w (frame m i) []) (flat_map (gone_at v) P),
+      count-cons (pool_drops_at v k) (PoolDrop r w m i n z) P,
+    )
 gone-split v k (_ ∷ P) = gone-split v k P
 
 -- a drop is no hand, and so it stands
@@ -59,14 +74,23 @@ hand_no_drop v k r _ h = refl
 drops-stand : (s : Setting) (P : Past) (v k : ℕ) → is_legal s P ≡ true → count (pool_drops_at v k) (standing P) ≡ count (pool_drops_at v k) P
 drops-stand s [] v k h = refl
 drops-stand s (PoolDrop r w m i n z ∷ P) v k h =
-    omega (arith, drops-stand s P v k (and_parts _ _ h).0, count-cons (pool_drops_at v k) (PoolDrop r w m i n z) P,
-    count-cons (pool_drops_at v k) (PoolDrop r w m i n z) (standing P))
+    omega (
+      arith,
+      drops-stand s P v k (and_parts _ _ h).0,
+      count-cons (pool_drops_at v k) (PoolDrop r w m i n z) P,
+      count-cons (pool_drops_at v k) (PoolDrop r w m i n z) (standing P),
+    )
 drops-stand s (Reclaim r ∷ P) v k h =
     let e = reclaim_hand s r P h in
     let legal : is_legal s P ≡ true = (and_parts _ _ h).0 in
     let found = hand-standing s P r e.0 legal e.1 in
-    omega (arith, drops-stand s P v k legal, ap (count (pool_drops_at v k)) (stood r e.0 P e.1), count-let_go (pool_drops_at v k) r e.0 (standing P) found,
-    ap bit (hand_no_drop v k r e.0 (found_up (takes_up r) e.0 (standing P) found)))
+    omega (
+      arith,
+      drops-stand s P v k legal,
+      ap (count (pool_drops_at v k)) (stood r e.0 P e.1),
+      count-let_go (pool_drops_at v k) r e.0 (standing P) found,
+      ap bit (hand_no_drop v k r e.0 (found_up (takes_up r) e.0 (standing P) found)),
+    )
 drops-stand s (_ ∷ P) v k h = drops-stand s P v k (and_parts _ _ h).0
 
 -- what was taken for good was put or is in hand
@@ -74,11 +98,21 @@ puts-taken-all : (s : Setting) (P : Past) (v k : ℕ) → is_legal s P ≡ true
     → count (puts_at v k) P + count (takes_at v k) (hands P) ≡ count (takes_at v k) (standing P)
 puts-taken-all s [] v k h = refl
 puts-taken-all s (Take r w m i ∷ P) v k h =
-    omega (arith, puts-taken-all s P v k (and_parts _ _ h).0, ap (count (takes_at v k)) (takes-alone s r (Take r w m i) P (eq-eqb r r refl) h),
-    count-cons (takes_at v k) (Take r w m i) (let_go r (hands P)), count-cons (takes_at v k) (Take r w m i) (standing P))
+    omega (
+      arith,
+      puts-taken-all s P v k (and_parts _ _ h).0,
+      ap (count (takes_at v k)) (takes-alone s r (Take r w m i) P (eq-eqb r r refl) h),
+      count-cons (takes_at v k) (Take r w m i) (let_go r (hands P)),
+      count-cons (takes_at v k) (Take r w m i) (standing P),
+    )
 puts-taken-all s (TakeBlock f x r w m i b n g ∷ P) v k h =
-    omega (arith, puts-taken-all s P v k (and_parts _ _ h).0, ap (count (takes_at v k)) (takes-alone s r (TakeBlock f x r w m i b n g) P (eq-eqb r r refl) h),
-    count-cons (takes_at v k) (TakeBlock f x r w m i b n g) (let_go r (hands P)), count-cons (takes_at v k) (TakeBlock f x r w m i b n g) (standing P))
+    omega (
+      arith,
+      puts-taken-all s P v k (and_parts _ _ h).0,
+      ap (count (takes_at v k)) (takes-alone s r (TakeBlock f x r w m i b n g) P (eq-eqb r r refl) h),
+      count-cons (takes_at v k) (TakeBlock f x r w m i b n g) (let_go r (hands P)),
+      count-cons (takes_at v k) (TakeBlock f x r w m i b n g) (standing P),
+    )
 puts-taken-all s (Issue r i ∷ P) v k h =
     let l = (row_laws.issue s P r i).0 (row_of s (Issue r i) P (λ d. refl) h) in
     omega (arith, puts-taken-all s P v k (and_parts _ _ h).0, count-let_go (takes_at v k) r _ (hands P) l.5)
@@ -93,8 +127,13 @@ puts-taken-all s (Put r w m i f ∷ P) v k h =
 puts-taken-all s (Reclaim r ∷ P) v k h =
     let e = reclaim_hand s r P h in
     let legal : is_legal s P ≡ true = (and_parts _ _ h).0 in
-    omega (arith, puts-taken-all s P v k legal, ap (count (takes_at v k)) (stood r e.0 P e.1), count-let_go (takes_at v k) r e.0 (hands P) e.1,
-    count-let_go (takes_at v k) r e.0 (standing P) (hand-standing s P r e.0 legal e.1))
+    omega (
+      arith,
+      puts-taken-all s P v k legal,
+      ap (count (takes_at v k)) (stood r e.0 P e.1),
+      count-let_go (takes_at v k) r e.0 (hands P) e.1,
+      count-let_go (takes_at v k) r e.0 (standing P) (hand-standing s P r e.0 legal e.1),
+    )
 puts-taken-all s (Load r i b n f g x ∷ P) v k h =
     omega (arith, puts-taken-all s P v k (and_parts _ _ h).0, ap (count (takes_at v k)) (takes-alone s r (Load r i b n f g x) P (eq-eqb r r refl) h))
 puts-taken-all s (Save r w m i g ∷ P) v k h =
@@ -154,8 +193,12 @@ none-if s v w P false = refl
 none-looked : (s : Setting) (v : ℕ) (P : Past) (us : List ℕ) → count (is_sort_drop v) (flat_map (λ u. cond (is_sorted s u) (look s u P) []) us) ≡ 0
 none-looked s v P [] = refl
 none-looked s v P (u ∷ us) =
-    omega (arith, count-append (is_sort_drop v) (cond (is_sorted s u) (look s u P) []) (flat_map (λ w. cond (is_sorted s w) (look s w P) []) us),
-    none-if s v u P (is_sorted s u), none-looked s v P us)
+    omega (
+      arith,
+      count-append (is_sort_drop v) (cond (is_sorted s u) (look s u P) []) (flat_map (λ w. cond (is_sorted s w) (look s w P) []) us),
+      none-if s v u P (is_sorted s u),
+      none-looked s v P us,
+    )
 
 none-ring : (v : ℕ) (b : Bool) (xs : List FrameName) → count (is_sort_drop v) (cond b (map (emit v Ring) xs) []) ≡ 0
 none-ring v true xs = none-emitted v v Ring xs
@@ -170,8 +213,12 @@ none-result s v a f P (Watches pre post preset) plain =
     let flags : List Bool = firings v P in
     let b : Bool = is_trigger post preset (flags ++ f ∷ []) (length flags) in
     let d : Bool = is_passed pre post preset (flags ++ f ∷ []) (length flags) in
-    omega (arith, count-append (is_sort_drop v) (cond b (map (emit v Ring) (ring s v P)) []) (cond d (emit v Now a ∷ []) []),
-    none-ring v b (ring s v P), none-now v d a)
+    omega (
+      arith,
+      count-append (is_sort_drop v) (cond b (map (emit v Ring) (ring s v P)) []) (cond d (emit v Now a ∷ []) []),
+      none-ring v b (ring s v P),
+      none-now v d a,
+    )
 none-result s v a f P (Saves whole n) plain = refl
 none-result s v a f P Makes plain = rw plain refl
 none-result s v a f P (Passes d) plain = rw plain refl
@@ -186,17 +233,37 @@ none-owed s (Put r w m i f ∷ P) v plain =
           subst (λ (u : ℕ). count (is_sort_drop v) (calls_for s P (Put r u m i f)) ≡ 0) (sym is) (none-result s v (frame m i) f P (node s v).work plain)
       | inr away ↦ none-elsewhere v w (calls_for s P (Put r w m i f)) (eqb-false w v away) (result-at s w (frame m i) f P (node s w).work)
     ] in
-    omega (arith, none-owed s P v plain, count-append (is_sort_drop v) (calls_for s P (Put r w m i f)) (drop 1 (owed s P)), calls,
-    count-drop (is_sort_drop v) (owed s P))
+    omega (
+      arith,
+      none-owed s P v plain,
+      count-append (is_sort_drop v) (calls_for s P (Put r w m i f)) (drop 1 (owed s P)),
+      calls,
+      count-drop (is_sort_drop v) (owed s P),
+    )
 none-owed s (Tick t ∷ P) v plain =
-    omega (arith, none-owed s P v plain, count-append (is_sort_drop v) (calls_for s P (Tick t)) (drop 1 (owed s P)),
-    none-looked s v (Tick t ∷ P) (node_numbers s), count-drop (is_sort_drop v) (owed s P))
+    omega (
+      arith,
+      none-owed s P v plain,
+      count-append (is_sort_drop v) (calls_for s P (Tick t)) (drop 1 (owed s P)),
+      none-looked s v (Tick t ∷ P) (node_numbers s),
+      count-drop (is_sort_drop v) (owed s P),
+    )
 none-owed s (Emit w m i why ∷ P) v plain =
-    omega (arith, none-owed s P v plain, count-append (is_sort_drop v) (map (offer (frame m i)) (offered_to s P w)) (drop 1 (owed s P)),
-    none-offered v (frame m i) (offered_to s P w), count-drop (is_sort_drop v) (owed s P))
+    omega (
+      arith,
+      none-owed s P v plain,
+      count-append (is_sort_drop v) (map (offer (frame m i)) (offered_to s P w)) (drop 1 (owed s P)),
+      none-offered v (frame m i) (offered_to s P w),
+      count-drop (is_sort_drop v) (owed s P),
+    )
 none-owed s (Settle r w ∷ P) v plain =
-    omega (arith, none-owed s P v plain, count-append (is_sort_drop v) (calls_for s P (Settle r w)) (drop 1 (owed s P)),
-    none-flushed v w (least_first s (waiting s w P)), count-drop (is_sort_drop v) (owed s P))
+    omega (
+      arith,
+      none-owed s P v plain,
+      count-append (is_sort_drop v) (calls_for s P (Settle r w)) (drop 1 (owed s P)),
+      none-flushed v w (least_first s (waiting s w P)),
+      count-drop (is_sort_drop v) (owed s P),
+    )
 none-owed s (_ ∷ P) v plain = omega (arith, none-owed s P v plain, count-drop (is_sort_drop v) (owed s P))
 
 -- a node without a sort list drops no result

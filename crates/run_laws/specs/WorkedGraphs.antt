@@ -34,8 +34,16 @@ use Rattle.run_laws.specs.WorkedOutputs.{all_taken, out, mixed, out_twice}
 -- an empty array of this id, with one attribute
 abbrev gated : ℤ → ℤ → Array
 gated id gate =
-    record { id = id; stamp = 0; sec = pos 0; nsec = pos 0; kind = UInt8; dims = []; samples = [];
-    attrs = record { name = codes "Gate"; value = Whole gate } ∷ [] }
+    record {
+      id = id;
+      stamp = 0;
+      sec = pos 0;
+      nsec = pos 0;
+      kind = UInt8;
+      dims = [];
+      samples = [];
+      attrs = record { name = codes "Gate"; value = Whole gate } ∷ [];
+    }
 
 abbrev stack_of : List Array → StackValue
 stack_of arrays = record { shape = record { form = Classic; kind = UInt8; dims = []; attrs = []; width = 1; extras = [] }; arrays = arrays }

@@ -34,8 +34,15 @@ counters_of f l r b g ns = record { frames = f; offered = l + r; loaded = l; ref
 pub report-made : (p : Plan) (P : Past) (t : Tally) (ids : List ℤ) (last : ℤ) (driver : NodeCount) (d : NodeTally) (counts : List NodeCount) → IsTallied p P t
     → ids ≡ p.ids → last ≡ first_prev p.ids → driver ≡ finished last (get_or t.nodes.items 0 d)
     → counts ≡ map (finished last) (take (length t.nodes.items - 1) (drop 1 t.nodes.items))
-    → record { frames = length ids; offered = t.feed.loaded + t.feed.refused; loaded = t.feed.loaded; refused = t.feed.refused; breaks = driver.breaks;
-    regrown = t.feed.regrown; nodes = counts } ≡ report p P
+    → record {
+      frames = length ids;
+      offered = t.feed.loaded + t.feed.refused;
+      loaded = t.feed.loaded;
+      refused = t.feed.refused;
+      breaks = driver.breaks;
+      regrown = t.feed.regrown;
+      nodes = counts;
+    } ≡ report p P
 report-made p P t ids last driver d counts h same_ids same_last at_driver at_nodes =
     let s = plan_setting p in
     let ns = map (node_count s P) (node_numbers s) in

@@ -41,11 +41,13 @@ returns-in_ok-work_on-in-Job-clause-still g c =
 
 pub returns-in_ok-work_on-in-Job-clause-some : goal.returns-in_ok-work_on-in-Job-clause-some
 returns-in_ok-work_on-in-Job-clause-some g c =
-    λ some. omega (arith,
-    job-longer _ g.R.Run.graph g.R.Run.stack (g.B.BoardCalls.shown c.args.board.now) (g.B.BoardCalls.shown c.take.new.self) c.args.role c.args.node
-    c.in-Job.node c.requires.graph c.requires.node c.requires.role c.requires.idle c.in-Job.input c.in-Job.blank c.in-Job.ensures.gives,
-    moves-longer (run_setting g.R.Run.graph g.R.Run.stack) 0 (g.B.BoardCalls.shown c.take.new.self)
-    (g.B.BoardCalls.shown c.work_on.new.board) (c.work_on.ensures.moves 0))
+    λ some. omega (
+      arith,
+      job-longer _ g.R.Run.graph g.R.Run.stack (g.B.BoardCalls.shown c.args.board.now) (g.B.BoardCalls.shown c.take.new.self) c.args.role c.args.node
+          c.in-Job.node c.requires.graph c.requires.node c.requires.role c.requires.idle c.in-Job.input c.in-Job.blank c.in-Job.ensures.gives,
+      moves-longer (run_setting g.R.Run.graph g.R.Run.stack) 0 (g.B.BoardCalls.shown c.take.new.self)
+          (g.B.BoardCalls.shown c.work_on.new.board) (c.work_on.ensures.moves 0),
+    )
 
 pub returns-in-PoolDrop-clause-legal : goal.returns-in-PoolDrop-clause-legal
 returns-in-PoolDrop-clause-legal g c =

@@ -45,7 +45,14 @@ returns g c =
     let s = run_setting g.R.Run.graph g.R.Run.stack in
     record {
       all =
-          omega (arith, upto.all, c.loop-node-test.false, c.loop-node.auto.node-index-end, ap length c.as_slice-node-items.ensures, ap length c.requires.nodes,
-          length-map c.args.rules.now.nodes as_node);
+          omega (
+            arith,
+            upto.all,
+            c.loop-node-test.false,
+            c.loop-node.auto.node-index-end,
+            ap length c.as_slice-node-items.ensures,
+            ap length c.requires.nodes,
+            length-map c.args.rules.now.nodes as_node,
+          );
       each = upto.each;
     }

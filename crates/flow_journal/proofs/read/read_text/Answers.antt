@@ -18,6 +18,10 @@ loop-rest-preserved c =
           (whole-more c.args.text.now c.loop-rest.rest.now c.in-Some.after.now es c.in-Some.entry c.loop-rest.invariant.whole read.1);
       fit = subst (All Fits) items (All-more Fits es c.in-Some.entry c.loop-rest.invariant.fit read.0);
       few =
-          subst (λ (xs : List Entry). length xs + length c.in-Some.after.now ≤ length c.args.text.now) items (omega (arith,
-          length-append es (c.in-Some.entry ∷ []), fewer c.loop-rest.rest.now c.in-Some.after.now c.in-Some.entry read.1, c.loop-rest.invariant.few));
+          subst (λ (xs : List Entry). length xs + length c.in-Some.after.now ≤ length c.args.text.now) items (omega (
+            arith,
+            length-append es (c.in-Some.entry ∷ []),
+            fewer c.loop-rest.rest.now c.in-Some.after.now c.in-Some.entry read.1,
+            c.loop-rest.invariant.few,
+          ));
     }

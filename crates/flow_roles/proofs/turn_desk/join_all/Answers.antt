@@ -13,10 +13,11 @@ loop-pass-init g c =
 
 pub join-requires : goal.join-requires
 join-requires g c =
-    let j = c.loop-pass.invariant in
-    (j.own,
-    (All-pop (λ p. IsPassOf c.args.desk.now.id p.inner) c.loop-pass.passes.items c.pop-in-loop-pass.new.self.items
-    (Some c.in-Some.pass) c.in-Some.ensures.items j.ours).1.0)
+    let j = c.loop-pass.invariant in (
+      j.own,
+      (All-pop (λ p. IsPassOf c.args.desk.now.id p.inner) c.loop-pass.passes.items c.pop-in-loop-pass.new.self.items
+          (Some c.in-Some.pass) c.in-Some.ensures.items j.ours).1.0,
+    )
 
 pub loop-pass-preserved : goal.loop-pass-preserved
 loop-pass-preserved g c =

@@ -13,7 +13,7 @@ pub returns-clause-ours : goal.returns-clause-ours
 returns-clause-ours g c = (
   c.call.ensures.own ∙ c.requires.ours.0,
   calls-one (frames_of g.F.Named.name_of g.F.Held.parts g.F.Held.bytes_of (run_measure g.F.Of.Run.graph g.F.Of.Run.stack))
-  (run_setting g.F.Of.Run.graph g.F.Of.Run.stack)
+      (run_setting g.F.Of.Run.graph g.F.Of.Run.stack)
       c.args.op c.call.result c.args.pass.now c.call.new.pass c.requires.ours.1 c.call.ensures.call,
 )
 

@@ -37,7 +37,7 @@ save_rest-requires-clause-saving g c =
       (
         c.requires.left.1.0,
         drained-alone name_of g.R.Run.graph g.R.Run.stack c.requires.left.0 c.requires.left.1.0 c.tick-tick.result c.args.lefts.items
-        (g.B.BoardCalls.shown c.save_unsaved.new.board) (g.B.BoardCalls.shown c.drain.new.board) _ _ _
+            (g.B.BoardCalls.shown c.save_unsaved.new.board) (g.B.BoardCalls.shown c.drain.new.board) _ _ _
             c.drain.ensures.moves c.drain.ensures.legal
             (none-held (last_role s) (past (g.B.BoardCalls.shown c.drain.new.board)) c.in_ok-drain.ensures.done.free) ready,
       ),

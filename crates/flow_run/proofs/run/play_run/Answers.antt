@@ -118,11 +118,11 @@ finish_run-requires-clause-joined g c =
     let made = subst (λ ps. All (λ p. HasMade board (known_by p.inner p.last)) ps) c.gather-passes.ensures.passes c.take_back-board.ensures.moves in
     let all : length c.in_ok-nodes.nodes.items ≡ vec_len c.in_ok-nodes.nodes = search rules in (
       passes (λ p. IsPassOf c.in_ok-desk.desk.id p.inner) (λ p. known_by p.inner p.last) s
-      (c.run_roles-pass.new.feeder ∷ c.run_roles-pass.new.workers.items) (ap suc many) came c.run_roles-pass.result.pass,
+          (c.run_roles-pass.new.feeder ∷ c.run_roles-pass.new.workers.items) (ap suc many) came c.run_roles-pass.result.pass,
       (
         known_by c.run_roles-pass.result.pass.inner c.run_roles-pass.result.pass.last,
         subst (λ ls. IsJoined s board (passes (λ p. IsPassOf c.in_ok-desk.desk.id p.inner) (λ p. known_by p.inner p.last) s
-        (c.run_roles-pass.new.feeder ∷ c.run_roles-pass.new.workers.items) (ap suc many) came c.run_roles-pass.result.pass) ls
+            (c.run_roles-pass.new.feeder ∷ c.run_roles-pass.new.workers.items) (ap suc many) came c.run_roles-pass.result.pass) ls
             (known_by c.run_roles-pass.result.pass.inner c.run_roles-pass.result.pass.last)) (sym c.gather-passes.ensures.lefts)
             (joined-from (λ p. IsPassOf c.in_ok-desk.desk.id p.inner) (λ p. known_by p.inner p.last) s
             (c.run_roles-pass.new.feeder ∷ c.run_roles-pass.new.workers.items) (ap suc many) came c.run_roles-pass.result.pass board made
@@ -156,7 +156,7 @@ finish_run-requires-clause-left g c =
       (
         g.K.Shelf.held c.args.shelf.now,
         leaves-from g.R.Run.graph g.R.Run.stack c.requires.files.0 (g.K.Shelf.held c.args.shelf.now)
-        (known_by c.run_roles-pass.result.pass.inner c.run_roles-pass.result.pass.last) c.run_roles-pass.result.left
+            (known_by c.run_roles-pass.result.pass.inner c.run_roles-pass.result.pass.last) c.run_roles-pass.result.left
             c.run_roles-pass.result.files c.run_roles-pass.result.fault (g.K.Shelf.held c.run_roles-pass.new.shelf) board last c.take_back-board.ensures.legal
             c.take_back-board.ensures.drained (e.end.1.leaves c.requires.files.0 c.requires.files.1),
       ),

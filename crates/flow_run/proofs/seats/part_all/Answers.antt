@@ -11,7 +11,7 @@ loop-seat-preserved g c =
     let e = c.part_one.ensures in
     let fewer = ap length c.in-Some.ensures.steps.0 in (
       parting-on c.args.seats.items c.loop-seat.seat-iterator.rest.items c.args.passes.now.items c.loop-seat.passes.items c.args.lefts.now.items
-      c.loop-seat.lefts.items c.in-Some.seat c.next.new.self.rest.items
+          c.loop-seat.lefts.items c.in-Some.seat c.next.new.self.rest.items
           c.part_one.new.passes.items c.part_one.new.lefts.items c.in-Some.ensures.steps.0 e.passes e.lefts i.0,
       omega (arith, fewer, i.1, e.room.0, e.many.0),
       omega (arith, fewer, i.2, e.room.1, e.many.1),

@@ -10,7 +10,7 @@ for_each_mut-requires-clause-accepts g c κs within i p low is = (
   c.requires.graph,
   c.requires.stack,
   some-worker (λ q. IsPassOf c.args.desk.now.id q.inner)
-  (λ q. known_by q.inner q.last) g.R.Run.graph g.R.Run.stack c.args.seats.now c.requires.seats c.requires.ready i p.now low is,
+      (λ q. known_by q.inner q.last) g.R.Run.graph g.R.Run.stack c.args.seats.now c.requires.seats c.requires.ready i p.now low is,
 )
 
 pub returns-clause-back : goal.returns-clause-back

@@ -28,10 +28,17 @@ return_piece-requires-clause-held g c =
     let held = g.K.Shelf.held c.args.shelf.now in
     let b = g.B.BoardCalls.shown c.args.board.now in
     let stands = g.K.Shelf.held c.write_due.new.shelf in
-    let h = c.requires.unsaved in
-    (h.0,
-    (h.1.0, (stands, to-give-alone gr stack h.0 h.1.0 b xs c.write_due.new.files c.args.fault.now c.write_due.new.fault held stands c.args.due
-    h.1.1 c.in_ok-write_due.ensures.ok)))
+    let h = c.requires.unsaved in (
+      h.0,
+      (
+        h.1.0,
+        (
+          stands,
+          to-give-alone gr stack h.0 h.1.0 b xs c.write_due.new.files c.args.fault.now c.write_due.new.fault held stands c.args.due
+              h.1.1 c.in_ok-write_due.ensures.ok,
+        ),
+      ),
+    )
 
 pub returns-clause-saving : goal.returns-clause-saving
 returns-clause-saving g c =

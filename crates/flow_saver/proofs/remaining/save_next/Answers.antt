@@ -60,12 +60,13 @@ returns-in-NotYet-clause-rests g c =
     let b = g.B.BoardCalls.shown c.args.board.now in
     let mid = g.B.BoardCalls.shown c.save.new.self in
     let h = c.requires.saving in
-    λ x at.
-    (next-still gr stack c.requires.graph h.0 h.1.0 b mid xs c.args.fault.now held h.1.1 c.args.at c.node-node.result c.node-node.ensures c.requires.at (subst
-    (λ (r : ℕ). SaveGives {F = Sealed} name_of parts_of (run_setting gr stack) b r c.node-node.result NotYet mid) c.requires.role c.in-NotYet.ensures.gives),
-    subst (λ (v : ℕ). unsaved (run_setting gr stack) v (past mid) ≡ []) (c.node-node.ensures x at) (next-empty gr stack c.requires.graph h.0 h.1.0 b mid xs
-    c.args.fault.now held h.1.1 c.args.at c.node-node.result c.node-node.ensures c.requires.at c.requires.drained (subst
-    (λ (r : ℕ). SaveGives {F = Sealed} name_of parts_of (run_setting gr stack) b r c.node-node.result NotYet mid) c.requires.role c.in-NotYet.ensures.gives)))
+    λ x at. (
+      next-still gr stack c.requires.graph h.0 h.1.0 b mid xs c.args.fault.now held h.1.1 c.args.at c.node-node.result c.node-node.ensures c.requires.at (subst
+          (λ (r : ℕ). SaveGives {F = Sealed} name_of parts_of (run_setting gr stack) b r c.node-node.result NotYet mid) c.requires.role c.in-NotYet.ensures.gives),
+      subst (λ (v : ℕ). unsaved (run_setting gr stack) v (past mid) ≡ []) (c.node-node.ensures x at) (next-empty gr stack c.requires.graph h.0 h.1.0 b mid xs
+          c.args.fault.now held h.1.1 c.args.at c.node-node.result c.node-node.ensures c.requires.at c.requires.drained (subst
+          (λ (r : ℕ). SaveGives {F = Sealed} name_of parts_of (run_setting gr stack) b r c.node-node.result NotYet mid) c.requires.role c.in-NotYet.ensures.gives)),
+    )
 
 pub returns-in-NotYet-clause-moves : goal.returns-in-NotYet-clause-moves
 returns-in-NotYet-clause-moves g c =
@@ -117,14 +118,26 @@ return_piece-requires-clause-held g c =
     let held = g.K.Shelf.held c.args.shelf.now in
     let b = g.B.BoardCalls.shown c.args.board.now in
     let mid = g.B.BoardCalls.shown c.save.new.self in
-    let h = c.requires.saving in
-    (h.0,
-    (h.1.0, ((g.K.Shelf.held c.write_due.new.shelf), to-give-alone gr stack h.0 h.1.0 mid xs c.write_due.new.files c.args.fault.now c.write_due.new.fault held
-    (g.K.Shelf.held c.write_due.new.shelf) (record { piece = c.in-Piece.input; at = c.args.at; group = c.in-Piece.group; place = c.in-Piece.place;
-    of = c.in-Piece.of }) (next-taken gr stack c.requires.graph h.0 h.1.0 b mid xs c.args.fault.now held h.1.1 c.args.at c.node-node.result c.node-node.ensures
-    c.requires.at c.in-Piece.input c.in-Piece.group c.in-Piece.place c.in-Piece.of (subst (λ (r : ℕ). SaveGives {F = Sealed} name_of parts_of
-    (run_setting gr stack) b r c.node-node.result (Piece c.in-Piece.input c.in-Piece.group c.in-Piece.place c.in-Piece.of) mid) c.requires.role
-    c.in-Piece.ensures.gives) c.requires.kept.few) c.in-Ok.ensures.ok)))
+    let h = c.requires.saving in (
+      h.0,
+      (
+        h.1.0,
+        (
+          (g.K.Shelf.held c.write_due.new.shelf),
+          to-give-alone gr stack h.0 h.1.0 mid xs c.write_due.new.files c.args.fault.now c.write_due.new.fault held
+              (g.K.Shelf.held c.write_due.new.shelf) (record {
+                piece = c.in-Piece.input;
+                at = c.args.at;
+                group = c.in-Piece.group;
+                place = c.in-Piece.place;
+                of = c.in-Piece.of;
+              }) (next-taken gr stack c.requires.graph h.0 h.1.0 b mid xs c.args.fault.now held h.1.1 c.args.at c.node-node.result c.node-node.ensures
+              c.requires.at c.in-Piece.input c.in-Piece.group c.in-Piece.place c.in-Piece.of (subst (λ (r : ℕ). SaveGives {F = Sealed} name_of parts_of
+              (run_setting gr stack) b r c.node-node.result (Piece c.in-Piece.input c.in-Piece.group c.in-Piece.place c.in-Piece.of) mid) c.requires.role
+              c.in-Piece.ensures.gives) c.requires.kept.few) c.in-Ok.ensures.ok,
+        ),
+      ),
+    )
 
 pub returns-in-Ok-clause-leaves : goal.returns-in-Ok-clause-leaves
 returns-in-Ok-clause-leaves g c =
@@ -168,15 +181,15 @@ returns-in-Ok-clause-rests g c =
     c.requires.kept.few) c.in-Ok.ensures.ok) in
     λ x at. subst (λ (v : ℕ). StepRests (run_setting gr stack) v Wrote b new) (c.node-node.ensures x at) (
       next-drained gr stack c.requires.graph h.0 h.1.0 b mid xs c.args.fault.now held h.1.1 c.args.at c.node-node.result c.node-node.ensures c.requires.at
-      c.in-Piece.input c.in-Piece.group c.in-Piece.place c.in-Piece.of (subst (λ (r : ℕ). SaveGives {F = Sealed} name_of parts_of (run_setting gr stack) b r
-      c.node-node.result (Piece c.in-Piece.input c.in-Piece.group c.in-Piece.place c.in-Piece.of) mid) c.requires.role c.in-Piece.ensures.gives)
-      new is after.legal c.requires.drained,
+          c.in-Piece.input c.in-Piece.group c.in-Piece.place c.in-Piece.of (subst (λ (r : ℕ). SaveGives {F = Sealed} name_of parts_of (run_setting gr stack) b r
+          c.node-node.result (Piece c.in-Piece.input c.in-Piece.group c.in-Piece.place c.in-Piece.of) mid) c.requires.role c.in-Piece.ensures.gives)
+          new is after.legal c.requires.drained,
       next-longer gr stack c.requires.graph h.0 h.1.0 b mid xs c.args.fault.now held h.1.1 c.args.at c.node-node.result c.node-node.ensures c.requires.at
-      c.in-Piece.input c.in-Piece.group c.in-Piece.place c.in-Piece.of (subst (λ (r : ℕ). SaveGives {F = Sealed} name_of parts_of (run_setting gr stack) b r
-      c.node-node.result (Piece c.in-Piece.input c.in-Piece.group c.in-Piece.place c.in-Piece.of) mid) c.requires.role c.in-Piece.ensures.gives) new is,
+          c.in-Piece.input c.in-Piece.group c.in-Piece.place c.in-Piece.of (subst (λ (r : ℕ). SaveGives {F = Sealed} name_of parts_of (run_setting gr stack) b r
+          c.node-node.result (Piece c.in-Piece.input c.in-Piece.group c.in-Piece.place c.in-Piece.of) mid) c.requires.role c.in-Piece.ensures.gives) new is,
       next-others gr stack c.requires.graph h.0 h.1.0 b mid xs c.args.fault.now held h.1.1 c.args.at c.node-node.result c.node-node.ensures c.requires.at
-      c.in-Piece.input c.in-Piece.group c.in-Piece.place c.in-Piece.of (subst (λ (r : ℕ). SaveGives {F = Sealed} name_of parts_of (run_setting gr stack) b r
-      c.node-node.result (Piece c.in-Piece.input c.in-Piece.group c.in-Piece.place c.in-Piece.of) mid) c.requires.role c.in-Piece.ensures.gives) new is,
+          c.in-Piece.input c.in-Piece.group c.in-Piece.place c.in-Piece.of (subst (λ (r : ℕ). SaveGives {F = Sealed} name_of parts_of (run_setting gr stack) b r
+          c.node-node.result (Piece c.in-Piece.input c.in-Piece.group c.in-Piece.place c.in-Piece.of) mid) c.requires.role c.in-Piece.ensures.gives) new is,
     )
 
 pub returns-in-Ok-clause-moves : goal.returns-in-Ok-clause-moves
@@ -215,8 +228,13 @@ returns-in-Ok-clause-legal g c =
     let mid = g.B.BoardCalls.shown c.save.new.self in
     let h = c.requires.saving in
     (c.return_piece.ensures.given h.0 h.1.0 (g.K.Shelf.held c.write_due.new.shelf) (to-give-alone gr stack h.0 h.1.0 mid xs c.write_due.new.files
-    c.args.fault.now c.write_due.new.fault held (g.K.Shelf.held c.write_due.new.shelf) (record { piece = c.in-Piece.input; at = c.args.at;
-    group = c.in-Piece.group; place = c.in-Piece.place; of = c.in-Piece.of }) (next-taken gr stack c.requires.graph h.0 h.1.0 b mid xs c.args.fault.now held
+    c.args.fault.now c.write_due.new.fault held (g.K.Shelf.held c.write_due.new.shelf) (record {
+      piece = c.in-Piece.input;
+      at = c.args.at;
+      group = c.in-Piece.group;
+      place = c.in-Piece.place;
+      of = c.in-Piece.of;
+    }) (next-taken gr stack c.requires.graph h.0 h.1.0 b mid xs c.args.fault.now held
     h.1.1 c.args.at c.node-node.result c.node-node.ensures c.requires.at c.in-Piece.input c.in-Piece.group c.in-Piece.place c.in-Piece.of
     (subst (λ (r : ℕ). SaveGives {F = Sealed} name_of parts_of (run_setting gr stack) b r c.node-node.result (Piece c.in-Piece.input c.in-Piece.group
     c.in-Piece.place c.in-Piece.of) mid) c.requires.role c.in-Piece.ensures.gives) c.requires.kept.few) c.in-Ok.ensures.ok)).legal

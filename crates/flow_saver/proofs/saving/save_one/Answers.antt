@@ -40,11 +40,18 @@ write_due-requires-clause-unsaved g c =
     let xs = c.args.files.now in
     let held = g.K.Shelf.held c.args.shelf.now in
     let p = g.D.Desk.knows c.args.pass.now in
-    let q = g.D.Desk.knows c.save.new.pass in
-    (c.requires.saving.0,
-    (c.args.role, (q, one-taken gr stack c.requires.graph c.requires.saving.0 c.args.role c.requires.role p q xs c.args.fault.now held _ c.requires.saving.1
-    c.args.at c.node-node.result c.node-node.ensures c.requires.at c.requires.kept.few c.in-Piece.input c.in-Piece.group c.in-Piece.place
-    c.in-Piece.of c.in-Piece.ensures.called)))
+    let q = g.D.Desk.knows c.save.new.pass in (
+      c.requires.saving.0,
+      (
+        c.args.role,
+        (
+          q,
+          one-taken gr stack c.requires.graph c.requires.saving.0 c.args.role c.requires.role p q xs c.args.fault.now held _ c.requires.saving.1
+              c.args.at c.node-node.result c.node-node.ensures c.requires.at c.requires.kept.few c.in-Piece.input c.in-Piece.group c.in-Piece.place
+              c.in-Piece.of c.in-Piece.ensures.called,
+        ),
+      ),
+    )
 
 pub give_back-requires-clause-held : goal.give_back-requires-clause-held
 give_back-requires-clause-held g c =
@@ -53,11 +60,13 @@ give_back-requires-clause-held g c =
     let xs = c.args.files.now in
     let held = g.K.Shelf.held c.args.shelf.now in
     let p = g.D.Desk.knows c.args.pass.now in
-    let q = g.D.Desk.knows c.save.new.pass in
-    (c.requires.saving.0, g.K.Shelf.held c.write_due.new.shelf,
-    c.in-Ok.ensures.ok c.requires.saving.0 c.args.role q (one-taken gr stack c.requires.graph c.requires.saving.0 c.args.role c.requires.role p q xs
-    c.args.fault.now held _ c.requires.saving.1 c.args.at c.node-node.result c.node-node.ensures c.requires.at c.requires.kept.few c.in-Piece.input
-    c.in-Piece.group c.in-Piece.place c.in-Piece.of c.in-Piece.ensures.called))
+    let q = g.D.Desk.knows c.save.new.pass in (
+      c.requires.saving.0,
+      g.K.Shelf.held c.write_due.new.shelf,
+      c.in-Ok.ensures.ok c.requires.saving.0 c.args.role q (one-taken gr stack c.requires.graph c.requires.saving.0 c.args.role c.requires.role p q xs
+          c.args.fault.now held _ c.requires.saving.1 c.args.at c.node-node.result c.node-node.ensures c.requires.at c.requires.kept.few c.in-Piece.input
+          c.in-Piece.group c.in-Piece.place c.in-Piece.of c.in-Piece.ensures.called),
+    )
 
 pub returns-in-Ok-clause-leaves : goal.returns-in-Ok-clause-leaves
 returns-in-Ok-clause-leaves g c =

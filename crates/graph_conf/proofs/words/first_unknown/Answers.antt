@@ -34,6 +34,9 @@ loop-key-preserved c =
     let known = c.args.known.now in
     let e : Entry = (c.in-Some.key.now, c.in-Some.field-0-1.now) in
     let iter : c.loop-key.key-iterator ≡ e ∷ c.next.new.self = grind (arith, common_steps) in
-    let present : list_any (λ k. bytes_eq (string_bytes e.0) k.now) known ≡ true = grind (arith, common_steps) in
-    (tt, tt, sym (past_known known e c.next.new.self present) ∙ sym (ap (λ es. first_unknown (map (λ k. k.now) known) (members_view es)) iter) ∙ same,
-    (rising e c.next.new.self (rw iter at sorted)).1)
+    let present : list_any (λ k. bytes_eq (string_bytes e.0) k.now) known ≡ true = grind (arith, common_steps) in (
+      tt,
+      tt,
+      sym (past_known known e c.next.new.self present) ∙ sym (ap (λ es. first_unknown (map (λ k. k.now) known) (members_view es)) iter) ∙ same,
+      (rising e c.next.new.self (rw iter at sorted)).1,
+    )

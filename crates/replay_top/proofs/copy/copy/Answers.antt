@@ -9,9 +9,12 @@ use Rattle.replay_top.proofs.Stops.{Ends-save, Ends-print}
 use Rattle.replay_top.proofs.copy.copy.Goals as goal
 
 pub returns-in-Some-clause-ends : goal.returns-in-Some-clause-ends
-returns-in-Some-clause-ends g c =
-    (passed-copy _ c.args.name.now c.args.prefix.now (record { graph = copy_graph; stack = c.in-Ok.stack }) c.in-Some.fault c.in-Ok.ensures.ok.source
-    (sym c.in-Some.ensures), refl, refl)
+returns-in-Some-clause-ends g c = (
+  passed-copy _ c.args.name.now c.args.prefix.now (record { graph = copy_graph; stack = c.in-Ok.stack }) c.in-Some.fault c.in-Ok.ensures.ok.source
+      (sym c.in-Some.ensures),
+  refl,
+  refl,
+)
 
 pub returns-in-Err-save_copy-clause-ends : goal.returns-in-Err-save_copy-clause-ends
 returns-in-Err-save_copy-clause-ends g c =

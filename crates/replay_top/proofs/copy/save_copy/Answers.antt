@@ -7,7 +7,7 @@ pub returns-in-Err-Failed-clause-err : goal.returns-in-Err-Failed-clause-err
 returns-in-Err-Failed-clause-err g c =
     let name : c.as_str.result.now ≡ copy_name c.args.prefix.now = c.as_str.ensures.value ∙ c.in-Ok.ensures.ok in (
       AreBegun-copy (g.K.Shelf.held c.args.shelf.now) _ c.args.prefix.now c.args.stack.now
-      (rw c.frames.ensures at c.if-frames-eq0.false) (rw name at c.in-Err-Failed.ensures.err),
+          (rw c.frames.ensures at c.if-frames-eq0.false) (rw name at c.in-Err-Failed.ensures.err),
       rw c.in-Err-Failed.field-0-is at c.in-Err-Failed.ensures.cause,
     )
 
@@ -15,6 +15,6 @@ pub returns-clause-err : goal.returns-clause-err
 returns-clause-err g c =
     let name : c.as_str.result.now ≡ copy_name c.args.prefix.now = c.as_str.ensures.value ∙ c.in-Ok.ensures.ok in (
       AreBegun-copy (g.K.Shelf.held c.args.shelf.now) _ c.args.prefix.now c.args.stack.now
-      (rw c.frames.ensures at c.if-frames-eq0.false) (rw name at c.in-Err-OutOfMemory.ensures.err),
+          (rw c.frames.ensures at c.if-frames-eq0.false) (rw name at c.in-Err-OutOfMemory.ensures.err),
       rw c.in-Err-OutOfMemory.field-0-is at c.in-Err-OutOfMemory.ensures.cause,
     )

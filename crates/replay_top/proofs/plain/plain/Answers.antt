@@ -19,7 +19,7 @@ returns-in-Err-check_load-clause-ends g c =
     let is : limit_fault graph stack ≡ Some c.in-Err-check_load.fault =
     fault_in (limit_fault graph stack) c.in-Err-check_load.fault c.in-Err-check_load.ensures in (
       passed-run told (Plain c.args.graph.now c.args.name.now c.args.prefix.now)
-      (record { graph = graph; stack = stack }) c.in-Err-check_load.fault (rules, source) is is,
+          (record { graph = graph; stack = stack }) c.in-Err-check_load.fault (rules, source) is is,
       refl,
       refl,
     )

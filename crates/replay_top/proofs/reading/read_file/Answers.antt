@@ -20,6 +20,8 @@ returns-clause-bytes g c =
     whole_read c.truncate.new.self.items buf file count (length buf) is read.within len (read.bytes file told_then) (read.end file told_then))
 
 pub returns-then-size-limit-clause-refused : goal.returns-then-size-limit-clause-refused
-returns-then-size-limit-clause-refused g c =
-    (c.if-size-limit.true, sized (g.L.Library.holds c.args.library.now) c.args.name.now c.in_ok-size.size c.in_ok-size.ensures.known c.in_ok-size.ensures.size,
-    c.in_ok-size.ensures.cause)
+returns-then-size-limit-clause-refused g c = (
+  c.if-size-limit.true,
+  sized (g.L.Library.holds c.args.library.now) c.args.name.now c.in_ok-size.size c.in_ok-size.ensures.known c.in_ok-size.ensures.size,
+  c.in_ok-size.ensures.cause,
+)

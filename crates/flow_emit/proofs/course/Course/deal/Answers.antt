@@ -18,8 +18,14 @@ place_after-turn-requires-clause-few g c =
     let s = run_setting g.F.Of.Run.graph g.F.Of.Run.stack in
     let kids : c.children_of.result.now ≡ children s c.args.from =
     c.children_of.ensures ∙ c.self.invariant.ruled.children c.args.from (node-number s c.args.from c.requires.node) in
-    omega (arith, ap (length {A = ℕ}) kids, few-children s c.args.from, c.self.invariant.ruled.few_nodes, ap length c.self.invariant.ruled.nodes,
-    length-map c.self.inside.rules.nodes as_node)
+    omega (
+      arith,
+      ap (length {A = ℕ}) kids,
+      few-children s c.args.from,
+      c.self.invariant.ruled.few_nodes,
+      ap length c.self.invariant.ruled.nodes,
+      length-map c.self.inside.rules.nodes as_node,
+    )
 
 pub has_room-requires : goal.has_room-requires
 has_room-requires g c =

@@ -22,9 +22,11 @@ leave_node-requires-clause-legal g c =
 pub pass_on-requires-clause-from : goal.pass_on-requires-clause-from
 pass_on-requires-clause-from g c =
     elim c.if-from-eq0.branch [
-      | then-from-eq0 w ↦
-          (c.args.why, c.args.self.now.told,
-          ap (λ (v : Coursed). v.told) (w.self-is ∙ w.leave_driver.ensures)
-          ∙ ap (λ (u : ℕ). plain (Emit u c.args.name.maker c.args.name.index c.args.why) ∷ c.args.self.now.told) (sym w.if-from-eq0.true))
+      | then-from-eq0 w ↦ (
+        c.args.why,
+        c.args.self.now.told,
+        ap (λ (v : Coursed). v.told) (w.self-is ∙ w.leave_driver.ensures)
+            ∙ ap (λ (u : ℕ). plain (Emit u c.args.name.maker c.args.name.index c.args.why) ∷ c.args.self.now.told) (sym w.if-from-eq0.true),
+      )
       | else-from-eq0 w ↦ (c.args.why, c.args.self.now.told, ap (λ (v : Coursed). v.told) (w.self-is ∙ w.leave_node.ensures))
     ]

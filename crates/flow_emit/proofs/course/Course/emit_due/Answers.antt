@@ -116,8 +116,11 @@ returns-in_default-clause-none g c =
     c.from-sort_time.ensures ∙ (ap (λ (x : NodeRules). x.sort_time) (sym c.index-as_slice-place.is) ∙ sym (ap (λ (x : Node). x.sort_time) rule)) in
     let told = c.args.self.now.told in
     let here : past told ≡ log_of k = ap (λ (v : Coursed). past v.told) view in
-    λ e. (ap (λ (v : Coursed). look s c.args.node (past v.told)) view ∙ stays-looks m s c.args.node
-    (log_of k) n a.facts.tick c.from-sort_time.result node c.requires.sorted time wait (c.let_out.ensures.none c.in_default.is).0, c.self.view_is)
+    λ e. (
+      ap (λ (v : Coursed). look s c.args.node (past v.told)) view ∙ stays-looks m s c.args.node
+          (log_of k) n a.facts.tick c.from-sort_time.result node c.requires.sorted time wait (c.let_out.ensures.none c.in_default.is).0,
+      c.self.view_is,
+    )
 
 pub push-requires-clause-room : goal.push-requires-clause-room
 push-requires-clause-room g c =
@@ -201,8 +204,11 @@ invariant_of-self-2 g c =
     let last : y.list.last ≡ id_at s name.index = out.last ∙ (ap (λ (w : Listed Kept). w.id) f.first ∙ ap (λ (b : FrameName). id_at s b.index) name_is) in
     let items = out.items ∙ ap (λ o. n.measures.items ++ listed o) (ap (λ (w : Listed Kept). w.item.measured) f.first ∙ ap (m v) name_is) in
     let has : HasBlock P name = subst (HasBlock P) name_is (waiting-block s v P f.least f.others i.legal f.order) in
-    course-as m s (record k { log = record k.log { told = plain (Emit v name.maker name.index why) ∷ k.log.told };
-    nodes = set k.nodes (v - 1) (record n { list = y.list; measures = y.measures }); transit = name ∷ [] })
+    course-as m s (record k {
+      log = record k.log { told = plain (Emit v name.maker name.index why) ∷ k.log.told };
+      nodes = set k.nodes (v - 1) (record n { list = y.list; measures = y.measures });
+      transit = name ∷ [];
+    })
     _ _ _ _ _ _ _ _ (sym c.push.ensures) (ap (set k.nodes (v - 1)) (sym out.changed)) refl refl refl refl
     (sym (c.push_back_reserved.ensures.items ∙ ap (λ (ts : List FrameName). ts ++ name ∷ []) still)) (sym c.push_back_reserved.ensures.capacity)
     (emitted_from_list_at m s k v (v - 1) name.maker name.index why n y q.0 i first.1 at c.requires.sorted still has out.size last waits items

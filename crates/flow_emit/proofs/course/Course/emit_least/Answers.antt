@@ -118,8 +118,11 @@ invariant_of-self-2 g c =
     let last : y.list.last ≡ id_at s name.index = out.last ∙ (ap (λ (w : Listed Kept). w.id) f.first ∙ ap (λ (b : FrameName). id_at s b.index) name_is) in
     let items = out.items ∙ ap (λ o. n.measures.items ++ listed o) (ap (λ (w : Listed Kept). w.item.measured) f.first ∙ ap (m v) name_is) in
     let has : HasBlock P name = subst (HasBlock P) name_is (waiting-block s v P f.least f.others i.legal f.order) in
-    course-as m s (record k { log = record k.log { told = plain (Emit v name.maker name.index Flush) ∷ k.log.told };
-    nodes = set k.nodes (v - 1) (record n { list = y.list; measures = y.measures }); transit = name ∷ [] })
+    course-as m s (record k {
+      log = record k.log { told = plain (Emit v name.maker name.index Flush) ∷ k.log.told };
+      nodes = set k.nodes (v - 1) (record n { list = y.list; measures = y.measures });
+      transit = name ∷ [];
+    })
     _ _ _ _ _ _ _ _ (sym c.push.ensures) (ap (set k.nodes (v - 1)) (sym out.changed)) refl refl refl refl
     (sym (c.push_back_reserved.ensures.items ∙ ap (λ (ts : List FrameName). ts ++ name ∷ []) still)) (sym c.push_back_reserved.ensures.capacity)
     (emitted_from_list_at m s k v (v - 1) name.maker name.index Flush n y q.0 i first.1 at c.requires.sorted still has out.size last waits items

@@ -20,8 +20,17 @@ invariant_of-result g c =
     c.in_ok-blocks.ensures
     ∙ (ap (λ (ns : List NodeRules). replicate ((length ns + 1) * length c.as_slice-2.result.now) 0) c.as_slice.ensures
     ∙ ap (λ (ids : List ℤ). replicate ((length ru.nodes + 1) * length ids) 0) c.as_slice-2.ensures) in
-    course-as m s (record { log = empty_log (most_entries s) last; rules = ru; nodes = c.in_ok-nodes.nodes.items; roles = c.in_ok-roles.roles.items;
-    pool = empty_ledger ru.limit 0; blocks = c.in_ok-blocks.blocks.items; facts = facts_of []; transit = []; room = 4097 })
+    course-as m s (record {
+      log = empty_log (most_entries s) last;
+      rules = ru;
+      nodes = c.in_ok-nodes.nodes.items;
+      roles = c.in_ok-roles.roles.items;
+      pool = empty_ledger ru.limit 0;
+      blocks = c.in_ok-blocks.blocks.items;
+      facts = facts_of [];
+      transit = [];
+      room = 4097;
+    })
     _ _ _ _ _ _ _ _ (sym (c.in_ok-log.ensures ∙ ap (λ n. empty_log n last) (c.most_entries.ensures s ruled))) refl refl (sym c.in_ok-pool.ensures) refl
     (sym c.none.ensures) (sym c.in_ok-transit.ensures.items) (sym c.in_ok-transit.ensures.exact)
     (course-none m s ru c.in_ok-nodes.nodes.items c.in_ok-roles.roles.items c.in_ok-blocks.blocks.items last ruled c.in_ok-nodes.ensures

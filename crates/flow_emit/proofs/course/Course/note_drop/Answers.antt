@@ -110,8 +110,12 @@ invariant_of-self g c =
     let legal : is_legal s (PoolDrop r v a.maker a.index rule.need c.held-held.result ∷ log_of k) ≡ true =
     subst (λ (j : ℕ). is_legal s (PoolDrop r v a.maker a.index j c.held-held.result ∷ log_of k) ≡ true) (sym need)
     (subst (λ (j : ℕ). is_legal s (PoolDrop r v a.maker a.index (s.need v) j ∷ log_of k) ≡ true) (sym there) drop_legal) in
-    course-as m s (record k { log = record k.log { told = plain (PoolDrop r v a.maker a.index rule.need c.held-held.result) ∷ k.log.told };
-    nodes = set k.nodes (v - 1) (record n { inbox = without_front n.inbox }); facts = record k.facts { dropped = k.facts.dropped + 1 }; transit = a ∷ [] })
+    course-as m s (record k {
+      log = record k.log { told = plain (PoolDrop r v a.maker a.index rule.need c.held-held.result) ∷ k.log.told };
+      nodes = set k.nodes (v - 1) (record n { inbox = without_front n.inbox });
+      facts = record k.facts { dropped = k.facts.dropped + 1 };
+      transit = a ∷ [];
+    })
     _ _ _ _ _ _ _ _ (sym c.push.ensures)
     (ap (λ (b : InboxState FrameName). set k.nodes (v - 1) (record n { inbox = b })) (sym c.pop.ensures.rest)) refl refl refl refl
     (sym (c.push_back_reserved.ensures.items ∙ ap (λ (ts : List FrameName). ts ++ a ∷ []) still)) (sym c.push_back_reserved.ensures.capacity)

@@ -42,8 +42,12 @@ invariant_of-self g c =
     let x = c.index_mut.result.now in
     let a = frame 0 j in
     let p = load-held s k c.args.self.now r j c.self.view_is h.hand in
-    course-as m s (record k { log = record k.log { told = plain (Issue r j) ∷ k.log.told }; roles = set k.roles r (record x { hand = Free });
-    facts = record k.facts { loaded = false }; transit = a ∷ [] })
+    course-as m s (record k {
+      log = record k.log { told = plain (Issue r j) ∷ k.log.told };
+      roles = set k.roles r (record x { hand = Free });
+      facts = record k.facts { loaded = false };
+      transit = a ∷ [];
+    })
     _ _ _ _ _ _ _ _ (sym c.push.ensures) refl refl refl refl refl
     (sym (c.push_back_reserved.ensures.items ∙ ap (λ (ts : List FrameName). ts ++ a ∷ []) still)) (sym c.push_back_reserved.ensures.capacity)
     (issued m s k r j x r p.0 p.1 p.2 p.3 p.4 i legal (role-found m s k r x i h.role c.index_mut.ensures.value) still p.5)

@@ -100,9 +100,14 @@ invariant_of-self-2 g c =
     let x = c.index_mut-2.result.now in
     let p : Ledger = c.take_grant.new.pool in
     let place : place_of s (frame 0 j) ≡ j = omega arith in
-    course-as m s (record k { log = record k.log { told = plain (Load r j b z f y w) ∷ k.log.told };
-    roles = set k.roles r (record x { hand = Loaded j (record { number = b; size = z }) }); pool = p; blocks = set k.blocks (place_of s (frame 0 j)) b;
-    facts = record k.facts { offered = k.facts.offered + 1; loaded = true }; transit = [] })
+    course-as m s (record k {
+      log = record k.log { told = plain (Load r j b z f y w) ∷ k.log.told };
+      roles = set k.roles r (record x { hand = Loaded j (record { number = b; size = z }) });
+      pool = p;
+      blocks = set k.blocks (place_of s (frame 0 j)) b;
+      facts = record k.facts { offered = k.facts.offered + 1; loaded = true };
+      transit = [];
+    })
     _ _ _ _ _ _ _ _ (sym c.push.ensures) refl refl refl (ap (λ (l : ℕ). set k.blocks l b) place) refl (sym still) refl
     (loaded m s k r j b z f y w x p i legal (role-found m s k r x i h.role c.index_mut-2.ensures.value) still
     (load-account m s k r j b z f y w p i still legal c.in_ok-take_grant.ensures.taken))

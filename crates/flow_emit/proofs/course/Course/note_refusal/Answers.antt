@@ -57,8 +57,10 @@ invariant_of-self g c =
     (subst (λ (j : ℕ). is_legal s (LoadRefused r (next_index P) j c.held-held.result ∷ log_of k) ≡ true) (sym need)
     (subst (λ (j : ℕ). is_legal s (LoadRefused r (next_index P) (s.need 0) j ∷ log_of k) ≡ true) (sym there)
     (may-refuse {B = g.row.F-Blank.Denot} s k c.args.self.now r c.self.view_is i.ruled.pooled h.history h.role h.allowed h.refused))) in
-    course-as m s (record k { log = record k.log { told = plain (LoadRefused r k.facts.offered k.rules.need c.held-held.result) ∷ k.log.told };
-    facts = record k.facts { offered = k.facts.offered + 1 } })
+    course-as m s (record k {
+      log = record k.log { told = plain (LoadRefused r k.facts.offered k.rules.need c.held-held.result) ∷ k.log.told };
+      facts = record k.facts { offered = k.facts.offered + 1 };
+    })
     _ _ _ _ _ _ _ _ (sym c.push.ensures) refl refl refl refl refl refl refl
     (refused m s k r k.facts.offered k.rules.need c.held-held.result i legal)
 

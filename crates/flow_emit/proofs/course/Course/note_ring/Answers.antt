@@ -106,8 +106,11 @@ invariant_of-self g c =
     let has = has-ring m s k v n i c.requires.node at c.requires.kind unsettled in
     let y = record n { window = c.give_up_ring.new.window } in
     let few : length (ring s v (log_of k)) ≤ 4097 = omega (arith, ap (length {A = FrameName}) has.same, has.few) in
-    course-as m s (record k { log = record k.log { told = plain (Settle r v) ∷ k.log.told };
-    nodes = set k.nodes (v - 1) (record n { settled = true; window = y.window }); transit = ring s v (log_of k) })
+    course-as m s (record k {
+      log = record k.log { told = plain (Settle r v) ∷ k.log.told };
+      nodes = set k.nodes (v - 1) (record n { settled = true; window = y.window });
+      transit = ring s v (log_of k);
+    })
     _ _ _ _ _ _ _ _ (sym c.push.ensures) refl refl refl refl refl (sym (c.give_up_ring.ensures.items ∙ has.same)) (sym c.give_up_ring.ensures.capacity)
     (settled_with_at m s k v r (v - 1) n y q.0 i legal at still c.give_up_ring.ensures.ring c.give_up_ring.ensures.pending few)
 

@@ -99,8 +99,13 @@ invariant_of-self g c =
     let x = c.index_mut-2.result.now in
     let n = c.index_mut.result.now in
     course-as m s
-    (record k { log = record k.log { told = plain (Saved r v a.maker a.index) ∷ k.log.told }; nodes = set k.nodes (v - 1) (record n { saving = false });
-    roles = set k.roles r (record x { hand = Free }); facts = record k.facts { saved = k.facts.saved + 1 }; transit = a ∷ [] })
+    (record k {
+      log = record k.log { told = plain (Saved r v a.maker a.index) ∷ k.log.told };
+      nodes = set k.nodes (v - 1) (record n { saving = false });
+      roles = set k.roles r (record x { hand = Free });
+      facts = record k.facts { saved = k.facts.saved + 1 };
+      transit = a ∷ [];
+    })
     _ _ _ _ _ _ _ _ (sym c.push.ensures) refl refl refl refl refl
     (sym (c.push_back_reserved.ensures.items ∙ ap (λ (ts : List FrameName). ts ++ a ∷ []) still)) (sym c.push_back_reserved.ensures.capacity)
     (saved_one_at m s k v r (v - 1) a.maker a.index r p.0 x n (place-of s v here).0 i legal (role-found m s k r x i h.role c.index_mut-2.ensures.value)

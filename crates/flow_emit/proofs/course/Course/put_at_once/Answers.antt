@@ -57,8 +57,10 @@ returns-then-makes g c =
     c.requires.unsorted c.result_name-made.ensures c.put_plain.ensures c.emit.ensures in
     c.release.ensures
     ∙ (ap (λ (w : Coursed). record w { transit = drop 1 w.transit }) out
-    ∙ ap (λ (ts : List FrameName). record c.args.self.now { told = moved s (plain (put_of s c.args.role v c.args.name c.args.fired)) c.args.self.now.told;
-    transit = ts }) (none ∙ sym c.requires.still))
+    ∙ ap (λ (ts : List FrameName). record c.args.self.now {
+      told = moved s (plain (put_of s c.args.role v c.args.name c.args.fired)) c.args.self.now.told;
+      transit = ts;
+    }) (none ∙ sym c.requires.still))
 
 pub returns-else-makes : goal.returns-else-makes
 returns-else-makes g c =
@@ -70,5 +72,7 @@ returns-else-makes g c =
     emitted-put s v c.args.role c.args.name c.result_name-made.result c.args.fired c.args.self.now c.put_plain.new.self c.emit.new.self c.requires.kind
     c.requires.unsorted c.result_name-made.ensures c.put_plain.ensures c.emit.ensures in
     out
-    ∙ ap (λ (ts : List FrameName). record c.args.self.now { told = moved s (plain (put_of s c.args.role v c.args.name c.args.fired)) c.args.self.now.told;
-    transit = ts }) (none ∙ sym c.requires.still)
+    ∙ ap (λ (ts : List FrameName). record c.args.self.now {
+      told = moved s (plain (put_of s c.args.role v c.args.name c.args.fired)) c.args.self.now.told;
+      transit = ts;
+    }) (none ∙ sym c.requires.still)

@@ -171,8 +171,8 @@ returns g c =
     (c.watch-watched.ensures.watched (firings v (log_of k)) (puts v (log_of k)) stands) in
     let name : result_name s v a ≡ a = rw (watch-passes s v c.requires.kind) refl in (
       ap (λ (l : ToldState). l.told) c.push.ensures
-      ∙ (ap (λ (b : FrameName). plain (Put r v b.maker a.index f) ∷ k.log.told) (sym name)
-      ∙ ap (λ (w : Coursed). plain (put_of s r v a f) ∷ w.told) c.self.view_is),
+          ∙ (ap (λ (b : FrameName). plain (Put r v b.maker a.index f) ∷ k.log.told) (sym name)
+          ∙ ap (λ (w : Coursed). plain (put_of s r v a f) ∷ w.told) c.self.view_is),
       subst (λ (w : Coursed). IsOnItsWay v (calls_for s (past w.told) (put_of s r v a f)) out q) c.self.view_is
-      (calls-on-way s v r a f (log_of k) n.window new out q c.requires.kind window watched),
+          (calls-on-way s v r a f (log_of k) n.window new out q c.requires.kind window watched),
     )

@@ -149,8 +149,16 @@ invariant_of-self g c =
     let x = c.index_mut-2.result.now in
     let empty = ap (λ (w : Coursed). w.transit) c.self.view_is ∙ c.requires.still in
     let p : Putting m s k v r a f x n =
-    record { here = c.requires.node; role = role-found m s k r x i c.requires.role c.index_mut-2.ensures.value; at = at; empty = empty; history = history;
-    job = job; fires = c.requires.fired; sorted = c.requires.sorted } in
+    record {
+      here = c.requires.node;
+      role = role-found m s k r x i c.requires.role c.index_mut-2.ensures.value;
+      at = at;
+      empty = empty;
+      history = history;
+      job = job;
+      fires = c.requires.fired;
+      sorted = c.requires.sorted;
+    } in
     let y = c.place-placement.new.node in
     let tick = c.self.inside.facts.tick in
     let kept : (let q : Kept = record { name = c.result_name-made.result; measured = c.args.measured } in q) ≡ kept_of m s v a =
@@ -184,8 +192,16 @@ invariant_of-self-in-Waits g c =
     let x = c.index_mut-2.result.now in
     let empty = ap (λ (w : Coursed). w.transit) c.self.view_is ∙ c.requires.still in
     let p : Putting m s k v r a f x n =
-    record { here = c.requires.node; role = role-found m s k r x i c.requires.role c.index_mut-2.ensures.value; at = at; empty = empty; history = history;
-    job = job; fires = c.requires.fired; sorted = c.requires.sorted } in
+    record {
+      here = c.requires.node;
+      role = role-found m s k r x i c.requires.role c.index_mut-2.ensures.value;
+      at = at;
+      empty = empty;
+      history = history;
+      job = job;
+      fires = c.requires.fired;
+      sorted = c.requires.sorted;
+    } in
     let y = c.place-placement.new.node in
     let tick = c.self.inside.facts.tick in
     let kept : (let q : Kept = record { name = c.result_name-made.result; measured = c.args.measured } in q) ≡ kept_of m s v a =
@@ -259,8 +275,16 @@ invariant_of-self-in-Full g c =
     let x = c.index_mut-2.result.now in
     let empty = ap (λ (w : Coursed). w.transit) c.self.view_is ∙ c.requires.still in
     let p : Putting m s k v r a f x n =
-    record { here = c.requires.node; role = role-found m s k r x i c.requires.role c.index_mut-2.ensures.value; at = at; empty = empty; history = history;
-    job = job; fires = c.requires.fired; sorted = c.requires.sorted } in
+    record {
+      here = c.requires.node;
+      role = role-found m s k r x i c.requires.role c.index_mut-2.ensures.value;
+      at = at;
+      empty = empty;
+      history = history;
+      job = job;
+      fires = c.requires.fired;
+      sorted = c.requires.sorted;
+    } in
     let y = c.place-placement.new.node in
     let tick = c.self.inside.facts.tick in
     let kept : (let q : Kept = record { name = c.result_name-made.result; measured = c.args.measured } in q) ≡ kept_of m s v a =
@@ -271,8 +295,15 @@ invariant_of-self-in-Full g c =
     (subst (λ (b : Kept). IsListed (id_at s a.index) tick b n y c.place-placement.result) kept
     (subst (λ (j : ℤ). IsListed j tick (record { name = c.result_name-made.result; measured = c.args.measured }) n y c.place-placement.result) id
     c.place-placement.ensures)) in
-    rw (c.push-in-Full.ensures, c.push.ensures, c.let_go.ensures, c.carry-in-Full.ensures.items, c.carry-in-Full.ensures.room,
-    c.result_name-made.ensures, c.makes-makes.ensures)
+    rw (
+      c.push-in-Full.ensures,
+      c.push.ensures,
+      c.let_go.ensures,
+      c.carry-in-Full.ensures.items,
+      c.carry-in-Full.ensures.room,
+      c.result_name-made.ensures,
+      c.makes-makes.ensures,
+    )
     (full-course m s k v r a f x n y (id_at s a.index) tick i p refl l)
 
 pub returns-in-Out : goal.returns-in-Out
@@ -301,10 +332,11 @@ returns-in-Out g c =
     c.place-placement.ensures)) in
     let was = node-is m s k v n i c.requires.node at in
     let step = step-known m s v (log_of k) n (id_at s a.index) (id_at s a.index) true was c.requires.sorted refl l.1 in
-    let known = subst (λ (w : Coursed). keeps_step (prev s v (past w.told)) (id_at s a.index) ≡ true) c.self.view_is step in
-    (known,
-    rw (c.push-in-Out.ensures, c.push.ensures, c.carry.ensures.items, c.result_name-made.ensures, c.makes-makes.ensures) (ap (λ (w : Coursed).
-    record { told = plain (Emit v (result_name s v a).maker a.index Step) ∷ plain (put_of s r v a f) ∷ w.told; transit = job_arrays s v a }) c.self.view_is))
+    let known = subst (λ (w : Coursed). keeps_step (prev s v (past w.told)) (id_at s a.index) ≡ true) c.self.view_is step in (
+      known,
+      rw (c.push-in-Out.ensures, c.push.ensures, c.carry.ensures.items, c.result_name-made.ensures, c.makes-makes.ensures) (ap (λ (w : Coursed).
+          record { told = plain (Emit v (result_name s v a).maker a.index Step) ∷ plain (put_of s r v a f) ∷ w.told; transit = job_arrays s v a }) c.self.view_is),
+    )
 
 pub returns-in-Waits : goal.returns-in-Waits
 returns-in-Waits g c =
@@ -336,8 +368,12 @@ returns-in-Waits g c =
     let short : length (waiting s v (log_of k)) < (node s v).sort = omega (arith, waits-known m s v (log_of k) n was, was.list_size, l.2) in (
       known,
       subst (λ (w : Coursed). length (waiting s v (past w.told)) < (node s v).sort) c.self.view_is short,
-      rw (c.push.ensures, c.carry_input.ensures.items, c.result_name-made.ensures,
-      c.makes-makes.ensures) (ap (λ (w : Coursed). record { told = plain (put_of s r v a f) ∷ w.told; transit = inputs s v a }) c.self.view_is),
+      rw (
+        c.push.ensures,
+        c.carry_input.ensures.items,
+        c.result_name-made.ensures,
+        c.makes-makes.ensures,
+      ) (ap (λ (w : Coursed). record { told = plain (put_of s r v a f) ∷ w.told; transit = inputs s v a }) c.self.view_is),
     )
 
 pub returns-in-Full : goal.returns-in-Full
@@ -371,5 +407,5 @@ returns-in-Full g c =
       known,
       subst (λ (w : Coursed). length (waiting s v (past w.told)) ≡ (node s v).sort) c.self.view_is long,
       rw (c.push-in-Full.ensures, c.push.ensures, c.carry-in-Full.ensures.items, c.result_name-made.ensures, c.makes-makes.ensures) (ap (λ (w : Coursed).
-      record { told = plain (SortDrop v (result_name s v a).maker a.index) ∷ plain (put_of s r v a f) ∷ w.told; transit = job_arrays s v a }) c.self.view_is),
+          record { told = plain (SortDrop v (result_name s v a).maker a.index) ∷ plain (put_of s r v a f) ∷ w.told; transit = job_arrays s v a }) c.self.view_is),
     )

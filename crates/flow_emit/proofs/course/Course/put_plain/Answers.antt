@@ -61,5 +61,12 @@ invariant_of-self g c =
     put_at_once_at m s k v r (v - 1) (result_name s v a).maker a.index c.args.fired job.entry a x n (place-of s v c.requires.node).0 i legal
     here at (ap (λ (w : Coursed). w.transit) c.self.view_is ∙ c.requires.still) job.has c.requires.kind c.requires.unsorted
     (has-arrays s v r a (log_of k) job.entry i.legal job.has.held job.kind) in
-    rw (c.push.ensures, c.count_put.ensures, c.let_go.ensures, c.carry.ensures.items, c.carry.ensures.room,
-    c.result_name-made.ensures, c.makes-makes.ensures) done
+    rw (
+      c.push.ensures,
+      c.count_put.ensures,
+      c.let_go.ensures,
+      c.carry.ensures.items,
+      c.carry.ensures.room,
+      c.result_name-made.ensures,
+      c.makes-makes.ensures,
+    ) done

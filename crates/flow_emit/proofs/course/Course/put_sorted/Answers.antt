@@ -33,9 +33,11 @@ pass_on-requires-clause-from g c =
     let b = c.args.self.now.told in
     let w : Coursed = c.put_placed.new.self in
     let put : BoardState = plain (put_of s r v a f) ∷ b in
-    let q : IsPlaced s r v a f c.args.self.now w Out = subst (λ (x : Placement). IsPlaced s r v a f c.args.self.now w x) c.in-Out.is c.put_placed.ensures in
-    (Step, put,
-    ap (λ (x : Coursed). x.told) q.1 ∙ ap (λ (n : FrameName). plain (Emit v n.maker n.index Step) ∷ put) (whole-name s v a ∙ sym c.result_name-made.ensures))
+    let q : IsPlaced s r v a f c.args.self.now w Out = subst (λ (x : Placement). IsPlaced s r v a f c.args.self.now w x) c.in-Out.is c.put_placed.ensures in (
+      Step,
+      put,
+      ap (λ (x : Coursed). x.told) q.1 ∙ ap (λ (n : FrameName). plain (Emit v n.maker n.index Step) ∷ put) (whole-name s v a ∙ sym c.result_name-made.ensures),
+    )
 
 pub pass_on-requires-clause-legal : goal.pass_on-requires-clause-legal
 pass_on-requires-clause-legal g c =

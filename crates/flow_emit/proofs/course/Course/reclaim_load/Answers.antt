@@ -86,7 +86,12 @@ invariant_of-self g c =
     hand-loaded (hand r (log_of k)) c.args.index c.args.block (hand-there k c.args.self.now r (Loaded c.args.index c.args.block) c.self.view_is h.hand) in
     let x = c.index_mut-state.result.now in
     course-as m s
-    (record k { log = record k.log { told = loses r c.args.lost ∷ k.log.told }; roles = set k.roles r (record x { hand = Free; was_reclaimed = true });
-    pool = with_refs b (ledger.refs k.pool b - 1) k.pool; facts = record k.facts { offered = k.facts.offered - 1; loaded = false }; transit = [] })
+    (record k {
+      log = record k.log { told = loses r c.args.lost ∷ k.log.told };
+      roles = set k.roles r (record x { hand = Free; was_reclaimed = true });
+      pool = with_refs b (ledger.refs k.pool b - 1) k.pool;
+      facts = record k.facts { offered = k.facts.offered - 1; loaded = false };
+      transit = [];
+    })
     _ _ _ _ _ _ _ _ (sym c.push_reclaim.ensures) refl refl (sym c.drop_hold.ensures.after) refl refl (sym still) refl
     (back_loaded m s k r p.0 c.args.index b p.1 p.2 p.3 p.4 x c.args.lost i legal (role-found m s k r x i h.role c.index_mut-state.ensures.value) still p.5)

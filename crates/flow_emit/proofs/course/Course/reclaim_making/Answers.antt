@@ -158,9 +158,13 @@ invariant_of-self g c =
     let some = job-there m s k v r (TakeBlock p.2 p.4 p.0 v a.maker a.index c.args.block.number p.1 p.3) n i here at held (eq-eqb v v refl) in
     let x = c.index_mut-state-2.result.now in
     let bn = c.args.block.number in
-    course-as m s (record k { log = record k.log { told = loses r c.args.lost ∷ k.log.told };
-    nodes = set k.nodes (v - 1) (record n { inbox = with_front n.inbox a; jobs = n.jobs - 1 });
-    roles = set k.roles r (record x { hand = Free; was_reclaimed = true }); pool = with_refs bn (ledger.refs k.pool bn - 1) k.pool; transit = [] })
+    course-as m s (record k {
+      log = record k.log { told = loses r c.args.lost ∷ k.log.told };
+      nodes = set k.nodes (v - 1) (record n { inbox = with_front n.inbox a; jobs = n.jobs - 1 });
+      roles = set k.roles r (record x { hand = Free; was_reclaimed = true });
+      pool = with_refs bn (ledger.refs k.pool bn - 1) k.pool;
+      transit = [];
+    })
     _ _ _ _ _ _ _ _ (sym c.push_reclaim.ensures) (ap (λ (b : InboxState FrameName). set k.nodes (v - 1) (record n { inbox = b; jobs = n.jobs - 1 }))
     (sym c.put_back.ensures)) refl (sym c.drop_hold.ensures.after) refl refl (sym still) refl
     (back_making_at m s k v r p.0 (v - 1) a.maker a.index bn p.1 p.2 p.3 p.4 x n c.args.lost (place-of s v here).0 i legal

@@ -140,9 +140,20 @@ invariant_of-self g c =
     let at : slice_get k.nodes (v - 1) ≡ Some n = node-found m s k v n i here c.index_mut-state.ensures.value in
     let x = c.index_mut-state-2.result.now in
     let y : NodeState = record n { unsaved = c.push_front_reserved.new.self } in
-    course-as m s (record k { log = record k.log { told = loses r c.args.lost ∷ k.log.told }; nodes = set k.nodes (v - 1) (record n { unsaved = y.unsaved;
-    saves = n.saves - 1; saving = false }); roles = set k.roles r (record x { hand = Free; was_reclaimed = true }); transit = [] })
+    course-as m s (record k {
+      log = record k.log { told = loses r c.args.lost ∷ k.log.told };
+      nodes = set k.nodes (v - 1) (record n {
+        unsaved = y.unsaved;
+        saves = n.saves - 1;
+        saving = false;
+      });
+      roles = set k.roles r (record x { hand = Free; was_reclaimed = true });
+      transit = [];
+    })
     _ _ _ _ _ _ _ _ (sym c.push_reclaim.ensures) refl refl refl refl refl (sym still) refl
     (back_piece_at m s k v r p.0 (v - 1) a.maker a.index p.1 x n y c.args.lost (place-of s v here).0 i legal
-    (role-found m s k r x i h.role c.index_mut-state-2.ensures.value) at still p.2 c.push_front_reserved.ensures.items (omega (arith,
-    c.push_front_reserved.ensures.capacity, (node-is m s k v n i here at).unsaved_room (piece-file s r p.0 v a.maker a.index p.1 (log_of k) i.legal p.2))))
+    (role-found m s k r x i h.role c.index_mut-state-2.ensures.value) at still p.2 c.push_front_reserved.ensures.items (omega (
+      arith,
+      c.push_front_reserved.ensures.capacity,
+      (node-is m s k v n i here at).unsaved_room (piece-file s r p.0 v a.maker a.index p.1 (log_of k) i.legal p.2),
+    )))

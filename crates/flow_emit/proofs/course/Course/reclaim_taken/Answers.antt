@@ -137,8 +137,13 @@ invariant_of-self g c =
     let at : slice_get k.nodes (v - 1) ≡ Some n = node-found m s k v n i here c.index_mut-state.ensures.value in
     let some = job-there m s k v r (Take p.0 v a.maker a.index) n i here at held (eq-eqb v v refl) in
     let x = c.index_mut-state-2.result.now in
-    course-as m s (record k { log = record k.log { told = loses r c.args.lost ∷ k.log.told }; nodes = set k.nodes (v
-    - 1) (record n { inbox = with_front n.inbox a; jobs = n.jobs - 1 }); roles = set k.roles r (record x { hand = Free; was_reclaimed = true }); transit = [] })
+    course-as m s (record k {
+      log = record k.log { told = loses r c.args.lost ∷ k.log.told };
+      nodes = set k.nodes (v
+          - 1) (record n { inbox = with_front n.inbox a; jobs = n.jobs - 1 });
+      roles = set k.roles r (record x { hand = Free; was_reclaimed = true });
+      transit = [];
+    })
     _ _ _ _ _ _ _ _ (sym c.push_reclaim.ensures) (ap (λ (b : InboxState FrameName). set k.nodes (v - 1) (record n { inbox = b; jobs = n.jobs - 1 }))
     (sym c.put_back.ensures)) refl refl refl refl (sym still) refl
     (back_taken_at m s k v r p.0 (v - 1) a.maker a.index x n c.args.lost (place-of s v here).0 i legal

@@ -40,5 +40,8 @@ invariant_of-self g c =
     let found : c.block-block.result ≡ has.0 =
     c.block-block.ensures has.0 (subst (λ (v : Coursed). block_of (past v.told) name ≡ has.0 ∷ []) c.self.view_is has.1) in
     let block : block_of (log_of k) name ≡ c.block-block.result ∷ [] = has.1 ∙ ap (λ b. b ∷ []) (sym found) in
-    rw (c.drop_hold.ensures.after, c.pop_front.ensures.capacity,
-    c.pop_front.ensures.rest) (released m s k name (drop 1 k.transit) c.block-block.result i transit block)
+    rw (
+      c.drop_hold.ensures.after,
+      c.pop_front.ensures.capacity,
+      c.pop_front.ensures.rest,
+    ) (released m s k name (drop 1 k.transit) c.block-block.result i transit block)

@@ -73,8 +73,11 @@ invariant_of-self g c =
     let x = c.index_mut.result.now in
     let y : NodeState = record n { unsaved = c.pop_front.new.self } in
     let part = g.F.Held.parts c.args.part.now in
-    course-as m s (record k { log = record k.log { told = lends (Save r v a.maker a.index z) part ∷ k.log.told };
-    nodes = set k.nodes (v - 1) (record n { unsaved = y.unsaved; saves = n.saves + 1; saving = true }); roles = set k.roles r (record x { hand = Piece v a }) })
+    course-as m s (record k {
+      log = record k.log { told = lends (Save r v a.maker a.index z) part ∷ k.log.told };
+      nodes = set k.nodes (v - 1) (record n { unsaved = y.unsaved; saves = n.saves + 1; saving = true });
+      roles = set k.roles r (record x { hand = Piece v a });
+    })
     _ _ _ _ _ _ _ _ (sym c.push_lent.ensures) refl refl refl refl refl refl refl
     (saving_one_at m s k v r (v - 1) a.maker a.index z x n y part (place-of s v h.node).0 i legal (role-found m s k r x i h.role
     c.index_mut.ensures.value) at c.pop_front.ensures.rest (omega (arith, c.pop_front.ensures.capacity, (node-is m s k v n i h.node at).unsaved_room)))

@@ -21,9 +21,11 @@ overflow_add-state g c =
     let s = run_setting g.F.Of.Run.graph g.F.Of.Run.stack in
     let n = c.index_mut-state.result.now in
     let k = parts c.self.inside in
-    omega (arith,
-    few-jobs m s k c.args.node n c.self.invariant c.requires.node
-    (node-found m s k c.args.node n c.self.invariant c.requires.node c.index_mut-state.ensures.value))
+    omega (
+      arith,
+      few-jobs m s k c.args.node n c.self.invariant c.requires.node
+          (node-found m s k c.args.node n c.self.invariant c.requires.node c.index_mut-state.ensures.value),
+    )
 
 pub push_lent-requires-clause-room : goal.push_lent-requires-clause-room
 push_lent-requires-clause-room g c =
@@ -54,10 +56,17 @@ invariant_of-self g c =
     subst (λ (b : FrameName). is_legal s (Take r v b.maker b.index ∷ log_of k) ≡ true) (sym c.name-name.ensures)
     (may-take g.F.Named.name_of c.args.part.now s k c.args.self.now r v c.self.view_is c.self.invariant.ruled.pooled h.history
     h.role h.allowed h.passes h.next) in
-    subst (λ (l : ToldState). IsCourse m s (record k { log = l; nodes = set k.nodes (v - 1) (record n { inbox = c.pop.new.self; jobs = n.jobs + 1 });
-    roles = set k.roles r (record x { hand = Job v a None }) })) (sym c.push_lent.ensures)
+    subst (λ (l : ToldState). IsCourse m s (record k {
+      log = l;
+      nodes = set k.nodes (v - 1) (record n { inbox = c.pop.new.self; jobs = n.jobs + 1 });
+      roles = set k.roles r (record x { hand = Job v a None });
+    })) (sym c.push_lent.ensures)
     (subst (λ (b : InboxState FrameName). IsCourse m s
-    (record k { log = record k.log { told = lends (Take r v a.maker a.index) (g.F.Held.parts c.args.part.now) ∷ k.log.told }; nodes = set k.nodes
-    (v - 1) (record n { inbox = b; jobs = n.jobs + 1 }); roles = set k.roles r (record x { hand = Job v a None }) })) (sym c.pop.ensures.rest)
+    (record k {
+      log = record k.log { told = lends (Take r v a.maker a.index) (g.F.Held.parts c.args.part.now) ∷ k.log.told };
+      nodes = set k.nodes
+          (v - 1) (record n { inbox = b; jobs = n.jobs + 1 });
+      roles = set k.roles r (record x { hand = Job v a None });
+    })) (sym c.pop.ensures.rest)
     (took_at m s k v r (v - 1) a.maker a.index x n (g.F.Held.parts c.args.part.now) (place-of s v h.node).0 c.self.invariant legal
     (role-found m s k r x c.self.invariant h.role c.index_mut.ensures.value) (node-found m s k v n c.self.invariant h.node c.index_mut-state.ensures.value)))

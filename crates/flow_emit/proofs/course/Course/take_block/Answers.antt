@@ -195,9 +195,15 @@ invariant_of-self-2 g c =
     let p : Ledger = c.take_grant.new.pool in
     let part = g.F.Held.parts c.args.part.now in
     let ids : length s.ids ≡ length c.as_slice-frames.result.now = sym (ap length c.as_slice-frames.ensures ∙ ap length i.ruled.ids) in
-    course-as m s (record k { log = record k.log { told = lends (TakeBlock f w r v a.maker a.index b z y) part ∷ k.log.told };
-    nodes = set k.nodes (v - 1) (record n { inbox = without_front n.inbox; jobs = n.jobs + 1 }); roles = set k.roles r
-    (record x { hand = Job v a (Some (record { number = b; size = z })) }); pool = p; blocks = set k.blocks (place_of s (frame v a.index)) b; transit = [] })
+    course-as m s (record k {
+      log = record k.log { told = lends (TakeBlock f w r v a.maker a.index b z y) part ∷ k.log.told };
+      nodes = set k.nodes (v - 1) (record n { inbox = without_front n.inbox; jobs = n.jobs + 1 });
+      roles = set k.roles r
+          (record x { hand = Job v a (Some (record { number = b; size = z })) });
+      pool = p;
+      blocks = set k.blocks (place_of s (frame v a.index)) b;
+      transit = [];
+    })
     _ _ _ _ _ _ _ _ (sym c.push_lent.ensures) (ap (λ (u : InboxState FrameName). set k.nodes (v - 1) (record n { inbox = u; jobs = n.jobs + 1 }))
     (sym c.pop.ensures.rest)) refl refl (ap (λ (l : ℕ). set k.blocks (v * l + a.index) b) ids) refl (sym still) refl
     (took_block_at m s k v r (v - 1) a.maker a.index b z f y w x n p part (place-of s v h.node).0 i legal (role-found m s k r x i h.role

@@ -33,10 +33,11 @@ returns-in-Err-clause-err g c =
     let may = (rw file at c.in-Err.ensures.err) in
     let a = array_of c.args.head.now c.args.file.shape.kind c.args.file.shape.dims c.args.samples.now in
     subst (λ (f : SaveFault). RowStops f c.args.file a c.args.self.now.current (g.K.Shelf.held c.args.shelf.now) (g.K.Shelf.held c.end.new.shelf))
-    (sym c.in-Err.ensures.failed)
-    (c.requires.none,
-    λ arrays has. torn-ended _ _ _ c.args.file (c.args.file.count + 1) _ (arrays ++ a ∷ []) c.in-Ok.ensures.ok
-    (rw file at (c.in-Ok.ensures.rows arrays has)) may)
+    (sym c.in-Err.ensures.failed) (
+      c.requires.none,
+      λ arrays has. torn-ended _ _ _ c.args.file (c.args.file.count + 1) _ (arrays ++ a ∷ []) c.in-Ok.ensures.ok
+          (rw file at (c.in-Ok.ensures.rows arrays has)) may,
+    )
 
 pub returns-in-Err-clause-changed : goal.returns-in-Err-clause-changed
 returns-in-Err-clause-changed g c =

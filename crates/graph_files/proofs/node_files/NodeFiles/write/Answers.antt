@@ -27,10 +27,11 @@ add_row-requires-clause-rows g c =
     let x = c.args.self.now in
     let is : x.current ≡ Some c.in-Some.file = search rules in
     let w = c.requires.written in
-    let f = open-is x w.0 c.args.group c.args.place _ w.1 w.2 c.in-Some.file is in
-    (group_of x.count c.args.group w.0,
-    subst (λ (k : Stream). HasRows (g.K.Shelf.held c.args.shelf.now) k (group_of x.count c.args.group w.0)) (sym f)
-    (open-has x w.0 c.args.group c.args.place _ w.1 w.2 c.in-Some.file is))
+    let f = open-is x w.0 c.args.group c.args.place _ w.1 w.2 c.in-Some.file is in (
+      group_of x.count c.args.group w.0,
+      subst (λ (k : Stream). HasRows (g.K.Shelf.held c.args.shelf.now) k (group_of x.count c.args.group w.0)) (sym f)
+          (open-has x w.0 c.args.group c.args.place _ w.1 w.2 c.in-Some.file is),
+    )
 
 pub returns-in-Some-clause-numrecs : goal.returns-in-Some-clause-numrecs
 returns-in-Some-clause-numrecs g c =

@@ -8,17 +8,22 @@ use Rattle.graph_files.proofs.open_files.OpenFiles.end.Goals as goal
 
 pub loop-at-init : goal.loop-at-init
 loop-at-init g c =
-    record { files = refl; stands = λ before written h. all-stand before c.args.self written (g.K.Shelf.held c.args.shelf.now) h;
-    names = λ before written h k x low is. refl; cause = refl }
+    record {
+      files = refl;
+      stands = λ before written h. all-stand before c.args.self written (g.K.Shelf.held c.args.shelf.now) h;
+      names = λ before written h k x low is. refl;
+      cause = refl;
+    }
 
 pub end_node-requires-clause-written : goal.end_node-requires-clause-written
 end_node-requires-clause-written g c =
     let w = c.requires.written in
     let inv = c.loop-at.invariant in
     λ x h.
-    let is = next-at c.loop-at.at c.args.self c.loop-at.files x inv.files h in
-    (w.1.0 x.node,
-    next-written w.0 c.args.self w.1.0 c.loop-at.at x (g.K.Shelf.held c.args.shelf.now) (g.K.Shelf.held c.loop-at.shelf) is w.1.1 (inv.stands w.0 w.1.0 w.1.1))
+    let is = next-at c.loop-at.at c.args.self c.loop-at.files x inv.files h in (
+      w.1.0 x.node,
+      next-written w.0 c.args.self w.1.0 c.loop-at.at x (g.K.Shelf.held c.args.shelf.now) (g.K.Shelf.held c.loop-at.shelf) is w.1.1 (inv.stands w.0 w.1.0 w.1.1),
+    )
 
 pub end_node-requires-clause-filled : goal.end_node-requires-clause-filled
 end_node-requires-clause-filled g c =

@@ -87,9 +87,9 @@ returns-clause-nodes g c =
     λ x is. (
       c.write.new.self.current,
       put-back xs _ c.args.at c.write.new.self z x c.write.new.self.current at is c.write.ensures.node
-      (ap (λ (zs : List NodeFile). set zs c.args.at c.write.new.self) c.self.view_is),
+          (ap (λ (zs : List NodeFile). set zs c.args.at c.write.new.self) c.self.view_is),
       subst (λ (w : NodeFile). HasNumrecs (first_count w.late c.args.of) c.write.new.self.current)
-      (the-node xs _ c.args.at c.write.new.self z x c.write.new.self.current at is c.write.ensures.node refl) c.write.ensures.numrecs,
+          (the-node xs _ c.args.at c.write.new.self z x c.write.new.self.current at is c.write.ensures.node refl) c.write.ensures.numrecs,
     )
 
 pub returns-clause-ok : goal.returns-clause-ok
