@@ -18,7 +18,8 @@ abbrev pub sizes_from : ℕ → List Dim → List ℕ
 sizes_from i dims = concat (size_dimensions i (slowest_first (map (λ d. d.size) dims)))
 
 -- the slowest of the first dimensions, and the others
-pub sizes_from-more : (dims : List Dim) (i m : ℕ) (d : Dim) → m < length dims → sizes_from i (take (m + 1) dims) ≡ dimension (codes "dim" ++ (48 + i) ∷ []) (get_or dims m d).size ++ sizes_from (i + 1) (take m dims)
+pub sizes_from-more : (dims : List Dim) (i m : ℕ) (d : Dim) → m < length dims
+    → sizes_from i (take (m + 1) dims) ≡ dimension (codes "dim" ++ (48 + i) ∷ []) (get_or dims m d).size ++ sizes_from (i + 1) (take m dims)
 sizes_from-more dims i m d h =
     let size = λ (e : Dim). e.size in
     ap (sizes_from i) (take_more dims m d h)
@@ -28,7 +29,9 @@ sizes_from-more dims i m d h =
 regroup : (p a s b : List ℕ) → p ++ ((a ++ s) ++ (b ++ [])) ≡ ((p ++ a) ++ s) ++ b
 regroup p a s b = simp (append_assoc, append-nil)
 
-pub dimensions_spelled : (shape : FileShape) → element_list 10 (dimensions shape) ≡ word 10 ++ word (length shape.dims + 2) ++ dimension (codes "numArrays") 0 ++ sizes_from 0 shape.dims ++ dimension (codes "attrStringSize") shape.width
+pub dimensions_spelled : (shape : FileShape)
+    → element_list 10 (dimensions shape)
+    ≡ word 10 ++ word (length shape.dims + 2) ++ dimension (codes "numArrays") 0 ++ sizes_from 0 shape.dims ++ dimension (codes "attrStringSize") shape.width
 dimensions_spelled shape =
     let sizes = size_dimensions 0 (slowest_first (map (λ (d : Dim). d.size) shape.dims)) in
     let records = dimension (codes "numArrays") 0 in

@@ -23,27 +23,33 @@ pub numbers_of : (n : ℕ) → n ≤ 11 → take {A = ℕ} n (0 ∷ 1 ∷ 2 ∷ 
 numbers_of n h = take-range_with_len 0 n 11 h
 
 -- the variable of the samples, of parts that are equal to its own
-pub sample_variable : (shape : FileShape) (dims : List ℕ) (kind size begin : ℕ) → dims ≡ range_with_len 0 (suc (length shape.dims)) → kind ≡ sample_kind shape.kind → size ≡ sample_count shape.dims * width shape.kind
+pub sample_variable : (shape : FileShape) (dims : List ℕ) (kind size begin : ℕ) → dims ≡ range_with_len 0 (suc (length shape.dims))
+    → kind ≡ sample_kind shape.kind → size ≡ sample_count shape.dims * width shape.kind
     → variable shape.form (record { name = codes "array_data"; dims = dims; kind = kind; size = size }) begin ≡ variable shape.form (sample_column shape) begin
 sample_variable shape dims kind size begin dims_are kind_is size_is =
     ap (λ d. variable shape.form (record { name = codes "array_data"; dims = d; kind = kind; size = size }) begin) dims_are
-    ∙ ap (λ k. variable shape.form (record { name = codes "array_data"; dims = range_with_len 0 (suc (length shape.dims)); kind = k; size = size }) begin) kind_is
-    ∙ ap (λ n. variable shape.form (record { name = codes "array_data"; dims = range_with_len 0 (suc (length shape.dims)); kind = sample_kind shape.kind; size = n }) begin) size_is
+    ∙ ap (λ k. variable shape.form (record { name = codes "array_data"; dims = range_with_len 0 (suc (length shape.dims)); kind = k; size = size }) begin)
+    kind_is
+    ∙ ap (λ n. variable shape.form
+    (record { name = codes "array_data"; dims = range_with_len 0 (suc (length shape.dims)); kind = sample_kind shape.kind; size = n }) begin) size_is
 
 pub length-variables : (form : Form) (begin : ℕ) (cs : List Column) → length (variables form begin cs) ≡ length cs
 length-variables form begin [] = refl
 length-variables form begin (c ∷ cs) = ap suc (length-variables form (begin + padded_length c.size) cs)
 
 -- the first of some more variables begins where the values of those before it end
-pub variables-append : (form : Form) (begin : ℕ) (cs ds : List Column) → variables form begin (cs ++ ds) ≡ variables form begin cs ++ variables form (begin + columns_length cs) ds
+pub variables-append : (form : Form) (begin : ℕ) (cs ds : List Column)
+    → variables form begin (cs ++ ds) ≡ variables form begin cs ++ variables form (begin + columns_length cs) ds
 variables-append form begin [] ds = ap (λ b. variables form b ds) (omega arith)
 variables-append form begin (c ∷ cs) ds =
     let total = sum_by-cons (λ (e : Column). padded_length e.size) c cs in
     let next : begin + padded_length c.size + columns_length cs ≡ begin + columns_length (c ∷ cs) = omega arith in
-    ap (λ rest. variable form c begin ∷ rest) (variables-append form (begin + padded_length c.size) cs ds ∙ ap (λ b. variables form (begin + padded_length c.size) cs ++ variables form b ds) next)
+    ap (λ rest. variable form c begin ∷ rest) (variables-append form (begin + padded_length c.size) cs ds
+    ∙ ap (λ b. variables form (begin + padded_length c.size) cs ++ variables form b ds) next)
 
 pub variables_spelled : (shape : FileShape) (begin : ℕ) → element_list 11 (variables shape.form begin (columns shape))
-    ≡ word 11 ++ word (length shape.attrs + 5) ++ concat (variables shape.form begin (fixed_columns shape)) ++ concat (variables shape.form (begin + columns_length (fixed_columns shape)) (map (attr_column shape) shape.attrs))
+    ≡ word 11 ++ word (length shape.attrs + 5) ++ concat (variables shape.form begin (fixed_columns shape))
+    ++ concat (variables shape.form (begin + columns_length (fixed_columns shape)) (map (attr_column shape) shape.attrs))
 variables_spelled shape begin =
     let fixed = fixed_columns shape in
     let attrs = map (attr_column shape) shape.attrs in
@@ -51,7 +57,10 @@ variables_spelled shape begin =
     let all = length-variables shape.form begin (columns shape) in
     let more = length-map shape.attrs (attr_column shape) in
     omega arith) in
-    let content = ap concat (variables-append shape.form begin fixed attrs) ∙ concat-append (variables shape.form begin fixed) (variables shape.form (begin + columns_length fixed) attrs) in
+    let content =
+    ap concat (variables-append shape.form begin fixed attrs)
+    ∙ concat-append (variables shape.form begin fixed) (variables shape.form (begin + columns_length fixed) attrs) in
     ap (λ n. word 11 ++ word n ++ concat (variables shape.form begin (columns shape))) count
     ∙ ap (λ rest. word 11 ++ word (length shape.attrs + 5) ++ rest) content
-    ∙ sym (append_assoc (word 11 ++ word (length shape.attrs + 5)) (concat (variables shape.form begin fixed)) (concat (variables shape.form (begin + columns_length fixed) attrs)))
+    ∙ sym (append_assoc (word 11 ++ word (length shape.attrs + 5)) (concat (variables shape.form begin fixed))
+    (concat (variables shape.form (begin + columns_length fixed) attrs)))

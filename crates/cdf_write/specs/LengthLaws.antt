@@ -69,7 +69,8 @@ dimensions_bytes : (shape : FileShape) → length (element_list 10 (dimensions s
 dimensions_bytes shape =
     let sizes = map (λ (d : Dim). d.size) shape.dims in
     let whole = length-element_list 10 (dimensions shape) in
-    let parts = length-concat-append (dimension (codes "numArrays") 0 ∷ size_dimensions 0 (slowest_first sizes)) (dimension (codes "attrStringSize") shape.width ∷ []) in
+    let parts =
+    length-concat-append (dimension (codes "numArrays") 0 ∷ size_dimensions 0 (slowest_first sizes)) (dimension (codes "attrStringSize") shape.width ∷ []) in
     let middle = size_dimensions_bytes 0 (slowest_first sizes) in
     let turned = length-slowest_first sizes in
     let rank = length-map shape.dims (λ (d : Dim). d.size) in
@@ -110,7 +111,9 @@ length-variable form c begin =
     let three = length-append (name_field c.name ++ word (length c.dims) ++ flat_map word c.dims) absent in
     let four = length-append (name_field c.name ++ word (length c.dims) ++ flat_map word c.dims ++ absent) (word c.kind) in
     let five = length-append (name_field c.name ++ word (length c.dims) ++ flat_map word c.dims ++ absent ++ word c.kind) (word (padded_length c.size)) in
-    let six = length-append (name_field c.name ++ word (length c.dims) ++ flat_map word c.dims ++ absent ++ word c.kind ++ word (padded_length c.size)) (offset form begin) in
+    let six =
+    length-append (name_field c.name ++ word (length c.dims) ++ flat_map word c.dims ++ absent ++ word c.kind ++ word (padded_length c.size))
+    (offset form begin) in
     let place = length-offset form begin in
     omega arith
 
@@ -132,13 +135,15 @@ sum_by-map f g h (x ∷ xs) e =
     let rest = sum_by-map f g h xs e in
     omega arith
 
-attr_by_kind : (shape : FileShape) (name : List ℕ) (kind : AttrKind) → variable_length shape.form (attr_column shape (record { name = name; kind = kind })) ≡ attr_header_length shape.form (record { name = name; kind = kind })
+attr_by_kind : (shape : FileShape) (name : List ℕ) (kind : AttrKind)
+    → variable_length shape.form (attr_column shape (record { name = name; kind = kind })) ≡ attr_header_length shape.form (record { name = name; kind = kind })
 attr_by_kind shape name WholeKind = omega arith
 attr_by_kind shape name TextKind = omega arith
 attr_by_kind shape name Bits64Kind = omega arith
 attr_by_kind shape name Bits32Kind = omega arith
 
-fixed_variables_bytes : (shape : FileShape) → sum_by (variable_length shape.form) (fixed_columns shape) ≡ 196 + 5 * offset_length shape.form + 4 * length shape.dims
+fixed_variables_bytes : (shape : FileShape)
+    → sum_by (variable_length shape.form) (fixed_columns shape) ≡ 196 + 5 * offset_length shape.form + 4 * length shape.dims
 fixed_variables_bytes shape =
     let numbers = length-range_with_len 0 (suc (length shape.dims)) in
     omega arith
@@ -150,7 +155,8 @@ all_variables_bytes shape begin =
     let bytes = variables_bytes shape.form begin (columns shape) in
     let parts = sum_by-append (variable_length shape.form) (fixed_columns shape) (map (attr_column shape) shape.attrs) in
     let fixed = fixed_variables_bytes shape in
-    let attrs = sum_by-map (variable_length shape.form) (attr_column shape) (attr_header_length shape.form) shape.attrs (λ a. attr_by_kind shape a.name a.kind) in
+    let attrs =
+    sum_by-map (variable_length shape.form) (attr_column shape) (attr_header_length shape.form) shape.attrs (λ a. attr_by_kind shape a.name a.kind) in
     omega arith
 
 -- THE HEADER
@@ -194,13 +200,16 @@ value_size shape name TextKind = refl
 value_size shape name Bits64Kind = refl
 value_size shape name Bits32Kind = refl
 
-pub attr_columns_length : (shape : FileShape) → columns_length (map (attr_column shape) shape.attrs) ≡ sum_by (λ a. padded_length (kind_size shape.width a.kind)) shape.attrs
+pub attr_columns_length : (shape : FileShape)
+    → columns_length (map (attr_column shape) shape.attrs) ≡ sum_by (λ a. padded_length (kind_size shape.width a.kind)) shape.attrs
 attr_columns_length shape =
     sum_by-map (λ (c : Column). padded_length c.size) (attr_column shape) (λ (a : AttrColumn). padded_length (kind_size shape.width a.kind)) shape.attrs
     (λ a. ap padded_length (value_size shape a.name a.kind))
 
 -- 20 bytes for id and times, the samples, and the attributes
-pub row_length_is : (shape : FileShape) → row_length shape ≡ 20 + padded_length (sample_count shape.dims * width shape.kind) + sum_by (λ a. padded_length (kind_size shape.width a.kind)) shape.attrs
+pub row_length_is : (shape : FileShape)
+    → row_length shape ≡ 20 + padded_length (sample_count shape.dims * width shape.kind)
+    + sum_by (λ a. padded_length (kind_size shape.width a.kind)) shape.attrs
 unfolding row_length
 row_length_is shape =
     let parts = sum_by-append (λ (c : Column). padded_length c.size) (fixed_columns shape) (map (attr_column shape) shape.attrs) in
@@ -218,7 +227,8 @@ fill_enough UInt16 n bytes h = omega arith
 fill_enough Int32 n bytes h = omega arith
 fill_enough UInt32 n bytes h = omega arith
 
-pub padded_values_bytes : (kind : SampleType) (n : ℕ) (values : List ℕ) → length values ≡ n * width kind → length (padded_values (sample_kind kind) values) ≡ padded_length (length values)
+pub padded_values_bytes : (kind : SampleType) (n : ℕ) (values : List ℕ) → length values ≡ n * width kind
+    → length (padded_values (sample_kind kind) values) ≡ padded_length (length values)
 padded_values_bytes kind n values h =
     length-append values (take (gap (length values)) (fill (sample_kind kind)))
     ∙ ap (λ m. length values + m) (length-take-le (gap (length values)) (fill (sample_kind kind)) (fill_enough kind n (length values) h))
@@ -232,13 +242,15 @@ text_bytes text room h =
     let in_room = length_in_room text room h in
     omega arith
 
-pub value_bytes : (shape : FileShape) (name : List ℕ) (value : AttrValue) → FitsIn shape.width value → length (attr_values shape.width value) ≡ padded_length (attr_column shape (record { name = name; kind = kind_of value })).size
+pub value_bytes : (shape : FileShape) (name : List ℕ) (value : AttrValue) → FitsIn shape.width value
+    → length (attr_values shape.width value) ≡ padded_length (attr_column shape (record { name = name; kind = kind_of value })).size
 value_bytes shape name (Whole v) h = refl
 value_bytes shape name (Text t) h = text_bytes t shape.width h
 value_bytes shape name (Bits64 b) h = refl
 value_bytes shape name (Bits32 b) h = refl
 
-attrs_bytes : (shape : FileShape) (attrs : List Attr) → All (λ t. FitsIn shape.width t.value) attrs → length (flat_map (λ t. attr_values shape.width t.value) attrs) ≡ columns_length (map (attr_column shape) (map column_of attrs))
+attrs_bytes : (shape : FileShape) (attrs : List Attr) → All (λ t. FitsIn shape.width t.value) attrs
+    → length (flat_map (λ t. attr_values shape.width t.value) attrs) ≡ columns_length (map (attr_column shape) (map column_of attrs))
 attrs_bytes shape [] h = refl
 attrs_bytes shape (t ∷ attrs) h =
     let both = length-append (attr_values shape.width t.value) (flat_map (λ (s : Attr). attr_values shape.width s.value) attrs) in

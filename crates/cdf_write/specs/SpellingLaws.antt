@@ -44,7 +44,8 @@ length-name_field name = length-append (word (length name)) (padded name) ∙ ap
 
 -- ATTRIBUTES
 
-pub length-attribute : (name : List ℕ) (kind count : ℕ) (values : List ℕ) → length (attribute name kind count values) ≡ 12 + padded_length (length name) + padded_length (length values)
+pub length-attribute : (name : List ℕ) (kind count : ℕ) (values : List ℕ)
+    → length (attribute name kind count values) ≡ 12 + padded_length (length name) + padded_length (length values)
 length-attribute name kind count values =
     let field = length-name_field name in
     let one = length-append (name_field name) (word kind) in
@@ -53,16 +54,19 @@ length-attribute name kind count values =
     let last = length-padded values in
     omega arith
 
-pub int_attribute_is : (name : List ℕ) (values : List ℤ) → int_attribute name values ≡ name_field name ++ word 4 ++ word (length values) ++ flat_map signed_word values
+pub int_attribute_is : (name : List ℕ) (values : List ℤ)
+    → int_attribute name values ≡ name_field name ++ word 4 ++ word (length values) ++ flat_map signed_word values
 int_attribute_is name values =
     ap (λ bytes. name_field name ++ word 4 ++ word (length values) ++ bytes)
     (padded_whole (flat_map signed_word values) (length values) (length-flat_map_words signed_word values (λ _. refl)))
 
-pub int_attribute-map : {X : Type 0} → (name : List ℕ) (f : X → ℤ) (xs : List X) → int_attribute name (map f xs) ≡ name_field name ++ word 4 ++ word (length xs) ++ flat_map signed_word (map f xs)
+pub int_attribute-map : {X : Type 0} → (name : List ℕ) (f : X → ℤ) (xs : List X)
+    → int_attribute name (map f xs) ≡ name_field name ++ word 4 ++ word (length xs) ++ flat_map signed_word (map f xs)
 int_attribute-map name f xs =
     int_attribute_is name (map f xs) ∙ ap (λ n. name_field name ++ word 4 ++ word n ++ flat_map signed_word (map f xs)) (length-map xs f)
 
-pub length-int_attribute : {X : Type 0} → (name : List ℕ) (f : X → ℤ) (xs : List X) → length (int_attribute name (map f xs)) ≡ 12 + padded_length (length name) + 4 * length xs
+pub length-int_attribute : {X : Type 0} → (name : List ℕ) (f : X → ℤ) (xs : List X)
+    → length (int_attribute name (map f xs)) ≡ 12 + padded_length (length name) + 4 * length xs
 length-int_attribute name f xs =
     let spelled = ap length (int_attribute-map name f xs) in
     let field = length-name_field name in
@@ -98,10 +102,12 @@ pub length-element_list : (tag : ℕ) (elements : List (List ℕ)) → length (e
 length-element_list tag elements = length-append (word tag ++ word (length elements)) (concat elements)
 
 -- a list of fixed elements and further ones
-pub element_list-append : {X : Type 0} → (tag n : ℕ) (front : List (List ℕ)) (f : X → List ℕ) (xs : List X) → length front ≡ n → element_list tag (front ++ map f xs) ≡ word tag ++ word (length xs + n) ++ concat front ++ flat_map f xs
+pub element_list-append : {X : Type 0} → (tag n : ℕ) (front : List (List ℕ)) (f : X → List ℕ) (xs : List X) → length front ≡ n
+    → element_list tag (front ++ map f xs) ≡ word tag ++ word (length xs + n) ++ concat front ++ flat_map f xs
 element_list-append tag n front f xs h =
     let count : length (front ++ map f xs) ≡ length xs + n = (let both = length-append front (map f xs) in let more = length-map xs f in omega arith) in
-    let content : concat (front ++ map f xs) ≡ concat front ++ flat_map f xs = concat-append front (map f xs) ∙ ap (λ rest. concat front ++ rest) (concat-map f xs) in
+    let content : concat (front ++ map f xs) ≡ concat front ++ flat_map f xs =
+    concat-append front (map f xs) ∙ ap (λ rest. concat front ++ rest) (concat-map f xs) in
     ap (λ m. word tag ++ word m ++ concat (front ++ map f xs)) count
     ∙ ap (λ rest. word tag ++ word (length xs + n) ++ rest) content
     ∙ sym (append_assoc (word tag ++ word (length xs + n)) (concat front) (flat_map f xs))
@@ -123,7 +129,8 @@ length_in_room text room h =
     let zeros : length (replicate {A = ℕ} (room - length text) 0) ≡ room - length text = length-replicate (room - length text) 0 in
     omega arith
 
-pub padded_text : (text : List ℕ) (room : ℕ) → length text ≤ room → padded_values 2 (text ++ replicate (room - length text) 0) ≡ text ++ replicate (room - length text) 0 ++ replicate (gap room) 0
+pub padded_text : (text : List ℕ) (room : ℕ) → length text ≤ room
+    → padded_values 2 (text ++ replicate (room - length text) 0) ≡ text ++ replicate (room - length text) 0 ++ replicate (gap room) 0
 padded_text text room h =
     let whole = text ++ replicate (room - length text) 0 in
     ap (λ n. whole ++ take (gap n) (0 ∷ 0 ∷ 0 ∷ [])) (length_in_room text room h) ∙ ap (λ rest. whole ++ rest) (take_zeros (gap room) (gap_few room))

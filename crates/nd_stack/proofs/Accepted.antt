@@ -19,7 +19,8 @@ use Rattle.nd_stack.specs.FrameVars.{frame_misfit}
 use Rattle.nd_stack.specs.AttrVars.{attr_misfit}
 use Rattle.nd_stack.specs.StackRules.{frames_of, no_misfit}
 
-pub bind-Ok : {A B : Type 0} (first : Result A StackFault) (next : A → Result B StackFault) (y : B) → (first >>= next) ≡ Ok y → (x : A) × (first ≡ Ok x) × (next x ≡ Ok y)
+pub bind-Ok : {A B : Type 0} (first : Result A StackFault) (next : A → Result B StackFault) (y : B) → (first >>= next) ≡ Ok y
+    → (x : A) × (first ≡ Ok x) × (next x ≡ Ok y)
 bind-Ok (Ok x) next y e = (x, refl, e)
 bind-Ok (Err fault) next y e = absurd (cc)
 
@@ -66,7 +67,8 @@ second_or other (Err fault) = other
 pair-first : (a b : HeadVar) (s t : SampleType) → ◌≡◌ {A = Result (HeadVar × SampleType) StackFault} (Ok (a, s)) (Ok (b, t)) → (a ≡ b) × (s ≡ t)
 pair-first a b s t e = (ap (first_or a) e, ap (second_or s) e)
 
-accepted_by : (h : Header) (w v : HeadVar) (t kind : SampleType) → variable_of h (codes "array_data") ≡ Some w → sample_type h w.kind ≡ Ok t → checks h w t ≡ Ok (v, kind) → IsAccepted h v kind
+accepted_by : (h : Header) (w v : HeadVar) (t kind : SampleType) → variable_of h (codes "array_data") ≡ Some w → sample_type h w.kind ≡ Ok t
+    → checks h w t ≡ Ok (v, kind) → IsAccepted h v kind
 accepted_by h w v t kind found typed e =
     let c = bind-Ok (need (nat_le 2 (length w.dims) && nat_le (length w.dims) 11) (Rank (length w.dims))) _ (v, kind) e in
     let d = bind-Ok (need (nat_le (frame_count h w) 65536) (TooManyFrames (frame_count h w))) _ (v, kind) c.2 in
@@ -94,7 +96,8 @@ frames_of-IsAccepted h v kind e =
     let b = bind-Ok (sample_type h a.0.kind) (checks h a.0) (v, kind) a.2 in
     accepted_by h a.0 v b.0 kind (found-Ok (variable_of h (codes "array_data")) NoArrayData a.0 a.1) b.1 b.2
 
-as_tested : (b : Bool) (s : SampleType) (d : ℤ) (kind : ℕ) (t : SampleType) → (stored_as s == kind) ≡ b → (if b then Ok s else Err (refusal.SampleType d)) ≡ Ok t → stored_as t ≡ kind
+as_tested : (b : Bool) (s : SampleType) (d : ℤ) (kind : ℕ) (t : SampleType) → (stored_as s == kind) ≡ b
+    → (if b then Ok s else Err (refusal.SampleType d)) ≡ Ok t → stored_as t ≡ kind
 as_tested true s d kind t is e = let same : s ≡ t = cc in ap stored_as (sym same) ∙ eqb-true (stored_as s) kind is
 as_tested false s d kind t is e = absurd (cc)
 
@@ -104,7 +107,8 @@ numbered_as (Some s) d kind t e = as_tested (stored_as s == kind) s d kind t ref
 
 stored_by : (one three four two five : Bool) (kind : ℕ) (t : SampleType) → (kind == 1) ≡ one → (kind == 3) ≡ three → (kind == 4) ≡ four →
     (if one then Ok Int8 else (if three then Ok Int16 else (if four then Ok Int32
-    else (if two then Err (refusal.SampleType (negsuc 1)) else (if five then Err (refusal.SampleType (negsuc 4)) else Err (refusal.SampleType (negsuc 5))))))) ≡ Ok t → stored_as t ≡ kind
+    else (if two then Err (refusal.SampleType (negsuc 1)) else (if five then Err (refusal.SampleType (negsuc 4)) else Err (refusal.SampleType (negsuc 5)))))))
+    ≡ Ok t → stored_as t ≡ kind
 stored_by true three four two five kind t a b c e = let same : Int8 ≡ t = cc in ap stored_as (sym same) ∙ sym (eqb-true kind 1 a)
 stored_by false true four two five kind t a b c e = let same : Int16 ≡ t = cc in ap stored_as (sym same) ∙ sym (eqb-true kind 3 b)
 stored_by false false true two five kind t a b c e = let same : Int32 ≡ t = cc in ap stored_as (sym same) ∙ sym (eqb-true kind 4 c)

@@ -41,7 +41,8 @@ list_all-reverse p (x ∷ xs) h =
     ap (list_all p) (reverse-cons x xs) ∙ list_all-append p (reverse xs) (x ∷ []) ∙ ap (λ b. b && list_all p (x ∷ [])) (list_all-reverse p xs parts.1) ∙ last
 
 -- lengths that aren't 0 are all counted
-counted : (dims : List HeadDim) (numbers : List ℕ) → All (λ n. 0 < dim_length dims n) numbers → filter (nat_lt 0) (map (dim_length dims) numbers) ≡ map (dim_length dims) numbers
+counted : (dims : List HeadDim) (numbers : List ℕ) → All (λ n. 0 < dim_length dims n) numbers
+    → filter (nat_lt 0) (map (dim_length dims) numbers) ≡ map (dim_length dims) numbers
 counted dims [] h = refl
 counted dims (n ∷ numbers) h =
     let here : nat_lt 0 (dim_length dims n) ≡ true = lt-ltb 0 (dim_length dims n) (All-head (λ n. 0 < dim_length dims n) n numbers h) in
@@ -54,7 +55,8 @@ none_empty dims (n ∷ numbers) h =
     ap (λ b. b && list_all (nat_lt 0) (map (dim_length dims) numbers)) here ∙ none_empty dims numbers (All-tail (λ n. 0 < dim_length dims n) n numbers h)
 
 -- each dimension has its size
-sizes_kept : (h : Header) (xs : List ℕ) → map (λ (d : Dim). d.size) (map (λ i. dim_of h (length xs) i (slice_index_or xs i 0)) (range_with_len 0 (length xs))) ≡ xs
+sizes_kept : (h : Header) (xs : List ℕ)
+    → map (λ (d : Dim). d.size) (map (λ i. dim_of h (length xs) i (slice_index_or xs i 0)) (range_with_len 0 (length xs))) ≡ xs
 sizes_kept h xs =
     map-map (λ (d : Dim). d.size) (λ i. dim_of h (length xs) i (slice_index_or xs i 0)) (range_with_len 0 (length xs))
     ∙ sym (fill_by_all (λ i. slice_index_or xs i 0) xs (length xs) 0 refl (λ k within. refl))
@@ -74,7 +76,8 @@ pub sample_count-dims_of : (h : Header) (v : HeadVar) → All (λ n. 0 < dim_len
 sample_count-dims_of h v fixed =
     ap product (dims_of-sizes h v) ∙ product-reverse (map (dim_length h.dims) (drop 1 v.dims)) ∙ ap product (sym (counted h.dims (drop 1 v.dims) fixed))
 
-dims_of-none_empty : (h : Header) (v : HeadVar) → All (λ n. 0 < dim_length h.dims n) (drop 1 v.dims) → list_all (λ (d : Dim). nat_lt 0 d.size) (dims_of h v) ≡ true
+dims_of-none_empty : (h : Header) (v : HeadVar) → All (λ n. 0 < dim_length h.dims n) (drop 1 v.dims)
+    → list_all (λ (d : Dim). nat_lt 0 d.size) (dims_of h v) ≡ true
 dims_of-none_empty h v fixed =
     sym (list_all-map (nat_lt 0) (λ (d : Dim). d.size) (dims_of h v)) ∙ ap (list_all (nat_lt 0)) (dims_of-sizes h v)
     ∙ list_all-reverse (nat_lt 0) (map (dim_length h.dims) (drop 1 v.dims)) (none_empty h.dims (drop 1 v.dims) fixed)
@@ -82,7 +85,8 @@ dims_of-none_empty h v fixed =
 count_fits : (n : ℕ) → 1 ≤ n → n ≤ 10 → (not (n == 0) && nat_le n 10) ≡ true
 count_fits n least most = grind (arith, nat_tests)
 
-pub dims_of-has_dimensions : (h : Header) (v : HeadVar) → 2 ≤ length v.dims → length v.dims ≤ 11 → All (λ n. 0 < dim_length h.dims n) (drop 1 v.dims) → has_dimensions (dims_of h v) ≡ true
+pub dims_of-has_dimensions : (h : Header) (v : HeadVar) → 2 ≤ length v.dims → length v.dims ≤ 11 → All (λ n. 0 < dim_length h.dims n) (drop 1 v.dims)
+    → has_dimensions (dims_of h v) ≡ true
 dims_of-has_dimensions h v least most fixed =
     let count = length-dims_of h v in
     ap (λ b. b && list_all (λ (d : Dim). nat_lt 0 d.size) (dims_of h v)) (count_fits (length (dims_of h v)) (omega (arith, count)) (omega (arith, count)))
@@ -102,7 +106,8 @@ size_at dims numbers i within =
     ∙ ap (dim_length dims) (get_or_after_one numbers (length numbers - 1 - 1 - i) 0 ∙ ap (λ n. get_or numbers n 0) next)
 
 -- so a dimension of that size is the frame's
-pub frame_dim-is : (h : Header) (v : HeadVar) (i : ℕ) → i < length v.dims - 1 → dim_of h (length v.dims - 1) i (dim_length h.dims (get_or v.dims (length v.dims - 1 - i) 0)) ≡ frame_dim h v i
+pub frame_dim-is : (h : Header) (v : HeadVar) (i : ℕ) → i < length v.dims - 1
+    → dim_of h (length v.dims - 1) i (dim_length h.dims (get_or v.dims (length v.dims - 1 - i) 0)) ≡ frame_dim h v i
 frame_dim-is h v i within =
     ap (λ n. dim_of h n i (dim_length h.dims (get_or v.dims (length v.dims - 1 - i) 0))) (sym (length-sizes_of h v))
     ∙ ap (λ size. dim_of h (length (sizes_of h v)) i size) (sym (size_at h.dims v.dims i within))

@@ -26,7 +26,8 @@ array_data-IsSoundVar total h v kind sound accepted =
     All-find (IsSoundVar total h) (λ w. bytes_eq w.name (codes "array_data")) h.vars v sound.vars accepted.found
 
 -- a frame's samples are the bytes of its values
-pub frame_size-is : (h : Header) (v : HeadVar) (kind : SampleType) → IsAccepted h v kind → All (λ n. 0 < dim_length h.dims n) (drop 1 v.dims) → frame_size (shape_of h v kind) ≡ (column_of h v).size
+pub frame_size-is : (h : Header) (v : HeadVar) (kind : SampleType) → IsAccepted h v kind → All (λ n. 0 < dim_length h.dims n) (drop 1 v.dims)
+    → frame_size (shape_of h v kind) ≡ (column_of h v).size
 frame_size-is h v kind accepted fixed =
     let size : value_size v.kind ≡ width kind = ap value_size (sym (sample_type-stored h v.kind kind accepted.typed)) ∙ stored_as-size kind in
     ap (λ n. n * width kind) (sample_count-dims_of h v fixed) ∙ ap (λ n. frame_values h v * n) (sym size)

@@ -38,7 +38,8 @@ attr earlier a before after h bytes =
     (word a.count h.at_count h.at_values h.count.word (word a.kind h.at_kind h.at_count h.kind.word (name a.name before h.at_kind h.name bytes)))
 
 -- what each element gives and passes on, all of them do
-each_passes : {A : Type 0} (Is : List A → A → List ℕ → List ℕ → Type 0) (P : A → Type 0) → ((earlier : List A) (x : A) (before after : List ℕ) → Is earlier x before after → AreBytes before → P x × AreBytes after) →
+each_passes : {A : Type 0} (Is : List A → A → List ℕ → List ℕ → Type 0) (P : A → Type 0)
+    → ((earlier : List A) (x : A) (before after : List ℕ) → Is earlier x before after → AreBytes before → P x × AreBytes after) →
     (earlier xs : List A) (before after : List ℕ) → AreMany Is earlier xs before after → AreBytes before → All P xs × AreBytes after
 each_passes Is P each earlier [] before after h bytes = (All-nil P, subst AreBytes h bytes)
 each_passes Is P each earlier (x ∷ xs) before after h bytes =
@@ -46,7 +47,8 @@ each_passes Is P each earlier (x ∷ xs) before after h bytes =
     let others = each_passes Is P each (earlier ++ x ∷ []) xs h.0 after h.2 one.1 in
     (All-cons P x xs one.0 others.0, others.1)
 
-list_passes : {A : Type 0} (tag : ℕ) (Is : List A → A → List ℕ → List ℕ → Type 0) (P : A → Type 0) → ((earlier : List A) (x : A) (before after : List ℕ) → Is earlier x before after → AreBytes before → P x × AreBytes after) →
+list_passes : {A : Type 0} (tag : ℕ) (Is : List A → A → List ℕ → List ℕ → Type 0) (P : A → Type 0)
+    → ((earlier : List A) (x : A) (before after : List ℕ) → Is earlier x before after → AreBytes before → P x × AreBytes after) →
     (xs : List A) (before after : List ℕ) → IsList tag Is xs before after → AreBytes before → All P xs × AreBytes after
 list_passes tag Is P each xs before after h bytes =
     let at_count = word h.1.first before h.1.at_count h.1.tag_word bytes in

@@ -8,14 +8,16 @@ use Rattle.nd_base.specs.Samples.{samples_of}
 use Rattle.nd_base.specs.SampleLaws.{length-numbers}
 
 -- another number of values
-pub other_count : (bytes : List ℕ) (count : ℕ) (x other : ℤ) → (length bytes / 4 ≡ count → ⊥) → (if length (samples_of Int32 bytes) == count then x else other) ≡ other
+pub other_count : (bytes : List ℕ) (count : ℕ) (x other : ℤ) → (length bytes / 4 ≡ count → ⊥)
+    → (if length (samples_of Int32 bytes) == count then x else other) ≡ other
 other_count bytes count x other differs =
     let size : length (samples_of Int32 bytes) ≡ length bytes / 4 = length-numbers Int32 (length bytes / 4) bytes in
     let no : (length bytes / 4 == count) ≡ false = grind (arith, nat_tests) in
     rw (size, no) refl
 
 -- one value a dimension
-pub same_count : (bytes : List ℕ) (count i : ℕ) (x other : ℤ) → length bytes / 4 ≡ count → slice_get (samples_of Int32 bytes) i ≡ Some x → (if length (samples_of Int32 bytes) == count then slice_index_or (samples_of Int32 bytes) i other else other) ≡ x
+pub same_count : (bytes : List ℕ) (count i : ℕ) (x other : ℤ) → length bytes / 4 ≡ count → slice_get (samples_of Int32 bytes) i ≡ Some x
+    → (if length (samples_of Int32 bytes) == count then slice_index_or (samples_of Int32 bytes) i other else other) ≡ x
 same_count bytes count i x other same found =
     let size : length (samples_of Int32 bytes) ≡ length bytes / 4 = length-numbers Int32 (length bytes / 4) bytes in
     let yes : (length bytes / 4 == count) ≡ true = grind (arith, nat_tests) in

@@ -51,11 +51,17 @@ attr_vars-IsUtf8 h all =
 
 pub shape_of-HasTextNames : (bytes : List ℕ) (h : Header) (v : HeadVar) (kind : SampleType) → Reads bytes h → HasTextNames (shape_of h v kind)
 shape_of-HasTextNames bytes h v kind reads =
-    let vars = AreMany-All (λ (earlier : List HeadVar). IsVar reads.form h.dims) (λ x. IsUtf8 x.name) (λ earlier x before after is. is.name.utf8) [] h.vars reads.header.vars.0 reads.after reads.header.vars.2 in
-    let gatts = AreMany-All (λ (earlier : List HeadAttr). IsAttr) (λ x. IsUtf8 x.name) (λ earlier x before after is. is.name.utf8) [] h.gatts reads.header.gatts.0 reads.header.at_vars reads.header.gatts.2 in
+    let vars =
+    AreMany-All (λ (earlier : List HeadVar). IsVar reads.form h.dims) (λ x. IsUtf8 x.name)
+    (λ earlier x before after is. is.name.utf8) [] h.vars reads.header.vars.0 reads.after reads.header.vars.2 in
+    let gatts =
+    AreMany-All (λ (earlier : List HeadAttr). IsAttr) (λ x. IsUtf8 x.name)
+    (λ earlier x before after is. is.name.utf8) [] h.gatts reads.header.gatts.0 reads.header.at_vars reads.header.gatts.2 in
     let named = λ (a : HeadAttr). is_attr_name a.name in
     record {
-      attrs = All-map (λ (a : AttrColumn). IsUtf8 a.name) (λ (a : AttrVar). record { name = a.name; kind = attr_kind a.kind }) (attr_vars h) (attr_vars-IsUtf8 h vars);
+      attrs =
+          All-map (λ (a : AttrColumn). IsUtf8 a.name) (λ (a : AttrVar). record { name = a.name; kind = attr_kind a.kind })
+          (attr_vars h) (attr_vars-IsUtf8 h vars);
       extras = All-map (λ (e : Extra). IsUtf8 e.name) extra (filter named h.gatts) (All-filter named (λ a. IsUtf8 a.name) h.gatts gatts);
     }
 
@@ -75,11 +81,14 @@ value_or (v ∷ values) zero other all fits = All-head (FitsSigned w32) v values
 value_or (v ∷ values) (suc i) other all fits = value_or values i other (All-tail (FitsSigned w32) v values all) fits
 
 -- the number of a dimension is within its type
-dim_value-fits : (h : Header) (name : List ℕ) (count i : ℕ) (other : ℤ) → All (λ a. AreBytes a.values) h.gatts → FitsSigned w32 other → FitsSigned w32 (dim_value h name count i other)
+dim_value-fits : (h : Header) (name : List ℕ) (count i : ℕ) (other : ℤ) → All (λ a. AreBytes a.values) h.gatts → FitsSigned w32 other
+    → FitsSigned w32 (dim_value h name count i other)
 dim_value-fits h name count i other all fits = by (length (values_of h name) == count)
   where
     small : All (FitsSigned w32) (values_of h name)
-    small = samples_of-IsSample Int32 (int_bytes h name) (values_found (find (λ a. bytes_eq a.name name) h.gatts) (λ a is. All-find (λ a. AreBytes a.values) (λ a. bytes_eq a.name name) h.gatts a all is))
+    small =
+        samples_of-IsSample Int32 (int_bytes h name)
+        (values_found (find (λ a. bytes_eq a.name name) h.gatts) (λ a is. All-find (λ a. AreBytes a.values) (λ a. bytes_eq a.name name) h.gatts a all is))
 
     by : (one_each : Bool) → FitsSigned w32 (if one_each then slice_index_or (values_of h name) i other else other)
     by true = value_or (values_of h name) i other small fits
@@ -90,6 +99,10 @@ shape_of-HasSmallDims h v kind all =
     let count = length (sizes_of h v) in
     let numbers = range_with_len 0 count in
     record {
-      offsets = All-map (λ (d : Dim). FitsSigned w32 d.offset) (frame_dim h v) numbers (λ i d inside. dim_value-fits h (codes "dimOffset") count (get_or numbers i d) (pos 0) all (omega (arith, ints)));
-      binnings = All-map (λ (d : Dim). FitsSigned w32 d.binning) (frame_dim h v) numbers (λ i d inside. dim_value-fits h (codes "dimBinning") count (get_or numbers i d) (pos 1) all (omega (arith, ints)));
+      offsets =
+          All-map (λ (d : Dim). FitsSigned w32 d.offset) (frame_dim h v) numbers
+          (λ i d inside. dim_value-fits h (codes "dimOffset") count (get_or numbers i d) (pos 0) all (omega (arith, ints)));
+      binnings =
+          All-map (λ (d : Dim). FitsSigned w32 d.binning) (frame_dim h v) numbers
+          (λ i d inside. dim_value-fits h (codes "dimBinning") count (get_or numbers i d) (pos 1) all (omega (arith, ints)));
     }

@@ -93,11 +93,16 @@ value-FitsIn width kind bytes room = by (kind == 1) (kind == 2) (kind == 3) (kin
     by false false false false false e = tt
 
 -- the greatest room is at least that of each
-rooms : (vars : List AttrVar) (start : ℕ) → (start ≤ fold (λ most (a : AttrVar). max most a.column.size) start vars) × All (λ (a : AttrVar). a.column.size ≤ fold (λ most (b : AttrVar). max most b.column.size) start vars) vars
+rooms : (vars : List AttrVar) (start : ℕ)
+    → (start ≤ fold (λ most (a : AttrVar). max most a.column.size) start vars)
+    × All (λ (a : AttrVar). a.column.size ≤ fold (λ most (b : AttrVar). max most b.column.size) start vars) vars
 rooms [] start = (omega arith, All-nil (λ (a : AttrVar). a.column.size ≤ start))
 rooms (a ∷ vars) start =
-    let others = rooms vars (max start a.column.size) in
-    (omega (arith, others.0), All-cons (λ (b : AttrVar). b.column.size ≤ fold (λ most (c : AttrVar). max most c.column.size) (max start a.column.size) vars) a vars (omega (arith, others.0)) others.1)
+    let others = rooms vars (max start a.column.size) in (
+      omega (arith, others.0),
+      All-cons (λ (b : AttrVar). b.column.size ≤ fold (λ most (c : AttrVar). max most c.column.size) (max start a.column.size) vars) a vars
+          (omega (arith, others.0)) others.1,
+    )
 
 -- what holds of those that pass a test
 All-unfiltered : {A : Type 0} (p : A → Bool) (P : A → Type 0) (xs : List A) → All P (filter p xs) → All (λ x. p x ≡ true → P x) xs
@@ -118,7 +123,9 @@ width_by false n e = omega arith
 
 text_fits : (vars : List AttrVar) → All (λ (a : AttrVar). a.kind ≡ 2 → a.column.size ≤ width_of vars) vars
 text_fits vars i d inside is =
-    let room = All-unfiltered (λ (a : AttrVar). a.kind == 2) (λ (a : AttrVar). a.column.size ≤ text_room vars) vars (rooms (filter (λ (a : AttrVar). a.kind == 2) vars) 0).1 in
+    let room =
+    All-unfiltered (λ (a : AttrVar). a.kind == 2) (λ (a : AttrVar). a.column.size ≤ text_room vars) vars
+    (rooms (filter (λ (a : AttrVar). a.kind == 2) vars) 0).1 in
     let text : ((get_or vars i d).kind == 2) ≡ true = rw is refl in
     omega (arith, room i d inside text, width_by (text_room vars == 0) (text_room vars) refl)
 
@@ -144,7 +151,8 @@ record IsKeptHead (shape : FileShape) (head : Head) : Type 0 where
   columns : HasColumns shape head.attrs
   attrs : All (λ t. IsKeptValue t.value) head.attrs
 
-int_for-fits : (bytes : List ℕ) (column : Option Column) (k : ℕ) (missing : ℤ) → AreBytes bytes → FitsSigned w32 missing → FitsSigned w32 (int_for bytes column k missing)
+int_for-fits : (bytes : List ℕ) (column : Option Column) (k : ℕ) (missing : ℤ) → AreBytes bytes → FitsSigned w32 missing
+    → FitsSigned w32 (int_for bytes column k missing)
 int_for-fits bytes None k missing small fits = fits
 int_for-fits bytes (Some c) k missing small fits = number-IsSample Int32 (cell bytes c k) (cell-AreBytes bytes c k small)
 
@@ -152,7 +160,8 @@ bits_for-fits : (bytes : List ℕ) (column : Option Column) (k : ℕ) → AreByt
 bits_for-fits bytes None k small = omega arith
 bits_for-fits bytes (Some c) k small = below_64 (cell bytes c k) (cell-AreBytes bytes c k small)
 
-head_for-IsKeptHead : (bytes : List ℕ) (h : Header) (v : HeadVar) (kind : SampleType) (k : ℕ) → AreBytes bytes → k < 65536 → IsKeptHead (shape_of h v kind) (head_for bytes (times_of h) (attr_vars h) k)
+head_for-IsKeptHead : (bytes : List ℕ) (h : Header) (v : HeadVar) (kind : SampleType) (k : ℕ) → AreBytes bytes → k < 65536
+    → IsKeptHead (shape_of h v kind) (head_for bytes (times_of h) (attr_vars h) k)
 head_for-IsKeptHead bytes h v kind k small few =
     let vars = attr_vars h in
     record {
@@ -162,14 +171,19 @@ head_for-IsKeptHead bytes h v kind k small few =
       nsec = int_for-fits bytes (times_of h).nsec k (pos 0) small (omega (arith, ints));
       columns = record {
         same = same_columns bytes vars k;
-        texts = All-map (λ (t : Attr). FitsIn (width_of vars) t.value) (λ (a : AttrVar). record { name = a.name; value = attr_value a.kind (cell bytes a.column k) }) vars
-            (λ i d inside. value-FitsIn (width_of vars) (get_or vars i d).kind (cell bytes (get_or vars i d).column k) (λ is. omega (arith, text_fits vars i d inside is, cell_length bytes (get_or vars i d).column k)));
+        texts =
+            All-map (λ (t : Attr). FitsIn (width_of vars) t.value)
+            (λ (a : AttrVar). record { name = a.name; value = attr_value a.kind (cell bytes a.column k) }) vars
+            (λ i d inside. value-FitsIn (width_of vars) (get_or vars i d).kind (cell bytes (get_or vars i d).column k)
+            (λ is. omega (arith, text_fits vars i d inside is, cell_length bytes (get_or vars i d).column k)));
       };
       attrs = All-map (λ (t : Attr). IsKeptValue t.value) (λ (a : AttrVar). record { name = a.name; value = attr_value a.kind (cell bytes a.column k) }) vars
-          (λ i d inside. attr_value-IsKeptValue (get_or vars i d).kind (cell bytes (get_or vars i d).column k) (cell-AreBytes bytes (get_or vars i d).column k small));
+          (λ i d inside. attr_value-IsKeptValue (get_or vars i d).kind (cell bytes (get_or vars i d).column k)
+          (cell-AreBytes bytes (get_or vars i d).column k small));
     }
 
-heads_of-IsKeptHead : (bytes : List ℕ) (h : Header) (v : HeadVar) (kind : SampleType) (frames : ℕ) → AreBytes bytes → frames ≤ 65536 → All (IsKeptHead (shape_of h v kind)) (heads_of bytes h frames)
+heads_of-IsKeptHead : (bytes : List ℕ) (h : Header) (v : HeadVar) (kind : SampleType) (frames : ℕ) → AreBytes bytes → frames ≤ 65536
+    → All (IsKeptHead (shape_of h v kind)) (heads_of bytes h frames)
 heads_of-IsKeptHead bytes h v kind frames small few =
     All-map (IsKeptHead (shape_of h v kind)) (head_for bytes (times_of h) (attr_vars h)) (range_with_len 0 frames)
     (λ i d inside.
@@ -181,25 +195,30 @@ heads_of-IsKeptHead bytes h v kind frames small few =
 
 -- what each head gives its array
 each_array : (P : Array → Type 0) (Q : Head → Type 0) (shape : FileShape) (bytes : List ℕ) (place step : ℕ) (heads : List Head) →
-    ((head : Head) (at : ℕ) → Q head → P (array_of head shape.kind shape.dims (take (frame_size shape) (drop at bytes)))) → All Q heads → All P (arrays_at shape bytes place step heads)
+    ((head : Head) (at : ℕ) → Q head → P (array_of head shape.kind shape.dims (take (frame_size shape) (drop at bytes)))) → All Q heads
+    → All P (arrays_at shape bytes place step heads)
 each_array P Q shape bytes place step [] each all = All-nil P
 each_array P Q shape bytes place step (head ∷ heads) each all =
     All-cons P (array_of head shape.kind shape.dims (take (frame_size shape) (drop place bytes))) (arrays_at shape bytes (place + step) step heads)
     (each head place (All-head Q head heads all)) (each_array P Q shape bytes (place + step) step heads each (All-tail Q head heads all))
 
-array-IsKept : (shape : FileShape) (bytes : List ℕ) (head : Head) (at : ℕ) → AreBytes bytes → IsKeptHead shape head → IsKept (array_of head shape.kind shape.dims (take (frame_size shape) (drop at bytes)))
+array-IsKept : (shape : FileShape) (bytes : List ℕ) (head : Head) (at : ℕ) → AreBytes bytes → IsKeptHead shape head
+    → IsKept (array_of head shape.kind shape.dims (take (frame_size shape) (drop at bytes)))
 array-IsKept shape bytes head at small kept = record {
   id = kept.id;
   stamp = kept.stamp;
   sec = kept.sec;
   nsec = kept.nsec;
-  samples = samples_of-IsSample shape.kind (take (frame_size shape) (drop at bytes)) (All-take (λ b. b < 256) (frame_size shape) (drop at bytes) (All-drop (λ b. b < 256) at bytes small));
+  samples =
+      samples_of-IsSample shape.kind
+      (take (frame_size shape) (drop at bytes)) (All-take (λ b. b < 256) (frame_size shape) (drop at bytes) (All-drop (λ b. b < 256) at bytes small));
   attrs = kept.attrs;
 }
 
 -- THE STACK
 
-stack_with-IsKeptStack : (bytes : List ℕ) (h : Header) (v : HeadVar) (kind : SampleType) → AreBytes bytes → stack_of bytes ≡ Ok (stack_with bytes h v kind) → Reads bytes h → IsAccepted h v kind → IsKeptStack (stack_with bytes h v kind)
+stack_with-IsKeptStack : (bytes : List ℕ) (h : Header) (v : HeadVar) (kind : SampleType) → AreBytes bytes → stack_of bytes ≡ Ok (stack_with bytes h v kind)
+    → Reads bytes h → IsAccepted h v kind → IsKeptStack (stack_with bytes h v kind)
 stack_with-IsKeptStack bytes h v kind small is reads accepted =
     let shape = shape_of h v kind in
     let heads = heads_of bytes h (frame_count h v) in

@@ -19,7 +19,8 @@ no_zeros : (bytes : List ℕ) → All (λ b. b ≢ 0) (take_while (λ b. not (b 
 no_zeros [] = All-nil (λ b. b ≢ 0)
 no_zeros (b ∷ bytes) = subst (All (λ c. c ≢ 0)) (sym (take_while-cons (λ c. not (c == 0)) b bytes)) (by (b == 0) refl (no_zeros bytes))
   where
-    by : (zero : Bool) → (b == 0) ≡ zero → All (λ c. c ≢ 0) (take_while (λ c. not (c == 0)) bytes) → All (λ c. c ≢ 0) (cond (not zero) (b ∷ take_while (λ c. not (c == 0)) bytes) [])
+    by : (zero : Bool) → (b == 0) ≡ zero → All (λ c. c ≢ 0) (take_while (λ c. not (c == 0)) bytes)
+        → All (λ c. c ≢ 0) (cond (not zero) (b ∷ take_while (λ c. not (c == 0)) bytes) [])
     by true e others = All-nil (λ c. c ≢ 0)
     by false e others = All-cons (λ c. c ≢ 0) b (take_while (λ c. not (c == 0)) bytes) (eqb-false b 0 e) others
 

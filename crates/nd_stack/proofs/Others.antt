@@ -26,14 +26,17 @@ find-none p (x ∷ xs) fails =
     let here : p x ≡ false = fails 0 x (omega arith) in
     rw here (find-none p xs (λ k d within. fails (suc k) d (omega arith)))
 
-passes_or : (b : Bool) (found : Option HeadVar) (number : Option ℕ) (p : HeadVar → Bool) (w : HeadVar) → option_map_or p found true ≡ b → (if b then None else number) ≡ None → found ≡ Some w → (number ≡ None → found ≡ None) → p w ≡ true
+passes_or : (b : Bool) (found : Option HeadVar) (number : Option ℕ) (p : HeadVar → Bool) (w : HeadVar) → option_map_or p found true ≡ b
+    → (if b then None else number) ≡ None → found ≡ Some w → (number ≡ None → found ≡ None) → p w ≡ true
 passes_or true found number p w is e some none = ap (λ o. option_map_or p o true) (sym some) ∙ is
 passes_or false found number p w is e some none = let no : found ≡ None = none e in absurd (cc)
 
 -- the variable of a name that has no misfit has its form
-named_fits : (h : Header) (frames : ℕ) (name : List ℕ) (kind : ℕ) (w : HeadVar) → misfit h frames name kind ≡ None → variable_of h name ≡ Some w → is_frame_var h frames kind w ≡ true
+named_fits : (h : Header) (frames : ℕ) (name : List ℕ) (kind : ℕ) (w : HeadVar) → misfit h frames name kind ≡ None → variable_of h name ≡ Some w
+    → is_frame_var h frames kind w ≡ true
 named_fits h frames name kind w e found =
-    passes_or (option_map_or (is_frame_var h frames kind) (variable_of h name) true) (variable_of h name) (number_of h name) (is_frame_var h frames kind) w refl e found
+    passes_or (option_map_or (is_frame_var h frames kind) (variable_of h name) true) (variable_of h name) (number_of h name)
+    (is_frame_var h frames kind) w refl e found
     (λ none. find-none (λ v. bytes_eq v.name name) h.vars (position-None (λ v. bytes_eq v.name name) h.vars none))
 
 -- one value a frame
@@ -43,22 +46,26 @@ one_value h v rank =
     ap (λ numbers. value_count h.dims numbers * value_size v.kind) none ∙ one-mul (value_size v.kind)
 
 -- a variable that counts the frames has bytes for each
-counted_within : (total : ℕ) (h : Header) (v : HeadVar) (frames rank k : ℕ) → IsSoundVar total h v → counts_frames h frames rank v ≡ true → k < frames → (length v.dims ≡ rank) × ((column_of h v).first + k * (column_of h v).step + (column_of h v).size ≤ total)
+counted_within : (total : ℕ) (h : Header) (v : HeadVar) (frames rank k : ℕ) → IsSoundVar total h v → counts_frames h frames rank v ≡ true → k < frames
+    → (length v.dims ≡ rank) × ((column_of h v).first + k * (column_of h v).step + (column_of h v).size ≤ total)
 counted_within total h v frames rank k sound counts within =
     let parts = and_parts (length v.dims == rank) (frame_count h v == frames) counts in
     let all : frame_count h v ≡ frames = eqb-true (frame_count h v) frames parts.1 in
     (eqb-true (length v.dims) rank parts.0, column_of-LiesWithin h v total sound.end k (rw all within))
 
-fits_cell : (total : ℕ) (h : Header) (v : HeadVar) (frames kind k : ℕ) → IsSoundVar total h v → is_frame_var h frames kind v ≡ true → k < frames → HasCell total (value_size kind) k (column_of h v)
+fits_cell : (total : ℕ) (h : Header) (v : HeadVar) (frames kind k : ℕ) → IsSoundVar total h v → is_frame_var h frames kind v ≡ true → k < frames
+    → HasCell total (value_size kind) k (column_of h v)
 fits_cell total h v frames kind k sound fits within =
     let parts = and_parts (counts_frames h frames 1 v) (v.kind == kind) fits in
     let cell = counted_within total h v frames 1 k sound parts.0 within in
     (cell.1, one_value h v cell.0 ∙ ap value_size (eqb-true v.kind kind parts.1))
 
-named_cell : (total : ℕ) (h : Header) (frames : ℕ) (name : List ℕ) (kind k : ℕ) (found : Option HeadVar) → IsSound total h → misfit h frames name kind ≡ None → variable_of h name ≡ found → k < frames → IfSome (option_map (column_of h) found) (HasCell total (value_size kind) k)
+named_cell : (total : ℕ) (h : Header) (frames : ℕ) (name : List ℕ) (kind k : ℕ) (found : Option HeadVar) → IsSound total h → misfit h frames name kind ≡ None
+    → variable_of h name ≡ found → k < frames → IfSome (option_map (column_of h) found) (HasCell total (value_size kind) k)
 named_cell total h frames name kind k None sound e is within = tt
 named_cell total h frames name kind k (Some w) sound e is within =
-    fits_cell total h w frames kind k (All-find (IsSoundVar total h) (λ v. bytes_eq v.name name) h.vars w sound.vars is) (named_fits h frames name kind w e is) within
+    fits_cell total h w frames kind k (All-find (IsSoundVar total h) (λ v. bytes_eq v.name name) h.vars w sound.vars is)
+    (named_fits h frames name kind w e is) within
 
 none_earlier : (m n : Option ℕ) → earlier m n ≡ None → (m ≡ None) × (n ≡ None)
 none_earlier None n e = (refl, e)
@@ -68,7 +75,9 @@ none_earlier (Some m) (Some n) e = absurd (cc)
 -- the per-frame variables have a value for each frame
 pub times-HasTimes : (total : ℕ) (h : Header) (frames k : ℕ) → IsSound total h → frame_misfit h frames ≡ None → k < frames → HasTimes total k (times_of h)
 times-HasTimes total h frames k sound e within =
-    let both = none_earlier (earlier (misfit h frames (codes "uniqueId") 4) (misfit h frames (codes "timeStamp") 6)) (earlier (misfit h frames (codes "epicsTSSec") 4) (misfit h frames (codes "epicsTSNsec") 4)) e in
+    let both =
+    none_earlier (earlier (misfit h frames (codes "uniqueId") 4) (misfit h frames (codes "timeStamp") 6))
+    (earlier (misfit h frames (codes "epicsTSSec") 4) (misfit h frames (codes "epicsTSNsec") 4)) e in
     let times = none_earlier (misfit h frames (codes "uniqueId") 4) (misfit h frames (codes "timeStamp") 6) both.0 in
     let seconds = none_earlier (misfit h frames (codes "epicsTSSec") 4) (misfit h frames (codes "epicsTSNsec") 4) both.1 in
     record {
@@ -104,7 +113,8 @@ rank_of_number : (b : Bool) (kind : ℕ) → (kind == 2) ≡ b → kind ≢ 2 �
 rank_of_number true kind is other = absurd (other (eqb-true kind 2 is))
 rank_of_number false kind is other = refl
 
-has_attr : (total : ℕ) (h : Header) (frames k : ℕ) (v : HeadVar) → IsCounted total h frames v → is_attr_var v ≡ true → k < frames → HasAttr total k (attr_var h v)
+has_attr : (total : ℕ) (h : Header) (frames k : ℕ) (v : HeadVar) → IsCounted total h frames v → is_attr_var v ≡ true
+    → k < frames → HasAttr total k (attr_var h v)
 has_attr total h frames k v counted is within =
     let cell = counted_within total h v frames (attr_rank v.kind) k counted.sound (counted.counts is) within in
     record {
@@ -119,4 +129,5 @@ pub attrs-HasAttr : (total : ℕ) (h : Header) (frames k : ℕ) → IsSound tota
 attrs-HasAttr total h frames k sound e within =
     let counted = All-filter is_attr_var (IsCounted total h frames) h.vars (all_counted total h frames sound e) in
     let are = filter_passes is_attr_var h.vars in
-    All-map (HasAttr total k) (attr_var h) (filter is_attr_var h.vars) (λ i d inside. has_attr total h frames k (get_or (filter is_attr_var h.vars) i d) (counted i d inside) (are i d inside) within)
+    All-map (HasAttr total k) (attr_var h) (filter is_attr_var h.vars)
+    (λ i d inside. has_attr total h frames k (get_or (filter is_attr_var h.vars) i d) (counted i d inside) (are i d inside) within)

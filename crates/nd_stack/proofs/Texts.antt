@@ -25,7 +25,8 @@ one_kept true f front x = map-append f front (x ∷ [])
 one_kept false f front x = map-append f front []
 
 -- one element more of those that pass a test
-pub map-filter_more : {X Y : Type 0} (p : X → Bool) (f : X → Y) (xs : List X) (i : ℕ) (x : X) → i < length xs → x ≡ get_or xs i x → map f (filter p (take (i + 1) xs)) ≡ map f (filter p (take i xs)) ++ cond (p x) (f x ∷ []) []
+pub map-filter_more : {X Y : Type 0} (p : X → Bool) (f : X → Y) (xs : List X) (i : ℕ) (x : X) → i < length xs → x ≡ get_or xs i x
+    → map f (filter p (take (i + 1) xs)) ≡ map f (filter p (take i xs)) ++ cond (p x) (f x ∷ []) []
 map-filter_more p f xs i x within is =
     ap (map f) (filter_more p xs i x within) ∙ one_kept (p (get_or xs i x)) f (filter p (take i xs)) (get_or xs i x)
     ∙ ap (λ y. map f (filter p (take i xs)) ++ cond (p y) (f y ∷ []) []) (sym is)

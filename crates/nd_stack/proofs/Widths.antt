@@ -26,19 +26,22 @@ one_left dims [] e all = absurd (omega arith)
 one_left dims (n ∷ []) e all = omega (arith, value_count-cons dims n [], dim_length-most dims n all)
 one_left dims (n ∷ m ∷ numbers) e all = absurd (omega arith)
 
-text_size : (total : ℕ) (h : Header) (frames : ℕ) (v : HeadVar) → IsSound total h → IsCounted total h frames v → is_attr_var v ≡ true → v.kind ≡ 2 → (column_of h v).size ≤ 2147483647
+text_size : (total : ℕ) (h : Header) (frames : ℕ) (v : HeadVar) → IsSound total h → IsCounted total h frames v → is_attr_var v ≡ true → v.kind ≡ 2
+    → (column_of h v).size ≤ 2147483647
 text_size total h frames v sound counted is kind =
     let rank : length v.dims ≡ 2 = counted_rank total h frames v counted is ∙ ap attr_rank kind in
     let one : length (drop 1 v.dims) ≡ 1 = length-drop 1 v.dims ∙ omega (arith, rank) in
     subst (λ n. value_count h.dims (drop 1 v.dims) * value_size n ≤ 2147483647) (sym kind) (one_left h.dims (drop 1 v.dims) one sound.lengths)
 
-fold-most : (vars : List AttrVar) (start m : ℕ) → start ≤ m → All (λ (a : AttrVar). a.column.size ≤ m) vars → fold (λ most (a : AttrVar). max most a.column.size) start vars ≤ m
+fold-most : (vars : List AttrVar) (start m : ℕ) → start ≤ m → All (λ (a : AttrVar). a.column.size ≤ m) vars
+    → fold (λ most (a : AttrVar). max most a.column.size) start vars ≤ m
 fold-most [] start m low all = low
 fold-most (a ∷ vars) start m low all =
     let here = All-head (λ (a : AttrVar). a.column.size ≤ m) a vars all in
     fold-most vars (max start a.column.size) m (omega arith) (All-tail (λ (a : AttrVar). a.column.size ≤ m) a vars all)
 
-texts_small : (total : ℕ) (h : Header) (frames : ℕ) → IsSound total h → All (IsCounted total h frames) h.vars → All (λ (a : AttrVar). a.kind ≡ 2 → a.column.size ≤ 2147483647) (attr_vars h)
+texts_small : (total : ℕ) (h : Header) (frames : ℕ) → IsSound total h → All (IsCounted total h frames) h.vars
+    → All (λ (a : AttrVar). a.kind ≡ 2 → a.column.size ≤ 2147483647) (attr_vars h)
 texts_small total h frames sound all =
     let counted = All-filter is_attr_var (IsCounted total h frames) h.vars all in
     let are = filter_passes is_attr_var h.vars in
@@ -58,4 +61,5 @@ width_by false n low = low
 
 pub width_of-most : (total : ℕ) (h : Header) (frames : ℕ) → IsSound total h → attr_misfit h frames ≡ None → width_of (attr_vars h) ≤ 2147483647
 width_of-most total h frames sound e =
-    width_by (text_room (attr_vars h) == 0) (text_room (attr_vars h)) (room_most (attr_vars h) (texts_small total h frames sound (all_counted total h frames sound e)))
+    width_by (text_room (attr_vars h) == 0) (text_room (attr_vars h))
+    (room_most (attr_vars h) (texts_small total h frames sound (all_counted total h frames sound e)))

@@ -56,7 +56,8 @@ attr-IsWhole a before after h = record { name = (h.name.least, h.name.most); kin
 whole-IsExtra : (a : HeadAttr) → IsWhole a → IsExtra (record { name = a.name; kind = a.kind; values = a.values })
 whole-IsExtra a h =
     let size : length a.values ≡ a.count * type_size a.kind = h.size ∙ ap (λ n. a.count * n) (sym (type_size-value_size a.kind h.kind.0 h.kind.1)) in
-    let count : length a.values / type_size a.kind ≡ a.count = ap (λ n. n / type_size a.kind) size ∙ mul-div_cancel a.count (type_size-positive a.kind h.kind.0 h.kind.1) in
+    let count : length a.values / type_size a.kind ≡ a.count =
+    ap (λ n. n / type_size a.kind) size ∙ mul-div_cancel a.count (type_size-positive a.kind h.kind.0 h.kind.1) in
     record {
       name = h.name;
       kind = h.kind;
@@ -68,7 +69,8 @@ extras-IsExtra : (h : Header) → All IsWhole h.gatts → All IsExtra (extras_of
 extras-IsExtra h all =
     let named = λ (a : HeadAttr). is_attr_name a.name in
     let kept = All-filter named IsWhole h.gatts all in
-    All-map IsExtra (λ (a : HeadAttr). record { name = a.name; kind = a.kind; values = a.values }) (filter named h.gatts) (λ i d inside. whole-IsExtra (get_or (filter named h.gatts) i d) (kept i d inside))
+    All-map IsExtra (λ (a : HeadAttr). record { name = a.name; kind = a.kind; values = a.values }) (filter named h.gatts)
+    (λ i d inside. whole-IsExtra (get_or (filter named h.gatts) i d) (kept i d inside))
 
 length-extras_of : (h : Header) → length (extras_of h) ≤ length h.gatts
 length-extras_of h =
@@ -91,7 +93,8 @@ attr_vars-named h all =
     (λ i d inside. attr_length (get_or (filter is_attr_var h.vars) i d) (are i d inside) (kept i d inside))
 
 length-attr_vars : (h : Header) → length (attr_vars h) ≤ length h.vars
-length-attr_vars h = omega (arith, length-map (filter is_attr_var h.vars) (attr_var h), length-filter_both is_attr_var (λ v. not (is_attr_var v)) (λ _. refl) h.vars)
+length-attr_vars h =
+    omega (arith, length-map (filter is_attr_var h.vars) (attr_var h), length-filter_both is_attr_var (λ v. not (is_attr_var v)) (λ _. refl) h.vars)
 
 -- THE ROOM OF A TEXT
 
@@ -108,8 +111,12 @@ accepted-IsWritable : (bytes : List ℕ) (h : Header) (v : HeadVar) (kind : Samp
 accepted-IsWritable bytes h v kind reads accepted =
     let sound = Reads-IsSound bytes h reads in
     let this : IsSoundVar (length bytes) h v = All-find (IsSoundVar (length bytes) h) _ h.vars v sound.vars accepted.found in
-    let named = AreMany-All (λ (earlier : List HeadVar). IsVar reads.form h.dims) (λ x. length x.name ≤ 1024) (λ earlier x before after is. is.name.most) [] h.vars reads.header.vars.0 reads.after reads.header.vars.2 in
-    let whole = AreMany-All (λ (earlier : List HeadAttr). IsAttr) IsWhole (λ earlier x before after is. attr-IsWhole x before after is) [] h.gatts reads.header.gatts.0 reads.header.at_vars reads.header.gatts.2 in
+    let named =
+    AreMany-All (λ (earlier : List HeadVar). IsVar reads.form h.dims)
+    (λ x. length x.name ≤ 1024) (λ earlier x before after is. is.name.most) [] h.vars reads.header.vars.0 reads.after reads.header.vars.2 in
+    let whole =
+    AreMany-All (λ (earlier : List HeadAttr). IsAttr) IsWhole (λ earlier x before after is. attr-IsWhole x before after is)
+    [] h.gatts reads.header.gatts.0 reads.header.at_vars reads.header.gatts.2 in
     let few = reads.header.gatts.1.number.positive in
     let least = leb-true 2 (length v.dims) accepted.least in
     let most = leb-true (length v.dims) 11 accepted.most in
@@ -118,8 +125,16 @@ accepted-IsWritable bytes h v kind reads accepted =
       dimensions = dims_of-has_dimensions h v least most this.fixed;
       samples = omega (arith, count, sample_count-dims_of h v this.fixed);
       width = (width_of-positive (attr_vars h), width_of-most (length bytes) h (frame_count h v) sound accepted.attrs);
-      attrs = omega (arith, sound.few, length-attr_vars h, length-map {B = AttrColumn} (attr_vars h) (λ (a : AttrVar). record { name = a.name; kind = attr_kind a.kind }));
-      names = All-map (λ (a : AttrColumn). IsBetween 1 1019 (length a.name)) (λ (a : AttrVar). record { name = a.name; kind = attr_kind a.kind }) (attr_vars h) (attr_vars-named h named);
+      attrs =
+          omega (
+            arith,
+            sound.few,
+            length-attr_vars h,
+            length-map {B = AttrColumn} (attr_vars h) (λ (a : AttrVar). record { name = a.name; kind = attr_kind a.kind }),
+          );
+      names =
+          All-map (λ (a : AttrColumn). IsBetween 1 1019 (length a.name)) (λ (a : AttrVar). record { name = a.name; kind = attr_kind a.kind })
+          (attr_vars h) (attr_vars-named h named);
       extras = omega (arith, few, length-extras_of h);
       each_extra = extras-IsExtra h whole;
     }

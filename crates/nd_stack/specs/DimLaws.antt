@@ -37,7 +37,8 @@ ascii-IsUtf8 name e = IsUtf8-from_ascii name (ascii-IsAscii name e)
 
 -- THE LIST
 
-dimension-IsDim : (earlier : List HeadDim) (name : List ℕ) (n : ℕ) (after : List ℕ) → 1 ≤ length name → length name ≤ 1024 → IsUtf8 name → n ≤ greatest → (n ≡ 0 → All (λ e. e.length ≢ 0) earlier) →
+dimension-IsDim : (earlier : List HeadDim) (name : List ℕ) (n : ℕ) (after : List ℕ) → 1 ≤ length name → length name ≤ 1024 → IsUtf8 name → n ≤ greatest
+    → (n ≡ 0 → All (λ e. e.length ≢ 0) earlier) →
     IsDim earlier (record { name = name; length = n }) (dimension name n ++ after) after
 dimension-IsDim earlier name n after least most utf8 small one =
     subst (λ before. IsDim earlier (record { name = name; length = n }) before after) (sym (append_assoc (name_field name) (word n) after)) (record {
@@ -50,18 +51,21 @@ dimension-IsDim earlier name n after least most utf8 small one =
 digit_name : (i : ℕ) → i < 10 → list_all (λ byte. nat_lt byte 128) (codes "dim" ++ (48 + i) ∷ []) ≡ true
 digit_name i h = grind (arith, nat_tests)
 
-sizes_spelled : (i : ℕ) (ns : List ℕ) (earlier : List HeadDim) → i + length ns ≤ 10 → All (IsBetween 1 greatest) ns → AreSpelled IsDim earlier (size_dimensions i ns) (size_dims i ns)
+sizes_spelled : (i : ℕ) (ns : List ℕ) (earlier : List HeadDim) → i + length ns ≤ 10 → All (IsBetween 1 greatest) ns
+    → AreSpelled IsDim earlier (size_dimensions i ns) (size_dims i ns)
 sizes_spelled i [] earlier few small = tt
 sizes_spelled i (n ∷ ns) earlier few small =
     let here = All-head (IsBetween 1 greatest) n ns small in
     let name : List ℕ = codes "dim" ++ (48 + i) ∷ [] in
     let d : HeadDim = record { name = name; length = n } in (
-      λ after. dimension-IsDim earlier name n after (omega arith) (omega arith) (ascii-IsUtf8 name (digit_name i (omega arith))) here.1 (λ none. absurd (omega (arith, here.0, none))),
+      λ after. dimension-IsDim earlier name n after (omega arith) (omega arith) (ascii-IsUtf8 name (digit_name i (omega arith))) here.1
+          (λ none. absurd (omega (arith, here.0, none))),
       sizes_spelled (i + 1) ns (earlier ++ d ∷ []) (omega arith) (All-tail (IsBetween 1 greatest) n ns small),
     )
 
 -- sizes whose product is small are small
-sizes_small : (dims : List Dim) (most : ℕ) → list_all (λ d. nat_lt 0 d.size) dims ≡ true → sample_count dims ≤ most → All (IsBetween 1 most) (map (λ d. d.size) dims)
+sizes_small : (dims : List Dim) (most : ℕ) → list_all (λ d. nat_lt 0 d.size) dims ≡ true → sample_count dims ≤ most
+    → All (IsBetween 1 most) (map (λ d. d.size) dims)
 sizes_small [] most h few = All-nil (IsBetween 1 most)
 sizes_small (x ∷ dims) most h few =
     let parts = and_parts (nat_lt 0 x.size) (list_all (λ d. nat_lt 0 d.size) dims) h in
@@ -78,13 +82,16 @@ All-slowest_first P (n ∷ ns) h =
 
 pub layout_sizes-small : (shape : FileShape) → IsWritable shape → All (IsBetween 1 most_samples) (layout_sizes shape)
 layout_sizes-small shape h =
-    All-slowest_first (IsBetween 1 most_samples) (map (λ (d : Dim). d.size) shape.dims) (sizes_small shape.dims most_samples (has_dimensions-none_empty shape.dims h.dimensions) h.samples)
+    All-slowest_first (IsBetween 1 most_samples) (map (λ (d : Dim). d.size) shape.dims)
+    (sizes_small shape.dims most_samples (has_dimensions-none_empty shape.dims h.dimensions) h.samples)
 
 pub length-layout_sizes : (shape : FileShape) → length (layout_sizes shape) ≡ length shape.dims
 length-layout_sizes shape = length-slowest_first (map (λ (d : Dim). d.size) shape.dims) ∙ length-map shape.dims (λ (d : Dim). d.size)
 
 pub few_dims : (dims : List Dim) → IsTrue (has_dimensions dims) → length dims ≤ 10
-few_dims dims h = leb-true (length dims) 10 (and_parts (not (length dims == 0)) (nat_le (length dims) 10) (and_parts (not (length dims == 0) && nat_le (length dims) 10) (list_all (λ d. nat_lt 0 d.size) dims) h).0).1
+few_dims dims h =
+    leb-true (length dims) 10 (and_parts (not (length dims == 0)) (nat_le (length dims) 10)
+    (and_parts (not (length dims == 0) && nat_le (length dims) 10) (list_all (λ d. nat_lt 0 d.size) dims) h).0).1
 
 length-size_dims : (i : ℕ) (ns : List ℕ) → length (size_dims i ns) ≡ length ns
 length-size_dims i [] = refl
@@ -103,20 +110,28 @@ length-layout_dims shape h =
 dims_spelled : (shape : FileShape) → IsWritable shape → AreSpelled IsDim [] (dimensions shape) (layout_dims shape)
 dims_spelled shape h =
     let rank : length shape.dims ≤ 10 = few_dims shape.dims h.dimensions in
-    let sizes : All (IsBetween 1 greatest) (layout_sizes shape) = (λ k d within. let each = layout_sizes-small shape h k d within in (each.0, omega (arith, each.1))) in
+    let sizes : All (IsBetween 1 greatest) (layout_sizes shape) =
+    (λ k d within. let each = layout_sizes-small shape h k d within in (each.0, omega (arith, each.1))) in
     let first : HeadDim = record { name = codes "numArrays"; length = 0 } in
     let last : HeadDim = record { name = codes "attrStringSize"; length = shape.width } in
     let front : AreSpelled IsDim [] (dimension (codes "numArrays") 0 ∷ size_dimensions 0 (layout_sizes shape)) (first ∷ size_dims 0 (layout_sizes shape)) = (
-      λ after. dimension-IsDim [] (codes "numArrays") 0 after (omega arith) (omega arith) (ascii-IsUtf8 (codes "numArrays") refl) (omega arith) (λ _. All-nil (λ e. e.length ≢ 0)),
+      λ after. dimension-IsDim [] (codes "numArrays") 0 after (omega arith) (omega arith) (ascii-IsUtf8 (codes "numArrays") refl) (omega arith)
+          (λ _. All-nil (λ e. e.length ≢ 0)),
       sizes_spelled 0 (layout_sizes shape) (first ∷ []) (omega (arith, length-layout_sizes shape, rank)) sizes,
     ) in
-    AreSpelled-append IsDim [] (dimension (codes "numArrays") 0 ∷ size_dimensions 0 (layout_sizes shape)) (first ∷ size_dims 0 (layout_sizes shape)) (dimension (codes "attrStringSize") shape.width ∷ []) (last ∷ []) front
-    (λ after. dimension-IsDim (first ∷ size_dims 0 (layout_sizes shape)) (codes "attrStringSize") shape.width after (omega arith) (omega arith) (ascii-IsUtf8 (codes "attrStringSize") refl) h.width.1 (λ none. absurd (omega (arith, h.width.0, none))), tt)
+    AreSpelled-append IsDim [] (dimension (codes "numArrays") 0 ∷ size_dimensions 0 (layout_sizes shape)) (first ∷ size_dims 0 (layout_sizes shape))
+    (dimension (codes "attrStringSize") shape.width ∷ []) (last ∷ []) front (
+      λ after. dimension-IsDim (first ∷ size_dims 0 (layout_sizes shape)) (codes "attrStringSize") shape.width after (omega arith) (omega arith)
+          (ascii-IsUtf8 (codes "attrStringSize") refl) h.width.1 (λ none. absurd (omega (arith, h.width.0, none))),
+      tt,
+    )
 
-pub dims_IsList : (shape : FileShape) (after : List ℕ) → IsWritable shape → IsList 10 IsDim (layout_dims shape) (element_list 10 (dimensions shape) ++ after) after
+pub dims_IsList : (shape : FileShape) (after : List ℕ) → IsWritable shape
+    → IsList 10 IsDim (layout_dims shape) (element_list 10 (dimensions shape) ++ after) after
 dims_IsList shape after h =
     let spelled = dims_spelled shape h in
-    element_list-IsList 10 IsDim (dimensions shape) (layout_dims shape) after (omega arith) (omega (arith, AreSpelled-count IsDim [] (dimensions shape) (layout_dims shape) spelled, length-layout_dims shape h)) spelled
+    element_list-IsList 10 IsDim (dimensions shape) (layout_dims shape) after (omega arith)
+    (omega (arith, AreSpelled-count IsDim [] (dimensions shape) (layout_dims shape) spelled, length-layout_dims shape h)) spelled
 
 -- THEIR LENGTHS
 
@@ -167,7 +182,8 @@ room_length shape =
 
 -- DIMENSION NUMBERS
 
-numbers_spelled : (ds : List HeadDim) (earlier numbers after : List ℕ) → length ds < 2 ^ 32 → All (λ n. n ≢ 0) (map (dim_length ds) numbers) → AreMany (IsDimNumber ds) earlier numbers (flat_map word numbers ++ after) after
+numbers_spelled : (ds : List HeadDim) (earlier numbers after : List ℕ) → length ds < 2 ^ 32 → All (λ n. n ≢ 0) (map (dim_length ds) numbers)
+    → AreMany (IsDimNumber ds) earlier numbers (flat_map word numbers ++ after) after
 numbers_spelled ds earlier [] after few h = refl
 numbers_spelled ds earlier (n ∷ numbers) after few h =
     let here : dim_length ds n ≢ 0 = All-head (λ m. m ≢ 0) (dim_length ds n) (map (dim_length ds) numbers) h in
@@ -178,7 +194,8 @@ numbers_spelled ds earlier (n ∷ numbers) after few h =
     )
 
 -- the record dimension, and then others
-pub record_numbers_spelled : (shape : FileShape) (numbers after : List ℕ) → length (layout_dims shape) < 2 ^ 32 → All (λ n. n ≢ 0) (map (dim_length (layout_dims shape)) numbers) →
+pub record_numbers_spelled : (shape : FileShape) (numbers after : List ℕ) → length (layout_dims shape) < 2 ^ 32
+    → All (λ n. n ≢ 0) (map (dim_length (layout_dims shape)) numbers) →
     AreMany (IsDimNumber (layout_dims shape)) [] (0 ∷ numbers) (flat_map word (0 ∷ numbers) ++ after) after
 record_numbers_spelled shape numbers after few h = (
   flat_map word numbers ++ after,
@@ -205,18 +222,22 @@ product-slowest_first (n ∷ ns) = product-append (slowest_first ns) n ∙ ap (�
 layout_sizes-positive : (shape : FileShape) → IsWritable shape → All (λ n. n ≢ 0) (layout_sizes shape)
 layout_sizes-positive shape h = λ k d within. λ none. let each = layout_sizes-small shape h k d within in absurd (omega (arith, each.0, none))
 
-pub sample_lengths-positive : (shape : FileShape) → IsWritable shape → All (λ n. n ≢ 0) (map (dim_length (layout_dims shape)) (range_with_len 1 (length shape.dims)))
+pub sample_lengths-positive : (shape : FileShape) → IsWritable shape
+    → All (λ n. n ≢ 0) (map (dim_length (layout_dims shape)) (range_with_len 1 (length shape.dims)))
 sample_lengths-positive shape h = subst (All (λ n. n ≢ 0)) (sym (sample_lengths shape)) (layout_sizes-positive shape h)
 
-pub sample_values : (shape : FileShape) → IsWritable shape → value_count (layout_dims shape) (range_with_len 0 (suc (length shape.dims))) ≡ sample_count shape.dims
+pub sample_values : (shape : FileShape) → IsWritable shape
+    → value_count (layout_dims shape) (range_with_len 0 (suc (length shape.dims))) ≡ sample_count shape.dims
 sample_values shape h =
     ap (λ ns. product (filter (nat_lt 0) ns)) (sample_lengths shape) ∙ ap product (positive_filter (layout_sizes shape) (layout_sizes-positive shape h))
     ∙ product-slowest_first (map (λ (d : Dim). d.size) shape.dims)
 
 pub room_lengths-positive : (shape : FileShape) → IsWritable shape → All (λ n. n ≢ 0) (map (dim_length (layout_dims shape)) (suc (length shape.dims) ∷ []))
 room_lengths-positive shape h =
-    subst (λ n. All (λ m. m ≢ 0) (n ∷ [])) (sym (room_length shape)) (All-cons (λ m. m ≢ 0) shape.width [] (λ none. absurd (omega (arith, h.width.0, none))) (All-nil (λ m. m ≢ 0)))
+    subst (λ n. All (λ m. m ≢ 0) (n ∷ [])) (sym (room_length shape))
+    (All-cons (λ m. m ≢ 0) shape.width [] (λ none. absurd (omega (arith, h.width.0, none))) (All-nil (λ m. m ≢ 0)))
 
 pub room_values : (shape : FileShape) → IsWritable shape → value_count (layout_dims shape) (0 ∷ suc (length shape.dims) ∷ []) ≡ shape.width
 room_values shape h =
-    ap product (positive_filter (dim_length (layout_dims shape) (suc (length shape.dims)) ∷ []) (room_lengths-positive shape h)) ∙ ap (λ n. n * 1) (room_length shape) ∙ omega arith
+    ap product (positive_filter (dim_length (layout_dims shape) (suc (length shape.dims)) ∷ []) (room_lengths-positive shape h))
+    ∙ ap (λ n. n * 1) (room_length shape) ∙ omega arith

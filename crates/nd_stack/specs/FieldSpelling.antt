@@ -71,23 +71,29 @@ AreSpelled-many Is earlier (bytes ∷ others) (x ∷ xs) after h =
     subst (λ before. AreMany Is earlier (x ∷ xs) before after) (sym (append_assoc bytes (concat others) after))
     (concat others ++ after, h.0 (concat others ++ after), AreSpelled-many Is (earlier ++ x ∷ []) others xs after h.1)
 
-pub AreSpelled-count : {A : Type 0} (Is : List A → A → List ℕ → List ℕ → Type 0) (earlier : List A) (spellings : List (List ℕ)) (xs : List A) → AreSpelled Is earlier spellings xs → length spellings ≡ length xs
+pub AreSpelled-count : {A : Type 0} (Is : List A → A → List ℕ → List ℕ → Type 0) (earlier : List A) (spellings : List (List ℕ)) (xs : List A)
+    → AreSpelled Is earlier spellings xs → length spellings ≡ length xs
 AreSpelled-count Is earlier [] [] h = refl
 AreSpelled-count Is earlier [] (x ∷ xs) h = absurd h
 AreSpelled-count Is earlier (bytes ∷ others) [] h = absurd h
 AreSpelled-count Is earlier (bytes ∷ others) (x ∷ xs) h = let rest = AreSpelled-count Is (earlier ++ x ∷ []) others xs h.1 in omega arith
 
 -- some elements, and then others
-pub AreSpelled-append : {A : Type 0} (Is : List A → A → List ℕ → List ℕ → Type 0) (earlier : List A) (front : List (List ℕ)) (xs : List A) (back : List (List ℕ)) (ys : List A) →
+pub AreSpelled-append : {A : Type 0} (Is : List A → A → List ℕ → List ℕ → Type 0) (earlier : List A) (front : List (List ℕ)) (xs : List A)
+    (back : List (List ℕ)) (ys : List A) →
     AreSpelled Is earlier front xs → AreSpelled Is (earlier ++ xs) back ys → AreSpelled Is earlier (front ++ back) (xs ++ ys)
 AreSpelled-append {A} Is earlier [] [] back ys h k = subst (λ (before : List A). AreSpelled Is before back ys) (append-nil earlier) k
 AreSpelled-append Is earlier [] (x ∷ xs) back ys h k = absurd h
 AreSpelled-append Is earlier (bytes ∷ others) [] back ys h k = absurd h
-AreSpelled-append {A} Is earlier (bytes ∷ others) (x ∷ xs) back ys h k =
-    (h.0, AreSpelled-append Is (earlier ++ x ∷ []) others xs back ys h.1 (subst (λ (before : List A). AreSpelled Is before back ys) (sym (append_assoc earlier (x ∷ []) xs)) k))
+AreSpelled-append {A} Is earlier (bytes ∷ others) (x ∷ xs) back ys h k = (
+  h.0,
+  AreSpelled-append Is (earlier ++ x ∷ []) others xs back ys h.1
+      (subst (λ (before : List A). AreSpelled Is before back ys) (sym (append_assoc earlier (x ∷ []) xs)) k),
+)
 
 -- a list with its tag and count
-pub element_list-IsList : {A : Type 0} (tag : ℕ) (Is : List A → A → List ℕ → List ℕ → Type 0) (spellings : List (List ℕ)) (xs : List A) (after : List ℕ) → tag < 2 ^ 32 → length spellings ≤ greatest →
+pub element_list-IsList : {A : Type 0} (tag : ℕ) (Is : List A → A → List ℕ → List ℕ → Type 0) (spellings : List (List ℕ)) (xs : List A) (after : List ℕ)
+    → tag < 2 ^ 32 → length spellings ≤ greatest →
     AreSpelled Is [] spellings xs → IsList tag Is xs (element_list tag spellings ++ after) after
 element_list-IsList {A} tag Is spellings xs after small few h =
     let count = AreSpelled-count Is [] spellings xs h in

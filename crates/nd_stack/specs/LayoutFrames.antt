@@ -64,7 +64,8 @@ no_frame_misfit shape n = rw (same_count n) refl
 longer : (name : List ℕ) → 1 ≤ length name → nat_lt 5 (length (codes "Attr_" ++ name)) ≡ true
 longer name h = grind (arith, nat_tests)
 
-kind_column-is_attr : (shape : FileShape) (name : List ℕ) (kind : AttrKind) (begin : ℕ) → 1 ≤ length name → is_attr_var (column_var (kind_column shape (codes "Attr_" ++ name) kind) begin) ≡ true
+kind_column-is_attr : (shape : FileShape) (name : List ℕ) (kind : AttrKind) (begin : ℕ) → 1 ≤ length name
+    → is_attr_var (column_var (kind_column shape (codes "Attr_" ++ name) kind) begin) ≡ true
 kind_column-is_attr shape name WholeKind begin h = longer name h
 kind_column-is_attr shape name TextKind begin h = longer name h
 kind_column-is_attr shape name Bits64Kind begin h = longer name h
@@ -74,7 +75,8 @@ kind_column-is_attr shape name Bits32Kind begin h = longer name h
 pub attr_column-is_attr : (shape : FileShape) (a : AttrColumn) (begin : ℕ) → 1 ≤ length a.name → is_attr_var (column_var (attr_column shape a) begin) ≡ true
 attr_column-is_attr shape a begin h = kind_column-is_attr shape a.name a.kind begin h
 
-kind_column-counts : (shape : FileShape) (n : ℕ) (name : List ℕ) (kind : AttrKind) (begin : ℕ) → counts_frames (layout_header shape n) n (attr_rank (kind_column shape name kind).kind) (column_var (kind_column shape name kind) begin) ≡ true
+kind_column-counts : (shape : FileShape) (n : ℕ) (name : List ℕ) (kind : AttrKind) (begin : ℕ)
+    → counts_frames (layout_header shape n) n (attr_rank (kind_column shape name kind).kind) (column_var (kind_column shape name kind) begin) ≡ true
 kind_column-counts shape n name WholeKind begin = same_count n
 kind_column-counts shape n name TextKind begin = same_count n
 kind_column-counts shape n name Bits64Kind begin = same_count n
@@ -87,21 +89,26 @@ fitting : (attr counts : Bool) → counts ≡ true → (attr && not counts) ≡ 
 fitting true counts e = rw e refl
 fitting false counts e = refl
 
-attrs_fit : (shape : FileShape) (n begin : ℕ) (attrs : List AttrColumn) → All (λ v. misfits (layout_header shape n) n v ≡ false) (column_vars begin (map (attr_column shape) attrs))
+attrs_fit : (shape : FileShape) (n begin : ℕ) (attrs : List AttrColumn)
+    → All (λ v. misfits (layout_header shape n) n v ≡ false) (column_vars begin (map (attr_column shape) attrs))
 attrs_fit shape n begin [] = All-nil (λ v. misfits (layout_header shape n) n v ≡ false)
 attrs_fit shape n begin (a ∷ attrs) =
     let c = attr_column shape a in
     let Fits = λ (v : HeadVar). misfits (layout_header shape n) n v ≡ false in
     All-cons Fits (column_var c begin) (column_vars (begin + padded_length c.size) (map (attr_column shape) attrs))
-    (fitting (is_attr_var (column_var c begin)) (counts_frames (layout_header shape n) n (attr_rank c.kind) (column_var c begin)) (kind_column-counts shape n (codes "Attr_" ++ a.name) a.kind begin)) (attrs_fit shape n (begin + padded_length c.size) attrs)
+    (fitting (is_attr_var (column_var c begin)) (counts_frames (layout_header shape n) n (attr_rank c.kind) (column_var c begin))
+    (kind_column-counts shape n (codes "Attr_" ++ a.name) a.kind begin)) (attrs_fit shape n (begin + padded_length c.size) attrs)
 
-fixed_fit : (shape : FileShape) (n begin : ℕ) (cs : List Column) (vs : List HeadVar) → list_all (λ c. not (is_attr_name c.name)) cs ≡ true → All (λ v. misfits (layout_header shape n) n v ≡ false) vs →
+fixed_fit : (shape : FileShape) (n begin : ℕ) (cs : List Column) (vs : List HeadVar) → list_all (λ c. not (is_attr_name c.name)) cs ≡ true
+    → All (λ v. misfits (layout_header shape n) n v ≡ false) vs →
     All (λ v. misfits (layout_header shape n) n v ≡ false) (column_vars begin cs ++ vs)
 fixed_fit shape n begin [] vs h rest = rest
 fixed_fit shape n begin (c ∷ cs) vs h rest =
     let parts = and_parts (not (is_attr_name c.name)) (list_all (λ (d : Column). not (is_attr_name d.name)) cs) h in
     let Fits = λ (v : HeadVar). misfits (layout_header shape n) n v ≡ false in
-    All-cons Fits (column_var c begin) (column_vars (begin + padded_length c.size) cs ++ vs) (other (is_attr_name c.name) (nat_lt 5 (length c.name)) (not (counts_frames (layout_header shape n) n (attr_rank c.kind) (column_var c begin))) parts.0) (fixed_fit shape n (begin + padded_length c.size) cs vs parts.1 rest)
+    All-cons Fits (column_var c begin) (column_vars (begin + padded_length c.size) cs ++ vs)
+    (other (is_attr_name c.name) (nat_lt 5 (length c.name)) (not (counts_frames (layout_header shape n) n (attr_rank c.kind) (column_var c begin))) parts.0)
+    (fixed_fit shape n (begin + padded_length c.size) cs vs parts.1 rest)
   where
     other : (a b c : Bool) → not a ≡ true → (a && b && c) ≡ false
     other true b c e = absurd (cc)
@@ -109,18 +116,21 @@ fixed_fit shape n begin (c ∷ cs) vs h rest =
 
 no_attr_misfit : (shape : FileShape) (n : ℕ) → attr_misfit (layout_header shape n) n ≡ None
 no_attr_misfit shape n =
-    position-none (misfits (layout_header shape n) n) (layout_vars shape) (fixed_fit shape n (header_length shape) (fixed_columns shape) (column_vars (attrs_begin shape) (map (attr_column shape) shape.attrs)) refl (attrs_fit shape n (attrs_begin shape) shape.attrs))
+    position-none (misfits (layout_header shape n) n) (layout_vars shape) (fixed_fit shape n (header_length shape) (fixed_columns shape)
+    (column_vars (attrs_begin shape) (map (attr_column shape) shape.attrs)) refl (attrs_fit shape n (attrs_begin shape) shape.attrs))
 
 -- THE RULES
 
 need_to : (b : Bool) (fault : StackFault) → b ≡ true → need b fault ≡ Ok tt
 need_to b fault e = rw e refl
 
-pub bind_to : {A B : Type 0} (read : Result A StackFault) (next : A → Result B StackFault) (x : A) (y : Result B StackFault) → read ≡ Ok x → next x ≡ y → (read >>= next) ≡ y
+pub bind_to : {A B : Type 0} (read : Result A StackFault) (next : A → Result B StackFault) (x : A) (y : Result B StackFault)
+    → read ≡ Ok x → next x ≡ y → (read >>= next) ≡ y
 bind_to read next x y e h = ap (λ m. m >>= next) e ∙ h
 
 -- a header whose variables pass each rule
-accepted : (h : Header) (v : HeadVar) (kind : SampleType) → variable_of h (codes "array_data") ≡ Some v → sample_type h v.kind ≡ Ok kind → (nat_le 2 (length v.dims) && nat_le (length v.dims) 11) ≡ true → frame_count h v ≤ 65536 →
+accepted : (h : Header) (v : HeadVar) (kind : SampleType) → variable_of h (codes "array_data") ≡ Some v → sample_type h v.kind ≡ Ok kind
+    → (nat_le 2 (length v.dims) && nat_le (length v.dims) 11) ≡ true → frame_count h v ≤ 65536 →
     frame_values h v ≤ most_samples → frame_misfit h (frame_count h v) ≡ None → attr_misfit h (frame_count h v) ≡ None → frames_of h ≡ Ok (v, kind)
 unfolding frames_of
 accepted h v kind found typed ranked frames samples times attrs =
@@ -128,7 +138,8 @@ accepted h v kind found typed ranked frames samples times attrs =
     (bind_to (sample_type h v.kind) _ kind _ typed
     (bind_to (need (nat_le 2 (length v.dims) && nat_le (length v.dims) 11) (Rank (length v.dims))) _ tt _ (need_to _ _ ranked)
     (bind_to (need (nat_le (frame_count h v) 65536) (TooManyFrames (frame_count h v))) _ tt _ (need_to _ _ (le-leb (frame_count h v) 65536 frames))
-    (bind_to (need (nat_le (frame_values h v) most_samples) (TooManySamples (frame_values h v))) _ tt _ (need_to _ _ (le-leb (frame_values h v) most_samples samples))
+    (bind_to (need (nat_le (frame_values h v) most_samples) (TooManySamples (frame_values h v))) _ tt _
+    (need_to _ _ (le-leb (frame_values h v) most_samples samples))
     (bind_to (no_misfit (frame_misfit h (frame_count h v)) FrameCount) _ tt _ (ap (λ o. no_misfit o FrameCount) times)
     (bind_to (no_misfit (attr_misfit h (frame_count h v)) AttrShape) _ tt _ (ap (λ o. no_misfit o AttrShape) attrs) refl))))))
 
@@ -142,6 +153,8 @@ layout_frames shape n writable few =
     let rank = length-range_with_len 1 (length shape.dims) in
     let least = some_dims shape.dims writable.dimensions in
     let most = few_dims shape.dims writable.dimensions in
-    let ranked : (nat_le 2 (length (sample_var shape).dims) && nat_le (length (sample_var shape).dims) 11) ≡ true = grind (arith, nat_tests, rank, least, most) in
+    let ranked : (nat_le 2 (length (sample_var shape).dims) && nat_le (length (sample_var shape).dims) 11) ≡ true =
+    grind (arith, nat_tests, rank, least, most) in
     let samples : frame_values (layout_header shape n) (sample_var shape) ≤ most_samples = omega (arith, sample_values shape writable, writable.samples) in
-    accepted (layout_header shape n) (sample_var shape) shape.kind refl (type_known shape.kind) ranked few samples (no_frame_misfit shape n) (no_attr_misfit shape n)
+    accepted (layout_header shape n) (sample_var shape) shape.kind refl (type_known shape.kind) ranked few samples
+    (no_frame_misfit shape n) (no_attr_misfit shape n)

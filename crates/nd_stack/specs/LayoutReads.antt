@@ -119,7 +119,8 @@ pub last_record : (n size : ℕ) → 1 ≤ n → (n - 1) * size + size ≡ n * s
 last_record zero size h = absurd (omega arith)
 last_record (suc n) size h = let less : suc n - 1 ≡ n = omega arith in ap (λ m. m * size + size) less ∙ sym (suc-mul n size)
 
-columns_fit : (shape : FileShape) (n total : ℕ) → 1 ≤ n → total ≡ length_of shape n → header_length shape + columns_length (columns shape) + (n - 1) * row_length shape ≤ total
+columns_fit : (shape : FileShape) (n total : ℕ) → 1 ≤ n → total ≡ length_of shape n
+    → header_length shape + columns_length (columns shape) + (n - 1) * row_length shape ≤ total
 unfolding row_length
 columns_fit shape n total some is = omega (arith, is, last_record n (columns_length (columns shape)) some)
 
@@ -140,9 +141,12 @@ layout_reads shape arrays h =
       header = header_spells shape (Some n) n n n after h.writable h.names h.some h.within (λ rest. numrecs-IsNumrecs n rest small.counts);
       recsize = sym (record_size_is shape h.writable h.names);
       records = record_count_is (length (layout shape arrays)) n (layout_dims shape) (layout_vars shape) small.counts;
-      whole = columns-end shape n (header_length shape) (length (layout shape arrays)) (columns shape) (columns-IsColumn shape h.writable h.names) (columns_fit shape n (length (layout shape arrays)) h.some total);
+      whole =
+          columns-end shape n (header_length shape) (length (layout shape arrays)) (columns shape) (columns-IsColumn shape h.writable h.names)
+          (columns_fit shape n (length (layout shape arrays)) h.some total);
     }
 
 -- and is read so
-pub layout_header_of : (shape : FileShape) (arrays : List Array) → IsGroup shape arrays → header_of (layout shape arrays) ≡ Ok (layout_header shape (length arrays))
+pub layout_header_of : (shape : FileShape) (arrays : List Array) → IsGroup shape arrays
+    → header_of (layout shape arrays) ≡ Ok (layout_header shape (length arrays))
 layout_header_of shape arrays h = header_of-again (layout shape arrays) (layout_header shape (length arrays)) (layout_reads shape arrays h)

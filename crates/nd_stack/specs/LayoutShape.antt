@@ -63,14 +63,19 @@ dim_back : (shape : FileShape) (n k : ℕ) (d : Dim) → HasSmallDims shape → 
     dim_of (layout_header shape n) (length shape.dims) k (slice_index_or (map (λ d. d.size) shape.dims) k 0) ≡ get_or shape.dims k d
 dim_back shape n k d h within =
     let turned = λ (e : Dim). (if e.reverse then pos 1 else pos 0) in
-    let back = values_at (flat_map signed_word (map turned shape.dims)) shape.dims turned k d (pos 0) (ints_of shape.dims turned (λ i e inside. flag_fits (get_or shape.dims i e).reverse)) within in
+    let back =
+    values_at (flat_map signed_word (map turned shape.dims)) shape.dims turned k d (pos 0)
+    (ints_of shape.dims turned (λ i e inside. flag_fits (get_or shape.dims i e).reverse)) within in
     same_dim (get_or shape.dims k d) _ _ _ _
     (get_or-map (λ (e : Dim). e.size) shape.dims k d 0 within)
-    (values_at (flat_map signed_word (map (λ (e : Dim). e.offset) shape.dims)) shape.dims (λ e. e.offset) k d (pos 0) (ints_of shape.dims (λ e. e.offset) h.offsets) within)
-    (values_at (flat_map signed_word (map (λ (e : Dim). e.binning) shape.dims)) shape.dims (λ e. e.binning) k d (pos 1) (ints_of shape.dims (λ e. e.binning) h.binnings) within)
+    (values_at (flat_map signed_word (map (λ (e : Dim). e.offset) shape.dims)) shape.dims (λ e. e.offset) k d (pos 0)
+    (ints_of shape.dims (λ e. e.offset) h.offsets) within)
+    (values_at (flat_map signed_word (map (λ (e : Dim). e.binning) shape.dims)) shape.dims (λ e. e.binning) k d (pos 1)
+    (ints_of shape.dims (λ e. e.binning) h.binnings) within)
     (ap (λ v. not (int_eq v (pos 0))) back ∙ flag_back (get_or shape.dims k d).reverse)
 
-dims_by : (h : Header) (sizes : List ℕ) (dims : List Dim) → sizes ≡ map (λ d. d.size) dims → ((k : ℕ) (d : Dim) → k < length dims → dim_of h (length dims) k (slice_index_or (map (λ d. d.size) dims) k 0) ≡ get_or dims k d) →
+dims_by : (h : Header) (sizes : List ℕ) (dims : List Dim) → sizes ≡ map (λ d. d.size) dims
+    → ((k : ℕ) (d : Dim) → k < length dims → dim_of h (length dims) k (slice_index_or (map (λ d. d.size) dims) k 0) ≡ get_or dims k d) →
     map (λ i. dim_of h (length sizes) i (slice_index_or sizes i 0)) (range_with_len 0 (length sizes)) ≡ dims
 dims_by h sizes dims is each =
     let known = map (λ (d : Dim). d.size) dims in
@@ -85,4 +90,5 @@ dims_by h sizes dims is each =
 
 pub layout_dims_of : (shape : FileShape) (n : ℕ) → HasSmallDims shape → dims_of (layout_header shape n) (sample_var shape) ≡ shape.dims
 layout_dims_of shape n h =
-    dims_by (layout_header shape n) (sizes_of (layout_header shape n) (sample_var shape)) shape.dims (layout_sizes_of shape n) (λ k d within. dim_back shape n k d h within)
+    dims_by (layout_header shape n) (sizes_of (layout_header shape n) (sample_var shape)) shape.dims (layout_sizes_of shape n)
+    (λ k d within. dim_back shape n k d h within)

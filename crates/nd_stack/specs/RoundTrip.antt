@@ -55,11 +55,13 @@ pub record IsKept (a : Array) : Type 0 where
 
 -- ONE ARRAY
 
-attributes_back : (shape : FileShape) (n k : ℕ) (a : Array) (bytes : List ℕ) → IsWritable shape → HasTextNames shape → HasShape shape a → IsKept a → HasValues shape a bytes (header_length shape) (k * row_length shape) →
+attributes_back : (shape : FileShape) (n k : ℕ) (a : Array) (bytes : List ℕ) → IsWritable shape → HasTextNames shape → HasShape shape a → IsKept a
+    → HasValues shape a bytes (header_length shape) (k * row_length shape) →
     attrs_for bytes (attr_vars (layout_header shape n)) k ≡ a.attrs
 attributes_back shape n k a bytes writable texts has kept values =
     let same = has.attrs.same in
-    ap (λ columns. attrs_for bytes (map (attr_var (layout_header shape n)) (filter is_attr_var (column_vars (attrs_begin shape) (map (attr_column shape) columns)))) k) (sym same)
+    ap (λ columns. attrs_for bytes
+    (map (attr_var (layout_header shape n)) (filter is_attr_var (column_vars (attrs_begin shape) (map (attr_column shape) columns)))) k) (sym same)
     ∙ attrs_back shape n (attrs_begin shape) k a.attrs bytes writable (subst (All (λ x. IsBetween 1 1019 (length x.name))) (sym same) writable.names)
     (subst (All (λ x. IsUtf8 x.name)) (sym same) texts.attrs) has.attrs.texts kept.attrs values.attrs
 
@@ -67,42 +69,57 @@ same_head : (a : Array) (id : ℤ) (stamp : ℕ) (sec nsec : ℤ) (attrs : List 
     ◌≡◌ {A = Head} (record { id = id; stamp = stamp; sec = sec; nsec = nsec; attrs = attrs }) (head_of a)
 same_head a id stamp sec nsec attrs i t s n l = rw (i, t, s, n, l) refl
 
-head_back : (shape : FileShape) (n k : ℕ) (a : Array) (bytes : List ℕ) → IsWritable shape → HasTextNames shape → HasShape shape a → IsKept a → HasValues shape a bytes (header_length shape) (k * row_length shape) →
+head_back : (shape : FileShape) (n k : ℕ) (a : Array) (bytes : List ℕ) → IsWritable shape → HasTextNames shape → HasShape shape a → IsKept a
+    → HasValues shape a bytes (header_length shape) (k * row_length shape) →
     head_for bytes (times_of (layout_header shape n)) (attr_vars (layout_header shape n)) k ≡ head_of a
 head_back shape n k a bytes writable texts has kept values =
     let h : Header = layout_header shape n in
     let begin : ℕ = header_length shape in
-    let at : (c : Column) (place : ℕ) (text : List ℕ) → IsColumn shape c → length text ≡ c.size → Stands bytes (place + k * row_length shape) text → cell bytes (read.column_of h (column_var c place)) k ≡ text =
+    let at : (c : Column) (place : ℕ) (text : List ℕ) → IsColumn shape c → length text ≡ c.size → Stands bytes (place + k * row_length shape) text
+    → cell bytes (read.column_of h (column_var c place)) k ≡ text =
     λ c place text is size stands. cell_is shape n place k c bytes text is size stands in
     same_head a _ _ _ _ _
-    (ap (number Int32) (at (scalar (codes "uniqueId") 4 4) begin (signed_word a.id) (columns-IsColumn shape writable texts 0 (sample_column shape) (omega arith)) refl values.id) ∙ number-sample_bytes Int32 a.id kept.id)
-    (ap (from_be_bytes w64) (at (scalar (codes "timeStamp") 6 8) (begin + 4) (double_word a.stamp) (columns-IsColumn shape writable texts 1 (sample_column shape) (omega arith)) refl values.stamp) ∙ from_be_bytes-to_be_bytes_8 a.stamp kept.stamp)
-    (ap (number Int32) (at (scalar (codes "epicsTSSec") 4 4) (begin + 4 + 8) (signed_word a.sec) (columns-IsColumn shape writable texts 2 (sample_column shape) (omega arith)) refl values.sec) ∙ number-sample_bytes Int32 a.sec kept.sec)
-    (ap (number Int32) (at (scalar (codes "epicsTSNsec") 4 4) (begin + 4 + 8 + 4) (signed_word a.nsec) (columns-IsColumn shape writable texts 3 (sample_column shape) (omega arith)) refl values.nsec) ∙ number-sample_bytes Int32 a.nsec kept.nsec)
+    (ap (number Int32) (at (scalar (codes "uniqueId") 4 4) begin (signed_word a.id)
+    (columns-IsColumn shape writable texts 0 (sample_column shape) (omega arith)) refl values.id) ∙ number-sample_bytes Int32 a.id kept.id)
+    (ap (from_be_bytes w64) (at (scalar (codes "timeStamp") 6 8) (begin + 4) (double_word a.stamp)
+    (columns-IsColumn shape writable texts 1 (sample_column shape) (omega arith)) refl values.stamp) ∙ from_be_bytes-to_be_bytes_8 a.stamp kept.stamp)
+    (ap (number Int32) (at (scalar (codes "epicsTSSec") 4 4) (begin + 4 + 8) (signed_word a.sec)
+    (columns-IsColumn shape writable texts 2 (sample_column shape) (omega arith)) refl values.sec) ∙ number-sample_bytes Int32 a.sec kept.sec)
+    (ap (number Int32) (at (scalar (codes "epicsTSNsec") 4 4) (begin + 4 + 8 + 4) (signed_word a.nsec)
+    (columns-IsColumn shape writable texts 3 (sample_column shape) (omega arith)) refl values.nsec) ∙ number-sample_bytes Int32 a.nsec kept.nsec)
     (attributes_back shape n k a bytes writable texts has kept values)
 
-samples_back : (shape : FileShape) (k : ℕ) (a : Array) (bytes : List ℕ) → HasShape shape a → IsKept a → HasValues shape a bytes (header_length shape) (k * row_length shape) →
+samples_back : (shape : FileShape) (k : ℕ) (a : Array) (bytes : List ℕ) → HasShape shape a → IsKept a
+    → HasValues shape a bytes (header_length shape) (k * row_length shape) →
     samples_of shape.kind (take (sample_count shape.dims * width shape.kind) (drop (samples_begin shape + k * row_length shape) bytes)) ≡ a.samples
 samples_back shape k a bytes has kept values =
     let size : length (bytes_of a.kind a.samples) ≡ sample_count shape.dims * width shape.kind =
     length-bytes_of a.kind a.samples ∙ ap (λ n. n * width a.kind) has.count ∙ ap (λ kind. sample_count shape.dims * width kind) has.kind in
-    ap (samples_of shape.kind) (Stands-take bytes (samples_begin shape + k * row_length shape) (sample_count shape.dims * width shape.kind) (bytes_of a.kind a.samples) size values.samples)
+    ap (samples_of shape.kind) (Stands-take bytes (samples_begin shape + k * row_length shape) (sample_count shape.dims * width shape.kind)
+    (bytes_of a.kind a.samples) size values.samples)
     ∙ ap (λ kind. samples_of kind (bytes_of a.kind a.samples)) (sym has.kind) ∙ samples_of-bytes_of a.kind a.samples kept.samples
 
-same_array : (a : Array) (head : Head) (kind : SampleType) (dims : List Dim) (bytes : List ℕ) → head ≡ head_of a → kind ≡ a.kind → dims ≡ a.dims → samples_of kind bytes ≡ a.samples → array_of head kind dims bytes ≡ a
+same_array : (a : Array) (head : Head) (kind : SampleType) (dims : List Dim) (bytes : List ℕ) → head ≡ head_of a → kind ≡ a.kind → dims ≡ a.dims
+    → samples_of kind bytes ≡ a.samples → array_of head kind dims bytes ≡ a
 same_array a head kind dims bytes h k d s =
-    ap (λ (x : Head). array_of x kind dims bytes) h ∙ ap (λ samples. record { id = a.id; stamp = a.stamp; sec = a.sec; nsec = a.nsec; kind = kind; dims = dims; samples = samples; attrs = a.attrs }) s ∙ rw (k, d) refl
+    ap (λ (x : Head). array_of x kind dims bytes) h
+    ∙ ap (λ samples. record { id = a.id; stamp = a.stamp; sec = a.sec; nsec = a.nsec; kind = kind; dims = dims; samples = samples; attrs = a.attrs }) s
+    ∙ rw (k, d) refl
 
-array_back : (shape : FileShape) (n k : ℕ) (a : Array) (bytes : List ℕ) → IsWritable shape → HasTextNames shape → HasShape shape a → IsKept a → HasValues shape a bytes (header_length shape) (k * row_length shape) →
-    array_of (head_for bytes (times_of (layout_header shape n)) (attr_vars (layout_header shape n)) k) shape.kind shape.dims (take (sample_count shape.dims * width shape.kind) (drop (samples_begin shape + k * row_length shape) bytes)) ≡ a
+array_back : (shape : FileShape) (n k : ℕ) (a : Array) (bytes : List ℕ) → IsWritable shape → HasTextNames shape → HasShape shape a → IsKept a
+    → HasValues shape a bytes (header_length shape) (k * row_length shape) →
+    array_of (head_for bytes (times_of (layout_header shape n)) (attr_vars (layout_header shape n)) k) shape.kind shape.dims
+    (take (sample_count shape.dims * width shape.kind) (drop (samples_begin shape + k * row_length shape) bytes)) ≡ a
 array_back shape n k a bytes writable texts has kept values =
-    same_array a _ shape.kind shape.dims _ (head_back shape n k a bytes writable texts has kept values) (sym has.kind) (sym has.dims) (samples_back shape k a bytes has kept values)
+    same_array a _ shape.kind shape.dims _ (head_back shape n k a bytes writable texts has kept values) (sym has.kind) (sym has.dims)
+    (samples_back shape k a bytes has kept values)
 
 -- ALL ARRAYS
 
 -- arrays at a step, each of which is known
 arrays_by : (shape : FileShape) (bytes : List ℕ) (first step : ℕ) (head : ℕ → Head) (arrays : List Array) →
-    ((k : ℕ) (d : Array) → k < length arrays → array_of (head k) shape.kind shape.dims (take (frame_size shape) (drop (first + k * step) bytes)) ≡ get_or arrays k d) →
+    ((k : ℕ) (d : Array) → k < length arrays
+    → array_of (head k) shape.kind shape.dims (take (frame_size shape) (drop (first + k * step) bytes)) ≡ get_or arrays k d) →
     arrays_at shape bytes first step (map head (range_with_len 0 (length arrays))) ≡ arrays
 arrays_by shape bytes first step head arrays each =
     let heads : List Head = map head (range_with_len 0 (length arrays)) in
@@ -116,11 +133,13 @@ arrays_by shape bytes first step head arrays each =
     ∙ ap (λ (x : Head). array_of x shape.kind shape.dims (take (frame_size shape) (drop (first + k * step) bytes))) this ∙ each k d inside)
 
 -- the arrays of a stack with these dimensions
-same_dims : (shape : FileShape) (dims : List Dim) (bytes : List ℕ) (first step : ℕ) (heads : List Head) → shape.dims ≡ dims → arrays_at shape bytes first step heads ≡ arrays_at (record shape { dims = dims }) bytes first step heads
+same_dims : (shape : FileShape) (dims : List Dim) (bytes : List ℕ) (first step : ℕ) (heads : List Head) → shape.dims ≡ dims
+    → arrays_at shape bytes first step heads ≡ arrays_at (record shape { dims = dims }) bytes first step heads
 same_dims shape dims bytes first step heads is = ap (λ ds. arrays_at (record shape { dims = ds }) bytes first step heads) is
 
 -- bytes in whose records the values of some arrays stand
-pub stack_back : (shape : FileShape) (arrays : List Array) (bytes : List ℕ) → IsWritable shape → HasTextNames shape → All (HasShape shape) arrays → HasSmallDims shape → All IsKept arrays →
+pub stack_back : (shape : FileShape) (arrays : List Array) (bytes : List ℕ) → IsWritable shape → HasTextNames shape → All (HasShape shape) arrays
+    → HasSmallDims shape → All IsKept arrays →
     ((k : ℕ) (d : Array) → k < length arrays → HasValues shape (get_or arrays k d) bytes (header_length shape) (k * row_length shape)) →
     (stack_with bytes (layout_header shape (length arrays)) (sample_var shape) shape.kind).arrays ≡ arrays
 stack_back shape arrays bytes writable names each dims kept values =
@@ -133,7 +152,8 @@ stack_back shape arrays bytes writable names each dims kept values =
     (λ k d within. array_back shape n k (get_or arrays k d) bytes writable names (each k d within) (kept k d within) (values k d within))
 
 -- bytes with the layout's header, and the values of some arrays in its records, are a stack of these arrays
-pub read_back : (shape : FileShape) (arrays : List Array) (bytes : List ℕ) → header_of bytes ≡ Ok (layout_header shape (length arrays)) → IsWritable shape → HasTextNames shape → All (HasShape shape) arrays →
+pub read_back : (shape : FileShape) (arrays : List Array) (bytes : List ℕ) → header_of bytes ≡ Ok (layout_header shape (length arrays)) → IsWritable shape
+    → HasTextNames shape → All (HasShape shape) arrays →
     HasSmallDims shape → All IsKept arrays → length arrays ≤ 65536 →
     ((k : ℕ) (d : Array) → k < length arrays → HasValues shape (get_or arrays k d) bytes (header_length shape) (k * row_length shape)) →
     (s : StackValue) × (stack_of bytes ≡ Ok s) × (s.arrays ≡ arrays)
@@ -142,7 +162,8 @@ read_back shape arrays bytes read writable names each dims kept few values =
     let h : Header = layout_header shape (length arrays) in
     let header : or_cdf (header_of bytes) ≡ Ok h = ap or_cdf read in (
       stack_with bytes h (sample_var shape) shape.kind,
-      bind_to (or_cdf (header_of bytes)) _ h _ header (bind_to (frames_of h) _ (sample_var shape, shape.kind) _ (layout_frames shape (length arrays) writable few) refl),
+      bind_to (or_cdf (header_of bytes)) _ h _ header
+          (bind_to (frames_of h) _ (sample_var shape, shape.kind) _ (layout_frames shape (length arrays) writable few) refl),
       stack_back shape arrays bytes writable names each dims kept values,
     )
 

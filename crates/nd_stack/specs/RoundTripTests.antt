@@ -96,7 +96,9 @@ dims form = record {
 }
 
 no_zero : All (λ b. b ≢ 0) (codes "red")
-no_zero = All-cons (λ b. b ≢ 0) 114 (101 ∷ 100 ∷ []) (omega arith) (All-cons (λ b. b ≢ 0) 101 (100 ∷ []) (omega arith) (All-cons (λ b. b ≢ 0) 100 [] (omega arith) (All-nil (λ b. b ≢ 0))))
+no_zero =
+    All-cons (λ b. b ≢ 0) 114 (101 ∷ 100 ∷ []) (omega arith)
+    (All-cons (λ b. b ≢ 0) 101 (100 ∷ []) (omega arith) (All-cons (λ b. b ≢ 0) 100 [] (omega arith) (All-nil (λ b. b ≢ 0))))
 
 kept : IsKept frame
 unfolding frame dim red
@@ -105,7 +107,9 @@ kept = record {
   stamp = omega arith;
   sec = omega (arith, ints);
   nsec = omega (arith, ints);
-  samples = All-cons (IsSample UInt8) (pos 7) (pos 255 ∷ []) (omega (arith, ints)) (All-cons (IsSample UInt8) (pos 255) [] (omega (arith, ints)) (All-nil (IsSample UInt8)));
+  samples =
+      All-cons (IsSample UInt8) (pos 7)
+      (pos 255 ∷ []) (omega (arith, ints)) (All-cons (IsSample UInt8) (pos 255) [] (omega (arith, ints)) (All-nil (IsSample UInt8)));
   attrs = All-cons (λ t. IsKeptValue t.value) red [] no_zero (All-nil (λ t. IsKeptValue t.value));
 }
 

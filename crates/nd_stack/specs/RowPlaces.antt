@@ -26,19 +26,25 @@ pub Stands-front : (bytes : List ℕ) (place : ℕ) (front back : List ℕ) → 
 Stands-front bytes place front back h = (back ++ h.0, h.1 ∙ append_assoc front back h.0)
 
 -- in the record that begins so many bytes after the first one
-pub Stands-back : (bytes : List ℕ) (begin record_place n : ℕ) (front back : List ℕ) → length front ≡ n → Stands bytes (begin + record_place) (front ++ back) → Stands bytes (begin + n + record_place) back
+pub Stands-back : (bytes : List ℕ) (begin record_place n : ℕ) (front back : List ℕ) → length front ≡ n → Stands bytes (begin + record_place) (front ++ back)
+    → Stands bytes (begin + n + record_place) back
 Stands-back bytes begin record_place n front back size h =
-    let place : begin + n + record_place ≡ (begin + record_place) + n = omega arith in
-    (h.0, ap (λ p. drop p bytes) place ∙ sym (drop-drop n (begin + record_place) bytes) ∙ ap (drop n) (h.1 ∙ append_assoc front back h.0) ∙ drop_at front (back ++ h.0) n size)
+    let place : begin + n + record_place ≡ (begin + record_place) + n = omega arith in (
+      h.0,
+      ap (λ p. drop p bytes) place ∙ sym (drop-drop n (begin + record_place) bytes) ∙ ap (drop n) (h.1 ∙ append_assoc front back h.0)
+          ∙ drop_at front (back ++ h.0) n size,
+    )
 
 pub Stands-take : (bytes : List ℕ) (place n : ℕ) (text : List ℕ) → length text ≡ n → Stands bytes place text → take n (drop place bytes) ≡ text
 Stands-take bytes place n text size h = ap (take n) h.1 ∙ take_at text h.0 n size
 
 -- ROWS
 
-pub rows_Stands : (shape : FileShape) (arrays : List Array) (k : ℕ) (d : Array) → All (HasShape shape) arrays → k < length arrays → Stands (flat_map (row shape) arrays) (k * row_length shape) (row shape (get_or arrays k d))
+pub rows_Stands : (shape : FileShape) (arrays : List Array) (k : ℕ) (d : Array) → All (HasShape shape) arrays → k < length arrays
+    → Stands (flat_map (row shape) arrays) (k * row_length shape) (row shape (get_or arrays k d))
 rows_Stands shape [] k d h within = absurd (omega arith)
-rows_Stands shape (a ∷ arrays) zero d h within = (flat_map (row shape) arrays, ap (λ n. drop n (flat_map (row shape) (a ∷ arrays))) (zero-mul (row_length shape)))
+rows_Stands shape (a ∷ arrays) zero d h within =
+    (flat_map (row shape) arrays, ap (λ n. drop n (flat_map (row shape) (a ∷ arrays))) (zero-mul (row_length shape)))
 rows_Stands shape (a ∷ arrays) (suc k) d h within =
     let size = row_length shape in
     let rest = rows_Stands shape arrays k d (All-tail (HasShape shape) a arrays h) (omega arith) in
@@ -57,7 +63,8 @@ row_Stands shape arrays k d h within =
     let rest = rows_Stands shape arrays k d h within in (
       rest.0,
       sym (drop-drop (k * row_length shape) (header_length shape) (layout shape arrays))
-          ∙ ap (drop (k * row_length shape)) (drop_at front (flat_map (row shape) arrays) (header_length shape) (length-header shape (Some (length arrays)))) ∙ rest.1,
+          ∙ ap (drop (k * row_length shape)) (drop_at front (flat_map (row shape) arrays) (header_length shape) (length-header shape (Some (length arrays))))
+          ∙ rest.1,
     )
 
 -- VALUES
@@ -70,17 +77,22 @@ pub record HasValues (shape : FileShape) (a : Array) (bytes : List ℕ) (begin r
   pub sec : Stands bytes (begin + 4 + 8 + record_place) (signed_word a.sec)
   pub nsec : Stands bytes (begin + 4 + 8 + 4 + record_place) (signed_word a.nsec)
   pub samples : Stands bytes (begin + 4 + 8 + 4 + 4 + record_place) (bytes_of a.kind a.samples)
-  pub attrs : Stands bytes (begin + 4 + 8 + 4 + 4 + padded_length (sample_count shape.dims * width shape.kind) + record_place) (flat_map (λ t. attr_values shape.width t.value) a.attrs)
+  pub attrs : Stands bytes (begin + 4 + 8 + 4 + 4 + padded_length (sample_count shape.dims * width shape.kind) + record_place)
+      (flat_map (λ t. attr_values shape.width t.value) a.attrs)
 
 parts : (one two three four five six : List ℕ) → one ++ two ++ three ++ four ++ five ++ six ≡ one ++ (two ++ (three ++ (four ++ (five ++ six))))
 parts one two three four five six = simp append_assoc refl
 
 row_parts : (shape : FileShape) (a : Array) →
-    row shape a ≡ signed_word a.id ++ (double_word a.stamp ++ (signed_word a.sec ++ (signed_word a.nsec ++ (padded_values (sample_kind a.kind) (bytes_of a.kind a.samples) ++ flat_map (λ t. attr_values shape.width t.value) a.attrs))))
+    row shape a ≡ signed_word a.id ++ (double_word a.stamp ++ (signed_word a.sec
+    ++ (signed_word a.nsec ++ (padded_values (sample_kind a.kind) (bytes_of a.kind a.samples) ++ flat_map (λ t. attr_values shape.width t.value) a.attrs))))
 unfolding row
-row_parts shape a = parts (signed_word a.id) (double_word a.stamp) (signed_word a.sec) (signed_word a.nsec) (padded_values (sample_kind a.kind) (bytes_of a.kind a.samples)) (flat_map (λ (t : Attr). attr_values shape.width t.value) a.attrs)
+row_parts shape a =
+    parts (signed_word a.id) (double_word a.stamp) (signed_word a.sec) (signed_word a.nsec) (padded_values (sample_kind a.kind) (bytes_of a.kind a.samples))
+    (flat_map (λ (t : Attr). attr_values shape.width t.value) a.attrs)
 
-pub row-HasValues : (shape : FileShape) (a : Array) (bytes : List ℕ) (begin record_place : ℕ) → HasShape shape a → Stands bytes (begin + record_place) (row shape a) → HasValues shape a bytes begin record_place
+pub row-HasValues : (shape : FileShape) (a : Array) (bytes : List ℕ) (begin record_place : ℕ) → HasShape shape a
+    → Stands bytes (begin + record_place) (row shape a) → HasValues shape a bytes begin record_place
 row-HasValues shape a bytes begin record_place h stands =
     let samples = padded_values (sample_kind a.kind) (bytes_of a.kind a.samples) in
     let attrs = flat_map (λ (t : Attr). attr_values shape.width t.value) a.attrs in
@@ -94,14 +106,18 @@ row-HasValues shape a bytes begin record_place h stands =
     let at_id : Stands bytes (begin + record_place) (signed_word a.id ++ two) = subst (Stands bytes (begin + record_place)) (row_parts shape a) stands in
     let at_stamp : Stands bytes (begin + 4 + record_place) two = Stands-back bytes begin record_place 4 (signed_word a.id) two refl at_id in
     let at_sec : Stands bytes (begin + 4 + 8 + record_place) three = Stands-back bytes (begin + 4) record_place 8 (double_word a.stamp) three refl at_stamp in
-    let at_nsec : Stands bytes (begin + 4 + 8 + 4 + record_place) four = Stands-back bytes (begin + 4 + 8) record_place 4 (signed_word a.sec) four refl at_sec in
-    let at_samples : Stands bytes (begin + 4 + 8 + 4 + 4 + record_place) (samples ++ attrs) = Stands-back bytes (begin + 4 + 8 + 4) record_place 4 (signed_word a.nsec) (samples ++ attrs) refl at_nsec in
+    let at_nsec : Stands bytes (begin + 4 + 8 + 4 + record_place) four =
+    Stands-back bytes (begin + 4 + 8) record_place 4 (signed_word a.sec) four refl at_sec in
+    let at_samples : Stands bytes (begin + 4 + 8 + 4 + 4 + record_place) (samples ++ attrs) =
+    Stands-back bytes (begin + 4 + 8 + 4) record_place 4 (signed_word a.nsec) (samples ++ attrs) refl at_nsec in
     record {
       id = Stands-front bytes (begin + record_place) (signed_word a.id) two at_id;
       stamp = Stands-front bytes (begin + 4 + record_place) (double_word a.stamp) three at_stamp;
       sec = Stands-front bytes (begin + 4 + 8 + record_place) (signed_word a.sec) four at_sec;
       nsec = Stands-front bytes (begin + 4 + 8 + 4 + record_place) (signed_word a.nsec) (samples ++ attrs) at_nsec;
-      samples = Stands-front bytes (begin + 4 + 8 + 4 + 4 + record_place) (bytes_of a.kind a.samples) (take (gap (length (bytes_of a.kind a.samples))) (fill (sample_kind a.kind)))
+      samples =
+          Stands-front bytes (begin + 4 + 8 + 4 + 4 + record_place) (bytes_of a.kind a.samples)
+          (take (gap (length (bytes_of a.kind a.samples))) (fill (sample_kind a.kind)))
           (Stands-front bytes (begin + 4 + 8 + 4 + 4 + record_place) samples attrs at_samples);
       attrs = Stands-back bytes (begin + 4 + 8 + 4 + 4) record_place (padded_length (sample_count shape.dims * width shape.kind)) samples attrs size at_samples;
     }
@@ -110,4 +126,5 @@ row-HasValues shape a bytes begin record_place h stands =
 pub layout_values : (shape : FileShape) (arrays : List Array) (k : ℕ) (d : Array) → All (HasShape shape) arrays → k < length arrays →
     HasValues shape (get_or arrays k d) (layout shape arrays) (header_length shape) (k * row_length shape)
 layout_values shape arrays k d h within =
-    row-HasValues shape (get_or arrays k d) (layout shape arrays) (header_length shape) (k * row_length shape) (h k d within) (row_Stands shape arrays k d h within)
+    row-HasValues shape (get_or arrays k d) (layout shape arrays) (header_length shape) (k * row_length shape) (h k d within)
+    (row_Stands shape arrays k d h within)

@@ -53,7 +53,8 @@ type_numbered (Some t) d kind = if stored_as t == kind then Ok t else Err (refus
 abbrev pub type_stored : ℕ → Result SampleType StackFault
 type_stored kind =
     if kind == 1 then Ok Int8 else (if kind == 3 then Ok Int16 else (if kind == 4 then Ok Int32
-    else (if kind == 2 then Err (refusal.SampleType (negsuc 1)) else (if kind == 5 then Err (refusal.SampleType (negsuc 4)) else Err (refusal.SampleType (negsuc 5))))))
+    else (if kind == 2 then Err (refusal.SampleType (negsuc 1))
+    else (if kind == 5 then Err (refusal.SampleType (negsuc 4)) else Err (refusal.SampleType (negsuc 5))))))
 
 abbrev pub type_by : List ℤ → ℕ → Result SampleType StackFault
 type_by [] kind = type_stored kind

@@ -51,10 +51,17 @@ pub record IsColumn (shape : FileShape) (c : Column) : Type 0 where
 absent-IsList : (after : List ℕ) → IsList 12 (λ earlier. IsAttr) [] (absent ++ after) after
 absent-IsList after =
     let head : IsListHead 12 0 (absent ++ after) after =
-    record { first = 0; at_count = word 0 ++ after; tag_word = word-IsWord 0 (word 0 ++ after) (omega arith); number = word-IsNumber 0 after (omega arith); own = λ _. (refl, refl) } in
+    record {
+      first = 0;
+      at_count = word 0 ++ after;
+      tag_word = word-IsWord 0 (word 0 ++ after) (omega arith);
+      number = word-IsNumber 0 after (omega arith);
+      own = λ _. (refl, refl);
+    } in
     (after, head, refl)
 
-variable-IsVar : (form : Form) (shape : FileShape) (c : Column) (begin : ℕ) (after : List ℕ) → IsWritable shape → IsColumn shape c → begin ≤ greatest_begin form →
+variable-IsVar : (form : Form) (shape : FileShape) (c : Column) (begin : ℕ) (after : List ℕ) → IsWritable shape
+    → IsColumn shape c → begin ≤ greatest_begin form →
     IsVar form (layout_dims shape) (column_var c begin) (variable form c begin ++ after) after
 variable-IsVar form shape c begin after writable h small =
     let at_begin : List ℕ = offset form begin ++ after in
@@ -68,7 +75,8 @@ variable-IsVar form shape c begin after writable h small =
     let few : length (layout_dims shape) < 2 ^ 32 = omega (arith, length-layout_dims shape writable) in
     let within : size_of (layout_dims shape) c.dims c.kind ≤ 4294967296 = omega (arith, h.size, h.small) in
     let numbers : AreMany (IsDimNumber (layout_dims shape)) [] c.dims at_dims at_attrs =
-    subst (λ numbers. AreMany (IsDimNumber (layout_dims shape)) [] numbers (flat_map word numbers ++ at_attrs) at_attrs) (sym h.numbers) (record_numbers_spelled shape h.others at_attrs few h.lengths) in
+    subst (λ numbers. AreMany (IsDimNumber (layout_dims shape)) [] numbers (flat_map word numbers ++ at_attrs) at_attrs) (sym h.numbers)
+    (record_numbers_spelled shape h.others at_attrs few h.lengths) in
     subst (λ before. IsVar form (layout_dims shape) (column_var c begin) before after) (sym whole) (record {
       at_rank = at_rank;
       at_dims = at_dims;
@@ -88,7 +96,8 @@ variable-IsVar form shape c begin after writable h small =
 
 -- THE COLUMNS
 
-scalar-IsColumn : (shape : FileShape) (name : List ℕ) (kind size : ℕ) → IsBetween 1 1024 (length name) → IsUtf8 name → IsBetween 1 6 kind → 1 * value_size kind ≡ size → size ≤ 8 → IsColumn shape (scalar name kind size)
+scalar-IsColumn : (shape : FileShape) (name : List ℕ) (kind size : ℕ) → IsBetween 1 1024 (length name) → IsUtf8 name → IsBetween 1 6 kind
+    → 1 * value_size kind ≡ size → size ≤ 8 → IsColumn shape (scalar name kind size)
 scalar-IsColumn shape name kind size named utf8 typed is small = record {
   name = named;
   utf8 = utf8;
@@ -133,7 +142,8 @@ sample-IsColumn shape h = record {
   small = small_product (sample_count shape.dims) (width shape.kind) h.samples (width-most shape.kind);
 }
 
-text-IsColumn : (shape : FileShape) (name : List ℕ) → IsWritable shape → IsBetween 1 1024 (length name) → IsUtf8 name → IsColumn shape (kind_column shape name TextKind)
+text-IsColumn : (shape : FileShape) (name : List ℕ) → IsWritable shape → IsBetween 1 1024 (length name) → IsUtf8 name
+    → IsColumn shape (kind_column shape name TextKind)
 text-IsColumn shape name h named utf8 = record {
   name = named;
   utf8 = utf8;
@@ -146,22 +156,28 @@ text-IsColumn shape name h named utf8 = record {
   small = h.width.1;
 }
 
-kind_column-IsColumn : (shape : FileShape) (name : List ℕ) (kind : AttrKind) → IsWritable shape → IsBetween 1 1024 (length name) → IsUtf8 name → IsColumn shape (kind_column shape name kind)
+kind_column-IsColumn : (shape : FileShape) (name : List ℕ) (kind : AttrKind) → IsWritable shape → IsBetween 1 1024 (length name) → IsUtf8 name
+    → IsColumn shape (kind_column shape name kind)
 kind_column-IsColumn shape name WholeKind h named utf8 = scalar-IsColumn shape name 4 4 named utf8 (omega arith, omega arith) refl (omega arith)
 kind_column-IsColumn shape name Bits64Kind h named utf8 = scalar-IsColumn shape name 6 8 named utf8 (omega arith, omega arith) refl (omega arith)
 kind_column-IsColumn shape name Bits32Kind h named utf8 = scalar-IsColumn shape name 5 4 named utf8 (omega arith, omega arith) refl (omega arith)
 kind_column-IsColumn shape name TextKind h named utf8 = text-IsColumn shape name h named utf8
 
-pub attr-IsColumn : (shape : FileShape) (a : AttrColumn) → IsWritable shape → IsBetween 1 1019 (length a.name) → IsUtf8 a.name → IsColumn shape (attr_column shape a)
+pub attr-IsColumn : (shape : FileShape) (a : AttrColumn) → IsWritable shape → IsBetween 1 1019 (length a.name) → IsUtf8 a.name
+    → IsColumn shape (attr_column shape a)
 attr-IsColumn shape a h named utf8 =
-    kind_column-IsColumn shape (codes "Attr_" ++ a.name) a.kind h (omega arith, omega (arith, named.1)) (IsUtf8-append (codes "Attr_") a.name (ascii-IsUtf8 (codes "Attr_") refl) utf8)
+    kind_column-IsColumn shape (codes "Attr_" ++ a.name) a.kind h
+    (omega arith, omega (arith, named.1)) (IsUtf8-append (codes "Attr_") a.name (ascii-IsUtf8 (codes "Attr_") refl) utf8)
 
 pub columns-IsColumn : (shape : FileShape) → IsWritable shape → HasTextNames shape → All (IsColumn shape) (columns shape)
 columns-IsColumn shape h texts =
     let Is = IsColumn shape in
-    let int : (name : List ℕ) → IsBetween 1 1024 (length name) → IsUtf8 name → Is (scalar name 4 4) = λ name named utf8. scalar-IsColumn shape name 4 4 named utf8 (omega arith, omega arith) refl (omega arith) in
+    let int : (name : List ℕ) → IsBetween 1 1024 (length name) → IsUtf8 name → Is (scalar name 4 4) =
+    λ name named utf8. scalar-IsColumn shape name 4 4 named utf8 (omega arith, omega arith) refl (omega arith) in
     let id = int (codes "uniqueId") (omega arith, omega arith) (ascii-IsUtf8 (codes "uniqueId") refl) in
-    let stamp = scalar-IsColumn shape (codes "timeStamp") 6 8 (omega arith, omega arith) (ascii-IsUtf8 (codes "timeStamp") refl) (omega arith, omega arith) refl (omega arith) in
+    let stamp =
+    scalar-IsColumn shape (codes "timeStamp") 6 8 (omega arith, omega arith) (ascii-IsUtf8 (codes "timeStamp") refl)
+    (omega arith, omega arith) refl (omega arith) in
     let sec = int (codes "epicsTSSec") (omega arith, omega arith) (ascii-IsUtf8 (codes "epicsTSSec") refl) in
     let nsec = int (codes "epicsTSNsec") (omega arith, omega arith) (ascii-IsUtf8 (codes "epicsTSNsec") refl) in
     let one : List Column = sample_column shape ∷ [] in
@@ -169,20 +185,24 @@ columns-IsColumn shape h texts =
     let three : List Column = scalar (codes "epicsTSSec") 4 4 ∷ two in
     let four : List Column = scalar (codes "timeStamp") 6 8 ∷ three in
     let fixed : All Is (fixed_columns shape) =
-    All-cons Is (scalar (codes "uniqueId") 4 4) four id (All-cons Is (scalar (codes "timeStamp") 6 8) three stamp (All-cons Is (scalar (codes "epicsTSSec") 4 4) two sec
+    All-cons Is (scalar (codes "uniqueId") 4 4) four id
+    (All-cons Is (scalar (codes "timeStamp") 6 8) three stamp (All-cons Is (scalar (codes "epicsTSSec") 4 4) two sec
     (All-cons Is (scalar (codes "epicsTSNsec") 4 4) one nsec (All-cons Is (sample_column shape) [] (sample-IsColumn shape h) (All-nil Is))))) in
-    let attrs : All Is (map (attr_column shape) shape.attrs) = All-map Is (attr_column shape) shape.attrs (λ k d within. attr-IsColumn shape _ h (h.names k d within) (texts.attrs k d within)) in
+    let attrs : All Is (map (attr_column shape) shape.attrs) =
+    All-map Is (attr_column shape) shape.attrs (λ k d within. attr-IsColumn shape _ h (h.names k d within) (texts.attrs k d within)) in
     All-append Is (fixed_columns shape) (map (attr_column shape) shape.attrs) fixed attrs
 
 -- THE LIST
 
-vars_spelled : (form : Form) (shape : FileShape) (earlier : List HeadVar) (begin : ℕ) (cs : List Column) → IsWritable shape → All (IsColumn shape) cs → begin + columns_length cs ≤ greatest_begin form →
+vars_spelled : (form : Form) (shape : FileShape) (earlier : List HeadVar) (begin : ℕ) (cs : List Column) → IsWritable shape → All (IsColumn shape) cs
+    → begin + columns_length cs ≤ greatest_begin form →
     AreSpelled (λ earlier. IsVar form (layout_dims shape)) earlier (variables form begin cs) (column_vars begin cs)
 vars_spelled form shape earlier begin [] writable h few = tt
 vars_spelled form shape earlier begin (c ∷ cs) writable h few =
     let total = sum_by-cons (λ (d : Column). padded_length d.size) c cs in (
       λ after. variable-IsVar form shape c begin after writable (All-head (IsColumn shape) c cs h) (omega (arith, total, few)),
-      vars_spelled form shape (earlier ++ column_var c begin ∷ []) (begin + padded_length c.size) cs writable (All-tail (IsColumn shape) c cs h) (omega (arith, total, few)),
+      vars_spelled form shape (earlier ++ column_var c begin ∷ []) (begin + padded_length c.size) cs writable
+          (All-tail (IsColumn shape) c cs h) (omega (arith, total, few)),
     )
 
 length-column_vars : (begin : ℕ) (cs : List Column) → length (column_vars begin cs) ≡ length cs
@@ -203,21 +223,25 @@ vars_IsList form shape begin cs after writable h few count =
 pub column-is_record : (shape : FileShape) (c : Column) (begin : ℕ) → IsColumn shape c → is_record_var (layout_dims shape) (column_var c begin) ≡ true
 column-is_record shape c begin h = ap (begins_with_record (layout_dims shape)) h.numbers
 
-pub all_record_vars : (shape : FileShape) (begin : ℕ) (cs : List Column) → All (IsColumn shape) cs → record_vars (layout_dims shape) (column_vars begin cs) ≡ column_vars begin cs
+pub all_record_vars : (shape : FileShape) (begin : ℕ) (cs : List Column) → All (IsColumn shape) cs
+    → record_vars (layout_dims shape) (column_vars begin cs) ≡ column_vars begin cs
 all_record_vars shape begin [] h = refl
 all_record_vars shape begin (c ∷ cs) h =
-    rw (column-is_record shape c begin (All-head (IsColumn shape) c cs h)) (ap (λ rest. column_var c begin ∷ rest) (all_record_vars shape (begin + padded_length c.size) cs (All-tail (IsColumn shape) c cs h)))
+    rw (column-is_record shape c begin (All-head (IsColumn shape) c cs h))
+    (ap (λ rest. column_var c begin ∷ rest) (all_record_vars shape (begin + padded_length c.size) cs (All-tail (IsColumn shape) c cs h)))
 
 padded_same : (n : ℕ) → fields.padded n ≡ padded_length n
 padded_same n = omega arith
 
-sizes_sum : (shape : FileShape) (begin : ℕ) (cs : List Column) → All (IsColumn shape) cs → sum_by (stored_size (layout_dims shape) false) (column_vars begin cs) ≡ columns_length cs
+sizes_sum : (shape : FileShape) (begin : ℕ) (cs : List Column) → All (IsColumn shape) cs
+    → sum_by (stored_size (layout_dims shape) false) (column_vars begin cs) ≡ columns_length cs
 sizes_sum shape begin [] h = refl
 sizes_sum shape begin (c ∷ cs) h =
     let rest : List HeadVar = column_vars (begin + padded_length c.size) cs in
     let left = sum_by-cons (stored_size (layout_dims shape) false) (column_var c begin) rest in
     let right = sum_by-cons (λ (d : Column). padded_length d.size) c cs in
-    let here : stored_size (layout_dims shape) false (column_var c begin) ≡ padded_length c.size = ap fields.padded (All-head (IsColumn shape) c cs h).size ∙ padded_same c.size in
+    let here : stored_size (layout_dims shape) false (column_var c begin) ≡ padded_length c.size =
+    ap fields.padded (All-head (IsColumn shape) c cs h).size ∙ padded_same c.size in
     let others = sizes_sum shape (begin + padded_length c.size) cs (All-tail (IsColumn shape) c cs h) in
     omega (arith, left, right, here, others)
 
@@ -236,12 +260,14 @@ record_size_is shape h texts =
 
 -- THE END OF THE VALUES
 
-end_by : (b c : Bool) (begin records size limit : ℕ) → begin + records + size ≤ limit → (if b && c then 0 else begin + (if b then records else 0) + size) ≤ limit
+end_by : (b c : Bool) (begin records size limit : ℕ) → begin + records + size ≤ limit
+    → (if b && c then 0 else begin + (if b then records else 0) + size) ≤ limit
 end_by true true begin records size limit h = omega arith
 end_by true false begin records size limit h = h
 end_by false c begin records size limit h = omega (arith, h)
 
-pub columns-end : (shape : FileShape) (records begin limit : ℕ) (cs : List Column) → All (IsColumn shape) cs → begin + columns_length cs + (records - 1) * row_length shape ≤ limit →
+pub columns-end : (shape : FileShape) (records begin limit : ℕ) (cs : List Column) → All (IsColumn shape) cs
+    → begin + columns_length cs + (records - 1) * row_length shape ≤ limit →
     All (λ v. values_end (layout_header shape records) v ≤ limit) (column_vars begin cs)
 columns-end shape records begin limit [] h few = All-nil (λ v. values_end (layout_header shape records) v ≤ limit)
 columns-end shape records begin limit (c ∷ cs) h few =
@@ -249,5 +275,7 @@ columns-end shape records begin limit (c ∷ cs) h few =
     let total = sum_by-cons (λ (d : Column). padded_length d.size) c cs in
     let size = (All-head (IsColumn shape) c cs h).size in
     let here : Ends (column_var c begin) =
-    end_by (is_record_var (layout_dims shape) (column_var c begin)) (records == 0) begin ((records - 1) * row_length shape) (var_size (layout_dims shape) (column_var c begin)) limit (omega (arith, total, few, size)) in
-    All-cons Ends (column_var c begin) (column_vars (begin + padded_length c.size) cs) here (columns-end shape records (begin + padded_length c.size) limit cs (All-tail (IsColumn shape) c cs h) (omega (arith, total, few)))
+    end_by (is_record_var (layout_dims shape) (column_var c begin)) (records == 0) begin ((records - 1) * row_length shape)
+    (var_size (layout_dims shape) (column_var c begin)) limit (omega (arith, total, few, size)) in
+    All-cons Ends (column_var c begin) (column_vars (begin + padded_length c.size) cs) here
+    (columns-end shape records (begin + padded_length c.size) limit cs (All-tail (IsColumn shape) c cs h) (omega (arith, total, few)))

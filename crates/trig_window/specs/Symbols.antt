@@ -73,6 +73,7 @@ tokens_from at zero (c ∷ cs) =
 abbrev pub tokens : List ℕ → List Token
 tokens text = tokens_from 0 0 text
 
-longest_symbols : tokens (codes "A<= 12") ≡ record { symbol = symbol.A; at = 0 } ∷ record { symbol = symbol.Sign AtMost; at = 1 } ∷ record { symbol = symbol.Number (pos 12); at = 4 } ∷ []
+longest_symbols : tokens (codes "A<= 12")
+    ≡ record { symbol = symbol.A; at = 0 } ∷ record { symbol = symbol.Sign AtMost; at = 1 } ∷ record { symbol = symbol.Number (pos 12); at = 4 } ∷ []
 unfolding tokens_from symbol_at
 longest_symbols = refl

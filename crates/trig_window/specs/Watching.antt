@@ -24,11 +24,13 @@ Answers passes complete item old new (LetGo x) =
 -- a push of the item after these firings, by the windows of all firings so far
 pub record Pushes {X : Type 0} (flags : List Bool) (fired : Bool) (item : X) (old new : Watch X) (result : Passed X) : Type 0 where
   pub after : IsAfter new (flags ++ fired ∷ [])
-  pub answer : Answers (is_passed old.pre old.post old.preset (flags ++ fired ∷ []) (length flags)) (is_complete old.post old.preset (flags ++ fired ∷ [])) item old new result
+  pub answer : Answers (is_passed old.pre old.post old.preset (flags ++ fired ∷ []) (length flags))
+      (is_complete old.post old.preset (flags ++ fired ∷ [])) item old new result
   -- at a counted trigger what was kept is to go out first
   pub pending : new.pending ≡ (if is_trigger old.post old.preset (flags ++ fired ∷ []) (length flags) then old.ring else [])
   -- the ring stays what is kept of the items so far
-  pub ring : (xs : List X) → length xs ≡ length flags → old.ring ≡ kept old.pre old.post old.preset flags xs → new.ring ≡ kept old.pre old.post old.preset (flags ++ fired ∷ []) (xs ++ item ∷ [])
+  pub ring : (xs : List X) → length xs ≡ length flags → old.ring ≡ kept old.pre old.post old.preset flags xs
+      → new.ring ≡ kept old.pre old.post old.preset (flags ++ fired ∷ []) (xs ++ item ∷ [])
 
 abbrev pub SameRule : {X : Type 0} → Watch X → Watch X → Type 0
 SameRule old new = (new.pre ≡ old.pre) × (new.post ≡ old.post) × (new.preset ≡ old.preset)

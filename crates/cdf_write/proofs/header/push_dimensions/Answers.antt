@@ -11,5 +11,6 @@ returns c =
     let records = gains _ _ _ c.in_ok-push_dimension.ensures in
     let sizes = gains _ _ _ (rw dims at c.in_ok-push_sizes.ensures) in
     on_ok c.push_dimension-2.result
-    (λ texts. (then (then (then (then tag count) records) sizes) (gains _ _ _ texts)).is ∙ ap (λ bytes. c.args.out.now.items ++ bytes) (sym (dimensions_spelled c.args.shape.now)))
+    (λ texts. (then (then (then (then tag count) records) sizes) (gains _ _ _ texts)).is
+    ∙ ap (λ bytes. c.args.out.now.items ++ bytes) (sym (dimensions_spelled c.args.shape.now)))
     c.push_dimension-2.ensures

@@ -16,4 +16,5 @@ loop-i-preserved c =
     let rest : length dims - (i + 1) ≡ m = omega arith in
     let slowest = ap (λ n. sizes_from i (take n dims)) left ∙ sizes_from-more dims i m nothing (omega arith) in
     let before = c.loop-i.invariant in
-    rw rest (ap (λ bytes. bytes ++ sizes_from (i + 1) (take m dims)) c.in_ok-push_dimension.ensures ∙ append_assoc c.loop-i.out.items _ (sizes_from (i + 1) (take m dims)) ∙ ap (λ bytes. c.loop-i.out.items ++ bytes) (sym slowest) ∙ before)
+    rw rest (ap (λ bytes. bytes ++ sizes_from (i + 1) (take m dims)) c.in_ok-push_dimension.ensures
+    ∙ append_assoc c.loop-i.out.items _ (sizes_from (i + 1) (take m dims)) ∙ ap (λ bytes. c.loop-i.out.items ++ bytes) (sym slowest) ∙ before)

@@ -6,7 +6,9 @@ use Rattle.cdf_write.proofs.lengths.length_with.Goals as goal
 
 pub overflow_add-result : goal.overflow_add-result
 overflow_add-result c =
-    let all : c.from.result * c.from-row.result ≤ 2 ^ 64 * (2 ^ 63 + 2 ^ 62 + 2 ^ 30) = mul-le c.from.result c.from-row.result (2 ^ 64) (2 ^ 63 + 2 ^ 62 + 2 ^ 30) (omega (arith, c.from.ensures)) (omega (arith, c.from-row.ensures, c.row_size.ensures.small)) in
+    let all : c.from.result * c.from-row.result ≤ 2 ^ 64 * (2 ^ 63 + 2 ^ 62 + 2 ^ 30) =
+    mul-le c.from.result c.from-row.result
+    (2 ^ 64) (2 ^ 63 + 2 ^ 62 + 2 ^ 30) (omega (arith, c.from.ensures)) (omega (arith, c.from-row.ensures, c.row_size.ensures.small)) in
     omega (arith, all, c.header_size.ensures.small)
 
 pub returns : goal.returns

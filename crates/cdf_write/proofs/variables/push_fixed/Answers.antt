@@ -9,4 +9,9 @@ returns-clause-bytes c =
     let nsec = gains _ _ _ (rw (c.in_ok-nsec.ensures.next, c.in_ok-sec.ensures.next, c.in_ok-stamp.ensures.next) at c.in_ok-samples.ensures.bytes) in
     on_ok c.push_samples_variable.result
     (λ samples. (then id (then stamp (then sec (then nsec (alone (gains _ _ _ samples)))))).is)
-    (rw (c.in_ok-samples.ensures.next, c.in_ok-nsec.ensures.next, c.in_ok-sec.ensures.next, c.in_ok-stamp.ensures.next) at c.push_samples_variable.ensures.bytes)
+    (rw (
+      c.in_ok-samples.ensures.next,
+      c.in_ok-nsec.ensures.next,
+      c.in_ok-sec.ensures.next,
+      c.in_ok-stamp.ensures.next,
+    ) at c.push_samples_variable.ensures.bytes)

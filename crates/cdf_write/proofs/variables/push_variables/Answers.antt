@@ -13,7 +13,8 @@ returns c =
     let count = gains _ _ _ (rw c.as_slice.ensures at c.in_ok-push_word-2.ensures) in
     let fixed = gains _ _ _ c.in_ok-begin.ensures.bytes in
     on_ok c.push_attrs.result
-    (λ attrs. (then (then (then tag count) fixed) (gains _ _ _ attrs)).is ∙ ap (λ bytes. c.args.out.now.items ++ bytes) (sym (variables_spelled c.args.shape.now c.args.begin)))
+    (λ attrs. (then (then (then tag count) fixed) (gains _ _ _ attrs)).is
+    ∙ ap (λ bytes. c.args.out.now.items ++ bytes) (sym (variables_spelled c.args.shape.now c.args.begin)))
     (rw c.in_ok-begin.ensures.next at c.push_attrs.ensures)
 
 pub push_fixed-requires-clause-end : goal.push_fixed-requires-clause-end

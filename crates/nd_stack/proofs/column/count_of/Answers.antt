@@ -17,5 +17,6 @@ overflow_mul-count c =
     let numbers = c.args.numbers.now in
     let i = c.loop-number.number-index in
     let factor : c.from-count.result ≡ max (dim_length dims (get_or numbers i 0)) 1 = grind arith in
-    let more = size_step dims numbers i c.loop-number.count c.from-count.result (value_count dims numbers) c.loop-number-test.true factor c.loop-number.invariant in
+    let more =
+    size_step dims numbers i c.loop-number.count c.from-count.result (value_count dims numbers) c.loop-number-test.true factor c.loop-number.invariant in
     omega (arith, c.requires, size_most dims (drop (i + 1) numbers) (c.loop-number.count * c.from-count.result) (value_count dims numbers) more)

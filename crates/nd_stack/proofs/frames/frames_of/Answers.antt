@@ -11,7 +11,9 @@ pub overflow_cast-result : goal.overflow_cast-result
 overflow_cast-result c =
     let h = c.args.header.now in
     let found : variable_of h (codes "array_data") ≡ Some c.in_ok-var.var.now = sym c.variable_of.ensures ∙ ap option_copied c.in_ok-var.ensures.ok_part in
-    let rank = All-find (λ (v : HeadVar). length v.dims ≤ 2147483647) (λ (v : HeadVar). bytes_eq v.name (codes "array_data")) h.vars c.in_ok-var.var.now c.requires.ranks found in
+    let rank =
+    All-find (λ (v : HeadVar). length v.dims ≤ 2147483647) (λ (v : HeadVar). bytes_eq v.name (codes "array_data")) h.vars
+    c.in_ok-var.var.now c.requires.ranks found in
     omega (arith, rank, ap length c.as_slice-rank.ensures)
 
 pub frame_values-samples-requires : goal.frame_values-samples-requires

@@ -10,11 +10,13 @@ returns-then-bytes-count c =
     let bytes = int_bytes c.args.header.now c.args.name.now in
     let differs : length bytes / 4 ≡ c.args.count → ⊥ = λ e. c.if-bytes-count.true (ap (λ b. length b / 4) c.int_bytes-bytes.ensures ∙ e) in
     let fits : FitsSigned w32 c.args.other = search rules in
-    to_z-of_z w32 c.args.other fits ∙ sym (other_count bytes c.args.count (slice_index_or (ints c.args.header.now c.args.name.now) c.args.i c.args.other) c.args.other differs)
+    to_z-of_z w32 c.args.other fits
+    ∙ sym (other_count bytes c.args.count (slice_index_or (ints c.args.header.now c.args.name.now) c.args.i c.args.other) c.args.other differs)
 
 pub returns : goal.returns
 returns c =
     let bytes = int_bytes c.args.header.now c.args.name.now in
     let fits : FitsSigned w32 c.int_at.result = search rules in
     let same : length bytes / 4 ≡ c.args.count = ap (λ b. length b / 4) (sym c.int_bytes-bytes.ensures) ∙ c.if-bytes-count.false in
-    to_z-of_z w32 c.int_at.result fits ∙ sym (same_count bytes c.args.count c.args.i c.int_at.result c.args.other same (rw (← c.int_bytes-bytes.ensures) c.int_at.ensures))
+    to_z-of_z w32 c.int_at.result fits
+    ∙ sym (same_count bytes c.args.count c.args.i c.int_at.result c.args.other same (rw (← c.int_bytes-bytes.ensures) c.int_at.ensures))

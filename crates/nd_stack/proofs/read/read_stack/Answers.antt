@@ -41,7 +41,12 @@ new-requires c =
     let same : c.deref.result.now ≡ bytes = c.deref.ensures.value ∙ sym c.deref-2.ensures.value in
     let sound = subst (λ (bytes : List ℕ). IsSound (length bytes) h) same (Reads-IsSound c.deref.result.now h c.in_ok-header.ensures.ok) in
     let fits = accepted-FitsFile bytes h v kind sound (frames_of-IsAccepted h v kind c.in_ok-var.ensures) in
-    let one = subst (λ s. FitsFile s (heads_of bytes h (frame_count h v)) bytes (column_of h v).first (column_of h v).step) (sym c.in_ok-shape.ensures.shape) fits in
-    let two = subst (λ heads. FitsFile c.in_ok-shape.shape heads bytes (column_of h v).first (column_of h v).step) (sym (c.new-heads.ensures ∙ c.in_ok-shape.ensures.heads)) one in
-    let three = subst (λ list. FitsFile c.in_ok-shape.shape c.new-heads.result list (column_of h v).first (column_of h v).step) (c.deref-2.ensures.value ∙ sym c.new-bytes.ensures) two in
+    let one =
+    subst (λ s. FitsFile s (heads_of bytes h (frame_count h v)) bytes (column_of h v).first (column_of h v).step) (sym c.in_ok-shape.ensures.shape) fits in
+    let two =
+    subst (λ heads. FitsFile c.in_ok-shape.shape heads bytes (column_of h v).first (column_of h v).step)
+    (sym (c.new-heads.ensures ∙ c.in_ok-shape.ensures.heads)) one in
+    let three =
+    subst (λ list. FitsFile c.in_ok-shape.shape c.new-heads.result list (column_of h v).first (column_of h v).step)
+    (c.deref-2.ensures.value ∙ sym c.new-bytes.ensures) two in
     subst (λ col. FitsFile c.in_ok-shape.shape c.new-heads.result c.new-bytes.result col.first col.step) (sym c.column_of-column.ensures) three

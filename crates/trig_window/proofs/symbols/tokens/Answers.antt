@@ -22,13 +22,16 @@ loop-at-preserved c =
         | then-text-at-ne32+in_ok-push w ↦
             ap (λ v. v.items ++ tokens_from (at + found.1) 0 (drop (at + found.1) text)) w.tokens-is
             ∙ ap (λ (xs : List Token). xs ++ tokens_from (at + found.1) 0 (drop (at + found.1) text)) w.in_ok-push.ensures.items
-            ∙ at_symbol at text (tokens text) c.loop-at.tokens.items found c.loop-at-test.true symbol c.symbol_at-symbol.ensures.positive within w.if-text-at-ne32.true c.loop-at.invariant.1
+            ∙ at_symbol at text (tokens text) c.loop-at.tokens.items found c.loop-at-test.true symbol c.symbol_at-symbol.ensures.positive within
+            w.if-text-at-ne32.true c.loop-at.invariant.1
         | else-text-at-ne32 w ↦
             ap (λ v. v.items ++ tokens_from (at + found.1) 0 (drop (at + found.1) text)) w.tokens-is
-            ∙ at_space at text (tokens text) c.loop-at.tokens.items found c.loop-at-test.true symbol c.symbol_at-symbol.ensures.positive within w.if-text-at-ne32.false c.loop-at.invariant.1
+            ∙ at_space at text (tokens text) c.loop-at.tokens.items found c.loop-at-test.true symbol c.symbol_at-symbol.ensures.positive within
+            w.if-text-at-ne32.false c.loop-at.invariant.1
       ],
     )
 
 pub returns : goal.returns
 returns c =
-    sym (append-nil c.loop-at.tokens.items) ∙ ap (λ (ts : List Token). c.loop-at.tokens.items ++ ts) (sym (tokens_from-end c.loop-at.at c.args.text.now c.loop-at-test.false)) ∙ c.loop-at.invariant.1
+    sym (append-nil c.loop-at.tokens.items)
+    ∙ ap (λ (ts : List Token). c.loop-at.tokens.items ++ ts) (sym (tokens_from-end c.loop-at.at c.args.text.now c.loop-at-test.false)) ∙ c.loop-at.invariant.1
