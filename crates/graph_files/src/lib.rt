@@ -3,6 +3,8 @@
 
 mod node_files;
 mod open_files;
+mod shapes;
 
-pub use node_files::NodeFiles;
+pub use node_files::{NodeFiles, first_count, is_stream};
 pub use open_files::OpenFiles;
+pub use shapes::file_shape;

@@ -18,11 +18,10 @@ ghost use Rattle.graph_files.specs.OutFiles.{form_at, file_shape, group_number, 
 ghost use Rattle.graph_files.specs.Groups.{group_of};
 ghost use Rattle.graph_files.specs.NodeFiles.{node_file, name_of, first_count, stream_of, IsPlaceAfter, AreWritten, AreEnded, IsFilled, IsSized, HasNumrecs, IsChangedAt, WriteStops, EndStops, RowGoes, RowStops};
 
-use chain_plain::maker_for;
+use crate::shapes::file_shape;
 use edge_traits::Shelf;
 use file_out::{SaveFault, StreamFile};
-use nd_base::{FileRule, FileShape, Form, Head, Mode, Name, OutOfMemory, Plan, Stack};
-use nd_stack::shape_for;
+use nd_base::{FileRule, FileShape, Head, Mode, Name, OutOfMemory, Plan, Stack};
 use std::alloc::{AllocError, Global};
 use std::marker::Model;
 
@@ -50,7 +49,7 @@ impl Model for NodeFiles {
 }
 
 /// Whether the number of records is put in at the end.
-fn is_stream(mode: Mode) -> bool
+pub fn is_stream(mode: Mode) -> bool
     ensures { result ≡ is_stream mode }
 {
     match mode {
@@ -60,29 +59,10 @@ fn is_stream(mode: Mode) -> bool
 }
 
 /// The number of records that a header begins with: None where it is put in at the end.
-fn first_count(late: bool, of: Option<u32>) -> Option<u32>
+pub fn first_count(late: bool, of: Option<u32>) -> Option<u32>
     ensures { result ≡ first_count late of }
 {
     if late { None } else { of }
-}
-
-/// The shape of the arrays that go out of a node, as its files have it, which are of this form.
-fn shape_of(
-    alloc: Global,
-    plan: &Plan,
-    stack: &Stack,
-    node: u32,
-    form: Form,
-) -> Result<FileShape, OutOfMemory>
-    requires graph { IsGraph plan.now.graph }
-    requires plan { plan.now ≡ plan_of plan.now.graph stack.now }
-    requires form { form ≡ form_at plan.now.graph.nodes node }
-    ensures { IfOk result (λ shape. shape ≡ file_shape plan.now.graph stack.now node) }
-{
-    let maker = maker_for(plan, stack, node);
-    let mut shape = shape_for(alloc, stack, maker.kind, maker.dims.as_slice())?;
-    shape.form = form;
-    Ok(shape)
 }
 
 /// The name of a group's file: what its node's names begin with, and its number, which has at least three digits.
@@ -111,12 +91,11 @@ impl NodeFiles {
         requires plan { plan.now ≡ plan_of plan.now.graph stack.now }
         requires kept { IsKeptStack stack.now }
         requires rule { IsFile rule.now }
-        requires form { rule.now.form ≡ form_at plan.now.graph.nodes node }
         requires within { length_of (file_shape plan.now.graph stack.now node) (min rule.now.count (length stack.now.arrays)) ≤ longest_of (form_at plan.now.graph.nodes node) }
         ensures { IfOk result (λ x. x ≡ node_file plan.now.graph stack.now prefix.now node rule.now name.now) }
     {
         let stem = format!(in alloc; "{prefix}{name}_")?;
-        let shape = shape_of(alloc, plan, stack, node, rule.form)?;
+        let shape = file_shape(alloc, plan, stack, node)?;
         Ok(NodeFiles {
             node,
             stem: Name::new(stem),

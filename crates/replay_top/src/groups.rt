@@ -13,48 +13,12 @@ ghost use Rattle.chain_plain.specs.Plans.{plan_of};
 ghost use Rattle.graph_files.specs.BegunFiles.{IsFileBegun, AreBegun};
 ghost use Rattle.graph_files.specs.OutFiles.{form_at, file_shape, group_files, group_name, is_stream, with_files};
 
-use chain_plain::{content, maker_for};
+use chain_plain::content;
 use edge_traits::Shelf;
 use file_out::{SaveFault, StreamFile};
-use nd_base::{FileRule, FileShape, Form, FrameName, Mode, OutOfMemory, Plan, Stack};
-use nd_stack::shape_for;
+use graph_files::{file_shape, first_count, is_stream};
+use nd_base::{FileRule, FileShape, FrameName, Plan, Stack};
 use std::alloc::{AllocError, Global};
-
-/// The number of records that a header begins with: None where it is put in at the end.
-fn first_count(late: bool, count: u32) -> Option<u32>
-    ensures { result ≡ (if late then None else Some count) }
-{
-    if late { None } else { Some(count) }
-}
-
-/// Whether the number of records is put in at the end.
-fn is_stream(mode: Mode) -> bool
-    ensures { result ≡ is_stream mode }
-{
-    match mode {
-        Mode::Stream => true,
-        Mode::Single | Mode::Capture => false,
-    }
-}
-
-/// The shape of the arrays that go out of a node, as its files have it, which are of this form.
-fn shape_of(
-    alloc: Global,
-    plan: &Plan,
-    stack: &Stack,
-    node: u32,
-    form: Form,
-) -> Result<FileShape, OutOfMemory>
-    requires graph { IsGraph plan.now.graph }
-    requires plan { plan.now ≡ plan_of plan.now.graph stack.now }
-    requires form { form ≡ form_at plan.now.graph.nodes node }
-    ensures { IfOk result (λ shape. shape ≡ file_shape plan.now.graph stack.now node) }
-{
-    let maker = maker_for(plan, stack, node);
-    let mut shape = shape_for(alloc, stack, maker.kind, maker.dims.as_slice())?;
-    shape.form = form;
-    Ok(shape)
-}
 
 /// The name of a file of a node: its number has at least three digits.
 fn group_name(alloc: Global, prefix: &str, node: &str, number: usize) -> Result<String, AllocError>
@@ -88,7 +52,7 @@ fn save_group<K: Shelf>(
     ensures cause { IsSaveCause result (K.faults shelf.old) (K.faults shelf.new) }
 {
     let count = group.len();
-    let numrecs = first_count(late, count as u32);
+    let numrecs = first_count(late, Some(count as u32));
     let mut file = StreamFile::begin(alloc, shelf, name, shape, numrecs, count as u64)?;
     for index in group {
         let frame = FrameName {
@@ -121,7 +85,6 @@ pub(crate) fn save_groups<K: Shelf>(
     requires rule { IsFile rule.now }
     requires frames { All (λ k. k < length stack.now.arrays) passed.now }
     requires few { length passed.now ≤ length stack.now.arrays }
-    requires form { rule.now.form ≡ form_at plan.now.graph.nodes node }
     requires within { length_of (file_shape plan.now.graph stack.now node) (min rule.now.count (length stack.now.arrays)) ≤ longest_of (form_at plan.now.graph.nodes node) }
     ensures ok { OnOk result (K.held shelf.new ≡ with_files (K.held shelf.old)
         (group_files rule.now.mode (file_shape plan.now.graph stack.now node) prefix.now name.now 0
@@ -131,7 +94,7 @@ pub(crate) fn save_groups<K: Shelf>(
         (groups rule.now.count (arrays_out plan.now.graph.nodes stack.now.arrays node passed.now))) (K.held shelf.new)) }
     ensures cause { IsSaveCause result (K.faults shelf.old) (K.faults shelf.new) }
 {
-    let shape = shape_of(alloc, plan, stack, node, rule.form)?;
+    let shape = file_shape(alloc, plan, stack, node)?;
     let late = is_stream(rule.mode);
     for (g, group) in passed.chunks(rule.count as usize).enumerate() {
         let file = group_name(alloc, prefix, name, g)?;

@@ -11,20 +11,17 @@ ghost use Rattle.replay_top.specs.Copy.{copy_file, copy_length};
 use edge_traits::Shelf;
 use file_out::{SaveFault, StreamFile};
 use nd_base::{FileShape, Form, OutOfMemory, Stack};
+use nd_stack::shape_for;
 use std::alloc::Global;
 
-/// This shape in form `Classic`.
-fn classic(shape: &FileShape) -> Result<FileShape, OutOfMemory>
-    ensures { IfOk result (λ s. s ≡ (record shape.now { form = Classic })) }
+/// The stack's shape in form `Classic`.
+fn classic(alloc: Global, stack: &Stack) -> Result<FileShape, OutOfMemory>
+    ensures { IfOk result (λ s. s ≡ (record stack.now.shape { form = Classic })) }
 {
-    Ok(FileShape {
-        form: Form::Classic,
-        kind: shape.kind,
-        dims: shape.dims.clone()?,
-        attrs: shape.attrs.clone()?,
-        width: shape.width,
-        extras: shape.extras.clone()?,
-    })
+    let whole = stack.shape();
+    let mut shape = shape_for(alloc, stack, whole.kind, whole.dims.as_slice())?;
+    shape.form = Form::Classic;
+    Ok(shape)
 }
 
 /// Writes all frames of a stack under a name, one after the other, in form `Classic`.
@@ -41,7 +38,7 @@ pub(crate) fn write_frames<K: Shelf>(
     ensures err { OnErr result (IsBegun (K.held shelf.old) name.now (copy_file stack.now) (K.held shelf.new)) }
     ensures cause { IsSaveCause result (K.faults shelf.old) (K.faults shelf.new) }
 {
-    let shape = classic(stack.shape())?;
+    let shape = classic(alloc, stack)?;
     let frames = stack.frames();
     let mut file = StreamFile::begin(alloc, shelf, name, &shape, Some(frames), u64::from(frames))?;
     for k in 0..frames {

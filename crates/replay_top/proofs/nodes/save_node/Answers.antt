@@ -6,7 +6,7 @@ use Rattle.chain_plain.proofs.Rules.{stands}
 use Rattle.graph_files.specs.BegunFiles.{AreBegun, Unended}
 use Rattle.graph_files.specs.BegunLaws.{AreBegun-none}
 use Rattle.graph_files.specs.OutFiles.{OutFile, node_files, with_files}
-use Rattle.graph_files.specs.NodeShapes.{form_at-rule, longest_fits}
+use Rattle.graph_files.specs.NodeShapes.{longest_fits}
 use Rattle.replay_top.proofs.NodeWrites.{saved_rows, saved_groups, stats_sound, file_sound}
 use Rattle.replay_top.proofs.nodes.save_node.Goals as goal
 
@@ -21,12 +21,6 @@ save_groups-requires-clause-rule g c =
     let graph = c.args.plan.now.graph in
     let some : Some c.in-Some.rule.now ≡ rule_at graph.nodes c.args.node = c.in-Some.ensures ∙ ap (λ ns. rule_at ns c.args.node) c.as_slice.ensures in
     file_sound c.in-Some.rule.now.kind c.in-File.file (stands graph c.args.node c.in-Some.rule.now c.requires.graph some).sound.kind c.in-File.is
-
-pub save_groups-requires-clause-form : goal.save_groups-requires-clause-form
-save_groups-requires-clause-form g c =
-    let graph = c.args.plan.now.graph in
-    let some : Some c.in-Some.rule.now ≡ rule_at graph.nodes c.args.node = c.in-Some.ensures ∙ ap (λ ns. rule_at ns c.args.node) c.as_slice.ensures in
-    sym (form_at-rule graph c.args.node c.in-Some.rule.now c.in-File.file some c.in-File.is)
 
 pub save_groups-requires-clause-within : goal.save_groups-requires-clause-within
 save_groups-requires-clause-within g c =

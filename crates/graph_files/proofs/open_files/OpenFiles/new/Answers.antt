@@ -4,21 +4,10 @@ use Rattle.std.proofs.lemmas.Option.{slice_get_read}
 use Rattle.std.proofs.lemmas.List.{drop_all}
 use Rattle.nd_base.specs.declared.graph.NodeRule.{NodeRule}
 use Rattle.nd_base.specs.GraphRules.{rule_at}
-use Rattle.graph_files.specs.NodeShapes.{form_at-rule, longest_fits}
+use Rattle.graph_files.specs.NodeShapes.{longest_fits}
 use Rattle.graph_files.specs.OpenFiles.{AreApart, nodes_from, file_nodes}
 use Rattle.graph_files.specs.OpenFileLaws.{file_nodes-apart}
 use Rattle.graph_files.proofs.open_files.OpenFiles.new.Goals as goal
-
-pub new-requires-clause-form : goal.new-requires-clause-form
-new-requires-clause-form c =
-    let nodes = c.args.plan.now.graph.nodes in
-    let n = c.rule-item.result in
-    let place = c.loop-place.place in
-    let next : place + 1 ≡ suc place = omega arith in
-    let at : slice_get nodes place ≡ Some n =
-    slice_get_read nodes (length nodes) place n refl (subst (λ (ns : List NodeRule). place < length ns) c.as_slice-rule-items.ensures c.loop-place-test.true)
-    (subst (λ (ns : List NodeRule). n ≡ get_or ns place n) c.as_slice-rule-items.ensures c.rule-item.is) in
-    sym (form_at-rule c.args.plan.now.graph (place + 1) n c.in-File.file (sym (ap (rule_at nodes) next ∙ at)) c.in-File.is)
 
 pub new-requires-clause-within : goal.new-requires-clause-within
 new-requires-clause-within c =
