@@ -1,12 +1,10 @@
 use Rattle.std.proofs.Common.{◌≡◌, ◌+◌, ◌<◌, ◌++◌, Some, length, take, ap, sym, subst, ◌∙◌, arith, refl}
-use Rattle.std.specs.Prelude.{slice_get}
+use Rattle.std.specs.Prelude.{slice_get, All}
 use Rattle.std.specs.List.{flat_map}
 use Rattle.std.proofs.lemmas.Option.{get_or_from_slice_get}
 use Rattle.std.proofs.lemmas.Result.{err_from_is_err_and}
-use Rattle.nd_base.specs.Array.{Array}
+use Rattle.nd_base.specs.Array.{Array, StackValue}
 use Rattle.nd_base.specs.Shapes.{array_of}
-use Rattle.nd_base.specs.declared.attribute.FileShape.{FileShape}
-use Rattle.nd_base.specs.declared.form.Form.TheVariants.{Classic}
 use Rattle.edge_traits.specs.Files.{with_file, with_more}
 use Rattle.edge_traits.specs.FileLaws.{Stands-with_file, with_more-with_file}
 use Rattle.cdf_write.specs.Layout.{header, row}
@@ -15,15 +13,21 @@ use Rattle.file_out.specs.Streams.{Stream}
 use Rattle.file_out.specs.StreamLaws.{HasRange-begun_file}
 use Rattle.file_out.specs.BegunLaws.{IsBegun-whole, IsBegun-BeginStops, IsBegun-AddStops}
 use Rattle.nd_base.specs.Rebuilt.{frame-rebuilt}
+use Rattle.nd_base.specs.Stacks.{HasShape}
+use Rattle.nd_stack.specs.KeptStacks.{IsKeptStack}
 use Rattle.replay_top.specs.Copy.{copy_shape, copy_file}
 use Rattle.replay_top.proofs.Frames.{begun_copy, begun_copy-more, begun_copy-whole, copy_file-front}
 use Rattle.replay_top.proofs.saving.write_frames.Goals as goal
+
+-- the frames of a stack that was read have its shape
+framed : (s : StackValue) → IsKeptStack s → All (HasShape s.shape) s.arrays
+framed s kept k d within = let h = kept.each k d within in record { kind = h.kind; dims = h.dims; count = h.count }
 
 pub returns-in_err-file-clause-err : goal.returns-in_err-file-clause-err
 returns-in_err-file-clause-err g c =
     let p = err_from_is_err_and c.from_residual-in_err-file.result c.from_residual-in_err-file.ensures.1 in
     let s = c.args.stack.now in
-    let shape_is : c.in_ok-shape.shape ≡ copy_shape s = c.in_ok-shape.ensures ∙ ap (λ (sh : FileShape). record sh { form = Classic }) c.shape.ensures.value in
+    let shape_is : c.in_ok-shape.shape ≡ copy_shape s = c.in_ok-shape.ensures in
     let stops = (rw (shape_is, c.frames-frames.ensures) at c.in_err-file.ensures.err) in
     rw p.1 (IsBegun-BeginStops c.in_err-file.field-0.0 _ _ c.args.name.now (header (copy_shape s) (Some (length s.arrays)))
     (flat_map (row (copy_shape s)) s.arrays) (copy_file s) refl stops)
@@ -37,7 +41,7 @@ add-requires-clause-row g c =
     let within : k < length s.arrays = omega (arith, c.loop-k-test.true, c.frames-frames.ensures) in
     let array = array_of head s.shape.kind s.shape.dims out in
     let found : slice_get s.arrays k ≡ Some array =
-    frame-rebuilt s.arrays s.shape k head out within c.shape.ensures.sound.frames c.head.ensures c.frame.ensures.samples in
+    frame-rebuilt s.arrays s.shape k head out within (framed s c.requires.kept) c.head.ensures c.frame.ensures.samples in
     let columns : HasColumns s.shape head.attrs =
     subst (λ (a : Array). HasColumns s.shape a.attrs) (get_or_from_slice_get s.arrays k array array found) (c.requires.kept.each k array within).attrs in
     rw c.loop-k.invariant.stream (record { columns = record { same = columns.same; texts = columns.texts }; samples = c.frame.ensures.size })
@@ -56,7 +60,7 @@ returns-in_err-add-clause-err g c =
     let within : k < length s.arrays = omega (arith, c.loop-k-test.true, c.frames-frames.ensures) in
     let array = array_of head s.shape.kind s.shape.dims out in
     let found : slice_get s.arrays k ≡ Some array =
-    frame-rebuilt s.arrays s.shape k head out within c.shape.ensures.sound.frames c.head.ensures c.frame.ensures.samples in
+    frame-rebuilt s.arrays s.shape k head out within (framed s c.requires.kept) c.head.ensures c.frame.ensures.samples in
     let others = copy_file-front s (k + 1) in
     let stops = (rw c.loop-k.invariant.stream at c.in_err-add.ensures.err) in
     rw p.1 (IsBegun-AddStops c.in_err-add.field-0.0 _ (g.K.Shelf.held c.loop-k.shelf) _ c.args.name.now (begun_copy s k)
@@ -74,7 +78,7 @@ loop-k-preserved g c =
     let within : k < length s.arrays = omega (arith, c.loop-k-test.true, c.frames-frames.ensures) in
     let array = array_of head s.shape.kind s.shape.dims out in
     let found : slice_get s.arrays k ≡ Some array =
-    frame-rebuilt s.arrays s.shape k head out within c.shape.ensures.sound.frames c.head.ensures c.frame.ensures.samples in
+    frame-rebuilt s.arrays s.shape k head out within (framed s c.requires.kept) c.head.ensures c.frame.ensures.samples in
     let added = (rw c.loop-k.invariant.stream at c.in_ok-add.ensures.ok) in
     record {
       files =
