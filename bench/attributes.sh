@@ -1,5 +1,5 @@
 #!/usr/bin/env bash
-# Has ncgen of netcdf-bin write a stack of 65,536 frames of 2 by 2 unsigned bytes with 40 attributes of type int, and prints the most memory
+# Has ncgen of netcdf-bin write a stack of 65,536 frames of 2 by 2 bytes with 40 attributes of type int, and prints the most memory
 # that `nd_replay info` takes for it, as a multiple of the file. It is no part of the gate.
 set -eu
 source "$(dirname "$0")/program.sh"

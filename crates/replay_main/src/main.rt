@@ -29,7 +29,8 @@ STACK is a netCDF file in the classic or the 64-bit offset format, of at most 1 
 array_data holds the frames, and the first dimension of that counts them: whole numbers of 8, 16
 or 32 bits, at most 65,536 frames, of 1 to 10 dimensions and at most 67,108,864 samples each. The
 variables uniqueId, timeStamp, epicsTSSec, epicsTSNsec and Attr_NAME are used where they are there.
-'nccopy -k classic OLD NEW' makes one of other netCDF files. docs/formats.md has the rules.
+'nccopy -k classic OLD NEW' makes one of other netCDF files whose types that format has.
+docs/formats.md has the rules.
 
 GRAPH is a TOML text of at most 1 MiB with up to 32 plugins. docs/graph.md lists its keys.
 
@@ -44,8 +45,8 @@ The status, which one line on standard error tells where it isn't 0:
     2  GraphText    GRAPH is no TOML: mend its text
     3  GraphRule    GRAPH breaks a rule, which is named: see docs/graph.md
     4  StackBytes   STACK isn't such a file; the fault is named: see docs/formats.md
-    5  Limit        a file is too large, or a run or a file would be: cut the stack, or write
-                    smaller groups of arrays
+    5  Limit        a file is too large, or a run or a file would be: cut the stack, keep
+                    fewer bins, or write smaller groups of arrays
     6  ReadFault    GRAPH or STACK isn't there or can't be read
     7  ShelfFault   a file can't be made or written, as where its folder isn't there or is full:
                     delete what wasn't finished, and run again
