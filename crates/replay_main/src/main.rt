@@ -29,7 +29,7 @@ STACK is a netCDF file in the classic or the 64-bit offset format, of at most 1 
 array_data holds the frames, and the first dimension of that counts them: whole numbers of 8, 16
 or 32 bits, at most 65,536 frames, of 1 to 10 dimensions and at most 67,108,864 samples each. The
 variables uniqueId, timeStamp, epicsTSSec, epicsTSNsec and Attr_NAME are used where they are there.
-'nccopy -k classic OLD NEW' makes one of other netCDF files whose types that format has.
+'nccopy -k classic OLD NEW' makes one of other netCDF files whose types the classic format has.
 docs/formats.md has the rules.
 
 GRAPH is a TOML text of at most 1 MiB with up to 32 plugins. docs/graph.md lists its keys.
