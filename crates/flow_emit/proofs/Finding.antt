@@ -204,14 +204,15 @@ work-at measure s k v d x ns i h same is =
 pub group-saves : (w : Work) (whole : Bool) (count n l : ℕ) → w ≡ as_work (work.Saves whole count) → n ≡ l → n / count ≡ group_of w l
 group-saves w whole count n l is same = rw is (ap (λ j. j / count) same)
 
-pub group-none : (w : Work) (x : NodeWork) (n : ℕ) → w ≡ as_work x → ((a : Bool) (b : ℕ) → x ≡ work.Saves a b → ⊥) → 0 ≡ group_of w n
-group-none w x n is other = subst (λ (y : Work). 0 ≡ group_of y n) (sym is) (by x other) where
-  by : (x : NodeWork) → ((a : Bool) (b : ℕ) → x ≡ work.Saves a b → ⊥) → 0 ≡ group_of (as_work x) n
-  by work.Makes h = refl
-  by work.Passes h = refl
-  by work.Deals h = refl
-  by (work.Watches pre post preset) h = refl
-  by (work.Saves whole count) h = absurd (h whole count refl)
+pub group-none : (w : Work) (x : NodeWork) (n : ℕ) → w ≡ as_work x
+    → (x ≡ work.Makes) ⊎ ((x ≡ work.Passes) ⊎ ((x ≡ work.Deals) ⊎ ((pre : ℕ) × (post : ℕ) × (preset : ℕ) × (x ≡ work.Watches pre post preset)))) → 0 ≡ group_of w n
+group-none w x n is other = sym (ap (λ (y : Work). group_of y n) is ∙ elim other [
+  | inl makes ↦ ap (λ y. group_of (as_work y) n) makes
+  | inr more ↦ elim more [
+    | inl passes ↦ ap (λ y. group_of (as_work y) n) passes
+    | inr rest ↦ elim rest [ inl deals ↦ ap (λ y. group_of (as_work y) n) deals | inr watches ↦ ap (λ y. group_of (as_work y) n) watches.3 ]
+  ]
+])
 
 -- no more pieces of a node than frames
 pub few-saves : (measure : Measuring) (s : Setting) (k : Parts) (v : ℕ) (n : NodeState) → IsCourse measure s k → is_node s v ≡ true

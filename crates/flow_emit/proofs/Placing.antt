@@ -1,16 +1,15 @@
 -- What is kept of a run, after a Put at a node with a sort list, and what follows it at once.
-use Rattle.std.proofs.Common.{◌≡◌, ◌≤◌, ◌<◌, ◌∙◌, ◌-◌, ℕ, ◌+◌, suc, true, false, not, cond, Bool, List, [], ◌∷◌, ◌++◌, ℤ, int_le, int_lt, Some, length, map, set, refl, sym, ap, subst, arith}
-use Rattle.std.specs.Prelude.{slice_get, filter, if◌then◌else◌}
+use Rattle.std.proofs.Common.{◌≡◌, ◌≤◌, ◌<◌, ◌∙◌, ◌-◌, ℕ, ◌+◌, suc, true, false, Bool, List, [], ◌∷◌, ◌++◌, Some, length, map, set, refl, sym, ap, subst, arith}
+use Rattle.std.specs.Prelude.{slice_get, if◌then◌else◌}
 use Rattle.std.specs.List.{flat_map}
-use Rattle.std.proofs.lemmas.Int.{ints}
 use Rattle.std.proofs.lemmas.Bool.{and_parts, false≢true}
-use Rattle.std.proofs.lemmas.List.{map-append, length-set, get_or-set_same, set-set}
+use Rattle.std.proofs.lemmas.List.{length-set, get_or-set_same, set-set}
 use Rattle.std.proofs.lemmas.List.Elements.{All-head, All-tail}
 use Rattle.std.proofs.lemmas.Option.{slice_get_within, slice_get_read}
 use Rattle.nd_base.specs.declared.frame.FrameName.{FrameName}
 use Rattle.queue_sort.specs.Sorting.{SortState}
 use Rattle.queue_sort.specs.Sorting as sorting
-use Rattle.queue_sort.specs.declared.sort_lists.Waiting.{Waiting as Listed}
+use Rattle.queue_sort.proofs.ById.{map-placed}
 use Rattle.flow_journal.specs.declared.entry.Entry.{Entry}
 use Rattle.flow_journal.specs.declared.entry.Entry.TheVariants.{Emit, Put, SortDrop}
 use Rattle.flow_journal.specs.declared.entry.Why.{Why}
@@ -18,7 +17,7 @@ use Rattle.flow_journal.specs.declared.entry.Why.TheVariants.{Step}
 use Rattle.flow_journal.specs.Setting.{Setting, Work, Makes, Passes, Watches, Saves, node, id_at, is_maker, is_sorted, may_sort}
 use Rattle.flow_journal.specs.Pasts.{Past, frame}
 use Rattle.flow_journal.specs.Ended.{now}
-use Rattle.flow_journal.specs.Waiting.{Waiting, waiting, placed, least_first}
+use Rattle.flow_journal.specs.Waiting.{Waiting, waiting, id_of, least_first}
 use Rattle.flow_journal.specs.Accounts.{block_of}
 use Rattle.flow_journal.specs.Histories.{is_legal}
 use Rattle.flow_journal.proofs.Changes.{put_laws as node_puts}
@@ -43,31 +42,6 @@ use Rattle.flow_emit.proofs.Putting.{Keeps, put_with, none-unsaved}
 use Rattle.flow_emit.proofs.PutMoves.{whole-name}
 
 -- THE LIST
-map-filter : {X Y : Type 0} (f : X → Y) (p : X → Bool) (q : Y → Bool) → ((x : X) → p x ≡ q (f x)) → (xs : List X) → map f (filter p xs) ≡ filter q (map f xs)
-map-filter f p q same [] = refl
-map-filter f p q same (x ∷ xs) = by (p x) (q (f x)) (same x) (map-filter f p q same xs)
-  where
-    by : (a b : Bool) → a ≡ b → map f (filter p xs) ≡ filter q (map f xs)
-        → map f (cond a (x ∷ filter p xs) (filter p xs)) ≡ cond b (f x ∷ filter q (map f xs)) (filter q (map f xs))
-    by true true e rest = ap (λ ys. f x ∷ ys) rest
-    by false false e rest = rest
-    by true false e rest = absurd (cc)
-    by false true e rest = absurd (cc)
-
-not_at_most : (a b : ℤ) → not (int_le a b) ≡ int_lt b a
-not_at_most a b = grind (arith, ints)
-
-placed-kept : (measure : Measuring) (s : Setting) (v : ℕ) (w : Waiting) (ws : List Waiting)
-    → map (listed measure s v) (placed s w ws) ≡ sorting.placed (listed measure s v w) (map (listed measure s v) ws)
-placed-kept measure s v w ws =
-    let f : Waiting → Listed Kept = listed measure s v in
-    let id : Waiting → ℤ = λ u. id_at s u.array.index in
-    let low = filter (λ (u : Waiting). int_le (id u) (id w)) ws in
-    let high = filter (λ (u : Waiting). not (int_le (id u) (id w))) ws in
-    map-append f low (w ∷ high)
-    ∙ ap (λ front. front ++ f w ∷ map f high) (map-filter f _ (λ (u : Listed Kept). int_le u.id (id w)) (λ u. refl) ws)
-    ∙ ap (λ back. filter (λ (u : Listed Kept). int_le u.id (id w)) (map f ws) ++ f w ∷ back)
-    (map-filter f _ (λ (u : Listed Kept). int_lt (id w) u.id) (λ u. not_at_most (id u) (id w)) ws)
 
 -- a result that comes is placed by its id
 pub list-comes : (measure : Measuring) (s : Setting) (r v m k : ℕ) (f : Bool) (P : Past) → is_sorted s v ≡ true
@@ -76,7 +50,7 @@ list-comes measure s r v m k f P sorted =
     let w : Waiting = record { array = frame m k; tick = now P } in
     ap (λ ws. map (listed measure s v) (least_first s ws)) (node_puts.waits s r v m k f P sorted)
     ∙ (ap (map (listed measure s v)) (least_laws.comes s (waiting s v P) w)
-    ∙ placed-kept measure s v w (least_first s (waiting s v P)))
+    ∙ map-placed (listed measure s v) (id_of s) sorting.id_of (λ v. refl) w (least_first s (waiting s v P)))
 
 -- and what goes out or is dropped at once leaves the list as it was
 pub list-again : (measure : Measuring) (s : Setting) (r v m k : ℕ) (f : Bool) (why : Why) (P : Past) → is_sorted s v ≡ true

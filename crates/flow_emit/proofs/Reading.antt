@@ -1,13 +1,12 @@
 -- What code reads of what is kept.
-use Rattle.std.proofs.Common.{◌≡◌, ◌≢◌, ◌≤◌, ◌<◌, ◌∙◌, ◌-◌, ℕ, ◌+◌, suc, true, false, List, [], ◌∷◌, Option, Some, length, drop, refl, sym, ap, ltb, leb, arith, get_or}
+use Rattle.std.proofs.Common.{◌≡◌, ◌≤◌, ◌<◌, ◌∙◌, ◌-◌, ℕ, ◌+◌, suc, true, false, List, [], ◌∷◌, Option, Some, length, drop, refl, sym, ap, ltb, leb, arith, get_or}
 use Rattle.std.specs.Prelude.{slice_get}
 use Rattle.std.proofs.lemmas.Bool.{lt-ltb, le-ltb, ltb-true, leb-true, and_parts}
 use Rattle.std.proofs.lemmas.Option.{slice_get_read}
 use Rattle.nd_base.specs.declared.frame.FrameName.{FrameName}
 use Rattle.nd_base.specs.declared.measure.Measure.{Measure}
 use Rattle.queue_sort.specs.Inboxes.{InboxState}
-use Rattle.flow_journal.specs.Setting.{Setting, Node, node, is_node}
-use Rattle.flow_journal.specs.Turns.{deals, is_dealing}
+use Rattle.flow_journal.specs.Setting.{Setting, node, is_node}
 use Rattle.flow_journal.specs.Pasts.{Past}
 use Rattle.flow_journal.specs.Queued.{queued, has_room}
 use Rattle.flow_emit.specs.declared.node.NodeState.{NodeState}
@@ -15,10 +14,8 @@ use Rattle.std.specs.Prelude.{slice_index_or}
 use Rattle.std.proofs.Common.{zero, map, add-one, drop-cons}
 use Rattle.flow_journal.specs.Setting.{no_node}
 use Rattle.flow_emit.specs.declared.rules.Rules.{Rules}
-use Rattle.flow_emit.specs.declared.rules.NodeWork.{NodeWork}
-use Rattle.flow_emit.specs.declared.rules.NodeWork.TheVariants.{Makes, Passes, Deals, Watches, Saves}
 use Rattle.flow_emit.specs.declared.rules.NodeRules.{NodeRules}
-use Rattle.flow_emit.specs.RunRules.{AreRules, as_node, as_work}
+use Rattle.flow_emit.specs.RunRules.{AreRules, as_node}
 use Rattle.flow_emit.specs.NodeStates.{IsNode}
 
 -- the first of a list, and the rest
@@ -62,17 +59,3 @@ rule-of ru s v i r is are at = ap (node s) (sym is) ∙ (ap (λ ns. slice_index_
 
 pub more-of : {X : Type 0} (n : ℕ) (xs : List X) (d : X) → n < length xs → drop n xs ≡ get_or xs n d ∷ drop (n + 1) xs
 more-of n xs d lt = rw (add-one, drop-cons xs n d) refl
-
--- whether a node deals
-pub deals-read : (s : Setting) (v : ℕ) (r : NodeRules) → node s v ≡ as_node r → r.work ≡ Deals → deals s v ≡ true
-deals-read s v r is here = ap (λ (o : Node). is_dealing o.work) is ∙ ap (λ w. is_dealing (as_work w)) here
-
-not-dealing : (w : NodeWork) → w ≢ Deals → is_dealing (as_work w) ≡ false
-not-dealing Deals ne = absurd (ne refl)
-not-dealing Makes ne = refl
-not-dealing Passes ne = refl
-not-dealing (Watches pre post preset) ne = refl
-not-dealing (Saves whole_groups count) ne = refl
-
-pub deals-not : (s : Setting) (v : ℕ) (r : NodeRules) → node s v ≡ as_node r → r.work ≢ Deals → deals s v ≡ false
-deals-not s v r is ne = ap (λ (o : Node). is_dealing o.work) is ∙ not-dealing r.work ne

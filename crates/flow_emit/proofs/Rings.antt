@@ -1,5 +1,5 @@
 -- What a node keeps for a window to come, when it is settled.
-use Rattle.std.proofs.Common.{◌≡◌, ◌∙◌, ◌≤◌, ◌-◌, ℕ, suc, true, false, Bool, List, [], ◌∷◌, ◌++◌, Some, length, set, refl, sym, subst, arith, if◌then◌else◌}
+use Rattle.std.proofs.Common.{◌≡◌, ◌⊎◌, ◌∙◌, ◌≤◌, ◌-◌, ℕ, suc, true, false, Bool, List, [], ◌∷◌, ◌++◌, Some, length, set, refl, sym, ap, subst, inl, inr, arith, if◌then◌else◌}
 use Rattle.std.specs.Prelude.{slice_get}
 use Rattle.std.specs.List.{flat_map}
 use Rattle.std.proofs.lemmas.Bool.{true≢false}
@@ -125,9 +125,12 @@ settled_plain measure s k v r c n is i =
     (settled_here measure s k r c n i)
 
 -- what a node does, as code reads it
-pub not-watching : (w : NodeWork) → ((pre post preset : ℕ) → w ≡ work.Watches pre post preset → ⊥) → is_watching (as_work w) ≡ false
-not-watching work.Makes h = refl
-not-watching work.Passes h = refl
-not-watching work.Deals h = refl
-not-watching (work.Watches pre post preset) h = absurd (h pre post preset refl)
-not-watching (work.Saves whole n) h = refl
+pub not-watching : (w : NodeWork) → (w ≡ work.Makes) ⊎ ((w ≡ work.Passes) ⊎ ((w ≡ work.Deals) ⊎ ((whole : Bool) × (count : ℕ) × (w ≡ work.Saves whole count))))
+    → is_watching (as_work w) ≡ false
+not-watching w h = elim h [
+  | inl makes ↦ ap (λ x. is_watching (as_work x)) makes
+  | inr more ↦ elim more [
+    | inl passes ↦ ap (λ x. is_watching (as_work x)) passes
+    | inr rest ↦ elim rest [ inl deals ↦ ap (λ x. is_watching (as_work x)) deals | inr saves ↦ ap (λ x. is_watching (as_work x)) saves.2 ]
+  ]
+]

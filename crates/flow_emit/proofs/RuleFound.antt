@@ -1,12 +1,10 @@
 -- The rule of a node, as code finds it.
-use Rattle.std.proofs.Common.{◌≡◌, ◌<◌, ◌∙◌, ◌-◌, ℕ, true, false, List, length, refl, sym, ap, subst, get_or, arith}
+use Rattle.std.proofs.Common.{◌≡◌, ◌<◌, ◌∙◌, ◌-◌, ℕ, true, List, length, sym, ap, subst, get_or, arith}
 use Rattle.std.proofs.lemmas.List.{get_or-map, length-map}
-use Rattle.flow_journal.specs.Setting.{Setting, Node, node, no_node, is_node, makes}
+use Rattle.flow_journal.specs.Setting.{Setting, Node, node, no_node, is_node}
 use Rattle.flow_emit.specs.declared.rules.NodeRules.{NodeRules}
-use Rattle.flow_emit.specs.declared.rules.NodeWork.{NodeWork}
-use Rattle.flow_emit.specs.declared.rules.NodeWork.TheVariants as work
 use Rattle.flow_emit.specs.declared.rules.Rules.{Rules}
-use Rattle.flow_emit.specs.RunRules.{AreRules, as_node, as_work}
+use Rattle.flow_emit.specs.RunRules.{AreRules, as_node}
 use Rattle.flow_emit.proofs.Reading.{place-of}
 
 pub rule-found : (s : Setting) (ru : Rules) (v : ℕ) (n : NodeRules) → AreRules ru s → is_node s v ≡ true → n ≡ get_or ru.nodes (v - 1) n → as_node n ≡ node s v
@@ -15,11 +13,3 @@ rule-found s ru v n are h is =
     let lt : v - 1 < length ru.nodes = omega (arith, p.1, ap length are.nodes, length-map ru.nodes as_node) in
     subst (λ u. as_node n ≡ node s u) p.0
     (ap as_node is ∙ (sym (get_or-map as_node ru.nodes (v - 1) n no_node lt) ∙ ap (λ (ns : List Node). get_or ns (v - 1) no_node) are.nodes))
-
--- only one kind makes arrays
-pub no-makes : (w : NodeWork) → (w ≡ work.Makes → ⊥) → makes (as_work w) ≡ false
-no-makes work.Makes h = absurd (h refl)
-no-makes work.Passes h = refl
-no-makes work.Deals h = refl
-no-makes (work.Watches pre post preset) h = refl
-no-makes (work.Saves whole n) h = refl

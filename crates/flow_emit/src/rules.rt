@@ -5,7 +5,8 @@ ghost use Rattle.nd_base.specs.Array.{Array};
 ghost use Rattle.nd_base.specs.GraphRules.{IsGraph};
 ghost use Rattle.nd_base.specs.Stacks.{IsStack};
 ghost use Rattle.chain_plain.specs.Plans.{plan_of};
-ghost use Rattle.flow_journal.specs.Setting.{Setting, children};
+ghost use Rattle.flow_journal.specs.Setting.{Setting, children, makes};
+ghost use Rattle.flow_journal.specs.Turns.{is_dealing};
 ghost use Rattle.flow_journal.specs.RunSetting.{need_of as need_among, node_of, setting_of, work_of};
 ghost use Rattle.flow_journal.specs.LengthLaws.{most_entries};
 ghost use Rattle.board_rules.specs.RunMeasures.{run_setting};
@@ -27,6 +28,34 @@ pub enum NodeWork {
     Watches { pre: u32, post: u32, preset: u32 },
     /// It saves arrays in groups of `count`; with `whole_groups` an array is due only once its group is whole.
     Saves { whole_groups: bool, count: u32 },
+}
+
+impl NodeWork {
+    /// Whether it makes an array of its own of each one.
+    pub(crate) fn makes(self) -> bool
+        ensures { result ≡ makes (as_work self) }
+    {
+        match self {
+            NodeWork::Makes => true,
+            NodeWork::Passes
+            | NodeWork::Deals
+            | NodeWork::Watches { .. }
+            | NodeWork::Saves { .. } => false,
+        }
+    }
+
+    /// Whether each array goes to one child in turn.
+    pub(crate) fn deals(self) -> bool
+        ensures { result ≡ is_dealing (as_work self) }
+    {
+        match self {
+            NodeWork::Deals => true,
+            NodeWork::Makes
+            | NodeWork::Passes
+            | NodeWork::Watches { .. }
+            | NodeWork::Saves { .. } => false,
+        }
+    }
 }
 
 /// The rules of a node. `need` is the bytes of an array that it makes.

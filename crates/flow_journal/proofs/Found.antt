@@ -1,6 +1,6 @@
 -- What is found in a list, and that a test counts nothing where no item passes it.
 use Rattle.std.proofs.Common.{◌≡◌, Bool, true, false, List, [], ◌∷◌, refl, subst, ap, arith, Option, Some, None, inl, inr}
-use Rattle.std.specs.Prelude.{is_none, filter}
+use Rattle.std.specs.Prelude.{is_none}
 use Rattle.std.specs.List.{list_any, find}
 use Rattle.std.proofs.lemmas.Bool.{true≢false, cases_Bool, or_parts, or_from}
 use Rattle.flow_journal.specs.declared.entry.Entry.{Entry}
@@ -29,26 +29,4 @@ none_any p (x ∷ xs) h =
     elim (cases_Bool (p x)) [
       | inl here ↦ absurd (omega (arith, count-cons p x xs, ap bit here, h))
       | inr away ↦ or_from (p x) (list_any p xs) away (none_any p xs (omega (arith, count-cons p x xs, h)))
-    ]
-
--- of a part of a list that has all that pass, and of one that has none
-pub filter_inner : {X : Type 0} (p q : X → Bool) → ((x : X) → p x ≡ true → q x ≡ true) → (xs : List X) → filter p (filter q xs) ≡ filter p xs
-filter_inner p q all [] = refl
-filter_inner p q all (x ∷ xs) =
-    let rest = filter_inner p q all xs in
-    elim (cases_Bool (p x)) [
-      | inl here ↦ rw (all x here, here) (ap (λ ys. x ∷ ys) rest)
-      | inr away ↦ elim (cases_Bool (q x)) [
-        | inl in_q ↦ rw (in_q, away) rest
-        | inr off_q ↦ rw (off_q, away) rest
-      ]
-    ]
-
-pub filter_outer : {X : Type 0} (p q : X → Bool) → ((x : X) → q x ≡ true → p x ≡ false) → (xs : List X) → filter p (filter q xs) ≡ []
-filter_outer p q none [] = refl
-filter_outer p q none (x ∷ xs) =
-    let rest = filter_outer p q none xs in
-    elim (cases_Bool (q x)) [
-      | inl in_q ↦ rw (in_q, none x in_q) rest
-      | inr off_q ↦ rw off_q rest
     ]

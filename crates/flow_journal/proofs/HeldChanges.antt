@@ -17,7 +17,8 @@ use Rattle.flow_journal.specs.Pasts.{frame}
 use Rattle.flow_journal.specs.Histories.{is_legal}
 use Rattle.flow_journal.specs.AccountLaws.{times_among, size_of, KnownLaws, HeldLaws}
 use Rattle.flow_journal.proofs.EntryCounts.{count, bit, count-cons}
-use Rattle.flow_journal.proofs.Found.{none_counted, filter_inner}
+use Rattle.flow_journal.proofs.Found.{none_counted}
+use Rattle.queue_sort.proofs.ById.{filter_inner}
 use Rattle.flow_journal.proofs.Hands.{row_of}
 use Rattle.flow_journal.proofs.Rows.{grant-facts}
 use Rattle.flow_journal.proofs.Once.{least_missing-not_among}

@@ -1,5 +1,5 @@
 -- What waits, the least first: it is the one list by id in which those of each id stand as they came.
-use Rattle.std.proofs.Common.{◌≡◌, suc, true, false, not, cond, List, [], ◌∷◌, ◌++◌, length, ℤ, ◌≤ℤ◌, int_le, refl, sym, ap, ◌∙◌, subst, inl, inr, arith}
+use Rattle.std.proofs.Common.{◌≡◌, true, false, cond, List, [], ◌∷◌, ◌++◌, length, ℤ, ◌≤ℤ◌, refl, sym, ap, ◌∙◌, subst, inl, inr, arith}
 use Rattle.std.specs.Prelude.{filter}
 use Rattle.std.specs.List.{All, AllPairs}
 use Rattle.std.specs.List.Sorted.{IsPermutation}
@@ -7,41 +7,19 @@ use Rattle.std.specs.Ordering.{int_eq}
 use Rattle.std.proofs.lemmas.Bool.{cases_Bool}
 use Rattle.std.proofs.lemmas.Int.{ints}
 use Rattle.std.proofs.lemmas.List.{nil_from_length, append-nil, append_assoc}
-use Rattle.std.proofs.lemmas.List.Elements.{All-append, All-head, All-tail, All-cons, All-weaker, filter_passes, filter-append}
-use Rattle.std.proofs.lemmas.List.Kept.{AllPairs-cons, AllPairs-filter}
-use Rattle.std.proofs.lemmas.List.Sorted.{IsPermutation-refl, IsPermutation-sym, IsPermutation-trans, IsPermutation-cons, IsPermutation-middle, IsPermutation-append_left, IsPermutation-filter_both, All-permutation, length_permutation}
+use Rattle.std.proofs.lemmas.List.Elements.{All-head, All-tail, All-cons, filter-append}
+use Rattle.std.proofs.lemmas.List.Kept.{AllPairs-cons}
+use Rattle.std.proofs.lemmas.List.Sorted.{IsPermutation-refl, IsPermutation-sym, IsPermutation-trans, IsPermutation-middle, IsPermutation-append_left, All-permutation, length_permutation}
 use Rattle.nd_base.specs.declared.frame.FrameName.{FrameName}
+use Rattle.queue_sort.specs.ById.{AreById, placed_by, with_id}
+use Rattle.queue_sort.proofs.ById.{AllPairs-head, AllPairs-tail, AreById-placed, placed_by-moves, with_id-placed}
 use Rattle.flow_journal.specs.Setting.{Setting, id_at}
 use Rattle.flow_journal.specs.Pasts.{same}
-use Rattle.flow_journal.specs.Waiting.{Waiting, not_waiting, placed, placed_all, least_first}
-use Rattle.flow_journal.specs.WaitingLaws.{id_of, AreById, with_id, IsLeast, LeastLaws}
+use Rattle.flow_journal.specs.Waiting.{Waiting, not_waiting, id_of, placed_all, least_first}
+use Rattle.flow_journal.specs.WaitingLaws.{IsLeast, LeastLaws}
 use Rattle.flow_journal.proofs.Steps.{same_refl, same-true}
-use Rattle.flow_journal.proofs.Found.{filter_inner, filter_outer}
 
--- LISTS IN ORDER
-
-module _ {X : Type 0} (R : X → X → Type 0) where
-  pub AllPairs-head : (x : X) (xs : List X) → AllPairs R (x ∷ xs) → All (R x) xs
-  AllPairs-head x xs up k d below = up 0 (suc k) d (omega arith) (omega arith)
-
-  pub AllPairs-tail : (x : X) (xs : List X) → AllPairs R (x ∷ xs) → AllPairs R xs
-  AllPairs-tail x xs up i j d lt below = up (suc i) (suc j) d (omega arith) (omega arith)
-
-  pub AllPairs-append : (xs ys : List X) → AllPairs R xs → AllPairs R ys → All (λ x. All (R x) ys) xs → AllPairs R (xs ++ ys)
-  AllPairs-append [] ys up up_too between = up_too
-  AllPairs-append (x ∷ xs) ys up up_too between =
-      AllPairs-cons R x (xs ++ ys) (All-append (R x) xs ys (AllPairs-head x xs up) (All-head (λ v. All (R v) ys) x xs between))
-      (AllPairs-append xs ys (AllPairs-tail x xs up) up_too (All-tail (λ v. All (R v) ys) x xs between))
-
--- the tests of ids
-le_passes : (a b : ℤ) → int_le a b ≡ true → a ≤ℤ b
-le_passes a b h = grind (arith, ints)
-
-le_fails : (a b : ℤ) → not (int_le a b) ≡ true → b ≤ℤ a
-le_fails a b h = grind (arith, ints)
-
-le_chain : (a b c : ℤ) → a ≤ℤ b → b ≤ℤ c → a ≤ℤ c
-le_chain a b c g h = omega (arith, ints)
+-- IN ORDER
 
 le_self : (a : ℤ) → a ≤ℤ a
 le_self a = omega (arith, ints)
@@ -55,106 +33,47 @@ eq_self a = grind (arith, ints)
 both_le : (a b : ℤ) → a ≤ℤ b → b ≤ℤ a → a ≡ b
 both_le a b g h = omega (arith, ints)
 
-AreById-placed : (s : Setting) (w : Waiting) (ws : List Waiting) → AreById s ws → AreById s (placed s w ws)
-AreById-placed s w ws up =
-    let R = λ (a b : Waiting). id_of s a ≤ℤ id_of s b in
-    let p = λ (v : Waiting). int_le (id_of s v) (id_of s w) in
-    let q = λ (v : Waiting). not (int_le (id_of s v) (id_of s w)) in
-    let below : All (λ v. R v w) (filter p ws) = All-weaker (λ v. p v ≡ true) (λ v. R v w) (λ v h. le_passes _ _ h) (filter p ws) (filter_passes p ws) in
-    let above : All (R w) (filter q ws) = All-weaker (λ v. q v ≡ true) (R w) (λ v h. le_fails _ _ h) (filter q ws) (filter_passes q ws) in
-    AllPairs-append R (filter p ws) (w ∷ filter q ws)
-    (AllPairs-filter R p ws up)
-    (AllPairs-cons R w (filter q ws) above (AllPairs-filter R q ws up))
-    (All-weaker (λ v. R v w) (λ v. All (R v) (w ∷ filter q ws))
-    (λ v h. All-cons (R v) w (filter q ws) h (All-weaker (R w) (R v) (λ u g. le_chain _ _ _ h g) (filter q ws) above)) (filter p ws) below)
-
-AreById-placed_all : (s : Setting) (done ws : List Waiting) → AreById s done → AreById s (placed_all s done ws)
+AreById-placed_all : (s : Setting) (done ws : List Waiting) → AreById (id_of s) done → AreById (id_of s) (placed_all s done ws)
 AreById-placed_all s done [] up = up
-AreById-placed_all s done (w ∷ ws) up = AreById-placed_all s (placed s w done) ws (AreById-placed s w done up)
+AreById-placed_all s done (w ∷ ws) up = AreById-placed_all s (placed_by (id_of s) w done) ws (AreById-placed (id_of s) w done up)
 
 no_pairs : {X : Type 0} (R : X → X → Type 0) → AllPairs R []
 no_pairs R i j d lt below = absurd (omega arith)
 
-by_id : (s : Setting) (ws : List Waiting) → AreById s (least_first s ws)
+by_id : (s : Setting) (ws : List Waiting) → AreById (id_of s) (least_first s ws)
 by_id s ws = AreById-placed_all s [] ws (no_pairs (λ v w. id_of s v ≤ℤ id_of s w))
 
 -- THE SAME ONES
-
-placed-moves : (s : Setting) (w : Waiting) (ws : List Waiting) → IsPermutation (w ∷ ws) (placed s w ws)
-placed-moves s w ws =
-    let p = λ (v : Waiting). int_le (id_of s v) (id_of s w) in
-    let q = λ (v : Waiting). not (int_le (id_of s v) (id_of s w)) in
-    IsPermutation-trans _ _ _ (IsPermutation-cons w _ _ (IsPermutation-filter_both p q (λ v. refl) ws))
-    (IsPermutation-sym _ _ (IsPermutation-middle (filter p ws) w (filter q ws)))
 
 placed_all-moves : (s : Setting) (done ws : List Waiting) → IsPermutation (done ++ ws) (placed_all s done ws)
 placed_all-moves s done [] = subst (λ (xs : List Waiting). IsPermutation xs done) (sym (append-nil done)) (IsPermutation-refl done)
 placed_all-moves s done (w ∷ ws) =
     IsPermutation-trans _ _ _ (IsPermutation-middle done w ws)
-    (IsPermutation-trans _ _ _ (IsPermutation-append_left ws (w ∷ done) (placed s w done) (placed-moves s w done)) (placed_all-moves s (placed s w done) ws))
+    (IsPermutation-trans _ _ _ (IsPermutation-append_left ws (w ∷ done) (placed_by (id_of s) w done) (placed_by-moves (id_of s) w done))
+    (placed_all-moves s (placed_by (id_of s) w done) ws))
 
 same_ones : (s : Setting) (ws : List Waiting) → IsPermutation ws (least_first s ws)
 same_ones s ws = placed_all-moves s [] ws
 
 -- THOSE OF ONE ID
 
-in_front : (k w i : ℤ) → i ≤ℤ w → int_eq k i ≡ true → int_le k w ≡ true
-in_front k w i le h = grind (arith, ints)
-
-not_behind : (k w i : ℤ) → i ≤ℤ w → not (int_le k w) ≡ true → int_eq k i ≡ false
-not_behind k w i le h = grind (arith, ints)
-
-behind : (k w i : ℤ) → int_le i w ≡ false → int_eq k i ≡ true → not (int_le k w) ≡ true
-behind k w i gt h = grind (arith, ints)
-
-not_in_front : (k w i : ℤ) → int_le i w ≡ false → int_le k w ≡ true → int_eq k i ≡ false
-not_in_front k w i gt h = grind (arith, ints)
-
-other_id : (w i : ℤ) → int_le i w ≡ false → int_eq w i ≡ false
-other_id w i gt = grind (arith, ints)
-
--- one that is placed comes after all others of its id
-with_id-placed : (s : Setting) (i : ℤ) (w : Waiting) (ws : List Waiting) → with_id s i (placed s w ws) ≡ with_id s i (ws ++ w ∷ [])
-with_id-placed s i w ws =
-    let k = id_of s w in
-    let e = λ (v : Waiting). int_eq (id_of s v) i in
-    let p = λ (v : Waiting). int_le (id_of s v) k in
-    let q = λ (v : Waiting). not (int_le (id_of s v) k) in
-    let split : with_id s i (placed s w ws) ≡ filter e (filter p ws) ++ filter e (w ∷ filter q ws) = filter-append e (filter p ws) (w ∷ filter q ws) in
-    let whole : with_id s i (ws ++ w ∷ []) ≡ filter e ws ++ filter e (w ∷ []) = filter-append e ws (w ∷ []) in
-    elim (cases_Bool (int_le i k)) [
-      | inl up ↦
-          let le : i ≤ℤ k = le_passes i k up in
-          let front : filter e (filter p ws) ≡ filter e ws = filter_inner e p (λ v h. in_front (id_of s v) k i le h) ws in
-          let back : filter e (filter q ws) ≡ [] = filter_outer e q (λ v h. not_behind (id_of s v) k i le h) ws in
-          split ∙ (ap (λ (xs : List Waiting). xs ++ filter e (w ∷ filter q ws)) front
-          ∙ (ap (λ (xs : List Waiting). filter e ws ++ cond (e w) (w ∷ xs) xs) back ∙ sym whole))
-      | inr down ↦
-          let front : filter e (filter p ws) ≡ [] = filter_outer e p (λ v h. not_in_front (id_of s v) k i down h) ws in
-          let back : filter e (filter q ws) ≡ filter e ws = filter_inner e q (λ v h. behind (id_of s v) k i down h) ws in
-          let off : e w ≡ false = other_id k i down in
-          let last : filter e (w ∷ filter q ws) ≡ filter e ws = rw off back in
-          let none : filter e (w ∷ []) ≡ [] = rw off refl in
-          split ∙ (ap (λ (xs : List Waiting). xs ++ filter e (w ∷ filter q ws)) front
-          ∙ (last ∙ sym (whole ∙ (ap (λ (xs : List Waiting). filter e ws ++ xs) none ∙ append-nil (filter e ws)))))
-    ]
-
-with_id-placed_all : (s : Setting) (i : ℤ) (done ws : List Waiting) → with_id s i (placed_all s done ws) ≡ with_id s i (done ++ ws)
-with_id-placed_all s i done [] = ap (with_id s i) (sym (append-nil done))
+with_id-placed_all : (s : Setting) (i : ℤ) (done ws : List Waiting) → with_id (id_of s) i (placed_all s done ws) ≡ with_id (id_of s) i (done ++ ws)
+with_id-placed_all s i done [] = ap (with_id (id_of s) i) (sym (append-nil done))
 with_id-placed_all s i done (w ∷ ws) =
     let e = λ (v : Waiting). int_eq (id_of s v) i in
-    with_id-placed_all s i (placed s w done) ws
-    ∙ (filter-append e (placed s w done) ws
-    ∙ (ap (λ (xs : List Waiting). xs ++ filter e ws) (with_id-placed s i w done)
-    ∙ (sym (filter-append e (done ++ w ∷ []) ws) ∙ ap (with_id s i) (append_assoc done (w ∷ []) ws))))
+    with_id-placed_all s i (placed_by (id_of s) w done) ws
+    ∙ (filter-append e (placed_by (id_of s) w done) ws
+    ∙ (ap (λ (xs : List Waiting). xs ++ filter e ws) (with_id-placed (id_of s) i w done ∙ sym (filter-append e done (w ∷ [])))
+    ∙ (sym (filter-append e (done ++ w ∷ []) ws) ∙ ap (with_id (id_of s) i) (append_assoc done (w ∷ []) ws))))
 
-in_turn : (s : Setting) (i : ℤ) (ws : List Waiting) → with_id s i (least_first s ws) ≡ with_id s i ws
+in_turn : (s : Setting) (i : ℤ) (ws : List Waiting) → with_id (id_of s) i (least_first s ws) ≡ with_id (id_of s) i ws
 in_turn s i ws = with_id-placed_all s i [] ws
 
 -- ONE SUCH LIST
 
 -- where none is below m, an id that some have isn't either
-reached : (s : Setting) (m i : ℤ) (ws : List Waiting) (y : Waiting) (ys : List Waiting) → All (λ v. m ≤ℤ id_of s v) ws → with_id s i ws ≡ y ∷ ys → m ≤ℤ i
+reached : (s : Setting) (m i : ℤ) (ws : List Waiting) (y : Waiting) (ys : List Waiting) → All (λ v. m ≤ℤ id_of s v) ws
+    → with_id (id_of s) i ws ≡ y ∷ ys → m ≤ℤ i
 reached s m i [] y ys low h = cc
 reached s m i (w ∷ ws) y ys low h =
     elim (cases_Bool (int_eq (id_of s w) i)) [
@@ -162,53 +81,56 @@ reached s m i (w ∷ ws) y ys low h =
       | inr away ↦ reached s m i ws y ys (All-tail (λ v. m ≤ℤ id_of s v) w ws low) (rw away at h)
     ]
 
-low-first : (s : Setting) (w : Waiting) (ws : List Waiting) → AreById s (w ∷ ws) → All (λ v. id_of s w ≤ℤ id_of s v) (w ∷ ws)
+low-first : (s : Setting) (w : Waiting) (ws : List Waiting) → AreById (id_of s) (w ∷ ws) → All (λ v. id_of s w ≤ℤ id_of s v) (w ∷ ws)
 low-first s w ws up = All-cons (λ v. id_of s w ≤ℤ id_of s v) w ws (le_self (id_of s w)) (AllPairs-head (λ u v. id_of s u ≤ℤ id_of s v) w ws up)
 
-its_own : (s : Setting) (w : Waiting) (ws : List Waiting) → with_id s (id_of s w) (w ∷ ws) ≡ w ∷ with_id s (id_of s w) ws
+its_own : (s : Setting) (w : Waiting) (ws : List Waiting) → with_id (id_of s) (id_of s w) (w ∷ ws) ≡ w ∷ with_id (id_of s) (id_of s w) ws
 its_own s w ws = rw (eq_self (id_of s w)) refl
 
-tails_same : (s : Setting) (i : ℤ) (w : Waiting) (xs ys : List Waiting) → with_id s i (w ∷ xs) ≡ with_id s i (w ∷ ys) → with_id s i xs ≡ with_id s i ys
+tails_same : (s : Setting) (i : ℤ) (w : Waiting) (xs ys : List Waiting)
+    → with_id (id_of s) i (w ∷ xs) ≡ with_id (id_of s) i (w ∷ ys) → with_id (id_of s) i xs ≡ with_id (id_of s) i ys
 tails_same s i w xs ys h =
     elim (cases_Bool (int_eq (id_of s w) i)) [
-      | inl here ↦ let e : w ∷ with_id s i xs ≡ w ∷ with_id s i ys = rw here at h in cc
+      | inl here ↦ let e : w ∷ with_id (id_of s) i xs ≡ w ∷ with_id (id_of s) i ys = rw here at h in cc
       | inr away ↦ rw away at h
     ]
 
-only_one : (s : Setting) (xs ys : List Waiting) → AreById s xs → AreById s ys → ((i : ℤ) → with_id s i xs ≡ with_id s i ys) → xs ≡ ys
+only_one : (s : Setting) (xs ys : List Waiting) → AreById (id_of s) xs → AreById (id_of s) ys
+    → ((i : ℤ) → with_id (id_of s) i xs ≡ with_id (id_of s) i ys) → xs ≡ ys
 only_one s [] [] up up_too same = refl
-only_one s [] (y ∷ ys) up up_too same = let e : [] ≡ y ∷ with_id s (id_of s y) ys = same (id_of s y) ∙ its_own s y ys in cc
-only_one s (x ∷ xs) [] up up_too same = let e : x ∷ with_id s (id_of s x) xs ≡ [] = sym (its_own s x xs) ∙ same (id_of s x) in cc
+only_one s [] (y ∷ ys) up up_too same = let e : [] ≡ y ∷ with_id (id_of s) (id_of s y) ys = same (id_of s y) ∙ its_own s y ys in cc
+only_one s (x ∷ xs) [] up up_too same = let e : x ∷ with_id (id_of s) (id_of s x) xs ≡ [] = sym (its_own s x xs) ∙ same (id_of s x) in cc
 only_one s (x ∷ xs) (y ∷ ys) up up_too same =
     let R = λ (a b : Waiting). id_of s a ≤ℤ id_of s b in
     let x_le : id_of s x ≤ℤ id_of s y =
-    reached s (id_of s x) (id_of s y) (x ∷ xs) y (with_id s (id_of s y) ys) (low-first s x xs up) (same (id_of s y) ∙ its_own s y ys) in
+    reached s (id_of s x) (id_of s y) (x ∷ xs) y (with_id (id_of s) (id_of s y) ys) (low-first s x xs up) (same (id_of s y) ∙ its_own s y ys) in
     let y_le : id_of s y ≤ℤ id_of s x =
-    reached s (id_of s y) (id_of s x) (y ∷ ys) x (with_id s (id_of s x) xs) (low-first s y ys up_too) (sym (same (id_of s x)) ∙ its_own s x xs) in
+    reached s (id_of s y) (id_of s x) (y ∷ ys) x (with_id (id_of s) (id_of s x) xs) (low-first s y ys up_too) (sym (same (id_of s x)) ∙ its_own s x xs) in
     let one : id_of s y ≡ id_of s x = both_le _ _ y_le x_le in
-    let heads : x ∷ with_id s (id_of s x) xs ≡ y ∷ with_id s (id_of s y) ys =
-    sym (its_own s x xs) ∙ (same (id_of s x) ∙ (ap (λ (i : ℤ). with_id s i (y ∷ ys)) (sym one) ∙ its_own s y ys)) in
+    let heads : x ∷ with_id (id_of s) (id_of s x) xs ≡ y ∷ with_id (id_of s) (id_of s y) ys =
+    sym (its_own s x xs) ∙ (same (id_of s x) ∙ (ap (λ (i : ℤ). with_id (id_of s) i (y ∷ ys)) (sym one) ∙ its_own s y ys)) in
     let is : x ≡ y = cc in
-    let up_y : AreById s (x ∷ ys) = subst (λ (w : Waiting). AreById s (w ∷ ys)) (sym is) up_too in
-    let same_x : (i : ℤ) → with_id s i (x ∷ xs) ≡ with_id s i (x ∷ ys) = λ i. same i ∙ ap (λ (w : Waiting). with_id s i (w ∷ ys)) (sym is) in
+    let up_y : AreById (id_of s) (x ∷ ys) = subst (λ (w : Waiting). AreById (id_of s) (w ∷ ys)) (sym is) up_too in
+    let same_x : (i : ℤ) → with_id (id_of s) i (x ∷ xs) ≡ with_id (id_of s) i (x ∷ ys) =
+    λ i. same i ∙ ap (λ (w : Waiting). with_id (id_of s) i (w ∷ ys)) (sym is) in
     ap (λ (w : Waiting). w ∷ xs) is
     ∙ ap (λ (ws : List Waiting). y ∷ ws) (only_one s xs ys (AllPairs-tail R x xs up) (AllPairs-tail R x ys up_y) (λ i. tails_same s i x xs ys (same_x i)))
 
-only : (s : Setting) (xs ws : List Waiting) → AreById s xs → ((i : ℤ) → with_id s i xs ≡ with_id s i ws) → xs ≡ least_first s ws
+only : (s : Setting) (xs ws : List Waiting) → AreById (id_of s) xs → ((i : ℤ) → with_id (id_of s) i xs ≡ with_id (id_of s) i ws) → xs ≡ least_first s ws
 only s xs ws up same = only_one s xs (least_first s ws) up (by_id s ws) (λ i. same i ∙ sym (in_turn s i ws))
 
 -- WHAT COMES AND GOES
 
-pub comes-placed : (s : Setting) (ws : List Waiting) (w : Waiting) → least_first s (ws ++ w ∷ []) ≡ placed s w (least_first s ws)
+pub comes-placed : (s : Setting) (ws : List Waiting) (w : Waiting) → least_first s (ws ++ w ∷ []) ≡ placed_by (id_of s) w (least_first s ws)
 comes-placed s ws w = placed_all-last [] ws
   where
-    placed_all-last : (done ws : List Waiting) → placed_all s done (ws ++ w ∷ []) ≡ placed s w (placed_all s done ws)
+    placed_all-last : (done ws : List Waiting) → placed_all s done (ws ++ w ∷ []) ≡ placed_by (id_of s) w (placed_all s done ws)
     placed_all-last done [] = refl
-    placed_all-last done (v ∷ ws) = placed_all-last (placed s v done) ws
+    placed_all-last done (v ∷ ws) = placed_all-last (placed_by (id_of s) v done) ws
 
 -- what goes away leaves those of each id, and the order
 with_id-goes : (s : Setting) (i : ℤ) (a : FrameName) (ws : List Waiting)
-    → with_id s i (not_waiting a ws) ≡ cond (int_eq (id_at s a.index) i) (not_waiting a (with_id s i ws)) (with_id s i ws)
+    → with_id (id_of s) i (not_waiting a ws) ≡ cond (int_eq (id_at s a.index) i) (not_waiting a (with_id (id_of s) i ws)) (with_id (id_of s) i ws)
 with_id-goes s i a [] = elim (cases_Bool (int_eq (id_at s a.index) i)) [
   | inl here ↦ rw here refl
   | inr away ↦ rw away refl
@@ -239,7 +161,7 @@ All-goes P a (w ∷ ws) h =
       | inr away ↦ rw away (All-cons P w (not_waiting a ws) (All-head P w ws h) (All-goes P a ws (All-tail P w ws h)))
     ]
 
-AreById-goes : (s : Setting) (a : FrameName) (ws : List Waiting) → AreById s ws → AreById s (not_waiting a ws)
+AreById-goes : (s : Setting) (a : FrameName) (ws : List Waiting) → AreById (id_of s) ws → AreById (id_of s) (not_waiting a ws)
 AreById-goes s a [] up = up
 AreById-goes s a (w ∷ ws) up =
     let R = λ (u v : Waiting). id_of s u ≤ℤ id_of s v in
@@ -263,11 +185,11 @@ left s ws w rest h = goes s ws w.array ∙ (ap (not_waiting w.array) h ∙ rw (s
 
 least : (s : Setting) (ws : List Waiting) (w : Waiting) (rest : List Waiting) → least_first s ws ≡ w ∷ rest → IsLeast s w ws
 least s ws w rest h =
-    let up : AreById s (w ∷ rest) = subst (AreById s) h (by_id s ws) in
+    let up : AreById (id_of s) (w ∷ rest) = subst (AreById (id_of s)) h (by_id s ws) in
     let low : All (λ v. id_of s w ≤ℤ id_of s v) (least_first s ws) = subst (All (λ v. id_of s w ≤ℤ id_of s v)) (sym h) (low-first s w rest up) in
     record {
       below = All-permutation (λ v. id_of s w ≤ℤ id_of s v) (least_first s ws) ws (IsPermutation-sym _ _ (same_ones s ws)) low;
-      before = (with_id s (id_of s w) rest, sym (in_turn s (id_of s w) ws) ∙ (ap (with_id s (id_of s w)) h ∙ its_own s w rest));
+      before = (with_id (id_of s) (id_of s w) rest, sym (in_turn s (id_of s w) ws) ∙ (ap (with_id (id_of s) (id_of s w)) h ∙ its_own s w rest));
     }
 
 count : (s : Setting) (ws : List Waiting) → length (least_first s ws) ≡ length ws

@@ -10,12 +10,11 @@ use Rattle.flow_journal.specs.declared.entry.Why.TheVariants.{Step, Late, Flush}
 use Rattle.flow_journal.specs.Setting.{Setting, may_sort, node, id_at, is_sorted, Work, Makes, Passes, Watches, Saves}
 use Rattle.flow_journal.specs.Pasts.{Past, frame, same}
 use Rattle.flow_journal.specs.Ended.{now}
-use Rattle.flow_journal.specs.Waiting.{Waiting, not_waiting, waiting, least_first}
+use Rattle.flow_journal.specs.Waiting.{Waiting, not_waiting, waiting, least_first, id_of}
 use Rattle.queue_sort.specs.Sorting.{keeps_step}
 use Rattle.flow_journal.specs.Breaks.{prev}
 use Rattle.flow_journal.specs.Following.{emit, goes_out, look, sorted_result, calls_for}
 use Rattle.flow_journal.specs.Histories.{is_legal}
-use Rattle.flow_journal.specs.WaitingLaws.{id_of}
 use Rattle.flow_journal.specs.LookLaws.{IsLeastWaiting, LookLaws}
 use Rattle.flow_journal.proofs.Steps.{same_refl}
 use Rattle.flow_journal.proofs.EntryCounts.{count, bit, count-cons, puts_at}

@@ -1,8 +1,9 @@
 -- What is called for at a node goes out of that node, and no more of it than waits there.
-use Rattle.std.proofs.Common.{◌≡◌, ◌≢◌, ℕ, ◌+◌, ◌≤◌, Bool, true, false, not, ◌&&◌, cond, eqb, ltb, List, [], ◌∷◌, ◌++◌, map, length, refl, sym, ap, ◌∙◌, arith, ℤ, inl, inr}
-use Rattle.std.specs.Prelude.{filter, int_le}
-use Rattle.std.specs.List.{list_all}
+use Rattle.std.proofs.Common.{◌≡◌, ◌≢◌, ℕ, ◌+◌, ◌≤◌, Bool, true, false, ◌&&◌, cond, eqb, ltb, List, [], ◌∷◌, ◌++◌, map, length, refl, sym, ap, ◌∙◌, arith, ℤ, inl, inr}
+use Rattle.std.specs.List.{list_all, sum_by}
 use Rattle.std.proofs.lemmas.Bool.{and_parts, and_from, false≢true, eq-eqb, ne_eqb, eqb-true, cases_Bool}
+use Rattle.std.proofs.lemmas.List.Sums.{sum_by-cons}
+use Rattle.std.proofs.lemmas.List.Sorted.{sum_by-IsPermutation}
 use Rattle.nd_base.specs.declared.frame.FrameName.{FrameName}
 use Rattle.trig_window.specs.Windows.{is_trigger, is_passed}
 use Rattle.flow_journal.specs.declared.entry.Entry.{Entry}
@@ -11,13 +12,14 @@ use Rattle.flow_journal.specs.declared.entry.Why.{Why}
 use Rattle.flow_journal.specs.declared.entry.Why.TheVariants.{Plain, Step, Late, Flush, Ring, Now}
 use Rattle.flow_journal.specs.Setting.{Setting, Work, Makes, Passes, Watches, Saves, node, is_sorted, id_at}
 use Rattle.flow_journal.specs.Pasts.{Past, frame}
-use Rattle.flow_journal.specs.Waiting.{Waiting, waiting, placed, placed_all, least_first}
+use Rattle.flow_journal.specs.Waiting.{Waiting, waiting, least_first}
 use Rattle.flow_journal.specs.Ended.{now}
 use Rattle.flow_journal.specs.Puts.{firings}
 use Rattle.flow_journal.specs.Rings.{ring}
 use Rattle.queue_sort.specs.Sorting.{keeps_step}
 use Rattle.flow_journal.specs.Breaks.{prev}
 use Rattle.flow_journal.specs.Following.{emit, goes_out, look, sorted_result, watched_result, result}
+use Rattle.flow_journal.proofs.Leasts.{least_laws}
 use Rattle.flow_journal.proofs.EntryCounts.{count, bit, count-cons, count-append, emits_at, arrives_at}
 
 -- the entry is an emission or a drop of v, of an array that passes the test
@@ -139,27 +141,16 @@ emits-le v k (_ ∷ ds) = emits-le v k ds
 abbrev pub waits : (FrameName → Bool) → Waiting → Bool
 waits t w = t w.array
 
--- a test splits a list in two
-count-split : (p q : Waiting → Bool) (ws : List Waiting) → count q (filter p ws) + count q (filter (λ w. not (p w)) ws) ≡ count q ws
-count-split p q [] = refl
-count-split p q (w ∷ ws) =
-    elim (cases_Bool (p w)) [
-      | inl in_p ↦ rw in_p (omega (arith, count-split p q ws, count-cons q w (filter p ws), count-cons q w ws))
-      | inr out_p ↦ rw out_p (omega (arith, count-split p q ws, count-cons q w (filter (λ x. not (p x)) ws), count-cons q w ws))
-    ]
+-- a count is a sum of ones
+count-sum : {X : Type 0} (q : X → Bool) (xs : List X) → count q xs ≡ sum_by (λ x. bit (q x)) xs
+count-sum q [] = refl
+count-sum q (x ∷ xs) = count-cons q x xs ∙ (ap (λ n. bit (q x) + n) (count-sum q xs) ∙ sym (sum_by-cons (λ y. bit (q y)) x xs))
 
-count-placed : (s : Setting) (q : Waiting → Bool) (w : Waiting) (ws : List Waiting) → count q (placed s w ws) ≡ bit (q w) + count q ws
-count-placed s q w ws =
-    let at_most : Waiting → Bool = λ v. int_le (id_at s v.array.index) (id_at s w.array.index) in
-    count-append q (filter at_most ws) (w ∷ filter (λ v. not (at_most v)) ws)
-    ∙ omega (arith, count-cons q w (filter (λ v. not (at_most v)) ws), count-split at_most q ws)
-
-count-placed_all : (s : Setting) (q : Waiting → Bool) (done ws : List Waiting) → count q (placed_all s done ws) ≡ count q done + count q ws
-count-placed_all s q done [] = omega arith
-count-placed_all s q done (w ∷ ws) = omega (arith, count-placed_all s q (placed s w done) ws, count-placed s q w done, count-cons q w ws)
-
+-- so it is the same of what waits in any order
 pub count-least_first : (s : Setting) (q : Waiting → Bool) (ws : List Waiting) → count q (least_first s ws) ≡ count q ws
-count-least_first s q ws = omega (arith, count-placed_all s q [] ws)
+count-least_first s q ws =
+    let ones = λ (w : Waiting). bit (q w) in
+    count-sum q (least_first s ws) ∙ (sum_by-IsPermutation ones ws (least_first s ws) (least_laws.same_ones s ws) ∙ sym (count-sum q ws))
 
 same_out : (v : ℕ) (t : FrameName → Bool) (b : Bool) → bit (eqb v v && b) ≡ bit b
 same_out v t b = rw (here v) refl

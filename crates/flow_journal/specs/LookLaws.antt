@@ -5,12 +5,11 @@ use Rattle.flow_journal.specs.declared.entry.Why.TheVariants.{Step, Late, Flush}
 use Rattle.flow_journal.specs.Setting.{Setting, node, id_at, is_sorted}
 use Rattle.flow_journal.specs.Pasts.{Past}
 use Rattle.flow_journal.specs.Ended.{now}
-use Rattle.flow_journal.specs.Waiting.{Waiting, waiting, least_first}
+use Rattle.flow_journal.specs.Waiting.{Waiting, waiting, least_first, id_of}
 use Rattle.queue_sort.specs.Sorting.{keeps_step}
 use Rattle.flow_journal.specs.Breaks.{prev}
 use Rattle.flow_journal.specs.Following.{emit, look, calls_for}
 use Rattle.flow_journal.specs.Histories.{is_legal}
-use Rattle.flow_journal.specs.WaitingLaws.{id_of}
 
 -- w is the least that waits at the node, and rest is what waits besides
 abbrev pub IsLeastWaiting : Setting → ℕ → Past → Waiting → List Waiting → Type 0

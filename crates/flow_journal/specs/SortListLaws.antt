@@ -4,8 +4,7 @@ use Rattle.nd_base.specs.declared.frame.FrameName.{FrameName}
 use Rattle.queue_sort.specs.declared.sort_lists.Waiting as listed
 use Rattle.queue_sort.specs.Sorting as sorting
 use Rattle.flow_journal.specs.Setting.{Setting}
-use Rattle.flow_journal.specs.Waiting.{Waiting, not_waiting, least_first}
-use Rattle.flow_journal.specs.WaitingLaws.{id_of}
+use Rattle.flow_journal.specs.Waiting.{Waiting, not_waiting, least_first, id_of}
 
 -- a waiting result as a sort list has it
 abbrev pub as_listed : Setting → Waiting → listed.Waiting FrameName

@@ -1,6 +1,6 @@
 -- The text of a log: a line for each entry, with one space between words, decimal numbers without leading zeros, flags 0 or 1, and a
 -- newline after each line.
-use Rattle.std.specs.Prelude.{ℕ, Bool, List, [], ◌∷◌, ◌++◌, flat_map, codes, if◌then◌else◌}
+use Rattle.std.specs.Prelude.{ℕ, Bool, true, false, List, [], ◌∷◌, ◌++◌, flat_map, codes, if◌then◌else◌}
 use Rattle.std.specs.List.{join_with_byte}
 use Rattle.std.specs.Fmt.{decimal}
 use Rattle.flow_journal.specs.declared.entry.Entry.{Entry}
@@ -66,3 +66,33 @@ line e = spelling e ++ 10 ∷ []
 -- the text of these entries, the oldest first
 abbrev pub text_of : List Entry → List ℕ
 text_of es = flat_map line es
+
+-- the entry tells of a frame, up to its issue
+abbrev pub tells_of_frame : Entry → Bool
+tells_of_frame (Load r k b n f g x) = true
+tells_of_frame (LoadRefused r k n h) = true
+tells_of_frame (Tick t) = true
+tells_of_frame (Issue r k) = true
+tells_of_frame _ = false
+
+-- the entry tells where an array came, or that it was dropped
+abbrev pub tells_of_array : Entry → Bool
+tells_of_array (Emit v m k why) = true
+tells_of_array (Accept v m k) = true
+tells_of_array (Full v m k) = true
+tells_of_array (PoolDrop r v m k n h) = true
+tells_of_array (SortDrop v m k) = true
+tells_of_array _ = false
+
+-- the entry tells of a job that was taken
+abbrev pub tells_of_take : Entry → Bool
+tells_of_take (Take r v m k) = true
+tells_of_take (TakeBlock f x r v m k b n g) = true
+tells_of_take _ = false
+
+-- the entry tells of a result, or of a piece to save
+abbrev pub tells_of_work : Entry → Bool
+tells_of_work (Put r v m k f) = true
+tells_of_work (Save r v m k g) = true
+tells_of_work (Saved r v m k) = true
+tells_of_work _ = false

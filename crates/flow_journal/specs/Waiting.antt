@@ -1,6 +1,7 @@
 -- The results that wait in the sort list of a node.
-use Rattle.std.specs.Prelude.{ℕ, ◌==◌, List, [], ◌∷◌, ◌++◌, filter, int_le, not, if◌then◌else◌}
+use Rattle.std.specs.Prelude.{ℕ, ℤ, ◌==◌, List, [], ◌∷◌, if◌then◌else◌}
 use Rattle.nd_base.specs.declared.frame.FrameName.{FrameName}
+use Rattle.queue_sort.specs.ById.{placed_by}
 use Rattle.flow_journal.specs.declared.entry.Entry.TheVariants.{Emit, Put, SortDrop}
 use Rattle.flow_journal.specs.Setting.{Setting, id_at, is_sorted}
 use Rattle.flow_journal.specs.Pasts.{Past, frame, same, comes_at}
@@ -24,15 +25,14 @@ waiting s v (Emit w m k why ∷ P) = if w == v then not_waiting (frame m k) (wai
 waiting s v (SortDrop w m k ∷ P) = if w == v then not_waiting (frame m k) (waiting s v P) else waiting s v P
 waiting s v (e ∷ P) = waiting s v P
 
--- with one more, behind those whose id is at most its own and before the others
-abbrev pub placed : Setting → Waiting → List Waiting → List Waiting
-placed s w ws =
-    filter (λ v. int_le (id_at s v.array.index) (id_at s w.array.index)) ws ++ w ∷ filter (λ v. not (int_le (id_at s v.array.index) (id_at s w.array.index))) ws
+-- the id of a result that waits
+abbrev pub id_of : Setting → Waiting → ℤ
+id_of s w = id_at s w.array.index
 
--- with these one after the other
+-- with these one after the other, each at the place of its id
 abbrev pub placed_all : Setting → List Waiting → List Waiting → List Waiting
 placed_all s done [] = done
-placed_all s done (w ∷ ws) = placed_all s (placed s w done) ws
+placed_all s done (w ∷ ws) = placed_all s (placed_by (id_of s) w done) ws
 
 -- these by id, the least first, and those of one id in the order of their Puts
 abbrev pub least_first : Setting → List Waiting → List Waiting

@@ -1,3 +1,4 @@
+pub mod ById
 mod InboxRuns
 mod Order
 mod Looks

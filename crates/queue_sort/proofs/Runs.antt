@@ -1,78 +1,21 @@
 -- What any list of calls on a sort list comes to, by induction on the list.
-use Rattle.std.proofs.Common.{◌≡◌, ℕ, ◌+◌, ◌-◌, ◌^◌, ◌≤◌, min, Bool, true, false, ◌||◌, if◌then◌else◌, is_some, List, [], ◌∷◌, ◌++◌, map, take, drop, ℤ, ◌≤ℤ◌, int_le, int_lt, refl, sym, ap, ◌∙◌, append_assoc, zero-add, inl, inr, arith}
-use Rattle.std.specs.List.{All, filter}
+use Rattle.std.proofs.Common.{◌≡◌, ℕ, ◌+◌, ◌-◌, ◌^◌, ◌≤◌, min, Bool, true, false, ◌||◌, if◌then◌else◌, is_some, List, [], ◌∷◌, ◌++◌, map, take, drop, ℤ, ◌≤ℤ◌, refl, sym, ap, ◌∙◌, append_assoc, zero-add, arith}
+use Rattle.std.specs.List.{All}
 use Rattle.std.specs.Ordering.{int_eq}
-use Rattle.std.proofs.lemmas.Bool.{cases_Bool}
 use Rattle.std.proofs.lemmas.Int.{ints}
 use Rattle.std.proofs.lemmas.List.{append-nil, take-append-drop}
 use Rattle.std.proofs.lemmas.List.Elements.{All-nil, All-cons, filter-append}
-use Rattle.std.proofs.lemmas.Bool.Decides.{Decides-int_eq}
 use Rattle.queue_sort.specs.declared.sort_lists.Waiting.{Waiting}
-use Rattle.queue_sort.specs.Sorting.{SortState, AreById, keeps_step, is_full, one_more, placed, emitted, without_least, let_out}
+use Rattle.queue_sort.specs.ById.{AreById, with_id}
+use Rattle.queue_sort.specs.Sorting.{SortState, id_of, keeps_step, is_full, one_more, placed, emitted, without_least, let_out}
 use Rattle.queue_sort.specs.DueAnswers.{due_answer}
-use Rattle.queue_sort.specs.Runs.{Call, Put, Look, Flush, after, listed, let_go, ids_out, after_all, all_listed, all_let_go, all_ids_out, with_id, breaks, last_out, fresh, Sorts}
-use Rattle.queue_sort.proofs.Order.{AreById-placed, AllPairs-head, AllPairs-tail}
+use Rattle.queue_sort.specs.Runs.{Call, Put, Look, Flush, after, listed, let_go, ids_out, after_all, all_listed, all_let_go, all_ids_out, breaks, last_out, fresh, Sorts}
+use Rattle.queue_sort.proofs.ById.{AllPairs-head, AllPairs-tail, AreById-placed, with_id-placed}
 
 -- what holds of both holds of either
 both : {A : Type 0} (P : A → Type 0) (b : Bool) (x y : A) → P x → P y → P (if b then x else y)
 both P true x y here there = here
 both P false x y here there = there
-
--- a filter of what passes a wider test
-filter-wider_step : {X : Type 0} (p q : X → Bool) (x : X) (xs : List X) → (p x ≡ true → q x ≡ true) → filter p (filter q xs) ≡ filter p xs → filter p (filter q (x ∷ xs)) ≡ filter p (x ∷ xs)
-filter-wider_step p q x xs wider rest = elim (cases_Bool (p x)) [
-  | inl fits ↦ let passes = wider fits in rw (passes, fits, rest)
-  | inr out ↦ elim (cases_Bool (q x)) [ inl here ↦ rw (here, out) rest | inr gone ↦ rw (gone, out) rest ]
-]
-
-filter-wider : {X : Type 0} (p q : X → Bool) → ((x : X) → p x ≡ true → q x ≡ true) → (xs : List X) → filter p (filter q xs) ≡ filter p xs
-filter-wider p q wider [] = refl
-filter-wider p q wider (x ∷ xs) = filter-wider_step p q x xs (wider x) (filter-wider p q wider xs)
-
--- a filter of what passes a test that excludes it
-filter-apart_step : {X : Type 0} (p q : X → Bool) (x : X) (xs : List X) → (p x ≡ true → q x ≡ false) → filter p (filter q xs) ≡ [] → filter p (filter q (x ∷ xs)) ≡ []
-filter-apart_step p q x xs apart rest = elim (cases_Bool (p x)) [
-  | inl fits ↦ let fails = apart fits in rw fails rest
-  | inr out ↦ elim (cases_Bool (q x)) [ inl here ↦ rw (here, out) rest | inr gone ↦ rw gone rest ]
-]
-
-filter-apart : {X : Type 0} (p q : X → Bool) → ((x : X) → p x ≡ true → q x ≡ false) → (xs : List X) → filter p (filter q xs) ≡ []
-filter-apart p q apart [] = refl
-filter-apart p q apart (x ∷ xs) = filter-apart_step p q x xs (apart x) (filter-apart p q apart xs)
-
--- tests of ids
-eq_le : (a b c : ℤ) → int_le b c ≡ true → int_eq a b ≡ true → int_le a c ≡ true
-eq_le a b c h e = let same : a ≡ b = (Decides-int_eq a b).0 e in rw same h
-
-eq_gt : (a b c : ℤ) → int_le b c ≡ true → int_eq a b ≡ true → int_lt c a ≡ false
-eq_gt a b c h e = let same : a ≡ b = (Decides-int_eq a b).0 e in rw same (grind (arith, ints))
-
-above_le : (a b c : ℤ) → int_le b c ≡ false → int_eq a b ≡ true → int_le a c ≡ false
-above_le a b c h e = let same : a ≡ b = (Decides-int_eq a b).0 e in rw same h
-
-above_gt : (a b c : ℤ) → int_le b c ≡ false → int_eq a b ≡ true → int_lt c a ≡ true
-above_gt a b c h e = let same : a ≡ b = (Decides-int_eq a b).0 e in rw same (grind (arith, ints))
-
-above_differs : (a b : ℤ) → int_le b a ≡ false → int_eq a b ≡ false
-above_differs a b h = let below : int_lt a b ≡ true = grind (arith, ints) in rw below
-
--- at its place one comes behind those of its id
-with_id-placed : {T : Type 0} (id : ℤ) (w : Waiting T) (ws : List (Waiting T)) → with_id id (placed w ws) ≡ with_id id ws ++ with_id id (w ∷ [])
-with_id-placed {T} id w ws =
-    let p = λ (v : Waiting T). int_eq v.id id in
-    let at_most = λ (v : Waiting T). int_le v.id w.id in
-    let above = λ (v : Waiting T). int_lt w.id v.id in
-    filter-append p (filter at_most ws) (w ∷ filter above ws) ∙ elim (cases_Bool (int_le id w.id)) [
-      | inl le ↦
-          let front : filter p (filter at_most ws) ≡ filter p ws = filter-wider p at_most (λ v. eq_le v.id id w.id le) ws in
-          let back : filter p (filter above ws) ≡ [] = filter-apart p above (λ v. eq_gt v.id id w.id le) ws in
-          rw (front, back)
-      | inr gt ↦
-          let front : filter p (filter at_most ws) ≡ [] = filter-apart p at_most (λ v. above_le v.id id w.id gt) ws in
-          let back : filter p (filter above ws) ≡ filter p ws = filter-wider p above (λ v. above_gt v.id id w.id gt) ws in
-          let other : int_eq w.id id ≡ false = above_differs w.id id gt in
-          rw (front, other, back) (sym (append-nil (filter p ws)))
-    ]
 
 -- what waits after the least one went out
 waiting-without_least : {T : Type 0} (s : SortState T) (ws : List (Waiting T)) → s.waiting ≡ ws → (without_least s ws).waiting ≡ drop 1 ws
@@ -82,59 +25,59 @@ waiting-without_least s (w ∷ ws) is = refl
 waiting-let_out : {T : Type 0} (s : SortState T) → (let_out s).waiting ≡ drop 1 s.waiting
 waiting-let_out s = waiting-without_least s s.waiting refl
 
-by_id-rest : {T : Type 0} (ws : List (Waiting T)) → AreById ws → AreById (drop 1 ws)
+by_id-rest : {T : Type 0} (ws : List (Waiting T)) → AreById id_of ws → AreById id_of (drop 1 ws)
 by_id-rest [] up = up
 by_id-rest {T} (w ∷ ws) up = AllPairs-tail (λ (v w : Waiting T). v.id ≤ℤ w.id) w ws up
 
 -- a call keeps the order
-by_id-after : {T : Type 0} (s : SortState T) (c : Call T) → AreById s.waiting → AreById (after s c).waiting
+by_id-after : {T : Type 0} (s : SortState T) (c : Call T) → AreById id_of s.waiting → AreById id_of (after s c).waiting
 by_id-after {T} s (Put w) up =
-    let P : SortState T → Type 0 = λ t. AreById t.waiting in
+    let P : SortState T → Type 0 = λ t. AreById id_of t.waiting in
     both P (keeps_step s.last w.id) (emitted s w.id) (if is_full s then s else record s { waiting = placed w s.waiting }) up
-    (both P (is_full s) s (record s { waiting = placed w s.waiting }) up (AreById-placed w s.waiting up))
-by_id-after {T} s (Look now sort_time) up = both (λ (t : SortState T). AreById t.waiting) (is_some (due_answer s now sort_time)) (let_out s) s (rw (waiting-let_out s) (by_id-rest s.waiting up)) up
+    (both P (is_full s) s (record s { waiting = placed w s.waiting }) up (AreById-placed id_of w s.waiting up))
+by_id-after {T} s (Look now sort_time) up = both (λ (t : SortState T). AreById id_of t.waiting) (is_some (due_answer s now sort_time)) (let_out s) s (rw (waiting-let_out s) (by_id-rest s.waiting up)) up
 by_id-after s Flush up = rw (waiting-let_out s) (by_id-rest s.waiting up)
 
 -- the first and the rest are all
-let_out_in_turn : {T : Type 0} (id : ℤ) (s : SortState T) → with_id id (take 1 s.waiting) ++ with_id id (let_out s).waiting ≡ with_id id s.waiting
-let_out_in_turn {T} id s = rw (waiting-let_out s) (sym (filter-append (λ (v : Waiting T). int_eq v.id id) (take 1 s.waiting) (drop 1 s.waiting)) ∙ ap (with_id id) (take-append-drop 1 s.waiting))
+let_out_in_turn : {T : Type 0} (id : ℤ) (s : SortState T) → with_id id_of id (take 1 s.waiting) ++ with_id id_of id (let_out s).waiting ≡ with_id id_of id s.waiting
+let_out_in_turn {T} id s = rw (waiting-let_out s) (sym (filter-append (λ (v : Waiting T). int_eq v.id id) (take 1 s.waiting) (drop 1 s.waiting)) ∙ ap (with_id id_of id) (take-append-drop 1 s.waiting))
 
-put_in_turn : {T : Type 0} (id : ℤ) (s : SortState T) (w : Waiting T) (steps full : Bool) → with_id id (if steps then emitted s w.id else if full then s else record s { waiting = placed w s.waiting }).waiting ≡ with_id id s.waiting ++ with_id id (if steps || full then [] else w ∷ [])
-put_in_turn id s w true full = sym (append-nil (with_id id s.waiting))
-put_in_turn id s w false true = sym (append-nil (with_id id s.waiting))
-put_in_turn id s w false false = with_id-placed id w s.waiting
+put_in_turn : {T : Type 0} (id : ℤ) (s : SortState T) (w : Waiting T) (steps full : Bool) → with_id id_of id (if steps then emitted s w.id else if full then s else record s { waiting = placed w s.waiting }).waiting ≡ with_id id_of id s.waiting ++ with_id id_of id (if steps || full then [] else w ∷ [])
+put_in_turn id s w true full = sym (append-nil (with_id id_of id s.waiting))
+put_in_turn id s w false true = sym (append-nil (with_id id_of id s.waiting))
+put_in_turn id s w false false = with_id-placed id_of id w s.waiting
 
-look_in_turn : {T : Type 0} (id : ℤ) (s : SortState T) (out : Bool) → with_id id (if out then take 1 s.waiting else []) ++ with_id id (if out then let_out s else s).waiting ≡ with_id id s.waiting
+look_in_turn : {T : Type 0} (id : ℤ) (s : SortState T) (out : Bool) → with_id id_of id (if out then take 1 s.waiting else []) ++ with_id id_of id (if out then let_out s else s).waiting ≡ with_id id_of id s.waiting
 look_in_turn id s true = let_out_in_turn id s
 look_in_turn id s false = refl
 
 -- at each id a call adds what it lists at the end, and takes what it lets go from the front
-in_turn-after : {T : Type 0} (id : ℤ) (s : SortState T) (c : Call T) → with_id id (let_go s c) ++ with_id id (after s c).waiting ≡ with_id id s.waiting ++ with_id id (listed s c)
+in_turn-after : {T : Type 0} (id : ℤ) (s : SortState T) (c : Call T) → with_id id_of id (let_go s c) ++ with_id id_of id (after s c).waiting ≡ with_id id_of id s.waiting ++ with_id id_of id (listed s c)
 in_turn-after id s (Put w) = put_in_turn id s w (keeps_step s.last w.id) (is_full s)
-in_turn-after id s (Look now sort_time) = look_in_turn id s (is_some (due_answer s now sort_time)) ∙ sym (append-nil (with_id id s.waiting))
-in_turn-after id s Flush = let_out_in_turn id s ∙ sym (append-nil (with_id id s.waiting))
+in_turn-after id s (Look now sort_time) = look_in_turn id s (is_some (due_answer s now sort_time)) ∙ sym (append-nil (with_id id_of id s.waiting))
+in_turn-after id s Flush = let_out_in_turn id s ∙ sym (append-nil (with_id id_of id s.waiting))
 
 module _ {T : Type 0} where
   -- a list of calls keeps the order
-  pub by_id-all : (s : SortState T) (calls : List (Call T)) → AreById s.waiting → AreById (after_all s calls).waiting
+  pub by_id-all : (s : SortState T) (calls : List (Call T)) → AreById id_of s.waiting → AreById id_of (after_all s calls).waiting
   by_id-all s [] up = up
   by_id-all s (c ∷ calls) up = by_id-all (after s c) calls (by_id-after s c up)
 
   -- at each id, what left and then what waits are what waited and then what was listed
-  pub in_turn-all : (id : ℤ) (s : SortState T) (calls : List (Call T)) → with_id id (all_let_go s calls) ++ with_id id (after_all s calls).waiting ≡ with_id id s.waiting ++ with_id id (all_listed s calls)
-  in_turn-all id s [] = sym (append-nil (with_id id s.waiting))
+  pub in_turn-all : (id : ℤ) (s : SortState T) (calls : List (Call T)) → with_id id_of id (all_let_go s calls) ++ with_id id_of id (after_all s calls).waiting ≡ with_id id_of id s.waiting ++ with_id id_of id (all_listed s calls)
+  in_turn-all id s [] = sym (append-nil (with_id id_of id s.waiting))
   in_turn-all id s (c ∷ calls) =
       let p = λ (v : Waiting T). int_eq v.id id in
       let t = after s c in
       rw (filter-append p (let_go s c) (all_let_go t calls), filter-append p (listed s c) (all_listed t calls))
-      (append_assoc (with_id id (let_go s c)) (with_id id (all_let_go t calls)) (with_id id (after_all t calls).waiting)
-      ∙ ap (λ ws. with_id id (let_go s c) ++ ws) (in_turn-all id t calls)
-      ∙ sym (append_assoc (with_id id (let_go s c)) (with_id id t.waiting) (with_id id (all_listed t calls)))
-      ∙ ap (λ ws. ws ++ with_id id (all_listed t calls)) (in_turn-after id s c)
-      ∙ append_assoc (with_id id s.waiting) (with_id id (listed s c)) (with_id id (all_listed t calls)))
+      (append_assoc (with_id id_of id (let_go s c)) (with_id id_of id (all_let_go t calls)) (with_id id_of id (after_all t calls).waiting)
+      ∙ ap (λ ws. with_id id_of id (let_go s c) ++ ws) (in_turn-all id t calls)
+      ∙ sym (append_assoc (with_id id_of id (let_go s c)) (with_id id_of id t.waiting) (with_id id_of id (all_listed t calls)))
+      ∙ ap (λ ws. ws ++ with_id id_of id (all_listed t calls)) (in_turn-after id s c)
+      ∙ append_assoc (with_id id_of id s.waiting) (with_id id_of id (listed s c)) (with_id id_of id (all_listed t calls)))
 
   -- the first in order has the least id
-  least-first : (ws : List (Waiting T)) → AreById ws → All (λ w. All (λ v. w.id ≤ℤ v.id) ws) (take 1 ws)
+  least-first : (ws : List (Waiting T)) → AreById id_of ws → All (λ w. All (λ v. w.id ≤ℤ v.id) ws) (take 1 ws)
   least-first [] up = All-nil (λ (w : Waiting T). All (λ (v : Waiting T). w.id ≤ℤ v.id) [])
   least-first (w ∷ ws) up =
       All-cons (λ (u : Waiting T). All (λ (v : Waiting T). u.id ≤ℤ v.id) (w ∷ ws)) w []
@@ -142,7 +85,7 @@ module _ {T : Type 0} where
       (All-nil (λ (u : Waiting T). All (λ (v : Waiting T). u.id ≤ℤ v.id) (w ∷ ws)))
 
   -- what a call lets go has the least id
-  pub least-let_go : (s : SortState T) → AreById s.waiting → (c : Call T) → All (λ w. All (λ v. w.id ≤ℤ v.id) s.waiting) (let_go s c)
+  pub least-let_go : (s : SortState T) → AreById id_of s.waiting → (c : Call T) → All (λ w. All (λ v. w.id ≤ℤ v.id) s.waiting) (let_go s c)
   least-let_go s up (Put w) = All-nil (λ (u : Waiting T). All (λ (v : Waiting T). u.id ≤ℤ v.id) s.waiting)
   least-let_go s up (Look now sort_time) = both (All (λ (u : Waiting T). All (λ (v : Waiting T). u.id ≤ℤ v.id) s.waiting)) (is_some (due_answer s now sort_time)) (take 1 s.waiting) [] (least-first s.waiting up) (All-nil (λ (u : Waiting T). All (λ (v : Waiting T). u.id ≤ℤ v.id) s.waiting))
   least-let_go s up Flush = least-first s.waiting up
@@ -209,7 +152,7 @@ goes_on-all s (c ∷ calls) fits =
 pub sorts : {T : Type 0} (size : ℕ) (last : ℤ) (calls : List (Call T)) → Sorts size last calls
 sorts {T} size last calls =
     let s : SortState T = fresh size last in
-    let up : AreById (after_all s calls).waiting = by_id-all s calls (λ i j d lt below. absurd (omega arith)) in
+    let up : AreById id_of (after_all s calls).waiting = by_id-all s calls (λ i j d lt below. absurd (omega arith)) in
     let on = goes_on-all s calls (omega arith) in
     record {
       by_id = up;

@@ -1,5 +1,6 @@
 pub mod Inboxes
 pub mod InboxRuns
+pub mod ById
 pub mod Sorting
 pub mod PutAnswers
 pub mod DueAnswers

@@ -1,9 +1,9 @@
 -- What any list of calls on a sort list comes to.
 use Rattle.std.specs.Prelude.{◌≡◌, ℕ, ◌+◌, ◌^◌, ◌-◌, min, ℤ, ◌≤ℤ◌, ◌||◌, if◌then◌else◌, is_some, List, [], ◌∷◌, ◌++◌, map, take}
-use Rattle.std.specs.List.{All, filter}
-use Rattle.std.specs.Ordering.{int_eq}
+use Rattle.std.specs.List.{All}
 use Rattle.queue_sort.specs.declared.sort_lists.Waiting.{Waiting}
-use Rattle.queue_sort.specs.Sorting.{SortState, AreById, keeps_step, is_full, after_put, let_out}
+use Rattle.queue_sort.specs.ById.{AreById, with_id}
+use Rattle.queue_sort.specs.Sorting.{SortState, id_of, keeps_step, is_full, after_put, let_out}
 use Rattle.queue_sort.specs.DueAnswers.{due_answer}
 
 -- a put, a look at the least one at a time with a sort time, or a flush of the least one
@@ -53,10 +53,6 @@ abbrev pub all_ids_out : {T : Type 0} → SortState T → List (Call T) → List
 all_ids_out s [] = []
 all_ids_out s (c ∷ calls) = ids_out s c ++ all_ids_out (after s c) calls
 
--- those of one id
-abbrev pub with_id : {T : Type 0} → ℤ → List (Waiting T) → List (Waiting T)
-with_id id ws = filter (λ w. int_eq w.id id) ws
-
 -- how many of the ids, after a previous one, keep no step
 abbrev pub breaks : ℤ → List ℤ → ℕ
 breaks last [] = 0
@@ -74,9 +70,10 @@ fresh size last = record { size = size; last = last; disordered = 0; waiting = [
 -- what holds after a list of calls on a fresh list
 pub record Sorts {T : Type 0} (size : ℕ) (last : ℤ) (calls : List (Call T)) : Type 0 where
   -- what waits is in the order of ids
-  pub by_id : AreById (after_all (fresh size last) calls).waiting
+  pub by_id : AreById id_of (after_all (fresh size last) calls).waiting
   -- the items of each id leave in the order in which they came: those that left and then those that wait are those that were listed
-  pub in_turn : (id : ℤ) → with_id id (all_let_go (fresh size last) calls) ++ with_id id (after_all (fresh size last) calls).waiting ≡ with_id id (all_listed (fresh size last) calls)
+  pub in_turn : (id : ℤ) → with_id id_of id (all_let_go (fresh size last) calls) ++ with_id id_of id (after_all (fresh size last) calls).waiting
+      ≡ with_id id_of id (all_listed (fresh size last) calls)
   -- whatever call comes next, what it lets out has the least id of all that wait
   pub least : (c : Call T) → All (λ w. All (λ v. w.id ≤ℤ v.id) (after_all (fresh size last) calls).waiting) (let_go (after_all (fresh size last) calls) c)
   -- the previous id is the one that went out last

@@ -6,7 +6,8 @@ use Rattle.std.proofs.lemmas.Bool.{cases_Bool}
 use Rattle.std.proofs.lemmas.Int.{ints}
 use Rattle.std.proofs.lemmas.List.Elements.{All-head, All-tail, All-cons, All-append, All-filter, All-weaker}
 use Rattle.queue_sort.specs.declared.sort_lists.Waiting.{Waiting}
-use Rattle.queue_sort.specs.Sorting.{SortState, AreById, keeps_step, is_full, emitted, placed, after_put, without_least, let_out}
+use Rattle.queue_sort.specs.ById.{AreById}
+use Rattle.queue_sort.specs.Sorting.{SortState, id_of, keeps_step, is_full, emitted, placed, after_put, without_least, let_out}
 
 -- what is true of one and of all that wait is true of all after it is placed
 pub All-placed : {T : Type 0} (P : Waiting T → Type 0) (w : Waiting T) (ws : List (Waiting T)) → P w → All P ws → All P (placed w ws)
@@ -69,7 +70,7 @@ lt_above : (a b c : ℤ) → int_lt a b ≡ true → b ≤ℤ c → int_lt a c �
 lt_above a b c lt le = grind (arith, ints)
 
 -- in order, one is placed as an insertion goes: before the first whose id is greater
-pub placed-cons : {T : Type 0} (w v : Waiting T) (ws : List (Waiting T)) → AreById (v ∷ ws) → placed w (v ∷ ws) ≡ (if int_lt w.id v.id then w ∷ (v ∷ ws) else v ∷ placed w ws)
+pub placed-cons : {T : Type 0} (w v : Waiting T) (ws : List (Waiting T)) → AreById id_of (v ∷ ws) → placed w (v ∷ ws) ≡ (if int_lt w.id v.id then w ∷ (v ∷ ws) else v ∷ placed w ws)
 placed-cons {T} w v ws up =
     let at_most = λ (u : Waiting T). int_le u.id w.id in
     let above = λ (u : Waiting T). int_lt w.id u.id in

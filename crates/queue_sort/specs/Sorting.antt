@@ -1,8 +1,9 @@
 -- A sort list, and what its calls make of it.
-use Rattle.std.specs.Prelude.{ℕ, ◌+◌, ◌-◌, ◌^◌, ◌≤◌, min, ℤ, pos, ◌+ℤ◌, ◌≤ℤ◌, int_lt, int_le, Bool, ◌||◌, nat_le, nat_lt, if◌then◌else◌, List, [], ◌∷◌, ◌++◌, length, take, drop, ◌≡◌}
-use Rattle.std.specs.List.{AllPairs, filter}
+use Rattle.std.specs.Prelude.{ℕ, ◌+◌, ◌-◌, ◌^◌, ◌≤◌, min, ℤ, pos, ◌+ℤ◌, int_lt, int_le, Bool, ◌||◌, nat_le, nat_lt, if◌then◌else◌, List, [], ◌∷◌, length, take, drop, ◌≡◌}
+use Rattle.std.specs.List.{filter}
 use Rattle.std.specs.Ordering.{int_eq}
 use Rattle.queue_sort.specs.declared.sort_lists.Waiting.{Waiting}
+use Rattle.queue_sort.specs.ById.{AreById, placed_by}
 
 -- how many may wait, the previous id, the breaks so far, and what waits, the least first
 pub record SortState (T : Type 0) : Type 0 where
@@ -19,13 +20,13 @@ keeps_step last id = int_eq id last || int_eq id (last +ℤ pos 1)
 abbrev pub is_full : {T : Type 0} → SortState T → Bool
 is_full s = nat_le s.size (length s.waiting)
 
--- no id is above a later one
-abbrev pub AreById : {T : Type 0} → List (Waiting T) → Type 0
-AreById ws = AllPairs (λ v w. v.id ≤ℤ w.id) ws
+-- the id of one that waits
+abbrev pub id_of : {T : Type 0} → Waiting T → ℤ
+id_of w = w.id
 
 -- what may wait in a list of this size: no more than that, in the order of ids
 pub record IsWaitingList {T : Type 0} (size : ℕ) (ws : List (Waiting T)) : Type 0 where
-  pub by_id : AreById ws
+  pub by_id : AreById id_of ws
   pub within : length ws ≤ size
 
 -- one more, up to the greatest count of 64 bits
@@ -36,9 +37,9 @@ one_more n = min (n + 1) (2 ^ 64 - 1)
 abbrev pub emitted : {T : Type 0} → SortState T → ℤ → SortState T
 emitted s id = record s { last = id; disordered = if keeps_step s.last id then s.disordered else one_more s.disordered }
 
--- with one more, behind those whose id is at most its own and before those whose id is greater
+-- with one more at the place of its id
 abbrev pub placed : {T : Type 0} → Waiting T → List (Waiting T) → List (Waiting T)
-placed w ws = filter (λ v. int_le v.id w.id) ws ++ w ∷ filter (λ v. int_lt w.id v.id) ws
+placed w ws = placed_by id_of w ws
 
 -- the place behind those whose id is at most this one
 pub record IsPlaceOf {T : Type 0} (id : ℤ) (ws : List (Waiting T)) (place : ℕ) : Type 0 where

@@ -205,7 +205,8 @@ impl<F: Held> Course<F> {
                         || state.settled
                         || is_whole_group(count, state.saves, state.puts))
             }
-            _ => false,
+            NodeWork::Makes | NodeWork::Passes | NodeWork::Deals | NodeWork::Watches { .. } =>
+                false,
         }
     }
 
@@ -251,7 +252,7 @@ impl<F: Held> Course<F> {
     {
         match self.rules_of(node).work {
             NodeWork::Saves { count, .. } => self.state(node).saves % count,
-            _ => 0,
+            NodeWork::Makes | NodeWork::Passes | NodeWork::Deals | NodeWork::Watches { .. } => 0,
         }
     }
 
@@ -266,7 +267,7 @@ impl<F: Held> Course<F> {
             NodeWork::Saves { count, .. } => {
                 size_of_group(count, state.saves, state.settled, state.puts)
             }
-            _ => None,
+            NodeWork::Makes | NodeWork::Passes | NodeWork::Deals | NodeWork::Watches { .. } => None,
         }
     }
 

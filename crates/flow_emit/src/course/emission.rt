@@ -16,7 +16,7 @@ ghost use Rattle.board_rules.specs.Moving.{with_all};
 ghost use Rattle.board_rules.specs.RunMeasures.{run_setting, run_measure};
 ghost use Rattle.flow_emit.specs.Emissions.{HasEmitted, OnlyDealt, before_emission};
 
-use crate::{Course, NodeWork};
+use crate::Course;
 use flow_journal::{Entry, Why};
 use nd_base::{FrameName, Held, Measure};
 use scatter_rule::{Choice, next_child};
@@ -116,7 +116,7 @@ impl<F: Held> Course<F> {
         requires { node ≤ length (run_setting F.Of.graph F.Of.stack).nodes }
         ensures { result ≡ deals (run_setting F.Of.graph F.Of.stack) node }
     {
-        node > 0 && matches!(self.rules.node(node).work, NodeWork::Deals)
+        node > 0 && self.rules.node(node).work.deals()
     }
 
     /// Offers the array on its way to each child of the node.

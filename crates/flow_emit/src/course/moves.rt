@@ -149,7 +149,7 @@ impl<F: Held> Course<F> {
         let place = node as usize - 1;
         match self.rules.nodes.as_slice()[place].work {
             NodeWork::Saves { count, .. } => self.nodes[place].saves / count,
-            _ => 0,
+            NodeWork::Makes | NodeWork::Passes | NodeWork::Deals | NodeWork::Watches { .. } => 0,
         }
     }
 

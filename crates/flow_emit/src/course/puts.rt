@@ -80,7 +80,7 @@ impl<F: Held> Course<F> {
         ensures { result ≡ is_maker (run_setting F.Of.graph F.Of.stack) node }
     {
         let rules = &self.rules.nodes.as_slice()[node as usize - 1];
-        matches!(rules.work, NodeWork::Makes)
+        rules.work.makes()
     }
 
     /// What the node does.

@@ -64,7 +64,9 @@ impl<F: Held> Course<F> {
     {
         match self.work(node) {
             NodeWork::Watches { .. } => self.settle_circular(role, node),
-            _ => self.settle_plain(role, node),
+            NodeWork::Makes | NodeWork::Passes | NodeWork::Deals | NodeWork::Saves { .. } => {
+                self.settle_plain(role, node);
+            }
         }
     }
 

@@ -22,12 +22,12 @@ returns-in-Saves g c =
     (work-at m s k v _ _ c.as_slice.result.now i c.requires c.as_slice.ensures c.in-Saves.is)
     ((node-is m s k v n i c.requires at).pieces ∙ ap (λ (w : Coursed). length (standing_saves v (past w.told))) c.self.view_is)
 
-pub returns-in_default : goal.returns-in_default
-returns-in_default g c =
+pub returns-in-Makes : goal.returns-in-Makes
+returns-in-Makes g c =
     let m = run_measure g.F.Of.Run.graph g.F.Of.Run.stack in
     let s = run_setting g.F.Of.Run.graph g.F.Of.Run.stack in
     let k = parts c.self.inside in
     let i : IsCourse m s k = c.self.invariant in
     let v = c.args.node in
     group-none (node s v).work _ (length (standing_saves v (past c.args.self.now.told)))
-    (work-at m s k v _ _ c.as_slice.result.now i c.requires c.as_slice.ensures refl) c.in_default.not-Saves
+    (work-at m s k v _ _ c.as_slice.result.now i c.requires c.as_slice.ensures refl) c.in-Makes.is

@@ -7,4 +7,4 @@ pub settle_circular-requires-clause-kind : goal.settle_circular-requires-clause-
 settle_circular-requires-clause-kind g c = ap is_watching (sym c.in-Watches.ensures)
 
 pub settle_plain-requires-clause-kind : goal.settle_plain-requires-clause-kind
-settle_plain-requires-clause-kind g c = ap is_watching (sym c.work.ensures) ∙ not-watching c.work.result c.in_default.not-Watches
+settle_plain-requires-clause-kind g c = ap is_watching (sym c.work.ensures) ∙ not-watching c.work.result c.in-Makes.is
