@@ -4,6 +4,7 @@ ghost use Rattle.std.specs.Prelude.{◌≡◌};
 ghost use Rattle.board_rules.specs.InHand.{just};
 
 use nd_base::{FrameName, Held, Measure};
+use thiserror::Error;
 
 /// What `load` answers.
 #[derive(Debug, PartialEq, Eq, Drop)]
@@ -94,7 +95,8 @@ pub struct HandName {
 }
 
 /// What came back isn't what the role has in hand.
-#[derive(Drop)]
+#[derive(Drop, Error)]
+#[error("what came back isn't what the role has in hand")]
 pub struct NotYours<F> {
     /// What the role has in hand.
     pub kept: Option<HandName>,
@@ -139,7 +141,8 @@ pub enum NoWhy {
 }
 
 /// Nothing was taken back.
-#[derive(Drop)]
+#[derive(Drop, Error)]
+#[error("nothing was taken back")]
 pub struct NoReclaim<F: Held> {
     pub why: NoWhy,
     pub back: Left<F>,

@@ -111,7 +111,7 @@ fn attrs_header_size(form: Form, attrs: &[AttrColumn]) -> u64
     for attr in attrs {
         let dims = match attr.kind {
             AttrKind::TextKind => 8,
-            _ => 4,
+            AttrKind::WholeKind | AttrKind::Bits64Kind | AttrKind::Bits32Kind => 4,
         };
         total += 24 + offset_size(form) + dims + padded(5 + attr.name.text().len() as u64);
     }

@@ -8,7 +8,9 @@ ghost use Rattle.cdf_write.specs.Writable.{IsWritable, IsExtra, FitsIn, column_o
 
 use crate::lengths::samples_size;
 use crate::{TooLarge, file_length, header_bytes, length_with, row_bytes};
-use nd_base::{AttrColumn, Attrs, Dim, Extra, FileShape, Form, Head, SampleType, Seq};
+use nd_base::{
+    AttrColumn, Attrs, Dim, Extra, FileShape, Form, Head, MOST_SAMPLES, SampleType, Seq,
+};
 use std::alloc::{AllocError, Global};
 use std::process::Abort;
 use std::test::Fail;
@@ -55,7 +57,7 @@ fn none_is_empty(dims: &[Dim]) -> bool
     dims.iter().all(|dim| dim.size > 0)
 }
 
-/// Whether these dimensions have at most 67,108,864 samples.
+/// Whether these dimensions have as many samples as an array may have.
 fn are_few(dims: &[Dim]) -> bool
     requires { IsTrue (has_dimensions dims.now) }
     ensures { IsTrue result → sample_count dims.now ≤ most_samples }
@@ -63,7 +65,7 @@ fn are_few(dims: &[Dim]) -> bool
     let mut count = 1u64;
     for dim in dims {
         count *= u64::from(dim.size);
-        if count > 67_108_864 {
+        if count > MOST_SAMPLES {
             return false;
         }
     }

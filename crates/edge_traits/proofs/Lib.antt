@@ -3,5 +3,4 @@ pub mod Shelves
 pub mod BegunFiles
 pub mod Libraries
 pub mod Ticking
-pub mod Sets
 pub mod Untold

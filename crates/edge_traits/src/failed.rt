@@ -1,16 +1,8 @@
 //! The answer of a call that failed.
 
-use std::error::Error;
-use std::fmt;
+use thiserror::Error;
 
 /// The one answer of a call that failed.
-#[derive(Clone, Copy, Debug, PartialEq, Eq)]
+#[derive(Clone, Copy, Debug, PartialEq, Eq, Error)]
+#[error("a read or a write failed")]
 pub struct Failed;
-
-impl fmt::Display for Failed {
-    fn fmt<W: fmt::Write>(&self, f: &mut fmt::Formatter<W>) -> fmt::Result {
-        write!(f, "a read or a write failed")
-    }
-}
-
-impl Error for Failed {}

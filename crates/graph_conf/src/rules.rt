@@ -166,8 +166,11 @@ fn file_rule(alloc: Global, table: &Table) -> Result<FileRule, GraphFault>
 {
     let mode = mode_key(alloc, table)?;
     let count = count(alloc, table, "count", 1, 65_536, 1)? as u32;
-    if matches!(mode, Mode::Single) && count != 1 {
-        return Err(out_of_range(alloc, "count", i64::from(count))?);
+    match mode {
+        Mode::Single if count != 1 => {
+            return Err(out_of_range(alloc, "count", i64::from(count))?);
+        }
+        Mode::Single | Mode::Capture | Mode::Stream => {}
     }
     let form = form_key(alloc, table)?;
     Ok(FileRule { mode, count, form })

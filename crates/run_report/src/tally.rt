@@ -24,6 +24,16 @@ fn id_of(ids: &[i32], index: u32) -> i32
     ids.get(index as usize).copied().unwrap_or(0)
 }
 
+/// Whether saves go out of a node of this kind.
+fn saves(kind: &Kind) -> bool
+    ensures { result ≡ is_file (work_of kind.now) }
+{
+    match kind {
+        Kind::File(_) => true,
+        Kind::Roi(_) | Kind::Stats(_) | Kind::Circular(_) | Kind::Scatter => false,
+    }
+}
+
 /// The counts of a node so far.
 #[derive(Clone, Copy)]
 pub(crate) struct NodeTally {
@@ -60,7 +70,7 @@ impl NodeTally {
     pub(crate) fn of_kind(kind: &Kind) -> NodeTally
         ensures { result ≡ fresh (is_file (work_of kind.now)) }
     {
-        NodeTally::new(matches!(kind, Kind::File(_)))
+        NodeTally::new(saves(kind))
     }
 
     /// 1 where the oldest that went out keeps no step with this id before it.

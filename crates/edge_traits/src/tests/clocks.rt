@@ -8,13 +8,6 @@ use std::test::Fail;
 use std::time::Duration;
 use std::{io, time};
 
-/// The answers of a clock to so many calls are these.
-fn ticks<C: Clock>(rt: &impl Abort, clock: &mut C, answers: &[u64]) {
-    for answer in answers {
-        assert_eq!(rt; clock.tick(), *answer);
-    }
-}
-
 /// A machine's clock whose readings are these, in microseconds; one of 0 can't be had.
 #[derive(Drop)]
 struct Readings<'a> {
@@ -36,22 +29,24 @@ impl<'a> time::Clock for Readings<'a> {
     }
 }
 
-#[test]
-fn real_clock_gives_milliseconds_since_it_was_made(rt: HostRuntime) -> Result<(), Fail> {
+/// A clock over these readings gives these answers, and tells so many of them as faults.
+fn ticks(rt: &impl Abort, micros: &[u64], answers: &[u64], faults: u64) {
     let machine = Readings {
-        micros: &[5_000_900, 5_000_950, 5_008_899, 0, 5_003_000, 6_501_000],
+        micros,
         read: AtomicU64::new(0),
     };
     let mut clock = RealClock::new(&machine);
-    ticks(&rt, &mut clock, &[0, 7, 7, 7, 1_500, 1_500]);
-    assert_eq!(rt; clock.faults(), 2);
-    let late = Readings {
-        micros: &[0, 4_000, 6_500],
-        read: AtomicU64::new(0),
-    };
-    let mut clock = RealClock::new(&late);
-    ticks(&rt, &mut clock, &[0, 2]);
-    assert_eq!(rt; clock.faults(), 1);
+    for answer in answers {
+        assert_eq!(rt; clock.tick(), *answer);
+    }
+    assert_eq!(rt; clock.faults(), faults);
+}
+
+#[test]
+fn real_clock_gives_milliseconds_since_it_was_made(rt: HostRuntime) -> Result<(), Fail> {
+    let micros = [5_000_900, 5_000_950, 5_008_899, 0, 5_003_000, 6_501_000];
+    ticks(&rt, &micros, &[0, 7, 7, 7, 1_500, 1_500], 2);
+    ticks(&rt, &[0, 4_000, 6_500], &[0, 2], 1);
     let mut own = RealClock::new(&rt);
     let first = own.tick();
     assert!(rt; first <= own.tick());

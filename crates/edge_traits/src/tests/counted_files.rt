@@ -7,11 +7,10 @@ use std::io::{ErrorKind, Read, Seek, SeekFrom, Write};
 use std::rt::Files;
 use std::sync::atomic::{AtomicU64, Ordering};
 
-/// How often each call was made, and how many files are open.
+/// How often each call was made, a move being a read or a write, and how many files are open.
 #[derive(Drop)]
 pub struct Counts {
-    pub reads: AtomicU64,
-    pub writes: AtomicU64,
+    pub moves: AtomicU64,
     pub seeks: AtomicU64,
     pub flushes: AtomicU64,
     pub opens: AtomicU64,
@@ -22,8 +21,7 @@ pub struct Counts {
 impl Counts {
     pub fn new() -> Counts {
         Counts {
-            reads: AtomicU64::new(0),
-            writes: AtomicU64::new(0),
+            moves: AtomicU64::new(0),
             seeks: AtomicU64::new(0),
             flushes: AtomicU64::new(0),
             opens: AtomicU64::new(0),
@@ -34,8 +32,19 @@ impl Counts {
 }
 
 /// The value of a count.
-pub fn told(count: &AtomicU64) -> u64 {
+fn value(count: &AtomicU64) -> u64 {
     count.load(Ordering::SeqCst)
+}
+
+/// How many files were opened, sought in and flushed, how many are open, and how many were at most.
+pub fn told(counts: &Counts) -> [u64; 5] {
+    [
+        value(&counts.opens),
+        value(&counts.seeks),
+        value(&counts.flushes),
+        value(&counts.open),
+        value(&counts.most_open),
+    ]
 }
 
 /// One more.
@@ -67,7 +76,7 @@ impl<'a, F: Drop> Drop for CountedFile<'a, F> {
 
 impl<'a, F: Read + Drop> Read for CountedFile<'a, F> {
     fn read(&mut self, buf: &mut [u8]) -> io::Result<usize> {
-        if add(&self.counts.reads) % 2 == 0 {
+        if add(&self.counts.moves) % 2 == 0 {
             return Err(io::Error::from(ErrorKind::Interrupted));
         }
         let most = buf.len().min(3);
@@ -77,7 +86,7 @@ impl<'a, F: Read + Drop> Read for CountedFile<'a, F> {
 
 impl<'a, F: Write + Drop> Write for CountedFile<'a, F> {
     fn write(&mut self, buf: &[u8]) -> io::Result<usize> {
-        if add(&self.counts.writes) % 2 == 0 {
+        if add(&self.counts.moves) % 2 == 0 {
             return Err(io::Error::from(ErrorKind::Interrupted));
         }
         self.file.write(&buf[..buf.len().min(3)])
@@ -123,7 +132,7 @@ impl<'a, R: Files> Files for CountedFiles<'a, R> {
         let file = self.rt.open_file(how, path)?;
         add(&self.counts.opens);
         let open = add(&self.counts.open);
-        if open >= told(&self.counts.most_open) {
+        if open >= value(&self.counts.most_open) {
             self.counts
                 .most_open
                 .store(open.saturating_add(1), Ordering::SeqCst);
