@@ -1,7 +1,7 @@
 mod Blocks
 mod BytePairs
-mod Halves
 mod Leasts
 mod Narrow
 mod Samples
+mod Squares
 mod Wraps

@@ -32,6 +32,7 @@ pub fn sum_bytes(kind: SampleType, samples: &[u8]) -> i64
 }
 
 /// The sum of the squares of the samples.
+#[inline(never)]
 pub fn squares_bytes(kind: SampleType, samples: &[u8]) -> u128
     requires whole { length samples.now % width kind ≡ 0 }
     requires few { length samples.now / width kind ≤ most_samples }
@@ -48,6 +49,7 @@ pub fn squares_bytes(kind: SampleType, samples: &[u8]) -> u128
 }
 
 /// The least sample; None where there is none.
+#[inline(never)]
 pub fn min_bytes(kind: SampleType, samples: &[u8]) -> Option<i64>
     ensures { result ≡ least (samples_of kind samples.now) }
 {
@@ -62,6 +64,7 @@ pub fn min_bytes(kind: SampleType, samples: &[u8]) -> Option<i64>
 }
 
 /// The greatest sample; None where there is none.
+#[inline(never)]
 pub fn max_bytes(kind: SampleType, samples: &[u8]) -> Option<i64>
     ensures { result ≡ greatest (samples_of kind samples.now) }
 {
@@ -76,6 +79,7 @@ pub fn max_bytes(kind: SampleType, samples: &[u8]) -> Option<i64>
 }
 
 /// The place of the first sample with this value, and the number of samples where none has it.
+#[inline(never)]
 pub fn first_place(kind: SampleType, samples: &[u8], value: i64) -> usize
     ensures within { result ≤ length samples.now / width kind }
     ensures here { result < length samples.now / width kind → stored kind samples.now result ≡ value }

@@ -116,13 +116,14 @@ pub(crate) fn squares(kind: SampleType, samples: &[u8]) -> u128
     if kind.width() == 1 {
         u128::from(square_blocks(kind, samples))
     } else {
-        squares_by_halves(kind, samples)
+        squares_by_parts(kind, samples)
     }
 }
 
-/// The sum of the squares, by the sums of their low and high halves.
+/// The sum of the squares, by the sums of their lowest 36 bits and of the rest. Were they cut at 32 bits, the compiler would make
+/// two products of each.
 #[inline(always)]
-fn squares_by_halves(kind: SampleType, samples: &[u8]) -> u128
+fn squares_by_parts(kind: SampleType, samples: &[u8]) -> u128
     requires { length samples.now / width kind ≤ most_samples }
     ensures { result ≡ squares (samples_of kind samples.now) }
 {
@@ -132,8 +133,8 @@ fn squares_by_halves(kind: SampleType, samples: &[u8]) -> u128
     for k in 0..samples.len() / width {
         let size = number_at(kind, samples, k * width).unsigned_abs();
         let square = size * size;
-        low += square % 0x1_0000_0000;
-        high += square / 0x1_0000_0000;
+        low += square % 0x10_0000_0000;
+        high += square / 0x10_0000_0000;
     }
-    u128::from(low) + u128::from(high) * 0x1_0000_0000
+    u128::from(low) + u128::from(high) * 0x10_0000_0000
 }

@@ -13,6 +13,7 @@ pub mod Parts
 pub mod Pieces
 pub mod Places
 pub mod Products
+pub mod Reached
 pub mod Rooms
 pub mod Steps
 pub mod Sums

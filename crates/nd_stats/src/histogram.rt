@@ -138,8 +138,9 @@ fn count_each(
     ends
 }
 
-/// The same by code of each sample type.
-fn count_all(
+/// The same by code of each sample type. Where the bins list each value of a type, its code is made without a test.
+#[inline(always)]
+fn count_kind(
     rule: &StatsRule,
     bins: &[u16],
     kind: SampleType,
@@ -157,12 +158,40 @@ fn count_all(
 {
     match kind {
         SampleType::Int8 => count_each(rule, bins, SampleType::Int8, from, samples, counts),
+        SampleType::UInt8 if rule.hist_lo == 0 && bins.len() == 256 => {
+            count_each(rule, bins, SampleType::UInt8, from, samples, counts)
+        }
         SampleType::UInt8 => count_each(rule, bins, SampleType::UInt8, from, samples, counts),
         SampleType::Int16 => count_each(rule, bins, SampleType::Int16, from, samples, counts),
+        SampleType::UInt16 if rule.hist_lo == 0 && bins.len() == 65_536 => {
+            count_each(rule, bins, SampleType::UInt16, from, samples, counts)
+        }
         SampleType::UInt16 => count_each(rule, bins, SampleType::UInt16, from, samples, counts),
         SampleType::Int32 => count_each(rule, bins, SampleType::Int32, from, samples, counts),
         SampleType::UInt32 => count_each(rule, bins, SampleType::UInt32, from, samples, counts),
     }
+}
+
+/// The same by a rule of its own, which isn't read again with each sample.
+#[inline(never)]
+fn count_all(
+    rule: &StatsRule,
+    bins: &[u16],
+    kind: SampleType,
+    from: u32,
+    samples: &[u8],
+    counts: &mut [i64],
+) -> Ends
+    requires rule { IsStats rule.now }
+    requires some { rule.now.hist_size ≢ 0 }
+    requires bins { AreBins rule.now bins.now }
+    requires within { IsWithinRange rule.now bins.now }
+    requires few { length samples.now / width kind ≤ most_samples }
+    requires blank { IsCounted rule.now [] record { below = 0; above = 0 } counts.old }
+    ensures { IsCounted rule.now (placed from (samples_of kind samples.now)) result counts.new }
+{
+    let own = StatsRule { ..*rule };
+    count_kind(&own, bins, kind, from, samples, counts)
 }
 
 /// The histogram of a piece that begins at place `from`; before it has counted nothing.

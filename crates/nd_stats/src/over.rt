@@ -2,6 +2,7 @@
 
 ghost use Rattle.std.specs.Prelude.{◌≡◌, ℤ, ◌+◌, ◌*◌, ◌/◌, ◌<◌, ◌≤◌, ◌^◌, ◌*ℤ◌, ◌+ℤ◌, length, pos, int_lt, not, unsigned_abs};
 ghost use Rattle.nd_base.specs.Samples.{width, samples_of, IsSmall};
+ghost use Rattle.nd_base.specs.declared.array.SampleType.TheVariants.{Int32};
 ghost use Rattle.nd_stats.specs.Samples.{placed};
 ghost use Rattle.nd_stats.specs.Tallies.{counted};
 ghost use Rattle.nd_stats.specs.Over.{IsOver};
@@ -10,7 +11,7 @@ ghost use Rattle.lane_kernels.specs.Plain.{stored};
 use crate::sample::part;
 use crate::tally::{counted, reaches};
 use lane_kernels::sample_at;
-use nd_base::SampleType;
+use nd_base::{SampleType, word_at};
 
 /// How many samples reach the threshold, their sum, and the sum of each times its index.
 #[derive(Clone, Copy)]
@@ -62,6 +63,7 @@ fn wide_over(kind: SampleType, threshold: i64, block: &[u8]) -> Over
 }
 
 /// A threshold that the same samples of at most 16 bits reach.
+#[inline(always)]
 fn near(threshold: i64) -> i32
     ensures { (v : ℤ) → unsigned_abs v ≤ 65535 → int_lt v result ≡ int_lt v threshold }
 {
@@ -142,6 +144,78 @@ fn narrow_over(kind: SampleType, threshold: i64, block: &[u8]) -> Over
     }
 }
 
+/// A number in its high 16 bits, with the sign, and the low ones.
+#[inline(always)]
+fn halves(value: i32) -> (i32, i32)
+    ensures value { value ≡ result.1 +ℤ (pos 65536 *ℤ result.0) }
+    ensures high { unsigned_abs result.0 ≤ 65535 }
+    ensures low { unsigned_abs result.1 ≤ 65535 }
+{
+    let high = value >> 16;
+    (high, value - high * 65_536)
+}
+
+/// A sample of 32 bits with a sign.
+#[inline(always)]
+fn signed_at(bytes: &[u8], place: usize) -> i32
+    requires { place < length bytes.now / width Int32 }
+    ensures { result ≡ stored Int32 bytes.now place }
+{
+    word_at(bytes, place * 4).cast_signed()
+}
+
+/// A number of which 65,536 times the first part and the second are the sum.
+#[inline(always)]
+fn joined(high: i32, low: i32) -> i64
+    ensures { result ≡ low +ℤ (pos 65536 *ℤ high) }
+{
+    i64::from(low) + i64::from(high) * 65_536
+}
+
+/// The numbers of a block of samples of 32 bits with a sign, by the sums of their halves.
+#[inline(always)]
+fn signed_over(threshold: i32, block: &[u8]) -> Over
+    requires { length block.now / width Int32 ≤ 128 }
+    ensures over { IsOver threshold (placed 0 (samples_of Int32 block.now)) result }
+    ensures few { result.count ≤ length block.now / width Int32 }
+    ensures sum { unsigned_abs result.sum ≤ length block.now / width Int32 * 4294967296 }
+    ensures weighted { unsigned_abs result.weighted ≤ length block.now / width Int32 * 549755813888 }
+{
+    let mut count = 0u32;
+    let (mut high, mut low) = (0i32, 0i32);
+    let (mut high_moment, mut low_moment) = (0i32, 0i32);
+    for index in 0..block.len() / 4 {
+        let value = signed_at(block, index);
+        let is_over = reaches_near(value, threshold);
+        let (high_part, low_part) = halves(kept_if(is_over, value));
+        count += u32::from(is_over);
+        high += high_part;
+        low += low_part;
+        high_moment += near_weighted(index, high_part);
+        low_moment += near_weighted(index, low_part);
+    }
+    Over {
+        count,
+        sum: joined(high, low),
+        weighted: joined(high_moment, low_moment),
+    }
+}
+
+/// The numbers of a block of samples of 32 bits.
+#[inline(always)]
+fn long_over(kind: SampleType, threshold: i64, block: &[u8]) -> Over
+    requires { length block.now / width kind ≤ 128 }
+    ensures over { IsOver threshold (placed 0 (samples_of kind block.now)) result }
+    ensures few { result.count ≤ length block.now / width kind }
+    ensures sum { unsigned_abs result.sum ≤ length block.now / width kind * 4294967296 }
+    ensures weighted { unsigned_abs result.weighted ≤ length block.now / width kind * 549755813888 }
+{
+    match (kind, i32::try_from(threshold)) {
+        (SampleType::Int32, Ok(near)) => signed_over(near, block),
+        _ => wide_over(kind, threshold, block),
+    }
+}
+
 /// The numbers of a block.
 #[inline(always)]
 fn block_over(kind: SampleType, threshold: i64, block: &[u8]) -> Over
@@ -154,7 +228,7 @@ fn block_over(kind: SampleType, threshold: i64, block: &[u8]) -> Over
     if kind.width() <= 2 {
         narrow_over(kind, threshold, block)
     } else {
-        wide_over(kind, threshold, block)
+        long_over(kind, threshold, block)
     }
 }
 
@@ -216,7 +290,8 @@ fn part_over(kind: SampleType, threshold: i64, line: &[u8]) -> Over
     over
 }
 
-/// The numbers of a part of a line, by code of each sample type.
+/// The numbers of a part of a line, by code of each sample type. A threshold that each unsigned sample reaches is no test.
+#[inline(never)]
 pub(crate) fn line_over(kind: SampleType, threshold: i64, line: &[u8]) -> Over
     requires { length line.now / width kind ≤ 8192 }
     ensures over { IsOver threshold (placed 0 (samples_of kind line.now)) result }
@@ -225,6 +300,8 @@ pub(crate) fn line_over(kind: SampleType, threshold: i64, line: &[u8]) -> Over
     ensures weighted { unsigned_abs result.weighted ≤ 2 ^ 60 }
 {
     match kind {
+        SampleType::UInt8 if threshold <= 0 => part_over(SampleType::UInt8, 0, line),
+        SampleType::UInt16 if threshold <= 0 => part_over(SampleType::UInt16, 0, line),
         SampleType::Int8 => part_over(SampleType::Int8, threshold, line),
         SampleType::UInt8 => part_over(SampleType::UInt8, threshold, line),
         SampleType::Int16 => part_over(SampleType::Int16, threshold, line),

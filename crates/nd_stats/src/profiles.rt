@@ -42,6 +42,7 @@ fn add_each(
 }
 
 /// The same by code of each sample type.
+#[inline(never)]
 pub(crate) fn add_columns(
     rule: &StatsRule,
     kind: SampleType,

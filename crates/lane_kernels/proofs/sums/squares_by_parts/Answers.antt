@@ -3,8 +3,8 @@ use Rattle.std.proofs.lemmas.Int.{to_z-of_z, fits_signed_from_abs}
 use Rattle.std.specs.Prelude.{unsigned_abs}
 use Rattle.lane_kernels.specs.Plain.{stored}
 use Rattle.lane_kernels.proofs.Samples.{same_number, squares-more}
-use Rattle.lane_kernels.proofs.Halves.{halves, square_below}
-use Rattle.lane_kernels.proofs.sums.squares_by_halves.Goals as goal
+use Rattle.lane_kernels.proofs.Squares.{parts, square_below}
+use Rattle.lane_kernels.proofs.sums.squares_by_parts.Goals as goal
 
 pub loop-k-preserved : goal.loop-k-preserved
 loop-k-preserved c =
@@ -21,9 +21,9 @@ loop-k-preserved c =
     let small : size < 2 ^ 32 = omega (arith, value, c.number_at.ensures.small) in
     let most = square_below size small in
     let more = squares-more kind k bytes in
-    let half = halves (size * size) in
+    let cut = parts (size * size) in
     record {
-      sum = omega (arith, c.loop-k.invariant.sum, square, more, half);
+      sum = omega (arith, c.loop-k.invariant.sum, square, more, cut);
       low = omega (arith, c.loop-k.invariant.low);
-      high = omega (arith, c.loop-k.invariant.high, most, half);
+      high = omega (arith, c.loop-k.invariant.high, most, cut);
     }

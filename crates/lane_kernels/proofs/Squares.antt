@@ -1,9 +1,9 @@
--- A number in two halves of 32 bits.
+-- A number in its lowest 36 bits and the rest, and a square in 64 bits.
 use Rattle.std.proofs.Common.{◌≡◌, ℕ, ◌+◌, ◌*◌, ◌/◌, ◌%◌, ◌<◌, ◌≤◌, ◌^◌, arith}
 use Rattle.std.proofs.Math.Nat.{mul-le-mul}
 
-pub halves : (n : ℕ) → n ≡ n % 4294967296 + 4294967296 * (n / 4294967296)
-halves n = omega arith
+pub parts : (n : ℕ) → n ≡ n % 68719476736 + 68719476736 * (n / 68719476736)
+parts n = omega arith
 
 pub square_below : (n : ℕ) → n < 2 ^ 32 → n * n < 2 ^ 64
 square_below n h =
