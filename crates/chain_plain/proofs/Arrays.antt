@@ -10,8 +10,7 @@ use Rattle.nd_base.specs.declared.graph.NodeRule.{NodeRule}
 use Rattle.nd_base.specs.declared.graph.RoiRule.{RoiRule}
 use Rattle.nd_roi.specs.Region.{region}
 use Rattle.chain_plain.specs.Passing.{out_of}
-use Rattle.chain_plain.specs.PassingLaws.{out_of-none}
-use Rattle.chain_plain.proofs.Rules.{out_of-roi, out_of-other}
+use Rattle.chain_plain.specs.PassingLaws.{out_of-none, out_of-roi, out_of-other}
 
 -- without a rule it is the stack's array
 pub array_of_none : (nodes : List NodeRule) (v : ℕ) (o : Option Array) → None ≡ rule_at nodes v → option_map (out_of region nodes v) o ≡ o

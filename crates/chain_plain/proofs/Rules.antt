@@ -1,7 +1,7 @@
 -- What a graph says of a node that has a rule.
-use Rattle.std.specs.Prelude.{◌≡◌, ◌≢◌, ℕ, zero, suc, ◌<◌, ◌≤◌, List, length, Some, None, IsTrue, slice_get, refl}
+use Rattle.std.specs.Prelude.{◌≡◌, ◌≢◌, ℕ, zero, suc, ◌<◌, ◌≤◌, List, length, Some, None, IsTrue, slice_get}
 use Rattle.std.specs.Option.{option_map_or}
-use Rattle.std.proofs.Common.{◌⊎◌, inl, inr, ap, sym, arith, subst, ◌∙◌, get_or}
+use Rattle.std.proofs.Common.{◌⊎◌, inl, inr, ap, sym, arith, subst, get_or}
 use Rattle.std.proofs.lemmas.Option.{slice_get_within, get_or_from_slice_get}
 use Rattle.nd_base.specs.declared.graph.Graph.{Graph}
 use Rattle.nd_base.specs.declared.graph.NodeRule.{NodeRule}
@@ -16,8 +16,6 @@ use Rattle.nd_base.specs.Shapes.{has_dimensions, sample_count, most_samples}
 use Rattle.nd_roi.specs.Cut.{region_dims}
 use Rattle.nd_roi.specs.CutLaws.{region_dims-count, region_dims-has_dimensions}
 use Rattle.nd_base.specs.GraphRules.{IsGraph, IsNode, IsKind, IsRoi, input_of, rule_at}
-use Rattle.chain_plain.specs.Passing.{by_kind, by_node, out_of}
-use Rattle.chain_plain.specs.PassingLaws.{out_of-step}
 use Rattle.chain_plain.proofs.Depths.{depth, depth-input}
 
 -- a node that has a rule: the rule is sound, and its input is nearer to the driver
@@ -42,22 +40,6 @@ stands g (suc k) r sound is =
       nearer = rw (← input) (depth-input g.nodes (length g.nodes) k (sound.acyclic (suc k) within));
     }
 
--- what goes out of it
-pub out_of-rule : {X : Type 0} (cut : RoiRule → X → X) (g : Graph) (v : ℕ) (r : NodeRule) (x : X) → IsGraph g → Some r ≡ rule_at g.nodes v
-    → out_of cut g.nodes v x ≡ by_node cut (Some r) (out_of cut g.nodes r.input x)
-out_of-rule cut g v r x sound is =
-    let s = stands g v r sound is in
-    out_of-step cut g v x sound
-    ∙ ap (λ w. by_node cut (rule_at g.nodes v) (out_of cut g.nodes w x)) s.input
-    ∙ ap (λ n. by_node cut n (out_of cut g.nodes r.input x)) (sym is)
-
-pub by_kind-other : {X : Type 0} (cut : RoiRule → X → X) (k : Kind) (x : X) → ((r : RoiRule) → k ≢ Roi r) → by_kind cut k x ≡ x
-by_kind-other cut (Roi r) x h = absurd (h r refl)
-by_kind-other cut (Stats r) x h = refl
-by_kind-other cut (Circular r) x h = refl
-by_kind-other cut (File r) x h = refl
-by_kind-other cut Scatter x h = refl
-
 -- the kinds that pass on what comes to them
 abbrev pub PassesOn : Kind → Type 0
 PassesOn k = ((r : StatsRule) × (k ≡ Stats r)) ⊎ (((r : CircularRule) × (k ≡ Circular r)) ⊎ (((r : FileRule) × (k ≡ File r)) ⊎ (k ≡ Scatter)))
@@ -71,17 +53,9 @@ no_roi k (inr (inr (inr a))) r e = let other : k ≡ Scatter = a in absurd (cc)
 pub roi_sound : (k : Kind) (r : RoiRule) → IsKind k → k ≡ Roi r → IsRoi r
 roi_sound k r sound is = subst IsKind is sound
 
--- what goes out of a region node
-pub out_of-roi : {X : Type 0} (cut : RoiRule → X → X) (g : Graph) (v : ℕ) (n : NodeRule) (r : RoiRule) (x : X) → IsGraph g → Some n ≡ rule_at g.nodes v
-    → n.kind ≡ Roi r → out_of cut g.nodes v x ≡ cut r (out_of cut g.nodes n.input x)
-out_of-roi cut g v n r x sound is kind =
-    out_of-rule cut g v n x sound is ∙ ap (λ k. by_kind cut k (out_of cut g.nodes n.input x)) kind
-
--- and of one of another kind
-pub out_of-other : {X : Type 0} (cut : RoiRule → X → X) (g : Graph) (v : ℕ) (n : NodeRule) (x : X) → IsGraph g → Some n ≡ rule_at g.nodes v
-    → ((r : RoiRule) → n.kind ≢ Roi r) → out_of cut g.nodes v x ≡ out_of cut g.nodes n.input x
-out_of-other cut g v n x sound is other =
-    out_of-rule cut g v n x sound is ∙ by_kind-other cut n.kind (out_of cut g.nodes n.input x) other
+-- the rule of a region node is sound
+pub roi-rule : (g : Graph) (v : ℕ) (n : NodeRule) (r : RoiRule) → IsGraph g → rule_at g.nodes v ≡ Some n → n.kind ≡ Roi r → IsRoi r
+roi-rule g v n r sound rule kind = roi_sound n.kind r (stands g v n sound (sym rule)).sound.kind kind
 
 -- a region has no more samples than an array may have
 pub region_few : (rule : RoiRule) (dims : List Dim) → IsTrue (has_dimensions dims) → sample_count dims ≤ most_samples

@@ -182,6 +182,12 @@ region-sound r s t h =
     let less = region_dims-count r s.dims h.dimensions in
     record { dimensions = region_dims-has_dimensions r s.dims h.dimensions; few = omega (arith, less, h.few) }
 
+-- what goes out of a node has the dimensions of an array
+pub shape-sound : (g : Graph) (stack : StackValue) (v : ℕ) → IsStack stack → IsArrayShape (shape_at g.nodes stack.shape v).dims
+shape-sound g stack v sound =
+    passed_on-both (λ (t u : Shape). IsArrayShape t.dims) region_shape region_shape region-sound g.nodes (length g.nodes) v
+    (stack_shape stack.shape) (stack_shape stack.shape) (record { dimensions = sound.dimensions; few = sound.few_samples })
+
 -- every maker of a plan has dimensions of an array
 abbrev pub PlansAreSound : Type 0
 PlansAreSound = (g : Graph) (s : StackValue) → IsStack s → All (λ m. IsArrayShape m.dims) (plan_of g s).makers
@@ -189,8 +195,7 @@ PlansAreSound = (g : Graph) (s : StackValue) → IsStack s → All (λ m. IsArra
 pub plans-sound : PlansAreSound
 plans-sound g s stack =
     All-map (λ m. IsArrayShape m.dims) (λ v. maker_of v (shape_at g.nodes s.shape v)) (0 ∷ regions g.nodes)
-    (always _ (0 ∷ regions g.nodes) (λ v. passed_on-both (λ t u. IsArrayShape t.dims) region_shape region_shape region-sound g.nodes (length g.nodes) v
-    (stack_shape s.shape) (stack_shape s.shape) (record { dimensions = stack.dimensions; few = stack.few_samples })))
+    (always _ (0 ∷ regions g.nodes) (λ v. shape-sound g s v stack))
 
 still_kind : (kind : Kind) (h : Head) → by_kind (λ r x. x) kind h ≡ h
 still_kind (Roi r) h = refl

@@ -7,4 +7,5 @@ pub mod OneThread
 pub mod PlainRun
 pub mod PassedLaws
 pub mod ContentLaws
+pub mod ContentBytes
 pub mod Worked

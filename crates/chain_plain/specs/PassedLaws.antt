@@ -1,5 +1,5 @@
 -- Laws of the positions that go out of nodes.
-use Rattle.std.specs.Prelude.{◌≡◌, ℕ, zero, suc, ◌+◌, ◌<◌, ◌≤◌, Bool, true, false, List, [], ◌∷◌, length, map, All, Option, Some, None, if◌then◌else◌, refl}
+use Rattle.std.specs.Prelude.{◌≡◌, ℕ, zero, suc, ◌+◌, ◌<◌, ◌≤◌, Bool, true, false, List, [], ◌∷◌, ◌++◌, length, map, All, Option, Some, None, if◌then◌else◌, refl}
 use Rattle.std.specs.List.{range_with_len}
 use Rattle.std.proofs.Common.{ap, sym, ◌∙◌, arith, length-append}
 use Rattle.std.proofs.lemmas.List.Elements.{All-nil, All-cons, All-head, All-tail, All-append, All-from_get_or}
@@ -105,3 +105,48 @@ passed_within-few nodes arrays (suc steps) v =
 -- what goes out of a node are at most as many as the stack has
 pub passed-few : (g : Graph) (s : StackValue) (v : ℕ) → length (passed g s v) ≤ length s.arrays
 passed-few g s v = passed_within-few g.nodes s.arrays (length g.nodes) v
+
+-- IN THE ORDER OF THE STACK
+
+-- each is above all before it
+abbrev pub AreRising : List ℕ → Type 0
+AreRising [] = Unit {0}
+AreRising (k ∷ ks) = All (λ p. k < p) ks × AreRising ks
+
+one-rising : (b : Bool) (k : ℕ) (ks : List ℕ) → All (λ p. k < p) ks → AreRising ks → AreRising ((if b then k ∷ [] else []) ++ ks)
+one-rising true k ks above h = (above, h)
+one-rising false k ks above h = h
+
+at_positions-rising : (test : ℕ → Bool) (at : ℕ) (ks : List ℕ) → AreRising ks → AreRising (at_positions test at ks)
+at_positions-rising test at [] h = tt
+at_positions-rising test at (k ∷ ks) h =
+    one-rising (test at) k (at_positions test (at + 1) ks) (at_positions-all (λ p. k < p) test (at + 1) ks h.0) (at_positions-rising test (at + 1) ks h.1)
+
+kind_outputs-rising : (kind : Kind) (arrays : List Array) (ks : List ℕ) → AreRising ks → AreRising (kind_outputs kind arrays ks)
+kind_outputs-rising (Circular r) arrays ks h = at_positions-rising (is_passed r.pre r.post r.preset (map (fires_at r arrays) ks)) 0 ks h
+kind_outputs-rising (Roi r) arrays ks h = h
+kind_outputs-rising (Stats r) arrays ks h = h
+kind_outputs-rising (File r) arrays ks h = h
+kind_outputs-rising Scatter arrays ks h = h
+
+rule_outputs-rising : (rule : Option NodeRule) (arrays : List Array) (ks : List ℕ) → AreRising ks → AreRising (rule_outputs rule arrays ks)
+rule_outputs-rising None arrays ks h = h
+rule_outputs-rising (Some n) arrays ks h = kind_outputs-rising n.kind arrays ks h
+
+range-rising : (a n : ℕ) → AreRising (range_with_len a n)
+range-rising a zero = tt
+range-rising a (suc n) = (
+  All-from_get_or (λ p. a < p) (range_with_len (a + 1) n) 0 (λ i within.
+      let inside : i < n = omega (arith, length-range_with_len (a + 1) n, within) in
+      omega (arith, get_or-range_with_len (a + 1) n i 0 inside)),
+  range-rising (a + 1) n,
+)
+
+passed_within-rising : (nodes : List NodeRule) (arrays : List Array) (steps v : ℕ) → AreRising (passed_within nodes arrays steps v)
+passed_within-rising nodes arrays zero v = range-rising 0 (length arrays)
+passed_within-rising nodes arrays (suc steps) v =
+    rule_outputs-rising (rule_at nodes v) arrays (passed_within nodes arrays steps (input_of nodes v)) (passed_within-rising nodes arrays steps (input_of nodes v))
+
+-- what goes out of a node goes in the order of the stack
+pub passed-rising : (g : Graph) (s : StackValue) (v : ℕ) → AreRising (passed g s v)
+passed-rising g s v = passed_within-rising g.nodes s.arrays (length g.nodes) v

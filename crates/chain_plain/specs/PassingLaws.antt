@@ -1,5 +1,5 @@
 -- Laws of what goes out of nodes: a node acts on what goes out of its input.
-use Rattle.std.specs.Prelude.{◌≡◌, ℕ, zero, suc, ◌≤◌, Bool, true, false, List, length, Option, Some, None, if◌then◌else◌, IsTrue, refl}
+use Rattle.std.specs.Prelude.{◌≡◌, ◌≢◌, ℕ, zero, suc, ◌≤◌, Bool, true, false, List, length, Option, Some, None, if◌then◌else◌, IsTrue, refl}
 use Rattle.std.specs.Option.{option_map_or}
 use Rattle.std.proofs.Common.{◌⊎◌, inl, inr, ap, sym, arith, ◌∙◌}
 use Rattle.std.proofs.lemmas.Option.{slice_get_within}
@@ -72,6 +72,33 @@ step_by cut g v x sound (Some n) h =
 pub out_of-step : {X : Type 0} (cut : RoiRule → X → X) (g : Graph) (v : ℕ) (x : X) → IsGraph g
     → out_of cut g.nodes v x ≡ by_node cut (rule_at g.nodes v) (out_of cut g.nodes (input_of g.nodes v) x)
 out_of-step cut g v x sound = step_by cut g v x sound (rule_at g.nodes v) refl
+
+-- what goes out of a node that has a rule
+out_of-rule : {X : Type 0} (cut : RoiRule → X → X) (g : Graph) (v : ℕ) (r : NodeRule) (x : X) → IsGraph g → Some r ≡ rule_at g.nodes v
+    → out_of cut g.nodes v x ≡ by_node cut (Some r) (out_of cut g.nodes r.input x)
+out_of-rule cut g v r x sound is =
+    out_of-step cut g v x sound
+    ∙ ap (λ w. by_node cut (rule_at g.nodes v) (out_of cut g.nodes w x)) (input_some g.nodes v r is)
+    ∙ ap (λ n. by_node cut n (out_of cut g.nodes r.input x)) (sym is)
+
+by_kind-other : {X : Type 0} (cut : RoiRule → X → X) (k : Kind) (x : X) → ((r : RoiRule) → k ≢ Roi r) → by_kind cut k x ≡ x
+by_kind-other cut (Roi r) x h = absurd (h r refl)
+by_kind-other cut (Stats r) x h = refl
+by_kind-other cut (Circular r) x h = refl
+by_kind-other cut (File r) x h = refl
+by_kind-other cut Scatter x h = refl
+
+-- what goes out of a region node
+pub out_of-roi : {X : Type 0} (cut : RoiRule → X → X) (g : Graph) (v : ℕ) (n : NodeRule) (r : RoiRule) (x : X) → IsGraph g → Some n ≡ rule_at g.nodes v
+    → n.kind ≡ Roi r → out_of cut g.nodes v x ≡ cut r (out_of cut g.nodes n.input x)
+out_of-roi cut g v n r x sound is kind =
+    out_of-rule cut g v n x sound is ∙ ap (λ k. by_kind cut k (out_of cut g.nodes n.input x)) kind
+
+-- and of one of another kind
+pub out_of-other : {X : Type 0} (cut : RoiRule → X → X) (g : Graph) (v : ℕ) (n : NodeRule) (x : X) → IsGraph g → Some n ≡ rule_at g.nodes v
+    → ((r : RoiRule) → n.kind ≢ Roi r) → out_of cut g.nodes v x ≡ out_of cut g.nodes n.input x
+out_of-other cut g v n x sound is other =
+    out_of-rule cut g v n x sound is ∙ by_kind-other cut n.kind (out_of cut g.nodes n.input x) other
 
 -- a node that is no region node passes on what comes to it
 kind_still : {X : Type 0} (cut : RoiRule → X → X) (k : Kind) (x : X) → makes_arrays k ≡ false → by_kind cut k x ≡ x

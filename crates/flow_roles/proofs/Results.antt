@@ -1,16 +1,16 @@
 -- What frames and results hold.
 use Rattle.std.proofs.Common.{◌≡◌, ℕ, ◌<◌, ◌≤◌, ◌*◌, ◌^◌, Bool, true, false, cond, eqb, ℤ, List, [], ◌∷◌, length, map, refl, sym, ap, ◌∙◌, subst, subst₂, arith, Option, Some, None, Result, Ok, Err, inl, inr}
-use Rattle.std.specs.Prelude.{is_some, IfSome, IfOk, IsSomeAnd, slice_get, find}
+use Rattle.std.specs.Prelude.{is_some, IfSome, IfOk, slice_get, find}
 use Rattle.std.specs.Option.{option_map, option_map_or}
 use Rattle.std.proofs.lemmas.Bool.{cases_Bool, false≢true}
 use Rattle.std.proofs.lemmas.Nat.{mul-le}
 use Rattle.std.proofs.lemmas.List.{length-map}
 use Rattle.std.proofs.lemmas.Option.{slice_get_cases}
 use Rattle.nd_base.specs.Array.{Array, StackValue}
-use Rattle.nd_base.specs.GraphRules.{IsGraph, IsRoi, IsStats, IsKind, rule_at, makes_arrays}
+use Rattle.nd_base.specs.GraphRules.{IsGraph, IsStats, IsKind, rule_at, makes_arrays}
 use Rattle.nd_base.specs.Samples.{width, samples_of}
 use Rattle.nd_base.specs.Shapes.{sample_count}
-use Rattle.nd_base.specs.Stacks.{frame_size, IsStack, HasShape, head_of}
+use Rattle.nd_base.specs.Stacks.{frame_size, IsStack, head_of}
 use Rattle.nd_base.specs.declared.array.Dim.{Dim}
 use Rattle.nd_base.specs.declared.array.Head.{Head}
 use Rattle.nd_base.specs.declared.array.SampleType.{SampleType}
@@ -27,22 +27,19 @@ use Rattle.nd_base.specs.declared.graph.StatsRule.{StatsRule}
 use Rattle.nd_base.specs.declared.measure.Measure.{Measure}
 use Rattle.nd_base.specs.declared.plan.Maker.{Maker}
 use Rattle.nd_base.specs.declared.plan.Plan.{Plan}
-use Rattle.nd_roi.specs.Cut.{region_dims}
-use Rattle.nd_roi.specs.Region.{region, region_samples, out_type}
-use Rattle.nd_roi.specs.RegionLaws.{length-region_samples}
+use Rattle.nd_roi.specs.Region.{region}
 use Rattle.nd_stats.specs.Measured.{measured, measure_of}
 use Rattle.nd_stats.specs.Samples.{placed}
 use Rattle.trig_window.specs.Triggers.{trigger_fires}
 use Rattle.chain_plain.specs.declared.shape.Shape.{Shape}
-use Rattle.chain_plain.specs.Content.{content}
-use Rattle.chain_plain.specs.ContentLaws.{content-driver, content-maker, content-region, content-head, IsOfShape, IsArrayShape, out_of-shape, passed_on-both}
+use Rattle.chain_plain.specs.Content.{content, IsContent}
+use Rattle.chain_plain.specs.ContentBytes.{Input, frame-content, input-of}
+use Rattle.chain_plain.specs.ContentLaws.{content-maker, content-head}
 use Rattle.chain_plain.specs.Nodes.{maker_at, regions}
-use Rattle.chain_plain.specs.Passing.{out_of}
 use Rattle.chain_plain.specs.PassingLaws.{IsMaker, maker_makes, out_of-driver, input_some}
 use Rattle.chain_plain.specs.Plans.{maker_of, makers_of, plan_of, region_shape, stack_shape, shape_at}
 use Rattle.chain_plain.proofs.Found.{maker_of_region, found}
-use Rattle.chain_plain.proofs.Rules.{stands, out_of-roi, region_few, region_dimensions}
-use Rattle.frame_store.specs.Content.{AreSamples, IsContent}
+use Rattle.chain_plain.proofs.Rules.{stands}
 use Rattle.frame_store.specs.Sealed.{Sealed}
 use Rattle.flow_journal.specs.Setting.{Setting, Node, makes, node, is_node, is_maker}
 use Rattle.flow_journal.specs.RunSetting.{work_of, need_of, node_fires, kind_fires}
@@ -59,23 +56,6 @@ use Rattle.flow_roles.proofs.Named.{node-rule}
 
 -- THE DRIVER'S FRAMES
 
-pub frame-content : (g : Graph) (stack : StackValue) (k : ℕ) (bytes : List ℕ) → IsStack stack → k < length stack.arrays
-    → IfSome (slice_get stack.arrays k) (λ (a : Array). samples_of stack.shape.kind bytes ≡ a.samples) → length bytes ≡ frame_size stack.shape
-    → IsContent g stack (frame 0 k) bytes
-frame-content g stack k bytes sound within samples size =
-    elim (slice_get_cases stack.arrays k).1 [
-      | inl is ↦
-          let a = is.0 in
-          let shape : HasShape stack.shape a = subst (HasShape stack.shape) is.3 (sound.frames k a is.1) in
-          let here = subst (λ (o : Option Array). IfSome o (λ (b : Array). samples_of stack.shape.kind bytes ≡ b.samples)) is.2 samples in
-          subst (λ (o : Option Array). IsSomeAnd o (λ (b : Array). AreSamples b bytes)) (sym (content-driver g.nodes stack.arrays k ∙ is.2))
-          (record {
-            size = size ∙ (ap (λ (n : ℕ). n * width stack.shape.kind) (sym shape.count) ∙ ap (λ t. length a.samples * width t) (sym shape.kind));
-            samples = ap (λ t. samples_of t bytes) shape.kind ∙ here;
-          })
-      | inr past_ ↦ absurd (omega (arith, within, past_.0))
-    ]
-
 -- the bytes that a load of the run wants are those of a frame
 pub need-frame : (g : Graph) (stack : StackValue) → (run_setting g stack).need 0 ≡ frame_size stack.shape
 need-frame g stack =
@@ -84,79 +64,14 @@ need-frame g stack =
 
 -- WHAT COMES TO A NODE
 
-pub shape-sound : (g : Graph) (stack : StackValue) (w : ℕ) → IsStack stack → IsArrayShape (shape_at g.nodes stack.shape w).dims
-shape-sound g stack w sound =
-    passed_on-both (λ (t u : Shape). IsArrayShape t.dims) region_shape region_shape
-    (λ r t u h. record { dimensions = region_dimensions r t.dims h.dimensions; few = region_few r t.dims h.dimensions h.few })
-    g.nodes (length g.nodes) w (stack_shape stack.shape) (stack_shape stack.shape) (record { dimensions = sound.dimensions; few = sound.few_samples })
-
-some-same : {X : Type 0} {x y : X} → Some x ≡ Some y → x ≡ y
-some-same h = cc
-
-none-some : {X : Type 0} {x : X} → None ≡ Some x → ⊥
-none-some h = cc
-
-shaped : (g : Graph) (stack : StackValue) (w : ℕ) (k : ℕ) (a : Array) (o : Option Array) → IsStack stack → o ≡ slice_get stack.arrays k
-    → option_map (out_of region g.nodes w) o ≡ Some a → IsOfShape a (shape_at g.nodes stack.shape w) × (k < length stack.arrays)
-shaped g stack w k a None sound is h = absurd (none-some h)
-shaped g stack w k a (Some b) sound is h =
-    elim (slice_get_cases stack.arrays k).1 [
-      | inl at ↦
-          let same_ : at.0 ≡ b = some-same (sym at.2 ∙ sym is) in
-          let shape : HasShape stack.shape b = subst (HasShape stack.shape) (at.3 ∙ same_) (sound.frames k at.0 at.1) in
-          (subst (λ (c : Array). IsOfShape c (shape_at g.nodes stack.shape w)) (some-same h) (out_of-shape g.nodes stack.shape w b shape), at.1)
-      | inr past_ ↦ absurd (none-some (sym (is ∙ past_.1)))
-    ]
-
--- the array that comes to a node, with the bytes of its frame and what the plan says of it
-pub record Input (g : Graph) (stack : StackValue) (v : ℕ) (n : NodeRule) (m : Maker) (name : FrameName) (bytes : List ℕ) : Type 0 where
-  pub array : Array
-  pub named : content g.nodes stack.arrays name ≡ Some array
-  pub made : content g.nodes stack.arrays (frame (maker_at g.nodes n.input) name.index) ≡ Some array
-  pub kind : array.kind ≡ m.kind
-  pub dims : array.dims ≡ m.dims
-  pub size : length bytes ≡ sample_count m.dims * width m.kind
-  pub samples : samples_of m.kind bytes ≡ array.samples
-  pub within : name.index < length stack.arrays
-
-content-some : (g : Graph) (stack : StackValue) (name : FrameName) (bytes : List ℕ) (o : Option Array) → content g.nodes stack.arrays name ≡ o
-    → IsSomeAnd o (λ (a : Array). AreSamples a bytes) → (a : Array) × (content g.nodes stack.arrays name ≡ Some a) × AreSamples a bytes
-content-some g stack name bytes None is h = absurd h
-content-some g stack name bytes (Some a) is h = (a, is, h)
-
 pub input-is : (g : Graph) (stack : StackValue) (v : ℕ) (n : NodeRule) (m : Maker) (input : Sealed) (bytes : List ℕ) → IsGraph g → IsStack stack
     → rule_at g.nodes v ≡ Some n → m ≡ maker_of m.node (shape_at g.nodes stack.shape n.input) → ComesTo g v input → IsContent g stack input.name bytes
-    → Input g stack v n m input.name bytes
+    → Input g stack n m input.name bytes
 input-is g stack v n m input bytes sound stack_ rule maker comes holds =
-    let c = content-some g stack input.name bytes (content g.nodes stack.arrays input.name) refl holds in
     let k = input.name.index in
     let name_ : input.name.maker ≡ maker_at g.nodes n.input = comes ∙ ap (λ (w : ℕ). maker_at g.nodes w) (input_some g.nodes v n (sym rule)) in
-    let made_ : content g.nodes stack.arrays (frame (maker_at g.nodes n.input) k) ≡ Some c.0 =
-    ap (λ (w : ℕ). content g.nodes stack.arrays (frame w k)) (sym name_) ∙ c.1 in
-    let above : content g.nodes stack.arrays (frame n.input k) ≡ Some c.0 = content-maker g stack.arrays n.input k sound ∙ made_ in
-    let shape = shaped g stack n.input k c.0 (slice_get stack.arrays k) stack_ refl above in
-    let kind_ : c.0.kind ≡ m.kind = shape.0.kind ∙ sym (ap (λ (x : Maker). x.kind) maker) in
-    let dims_ : c.0.dims ≡ m.dims = shape.0.dims ∙ sym (ap (λ (x : Maker). x.dims) maker) in
-    let count_ : length c.0.samples ≡ sample_count m.dims = shape.0.count ∙ sym (ap (λ (x : Maker). sample_count x.dims) maker) in
-    record {
-      array = c.0;
-      named = c.1;
-      made = made_;
-      kind = kind_;
-      dims = dims_;
-      size = c.2.size ∙ (ap (λ (i : ℕ). i * width c.0.kind) count_ ∙ ap (λ t. sample_count m.dims * width t) kind_);
-      samples = ap (λ t. samples_of t bytes) (sym kind_) ∙ c.2.samples;
-      within = shape.1;
-    }
-
--- a frame's index is one of the stack
-pub index-within : (g : Graph) (stack : StackValue) (name : FrameName) (bytes : List ℕ) → IsContent g stack name bytes → name.index < length stack.arrays
-index-within g stack name bytes holds =
-    let c = content-some g stack name bytes (content g.nodes stack.arrays name) refl holds in
-    elim (slice_get_cases stack.arrays name.index).1 [
-      | inl at ↦ at.1
-      | inr past_ ↦ absurd (none-some (sym (ap (option_map (out_of region g.nodes name.maker)) past_.1) ∙ c.1))
-    ]
+    input-of g stack n m input.name bytes sound stack_ maker
+    (ap (λ (w : ℕ). content g.nodes stack.arrays (frame w k)) name_ ∙ sym (content-maker g stack.arrays n.input k sound)) holds
 
 -- REGIONS
 
@@ -177,17 +92,6 @@ need-region g stack v n r sound rule kind =
     let maker : IsMaker g.nodes v = subst (IsMaker g.nodes) itself (maker_makes g.nodes (length g.nodes) v) in
     need-found (map f (0 ∷ regions g.nodes)) v ∙ ap (λ (o : Option Maker). option_map_or (λ (k : Maker). k.need) o 0) (found f g.nodes v (λ w. refl) maker)
 
--- what a region node makes has the shape of the region
-pub region-need : (g : Graph) (stack : StackValue) (v : ℕ) (n : NodeRule) (r : RoiRule) (from to : Maker) → IsGraph g
-    → rule_at g.nodes v ≡ Some n → n.kind ≡ Roi r
-    → from ≡ maker_of from.node (shape_at g.nodes stack.shape n.input) → to ≡ maker_of to.node (shape_at g.nodes stack.shape v)
-    → to.need ≡ sample_count (region_dims r from.dims) * width (out_type r from.kind)
-region-need g stack v n r from to sound rule kind is made =
-    let shape : shape_at g.nodes stack.shape v ≡ region_shape r (shape_at g.nodes stack.shape n.input) =
-    out_of-roi region_shape g v n r (stack_shape stack.shape) sound (sym rule) kind in
-    ap (λ (x : Maker). x.need) made ∙ (ap (λ (t : Shape). sample_count t.dims * width t.kind) shape
-    ∙ sym (ap (λ (x : Maker). sample_count (region_dims r x.dims) * width (out_type r x.kind)) is))
-
 pub region-room : (g : Graph) (stack : StackValue) (v size : ℕ) (n : NodeRule) (r : RoiRule) (to : Maker) → IsGraph g
     → rule_at g.nodes v ≡ Some n → n.kind ≡ Roi r
     → to ≡ maker_of to.node (shape_at g.nodes stack.shape v) → (run_setting g stack).need v ≤ size → to.need ≤ size
@@ -195,27 +99,13 @@ region-room g stack v size n r to sound rule kind made room =
     let same_ : (run_setting g stack).need v ≡ to.need = need-region g stack v n r sound rule kind ∙ sym (ap (λ (x : Maker). x.need) made) in
     subst (λ (i : ℕ). i ≤ size) same_ room
 
-pub region-content : (g : Graph) (stack : StackValue) (v : ℕ) (n : NodeRule) (r : RoiRule) (m : Maker) (name : FrameName) (bytes out : List ℕ) → IsGraph g
-    → rule_at g.nodes v ≡ Some n → n.kind ≡ Roi r → Input g stack v n m name bytes
-    → length out ≡ sample_count (region_dims r m.dims) * width (out_type r m.kind)
-    → samples_of (out_type r m.kind) out ≡ region_samples r m.kind m.dims (samples_of m.kind bytes) → IsContent g stack (frame v name.index) out
-region-content g stack v n r m name bytes out sound rule kind i size samples =
-    let a = i.array in
-    let made_ : content g.nodes stack.arrays (frame v name.index) ≡ Some (region r a) =
-    content-region g stack.arrays v name.index n r sound rule kind ∙ ap (option_map (region r)) i.made in
-    let shape : (dims : List Dim) → dims ≡ m.dims → length (region_samples r a.kind dims a.samples) ≡ sample_count (region_dims r m.dims) =
-    λ dims same_. length-region_samples r a.kind dims a.samples ∙ ap (λ (d : List Dim). sample_count (region_dims r d)) same_ in
-    subst (λ (o : Option Array). IsSomeAnd o (λ (b : Array). AreSamples b out)) (sym made_)
-    (record {
-      size =
-          size
-          ∙ (ap (λ (c : ℕ). c * width (out_type r m.kind)) (sym (shape a.dims i.dims))
-          ∙ ap (λ t. length (region_samples r a.kind a.dims a.samples) * width (out_type r t)) (sym i.kind));
-      samples = ap (λ t. samples_of (out_type r t) out) i.kind ∙ (samples ∙ (ap (λ t. region_samples r t m.dims (samples_of m.kind bytes)) (sym i.kind)
-          ∙ (ap (λ (d : List Dim). region_samples r a.kind d (samples_of m.kind bytes)) (sym i.dims) ∙ ap (region_samples r a.kind a.dims) i.samples)));
-    })
-
 -- MEASURES
+
+some-same : {X : Type 0} {x y : X} → Some x ≡ Some y → x ≡ y
+some-same h = cc
+
+none-some : {X : Type 0} {x : X} → None ≡ Some x → ⊥
+none-some h = cc
 
 heads-same : (o : Option Array) (a : Array) (h : Head) → option_map head_of (Some a) ≡ option_map head_of o
     → IfSome o (λ (b : Array). head_of b ≡ h) → head_of a ≡ h
@@ -224,7 +114,7 @@ heads-same (Some b) a h e i = some-same e ∙ i
 
 pub measure-is : (g : Graph) (stack : StackValue) (v : ℕ) (n : NodeRule) (r : StatsRule) (m : Maker) (name : FrameName) (bytes : List ℕ)
     (h : Head) (x : Measure)
-    → rule_at g.nodes v ≡ Some n → n.kind ≡ Stats r → Input g stack v n m name bytes → IfSome (slice_get stack.arrays name.index) (λ (b : Array). head_of b ≡ h)
+    → rule_at g.nodes v ≡ Some n → n.kind ≡ Stats r → Input g stack n m name bytes → IfSome (slice_get stack.arrays name.index) (λ (b : Array). head_of b ≡ h)
     → x ≡ measure_of r h.id m.kind m.dims 0 bytes → run_measure g stack v name ≡ Some x
 unfolding measure_of
 measure-is g stack v n r m name bytes h x rule kind i head is =
@@ -337,17 +227,10 @@ pub maker-own : (g : Graph) (stack now : StackValue) (p : Plan) (m : Maker) (v :
 maker-own g stack now p m v is here_ made =
     subst₂ (λ (h : Graph) (s : StackValue). m ≡ maker_of m.node (shape_at h.nodes s.shape v)) (ap (λ (q : Plan). q.graph) is) here_ made
 
-pub maker-sound : (g : Graph) (stack : StackValue) (m : Maker) (v : ℕ) → IsStack stack
-    → m ≡ maker_of m.node (shape_at g.nodes stack.shape v) → IsArrayShape m.dims
-maker-sound g stack m v sound made = subst (λ (x : Maker). IsArrayShape x.dims) (sym made) (shape-sound g stack v sound)
-
 pub stack-sound : (stack now : StackValue) → now ≡ stack → IsStack now → IsStack stack
 stack-sound stack now is sound = subst IsStack is sound
 
--- the rules of nodes are sound
-pub roi-rule : (g : Graph) (v : ℕ) (n : NodeRule) (r : RoiRule) → IsGraph g → rule_at g.nodes v ≡ Some n → n.kind ≡ Roi r → IsRoi r
-roi-rule g v n r sound rule kind = subst IsKind kind (stands g v n sound (sym rule)).sound.kind
-
+-- the rule of a statistics node is sound
 pub stats-rule : (g : Graph) (v : ℕ) (n : NodeRule) (r : StatsRule) → IsGraph g → rule_at g.nodes v ≡ Some n → n.kind ≡ Stats r → IsStats r
 stats-rule g v n r sound rule kind = subst IsKind kind (stands g v n sound (sym rule)).sound.kind
 
@@ -363,7 +246,7 @@ ok-some f (Err e) P h all = tt
 pub measure-for : {E : Type 0}
     (g : Graph) (stack now : StackValue) (v : ℕ) (n : NodeRule) (r : StatsRule) (m : Maker) (name : FrameName) (bytes : List ℕ) (h : Head) (k : ℕ)
     (z : ℤ) (dims : List Dim) (a : Result Measure E) → z ≡ h.id → dims ≡ m.dims → now ≡ stack → rule_at g.nodes v ≡ Some n → n.kind ≡ Stats r
-    → Input g stack v n m name bytes → k ≡ name.index
+    → Input g stack n m name bytes → k ≡ name.index
     → IfSome (slice_get now.arrays k) (λ (b : Array). head_of b ≡ h) → IfOk a (λ x. x ≡ measure_of r z m.kind dims 0 bytes)
     → IfOk a (λ x. run_measure g stack v name ≡ Some x)
 measure-for {E} g stack now v n r m name bytes h k z dims a id_ dims_ is rule kind i index head made =

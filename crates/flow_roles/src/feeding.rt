@@ -3,7 +3,7 @@
 ghost use Rattle.std.specs.Prelude.{◌≡◌, ◌<◌, ◌≤◌, ◌^◌, ◌++◌, length, drop, IsTrue, true, [], ◌∷◌};
 ghost use Rattle.std.specs.List.{list_all};
 ghost use Rattle.nd_base.specs.Stacks.{frame_size};
-ghost use Rattle.frame_store.specs.Content.{IsContent};
+ghost use Rattle.chain_plain.specs.Content.{IsContent};
 ghost use Rattle.flow_journal.specs.Hands.{hand};
 ghost use Rattle.board_rules.specs.States.{past, lent_to};
 ghost use Rattle.board_rules.specs.RunMeasures.{run_setting};

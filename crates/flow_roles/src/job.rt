@@ -8,7 +8,7 @@ ghost use Rattle.nd_base.specs.declared.graph.Kind.TheVariants.{Roi, Stats, Circ
 ghost use Rattle.nd_roi.specs.Cut.{region_dims};
 ghost use Rattle.nd_roi.specs.Region.{out_type, region_samples};
 ghost use Rattle.nd_base.specs.Stacks.{IsStack};
-ghost use Rattle.frame_store.specs.Content.{IsContent};
+ghost use Rattle.chain_plain.specs.Content.{IsContent};
 ghost use Rattle.chain_plain.specs.ContentLaws.{IsArrayShape};
 ghost use Rattle.chain_plain.specs.Plans.{plan_of, maker_of, shape_at};
 ghost use Rattle.flow_journal.specs.Setting.{is_node};

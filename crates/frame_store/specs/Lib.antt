@@ -1,4 +1,3 @@
-pub mod Content
 pub mod Sealed
 pub mod Lending
 pub mod WorkedRun

@@ -8,7 +8,7 @@ use Rattle.nd_base.specs.declared.array.SampleType.TheVariants.{UInt8}
 use Rattle.nd_base.specs.declared.form.Form.TheVariants.{Classic}
 use Rattle.nd_base.specs.declared.frame.FrameName.{FrameName}
 use Rattle.nd_base.specs.declared.graph.Graph.{Graph}
-use Rattle.frame_store.specs.Content.{IsContent}
+use Rattle.chain_plain.specs.Content.{IsContent}
 
 -- unsigned bytes in one row
 abbrev pub row_of : List ℕ → Array

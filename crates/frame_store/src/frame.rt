@@ -1,7 +1,7 @@
 //! Frames: storage under a name, in parts.
 
 ghost use Rattle.std.specs.Prelude.{◌≡◌, ◌↔◌, ◌+◌, ◌-◌, ◌≤◌, ◌^◌, length, take, IfOk, IfErr, IsOk};
-ghost use Rattle.frame_store.specs.Content.{IsContent};
+ghost use Rattle.chain_plain.specs.Content.{IsContent};
 
 use crate::Blank;
 use nd_base::{FrameName, Held, Named, OutOfMemory, Run};
@@ -27,7 +27,7 @@ pub struct Frame<R: Run> {
 
 impl<R: Run> Model for Frame<R> {
     ghost use Rattle.std.specs.Prelude.{◌≡◌, ◌<◌, ◌≤◌, ◌^◌, length, take};
-    ghost use Rattle.frame_store.specs.Content.{IsContent};
+    ghost use Rattle.chain_plain.specs.Content.{IsContent};
     ghost use Rattle.frame_store.specs.Sealed.{Sealed};
 
     ghost Value = { Sealed };

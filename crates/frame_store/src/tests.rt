@@ -1,7 +1,7 @@
 //! What no clause says: that storage comes back when a frame is dropped, and that the calls go on as they should with real memory.
 
 ghost use Rattle.std.specs.Prelude.{◌≡◌, ◌≤◌, ◌<◌, ◌^◌, ◌++◌, length, drop, IfOk};
-ghost use Rattle.frame_store.specs.Content.{IsContent};
+ghost use Rattle.chain_plain.specs.Content.{IsContent};
 
 use crate::{Blank, Frame};
 use nd_base::{FrameName, Held, Named, OutOfMemory, Run};

@@ -3,8 +3,8 @@ use Rattle.nd_base.specs.declared.array.Dim.{Dim}
 use Rattle.chain_plain.specs.declared.shape.Shape.{Shape}
 use Rattle.nd_base.specs.GraphRules.{rule_at}
 use Rattle.chain_plain.specs.Plans.{region_shape, stack_shape, shape_at}
-use Rattle.chain_plain.specs.PassingLaws.{out_of-none}
-use Rattle.chain_plain.proofs.Rules.{stands, out_of-roi, out_of-other, roi_sound, no_roi}
+use Rattle.chain_plain.specs.PassingLaws.{out_of-none, out_of-roi, out_of-other}
+use Rattle.chain_plain.proofs.Rules.{stands, roi_sound, no_roi}
 use Rattle.chain_plain.proofs.shape.+shape_at.Goals as goal
 
 pub returns-in_default-clause-value : goal.returns-in_default-clause-value

@@ -1,6 +1,6 @@
 use Rattle.std.proofs.Common.{◌<◌, length, sym, subst}
 use Rattle.nd_base.specs.declared.frame.FrameName.{FrameName}
-use Rattle.flow_roles.proofs.Results.{index-within}
+use Rattle.chain_plain.specs.ContentBytes.{index-within}
 use Rattle.flow_roles.proofs.job.index_of.Goals as goal
 
 pub returns-clause-there : goal.returns-clause-there

@@ -1,4 +1,5 @@
-use Rattle.flow_roles.proofs.Results.{plan-sound, plan-own, maker-own, maker-sound, stack-sound}
+use Rattle.chain_plain.specs.ContentBytes.{maker-sound}
+use Rattle.flow_roles.proofs.Results.{plan-sound, plan-own, maker-own, stack-sound}
 use Rattle.flow_roles.proofs.job.made_by.Goals as goal
 
 pub maker_for-requires-clause-graph : goal.maker_for-requires-clause-graph

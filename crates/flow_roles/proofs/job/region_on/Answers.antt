@@ -1,8 +1,10 @@
 use Rattle.std.proofs.Common.{sym, ap, ◌∙◌, subst, length}
 use Rattle.nd_base.specs.declared.frame.FrameName.{FrameName}
-use Rattle.frame_store.specs.Content.{IsContent}
+use Rattle.chain_plain.specs.Content.{IsContent}
 use Rattle.flow_journal.specs.Pasts.{frame}
-use Rattle.flow_roles.proofs.Results.{input-is, roi-rule, region-need, region-room, region-content}
+use Rattle.chain_plain.specs.ContentBytes.{region-need, region-content}
+use Rattle.chain_plain.proofs.Rules.{roi-rule}
+use Rattle.flow_roles.proofs.Results.{input-is, region-room}
 use Rattle.flow_roles.proofs.job.region_on.Goals as goal
 
 pub cut_on-requires-clause-rule : goal.cut_on-requires-clause-rule
