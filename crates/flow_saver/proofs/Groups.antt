@@ -40,7 +40,7 @@ use Rattle.flow_drain.proofs.Rounds.{node-above}
 use Rattle.graph_files.specs.Groups.{group_of, whole_file, HasBytes}
 use Rattle.graph_files.specs.NodeFiles.{NodeFile, IsOpenAfter, IsFilled, Same, group_file, name_of, node_file}
 use Rattle.graph_files.proofs.Writes.{end-rows}
-use Rattle.flow_saver.proofs.BegunBytes.{GroupHas, Nothing, Whole, Opened, group-has}
+use Rattle.graph_files.proofs.BegunBytes.{GroupHas, Nothing, Whole, Opened, group-has}
 use Rattle.graph_files.specs.OpenFiles.{kind_node, nodes_from, file_nodes, closed}
 use Rattle.graph_files.specs.OpenFileLaws.{of_node}
 use Rattle.graph_files.specs.EndedFiles.{AllEnded}

@@ -16,7 +16,6 @@ pub mod Handing
 pub mod Remains
 pub mod Groups
 pub mod RowFiles
-pub mod BegunBytes
 pub mod TornHistory
 pub mod RestLoops
 pub mod TornEnd

@@ -9,10 +9,9 @@ use Rattle.nd_base.specs.GraphRules.{IsGraph}
 use Rattle.nd_base.specs.declared.array.Head.{Head}
 use Rattle.nd_base.specs.declared.frame.FrameName.{FrameName}
 use Rattle.nd_base.specs.declared.graph.Graph.{Graph}
-use Rattle.frame_store.specs.Content.{AreSamples, IsContent}
+use Rattle.chain_plain.specs.Content.{AreSamples, IsContent, content}
 use Rattle.nd_roi.specs.Region.{region}
 use Rattle.nd_stack.specs.KeptStacks.{IsKeptStack}
-use Rattle.chain_plain.specs.Content.{content}
 use Rattle.chain_plain.specs.ContentLaws.{frame, out_of-head, content-maker}
 use Rattle.chain_plain.specs.Nodes.{maker_at}
 use Rattle.chain_plain.specs.Passing.{out_of}

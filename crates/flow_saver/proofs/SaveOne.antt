@@ -8,7 +8,7 @@ use Rattle.nd_base.specs.GraphRules.{IsGraph}
 use Rattle.nd_base.specs.declared.frame.FrameName.{FrameName}
 use Rattle.nd_base.specs.declared.graph.Graph.{Graph}
 use Rattle.edge_traits.specs.Files.{Files}
-use Rattle.frame_store.specs.Content.{AreSamples, IsContent}
+use Rattle.chain_plain.specs.Content.{AreSamples, IsContent}
 use Rattle.frame_store.specs.Sealed.{Sealed}
 use Rattle.file_out.specs.declared.fault.SaveFault.{SaveFault}
 use Rattle.file_out.specs.declared.fault.SaveFault.TheVariants.{Failed, OutOfMemory}

@@ -31,10 +31,11 @@ use Rattle.run_laws.specs.Results.{contents}
 use Rattle.flow_journal.specs.Unsaved.{standing_saves}
 use Rattle.flow_saver.specs.GivenBack.{written_by}
 use Rattle.flow_saver.specs.HistoryFiles.{kind_group}
-use Rattle.flow_saver.specs.Ending.{StandsAsCount, IsBegunAs, IsBegunAt, IsTornName, IsTornAt, IsTornHistory}
+use Rattle.graph_files.specs.Interrupted.{StandsAsCount, IsBegunAs, IsBegunAt}
+use Rattle.flow_saver.specs.Ending.{IsTornName, IsTornAt, IsTornHistory}
 use Rattle.flow_saver.specs.Saver.{IsFirstCount}
 use Rattle.flow_saver.specs.Remaining.{IsSavingAlone}
-use Rattle.flow_saver.proofs.BegunBytes.{begun-front, begun-torn, begun-whole, GroupHas, Nothing, Whole, Opened, group-has}
+use Rattle.graph_files.proofs.BegunBytes.{begun-front, begun-torn, begun-whole, GroupHas, Nothing, Whole, Opened, group-has}
 use Rattle.flow_saver.proofs.Groups as groups
 use Rattle.flow_saver.proofs.Groups.{some-is}
 use Rattle.flow_saver.proofs.Saves.{given-mine}

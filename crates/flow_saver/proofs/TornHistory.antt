@@ -41,10 +41,11 @@ use Rattle.graph_files.proofs.Writes.{small-group, next-place}
 use Rattle.flow_drain.proofs.Growth.{past-append}
 use Rattle.flow_saver.specs.GivenBack.{given_back, written_by}
 use Rattle.flow_saver.specs.HistoryFiles.{kind_group}
-use Rattle.flow_saver.specs.Ending.{IsCountOf, StandsAsCount, IsBegunAs, AsBefore, IsBegunAt, IsTornName, IsTornAt, IsTornHistory}
+use Rattle.graph_files.specs.Interrupted.{IsCountOf, StandsAsCount, IsBegunAs, AsBefore, IsBegunAt}
+use Rattle.flow_saver.specs.Ending.{IsTornName, IsTornAt, IsTornHistory}
 use Rattle.flow_saver.specs.Saver.{IsTornSince, IsFirstCount, back_of}
 use Rattle.flow_saver.specs.Remaining.{IsSavingAlone}
-use Rattle.flow_saver.proofs.BegunBytes.{count-one, begun-front, begun-torn, begun-whole, group-front, group-full, GroupHas, Nothing, Whole, Opened, group-has, group-apart}
+use Rattle.graph_files.proofs.BegunBytes.{count-one, begun-front, begun-torn, begun-whole, group-front, group-full, GroupHas, Nothing, Whole, Opened, group-has, group-apart}
 use Rattle.flow_saver.proofs.Groups as groups
 use Rattle.flow_saver.proofs.Groups.{some-is}
 use Rattle.flow_saver.proofs.Puts.{puts-few}

@@ -16,35 +16,12 @@ use Rattle.chain_plain.specs.OneThread.{listed}
 use Rattle.flow_journal.specs.Pasts.{Past}
 use Rattle.flow_journal.specs.Unsaved.{standing_saves}
 use Rattle.run_laws.specs.Results.{contents}
-use Rattle.graph_files.specs.BegunFiles.{unended_bytes}
+use Rattle.graph_files.specs.Interrupted.{IsBegunAt, IsCountOf, StandsAsCount}
 use Rattle.graph_files.specs.Groups.{group_of}
 use Rattle.graph_files.specs.NodeFiles.{IsTorn}
 use Rattle.graph_files.specs.OutFiles.{file_shape, group_name, is_stream}
 use Rattle.flow_saver.specs.GivenBack.{written_by}
 use Rattle.flow_saver.specs.HistoryFiles.{kind_group}
-
--- What was there before, the final bytes, or a front of the file as it is before it ends. A count of records that is put in at the end may be any four
--- bytes, after a patch that failed.
-pub data IsBegunAs (late : Bool) (final : List ℕ) (before now : Option (List ℕ)) : Type 0 where
-  AsBefore : now ≡ before → IsBegunAs late final before now
-  Unended : (front rest : List ℕ) → unended_bytes late final ≡ front ++ rest → now ≡ Some front → IsBegunAs late final before now
-  Ended : now ≡ Some final → IsBegunAs late final before now
-  Miscounted : late ≡ true → (count front rest : List ℕ) → length count ≡ 4 → overwritten final count_place count ≡ front ++ rest → now ≡ Some front
-      → IsBegunAs late final before now
-
--- where the shelf tells its files
-abbrev pub IsBegunAt : (late : Bool) → (final : List ℕ) → (before held : Option Files) → (name : List ℕ) → Type 0
-IsBegunAt late final before None name = Unit {0}
-IsBegunAt late final before (Some files) name = IsBegunAs late final (file_at before name) (file_at (Some files) name)
-
--- the number of records that a group's header is begun with: open in mode stream, else how many arrays the group has in the end
-abbrev pub IsCountOf : (late : Bool) → ℕ → Option ℕ → Type 0
-IsCountOf true n numrecs = numrecs ≡ None
-IsCountOf false n numrecs = numrecs ≡ Some n
-
--- and the number that stands in the header of a group of which these were written: that, or how many arrays the group has, where all of them were
-abbrev pub StandsAsCount : (late : Bool) → (final written : List Array) → Option ℕ → Type 0
-StandsAsCount late final written numrecs = IsCountOf late (length final) numrecs ⊎ ((written ≡ final) × (numrecs ≡ Some (length final)))
 
 -- The torn name: what it had when the call failed, or what that call may have left of the header, the rows that were written and the array that came with
 -- the call, if one did. It had what was there before the run, or the header and the rows that were written.

@@ -2,3 +2,5 @@ pub mod Torn
 pub mod Names
 pub mod Writes
 pub mod Ends
+pub mod BegunBytes
+pub mod PlainNames

@@ -4,6 +4,7 @@ pub mod OutgoingLaws
 pub mod RowLaws
 pub mod BegunFiles
 pub mod BegunLaws
+pub mod Interrupted
 pub mod Groups
 pub mod NodeFiles
 pub mod NameLaws

@@ -46,7 +46,7 @@ changed-HasBytes t u name q (Some b) (Same e) h has = subst (λ (w : Option File
 changed-HasBytes t u name q (Some b) (Wrote bytes e) h has = subst (λ (w : Option Files). HasFile w q b) (sym e) (kept-file t name bytes q b h has)
 
 -- and the shelf tells its files as before
-with_file-told : (t : Option Files) (name bytes : List ℕ) → is_some (with_file t name bytes) ≡ is_some t
+pub with_file-told : (t : Option Files) (name bytes : List ℕ) → is_some (with_file t name bytes) ≡ is_some t
 with_file-told None name bytes = refl
 with_file-told (Some m) name bytes = refl
 

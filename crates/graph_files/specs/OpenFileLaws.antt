@@ -119,7 +119,8 @@ module _ (g : Graph) (s : StackValue) (prefix : List ℕ) where
   nodes-apart v [] j k x y hx hy ne = let none_ : None ≡ Some x = hx in absurd (cc)
   nodes-apart v (n ∷ ns) j k x y hx hy ne = apart-kind v n ns (λ a b z w hz hw off. nodes-apart (v + 1) ns a b z w hz hw off) n.kind j k x y hx hy ne
 
-rules-apart : (ns : List NodeRule) → AllPairs (λ (m n : NodeRule). m.name ≢ n.name) ns → (j k : ℕ) (m n : NodeRule) → slice_get ns j ≡ Some m
+-- no two nodes have one name
+pub rules-apart : (ns : List NodeRule) → AllPairs (λ (m n : NodeRule). m.name ≢ n.name) ns → (j k : ℕ) (m n : NodeRule) → slice_get ns j ≡ Some m
     → slice_get ns k ≡ Some n → j ≢ k → m.name ≢ n.name
 rules-apart ns pairs j k m n hm hn ne =
     let is_m = get_or_from_slice_get ns j m m hm in
@@ -321,19 +322,30 @@ module _ (xs : List NodeFile) (k : ℕ) (x : NodeFile) (o : Option Stream) (at :
       elsewhere-is : (v : ℕ) → v ≢ x.node → with_array written x.node a v ≡ written v
       elsewhere-is v ne = ap (λ b. if b then written v ++ a ∷ [] else written v) (ne_eqb v x.node ne)
 
+      -- each name that stood still stands
+      names-more : (i : ℕ) → IsSome (group_file x (written x.node) i)
+          → IsSome (group_file (record x { current = o }) (with_array written x.node a x.node) i)
+      names-more i named =
+          elim (cases_eq i g) [
+            | inl at_ ↦
+                subst (λ (n : ℕ). IsSome (group_file (record x { current = o }) (with_array written x.node a x.node) n)) (sym at_)
+                (subst (λ (zs : List Array). IsSome (group_file (record x { current = o }) zs g)) (sym here-is) (stands-more x o (written x.node) g p place a))
+            | inr ne ↦ subst (λ (zs : List Array). IsSome (group_file (record x { current = o }) zs i)) (sym here-is)
+                (stands-on x o (written x.node) g p place (written x.node ++ a ∷ []) i ne (group-other x.count (written x.node) a g p place i ne) named)
+          ]
+
+      -- and a name that is none of these now was none before
+      pub elsewhere-more : length (written x.node ++ a ∷ []) < 2 ^ 64 → (q : List ℕ) → IsElsewhere ys (with_array written x.node a) q
+          → IsElsewhere xs written q
+      elsewhere-more few q away =
+          elsewhere (with_array written x.node a) elsewhere-is (subst (λ (zs : List Array). length zs < 2 ^ 64) (sym here-is) few) names-more q away
+
       -- an array more
       pub all-more : length (written x.node ++ a ∷ []) < 2 ^ 64 → AreWritten (record x { current = o }) (written x.node ++ a ∷ []) u
           → AllWritten before ys (with_array written x.node a) u
       all-more few mine =
           let P = λ (zs : List Array). IsSome (group_file (record x { current = o }) zs g) in
-          all-then (with_array written x.node a) elsewhere-is (subst (λ (zs : List Array). length zs < 2 ^ 64) (sym here-is) few)
-          (λ i named. elim (cases_eq i g) [
-            | inl at_ ↦
-                subst (λ (n : ℕ). IsSome (group_file (record x { current = o }) (with_array written x.node a x.node) n)) (sym at_)
-                (subst P (sym here-is) (stands-more x o (written x.node) g p place a))
-            | inr ne ↦ subst (λ (zs : List Array). IsSome (group_file (record x { current = o }) zs i)) (sym here-is)
-                (stands-on x o (written x.node) g p place (written x.node ++ a ∷ []) i ne (group-other x.count (written x.node) a g p place i ne) named)
-          ])
+          all-then (with_array written x.node a) elsewhere-is (subst (λ (zs : List Array). length zs < 2 ^ 64) (sym here-is) few) names-more
           (subst (λ (zs : List Array). AreWritten (record x { current = o }) zs u) (sym here-is) mine)
           (inl (subst P (sym here-is) (stands-more x o (written x.node) g p place a)))
 

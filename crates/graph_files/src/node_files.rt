@@ -114,6 +114,13 @@ impl NodeFiles {
         self.node
     }
 
+    /// How many arrays a group takes.
+    pub fn group_count(&self) -> u32
+        ensures { result ≡ self.now.count }
+    {
+        self.count
+    }
+
     /// Begins the file of a group.
     fn begin<K: Shelf>(
         &self,

@@ -59,10 +59,13 @@ impl OpenFiles {
     {
         let mut nodes = Vec::new(alloc);
         for (place, rule) in plan.graph.nodes.as_slice().iter().enumerate() {
-            if let Kind::File(file) = &rule.kind {
-                let node = place as u32 + 1;
-                let name = rule.name.text();
-                nodes.push(NodeFiles::new(alloc, prefix, plan, stack, node, name, file)?)?;
+            match &rule.kind {
+                Kind::File(file) => {
+                    let node = place as u32 + 1;
+                    let name = rule.name.text();
+                    nodes.push(NodeFiles::new(alloc, prefix, plan, stack, node, name, file)?)?;
+                }
+                Kind::Roi(_) | Kind::Stats(_) | Kind::Circular(_) | Kind::Scatter => {}
             }
         }
         Ok(OpenFiles { nodes })
@@ -81,6 +84,14 @@ impl OpenFiles {
         ensures { (x : NodeFile) → slice_get self.now at ≡ Some x → result ≡ x.node }
     {
         self.nodes[at].node()
+    }
+
+    /// How many arrays a group of file node `at` of these takes.
+    pub fn group_count(&self, at: usize) -> u32
+        requires { at < length self.now }
+        ensures { (x : NodeFile) → slice_get self.now at ≡ Some x → result ≡ x.count }
+    {
+        self.nodes[at].group_count()
     }
 
     /// Writes the next array of file node `at` of these: see `NodeFiles::write`.

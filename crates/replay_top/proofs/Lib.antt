@@ -1,13 +1,6 @@
 pub mod Files
 pub mod Frames
 pub mod Ids
-pub mod FileRows
-pub mod Chunks
-pub mod Begun
-pub mod GroupFiles
-pub mod StatsRows
-pub mod PassedOn
-pub mod NodeWrites
 pub mod EachNode
 pub mod Asked
 pub mod Stops
@@ -18,6 +11,5 @@ pub mod RunStops
 pub mod RunClaims
 pub mod RunReading
 pub mod SmoothFiles
-pub mod KeptStacks
 pub mod CopyKept
 mod Sends

@@ -11,7 +11,7 @@ use Rattle.graph_conf.specs.declared.load.LimitFault.{LimitFault}
 use Rattle.graph_conf.specs.declared.load.LimitFault.TheVariants.{GraphBytes, StackFile}
 use Rattle.replay_top.specs.declared.status.Status.{Status}
 use Rattle.replay_top.specs.declared.status.Status.TheVariants.{Done, Usage, GraphText, GraphRule, StackBytes, Limit, ReadFault, ShelfFault, OutFault, OutOfMemory}
-use Rattle.graph_files.specs.BegunFiles.{AreBegun}
+use Rattle.graph_files.specs.Interrupted.{AreInterrupted}
 use Rattle.replay_top.specs.Command.{Command, Copy, Plain, Info}
 use Rattle.replay_top.specs.Limits.{IsGraphRefused, IsStackRefused}
 use Rattle.graph_files.specs.OutFiles.{with_files}
@@ -28,12 +28,12 @@ pub record IsWorkDone (told : Option Files) (command : Command) (held now : Opti
   pub back : IsReadBack command source
   pub printed : after ≡ with_written before (work_of command source).print
 
--- the first of the files were written, and a front of the next one
+-- the files were begun and not all written to their ends, or all of them were written
 pub record IsWorkBegun (told : Option Files) (command : Command) (held now : Option Files) : Type 0 where
   pub source : Source
   pub read : IsRead told command source
   pub within : IsWithin command source
-  pub begun : AreBegun held (work_of command source).files now
+  pub begun : AreInterrupted held (work_of command source).files now ⊎ (now ≡ with_files held (work_of command source).files)
 
 -- the files were written, and a proper front of the print
 pub record IsWorkCutShort (told : Option Files) (command : Command) (held now : Option Files) (before after : Option (List ℕ)) : Type 0 where

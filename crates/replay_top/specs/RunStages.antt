@@ -9,6 +9,12 @@ use Rattle.replay_top.specs.declared.status.Status.{Status}
 use Rattle.replay_top.specs.declared.status.Status.TheVariants.{Done, ShelfFault, OutFault, OutOfMemory}
 use Rattle.replay_top.specs.Printed.{IsCutShort}
 
+-- writing the rows and the log, one file after the other
+abbrev pub LaterStops : Status → (held : Option Files) → List OutFile → (now : Option Files) → (before after : ℕ) → Type 0
+LaterStops ShelfFault held files now before after = AreBegun held files now × Rose before after
+LaterStops OutOfMemory held files now before after = AreBegun held files now × (after ≡ before)
+LaterStops _ held files now before after = ⊥
+
 -- What is written and printed once the groups stand: these files, one after the other, and then this text. Where the shelf has failed before,
 -- nothing is.
 abbrev pub RestEnds : Status → (fault : Bool) → List OutFile → (print : List ℕ) → (held now : Option Files) → (before after : Option (List ℕ)) → Type 0

@@ -13,7 +13,7 @@ use Rattle.replay_top.specs.declared.reading.ReadRefusal.{ReadRefusal}
 use Rattle.replay_top.specs.declared.reading.ReadRefusal.TheVariants as reading
 use Rattle.replay_top.specs.declared.status.Status.{Status}
 use Rattle.replay_top.specs.declared.status.Status.TheVariants.{GraphText, GraphRule, StackBytes, Limit, ReadFault, ShelfFault, OutFault, OutOfMemory}
-use Rattle.graph_files.specs.BegunFiles.{AreBegun}
+use Rattle.graph_files.specs.Interrupted.{AreInterrupted}
 use Rattle.replay_top.specs.Limits.{IsGraphRefused, IsStackRefused}
 use Rattle.graph_files.specs.OutFiles.{OutFile}
 use Rattle.replay_top.specs.Printed.{IsCutShort}
@@ -65,8 +65,8 @@ pub record IsLoaded (told : Option Files) (name : List ℕ) (s : StackValue) : T
 
 -- writing the files
 abbrev pub SaveStops : Status → (held : Option Files) → List OutFile → (now : Option Files) → (before after : ℕ) → Type 0
-SaveStops ShelfFault held files now before after = AreBegun held files now × Rose before after
-SaveStops OutOfMemory held files now before after = AreBegun held files now × (after ≡ before)
+SaveStops ShelfFault held files now before after = AreInterrupted held files now × Rose before after
+SaveStops OutOfMemory held files now before after = AreInterrupted held files now × (after ≡ before)
 SaveStops _ held files now before after = ⊥
 
 -- printing

@@ -3,17 +3,13 @@
 
 mod copy;
 mod exit;
-mod groups;
 mod histories;
 mod info;
 mod laws;
-mod nodes;
-mod passing;
 mod plain;
 mod printing;
 mod prints;
 mod reading;
-mod rows;
 mod run;
 mod run_rows;
 mod run_sources;

@@ -13,7 +13,6 @@ ghost use Rattle.graph_files.specs.OutFiles.{plain_files, with_files};
 ghost use Rattle.replay_top.specs.PlainText.{plain_text};
 ghost use Rattle.replay_top.specs.Stages.{SaveStops, PrintStops};
 
-use crate::nodes::save_nodes;
 use crate::printing::print;
 use crate::prints::plain_text;
 use crate::sources::{load_graph, load_stack};
@@ -23,6 +22,7 @@ use edge_traits::{Library, Shelf, Sink};
 use file_out::SaveFault;
 use graph_conf::check_load;
 use nd_base::{Plan, Stack};
+use plain_saver::save_files;
 use std::alloc::Global;
 
 /// Writes the files of all nodes.
@@ -41,7 +41,7 @@ fn save_plain<K: Shelf>(
     ensures stays { OnOk result (K.faults shelf.new ≡ K.faults shelf.old) }
     ensures err { IfErr result (λ s. SaveStops s (K.held shelf.old) (plain_files plan.now.graph stack.now prefix.now) (K.held shelf.new) (K.faults shelf.old) (K.faults shelf.new)) }
 {
-    match save_nodes(alloc, shelf, prefix, plan, stack) {
+    match save_files(alloc, shelf, prefix, plan, stack) {
         Ok(()) => Ok(()),
         Err(SaveFault::Failed) => Err(Status::ShelfFault),
         Err(SaveFault::OutOfMemory) => Err(Status::OutOfMemory),

@@ -4,8 +4,8 @@ ghost use Rattle.std.specs.Prelude.{◌≡◌, ◌++◌, IfOk, OnOk, string_byte
 ghost use Rattle.nd_base.specs.GraphRules.{IsGraph};
 ghost use Rattle.replay_top.specs.PlainText.{out_line, plain_text};
 
-use crate::passing::passed;
 use nd_base::{OutOfMemory, Plan, Stack};
+use plain_saver::passed;
 use std::alloc::{AllocError, Global};
 use std::fmt::Write;
 

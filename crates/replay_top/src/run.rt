@@ -16,8 +16,8 @@ ghost use Rattle.replay_top.specs.MeasuredFiles.{measured_files};
 ghost use Rattle.replay_top.specs.RunCommand.{run_command_of, plain_run_of};
 ghost use Rattle.replay_top.specs.LogFiles.{log_files};
 ghost use Rattle.replay_top.specs.RunWords.{run_told};
-ghost use Rattle.replay_top.specs.RunStages.{RestEnds, RestCause};
-ghost use Rattle.replay_top.specs.Stages.{SaveStops, PrintStops};
+ghost use Rattle.replay_top.specs.RunStages.{LaterStops, RestEnds, RestCause};
+ghost use Rattle.replay_top.specs.Stages.{PrintStops};
 
 use crate::exit::{Exit, unfinished};
 use crate::histories::run_plan;
@@ -51,7 +51,7 @@ fn save_rest<K: Shelf>(
     ensures ok { OnOk result (K.held shelf.new ≡ with_files (K.held shelf.old)
         (measured_files prefix.now plan.now.graph.nodes history.now.measures ++ log_files logs prefix.now history.now.log.past)) }
     ensures stays { OnOk result (K.faults shelf.new ≡ K.faults shelf.old) }
-    ensures err { IfErr result (λ s. SaveStops s (K.held shelf.old)
+    ensures err { IfErr result (λ s. LaterStops s (K.held shelf.old)
         (measured_files prefix.now plan.now.graph.nodes history.now.measures ++ log_files logs prefix.now history.now.log.past)
         (K.held shelf.new) (K.faults shelf.old) (K.faults shelf.new)) }
 {

@@ -1,7 +1,7 @@
 use denote.Param.Send.{sendable}
 use Rattle.frame_store.proofs.frame.Frame.TheSendSync as frame_sent
 use Rattle.frame_store.proofs.blank.Blank.TheSendSync as blank_sent
-use Rattle.replay_top.proofs.KeptStacks.{IsKeptStack-IsStack}
+use Rattle.plain_saver.proofs.KeptStacks.{IsKeptStack-IsStack}
 use Rattle.replay_top.proofs.Sends.{board-send}
 use Rattle.replay_top.proofs.histories.play.Goals as goal
 

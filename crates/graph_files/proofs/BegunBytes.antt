@@ -1,0 +1,216 @@
+-- A file that was begun, as a front of its final bytes.
+use Rattle.std.proofs.Common.{◌≡◌, ◌≢◌, ℕ, zero, suc, ◌+◌, ◌-◌, ◌*◌, ◌/◌, ◌%◌, ◌≤◌, Bool, true, false, List, [], ◌∷◌, ◌++◌, length, take, drop, refl, sym, ap, ◌∙◌, arith, inl, inr, Option, Some, None}
+use Rattle.std.specs.List.{flat_map}
+use Rattle.std.proofs.Math.Seq.{take-append-add}
+use Rattle.std.proofs.Math.Nat.{add-mul, mul-le-mul_right}
+use Rattle.std.proofs.lemmas.Nat.{div-add-mod'}
+use Rattle.std.proofs.lemmas.Bool.{cases_lt}
+use Rattle.std.proofs.lemmas.List.{append_assoc, append-nil, length-append, length-take, length-take-le, length-drop, take_all, drop_all, take-append-le, drop-append-le}
+use Rattle.std.proofs.lemmas.List.Concat.{flat_map-append}
+use Rattle.nd_base.specs.Array.{Array}
+use Rattle.nd_base.specs.declared.attribute.FileShape.{FileShape}
+use Rattle.edge_traits.specs.Files.{overwritten}
+use Rattle.edge_traits.specs.FileLaws.{overwritten-middle, overwritten-same}
+use Rattle.cdf_write.specs.Layout.{header, row, layout}
+use Rattle.cdf_write.specs.LengthLaws.{header_length_is, length-header}
+use Rattle.cdf_write.specs.Spelling.{word}
+use Rattle.file_out.specs.Streams.{Stream, begun_file, count_place}
+use Rattle.file_out.specs.StreamLaws.{overwritten-count}
+use Rattle.graph_files.specs.BegunFiles.{open_count, unended_bytes}
+use Rattle.graph_files.specs.Interrupted.{IsCountOf, IsBegunAs, Unended, Ended}
+use Rattle.graph_files.specs.Interrupted as begun
+use Rattle.graph_files.specs.Groups.{group_of, whole_file, file_of}
+use Rattle.graph_files.specs.GroupLaws.{group-later, length-group}
+use Rattle.graph_files.specs.NodeFiles.{NodeFile, IsTorn, Untouched, Front, Miscounted, IsOpenAfter, IsPlaceAfter, group_file}
+use Rattle.graph_files.specs.NodeFileLaws.{cases_eq, none-open, open-here, open-elsewhere, empty}
+use Rattle.graph_files.proofs.Writes.{next-place}
+
+-- THE COUNT OF RECORDS
+
+-- the last of two writes at one place counts
+overwritten-twice : (file a b : List ℕ) (off : ℕ) → off ≤ length file → length a ≡ length b
+    → overwritten (overwritten file off a) off b ≡ overwritten file off b
+overwritten-twice file a b off within same =
+    let place : length (take off file) ≡ off = length-take-le off file within in
+    ap (λ n. overwritten (overwritten file off a) n b) (sym place)
+    ∙ overwritten-middle (take off file) a (drop (off + length a) file) b (sym same)
+    ∙ ap (λ n. take off file ++ (b ++ drop (off + n) file)) same
+
+header_long : (shape : FileShape) (numrecs : Option ℕ) (rest : List ℕ) → count_place + 4 ≤ length (header shape numrecs ++ rest)
+header_long shape numrecs rest =
+    let both = length-append (header shape numrecs) rest in
+    let front = length-header shape numrecs in
+    let least = header_length_is shape in
+    omega (arith, both, front, least)
+
+open_is : (shape : FileShape) (rest : List ℕ) → take 4 (drop count_place (header shape None ++ rest)) ≡ open_count
+unfolding header
+open_is shape rest = refl
+
+layout-overwritten : (shape : FileShape) (arrays : List Array) (count : List ℕ) → length count ≡ 4
+    → overwritten (layout shape arrays) count_place count ≡ overwritten (begun_file shape None arrays) count_place count
+layout-overwritten shape arrays count four =
+    let rows = flat_map (row shape) arrays in
+    ap (λ file. overwritten file count_place count) (sym (overwritten-count shape (length arrays) rows))
+    ∙ overwritten-twice (begun_file shape None arrays) (word (length arrays)) count count_place
+    (let long = header_long shape None rows in omega arith) (sym four)
+
+layout-late : (shape : FileShape) (arrays : List Array) → overwritten (layout shape arrays) count_place open_count ≡ begun_file shape None arrays
+layout-late shape arrays =
+    let rows = flat_map (row shape) arrays in
+    layout-overwritten shape arrays open_count refl
+    ∙ ap (λ count. overwritten (begun_file shape None arrays) count_place count) (sym (open_is shape rows))
+    ∙ overwritten-same (begun_file shape None arrays) count_place 4 (header_long shape None rows)
+
+overwritten-front : (file more bytes : List ℕ) (off : ℕ) → off + length bytes ≤ length file
+    → overwritten (file ++ more) off bytes ≡ overwritten file off bytes ++ more
+overwritten-front file more bytes off within =
+    ap (λ front. front ++ (bytes ++ drop (off + length bytes) (file ++ more))) (take-append-le off file more (omega (arith, within)))
+    ∙ ap (λ rest. take off file ++ (bytes ++ rest)) (drop-append-le (off + length bytes) file more within)
+    ∙ ap (λ rest. take off file ++ rest) (sym (append_assoc bytes (drop (off + length bytes) file) more))
+    ∙ sym (append_assoc (take off file) (bytes ++ drop (off + length bytes) file) more)
+
+-- there is one such number
+pub count-one : (late : Bool) (n : ℕ) (a c : Option ℕ) → IsCountOf late n a → IsCountOf late n c → a ≡ c
+count-one true n a c h k = h ∙ sym k
+count-one false n a c h k = h ∙ sym k
+
+module _ (shape : FileShape) (arrays rest full : List Array) (is : full ≡ arrays ++ rest) where
+  abbrev rows : List ℕ
+  rows = flat_map (row shape) rest
+
+  longer : (numrecs : Option ℕ) → begun_file shape numrecs full ≡ begun_file shape numrecs arrays ++ rows
+  longer numrecs =
+      ap (λ zs. header shape numrecs ++ flat_map (row shape) zs) is ∙ ap (λ r. header shape numrecs ++ r) (flat_map-append (row shape) arrays rest)
+      ∙ sym (append_assoc (header shape numrecs) (flat_map (row shape) arrays) rows)
+
+  -- a front of the header and the rows is one of the file as it is before it ends
+  pub unended-front : (late : Bool) (numrecs : Option ℕ) (front tail : List ℕ) → IsCountOf late (length full) numrecs
+      → begun_file shape numrecs arrays ≡ front ++ tail → unended_bytes late (layout shape full) ≡ front ++ (tail ++ rows)
+  unended-front true numrecs front tail count whole =
+      layout-late shape full ∙ longer None ∙ ap (λ bytes. bytes ++ rows) (ap (λ n. begun_file shape n arrays) (sym count) ∙ whole)
+      ∙ append_assoc front tail rows
+  unended-front false numrecs front tail count whole =
+      longer (Some (length full)) ∙ ap (λ bytes. bytes ++ rows) (ap (λ n. begun_file shape n arrays) (sym count) ∙ whole) ∙ append_assoc front tail rows
+
+module _ (shape : FileShape) (arrays rest full : List Array) (is : full ≡ arrays ++ rest) (before : Option (List ℕ)) where
+  -- so the name of a group has a front of its file
+  pub begun-front : (late : Bool) (numrecs : Option ℕ) (front tail : List ℕ) (now : Option (List ℕ)) → IsCountOf late (length full) numrecs
+      → begun_file shape numrecs arrays ≡ front ++ tail → now ≡ Some front
+      → IsBegunAs late (layout shape full) before now
+  begun-front late numrecs front tail now count whole made =
+      Unended front (tail ++ flat_map (row shape) rest) (unended-front shape arrays rest full is late numrecs front tail count whole) made
+
+  miscounted : (late : Bool) (numrecs : Option ℕ) (any : List ℕ) (now : Option (List ℕ)) → IsCountOf late (length full) numrecs → numrecs ≡ None
+      → length any ≡ 4 → now ≡ Some (overwritten (begun_file shape numrecs arrays) count_place any)
+      → IsBegunAs late (layout shape full) before now
+  miscounted false numrecs any now count none_ four made = let clash : Some (length full) ≡ None = sym count ∙ none_ in absurd (cc)
+  miscounted true numrecs any now count none_ four made =
+      let long = header_long shape None (flat_map (row shape) arrays) in
+      begun.Miscounted refl any (overwritten (begun_file shape None arrays) count_place any) (rows shape arrays rest full is) four
+      (layout-overwritten shape full any four ∙ ap (λ bytes. overwritten bytes count_place any) (longer shape arrays rest full is None)
+      ∙ overwritten-front (begun_file shape None arrays) (rows shape arrays rest full is) any count_place (omega (arith, long, four)))
+      (made ∙ ap (λ n. Some (overwritten (begun_file shape n arrays) count_place any)) none_)
+
+  -- whatever a call that failed left
+  pub begun-torn : (late : Bool) (numrecs : Option ℕ) (was now : Option (List ℕ)) → IsCountOf late (length full) numrecs
+      → (now ≡ was → IsBegunAs late (layout shape full) before now) → IsTorn was shape numrecs arrays now
+      → IsBegunAs late (layout shape full) before now
+  begun-torn late numrecs was now count still (Untouched same) = still same
+  begun-torn late numrecs was now count still (Front front tail whole made) = begun-front late numrecs front tail now count whole made
+  begun-torn late numrecs was now count still (Miscounted none_ any four made) = miscounted late numrecs any now count none_ four made
+
+-- a whole file
+pub begun-whole : (late : Bool) (final : List ℕ) (before now : Option (List ℕ)) → now ≡ Some final → IsBegunAs late final before now
+begun-whole late final before now made = Ended made
+
+-- GROUPS OF A FRONT
+
+none_taken : {X : Type 0} (n : ℕ) → take {A = X} n [] ≡ []
+none_taken zero = refl
+none_taken (suc n) = refl
+
+take-front : {X : Type 0} (n : ℕ) (xs ys : List X) → (more : List X) × (take n (xs ++ ys) ≡ take n xs ++ more)
+take-front n xs ys =
+    elim (cases_lt (length xs) n) [
+      | inl short ↦
+          let e : length xs + (n - length xs) ≡ n = omega (arith, short) in (
+            take (n - length xs) ys,
+            ap (λ k. take k (xs ++ ys)) (sym e) ∙ take-append-add xs ys (n - length xs)
+                ∙ ap (λ zs. zs ++ take (n - length xs) ys) (sym (take_all n xs (omega (arith, short)))),
+          )
+      | inr long ↦ ([], take-append-le n xs ys (omega (arith, long)) ∙ sym (append-nil (take n xs)))
+    ]
+
+-- a group of the first arrays is a front of the group of all
+pub group-front : (count i : ℕ) (xs ys : List Array) → (more : List Array) × (group_of count i (xs ++ ys) ≡ group_of count i xs ++ more)
+group-front count i xs ys =
+    elim (cases_lt (length xs) (i * count)) [
+      | inl before ↦
+          let none_ : group_of count i xs ≡ [] = ap (take count) (drop_all (i * count) xs (omega (arith, before))) ∙ none_taken count in
+          (group_of count i (xs ++ ys), ap (λ zs. zs ++ group_of count i (xs ++ ys)) (sym none_))
+      | inr within ↦
+          let f = take-front count (drop (i * count) xs) ys in
+          (f.0, ap (take count) (drop-append-le (i * count) xs ys (omega (arith, within))) ∙ f.1)
+    ]
+
+-- a full group stays
+pub group-full : (count i : ℕ) (xs ys : List Array) → 1 ≤ count → length (group_of count i xs) ≡ count → group_of count i (xs ++ ys) ≡ group_of count i xs
+group-full count i xs ys some full =
+    let taken = length-take count (drop (i * count) xs) in
+    let dropped = length-drop (i * count) xs in
+    ap (take count) (drop-append-le (i * count) xs ys (omega (arith, taken, dropped, full, some)))
+    ∙ take-append-le count (drop (i * count) xs) ys (omega (arith, taken, full))
+
+pub group-long : (count i : ℕ) (xs : List Array) → (i + 1) * count ≤ length xs → length (group_of count i xs) ≡ count
+group-long count i xs long =
+    let next : (i + 1) * count ≡ i * count + 1 * count = add-mul i 1 count in
+    length-take-le count (drop (i * count) xs) (omega (arith, length-drop (i * count) xs, long, next))
+
+-- WHAT A NAME HAS
+
+-- nothing, a whole group, or the open group's header and rows
+pub data GroupHas (x : NodeFile) (arrays : List Array) (i : ℕ) : Type 0 where
+  Nothing : group_file x arrays i ≡ None → GroupHas x arrays i
+  Whole : length (group_of x.count i arrays) ≡ x.count → group_file x arrays i ≡ Some (layout x.shape (group_of x.count i arrays)) → GroupHas x arrays i
+  Opened : (f : Stream) → x.current ≡ Some f → i ≡ length arrays / x.count
+      → group_file x arrays i ≡ Some (begun_file x.shape f.numrecs (group_of x.count i arrays)) → GroupHas x arrays i
+
+whole-is : (shape : FileShape) (zs : List Array) → 1 ≤ length zs → whole_file shape zs ≡ Some (layout shape zs)
+whole-is shape [] some = absurd (omega arith)
+whole-is shape (a ∷ zs) some = refl
+
+module _ (x : NodeFile) (arrays : List Array) (some : 1 ≤ x.count) where
+  abbrev n : ℕ
+  n = length arrays
+
+  place : IsPlaceAfter x.count arrays (n / x.count) (n % x.count)
+  place = next-place x.count arrays some
+
+  closed-has : (i : ℕ) → i ≢ n / x.count → GroupHas x arrays i
+  closed-has i apart =
+      let file : group_file x arrays i ≡ whole_file x.shape (group_of x.count i arrays) =
+      ap (λ o. file_of o x.shape (group_of x.count i arrays)) (open-elsewhere x n i apart) in
+      elim (cases_lt i (n / x.count)) [
+        | inl before ↦
+            let rows : (i + 1) * x.count ≤ n / x.count * x.count = mul-le-mul_right x.count (let le : i + 1 ≤ n / x.count = omega (arith, before) in le) in
+            let full : length (group_of x.count i arrays) ≡ x.count = group-long x.count i arrays (omega (arith, rows, div-add-mod' n x.count)) in
+            Whole full (file ∙ whole-is x.shape (group_of x.count i arrays) (omega (arith, full, some)))
+        | inr after ↦
+            Nothing (file ∙ ap (whole_file x.shape) (group-later x.count arrays (n / x.count) (n % x.count) place i (omega (arith, after, apart))))
+      ]
+
+  here-has : (o : Option Stream) → x.current ≡ o → IsOpenAfter x n o → (i : ℕ) → i ≡ n / x.count → GroupHas x arrays i
+  here-has None is begun i here =
+      let none_ : group_of x.count i arrays ≡ [] =
+      ap (λ j. group_of x.count j arrays) here
+      ∙ empty (group_of x.count (n / x.count) arrays) (length-group x.count arrays (n / x.count) (n % x.count) place ∙ begun) in
+      Nothing (ap (λ w. file_of w x.shape (group_of x.count i arrays)) (none-open x n i is) ∙ ap (whole_file x.shape) none_)
+  here-has (Some f) is begun i here =
+      Opened f is here (ap (λ w. file_of w x.shape (group_of x.count i arrays)) (open-here x n i here ∙ is))
+
+  pub group-has : IsOpenAfter x n x.current → (i : ℕ) → GroupHas x arrays i
+  group-has begun i = elim (cases_eq i (n / x.count)) [ inl here ↦ here-has x.current refl begun i here | inr apart ↦ closed-has i apart ]
+
+  pub group-apart : (i : ℕ) → i ≢ n / x.count → GroupHas x arrays i
+  group-apart i apart = closed-has i apart

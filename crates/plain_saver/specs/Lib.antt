@@ -1,0 +1,4 @@
+pub mod Passes
+pub mod Saved
+pub mod BegunRows
+pub mod Rooms

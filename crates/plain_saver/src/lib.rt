@@ -1,0 +1,12 @@
+//! The files of a plain run: a graph over a stack in one thread, frame by frame.
+#![tactic(auto)]
+
+mod passes;
+mod passing;
+mod rooms;
+mod rows;
+mod saver;
+mod saving;
+
+pub use passing::passed;
+pub use saving::save_files;

@@ -1,0 +1,46 @@
+//! Which arrays go out of each node, and how many of them have gone.
+
+ghost use Rattle.std.specs.Prelude.{◌≡◌, ◌==◌, ℕ, false, slice_get, IfOk};
+ghost use Rattle.std.specs.Option.{option_map_or};
+ghost use Rattle.nd_base.specs.GraphRules.{IsGraph};
+ghost use Rattle.plain_saver.specs.Passes.{ArePasses, pass_at};
+
+use crate::passing::passed;
+use nd_base::{OutOfMemory, Plan, Seq, Stack};
+use std::alloc::Global;
+
+/// The positions of the frames that go out of a node in a plain run, in order, and how many of them have gone.
+#[derive(Debug, Drop)]
+pub(crate) struct Pass {
+    pub(crate) positions: Seq<u32>,
+    pub(crate) gone: u32,
+}
+
+impl Pass {
+    /// Whether this position goes out next.
+    pub(crate) fn is_next(&self, index: u32) -> bool
+        ensures { result ≡ option_map_or (λ p. p == index) (slice_get self.now.positions self.now.gone) false }
+    {
+        match self.positions.as_slice().get(self.gone as usize) {
+            Some(&position) => position == index,
+            None => false,
+        }
+    }
+}
+
+/// What goes out of each node of the graph, of which nothing has gone.
+pub(crate) fn passes(alloc: Global, plan: &Plan, stack: &Stack) -> Result<Vec<Pass>, OutOfMemory>
+    requires { IsGraph plan.now.graph }
+    ensures positions { IfOk result (λ v. ArePasses plan.now.graph stack.now v.items) }
+    ensures none { IfOk result (λ v. (node : ℕ) → (pass_at v.items node).gone ≡ 0) }
+{
+    let mut passes = Vec::new(alloc);
+    for place in 0..plan.graph.nodes.as_slice().len() {
+        let positions = passed(alloc, plan, stack, place as u32 + 1)?;
+        passes.push(Pass {
+            positions: Seq::new(positions),
+            gone: 0,
+        })?;
+    }
+    Ok(passes)
+}

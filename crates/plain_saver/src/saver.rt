@@ -1,0 +1,343 @@
+//! The files of a plain run while they are written, frame by frame.
+
+ghost use Rattle.std.specs.Prelude.{◌≡◌, ◌+◌, ◌-◌, ◌*◌, ◌/◌, ◌%◌, ◌<◌, ◌≤◌, ◌^◌, ℕ, List, Some, None, Option, length, slice_get, IfOk, IfErr, OnOk, OnErr, IfSome, IfNone, false};
+ghost use Rattle.nd_base.specs.GraphRules.{IsGraph, IsStats, rule_at};
+ghost use Rattle.nd_base.specs.declared.graph.Kind.TheVariants.{Stats};
+ghost use Rattle.edge_traits.specs.Files.{Files};
+ghost use Rattle.nd_stack.specs.KeptStacks.{IsKeptStack};
+ghost use Rattle.chain_plain.specs.Plans.{plan_of};
+ghost use Rattle.graph_conf.specs.Loads.{limit_fault};
+ghost use Rattle.file_out.specs.Saving.{IsSaveCause};
+ghost use Rattle.graph_files.specs.Interrupted.{AreInterrupted};
+ghost use Rattle.graph_files.specs.NodeFiles.{NodeFile};
+ghost use Rattle.graph_files.specs.OutFiles.{plain_files, with_files};
+ghost use Rattle.plain_saver.specs.Passes.{is_next, pass_at, stepped, stepped_rows, with_one_gone};
+ghost use Rattle.plain_saver.specs.Rooms.{AreRooms};
+ghost use Rattle.plain_saver.specs.Saved.{IsSaved, AreLeftFrom, IsCounted, IsNextPlace, group_size};
+
+use crate::passes::{Pass, passes};
+use crate::rooms::Rooms;
+use crate::rows::{begin_rows, finish_rows, row_of, rows_name};
+use edge_traits::Shelf;
+use file_out::SaveFault;
+use graph_files::OpenFiles;
+use nd_base::{Kind, NodeRule, Plan, Stack, StatsRule};
+use std::alloc::Global;
+
+/// The files of a plain run while they are written, with what has gone out of each node and room for the samples of one frame.
+#[derive(Drop)]
+pub(crate) struct Saver {
+    rooms: Rooms,
+    passes: Vec<Pass>,
+    files: OpenFiles,
+}
+
+/// Where an array goes in the files of a file node: the group, the place there, and how many arrays the group has in the end.
+#[derive(Clone, Copy, Debug)]
+struct GroupPlace {
+    group: u32,
+    place: u32,
+    of: u32,
+}
+
+/// Where the next array goes after `gone` of `all`, where a group takes `count`.
+fn group_place(count: u32, all: u32, gone: u32) -> GroupPlace
+    requires some { 1 ≤ count }
+    requires left { gone < all }
+    ensures group { result.group ≡ gone / count }
+    ensures place { result.place ≡ gone % count }
+    ensures of { result.of ≡ group_size count all gone }
+{
+    let place = gone % count;
+    GroupPlace {
+        group: gone / count,
+        place,
+        of: count.min(all - (gone - place)),
+    }
+}
+
+impl Saver {
+    /// Begins the files of the statistics nodes. Those of the file nodes begin with their first arrays.
+    pub(crate) fn begin<K: Shelf>(
+        alloc: Global,
+        shelf: &mut K,
+        prefix: &str,
+        plan: &Plan,
+        stack: &Stack,
+    ) -> Result<Saver, SaveFault>
+        requires graph { IsGraph plan.now.graph }
+        requires plan { plan.now ≡ plan_of plan.now.graph stack.now }
+        requires kept { IsKeptStack stack.now }
+        requires within { limit_fault plan.now.graph stack.now ≡ None }
+        ensures saved { IfOk result (λ x. IsSaved plan.now.graph stack.now prefix.now (K.held shelf.old) x.passes.items x.files (K.held shelf.new)) }
+        ensures left { IfOk result (λ x. AreLeftFrom plan.now.graph x.passes.items x.files 0 0) }
+        ensures rooms { IfOk result (λ x. AreRooms plan.now.graph stack.now x.rooms) }
+        ensures err { OnErr result (AreInterrupted (K.held shelf.old) (plain_files plan.now.graph stack.now prefix.now) (K.held shelf.new)) }
+        ensures cause { IsSaveCause result (K.faults shelf.old) (K.faults shelf.new) }
+    {
+        let saver = Saver {
+            rooms: Rooms::new(alloc, plan)?,
+            passes: passes(alloc, plan, stack)?,
+            files: OpenFiles::new(alloc, prefix, plan, stack)?,
+        };
+        begin_rows(alloc, shelf, prefix, plan)?;
+        Ok(saver)
+    }
+
+    /// One array more has gone out of a node.
+    fn count_one(&mut self, node: u32)
+        requires some { 1 ≤ node }
+        requires node { node ≤ length self.old.passes.items }
+        requires next { (pass_at self.old.passes.items node).gone + 1 < 2 ^ 32 }
+        ensures passes { self.new.passes.items ≡ with_one_gone self.old.passes.items node }
+        ensures rooms { self.new.rooms ≡ self.old.rooms }
+        ensures files { self.new.files ≡ self.old.files }
+    {
+        self.passes[node as usize - 1].gone += 1;
+    }
+
+    /// Where the array of a frame goes in the files of file node `at`, if it goes out of that node.
+    fn next_place(&self, at: usize, index: u32) -> Option<GroupPlace>
+        requires at { at < length self.now.files }
+        requires node { (x : NodeFile) → slice_get self.now.files at ≡ Some x → IsCounted self.now.passes.items x }
+        ensures none { (x : NodeFile) → slice_get self.now.files at ≡ Some x → IfNone result (is_next self.now.passes.items x.node index ≡ false) }
+        ensures some { (x : NodeFile) → slice_get self.now.files at ≡ Some x → IfSome result (λ p. IsNextPlace self.now.passes.items x index p.group p.place p.of) }
+    {
+        let pass = &self.passes[self.files.node(at) as usize - 1];
+        if !pass.is_next(index) {
+            return None;
+        }
+        let all = pass.positions.as_slice().len() as u32;
+        Some(group_place(self.files.group_count(at), all, pass.gone))
+    }
+
+    /// Writes the array of a frame at file node `at`, where it goes out of that node.
+    fn write_array<K: Shelf>(
+        &mut self,
+        alloc: Global,
+        shelf: &mut K,
+        plan: &Plan,
+        stack: &Stack,
+        index: u32,
+        at: usize,
+    ) -> Result<(), SaveFault>
+        requires graph { IsGraph plan.now.graph }
+        requires plan { plan.now ≡ plan_of plan.now.graph stack.now }
+        requires kept { IsKeptStack stack.now }
+        requires frame { index < length stack.now.arrays }
+        requires at { at < length self.old.files }
+        requires rooms { AreRooms plan.now.graph stack.now self.old.rooms }
+        requires saved { (prefix : List ℕ) × ((before : Option Files) × IsSaved plan.now.graph stack.now prefix before self.old.passes.items self.old.files (K.held shelf.old)) }
+        ensures rooms { AreRooms plan.now.graph stack.now self.new.rooms }
+        ensures count { length self.new.files ≡ length self.old.files }
+        ensures passes { OnOk result ((x : NodeFile) → slice_get self.old.files at ≡ Some x → self.new.passes.items ≡ stepped self.old.passes.items x.node index) }
+        ensures saved { OnOk result ((prefix : List ℕ) (before : Option Files) → IsSaved plan.now.graph stack.now prefix before self.old.passes.items self.old.files (K.held shelf.old)
+            → IsSaved plan.now.graph stack.now prefix before self.new.passes.items self.new.files (K.held shelf.new)) }
+        ensures err { OnErr result ((prefix : List ℕ) (before : Option Files) → IsSaved plan.now.graph stack.now prefix before self.old.passes.items self.old.files (K.held shelf.old)
+            → AreInterrupted before (plain_files plan.now.graph stack.now prefix) (K.held shelf.new)) }
+        ensures cause { IsSaveCause result (K.faults shelf.old) (K.faults shelf.new) }
+    {
+        let Some(next) = self.next_place(at, index) else {
+            return Ok(());
+        };
+        let node = self.files.node(at);
+        self.rooms.cut(alloc, plan, stack, node, index)?;
+        self.files.write(
+            alloc,
+            shelf,
+            at,
+            next.group,
+            next.place,
+            Some(next.of),
+            stack.head(index),
+            self.rooms.samples(plan, stack, node, index),
+        )?;
+        self.count_one(node);
+        Ok(())
+    }
+
+    /// Writes the row of a frame's array at a statistics node of this name, where it goes out of that node.
+    fn write_row<K: Shelf>(
+        &mut self,
+        alloc: Global,
+        shelf: &mut K,
+        prefix: &str,
+        plan: &Plan,
+        stack: &Stack,
+        index: u32,
+        node: u32,
+        name: &str,
+        rule: &StatsRule,
+    ) -> Result<(), SaveFault>
+        requires graph { IsGraph plan.now.graph }
+        requires plan { plan.now ≡ plan_of plan.now.graph stack.now }
+        requires kept { IsKeptStack stack.now }
+        requires frame { index < length stack.now.arrays }
+        requires rule { (n : NodeRule) × ((rule_at plan.now.graph.nodes node ≡ Some n) × (n.name ≡ name.now) × (n.kind ≡ Stats rule.now)) }
+        requires rooms { AreRooms plan.now.graph stack.now self.old.rooms }
+        requires saved { (before : Option Files) × IsSaved plan.now.graph stack.now prefix.now before self.old.passes.items self.old.files (K.held shelf.old) }
+        ensures rooms { AreRooms plan.now.graph stack.now self.new.rooms }
+        ensures files { self.new.files ≡ self.old.files }
+        ensures passes { OnOk result (self.new.passes.items ≡ stepped self.old.passes.items node index) }
+        ensures saved { OnOk result ((before : Option Files) → IsSaved plan.now.graph stack.now prefix.now before self.old.passes.items self.old.files (K.held shelf.old)
+            → IsSaved plan.now.graph stack.now prefix.now before self.new.passes.items self.new.files (K.held shelf.new)) }
+        ensures err { OnErr result ((before : Option Files) → IsSaved plan.now.graph stack.now prefix.now before self.old.passes.items self.old.files (K.held shelf.old)
+            → AreInterrupted before (plain_files plan.now.graph stack.now prefix.now) (K.held shelf.new)) }
+        ensures cause { IsSaveCause result (K.faults shelf.old) (K.faults shelf.new) }
+    {
+        if !self.passes[node as usize - 1].is_next(index) {
+            return Ok(());
+        }
+        self.rooms.cut(alloc, plan, stack, node, index)?;
+        let samples = self.rooms.samples(plan, stack, node, index);
+        let row = row_of(alloc, plan, stack, node, rule, index, samples)?;
+        let file = rows_name(alloc, prefix, name)?;
+        shelf.append(file.as_str(), row.as_bytes())?;
+        self.count_one(node);
+        Ok(())
+    }
+
+    /// Writes the row of a frame's array at a node of this rule, where it is a statistics node and the array goes out of it.
+    fn write_node_row<K: Shelf>(
+        &mut self,
+        alloc: Global,
+        shelf: &mut K,
+        prefix: &str,
+        plan: &Plan,
+        stack: &Stack,
+        index: u32,
+        node: u32,
+        rule: &NodeRule,
+    ) -> Result<(), SaveFault>
+        requires graph { IsGraph plan.now.graph }
+        requires plan { plan.now ≡ plan_of plan.now.graph stack.now }
+        requires kept { IsKeptStack stack.now }
+        requires frame { index < length stack.now.arrays }
+        requires rule { rule_at plan.now.graph.nodes node ≡ Some rule.now }
+        requires rooms { AreRooms plan.now.graph stack.now self.old.rooms }
+        requires saved { (before : Option Files) × IsSaved plan.now.graph stack.now prefix.now before self.old.passes.items self.old.files (K.held shelf.old) }
+        ensures rooms { AreRooms plan.now.graph stack.now self.new.rooms }
+        ensures files { self.new.files ≡ self.old.files }
+        ensures passes { OnOk result (self.new.passes.items ≡ stepped_rows rule.now self.old.passes.items node index) }
+        ensures saved { OnOk result ((before : Option Files) → IsSaved plan.now.graph stack.now prefix.now before self.old.passes.items self.old.files (K.held shelf.old)
+            → IsSaved plan.now.graph stack.now prefix.now before self.new.passes.items self.new.files (K.held shelf.new)) }
+        ensures err { OnErr result ((before : Option Files) → IsSaved plan.now.graph stack.now prefix.now before self.old.passes.items self.old.files (K.held shelf.old)
+            → AreInterrupted before (plain_files plan.now.graph stack.now prefix.now) (K.held shelf.new)) }
+        ensures cause { IsSaveCause result (K.faults shelf.old) (K.faults shelf.new) }
+    {
+        match &rule.kind {
+            Kind::Stats(stats) => self.write_row(
+                alloc,
+                shelf,
+                prefix,
+                plan,
+                stack,
+                index,
+                node,
+                rule.name.text(),
+                stats,
+            ),
+            Kind::Roi(_) | Kind::Circular(_) | Kind::File(_) | Kind::Scatter => Ok(()),
+        }
+    }
+
+    /// Writes a frame's arrays at all file nodes that they go out of.
+    pub(crate) fn write_arrays<K: Shelf>(
+        &mut self,
+        alloc: Global,
+        shelf: &mut K,
+        plan: &Plan,
+        stack: &Stack,
+        index: u32,
+    ) -> Result<(), SaveFault>
+        requires graph { IsGraph plan.now.graph }
+        requires plan { plan.now ≡ plan_of plan.now.graph stack.now }
+        requires kept { IsKeptStack stack.now }
+        requires frame { index < length stack.now.arrays }
+        requires rooms { AreRooms plan.now.graph stack.now self.old.rooms }
+        requires saved { (prefix : List ℕ) × ((before : Option Files) × IsSaved plan.now.graph stack.now prefix before self.old.passes.items self.old.files (K.held shelf.old)) }
+        requires left { AreLeftFrom plan.now.graph self.old.passes.items self.old.files index index }
+        ensures rooms { AreRooms plan.now.graph stack.now self.new.rooms }
+        ensures left { OnOk result (AreLeftFrom plan.now.graph self.new.passes.items self.new.files (index + 1) index) }
+        ensures saved { OnOk result ((prefix : List ℕ) (before : Option Files) → IsSaved plan.now.graph stack.now prefix before self.old.passes.items self.old.files (K.held shelf.old)
+            → IsSaved plan.now.graph stack.now prefix before self.new.passes.items self.new.files (K.held shelf.new)) }
+        ensures err { OnErr result ((prefix : List ℕ) (before : Option Files) → IsSaved plan.now.graph stack.now prefix before self.old.passes.items self.old.files (K.held shelf.old)
+            → AreInterrupted before (plain_files plan.now.graph stack.now prefix) (K.held shelf.new)) }
+        ensures cause { IsSaveCause result (K.faults shelf.old) (K.faults shelf.new) }
+    {
+        for at in 0..self.files.count() {
+            self.write_array(alloc, shelf, plan, stack, index, at)?;
+        }
+        Ok(())
+    }
+
+    /// Writes the rows of a frame's arrays at all statistics nodes that they go out of.
+    pub(crate) fn write_rows<K: Shelf>(
+        &mut self,
+        alloc: Global,
+        shelf: &mut K,
+        prefix: &str,
+        plan: &Plan,
+        stack: &Stack,
+        index: u32,
+    ) -> Result<(), SaveFault>
+        requires graph { IsGraph plan.now.graph }
+        requires plan { plan.now ≡ plan_of plan.now.graph stack.now }
+        requires kept { IsKeptStack stack.now }
+        requires frame { index < length stack.now.arrays }
+        requires rooms { AreRooms plan.now.graph stack.now self.old.rooms }
+        requires saved { (before : Option Files) × IsSaved plan.now.graph stack.now prefix.now before self.old.passes.items self.old.files (K.held shelf.old) }
+        requires left { AreLeftFrom plan.now.graph self.old.passes.items self.old.files (index + 1) index }
+        ensures rooms { AreRooms plan.now.graph stack.now self.new.rooms }
+        ensures left { OnOk result (AreLeftFrom plan.now.graph self.new.passes.items self.new.files (index + 1) (index + 1)) }
+        ensures saved { OnOk result ((before : Option Files) → IsSaved plan.now.graph stack.now prefix.now before self.old.passes.items self.old.files (K.held shelf.old)
+            → IsSaved plan.now.graph stack.now prefix.now before self.new.passes.items self.new.files (K.held shelf.new)) }
+        ensures err { OnErr result ((before : Option Files) → IsSaved plan.now.graph stack.now prefix.now before self.old.passes.items self.old.files (K.held shelf.old)
+            → AreInterrupted before (plain_files plan.now.graph stack.now prefix.now) (K.held shelf.new)) }
+        ensures cause { IsSaveCause result (K.faults shelf.old) (K.faults shelf.new) }
+    {
+        let rules = plan.graph.nodes.as_slice();
+        for place in 0..rules.len() {
+            let node = place as u32 + 1;
+            self.write_node_row(
+                alloc,
+                shelf,
+                prefix,
+                plan,
+                stack,
+                index,
+                node,
+                &rules[place],
+            )?;
+        }
+        Ok(())
+    }
+
+    /// Ends all files, once every array has gone out of its node.
+    pub(crate) fn end<K: Shelf>(
+        self,
+        alloc: Global,
+        shelf: &mut K,
+        prefix: &str,
+        plan: &Plan,
+        stack: &Stack,
+    ) -> Result<(), SaveFault>
+        requires graph { IsGraph plan.now.graph }
+        requires kept { IsKeptStack stack.now }
+        requires saved { (before : Option Files) × IsSaved plan.now.graph stack.now prefix.now before self.passes.items self.files (K.held shelf.old) }
+        requires left { AreLeftFrom plan.now.graph self.passes.items self.files (length stack.now.arrays) (length stack.now.arrays) }
+        ensures ok { OnOk result ((before : Option Files) → IsSaved plan.now.graph stack.now prefix.now before self.passes.items self.files (K.held shelf.old)
+            → K.held shelf.new ≡ with_files before (plain_files plan.now.graph stack.now prefix.now)) }
+        ensures err { OnErr result ((before : Option Files) → IsSaved plan.now.graph stack.now prefix.now before self.passes.items self.files (K.held shelf.old)
+            → AreInterrupted before (plain_files plan.now.graph stack.now prefix.now) (K.held shelf.new)) }
+        ensures cause { IsSaveCause result (K.faults shelf.old) (K.faults shelf.new) }
+    {
+        let Saver {
+            rooms: _,
+            passes: _,
+            files,
+        } = self;
+        finish_rows(alloc, shelf, prefix, plan)?;
+        files.end(shelf)
+    }
+}
