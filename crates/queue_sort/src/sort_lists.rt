@@ -6,6 +6,7 @@ use nd_base::OutOfMemory;
 use std::alloc::Global;
 use std::collections::VecDeque;
 use std::marker::Model;
+use thiserror::Error;
 
 /// One that waits in a sort list, as contracts see it.
 #[derive(Debug, Drop)]
@@ -25,7 +26,8 @@ pub enum Placed<T> {
 }
 
 /// As many wait as may, and here is the item that found no place.
-#[derive(Debug, PartialEq, Eq, Drop)]
+#[derive(Debug, PartialEq, Eq, Drop, Error)]
+#[error("the sort list is full")]
 pub struct SortFull<T> {
     pub item: T,
 }
