@@ -67,7 +67,7 @@ impl<T> Model for SortList<T> {
 }
 
 impl<T> SortList<T> {
-    ghost use Rattle.std.specs.Prelude.{◌≡◌, ◌^◌, ◌-ℤ◌, ◌<ℤ◌, ◌≤◌, pos, [], if◌then◌else◌, ◌<◌, length, slice_get, IfOk, is_some};
+    ghost use Rattle.std.specs.Prelude.{◌≡◌, ◌-ℤ◌, ◌<ℤ◌, ◌≤◌, pos, [], if◌then◌else◌, ◌<◌, length, slice_get, IfOk, is_some};
     ghost use Rattle.std.specs.List.{All};
     ghost use Rattle.std.specs.Option.{option_map};
     ghost use Rattle.queue_sort.specs.Sorting.{IsWaitingList, IsPlaceOf, keeps_step, emitted, placed, after_put, let_out};
