@@ -66,28 +66,34 @@ kind total bytes = binds (word_at total bytes) _ (word total bytes) (λ w. check
 
 padded : (total count : ℕ) (bytes : List ℕ) → Answers (padded_at total count bytes)
 unfolding padded_at
-padded total count bytes = binds (ok_or (free_in (fields.padded count) bytes) (Short (place total bytes))) _ (presents (free_in (fields.padded count) bytes) (Short (place total bytes)) tt) (λ field. ends _)
+padded total count bytes =
+    binds (ok_or (free_in (fields.padded count) bytes) (Short (place total bytes))) _
+    (presents (free_in (fields.padded count) bytes) (Short (place total bytes)) tt) (λ field. ends _)
 
 name : (total : ℕ) (bytes : List ℕ) → Answers (name_at total bytes)
 unfolding name_at
 name total bytes =
     binds (number_at total bytes) _ (number total bytes) (λ count. checks (nat_le 1 count.0 && nat_le count.0 1024) (NameLength (place total bytes)) _ tt
-    (binds (padded_at total count.0 count.1) _ (padded total count.0 count.1) (λ text. checks (is_utf8 text.0) (NameText (place total count.1)) _ tt (ends text))))
+    (binds (padded_at total count.0 count.1) _ (padded total count.0 count.1)
+    (λ text. checks (is_utf8 text.0) (NameText (place total count.1)) _ tt (ends text))))
 
 list_head : (total tag : ℕ) (bytes : List ℕ) → Answers (list_head_at total tag bytes)
 unfolding list_head_at
 list_head total tag bytes =
     binds (word_at total bytes) _ (word total bytes) (λ first. binds (word_at total first.1) _ (word total first.1)
-    (λ count. checks ((first.0 == tag) || ((first.0 == 0) && (count.0 == 0))) (Tag (place total bytes)) _ tt (checks (nat_le count.0 2147483647) (Negative (place total first.1)) _ tt (ends count))))
+    (λ count. checks ((first.0 == tag) || ((first.0 == 0) && (count.0 == 0))) (Tag (place total bytes)) _ tt
+    (checks (nat_le count.0 2147483647) (Negative (place total first.1)) _ tt (ends count))))
 
-many : {A : Type 0} (read : List A → List ℕ → Result (A × List ℕ) CdfFault) → ((earlier : List A) (bytes : List ℕ) → Answers (read earlier bytes)) → (n : ℕ) (earlier : List A) (bytes : List ℕ) → Answers (many_at read n earlier bytes)
+many : {A : Type 0} (read : List A → List ℕ → Result (A × List ℕ) CdfFault) → ((earlier : List A) (bytes : List ℕ) → Answers (read earlier bytes))
+    → (n : ℕ) (earlier : List A) (bytes : List ℕ) → Answers (many_at read n earlier bytes)
 many read each zero earlier bytes = ends (earlier, bytes)
 many read each (suc n) earlier bytes = binds (read earlier bytes) _ (each earlier bytes) (λ x. many read each n (earlier ++ x.0 ∷ []) x.1)
 
 dim : (total : ℕ) (earlier : List HeadDim) (bytes : List ℕ) → Answers (dim_at total earlier bytes)
 unfolding dim_at
 dim total earlier bytes =
-    binds (name_at total bytes) _ (name total bytes) (λ n. binds (number_at total n.1) _ (number total n.1) (λ size. checks (nat_lt 0 size.0 || list_all (λ e. nat_lt 0 e.length) earlier) TwoRecordDims _ tt (ends _)))
+    binds (name_at total bytes) _ (name total bytes) (λ n. binds (number_at total n.1) _ (number total n.1)
+    (λ size. checks (nat_lt 0 size.0 || list_all (λ e. nat_lt 0 e.length) earlier) TwoRecordDims _ tt (ends _)))
 
 dims : (total : ℕ) (bytes : List ℕ) → Answers (dims_at total bytes)
 unfolding dims_at
@@ -101,22 +107,27 @@ attr total bytes =
 
 attrs : (total : ℕ) (bytes : List ℕ) → Answers (attrs_at total bytes)
 unfolding attrs_at
-attrs total bytes = binds (list_head_at total 12 bytes) _ (list_head total 12 bytes) (λ head. many (λ (earlier : List HeadAttr). attr_at total) (λ earlier. attr total) head.0 [] head.1)
+attrs total bytes = binds (list_head_at total 12 bytes) _ (list_head total 12 bytes)
+    (λ head. many (λ (earlier : List HeadAttr). attr_at total) (λ earlier. attr total) head.0 [] head.1)
 
 dim_number : (total : ℕ) (ds : List HeadDim) (v : ℕ) (earlier bytes : List ℕ) → Answers (dim_number_at total ds v earlier bytes)
 unfolding dim_number_at
 dim_number total ds v earlier bytes =
-    binds (word_at total bytes) _ (word total bytes) (λ w. checks (nat_lt w.0 (length ds)) (DimNumber (place total bytes)) _ tt (checks (nat_lt 0 (dim_length ds w.0) || (length earlier == 0)) (RecordDimNotFirst v) _ tt (ends w)))
+    binds (word_at total bytes) _ (word total bytes) (λ w. checks (nat_lt w.0 (length ds)) (DimNumber (place total bytes)) _ tt
+    (checks (nat_lt 0 (dim_length ds w.0) || (length earlier == 0)) (RecordDimNotFirst v) _ tt (ends w)))
 
 dim_numbers : (total : ℕ) (ds : List HeadDim) (v : ℕ) (bytes : List ℕ) → Answers (dim_numbers_at total ds v bytes)
 unfolding dim_numbers_at
-dim_numbers total ds v bytes = binds (number_at total bytes) _ (number total bytes) (λ rank. many (dim_number_at total ds v) (dim_number total ds v) rank.0 [] rank.1)
+dim_numbers total ds v bytes =
+    binds (number_at total bytes) _ (number total bytes) (λ rank. many (dim_number_at total ds v) (dim_number total ds v) rank.0 [] rank.1)
 
 var : (form : Form) (total : ℕ) (ds : List HeadDim) (v : ℕ) (bytes : List ℕ) → Answers (var_at form total ds v bytes)
 unfolding var_at
 var form total ds v bytes =
-    binds (name_at total bytes) _ (name total bytes) (λ n. binds (dim_numbers_at total ds v n.1) _ (dim_numbers total ds v n.1) (λ ns. binds (attrs_at total ns.1) _ (attrs total ns.1)
-    (λ xs. binds (kind_at total xs.1) _ (kind total xs.1) (λ k. checks (nat_le (size_of ds ns.0 k.0) 4294967296) (Overflow v) _ tt (binds (word_at total k.1) _ (word total k.1)
+    binds (name_at total bytes) _ (name total bytes)
+    (λ n. binds (dim_numbers_at total ds v n.1) _ (dim_numbers total ds v n.1) (λ ns. binds (attrs_at total ns.1) _ (attrs total ns.1)
+    (λ xs. binds (kind_at total xs.1) _ (kind total xs.1)
+    (λ k. checks (nat_le (size_of ds ns.0 k.0) 4294967296) (Overflow v) _ tt (binds (word_at total k.1) _ (word total k.1)
     (λ size. binds (begin_at form total size.1) _ (begin form total size.1) (λ place. ends _)))))))
 
 vars : (form : Form) (total : ℕ) (ds : List HeadDim) (bytes : List ℕ) → Answers (vars_at form total ds bytes)
@@ -126,7 +137,8 @@ vars form total ds bytes = binds (list_head_at total 11 bytes) _ (list_head tota
 
 numrecs : (total : ℕ) (bytes : List ℕ) → Answers (numrecs_at total bytes)
 unfolding numrecs_at
-numrecs total bytes = binds (word_at total bytes) _ (word total bytes) (λ w. checks ((w.0 == streaming) || nat_le w.0 2147483647) (Negative (place total bytes)) _ tt (ends w))
+numrecs total bytes =
+    binds (word_at total bytes) _ (word total bytes) (λ w. checks ((w.0 == streaming) || nat_le w.0 2147483647) (Negative (place total bytes)) _ tt (ends w))
 
 first : (bytes : List ℕ) → Answers (magic_at bytes)
 unfolding magic_at

@@ -50,7 +50,8 @@ word-found before r e =
 
 pub word-again : (number : ℕ) (before after : List ℕ) → IsWord number before after → word_in before ≡ Some (number, after)
 word-again number before after h =
-    ap word_in h.whole ∙ ap (λ (o : Option (List ℕ × List ℕ)). o >>= (λ field. Some (from_be_bytes w32 field.0, field.1))) (free-again 4 h.text after h.size) ∙ ap (λ (n : ℕ). Some (n, after)) (sym h.spells)
+    ap word_in h.whole ∙ ap (λ (o : Option (List ℕ × List ℕ)). o >>= (λ field. Some (from_be_bytes w32 field.0, field.1)))
+    (free-again 4 h.text after h.size) ∙ ap (λ (n : ℕ). Some (n, after)) (sym h.spells)
 
 pub double_word-found : (before : List ℕ) (r : ℕ × List ℕ) → double_word_in before ≡ Some r → IsDoubleWord r.0 before r.1
 double_word-found before r e =

@@ -31,14 +31,16 @@ use Rattle.cdf_read.specs.HeaderReading.{◌>>=◌, need, word_at, number_at, wi
 use Rattle.cdf_read.specs.HeaderReading.{dims_at, attr_at, attrs_at, dim_number_at, dim_numbers_at, var_at, vars_at, numrecs_at, form_of, magic_at, short_var}
 use Rattle.cdf_read.specs.HeaderReading.{data_fault, header_of, Faults}
 
-pub bind_ok : {A B : Type 0} (read : Result A CdfFault) (next : A → Result B CdfFault) (y : B) → (read >>= next) ≡ Ok y → (x : A) × (read ≡ Ok x) × (next x ≡ Ok y)
+pub bind_ok : {A B : Type 0} (read : Result A CdfFault) (next : A → Result B CdfFault) (y : B) → (read >>= next) ≡ Ok y
+    → (x : A) × (read ≡ Ok x) × (next x ≡ Ok y)
 bind_ok (Ok x) next y e = (x, refl, e)
 bind_ok (Err fault) next y e = absurd (cc)
 
 ok_same : {A : Type 0} (x y : A) → ◌≡◌ {A = Result A CdfFault} (Ok x) (Ok y) → x ≡ y
 ok_same x y e = cc
 
-pub bind_to : {A B : Type 0} (read : Result A CdfFault) (next : A → Result B CdfFault) (x : A) (y : Result B CdfFault) → read ≡ Ok x → next x ≡ y → (read >>= next) ≡ y
+pub bind_to : {A B : Type 0} (read : Result A CdfFault) (next : A → Result B CdfFault) (x : A) (y : Result B CdfFault) → read ≡ Ok x → next x ≡ y
+    → (read >>= next) ≡ y
 bind_to read next x y e h = ap (λ m. m >>= next) e ∙ h
 
 pub need_ok : (b : Bool) (fault : CdfFault) (u : Unit {0}) → need b fault ≡ Ok u → b ≡ true
@@ -122,7 +124,8 @@ kind_at-again total kind before after h =
 padded-le : (count : ℕ) → count ≤ padded count
 padded-le count = omega arith
 
-pub padded_at-found : (total count : ℕ) (before : List ℕ) (r : List ℕ × List ℕ) → padded_at total count before ≡ Ok r → IsPadded r.0 before r.1 × (length r.0 ≡ count)
+pub padded_at-found : (total count : ℕ) (before : List ℕ) (r : List ℕ × List ℕ) → padded_at total count before ≡ Ok r
+    → IsPadded r.0 before r.1 × (length r.0 ≡ count)
 unfolding padded_at
 padded_at-found total count before r e =
     let a = bind_ok (ok_or (free_in (padded count) before) (Short (place total before))) _ r e in
@@ -147,8 +150,10 @@ padded_at-again total text before after h =
     let pad : List ℕ = h.pad.text in
     let whole : before ≡ (text ++ pad) ++ after = h.bytes ∙ ap (λ t. text ++ t) h.pad.whole ∙ sym (append_assoc text pad after) in
     let size : length (text ++ pad) ≡ padded count = omega (arith, length-append text pad, h.pad.size, padded-le count) in
-    let field : free_in (padded count) before ≡ Some (text ++ pad, after) = ap (free_in (padded count)) whole ∙ free-again (padded count) (text ++ pad) after size in
-    bind_to (ok_or (free_in (padded count) before) (Short (place total before))) _ (text ++ pad, after) _ (present_to (free_in (padded count) before) _ (text ++ pad, after) field)
+    let field : free_in (padded count) before ≡ Some (text ++ pad, after) = ap (free_in (padded count)) whole
+    ∙ free-again (padded count) (text ++ pad) after size in
+    bind_to (ok_or (free_in (padded count) before) (Short (place total before))) _ (text ++ pad, after) _
+    (present_to (free_in (padded count) before) _ (text ++ pad, after) field)
     (ap (λ t. Ok (t, after)) (take_at text pad count refl))
 
 pub name_at-found : (total : ℕ) (before : List ℕ) (r : List ℕ × List ℕ) → name_at total before ≡ Ok r → IsName r.0 before r.1
@@ -212,8 +217,10 @@ list_head_at-again total tag count before after h =
     (bind_to (need ((h.first == tag) || ((h.first == 0) && (count == 0))) (Tag (place total before))) _ tt _ (need_to _ _ (own-from h.first tag count h.own))
     (bind_to (need (nat_le count 2147483647) (Negative (place total h.at_count))) _ tt _ (need_to _ _ test) refl)))
 
-pub many_at-found : {A : Type 0} (read : List A → List ℕ → Result (A × List ℕ) CdfFault) (Is : List A → A → List ℕ → List ℕ → Type 0) (each : (earlier : List A) (before : List ℕ) (r : A × List ℕ) → read earlier before ≡ Ok r → Is earlier r.0 before r.1)
-    (n : ℕ) (earlier : List A) (before : List ℕ) (r : List A × List ℕ) → many_at read n earlier before ≡ Ok r → (xs : List A) × (r.0 ≡ earlier ++ xs) × (length xs ≡ n) × AreMany Is earlier xs before r.1
+pub many_at-found : {A : Type 0} (read : List A → List ℕ → Result (A × List ℕ) CdfFault) (Is : List A → A → List ℕ → List ℕ
+    → Type 0) (each : (earlier : List A) (before : List ℕ) (r : A × List ℕ) → read earlier before ≡ Ok r → Is earlier r.0 before r.1)
+    (n : ℕ) (earlier : List A) (before : List ℕ) (r : List A × List ℕ) → many_at read n earlier before ≡ Ok r
+    → (xs : List A) × (r.0 ≡ earlier ++ xs) × (length xs ≡ n) × AreMany Is earlier xs before r.1
 many_at-found read Is each zero earlier before r e =
     let same : (earlier, before) ≡ r = cc in
     ([], sym (ap (λ q. q.0) same) ∙ sym (append-nil earlier), refl, ap (λ q. q.1) same)
@@ -222,7 +229,8 @@ many_at-found {A} read Is each (suc n) earlier before r e =
     let more = many_at-found read Is each n (earlier ++ a.0.0 ∷ []) a.0.1 r a.2 in
     (a.0.0 ∷ more.0, more.1 ∙ append_assoc earlier (a.0.0 ∷ []) more.0, ap suc more.2, (a.0.1, each earlier before a.0 a.1, more.3))
 
-pub many_at-again : {A : Type 0} (read : List A → List ℕ → Result (A × List ℕ) CdfFault) (Is : List A → A → List ℕ → List ℕ → Type 0) (each : (earlier : List A) (x : A) (before after : List ℕ) → Is earlier x before after → read earlier before ≡ Ok (x, after))
+pub many_at-again : {A : Type 0} (read : List A → List ℕ → Result (A × List ℕ) CdfFault) (Is : List A → A → List ℕ → List ℕ
+    → Type 0) (each : (earlier : List A) (x : A) (before after : List ℕ) → Is earlier x before after → read earlier before ≡ Ok (x, after))
     (earlier xs : List A) (before after : List ℕ) → AreMany Is earlier xs before after → many_at read (length xs) earlier before ≡ Ok (earlier ++ xs, after)
 many_at-again read Is each earlier [] before after h = ap (λ q. Ok (earlier, q)) h ∙ ap (λ xs. Ok (xs, after)) (sym (append-nil earlier))
 many_at-again read Is each earlier (x ∷ xs) before after h =
@@ -230,7 +238,8 @@ many_at-again read Is each earlier (x ∷ xs) before after h =
     (many_at-again read Is each (earlier ++ x ∷ []) xs h.0 after h.2 ∙ ap (λ ys. Ok (ys, after)) (append_assoc earlier (x ∷ []) xs))
 
 -- a whole list, its head and its elements
-pub list_at-found : {A : Type 0} (total tag : ℕ) (read : List A → List ℕ → Result (A × List ℕ) CdfFault) (Is : List A → A → List ℕ → List ℕ → Type 0) (each : (earlier : List A) (before : List ℕ) (r : A × List ℕ) → read earlier before ≡ Ok r → Is earlier r.0 before r.1)
+pub list_at-found : {A : Type 0} (total tag : ℕ) (read : List A → List ℕ → Result (A × List ℕ) CdfFault) (Is : List A → A → List ℕ → List ℕ
+    → Type 0) (each : (earlier : List A) (before : List ℕ) (r : A × List ℕ) → read earlier before ≡ Ok r → Is earlier r.0 before r.1)
     (before : List ℕ) (r : List A × List ℕ) → (list_head_at total tag before >>= (λ head. many_at read head.0 [] head.1)) ≡ Ok r → IsList tag Is r.0 before r.1
 list_at-found {A} total tag read Is each before r e =
     let a = bind_ok (list_head_at total tag before) _ r e in
@@ -238,13 +247,18 @@ list_at-found {A} total tag read Is each before r e =
     subst (λ (xs : List A). IsList tag Is xs before r.1) (sym more.1)
     (a.0.1, subst (λ (n : ℕ). IsListHead tag n before a.0.1) (sym more.2) (list_head_at-found total tag before a.0 a.1), more.3)
 
-pub list_at-again : {A : Type 0} (total tag : ℕ) (read : List A → List ℕ → Result (A × List ℕ) CdfFault) (Is : List A → A → List ℕ → List ℕ → Type 0) (each : (earlier : List A) (x : A) (before after : List ℕ) → Is earlier x before after → read earlier before ≡ Ok (x, after))
-    (xs : List A) (before after : List ℕ) → IsList tag Is xs before after → (list_head_at total tag before >>= (λ head. many_at read head.0 [] head.1)) ≡ Ok (xs, after)
+pub list_at-again : {A : Type 0} (total tag : ℕ) (read : List A → List ℕ → Result (A × List ℕ) CdfFault) (Is : List A → A → List ℕ → List ℕ
+    → Type 0) (each : (earlier : List A) (x : A) (before after : List ℕ) → Is earlier x before after → read earlier before ≡ Ok (x, after))
+    (xs : List A) (before after : List ℕ) → IsList tag Is xs before after
+    → (list_head_at total tag before >>= (λ head. many_at read head.0 [] head.1)) ≡ Ok (xs, after)
 list_at-again total tag read Is each xs before after h =
-    bind_to (list_head_at total tag before) _ (length xs, h.0) _ (list_head_at-again total tag (length xs) before h.0 h.1) (many_at-again read Is each [] xs h.0 after h.2)
+    bind_to (list_head_at total tag before) _ (length xs, h.0) _ (list_head_at-again total tag (length xs) before h.0 h.1)
+    (many_at-again read Is each [] xs h.0 after h.2)
 
 pub fixed-Decides : (dims : List HeadDim) → Decides (list_all (λ d. nat_lt 0 d.length) dims) (All (λ d. d.length ≢ 0) dims)
-fixed-Decides dims = Decides-by_and (λ (d : HeadDim). nat_lt 0 d.length) (λ d. d.length ≢ 0) (list_all (λ (d : HeadDim). nat_lt 0 d.length)) (λ d. (λ e. λ z. grind (arith, nat_tests, e, z), λ h. grind (arith, nat_tests, h))) refl (λ _ _. refl) dims
+fixed-Decides dims =
+    Decides-by_and (λ (d : HeadDim). nat_lt 0 d.length) (λ d. d.length ≢ 0) (list_all (λ (d : HeadDim). nat_lt 0 d.length))
+    (λ d. (λ e. λ z. grind (arith, nat_tests, e, z), λ h. grind (arith, nat_tests, h))) refl (λ _ _. refl) dims
 
 pub one_record-true : (size : ℕ) (earlier : List HeadDim) → (nat_lt 0 size || list_all (λ d. nat_lt 0 d.length) earlier) ≡ true → size ≡ 0 →
     All (λ d. d.length ≢ 0) earlier
@@ -256,7 +270,8 @@ pub one_record-from : (size : ℕ) (earlier : List HeadDim) → (size ≡ 0 → 
 one_record-from zero earlier h = (fixed-Decides earlier).1 (h refl)
 one_record-from (suc size) earlier h = grind (arith, nat_tests)
 
-pub dim_at-found : (total : ℕ) (earlier : List HeadDim) (before : List ℕ) (r : HeadDim × List ℕ) → dim_at total earlier before ≡ Ok r → IsDim earlier r.0 before r.1
+pub dim_at-found : (total : ℕ) (earlier : List HeadDim) (before : List ℕ) (r : HeadDim × List ℕ) → dim_at total earlier before ≡ Ok r
+    → IsDim earlier r.0 before r.1
 unfolding dim_at
 dim_at-found total earlier before r e =
     let a = bind_ok (name_at total before) _ r e in
@@ -272,12 +287,14 @@ dim_at-found total earlier before r e =
       one_record = one_record-true b.0.0 earlier one;
     })
 
-pub dim_at-again : (total : ℕ) (earlier : List HeadDim) (d : HeadDim) (before after : List ℕ) → IsDim earlier d before after → dim_at total earlier before ≡ Ok (d, after)
+pub dim_at-again : (total : ℕ) (earlier : List HeadDim) (d : HeadDim) (before after : List ℕ) → IsDim earlier d before after
+    → dim_at total earlier before ≡ Ok (d, after)
 unfolding dim_at
 dim_at-again total earlier d before after h =
     bind_to (name_at total before) _ (d.name, h.at_length) _ (name_at-again total d.name before h.at_length h.name)
     (bind_to (number_at total h.at_length) _ (d.length, after) _ (number_at-again total d.length h.at_length after h.size)
-    (bind_to (need (nat_lt 0 d.length || list_all (λ e. nat_lt 0 e.length) earlier) TwoRecordDims) _ tt _ (need_to _ _ (one_record-from d.length earlier h.one_record)) refl))
+    (bind_to (need (nat_lt 0 d.length || list_all (λ e. nat_lt 0 e.length) earlier) TwoRecordDims) _ tt _
+    (need_to _ _ (one_record-from d.length earlier h.one_record)) refl))
 
 pub dims_at-found : (total : ℕ) (before : List ℕ) (r : List HeadDim × List ℕ) → dims_at total before ≡ Ok r → IsList 10 IsDim r.0 before r.1
 unfolding dims_at
@@ -314,15 +331,20 @@ attr_at-again total x before after h =
     bind_to (name_at total before) _ (x.name, h.at_kind) _ (name_at-again total x.name before h.at_kind h.name)
     (bind_to (kind_at total h.at_kind) _ (x.kind, h.at_count) _ (kind_at-again total x.kind h.at_kind h.at_count h.kind)
     (bind_to (number_at total h.at_count) _ (x.count, h.at_values) _ (number_at-again total x.count h.at_count h.at_values h.count)
-    (bind_to (padded_at total (x.count * value_size x.kind) h.at_values) _ (x.values, after) _ (ap (λ n. padded_at total n h.at_values) (sym h.size) ∙ padded_at-again total x.values h.at_values after h.bytes) refl)))
+    (bind_to (padded_at total (x.count * value_size x.kind) h.at_values) _ (x.values, after) _ (ap (λ n. padded_at total n h.at_values) (sym h.size)
+    ∙ padded_at-again total x.values h.at_values after h.bytes) refl)))
 
 pub attrs_at-found : (total : ℕ) (before : List ℕ) (r : List HeadAttr × List ℕ) → attrs_at total before ≡ Ok r → IsList 12 (λ earlier. IsAttr) r.0 before r.1
 unfolding attrs_at
-attrs_at-found total before r e = list_at-found total 12 (λ (earlier : List HeadAttr). attr_at total) (λ (earlier : List HeadAttr). IsAttr) (λ earlier. attr_at-found total) before r e
+attrs_at-found total before r e =
+    list_at-found total 12 (λ (earlier : List HeadAttr). attr_at total) (λ (earlier : List HeadAttr). IsAttr) (λ earlier. attr_at-found total) before r e
 
-pub attrs_at-again : (total : ℕ) (attrs : List HeadAttr) (before after : List ℕ) → IsList 12 (λ earlier. IsAttr) attrs before after → attrs_at total before ≡ Ok (attrs, after)
+pub attrs_at-again : (total : ℕ) (attrs : List HeadAttr) (before after : List ℕ) → IsList 12 (λ earlier. IsAttr) attrs before after
+    → attrs_at total before ≡ Ok (attrs, after)
 unfolding attrs_at
-attrs_at-again total attrs before after h = list_at-again total 12 (λ (earlier : List HeadAttr). attr_at total) (λ (earlier : List HeadAttr). IsAttr) (λ earlier. attr_at-again total) attrs before after h
+attrs_at-again total attrs before after h =
+    list_at-again total 12 (λ (earlier : List HeadAttr). attr_at total) (λ (earlier : List HeadAttr). IsAttr)
+    (λ earlier. attr_at-again total) attrs before after h
 
 pub first-true : (size : ℕ) (earlier : List ℕ) → (nat_lt 0 size || (length earlier == 0)) ≡ true → size ≡ 0 → earlier ≡ []
 first-true zero [] e z = refl
@@ -333,7 +355,8 @@ pub first-from : (size : ℕ) (earlier : List ℕ) → (size ≡ 0 → earlier �
 first-from zero earlier h = rw (h refl) refl
 first-from (suc size) earlier h = grind (arith, nat_tests)
 
-pub dim_number_at-found : (total : ℕ) (dims : List HeadDim) (var : ℕ) (earlier before : List ℕ) (r : ℕ × List ℕ) → dim_number_at total dims var earlier before ≡ Ok r → IsDimNumber dims earlier r.0 before r.1
+pub dim_number_at-found : (total : ℕ) (dims : List HeadDim) (var : ℕ) (earlier before : List ℕ) (r : ℕ × List ℕ)
+    → dim_number_at total dims var earlier before ≡ Ok r → IsDimNumber dims earlier r.0 before r.1
 unfolding dim_number_at
 dim_number_at-found total dims var earlier before r e =
     let a = bind_ok (word_at total before) _ r e in
@@ -348,14 +371,17 @@ dim_number_at-found total dims var earlier before r e =
       record_first = first-true (dim_length dims a.0.0) earlier first;
     })
 
-pub dim_number_at-again : (total : ℕ) (dims : List HeadDim) (var : ℕ) (earlier : List ℕ) (number : ℕ) (before after : List ℕ) → IsDimNumber dims earlier number before after → dim_number_at total dims var earlier before ≡ Ok (number, after)
+pub dim_number_at-again : (total : ℕ) (dims : List HeadDim) (var : ℕ) (earlier : List ℕ) (number : ℕ) (before after : List ℕ)
+    → IsDimNumber dims earlier number before after → dim_number_at total dims var earlier before ≡ Ok (number, after)
 unfolding dim_number_at
 dim_number_at-again total dims var earlier number before after h =
     bind_to (word_at total before) _ (number, after) _ (word_at-again total number before after h.word)
     (bind_to (need (nat_lt number (length dims)) (DimNumber (place total before))) _ tt _ (need_to _ _ (lt-ltb number (length dims) h.known))
-    (bind_to (need (nat_lt 0 (dim_length dims number) || (length earlier == 0)) (RecordDimNotFirst var)) _ tt _ (need_to _ _ (first-from (dim_length dims number) earlier h.record_first)) refl))
+    (bind_to (need (nat_lt 0 (dim_length dims number) || (length earlier == 0)) (RecordDimNotFirst var)) _ tt _
+    (need_to _ _ (first-from (dim_length dims number) earlier h.record_first)) refl))
 
-pub dim_numbers_at-found : (total : ℕ) (dims : List HeadDim) (var : ℕ) (before : List ℕ) (r : List ℕ × List ℕ) → dim_numbers_at total dims var before ≡ Ok r → (next : List ℕ) × IsNumber (length r.0) before next × AreMany (IsDimNumber dims) [] r.0 next r.1
+pub dim_numbers_at-found : (total : ℕ) (dims : List HeadDim) (var : ℕ) (before : List ℕ) (r : List ℕ × List ℕ)
+    → dim_numbers_at total dims var before ≡ Ok r → (next : List ℕ) × IsNumber (length r.0) before next × AreMany (IsDimNumber dims) [] r.0 next r.1
 unfolding dim_numbers_at
 dim_numbers_at-found total dims var before r e =
     let a = bind_ok (number_at total before) _ r e in
@@ -363,10 +389,12 @@ dim_numbers_at-found total dims var before r e =
     subst (λ (xs : List ℕ). (next : List ℕ) × IsNumber (length xs) before next × AreMany (IsDimNumber dims) [] xs next r.1) (sym more.1)
     (a.0.1, subst (λ (n : ℕ). IsNumber n before a.0.1) (sym more.2) (number_at-found total before a.0 a.1), more.3)
 
-pub dim_numbers_at-again : (total : ℕ) (dims : List HeadDim) (var : ℕ) (numbers before next after : List ℕ) → IsNumber (length numbers) before next → AreMany (IsDimNumber dims) [] numbers next after → dim_numbers_at total dims var before ≡ Ok (numbers, after)
+pub dim_numbers_at-again : (total : ℕ) (dims : List HeadDim) (var : ℕ) (numbers before next after : List ℕ) → IsNumber (length numbers) before next
+    → AreMany (IsDimNumber dims) [] numbers next after → dim_numbers_at total dims var before ≡ Ok (numbers, after)
 unfolding dim_numbers_at
 dim_numbers_at-again total dims var numbers before next after rank many =
-    bind_to (number_at total before) _ (length numbers, next) _ (number_at-again total (length numbers) before next rank) (many_at-again (dim_number_at total dims var) (IsDimNumber dims) (dim_number_at-again total dims var) [] numbers next after many)
+    bind_to (number_at total before) _ (length numbers, next) _ (number_at-again total (length numbers) before next rank)
+    (many_at-again (dim_number_at total dims var) (IsDimNumber dims) (dim_number_at-again total dims var) [] numbers next after many)
 
 pub var_at-found : (form : Form) (total : ℕ) (dims : List HeadDim) (var : ℕ) (before : List ℕ) (r : HeadVar × List ℕ) →
     var_at form total dims var before ≡ Ok r → IsVar form dims r.0 before r.1
@@ -401,17 +429,20 @@ var_at-found form total dims var before r e =
     })
 
 free_word-again : (total : ℕ) (before after : List ℕ) (h : IsFree 4 before after) → word_at total before ≡ Ok (from_be_bytes w32 h.text, after)
-free_word-again total before after h = word_at-again total (from_be_bytes w32 h.text) before after (record { text = h.text; whole = h.whole; size = h.size; spells = refl })
+free_word-again total before after h =
+    word_at-again total (from_be_bytes w32 h.text) before after (record { text = h.text; whole = h.whole; size = h.size; spells = refl })
 
 pub var_at-again : (form : Form) (total : ℕ) (dims : List HeadDim) (var : ℕ) (v : HeadVar) (before after : List ℕ) → IsVar form dims v before after →
     var_at form total dims var before ≡ Ok (v, after)
 unfolding var_at
 var_at-again form total dims var v before after h =
     bind_to (name_at total before) _ (v.name, h.at_rank) _ (name_at-again total v.name before h.at_rank h.name)
-    (bind_to (dim_numbers_at total dims var h.at_rank) _ (v.dims, h.at_attrs) _ (dim_numbers_at-again total dims var v.dims h.at_rank h.at_dims h.at_attrs h.rank h.numbers)
+    (bind_to (dim_numbers_at total dims var h.at_rank) _ (v.dims, h.at_attrs) _
+    (dim_numbers_at-again total dims var v.dims h.at_rank h.at_dims h.at_attrs h.rank h.numbers)
     (bind_to (attrs_at total h.at_attrs) _ (v.attrs, h.at_kind) _ (attrs_at-again total v.attrs h.at_attrs h.at_kind h.attrs)
     (bind_to (kind_at total h.at_kind) _ (v.kind, h.at_vsize) _ (kind_at-again total v.kind h.at_kind h.at_vsize h.kind)
-    (bind_to (need (nat_le (size_of dims v.dims v.kind) 4294967296) (Overflow var)) _ tt _ (need_to _ _ (le-leb (size_of dims v.dims v.kind) 4294967296 h.within))
+    (bind_to (need (nat_le (size_of dims v.dims v.kind) 4294967296) (Overflow var)) _ tt _
+    (need_to _ _ (le-leb (size_of dims v.dims v.kind) 4294967296 h.within))
     (bind_to (word_at total h.at_vsize) _ (from_be_bytes w32 h.vsize.text, h.at_begin) _ (free_word-again total h.at_vsize h.at_begin h.vsize)
     (bind_to (begin_at form total h.at_begin) _ (v.begin, after) _ (begin_at-again form total v.begin h.at_begin after h.begin_number) refl))))))
 
@@ -440,13 +471,15 @@ numrecs_at-found total before r e =
     let b = bind_ok (need ((a.0.0 == streaming) || nat_le a.0.0 2147483647) (Negative (place total before))) _ r a.2 in
     let test = need_ok ((a.0.0 == streaming) || nat_le a.0.0 2147483647) _ b.0 b.1 in
     let same : a.0 ≡ r = cc in
-    subst (λ (q : ℕ × List ℕ). IsNumrecs q.0 before q.1) {x = a.0} same (record { word = word_at-found total before a.0 a.1; counted = counted-true a.0.0 test })
+    subst (λ (q : ℕ × List ℕ). IsNumrecs q.0 before q.1) {x = a.0} same
+    (record { word = word_at-found total before a.0 a.1; counted = counted-true a.0.0 test })
 
 pub numrecs_at-again : (total numrecs : ℕ) (before after : List ℕ) → IsNumrecs numrecs before after → numrecs_at total before ≡ Ok (numrecs, after)
 unfolding numrecs_at
 numrecs_at-again total numrecs before after h =
     bind_to (word_at total before) _ (numrecs, after) _ (word_at-again total numrecs before after h.word)
-    (bind_to (need ((numrecs == streaming) || nat_le numrecs 2147483647) (Negative (place total before))) _ tt _ (need_to _ _ (counted-from numrecs h.counted)) refl)
+    (bind_to (need ((numrecs == streaming) || nat_le numrecs 2147483647) (Negative (place total before))) _ tt _
+    (need_to _ _ (counted-from numrecs h.counted)) refl)
 
 pub form_of-found : (text : List ℕ) (form : Form) → form_of text ≡ Some form → text ≡ magic form
 form_of-found text form e = found (bytes_eq text (magic Classic)) (bytes_eq text (magic Wide)) refl refl e
@@ -490,7 +523,8 @@ whole-true : (total : ℕ) (h : Header) → short_var total h ≡ None → All (
 whole-true total h e = λ k d within. ltb-false total (values_end h (get_or h.vars k d)) (position-None (λ v. nat_lt total (values_end h v)) h.vars e k d within)
 
 whole-from : (total : ℕ) (h : Header) → All (λ v. values_end h v ≤ total) h.vars → short_var total h ≡ None
-whole-from total h all = position-none (λ v. nat_lt total (values_end h v)) h.vars (λ k d within. le-ltb total (values_end h (get_or h.vars k d)) (all k d within))
+whole-from total h all =
+    position-none (λ v. nat_lt total (values_end h v)) h.vars (λ k d within. le-ltb total (values_end h (get_or h.vars k d)) (all k d within))
 
 -- what is read is a header of the file
 pub header_of-found : (bytes : List ℕ) (h : Header) → header_of bytes ≡ Ok h → Reads bytes h
@@ -544,7 +578,8 @@ header_of-again bytes h reads =
 pub answer : (bytes : List ℕ) → ((h : Header) × Reads bytes h) ⊎ ((fault : CdfFault) × Faults bytes fault)
 answer bytes = answered bytes (header_of bytes) refl
   where
-    answered : (bytes : List ℕ) (read : Result Header CdfFault) → header_of bytes ≡ read → ((h : Header) × Reads bytes h) ⊎ ((fault : CdfFault) × Faults bytes fault)
+    answered : (bytes : List ℕ) (read : Result Header CdfFault) → header_of bytes ≡ read
+        → ((h : Header) × Reads bytes h) ⊎ ((fault : CdfFault) × Faults bytes fault)
     answered bytes (Ok h) e = inl (h, header_of-found bytes h e)
     answered bytes (Err fault) e = inr (fault, e)
 

@@ -61,14 +61,16 @@ abbrev one_header : Header
 one_header = record { records = 2; recsize = 3; dims = dims; gatts = []; vars = data_var 112 ∷ [] }
 
 a_lone_byte_variable_is_not_padded : header_of one_variable ≡ Ok one_header
-unfolding header_of number_at kind_at padded_at name_at list_head_at dim_at dims_at attr_at attrs_at dim_number_at dim_numbers_at var_at vars_at numrecs_at magic_at
+unfolding header_of number_at kind_at padded_at name_at list_head_at dim_at dims_at attr_at attrs_at dim_number_at dim_numbers_at var_at vars_at numrecs_at
+    magic_at
 a_lone_byte_variable_is_not_padded = simp (record_name, size_name, data_name) refl
 
 the_second_record_follows_the_first : place_of_value one_header (data_var 112) 1 2 ≡ 117
 the_second_record_follows_the_first = refl
 
 a_name_is_cut : header_of (take 24 one_variable) ≡ Err (Short 20)
-unfolding header_of number_at kind_at padded_at name_at list_head_at dim_at dims_at attr_at attrs_at dim_number_at dim_numbers_at var_at vars_at numrecs_at magic_at
+unfolding header_of number_at kind_at padded_at name_at list_head_at dim_at dims_at attr_at attrs_at dim_number_at dim_numbers_at var_at vars_at numrecs_at
+    magic_at
 a_name_is_cut = refl
 
 three_bytes : header_of (take 3 one_variable) ≡ Err (Short 0)
@@ -105,16 +107,19 @@ two_header = record {
 }
 
 two_variables_are_padded : header_of (two_variables 2 []) ≡ Ok two_header
-unfolding header_of number_at kind_at padded_at name_at list_head_at dim_at dims_at attr_at attrs_at dim_number_at dim_numbers_at var_at vars_at numrecs_at magic_at
+unfolding header_of number_at kind_at padded_at name_at list_head_at dim_at dims_at attr_at attrs_at dim_number_at dim_numbers_at var_at vars_at numrecs_at
+    magic_at
 two_variables_are_padded = simp (record_name, size_name, data_name, id_name) refl
 
 -- four bytes more are no whole record
 whole_records_are_counted : header_of (two_variables 4294967295 (0 ∷ 0 ∷ 0 ∷ 9 ∷ [])) ≡ Ok two_header
-unfolding header_of number_at kind_at padded_at name_at list_head_at dim_at dims_at attr_at attrs_at dim_number_at dim_numbers_at var_at vars_at numrecs_at magic_at
+unfolding header_of number_at kind_at padded_at name_at list_head_at dim_at dims_at attr_at attrs_at dim_number_at dim_numbers_at var_at vars_at numrecs_at
+    magic_at
 whole_records_are_counted = simp (record_name, size_name, data_name, id_name) refl
 
 a_value_is_missing : header_of (take 117 one_variable) ≡ Err (DataShort 0)
-unfolding header_of number_at kind_at padded_at name_at list_head_at dim_at dims_at attr_at attrs_at dim_number_at dim_numbers_at var_at vars_at numrecs_at magic_at
+unfolding header_of number_at kind_at padded_at name_at list_head_at dim_at dims_at attr_at attrs_at dim_number_at dim_numbers_at var_at vars_at numrecs_at
+    magic_at
 a_value_is_missing = simp (record_name, size_name, data_name) refl
 
 -- one_variable in the 64-bit offset format
@@ -127,18 +132,22 @@ abbrev one_wide_header : Header
 one_wide_header = record { records = 2; recsize = 3; dims = dims; gatts = []; vars = data_var 116 ∷ [] }
 
 a_begin_has_eight_bytes : header_of (one_wide_variable 116) ≡ Ok one_wide_header
-unfolding header_of number_at wide_begin_at kind_at padded_at name_at list_head_at dim_at dims_at attr_at attrs_at dim_number_at dim_numbers_at var_at vars_at numrecs_at magic_at
+unfolding header_of number_at wide_begin_at kind_at padded_at name_at list_head_at dim_at dims_at attr_at attrs_at dim_number_at dim_numbers_at var_at
+    vars_at numrecs_at magic_at
 a_begin_has_eight_bytes = simp (record_name, size_name, data_name) refl
 
 half_a_begin_is_left : header_of (take 112 (one_wide_variable 116)) ≡ Err (Short 108)
-unfolding header_of number_at wide_begin_at kind_at padded_at name_at list_head_at dim_at dims_at attr_at attrs_at dim_number_at dim_numbers_at var_at vars_at numrecs_at magic_at
+unfolding header_of number_at wide_begin_at kind_at padded_at name_at list_head_at dim_at dims_at attr_at attrs_at dim_number_at dim_numbers_at var_at
+    vars_at numrecs_at magic_at
 half_a_begin_is_left = simp (record_name, size_name, data_name) refl
 
 -- the greatest begin is read, though the values would end past 2 ^ 63
 the_greatest_begin : header_of (one_wide_variable 9223372036854775807) ≡ Err (DataShort 0)
-unfolding header_of number_at wide_begin_at kind_at padded_at name_at list_head_at dim_at dims_at attr_at attrs_at dim_number_at dim_numbers_at var_at vars_at numrecs_at magic_at
+unfolding header_of number_at wide_begin_at kind_at padded_at name_at list_head_at dim_at dims_at attr_at attrs_at dim_number_at dim_numbers_at var_at
+    vars_at numrecs_at magic_at
 the_greatest_begin = simp (record_name, size_name, data_name) refl
 
 a_negative_begin : header_of (one_wide_variable 9223372036854775808) ≡ Err (Negative 108)
-unfolding header_of number_at wide_begin_at kind_at padded_at name_at list_head_at dim_at dims_at attr_at attrs_at dim_number_at dim_numbers_at var_at vars_at numrecs_at magic_at
+unfolding header_of number_at wide_begin_at kind_at padded_at name_at list_head_at dim_at dims_at attr_at attrs_at dim_number_at dim_numbers_at var_at
+    vars_at numrecs_at magic_at
 a_negative_begin = simp (record_name, size_name, data_name) refl

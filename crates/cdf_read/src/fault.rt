@@ -1,5 +1,8 @@
 //! What is wrong with a file.
 
+ghost use Rattle.std.specs.Prelude.{◌≡◌};
+ghost use Rattle.cdf_read.specs.declared.fault.CdfFault.TheVariants.{OutOfMemory};
+
 use std::alloc::{AllocError, AllocFailed};
 use thiserror::Error;
 
@@ -50,9 +53,6 @@ pub enum CdfFault {
 }
 
 impl From<AllocError> for CdfFault {
-    ghost use Rattle.std.specs.Prelude.{◌≡◌};
-    ghost use Rattle.cdf_read.specs.declared.fault.CdfFault.TheVariants.{OutOfMemory};
-
     ghost from_gives = { λ _ e. e ≡ OutOfMemory };
 
     fn from(_: AllocError) -> Self {
@@ -61,9 +61,6 @@ impl From<AllocError> for CdfFault {
 }
 
 impl<T: Drop> From<AllocFailed<T>> for CdfFault {
-    ghost use Rattle.std.specs.Prelude.{◌≡◌};
-    ghost use Rattle.cdf_read.specs.declared.fault.CdfFault.TheVariants.{OutOfMemory};
-
     ghost from_gives = { λ _ e. e ≡ OutOfMemory };
 
     fn from(_: AllocFailed<T>) -> Self {

@@ -229,7 +229,8 @@ fn read_so_many_vars<'a>(
     count: u32,
     mut rest: &'a [u8],
 ) -> Result<(Vec<HeadVar>, &'a [u8]), CdfFault>
-    ensures gives { Gives (λ list. (list.0.items, list.1.now)) result (many_at (λ (earlier : List HeadVar). var_at form total dims.now (length earlier)) count [] rest.entry.now) }
+    ensures gives { Gives (λ list. (list.0.items, list.1.now)) result
+        (many_at (λ (earlier : List HeadVar). var_at form total dims.now (length earlier)) count [] rest.entry.now) }
     ensures count { IfOk result (λ list. length list.0.items ≡ count) }
     ensures small { IfOk result (λ list. All (λ v. var_size dims.now v ≤ 4294967296) list.0.items) }
 {

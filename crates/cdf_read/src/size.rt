@@ -13,6 +13,7 @@ pub(crate) const LARGEST: u64 = 4_294_967_296;
 /// The bytes of one value of the type of this number.
 pub fn size_of_value(kind: u32) -> u32
     ensures value { result ≡ value_size kind }
+    ensures some { 1 ≤ result }
     ensures small { result ≤ 8 }
 {
     match kind {

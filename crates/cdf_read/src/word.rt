@@ -1,7 +1,7 @@
 //! The small fields of a header. Each function is given the size of the whole file and the bytes that are
 //! left of it, and gives what it read with the bytes after that.
 
-ghost use Rattle.std.specs.Prelude.{◌≡◌, ◌<◌, ◌^◌, length, true, false, ◌≤◌, IfOk, IfSome, IfNone};
+ghost use Rattle.std.specs.Prelude.{◌≡◌, ◌<◌, ◌^◌, true, false, ◌≤◌, IfOk, IfSome, IfNone};
 ghost use Rattle.std.specs.Str.{is_utf8};
 ghost use Rattle.cdf_read.specs.Fields.{place};
 ghost use Rattle.cdf_read.specs.HeaderReading.{Gives, word_at, number_at, wide_begin_at, begin_at, kind_at, padded_at, name_at, list_head_at, form_of};

@@ -9,7 +9,9 @@ use Rattle.nd_base.specs.declared.form.Form.{Form}
 use Rattle.nd_base.specs.declared.form.Form.TheVariants.{Classic, Wide}
 use Rattle.nd_base.specs.Array.{Array}
 use Rattle.nd_base.specs.Samples.{bytes_of}
-use Rattle.cdf_write.specs.Spelling.{word, double_word, signed_word, padded_length, element_list, absent, name_field, dimension, attribute, int_attribute, type_size, padded_values}
+use Rattle.cdf_read.specs.Places.{value_size}
+use Rattle.cdf_write.specs.Spelling.{word, double_word, signed_word, padded_length, element_list, absent, name_field, dimension, attribute, int_attribute}
+use Rattle.cdf_write.specs.Spelling.{padded_values}
 use Rattle.cdf_write.specs.Columns.{Column, columns, sample_kind, type_number}
 
 -- THE HEADER
@@ -55,7 +57,7 @@ fixed_attributes shape =
     ∷ int_attribute (codes "dimReverse") (map (λ d. (if d.reverse then pos 1 else pos 0)) shape.dims) ∷ []
 
 abbrev pub extra_attribute : Extra → List ℕ
-extra_attribute e = attribute e.name e.kind (length e.values / type_size e.kind) e.values
+extra_attribute e = attribute e.name e.kind (length e.values / value_size e.kind) e.values
 
 -- the global attributes: the fixed ones, then the extras
 abbrev pub attributes : FileShape → List (List ℕ)

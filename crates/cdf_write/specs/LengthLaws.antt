@@ -1,5 +1,6 @@
 -- Laws of lengths: of a header, a row and a file.
-use Rattle.std.specs.Prelude.{◌≡◌, ℕ, suc, ◌+◌, ◌*◌, ◌-◌, ◌≤◌, pos, All, take, replicate, List, [], ◌∷◌, ◌++◌, length, map, codes, Option, Some, None, if◌then◌else◌, refl}
+use Rattle.std.specs.Prelude.{◌≡◌, ℕ, suc, ◌+◌, ◌*◌, ◌-◌, ◌≤◌, pos, All, take, replicate, List, [], ◌∷◌, ◌++◌, length, map, codes, Option, Some, None}
+use Rattle.std.specs.Prelude.{if◌then◌else◌, refl}
 use Rattle.std.specs.List.{concat, flat_map, sum_by}
 use Rattle.std.proofs.Common.{ap, sym, ◌∙◌, length-append, arith}
 use Rattle.std.proofs.lemmas.List.{length-map, length-replicate, length-take-le}
@@ -25,9 +26,11 @@ use Rattle.nd_base.specs.Samples.{width, bytes_of}
 use Rattle.nd_base.specs.SampleLaws.{length-bytes_of}
 use Rattle.nd_base.specs.Shapes.{sample_count}
 use Rattle.cdf_write.specs.Spelling.{word, double_word, signed_word, gap, padded_length, name_field, absent, dimension, element_list, fill, padded_values}
-use Rattle.cdf_write.specs.SpellingLaws.{length-flat_map, length-flat_map_words, length-name_field, length-attribute, length-int_attribute, concat-map, length-concat, length-concat-append, length-element_list, length_in_room, padded_text}
+use Rattle.cdf_write.specs.SpellingLaws.{length-flat_map, length-flat_map_words, length-name_field, length-attribute, length-int_attribute, concat-map}
+use Rattle.cdf_write.specs.SpellingLaws.{length-concat, length-concat-append, length-element_list, length_in_room, padded_text}
 use Rattle.cdf_write.specs.Columns.{Column, columns, fixed_columns, attr_column, sample_kind, kind_size}
-use Rattle.cdf_write.specs.Layout.{record_count, slowest_first, size_dimensions, dimensions, fixed_attributes, extra_attribute, attributes, magic, offset, variable, variables, header_from, header_length, header, attr_values, row, layout}
+use Rattle.cdf_write.specs.Layout.{record_count, slowest_first, size_dimensions, dimensions, fixed_attributes, extra_attribute, attributes, magic, offset}
+use Rattle.cdf_write.specs.Layout.{variable, variables, header_from, header_length, header, attr_values, row, layout}
 use Rattle.cdf_write.specs.Lengths.{columns_length, row_length, length_of, offset_length, attr_header_length, extra_header_length}
 use Rattle.cdf_write.specs.Writable.{kind_of, column_of, FitsIn, HasShape}
 

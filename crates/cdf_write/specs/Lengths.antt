@@ -27,10 +27,6 @@ row_length shape = columns_length (columns shape)
 abbrev pub length_of : FileShape → ℕ → ℕ
 length_of shape count = header_length shape + count * row_length shape
 
--- the longest file that is written
-abbrev pub longest : ℕ
-longest = longest_of Classic
-
 -- what the header of a file of this form and length is refused for: the length, exactly where it is too long, else
 -- want of memory
 abbrev pub IsRefusal : Form → ℕ → TooLarge → Type 0

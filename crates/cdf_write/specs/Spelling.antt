@@ -1,6 +1,6 @@
 -- How the parts of a netCDF classic header are spelled (netCDF classic format specification): words of
 -- four bytes, most significant first; names and values padded to whole words.
-use Rattle.std.specs.Prelude.{ℕ, ◌+◌, ◌-◌, ◌%◌, ℤ, List, [], ◌∷◌, ◌++◌, length, take, replicate, ◌==◌, nat_lt, if◌then◌else◌}
+use Rattle.std.specs.Prelude.{ℕ, ◌+◌, ◌-◌, ◌%◌, ℤ, List, [], ◌∷◌, ◌++◌, length, take, replicate, ◌==◌, if◌then◌else◌}
 use Rattle.std.specs.List.{concat, flat_map}
 use Rattle.std.specs.Int.{w32, w64, to_be_bytes, cast_unsigned}
 
@@ -46,10 +46,6 @@ attribute name kind count values = name_field name ++ word kind ++ word count ++
 
 abbrev pub int_attribute : List ℕ → List ℤ → List ℕ
 int_attribute name values = attribute name 4 (length values) (flat_map signed_word values)
-
--- the bytes of one value of an external type: byte 1, char 2, short 3, int 4, float 5, double 6
-abbrev pub type_size : ℕ → ℕ
-type_size kind = if kind == 6 then 8 else if kind == 3 then 2 else if nat_lt kind 3 then 1 else 4
 
 -- what fills the last word of a variable's values: the fill value of its type, where that is below a word
 abbrev pub fill : ℕ → List ℕ

@@ -11,14 +11,14 @@ use Rattle.nd_base.specs.declared.attribute.FileShape.{FileShape}
 use Rattle.nd_base.specs.Array.{Array}
 use Rattle.nd_base.specs.GraphRules.{IsBetween}
 use Rattle.nd_base.specs.Shapes.{has_dimensions, sample_count, most_samples}
-use Rattle.cdf_write.specs.Spelling.{type_size}
+use Rattle.cdf_read.specs.Places.{value_size}
 
 -- an extra's name, external type and whole values
 pub record IsExtra (e : Extra) : Type 0 where
   pub name : IsBetween 1 1024 (length e.name)
   pub kind : IsBetween 1 6 e.kind
-  pub whole : length e.values % type_size e.kind ≡ 0
-  pub few : length e.values / type_size e.kind ≤ 2147483647
+  pub whole : length e.values % value_size e.kind ≡ 0
+  pub few : length e.values / value_size e.kind ≤ 2147483647
 
 -- a shape that the layout can spell
 pub record IsWritable (shape : FileShape) : Type 0 where

@@ -1,15 +1,16 @@
 //! The global attributes of a header.
 
-ghost use Rattle.std.specs.Prelude.{◌≡◌, ◌<◌, ◌≤◌, ◌^◌, ◌++◌, length, map, All, OnOk};
+ghost use Rattle.std.specs.Prelude.{◌≡◌, ◌<◌, ◌^◌, ◌++◌, length, map, All, OnOk};
 ghost use Rattle.std.specs.List.{concat, flat_map};
 ghost use Rattle.std.specs.Int.{w32, cast_unsigned};
-ghost use Rattle.cdf_write.specs.Spelling.{int_attribute, element_list, type_size};
+ghost use Rattle.cdf_write.specs.Spelling.{int_attribute, element_list};
 ghost use Rattle.cdf_write.specs.Columns.{type_number};
 ghost use Rattle.cdf_write.specs.DimParts.{part_of};
 ghost use Rattle.cdf_write.specs.Layout.{fixed_attributes, attributes, extra_attribute};
 ghost use Rattle.cdf_write.specs.Writable.{IsWritable, IsExtra};
 
 use crate::spelling::{DOUBLE, INT, push_attribute, push_int, push_name, push_word};
+use cdf_read::size_of_value;
 use nd_base::{Dim, Extra, FileShape, SampleType};
 use std::alloc::AllocError;
 
@@ -29,8 +30,6 @@ pub enum DimPart {
 }
 
 impl DimPart {
-    ghost use Rattle.cdf_write.specs.DimParts.{part_of};
-
     /// The number's bits.
     fn bits(self, dim: &Dim) -> u32
         ensures { result ≡ cast_unsigned w32 (part_of self dim.now) }
@@ -55,19 +54,6 @@ fn data_type(kind: SampleType) -> u32
         SampleType::UInt16 => 3,
         SampleType::Int32 => 4,
         SampleType::UInt32 => 5,
-    }
-}
-
-/// The bytes of one value of an external type from 1 to 6.
-fn type_bytes(kind: u32) -> usize
-    ensures value { result ≡ type_size kind }
-    ensures some { 1 ≤ result }
-{
-    match kind {
-        6 => 8,
-        3 => 2,
-        0..=2 => 1,
-        _ => 4,
     }
 }
 
@@ -113,7 +99,7 @@ fn push_extras(out: &mut Vec<u8>, extras: &[Extra]) -> Result<(), AllocError>
 {
     for extra in extras {
         let values = extra.values.list();
-        let count = values.len() / type_bytes(extra.kind);
+        let count = values.len() / size_of_value(extra.kind) as usize;
         push_attribute(
             out,
             extra.name.text().as_bytes(),

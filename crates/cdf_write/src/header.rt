@@ -1,9 +1,10 @@
 //! Headers.
 
-ghost use Rattle.std.specs.Prelude.{◌≡◌, ◌+◌, ◌≤◌, ◌++◌, [], ◌∷◌, length, map, OnOk, IfOk, IfErr};
+ghost use Rattle.std.specs.Prelude.{◌≡◌, ◌+◌, ◌≤◌, ◌++◌, length, map, OnOk, IfOk, IfErr};
 ghost use Rattle.std.specs.Option.{ForSome};
 ghost use Rattle.std.specs.List.{concat};
 ghost use Rattle.nd_base.specs.Forms.{longest_of};
+ghost use Rattle.cdf_write.specs.declared.header.TooLarge.TheVariants.{OutOfMemory};
 ghost use Rattle.cdf_write.specs.Spelling.{element_list};
 ghost use Rattle.cdf_write.specs.Layout.{version, record_count, slowest_first, size_dimensions, dimensions, header};
 ghost use Rattle.cdf_write.specs.Lengths.{length_of, IsRefusal};
@@ -35,9 +36,6 @@ pub enum TooLarge {
 }
 
 impl From<AllocError> for TooLarge {
-    ghost use Rattle.std.specs.Prelude.{◌≡◌};
-    ghost use Rattle.cdf_write.specs.declared.header.TooLarge.TheVariants.{OutOfMemory};
-
     ghost from_gives = { λ _ r. r ≡ OutOfMemory };
 
     fn from(_: AllocError) -> Self {

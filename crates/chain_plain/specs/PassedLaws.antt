@@ -1,5 +1,6 @@
 -- Laws of the positions that go out of nodes.
-use Rattle.std.specs.Prelude.{◌≡◌, ℕ, zero, suc, ◌+◌, ◌<◌, ◌≤◌, Bool, true, false, List, [], ◌∷◌, ◌++◌, length, map, All, Option, Some, None, if◌then◌else◌, refl}
+use Rattle.std.specs.Prelude.{◌≡◌, ℕ, zero, suc, ◌+◌, ◌<◌, ◌≤◌, Bool, true, false, List, [], ◌∷◌, ◌++◌, length, map, All, Option, Some, None, if◌then◌else◌}
+use Rattle.std.specs.Prelude.{refl}
 use Rattle.std.specs.List.{range_with_len}
 use Rattle.std.proofs.Common.{ap, sym, ◌∙◌, arith, length-append}
 use Rattle.std.proofs.lemmas.List.Elements.{All-nil, All-cons, All-head, All-tail, All-append, All-from_get_or}
@@ -18,7 +19,8 @@ use Rattle.chain_plain.specs.PlainRun.{passed_within, passed}
 -- A NODE ACTS ON WHAT GOES OUT OF ITS INPUT
 
 -- what goes out of a node is what it makes of what goes out of its input
-pub passed-step : (g : Graph) (s : StackValue) (v : ℕ) → IsGraph g → v ≤ length g.nodes → passed g s v ≡ outputs g.nodes s.arrays v (passed g s (input_of g.nodes v))
+pub passed-step : (g : Graph) (s : StackValue) (v : ℕ) → IsGraph g → v ≤ length g.nodes
+    → passed g s v ≡ outputs g.nodes s.arrays v (passed g s (input_of g.nodes v))
 passed-step g s v sound within =
     sym (walked-more (outputs g.nodes s.arrays) g.nodes (λ ks. refl) (length g.nodes) v (range_with_len 0 (length s.arrays)) (sound.acyclic v within))
 
@@ -145,7 +147,8 @@ range-rising a (suc n) = (
 passed_within-rising : (nodes : List NodeRule) (arrays : List Array) (steps v : ℕ) → AreRising (passed_within nodes arrays steps v)
 passed_within-rising nodes arrays zero v = range-rising 0 (length arrays)
 passed_within-rising nodes arrays (suc steps) v =
-    rule_outputs-rising (rule_at nodes v) arrays (passed_within nodes arrays steps (input_of nodes v)) (passed_within-rising nodes arrays steps (input_of nodes v))
+    rule_outputs-rising (rule_at nodes v) arrays (passed_within nodes arrays steps (input_of nodes v))
+    (passed_within-rising nodes arrays steps (input_of nodes v))
 
 -- what goes out of a node goes in the order of the stack
 pub passed-rising : (g : Graph) (s : StackValue) (v : ℕ) → AreRising (passed g s v)

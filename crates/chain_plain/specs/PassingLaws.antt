@@ -47,7 +47,8 @@ module _ {X : Type 0} (step : ℕ → X → X) (nodes : List NodeRule) (driver :
       ∙ walked-driver steps x
 
 module _ {X : Type 0} (cut : RoiRule → X → X) (nodes : List NodeRule) where
-  pub passed_on-step : (steps v : ℕ) (x : X) → source_of nodes steps v ≡ 0 → passed_on cut nodes steps v x ≡ by_node cut (rule_at nodes v) (passed_on cut nodes steps (input_of nodes v) x)
+  pub passed_on-step : (steps v : ℕ) (x : X) → source_of nodes steps v ≡ 0
+      → passed_on cut nodes steps v x ≡ by_node cut (rule_at nodes v) (passed_on cut nodes steps (input_of nodes v) x)
   passed_on-step steps v x h = sym (walked-more (λ w y. by_node cut (rule_at nodes w) y) nodes (λ y. refl) steps v x h)
 
   -- nothing but the driver's own goes out of the driver
@@ -157,5 +158,6 @@ maker_makes nodes zero v = inl refl
 maker_makes nodes (suc steps) v = maker_if nodes v _ (is_region nodes v) refl (maker_makes nodes steps (input_of nodes v))
 
 -- a region node is its own maker, and another node has the maker of its input
-pub maker_at-step : (g : Graph) (v : ℕ) → IsGraph g → v ≤ length g.nodes → maker_at g.nodes v ≡ (if is_region g.nodes v then v else maker_at g.nodes (input_of g.nodes v))
+pub maker_at-step : (g : Graph) (v : ℕ) → IsGraph g → v ≤ length g.nodes
+    → maker_at g.nodes v ≡ (if is_region g.nodes v then v else maker_at g.nodes (input_of g.nodes v))
 maker_at-step g v sound within = sym (walked-more (maker_after g.nodes) g.nodes (λ m. refl) (length g.nodes) v 0 (sound.acyclic v within))

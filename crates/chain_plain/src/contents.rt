@@ -44,7 +44,11 @@ fn region_bytes(
 ///
 /// Only for want of memory.
 #[tactic(auto, using(crate::proofs::Rules::region_dimensions, crate::proofs::Rules::region_few))]
-pub fn region_of(alloc: Global, rule: &RoiRule, array: &NdArray) -> Result<NdArray, OutOfMemory>
+pub(crate) fn region_of(
+    alloc: Global,
+    rule: &RoiRule,
+    array: &NdArray,
+) -> Result<NdArray, OutOfMemory>
     requires { IsRoi rule.now }
     ensures { IfOk result (λ cut. cut ≡ region rule.now array.now) }
 {
@@ -86,7 +90,7 @@ fn array_out_of(
 /// # Errors
 ///
 /// Only for want of memory.
-pub fn content(
+pub(crate) fn content(
     alloc: Global,
     plan: &Plan,
     stack: &Stack,

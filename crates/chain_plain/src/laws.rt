@@ -1,6 +1,7 @@
 //! What holds of contents and plans. Each function is a law: it does nothing, and its contract says what holds.
 
-ghost use Rattle.chain_plain.specs.ContentLaws.{DriverHasTheStack, NodesPassOnTheirMakers, RegionsCutTheirInputs, MakersMake, ContentsAreAsPlanned, PlansAreSound, ContentsKeepHeads, TriggersFireAtContents};
+ghost use Rattle.chain_plain.specs.ContentLaws.{DriverHasTheStack, NodesPassOnTheirMakers, RegionsCutTheirInputs, MakersMake, ContentsAreAsPlanned};
+ghost use Rattle.chain_plain.specs.ContentLaws.{PlansAreSound, ContentsKeepHeads, TriggersFireAtContents};
 
 /// The content of a frame follows the way from the driver to its maker.
 pub fn contents_follow_the_graph()

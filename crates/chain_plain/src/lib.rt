@@ -9,7 +9,6 @@ mod shape;
 #[cfg(test)]
 mod tests;
 
-pub use contents::{content, region_of};
 pub use laws::{contents_are_as_planned, contents_follow_the_graph};
 pub use outputs::plain_outputs;
 pub use plans::{maker_for, plan};

@@ -42,7 +42,8 @@ fn windowed(
 ) -> Result<Vec<u32>, OutOfMemory>
     requires rule { IsCircular rule.now }
     requires accepted { All (λ k. k < length stack.now.arrays) accepted.now }
-    ensures { IfOk result (λ v. v.items ≡ passed_items rule.now.pre rule.now.post rule.now.preset (map (fires_at rule.now stack.now.arrays) accepted.now) accepted.now) }
+    ensures { IfOk result (λ v. v.items
+        ≡ passed_items rule.now.pre rule.now.post rule.now.preset (map (fires_at rule.now stack.now.arrays) accepted.now) accepted.now) }
 {
     let fired = firing(alloc, rule, stack, accepted)?;
     passed_positions(alloc, rule.pre, rule.post, rule.preset, &fired, accepted)

@@ -1,9 +1,9 @@
 //! The shapes of the arrays that go out of nodes.
 
-ghost use Rattle.std.specs.Prelude.{◌≡◌, ◌≤◌, IfOk, OnOk, IsTrue};
+ghost use Rattle.std.specs.Prelude.{◌≡◌, ◌≤◌, IfOk, IsTrue};
 ghost use Rattle.nd_base.specs.GraphRules.{IsGraph, IsRoi};
 ghost use Rattle.nd_base.specs.Shapes.{has_dimensions, sample_count, most_samples};
-ghost use Rattle.chain_plain.specs.Plans.{region_shape, stack_shape, shape_at};
+ghost use Rattle.chain_plain.specs.Plans.{region_shape, shape_at};
 
 use nd_base::{Dim, FileShape, Graph, Kind, OutOfMemory, RoiRule, SampleType, Seq, rule_at};
 use nd_roi::region;

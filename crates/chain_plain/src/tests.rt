@@ -2,12 +2,13 @@
 
 mod graphs;
 
-ghost use Rattle.std.specs.Prelude.{◌≡◌, ◌<◌, ◌*◌, length, All, IfOk, IfSome, OnOk};
-ghost use Rattle.nd_base.specs.GraphRules.{IsGraph, IsBetween};
+ghost use Rattle.std.specs.Prelude.{◌≡◌, ◌<◌, ◌*◌, IfOk, OnOk};
+ghost use Rattle.nd_base.specs.GraphRules.{IsGraph};
 ghost use Rattle.nd_base.specs.ShapeLaws.{IsSound};
 ghost use Rattle.chain_plain.specs.Plans.{plan_of};
 
-use crate::{content, maker_for, plain_outputs, plan, region_of};
+use crate::contents::{content, region_of};
+use crate::{maker_for, plain_outputs, plan};
 use graphs::{half, halved, three, watched};
 use nd_base::SampleType::{UInt8, UInt16};
 use nd_base::{

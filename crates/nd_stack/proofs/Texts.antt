@@ -1,5 +1,6 @@
 -- The bytes before the first zero byte, and lists that a loop fills.
-use Rattle.std.proofs.Common.{◌≡◌, ◌≤◌, ◌<◌, ◌+◌, ℕ, Bool, true, false, List, [], ◌∷◌, ◌++◌, length, map, take, get_or, Option, Some, None, refl, ap, sym, ◌∙◌, cond}
+use Rattle.std.proofs.Common.{◌≡◌, ◌≤◌, ◌<◌, ◌+◌, ℕ, Bool, true, false, List, [], ◌∷◌, ◌++◌, length, map, take, get_or, Option, Some, None, refl, ap, sym}
+use Rattle.std.proofs.Common.{◌∙◌, cond}
 use Rattle.std.specs.Prelude.{nat_lt, position, filter, if◌then◌else◌}
 use Rattle.std.specs.List.{position_or_len, before_first}
 use Rattle.std.proofs.lemmas.Bool.{ltb-false}

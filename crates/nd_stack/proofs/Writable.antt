@@ -1,5 +1,5 @@
 -- The shape of a stack that was read is one that the layout can spell.
-use Rattle.std.proofs.Common.{◌≡◌, ◌≤◌, ◌<◌, ◌*◌, ℕ, Bool, true, false, List, [], length, drop, get_or, Result, Ok, Err, refl, ap, sym, ◌∙◌, subst, arith}
+use Rattle.std.proofs.Common.{◌≡◌, ◌≤◌, ◌<◌, ◌*◌, ℕ, Bool, true, false, List, [], length, drop, get_or, Result, Ok, Err, refl, ap, ◌∙◌, subst, arith}
 use Rattle.std.specs.Prelude.{◌==◌, ◌%◌, ◌/◌, not, nat_lt, filter, All, if◌then◌else◌}
 use Rattle.std.proofs.Math.Nat.{mul-div_cancel, mul-mod_left}
 use Rattle.std.proofs.lemmas.Bool.{and_parts, ltb-true, leb-true}
@@ -7,15 +7,13 @@ use Rattle.std.proofs.lemmas.Bool.Decides.{nat_tests}
 use Rattle.std.proofs.lemmas.List.{length-map, length-drop}
 use Rattle.std.proofs.lemmas.List.Elements.{All-map, All-filter, filter_passes}
 use Rattle.std.proofs.lemmas.List.Filters.{length-filter_both}
-use Rattle.nd_base.specs.declared.array.Dim.{Dim}
-use Rattle.nd_base.specs.declared.form.Form.{Form}
 use Rattle.nd_base.specs.declared.array.SampleType.{SampleType}
 use Rattle.nd_base.specs.declared.attribute.AttrColumn.{AttrColumn}
 use Rattle.nd_base.specs.declared.attribute.Extra.{Extra}
 use Rattle.nd_base.specs.declared.attribute.FileShape.{FileShape}
 use Rattle.nd_base.specs.Array.{StackValue}
 use Rattle.nd_base.specs.GraphRules.{IsBetween}
-use Rattle.nd_base.specs.Shapes.{has_dimensions, sample_count, most_samples}
+use Rattle.nd_base.specs.Shapes.{most_samples}
 use Rattle.cdf_read.specs.declared.fault.CdfFault.{CdfFault}
 use Rattle.cdf_read.specs.declared.head.HeadAttr.{HeadAttr}
 use Rattle.cdf_read.specs.declared.head.HeadVar.{HeadVar}
@@ -24,9 +22,8 @@ use Rattle.cdf_read.specs.Places.{value_size}
 use Rattle.cdf_read.specs.Grammar.{IsAttr, IsVar, Reads}
 use Rattle.cdf_read.specs.HeaderReading.{header_of}
 use Rattle.cdf_read.specs.HeaderLaws.{header_of-found}
-use Rattle.cdf_write.specs.Spelling.{type_size}
 use Rattle.cdf_write.specs.Writable.{IsExtra, IsWritable}
-use Rattle.nd_stack.specs.GattLaws.{type_size-value_size, type_size-positive}
+use Rattle.nd_stack.proofs.Sizes.{value_size-positive}
 use Rattle.nd_stack.specs.declared.fault.StackFault.{StackFault}
 use Rattle.nd_stack.specs.declared.attributes.AttrVar.{AttrVar}
 use Rattle.nd_stack.specs.Answers.{or_cdf}
@@ -55,13 +52,12 @@ attr-IsWhole a before after h = record { name = (h.name.least, h.name.most); kin
 
 whole-IsExtra : (a : HeadAttr) → IsWhole a → IsExtra (record { name = a.name; kind = a.kind; values = a.values })
 whole-IsExtra a h =
-    let size : length a.values ≡ a.count * type_size a.kind = h.size ∙ ap (λ n. a.count * n) (sym (type_size-value_size a.kind h.kind.0 h.kind.1)) in
-    let count : length a.values / type_size a.kind ≡ a.count =
-    ap (λ n. n / type_size a.kind) size ∙ mul-div_cancel a.count (type_size-positive a.kind h.kind.0 h.kind.1) in
+    let count : length a.values / value_size a.kind ≡ a.count =
+    ap (λ n. n / value_size a.kind) h.size ∙ mul-div_cancel a.count (value_size-positive a.kind) in
     record {
       name = h.name;
       kind = h.kind;
-      whole = ap (λ n. n % type_size a.kind) size ∙ mul-mod_left a.count (type_size a.kind);
+      whole = ap (λ n. n % value_size a.kind) h.size ∙ mul-mod_left a.count (value_size a.kind);
       few = omega (arith, count, h.count);
     }
 

@@ -1,5 +1,6 @@
 -- The dimensions of the layout are read as they are spelled, and which variables they give which size.
-use Rattle.std.specs.Prelude.{◌≡◌, ◌≢◌, ℕ, zero, suc, ◌+◌, ◌*◌, ◌^◌, ◌<◌, ◌≤◌, List, [], ◌∷◌, ◌++◌, length, map, filter, codes, true, nat_lt, nat_le, not, ◌==◌, ◌&&◌, IsTrue, All, refl}
+use Rattle.std.specs.Prelude.{◌≡◌, ◌≢◌, ℕ, zero, suc, ◌+◌, ◌*◌, ◌^◌, ◌<◌, ◌≤◌, List, [], ◌∷◌, ◌++◌, length, map, filter, codes, true, nat_lt, nat_le, not}
+use Rattle.std.specs.Prelude.{◌==◌, ◌&&◌, IsTrue, All, refl}
 use Rattle.std.specs.Str.{IsUtf8, IsAscii}
 use Rattle.std.specs.List.{flat_map, list_all, range_with_len}
 use Rattle.std.proofs.Common.{ap, sym, subst, ◌∙◌, append_assoc, length-append, arith, lit<, mul_comm, mul_assoc}

@@ -2,9 +2,8 @@
 use Rattle.std.specs.Prelude.{◌≡◌, ℕ, ◌+◌, ◌*◌, ◌%◌, ◌/◌, ◌≤◌, ℤ, pos, List, [], ◌∷◌, ◌++◌, length, map, codes, if◌then◌else◌, All, refl}
 use Rattle.std.specs.Str.{IsUtf8}
 use Rattle.std.specs.List.{flat_map}
-use Rattle.std.proofs.Common.{ap, sym, subst, ◌∙◌, append_assoc, length-append, arith}
+use Rattle.std.proofs.Common.{sym, subst, append_assoc, length-append, arith}
 use Rattle.std.proofs.Math.Nat.{mod-eq-sub-div-mul, div-mul-le_self}
-use Rattle.std.proofs.lemmas.Bool.Decides.{nat_tests}
 use Rattle.std.proofs.lemmas.List.{length-map}
 use Rattle.std.proofs.lemmas.List.Elements.{All-head, All-tail}
 use Rattle.nd_base.specs.declared.array.Dim.{Dim}
@@ -13,7 +12,7 @@ use Rattle.nd_base.specs.declared.attribute.FileShape.{FileShape}
 use Rattle.cdf_read.specs.declared.head.HeadAttr.{HeadAttr}
 use Rattle.cdf_read.specs.Places.{value_size}
 use Rattle.cdf_read.specs.Grammar.{greatest, IsAttr, IsList}
-use Rattle.cdf_write.specs.Spelling.{word, signed_word, padded, name_field, attribute, int_attribute, type_size, element_list}
+use Rattle.cdf_write.specs.Spelling.{word, signed_word, padded, name_field, attribute, int_attribute, element_list}
 use Rattle.cdf_write.specs.SpellingLaws.{length-flat_map_words}
 use Rattle.cdf_write.specs.Columns.{type_number}
 use Rattle.cdf_write.specs.Layout.{extra_attribute, fixed_attributes, attributes}
@@ -83,22 +82,14 @@ fixed_spelled shape h =
       ),
     )
 
--- a value has the same size for the writer and the reader
-pub type_size-value_size : (kind : ℕ) → 1 ≤ kind → kind ≤ 6 → type_size kind ≡ value_size kind
-type_size-value_size kind least most = grind (arith, nat_tests)
-
-pub type_size-positive : (kind : ℕ) → 1 ≤ kind → kind ≤ 6 → 1 ≤ type_size kind
-type_size-positive kind least most = grind (arith, nat_tests)
-
 whole_values : (n m : ℕ) → n % m ≡ 0 → n ≡ n / m * m
 whole_values n m h = omega (arith, h, mod-eq-sub-div-mul n m, div-mul-le_self n m)
 
 extra-IsAttr : (e : Extra) (after : List ℕ) → IsUtf8 e.name → IsExtra e → IsAttr (extra_attr e) (extra_attribute e ++ after) after
 extra-IsAttr e after utf8 h =
-    let size : length e.values ≡ length e.values / type_size e.kind * value_size e.kind =
-    whole_values (length e.values) (type_size e.kind) h.whole
-    ∙ ap (λ n. length e.values / type_size e.kind * n) (type_size-value_size e.kind h.kind.0 h.kind.1) in
-    attribute-IsAttr e.name e.kind (length e.values / type_size e.kind) e.values after h.name.0 h.name.1 utf8 h.kind.0 h.kind.1 h.few size
+    let size : length e.values ≡ length e.values / value_size e.kind * value_size e.kind =
+    whole_values (length e.values) (value_size e.kind) h.whole in
+    attribute-IsAttr e.name e.kind (length e.values / value_size e.kind) e.values after h.name.0 h.name.1 utf8 h.kind.0 h.kind.1 h.few size
 
 extras_spelled : (earlier : List HeadAttr) (extras : List Extra) → All (λ e. IsUtf8 e.name) extras → All IsExtra extras
     → AreSpelled (λ earlier. IsAttr) earlier (map extra_attribute extras) (map extra_attr extras)

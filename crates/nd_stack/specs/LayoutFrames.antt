@@ -1,5 +1,6 @@
 -- A file in the layout is a stack: its variables have the form of a stack's.
-use Rattle.std.specs.Prelude.{◌≡◌, ℕ, ◌+◌, ◌≤◌, ◌==◌, ◌&&◌, nat_le, nat_lt, not, Bool, true, false, pos, List, [], ◌∷◌, ◌++◌, length, map, Some, None, Ok, Result, ok_or, codes, All, refl}
+use Rattle.std.specs.Prelude.{◌≡◌, ℕ, ◌+◌, ◌≤◌, ◌==◌, ◌&&◌, nat_le, nat_lt, not, Bool, true, false, pos, List, [], ◌∷◌, ◌++◌, length, map, Some, None, Ok}
+use Rattle.std.specs.Prelude.{Result, ok_or, codes, All, refl}
 use Rattle.std.specs.List.{flat_map, list_all}
 use Rattle.std.proofs.Common.{ap, ◌∙◌, arith}
 use Rattle.std.proofs.lemmas.Bool.{and_parts, le-leb}

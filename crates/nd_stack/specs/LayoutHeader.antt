@@ -7,7 +7,8 @@ use Rattle.cdf_read.specs.declared.head.HeadDim.{HeadDim}
 use Rattle.cdf_read.specs.declared.head.HeadAttr.{HeadAttr}
 use Rattle.cdf_read.specs.declared.head.HeadVar.{HeadVar}
 use Rattle.cdf_read.specs.declared.head.Header.{Header}
-use Rattle.cdf_write.specs.Spelling.{signed_word, padded_length, type_size}
+use Rattle.cdf_read.specs.Places.{value_size}
+use Rattle.cdf_write.specs.Spelling.{signed_word, padded_length}
 use Rattle.cdf_write.specs.Columns.{Column, columns, type_number}
 use Rattle.cdf_write.specs.Layout.{slowest_first, header_length}
 use Rattle.cdf_write.specs.Lengths.{row_length}
@@ -38,7 +39,7 @@ fixed_gatts shape =
     ∷ int_attr (codes "dimReverse") (map (λ d. (if d.reverse then pos 1 else pos 0)) shape.dims) ∷ []
 
 abbrev pub extra_attr : Extra → HeadAttr
-extra_attr e = record { name = e.name; kind = e.kind; count = length e.values / type_size e.kind; values = e.values }
+extra_attr e = record { name = e.name; kind = e.kind; count = length e.values / value_size e.kind; values = e.values }
 
 abbrev pub layout_gatts : FileShape → List HeadAttr
 layout_gatts shape = fixed_gatts shape ++ map extra_attr shape.extras

@@ -1,5 +1,6 @@
 -- What the stack of a file in the layout has beside the samples of each array.
-use Rattle.std.specs.Prelude.{◌≡◌, ◌≢◌, ℕ, zero, suc, ◌+◌, ◌-◌, ◌*◌, ◌^◌, ◌<◌, ◌==◌, not, Bool, true, false, List, [], ◌∷◌, ◌++◌, length, map, filter, take, drop, replicate, FitsSigned, All, refl}
+use Rattle.std.specs.Prelude.{◌≡◌, ◌≢◌, ℕ, zero, suc, ◌+◌, ◌-◌, ◌*◌, ◌^◌, ◌<◌, ◌==◌, not, Bool, true, false, List, [], ◌∷◌, ◌++◌, length, map, filter, take}
+use Rattle.std.specs.Prelude.{drop, replicate, FitsSigned, All, refl}
 use Rattle.std.specs.Int.{w32}
 use Rattle.std.specs.List.{flat_map, take_while}
 use Rattle.std.specs.Str.{IsUtf8}
@@ -23,7 +24,7 @@ use Rattle.cdf_read.specs.Places.{value_size, value_count}
 use Rattle.cdf_write.specs.Spelling.{word, double_word, signed_word, gap, fill, padded_length}
 use Rattle.cdf_write.specs.SpellingLaws.{length_in_room}
 use Rattle.cdf_write.specs.Columns as written
-use Rattle.cdf_write.specs.Columns.{attr_column, kind_column}
+use Rattle.cdf_write.specs.Columns.{attr_column}
 use Rattle.cdf_write.specs.Layout.{attr_values}
 use Rattle.cdf_write.specs.Lengths.{row_length}
 use Rattle.cdf_write.specs.LengthLaws.{value_bytes}

@@ -1,5 +1,6 @@
 -- The dimensions of the stack of a file in the layout are those of its shape.
-use Rattle.std.specs.Prelude.{◌≡◌, ℕ, ◌<◌, ◌==◌, not, true, false, Bool, ℤ, pos, List, [], ◌∷◌, ◌++◌, length, map, reverse, slice_index_or, if◌then◌else◌, FitsSigned, All, refl}
+use Rattle.std.specs.Prelude.{◌≡◌, ℕ, ◌<◌, ◌==◌, not, true, false, Bool, ℤ, pos, List, [], ◌∷◌, ◌++◌, length, map, reverse, slice_index_or, if◌then◌else◌}
+use Rattle.std.specs.Prelude.{FitsSigned, All, refl}
 use Rattle.std.specs.Int.{w32}
 use Rattle.std.specs.List.{flat_map, range_with_len}
 use Rattle.std.specs.Ordering.{int_eq}

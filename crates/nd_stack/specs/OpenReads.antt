@@ -1,5 +1,6 @@
 -- A file whose number of records was left open is read as a stack of the arrays whose rows it has whole.
-use Rattle.std.specs.Prelude.{◌≡◌, ℕ, zero, suc, ◌+◌, ◌-◌, ◌*◌, ◌/◌, ◌<◌, ◌≤◌, min, List, [], ◌∷◌, ◌++◌, length, take, drop, fold, Some, None, Ok, codes, All, nat_lt, if◌then◌else◌, refl}
+use Rattle.std.specs.Prelude.{◌≡◌, ℕ, zero, suc, ◌+◌, ◌-◌, ◌*◌, ◌/◌, ◌<◌, ◌≤◌, min, List, [], ◌∷◌, ◌++◌, length, take, drop, fold, Some, None, Ok, codes}
+use Rattle.std.specs.Prelude.{All, nat_lt, if◌then◌else◌, refl}
 use Rattle.std.specs.List.{flat_map}
 use Rattle.std.proofs.Common.{ap, sym, subst, ◌∙◌, append_assoc, append-nil, arith, get_or, inl, inr, length-append}
 use Rattle.std.proofs.Math.Nat.{mul-le-mul_right}

@@ -1,5 +1,6 @@
 -- The variables of the layout are read as they are spelled, with the sizes of their columns.
-use Rattle.std.specs.Prelude.{◌≡◌, ◌≢◌, ℕ, suc, ◌+◌, ◌-◌, ◌*◌, ◌^◌, ◌<◌, ◌≤◌, List, [], ◌∷◌, ◌++◌, length, map, codes, Bool, true, false, ◌==◌, ◌&&◌, if◌then◌else◌, All, refl}
+use Rattle.std.specs.Prelude.{◌≡◌, ◌≢◌, ℕ, suc, ◌+◌, ◌-◌, ◌*◌, ◌^◌, ◌<◌, ◌≤◌, List, [], ◌∷◌, ◌++◌, length, map, codes, Bool, true, false, ◌==◌, ◌&&◌}
+use Rattle.std.specs.Prelude.{if◌then◌else◌, All, refl}
 use Rattle.std.specs.Str.{IsUtf8}
 use Rattle.std.specs.List.{flat_map, range_with_len, sum_by}
 use Rattle.std.proofs.Common.{ap, sym, subst, ◌∙◌, append_assoc, arith}
@@ -22,17 +23,20 @@ use Rattle.nd_base.specs.SampleLaws.{width-most}
 use Rattle.nd_base.specs.Shapes.{sample_count}
 use Rattle.cdf_read.specs.Fields as fields
 use Rattle.cdf_read.specs.declared.head.HeadVar.{HeadVar}
-use Rattle.cdf_read.specs.Places.{dim_length, value_size, size_of, var_size, is_record_var, begins_with_record, record_vars, is_unpadded, stored_size, record_size, values_end}
+use Rattle.cdf_read.specs.Places.{dim_length, value_size, size_of, var_size, is_record_var, begins_with_record, record_vars, is_unpadded, stored_size}
+use Rattle.cdf_read.specs.Places.{record_size, values_end}
 use Rattle.cdf_read.specs.Grammar.{greatest, IsAttr, IsDimNumber, IsListHead, AreMany, IsVar, IsList}
 use Rattle.cdf_write.specs.Spelling.{word, absent, name_field, padded_length, element_list}
 use Rattle.cdf_write.specs.Columns.{Column, scalar, sample_kind, sample_column, kind_column, attr_column, fixed_columns, columns}
 use Rattle.cdf_write.specs.Layout.{offset, variable, variables, header_length}
 use Rattle.cdf_write.specs.Lengths.{columns_length, row_length}
 use Rattle.cdf_write.specs.Writable.{IsWritable}
-use Rattle.nd_stack.specs.FieldSpelling.{greatest_begin, offset-IsBegin, word-IsWord, word-IsNumber, word-IsKind, name_field-IsName, AreSpelled, AreSpelled-count, element_list-IsList}
+use Rattle.nd_stack.specs.FieldSpelling.{greatest_begin, offset-IsBegin, word-IsWord, word-IsNumber, word-IsKind, name_field-IsName, AreSpelled}
+use Rattle.nd_stack.specs.FieldSpelling.{AreSpelled-count, element_list-IsList}
 use Rattle.nd_stack.specs.LayoutHeader.{layout_dims, column_var, column_vars, layout_vars, layout_header}
 use Rattle.nd_stack.specs.Groups.{HasTextNames}
-use Rattle.nd_stack.specs.DimLaws.{ascii-IsUtf8, few_dims, length-layout_dims, record_numbers_spelled, sample_lengths-positive, sample_values, room_lengths-positive, room_values}
+use Rattle.nd_stack.specs.DimLaws.{ascii-IsUtf8, few_dims, length-layout_dims, record_numbers_spelled, sample_lengths-positive, sample_values}
+use Rattle.nd_stack.specs.DimLaws.{room_lengths-positive, room_values}
 
 -- a column whose variable the header can have: over numArrays and perhaps other dimensions, with its size
 pub record IsColumn (shape : FileShape) (c : Column) : Type 0 where

@@ -1,9 +1,6 @@
 //! Arrays and shapes out of a stack.
 
-ghost use Rattle.std.specs.Prelude.{◌≡◌, ◌<◌, ◌≤◌, ◌*◌, length, IfOk, IfSome, IsTrue, slice_get, Some};
-ghost use Rattle.nd_base.specs.Samples.{width, samples_of};
-ghost use Rattle.nd_base.specs.Shapes.{has_dimensions, sample_count, most_samples};
-ghost use Rattle.nd_base.specs.Stacks.{frame_size};
+ghost use Rattle.std.specs.Prelude.{◌≡◌, ◌<◌, length, IfOk, slice_get, Some};
 
 use nd_base::{Dim, FileShape, NdArray, OutOfMemory, SampleType, Seq, Stack};
 use std::alloc::Global;

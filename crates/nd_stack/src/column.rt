@@ -2,7 +2,7 @@
 
 ghost use Rattle.std.specs.Prelude.{◌≡◌, ◌+◌, ◌*◌, ◌≤◌, length, option_copied};
 ghost use Rattle.cdf_read.specs.Places.{dim_length, value_count, var_size, is_record_var};
-ghost use Rattle.nd_stack.specs.Columns.{variable_of, extent, frame_count, frame_values, values_size, column_of, cell};
+ghost use Rattle.nd_stack.specs.Columns.{variable_of, extent, frame_count, frame_values, column_of, cell};
 
 use cdf_read::{HeadDim, HeadVar, Header, size_of_value};
 

@@ -1,5 +1,9 @@
 //! Why a file is no stack.
 
+ghost use Rattle.std.specs.Prelude.{◌≡◌};
+ghost use Rattle.nd_stack.specs.declared.fault.StackFault.TheVariants as refusal;
+ghost use Rattle.nd_stack.specs.Answers.{cdf_refusal};
+
 use cdf_read::CdfFault;
 use nd_base::OutOfMemory;
 use thiserror::Error;
@@ -37,9 +41,6 @@ pub enum StackFault {
 }
 
 impl From<CdfFault> for StackFault {
-    ghost use Rattle.std.specs.Prelude.{◌≡◌};
-    ghost use Rattle.nd_stack.specs.Answers.{cdf_refusal};
-
     ghost from_gives = { λ fault e. e ≡ cdf_refusal fault };
 
     fn from(fault: CdfFault) -> Self {
@@ -51,9 +52,6 @@ impl From<CdfFault> for StackFault {
 }
 
 impl From<OutOfMemory> for StackFault {
-    ghost use Rattle.std.specs.Prelude.{◌≡◌};
-    ghost use Rattle.nd_stack.specs.declared.fault.StackFault.TheVariants as refusal;
-
     ghost from_gives = { λ _ e. e ≡ refusal.OutOfMemory };
 
     fn from(_: OutOfMemory) -> Self {

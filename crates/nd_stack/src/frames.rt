@@ -1,10 +1,10 @@
 //! Which variable has the frames, what type their samples have, and whether the others fit them.
 
-ghost use Rattle.std.specs.Prelude.{◌≡◌, ◌≤◌, ◌<◌, ◌^◌, length, All, Option, ℤ};
+ghost use Rattle.std.specs.Prelude.{◌≡◌, ◌≤◌, ◌<◌, ◌^◌, length, All, Option};
 ghost use Rattle.cdf_read.specs.Places.{var_size};
 ghost use Rattle.nd_stack.specs.Answers.{Gives};
 ghost use Rattle.nd_stack.specs.SampleTypes.{numbered, stored_as, type_numbered, type_stored, sample_type};
-ghost use Rattle.nd_stack.specs.FrameVars.{counts_frames, is_frame_var, misfit, earlier, frame_misfit};
+ghost use Rattle.nd_stack.specs.FrameVars.{counts_frames, misfit, earlier, frame_misfit};
 ghost use Rattle.nd_stack.specs.AttrVars.{attr_rank, attr_misfit};
 ghost use Rattle.nd_stack.specs.StackRules.{frames_of};
 

@@ -1,12 +1,12 @@
 //! Numbers out of bytes, the most significant first, and numbers of global attributes.
 
 ghost use Rattle.std.specs.Prelude.{◌≡◌, ◌+◌, ◌≤◌, ◌<◌, ◌*◌, length, slice_get, Some, option_copied};
-ghost use Rattle.std.specs.Int.{w16, w32, w64, from_be_bytes};
+ghost use Rattle.std.specs.Int.{w32, w64, from_be_bytes};
 ghost use Rattle.std.specs.List.{find};
 ghost use Rattle.std.specs.Str.{bytes_eq};
 ghost use Rattle.nd_base.specs.declared.array.SampleType.TheVariants.{Int8, Int16, Int32};
 ghost use Rattle.nd_base.specs.Samples.{number, samples_of};
-ghost use Rattle.nd_stack.specs.SampleTypes.{int_bytes, ints, dim_value};
+ghost use Rattle.nd_stack.specs.SampleTypes.{int_bytes, dim_value};
 
 use cdf_read::{HeadAttr, Header};
 use nd_base::{pair_at, word_at};

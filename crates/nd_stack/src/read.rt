@@ -1,6 +1,6 @@
 //! Reading a stack.
 
-ghost use Rattle.std.specs.Prelude.{◌≡◌, ℕ, List, length, Ok, IfOk};
+ghost use Rattle.std.specs.Prelude.{◌≡◌, ℕ, length, Ok, IfOk};
 ghost use Rattle.cdf_read.specs.declared.head.HeadVar.{HeadVar};
 ghost use Rattle.cdf_read.specs.declared.head.Header.{Header};
 ghost use Rattle.nd_stack.specs.Answers.{Gives};

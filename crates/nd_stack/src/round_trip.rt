@@ -41,5 +41,6 @@ pub fn stacks_read_back()
 /// A file whose number of records was left open, with the rows of some arrays and a front of one row more, is read as a stack
 /// of these arrays, and of the last one besides where its row is whole.
 pub fn open_files_read_back()
-    ensures { (shape : FileShape) (room : ℕ) (arrays : List Array) (a : Array) (count : ℕ) → IsOpenGroup shape room (arrays ++ a ∷ []) → OpenReadsBack shape arrays a count }
+    ensures { (shape : FileShape) (room : ℕ) (arrays : List Array) (a : Array) (count : ℕ) → IsOpenGroup shape room (arrays ++ a ∷ [])
+        → OpenReadsBack shape arrays a count }
 {}

@@ -1,6 +1,6 @@
 //! What all frames of a file share.
 
-ghost use Rattle.std.specs.Prelude.{◌≡◌, ◌≤◌, ◌<◌, length, map, All, IfOk};
+ghost use Rattle.std.specs.Prelude.{◌≡◌, ◌≤◌, ◌<◌, IfOk};
 ghost use Rattle.nd_stack.specs.AttrVars.{attr_vars};
 ghost use Rattle.nd_stack.specs.FrameShape.{dim_of, dims_of, extra, extras_of, shape_of, width_of};
 

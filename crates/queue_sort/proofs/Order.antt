@@ -1,5 +1,6 @@
 -- The place of an id in a sort list, and an insert there.
-use Rattle.std.proofs.Common.{◌≡◌, ℕ, zero, suc, ◌≤◌, Bool, true, false, not, List, [], ◌∷◌, length, take, drop, ℤ, int_le, int_lt, refl, subst, ◌∙◌, inl, inr, arith}
+use Rattle.std.proofs.Common.{◌≡◌, ℕ, zero, suc, ◌≤◌, Bool, true, false, not, List, [], ◌∷◌, length, take, drop, ℤ, int_le, int_lt, refl, subst, ◌∙◌, inl}
+use Rattle.std.proofs.Common.{inr, arith}
 use Rattle.std.specs.List.{filter, insert}
 use Rattle.std.specs.List.Sorted.{IsPartitionedBy, IsPartitionPoint}
 use Rattle.std.proofs.lemmas.Bool.{cases_lt}
@@ -9,7 +10,8 @@ use Rattle.queue_sort.specs.Sorting.{SortState, id_of, IsPlaceOf, placed}
 use Rattle.queue_sort.proofs.ById.{le_passes, le_holds, lt_is, le_chain}
 
 -- a place before which each passes p and from which each passes q parts the list
-pub parted : {X : Type 0} (p q : X → Bool) → ((x : X) → q x ≡ not (p x)) → (xs : List X) (k : ℕ) → IsPartitionPoint (λ x. p x ≡ true) (λ x. p x ≡ false) xs k → (take k xs ≡ filter p xs) × (drop k xs ≡ filter q xs)
+pub parted : {X : Type 0} (p q : X → Bool) → ((x : X) → q x ≡ not (p x)) → (xs : List X) (k : ℕ)
+    → IsPartitionPoint (λ x. p x ≡ true) (λ x. p x ≡ false) xs k → (take k xs ≡ filter p xs) × (drop k xs ≡ filter q xs)
 parted p q other [] zero at = (refl, refl)
 parted p q other [] (suc k) at = (refl, refl)
 parted p q other (x ∷ xs) zero at =
@@ -20,7 +22,10 @@ parted p q other (x ∷ xs) zero at =
 parted p q other (x ∷ xs) (suc k) at =
     let fits : p x ≡ true = at.0 0 x (omega arith) (omega arith) in
     let fails = other x in
-    let rest = parted p q other xs k ((λ i d low high. at.0 (suc i) d (omega arith) (omega arith)), (λ i d low high. at.1 (suc i) d (omega arith) (omega arith))) in
+    let rest = parted p q other xs k (
+      (λ i d low high. at.0 (suc i) d (omega arith) (omega arith)),
+      (λ i d low high. at.1 (suc i) d (omega arith) (omega arith)),
+    ) in
     grind (arith, rest.0, rest.1)
 
 -- in order, those whose id is at most this one come first
@@ -31,11 +36,14 @@ IsPartitionedBy-id id ws up i j d le below passes = elim (cases_lt i j) [
 ]
 
 -- what a binary search among ids in order finds
-pub IsPlaceOf-from_point : {T : Type 0} (id : ℤ) (ws : List (Waiting T)) (place : ℕ) → place ≤ length ws → IsPartitionPoint (λ v. int_le v.id id ≡ true) (λ v. int_le v.id id ≡ false) ws place → IsPlaceOf id ws place
+pub IsPlaceOf-from_point : {T : Type 0} (id : ℤ) (ws : List (Waiting T)) (place : ℕ) → place ≤ length ws
+    → IsPartitionPoint (λ v. int_le v.id id ≡ true) (λ v. int_le v.id id ≡ false) ws place → IsPlaceOf id ws place
 IsPlaceOf-from_point id ws place within at =
     let parts = parted (λ v. int_le v.id id) (λ v. int_lt id v.id) (λ v. lt_is id v.id) ws place at in
     record { before = parts.0; after = parts.1; within = within }
 
 -- an insert at the place of its id puts one where it belongs
-pub inserted : {T : Type 0} (w : Waiting T) (s : SortState T) (ws new : List (Waiting T)) (place : ℕ) → s.waiting ≡ ws → IsPlaceOf w.id s.waiting place → new ≡ insert ws place w → new ≡ placed w ws
-inserted w s ws new place same at is = let found : IsPlaceOf w.id ws place = subst (λ xs. IsPlaceOf w.id xs place) same at in is ∙ rw (found.before, found.after)
+pub inserted : {T : Type 0} (w : Waiting T) (s : SortState T) (ws new : List (Waiting T)) (place : ℕ) → s.waiting ≡ ws → IsPlaceOf w.id s.waiting place
+    → new ≡ insert ws place w → new ≡ placed w ws
+inserted w s ws new place same at is = let found : IsPlaceOf w.id ws place = subst (λ xs. IsPlaceOf w.id xs place) same at in
+    is ∙ rw (found.before, found.after)

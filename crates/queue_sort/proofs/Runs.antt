@@ -1,5 +1,6 @@
 -- What any list of calls on a sort list comes to, by induction on the list.
-use Rattle.std.proofs.Common.{◌≡◌, ℕ, ◌+◌, ◌-◌, ◌^◌, ◌≤◌, min, Bool, true, false, ◌||◌, if◌then◌else◌, is_some, List, [], ◌∷◌, ◌++◌, map, take, drop, ℤ, ◌≤ℤ◌, refl, sym, ap, ◌∙◌, append_assoc, zero-add, arith}
+use Rattle.std.proofs.Common.{◌≡◌, ℕ, ◌+◌, ◌-◌, ◌^◌, ◌≤◌, min, Bool, true, false, ◌||◌, if◌then◌else◌, is_some, List, [], ◌∷◌, ◌++◌, map, take, drop, ℤ}
+use Rattle.std.proofs.Common.{◌≤ℤ◌, refl, sym, ap, ◌∙◌, append_assoc, zero-add, arith}
 use Rattle.std.specs.List.{All}
 use Rattle.std.specs.Ordering.{int_eq}
 use Rattle.std.proofs.lemmas.Int.{ints}
@@ -9,7 +10,8 @@ use Rattle.queue_sort.specs.declared.sort_lists.Waiting.{Waiting}
 use Rattle.queue_sort.specs.ById.{AreById, with_id}
 use Rattle.queue_sort.specs.Sorting.{SortState, id_of, keeps_step, is_full, one_more, placed, emitted, without_least, let_out}
 use Rattle.queue_sort.specs.DueAnswers.{due_answer}
-use Rattle.queue_sort.specs.Runs.{Call, Put, Look, Flush, after, listed, let_go, ids_out, after_all, all_listed, all_let_go, all_ids_out, breaks, last_out, fresh, Sorts}
+use Rattle.queue_sort.specs.Runs.{Call, Put, Look, Flush, after, listed, let_go, ids_out, after_all, all_listed, all_let_go, all_ids_out, breaks, last_out}
+use Rattle.queue_sort.specs.Runs.{fresh, Sorts}
 use Rattle.queue_sort.proofs.ById.{AllPairs-head, AllPairs-tail, AreById-placed, with_id-placed}
 
 -- what holds of both holds of either
@@ -35,24 +37,32 @@ by_id-after {T} s (Put w) up =
     let P : SortState T → Type 0 = λ t. AreById id_of t.waiting in
     both P (keeps_step s.last w.id) (emitted s w.id) (if is_full s then s else record s { waiting = placed w s.waiting }) up
     (both P (is_full s) s (record s { waiting = placed w s.waiting }) up (AreById-placed id_of w s.waiting up))
-by_id-after {T} s (Look now sort_time) up = both (λ (t : SortState T). AreById id_of t.waiting) (is_some (due_answer s now sort_time)) (let_out s) s (rw (waiting-let_out s) (by_id-rest s.waiting up)) up
+by_id-after {T} s (Look now sort_time) up =
+    both (λ (t : SortState T). AreById id_of t.waiting) (is_some (due_answer s now sort_time)) (let_out s) s
+    (rw (waiting-let_out s) (by_id-rest s.waiting up)) up
 by_id-after s Flush up = rw (waiting-let_out s) (by_id-rest s.waiting up)
 
 -- the first and the rest are all
-let_out_in_turn : {T : Type 0} (id : ℤ) (s : SortState T) → with_id id_of id (take 1 s.waiting) ++ with_id id_of id (let_out s).waiting ≡ with_id id_of id s.waiting
-let_out_in_turn {T} id s = rw (waiting-let_out s) (sym (filter-append (λ (v : Waiting T). int_eq v.id id) (take 1 s.waiting) (drop 1 s.waiting)) ∙ ap (with_id id_of id) (take-append-drop 1 s.waiting))
+let_out_in_turn : {T : Type 0} (id : ℤ) (s : SortState T)
+    → with_id id_of id (take 1 s.waiting) ++ with_id id_of id (let_out s).waiting ≡ with_id id_of id s.waiting
+let_out_in_turn {T} id s = rw (waiting-let_out s) (sym (filter-append (λ (v : Waiting T). int_eq v.id id) (take 1 s.waiting) (drop 1 s.waiting))
+    ∙ ap (with_id id_of id) (take-append-drop 1 s.waiting))
 
-put_in_turn : {T : Type 0} (id : ℤ) (s : SortState T) (w : Waiting T) (steps full : Bool) → with_id id_of id (if steps then emitted s w.id else if full then s else record s { waiting = placed w s.waiting }).waiting ≡ with_id id_of id s.waiting ++ with_id id_of id (if steps || full then [] else w ∷ [])
+put_in_turn : {T : Type 0} (id : ℤ) (s : SortState T) (w : Waiting T) (steps full : Bool)
+    → with_id id_of id (if steps then emitted s w.id else if full then s else record s { waiting = placed w s.waiting }).waiting
+    ≡ with_id id_of id s.waiting ++ with_id id_of id (if steps || full then [] else w ∷ [])
 put_in_turn id s w true full = sym (append-nil (with_id id_of id s.waiting))
 put_in_turn id s w false true = sym (append-nil (with_id id_of id s.waiting))
 put_in_turn id s w false false = with_id-placed id_of id w s.waiting
 
-look_in_turn : {T : Type 0} (id : ℤ) (s : SortState T) (out : Bool) → with_id id_of id (if out then take 1 s.waiting else []) ++ with_id id_of id (if out then let_out s else s).waiting ≡ with_id id_of id s.waiting
+look_in_turn : {T : Type 0} (id : ℤ) (s : SortState T) (out : Bool)
+    → with_id id_of id (if out then take 1 s.waiting else []) ++ with_id id_of id (if out then let_out s else s).waiting ≡ with_id id_of id s.waiting
 look_in_turn id s true = let_out_in_turn id s
 look_in_turn id s false = refl
 
 -- at each id a call adds what it lists at the end, and takes what it lets go from the front
-in_turn-after : {T : Type 0} (id : ℤ) (s : SortState T) (c : Call T) → with_id id_of id (let_go s c) ++ with_id id_of id (after s c).waiting ≡ with_id id_of id s.waiting ++ with_id id_of id (listed s c)
+in_turn-after : {T : Type 0} (id : ℤ) (s : SortState T) (c : Call T)
+    → with_id id_of id (let_go s c) ++ with_id id_of id (after s c).waiting ≡ with_id id_of id s.waiting ++ with_id id_of id (listed s c)
 in_turn-after id s (Put w) = put_in_turn id s w (keeps_step s.last w.id) (is_full s)
 in_turn-after id s (Look now sort_time) = look_in_turn id s (is_some (due_answer s now sort_time)) ∙ sym (append-nil (with_id id_of id s.waiting))
 in_turn-after id s Flush = let_out_in_turn id s ∙ sym (append-nil (with_id id_of id s.waiting))
@@ -64,7 +74,9 @@ module _ {T : Type 0} where
   by_id-all s (c ∷ calls) up = by_id-all (after s c) calls (by_id-after s c up)
 
   -- at each id, what left and then what waits are what waited and then what was listed
-  pub in_turn-all : (id : ℤ) (s : SortState T) (calls : List (Call T)) → with_id id_of id (all_let_go s calls) ++ with_id id_of id (after_all s calls).waiting ≡ with_id id_of id s.waiting ++ with_id id_of id (all_listed s calls)
+  pub in_turn-all : (id : ℤ) (s : SortState T) (calls : List (Call T))
+      → with_id id_of id (all_let_go s calls) ++ with_id id_of id (after_all s calls).waiting ≡ with_id id_of id s.waiting
+      ++ with_id id_of id (all_listed s calls)
   in_turn-all id s [] = sym (append-nil (with_id id_of id s.waiting))
   in_turn-all id s (c ∷ calls) =
       let p = λ (v : Waiting T). int_eq v.id id in
@@ -87,7 +99,9 @@ module _ {T : Type 0} where
   -- what a call lets go has the least id
   pub least-let_go : (s : SortState T) → AreById id_of s.waiting → (c : Call T) → All (λ w. All (λ v. w.id ≤ℤ v.id) s.waiting) (let_go s c)
   least-let_go s up (Put w) = All-nil (λ (u : Waiting T). All (λ (v : Waiting T). u.id ≤ℤ v.id) s.waiting)
-  least-let_go s up (Look now sort_time) = both (All (λ (u : Waiting T). All (λ (v : Waiting T). u.id ≤ℤ v.id) s.waiting)) (is_some (due_answer s now sort_time)) (take 1 s.waiting) [] (least-first s.waiting up) (All-nil (λ (u : Waiting T). All (λ (v : Waiting T). u.id ≤ℤ v.id) s.waiting))
+  least-let_go s up (Look now sort_time) =
+      both (All (λ (u : Waiting T). All (λ (v : Waiting T). u.id ≤ℤ v.id) s.waiting)) (is_some (due_answer s now sort_time)) (take 1 s.waiting) []
+      (least-first s.waiting up) (All-nil (λ (u : Waiting T). All (λ (v : Waiting T). u.id ≤ℤ v.id) s.waiting))
   least-let_go s up Flush = least-first s.waiting up
 
 -- the count and the previous id after these ids went out
@@ -106,19 +120,23 @@ counted_one false n fits = omega arith
 none_out : {T : Type 0} (s : SortState T) (ws : List (Waiting T)) → s.disordered ≤ 2 ^ 64 - 1 → GoesOn s (record s { waiting = ws }) []
 none_out s ws fits = record { last = refl; count = omega arith }
 
-one_out : {T : Type 0} (s : SortState T) (id : ℤ) (ws : List (Waiting T)) → s.disordered ≤ 2 ^ 64 - 1 → GoesOn s (record (emitted s id) { waiting = ws }) (id ∷ [])
+one_out : {T : Type 0} (s : SortState T) (id : ℤ) (ws : List (Waiting T)) → s.disordered ≤ 2 ^ 64 - 1
+    → GoesOn s (record (emitted s id) { waiting = ws }) (id ∷ [])
 one_out s id ws fits = record { last = refl; count = counted_one (keeps_step s.last id) s.disordered fits }
 
-put_goes_on : {T : Type 0} (s : SortState T) (w : Waiting T) (steps full : Bool) → s.disordered ≤ 2 ^ 64 - 1 → GoesOn s (if steps then emitted s w.id else if full then s else record s { waiting = placed w s.waiting }) (if steps then w.id ∷ [] else [])
+put_goes_on : {T : Type 0} (s : SortState T) (w : Waiting T) (steps full : Bool) → s.disordered ≤ 2 ^ 64 - 1
+    → GoesOn s (if steps then emitted s w.id else if full then s else record s { waiting = placed w s.waiting }) (if steps then w.id ∷ [] else [])
 put_goes_on s w true full fits = one_out s w.id s.waiting fits
 put_goes_on s w false true fits = none_out s s.waiting fits
 put_goes_on s w false false fits = none_out s (placed w s.waiting) fits
 
-let_out_goes_on : {T : Type 0} (s : SortState T) (ws : List (Waiting T)) → s.disordered ≤ 2 ^ 64 - 1 → GoesOn s (without_least s ws) (map (λ w. w.id) (take 1 ws))
+let_out_goes_on : {T : Type 0} (s : SortState T) (ws : List (Waiting T)) → s.disordered ≤ 2 ^ 64 - 1
+    → GoesOn s (without_least s ws) (map (λ w. w.id) (take 1 ws))
 let_out_goes_on s [] fits = none_out s s.waiting fits
 let_out_goes_on s (w ∷ ws) fits = one_out s w.id ws fits
 
-look_goes_on : {T : Type 0} (s : SortState T) (out : Bool) → s.disordered ≤ 2 ^ 64 - 1 → GoesOn s (if out then let_out s else s) (map (λ w. w.id) (if out then take 1 s.waiting else []))
+look_goes_on : {T : Type 0} (s : SortState T) (out : Bool) → s.disordered ≤ 2 ^ 64 - 1
+    → GoesOn s (if out then let_out s else s) (map (λ w. w.id) (if out then take 1 s.waiting else []))
 look_goes_on s true fits = let_out_goes_on s s.waiting fits
 look_goes_on s false fits = none_out s s.waiting fits
 

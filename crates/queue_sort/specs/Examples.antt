@@ -47,7 +47,11 @@ back = refl
 abbrev pub twice : ℕ → Call ℕ
 twice item = Put (record { id = pos 7; tick = 0; item = item })
 
-ties : (after_all (fresh 10 (pos 0)) (twice 1 ∷ put 8 ∷ twice 2 ∷ Flush ∷ [])).waiting ≡ record { id = pos 7; tick = 0; item = 2 } ∷ record { id = pos 8; tick = 0; item = 80 } ∷ []
+ties : (after_all (fresh 10 (pos 0)) (twice 1 ∷ put 8 ∷ twice 2 ∷ Flush ∷ [])).waiting ≡ record { id = pos 7; tick = 0; item = 2 } ∷ record {
+  id = pos 8;
+  tick = 0;
+  item = 80;
+} ∷ []
 ties = refl
 
 -- an item that is put back is the front, and a pop leaves the rest

@@ -7,9 +7,11 @@ use nd_base::OutOfMemory;
 use std::alloc::Global;
 use std::collections::VecDeque;
 use std::marker::Model;
+use thiserror::Error;
 
 /// The inbox is full, and here is the item that it did not take.
-#[derive(Debug, PartialEq, Eq, Drop)]
+#[derive(Debug, PartialEq, Eq, Drop, Error)]
+#[error("the queue is full")]
 pub struct Full<T> {
     pub item: T,
 }

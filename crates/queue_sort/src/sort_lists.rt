@@ -6,6 +6,7 @@ use nd_base::OutOfMemory;
 use std::alloc::Global;
 use std::collections::VecDeque;
 use std::marker::Model;
+use thiserror::Error;
 
 /// One that waits in a sort list, as contracts see it.
 #[derive(Debug, Drop)]
@@ -25,7 +26,8 @@ pub enum Placed<T> {
 }
 
 /// As many wait as may, and here is the item that found no place.
-#[derive(Debug, PartialEq, Eq, Drop)]
+#[derive(Debug, PartialEq, Eq, Drop, Error)]
+#[error("the sort list is full")]
 pub struct SortFull<T> {
     pub item: T,
 }
@@ -65,7 +67,7 @@ impl<T> Model for SortList<T> {
 }
 
 impl<T> SortList<T> {
-    ghost use Rattle.std.specs.Prelude.{◌≡◌, ◌^◌, ◌-ℤ◌, ◌<ℤ◌, ◌≤◌, pos, [], if◌then◌else◌, ◌<◌, length, slice_get, IfOk, is_some};
+    ghost use Rattle.std.specs.Prelude.{◌≡◌, ◌-ℤ◌, ◌<ℤ◌, ◌≤◌, pos, [], if◌then◌else◌, ◌<◌, length, slice_get, IfOk, is_some};
     ghost use Rattle.std.specs.List.{All};
     ghost use Rattle.std.specs.Option.{option_map};
     ghost use Rattle.queue_sort.specs.Sorting.{IsWaitingList, IsPlaceOf, keeps_step, emitted, placed, after_put, let_out};

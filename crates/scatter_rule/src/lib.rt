@@ -2,7 +2,7 @@
 //! whose queue has room.
 #![tactic(auto)]
 
-ghost use Rattle.std.specs.Prelude.{◌≡◌, ℕ, ◌<◌, ◌≤◌, ◌-◌, find, length};
+ghost use Rattle.std.specs.Prelude.{◌≡◌, ◌<◌, ◌≤◌, ◌-◌, find, length};
 ghost use Rattle.std.specs.List.{range_with_len};
 ghost use Rattle.scatter_rule.specs.Rounds.{has_room, in_turn, choice};
 

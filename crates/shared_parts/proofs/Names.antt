@@ -12,7 +12,8 @@ pub use contract.Monad.{fact, fact_i}
 pub use contract.Running.{tables}
 pub use prog.Wp.{WpFn}
 pub use types.ByLocal.{alloc_all, pass_all, free_all, look_at, get, get_in, through, sets, sets_last, lands_as, lands_last, is, env}
-pub use types.Kit.{Item, ‵, raw, ◌⊛◌, some, given, later, at_ret, ◌$◌, ◌∵◌, !, qed, by, move, keep, drop, split, split3, join, fsplit, fsplit3, fjoin, fjoin3, fpick, fpack, pick, learn, use0, use1, use2, use3, await, rewrite, feq_i, feq_l, suffices}
+pub use types.Kit.{Item, ‵, raw, ◌⊛◌, some, given, later, at_ret, ◌$◌, ◌∵◌, !, qed, by, move, keep, drop, split, split3, join, fsplit, fsplit3, fjoin}
+pub use types.Kit.{fjoin3, fpick, fpack, pick, learn, use0, use1, use2, use3, await, rewrite, feq_i, feq_l, suffices}
 pub use types.Logic.{sem}
 pub use types.Part.{agg, sub, whole, look_in}
 pub use types.Run.{stop, fld, hop, load, addr, unit_lit, of_opd, no_more, and_then, first, blocks, exec, returns, enter}

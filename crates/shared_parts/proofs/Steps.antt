@@ -14,7 +14,8 @@ use denote.Sharing.{ShrLaws, beside, one, held}
 use denote.SharingLaws.{contraction, beside_shr_laws, one_shr_laws, held_shr_laws}
 use denote.Steps.{nothing}
 use denote.Struct.Lending.{Lends, in_block_says}
-use types.Kit.{‵, raw, ◌⊛◌, some, later, ◌$◌, ◌∵◌, !, qed, by, move, keep, split, split3, join, group, fsplit, fsplit3, fjoin, fpick, fpack, pick, assume, suffices, await, updating, now, use0, use1, use2, done}
+use types.Kit.{‵, raw, ◌⊛◌, some, later, ◌$◌, ◌∵◌, !, qed, by, move, keep, split, split3, join, group, fsplit, fsplit3, fjoin, fpick, fpack, pick, assume}
+use types.Kit.{suffices, await, updating, now, use0, use1, use2, done}
 use types.Logic.{Logic, sem}
 use types.Owned.{own_new, basic}
 use types.Tokens.{lft_new, lft_end, bor_new, lent_back, bor_open, obor_alter, bor_fracture}

@@ -1,5 +1,6 @@
 -- What one push does, in each of its cases.
-use Rattle.std.proofs.Common.{◌≡◌, ◌≢◌, ℕ, ◌+◌, ◌-◌, ◌<◌, ◌≤◌, Bool, true, false, List, [], ◌∷◌, ◌++◌, length, drop, Some, slice_get, ap, sym, ◌∙◌, refl, arith, inl, inr, if◌then◌else◌}
+use Rattle.std.proofs.Common.{◌≡◌, ◌≢◌, ℕ, ◌+◌, ◌-◌, ◌<◌, ◌≤◌, Bool, true, false, List, [], ◌∷◌, ◌++◌, length, drop, Some, slice_get, ap, sym, ◌∙◌, refl}
+use Rattle.std.proofs.Common.{arith, inl, inr, if◌then◌else◌}
 use Rattle.std.proofs.lemmas.Bool.{lt-ltb, le-ltb, cond-true, cond-false}
 use Rattle.std.proofs.lemmas.List.{length_push}
 use Rattle.circular_buffer.specs.Buffer.{keep_last}
@@ -7,7 +8,9 @@ use Rattle.trig_window.specs.declared.window.Passed.TheVariants.{Kept, KeptFor, 
 use Rattle.trig_window.specs.Watch.{Watch}
 use Rattle.trig_window.specs.Watching.{IsAfter, Pushes}
 use Rattle.trig_window.specs.Windows.{triggers, end_of_last, is_complete, is_trigger, is_passed, kept}
-use Rattle.trig_window.specs.WindowLaws.{triggers-inside, triggers-complete, triggers-fired, triggers-quiet, same-is_trigger, same-is_passed, same-is_complete, grown-is_trigger, grown-end, grown-is_passed, kept-inside, kept-complete, kept-push, is_complete-true, is_complete-false}
+use Rattle.trig_window.specs.WindowLaws.{triggers-inside, triggers-complete, triggers-fired, triggers-quiet, same-is_trigger, same-is_passed}
+use Rattle.trig_window.specs.WindowLaws.{same-is_complete, grown-is_trigger, grown-end, grown-is_passed, kept-inside, kept-complete, kept-push}
+use Rattle.trig_window.specs.WindowLaws.{is_complete-true, is_complete-false}
 
 module _ {X : Type 0} (old : Watch X) (flags : List Bool) (item : X) (after : IsAfter old flags) where
   -- nothing has come that counts

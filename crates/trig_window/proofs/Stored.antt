@@ -1,5 +1,6 @@
 -- A push by the fields of a `Window`.
-use Rattle.std.proofs.Common.{◌≡◌, ◌≢◌, ℕ, ◌-◌, ◌<◌, ◌≤◌, Bool, true, false, nat_lt, List, [], ◌∷◌, ◌++◌, length, take, drop, Some, None, slice_get, ap, sym, subst, ◌∙◌, arith, length-take, min, ⊎_elim, if◌then◌else◌}
+use Rattle.std.proofs.Common.{◌≡◌, ◌≢◌, ℕ, ◌-◌, ◌<◌, ◌≤◌, Bool, true, false, nat_lt, List, [], ◌∷◌, ◌++◌, length, take, drop, Some, None, slice_get, ap}
+use Rattle.std.proofs.Common.{sym, subst, ◌∙◌, arith, length-take, min, ⊎_elim, if◌then◌else◌}
 use Rattle.std.proofs.lemmas.Bool.{lt-ltb, le-ltb, cases_lt, cond-true, cond-false}
 use Rattle.std.proofs.lemmas.List.{drop_all, take_all, nil_from_length}
 use Rattle.circular_buffer.specs.Buffer.{Buffer, buffer, keep_last}

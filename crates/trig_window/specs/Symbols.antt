@@ -1,5 +1,6 @@
 -- The symbols of a trigger expression's text. The longest symbol is read, and spaces between symbols are skipped.
-use Rattle.std.specs.Prelude.{◌≡◌, ℕ, zero, suc, ◌+◌, ◌-◌, ◌*◌, ◌==◌, nat_le, ◌&&◌, List, [], ◌∷◌, ◌++◌, take, fold, pos, Option, Some, None, if◌then◌else◌, refl, codes}
+use Rattle.std.specs.Prelude.{◌≡◌, ℕ, zero, suc, ◌+◌, ◌-◌, ◌*◌, ◌==◌, nat_le, ◌&&◌, List, [], ◌∷◌, ◌++◌, take, fold, pos, Option, Some, None, if◌then◌else◌}
+use Rattle.std.specs.Prelude.{refl, codes}
 use Rattle.std.specs.List.{prefix_len}
 use Rattle.std.specs.Char.{is_ascii_digit}
 use Rattle.nd_base.specs.declared.graph.Sign.{Sign}

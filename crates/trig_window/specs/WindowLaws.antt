@@ -1,11 +1,15 @@
 -- How triggers, what passes and what is kept change by one more put.
-use Rattle.std.specs.Prelude.{◌≡◌, ◌≢◌, ℕ, zero, suc, ◌+◌, ◌-◌, ◌<◌, ◌≤◌, ◌==◌, Bool, true, false, ◌&&◌, ◌||◌, nat_lt, nat_le, List, [], ◌∷◌, ◌++◌, length, take, drop, max, min, ◌⊎◌, if◌then◌else◌, refl}
+use Rattle.std.specs.Prelude.{◌≡◌, ◌≢◌, ℕ, zero, suc, ◌+◌, ◌-◌, ◌<◌, ◌≤◌, ◌==◌, Bool, true, false, ◌&&◌, ◌||◌, nat_lt, nat_le, List, [], ◌∷◌, ◌++◌, length}
+use Rattle.std.specs.Prelude.{take, drop, max, min, ◌⊎◌, if◌then◌else◌, refl}
 use Rattle.std.specs.List.{list_any}
 use Rattle.std.proofs.Common.{ap, sym, subst, ◌∙◌, arith, inl, inr, ⊎_elim, length-append, length-take, append_assoc}
-use Rattle.std.proofs.lemmas.Bool.{leb-true, ltb-true, ltb-false, le-leb, lt-leb, lt-ltb, le-ltb, eqb-true, eqb-false, eq-eqb, ne_eqb, cases_eq, cases_lt, cases_Bool, and_parts, and_cases, and_right, or_right, cond-true, cond-false}
-use Rattle.std.proofs.lemmas.List.{append-nil, take_all, take-append-le, drop-append-le, drop-drop, drop_all, length-drop, take-append-drop, length-take-le, length_push}
+use Rattle.std.proofs.lemmas.Bool.{leb-true, ltb-true, ltb-false, le-leb, lt-leb, lt-ltb, le-ltb, eqb-true, eqb-false, eq-eqb, ne_eqb, cases_eq, cases_lt}
+use Rattle.std.proofs.lemmas.Bool.{cases_Bool, and_parts, and_cases, and_right, or_right, cond-true, cond-false}
+use Rattle.std.proofs.lemmas.List.{append-nil, take_all, take-append-le, drop-append-le, drop-drop, drop_all, length-drop, take-append-drop, length-take-le}
+use Rattle.std.proofs.lemmas.List.{length_push}
 use Rattle.circular_buffer.specs.Buffer.{keep_last}
-use Rattle.trig_window.specs.Windows.{firing_from, spaced, triggers, is_trigger, end_from, end_of_last, windows_from, is_passed, at_positions, passed_items, is_complete, kept, goes_out}
+use Rattle.trig_window.specs.Windows.{firing_from, spaced, triggers, is_trigger, end_from, end_of_last, windows_from, is_passed, at_positions, passed_items}
+use Rattle.trig_window.specs.Windows.{is_complete, kept, goes_out}
 
 pub firing_from-push : (k : ℕ) (flags : List Bool) (f : Bool)
     → firing_from k (flags ++ f ∷ []) ≡ firing_from k flags ++ (if f then (k + length flags) ∷ [] else [])

@@ -42,7 +42,8 @@ fn push_into<T: Drop>(
 ) -> Result<(), OutOfMemory>
     requires { window.old.pending ≡ [] }
     ensures rule { OnOk result (SameRule window.old window.new) }
-    ensures stands { OnOk result ((flags : List Bool) (xs : List T) → StandsAt window.old flags xs → StandsAt window.new (flags ++ fired ∷ []) (xs ++ item ∷ [])) }
+    ensures stands { OnOk result ((flags : List Bool) (xs : List T) → StandsAt window.old flags xs
+        → StandsAt window.new (flags ++ fired ∷ []) (xs ++ item ∷ [])) }
     ensures out { OnOk result ((flags : List Bool) (xs : List T) → StandsAt window.old flags xs
         → out.new.items ≡ out.old.items ++ goes_out window.old.pre window.old.post window.old.preset flags xs fired item) }
 {

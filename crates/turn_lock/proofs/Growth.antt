@@ -1,5 +1,6 @@
 -- What a role has made of a log, as the log grows by one move.
-use Rattle.std.proofs.Common.{◌≡◌, ◌≢◌, ℕ, ◌+◌, ◌≤◌, Bool, true, false, eqb, List, [], ◌∷◌, ◌++◌, length, take, drop, sym, refl, ap, ◌∙◌, arith, append-nil, eq-eqb, ne_eqb}
+use Rattle.std.proofs.Common.{◌≡◌, ◌≢◌, ℕ, ◌+◌, ◌≤◌, Bool, true, false, eqb, List, [], ◌∷◌, ◌++◌, length, take, drop, sym, refl, ap, ◌∙◌, arith, append-nil}
+use Rattle.std.proofs.Common.{eq-eqb, ne_eqb}
 use Rattle.std.specs.Prelude.{Option}
 use Rattle.turn_lock.specs.declared.rule.Moves.{Moves}
 use Rattle.turn_lock.specs.Logs.{GoesOn, IsMove, is_of, put_if, moves_from, moves_of, is_of_after}

@@ -1,5 +1,6 @@
 -- To end a turn keeps the rule, and what the turn tells its caller.
-use Rattle.std.proofs.Common.{◌≡◌, ℕ, suc, ◌+◌, ◌%◌, ◌<◌, ◌≤◌, eqb, List, [], ◌∷◌, ◌++◌, length, get_or, set, drop, sym, refl, ap, ◌∙◌, subst, arith, length-set, inl, eq-eqb}
+use Rattle.std.proofs.Common.{◌≡◌, ℕ, suc, ◌+◌, ◌%◌, ◌<◌, ◌≤◌, eqb, List, [], ◌∷◌, ◌++◌, length, get_or, set, drop, sym, refl, ap, ◌∙◌, subst, arith}
+use Rattle.std.proofs.Common.{length-set, inl, eq-eqb}
 use Rattle.std.proofs.Math.Seq.{drop-append_seam}
 use mathlib.Core.Logic.{dite}
 use mathlib.Core.Option.{some}

@@ -2,7 +2,7 @@
 -- Word 0 counts the tickets that were drawn and word 1 the turns that have ended. The other words are for sleeping, and the
 -- rule says nothing of them. The log has the entries of the turns that have ended.
 use Rattle.std.specs.Prelude.{◌≡◌, ℕ, ◌+◌, ◌%◌, ◌<◌, ◌≤◌, ◌⊎◌, List, [], ◌∷◌, length, Option}
-use mathlib.Core.Option.{none, some}
+use mathlib.Core.Option.{some}
 use mathlib.Core.Option as maybe
 use lib.ListN.{get_elem?}
 use Rattle.atomic_table.specs.Table.{State}

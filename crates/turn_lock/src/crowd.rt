@@ -1,6 +1,6 @@
 //! Roles that count in threads, as many as are wanted.
 
-ghost use Rattle.std.specs.Prelude.{◌≡◌, ◌<◌, ◌≤◌, ◌^◌, ℕ, List, [], ◌∷◌, All, length, vec_len, IfOk, IfSome};
+ghost use Rattle.std.specs.Prelude.{◌≡◌, ◌<◌, ◌≤◌, ◌^◌, ℕ, List, [], ◌∷◌, All, length, vec_len, IfOk};
 ghost use Rattle.turn_lock.specs.declared.counter.Count.{Count};
 ghost use Rattle.turn_lock.specs.Logs.{moves_of};
 ghost use Rattle.turn_lock.specs.Views.{no_moves};

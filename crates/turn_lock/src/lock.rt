@@ -1,6 +1,6 @@
 //! The lock and its passes.
 
-ghost use Rattle.std.specs.Prelude.{◌≡◌, ◌<◌, ◌≤◌, ◌^◌, ℕ, true, false, [], ◌∷◌, ◌++◌, length, vec_len, vec_capacity, IfOk, IfErr, IsOk};
+ghost use Rattle.std.specs.Prelude.{◌≡◌, ◌<◌, ◌≤◌, ◌^◌, true, false, [], ◌∷◌, ◌++◌, length, vec_len, vec_capacity, IfOk, IfErr, IsOk};
 ghost use mathlib.Core.Logic.{◌↔◌};
 ghost use Rattle.turn_lock.specs.declared.rule.Stage.TheVariants.{Idle};
 ghost use Rattle.turn_lock.specs.Logs.{IsPrefix, longer};
@@ -159,7 +159,8 @@ impl<S: Object> TurnLock<S> {
         requires may { MayCall (S.role op) (λ mine. S.may mine op) seat.old.me.0.made }
         ensures seat { (seat.new.table_id ≡ seat.old.table_id) × (seat.new.id ≡ seat.old.id) }
         ensures idle { (seat.new.me.0.stage ≡ Idle) × (seat.new.me.1 ≡ []) }
-        ensures call { Called S.begins (S.role op) (λ before added. S.answers before op result added) (pass_facts seat.old.table_id seat.old.me.0.seen seat.old.me.0.made) (pass_facts seat.new.table_id seat.new.me.0.seen seat.new.me.0.made) }
+        ensures call { Called S.begins (S.role op) (λ before added. S.answers before op result added)
+            (pass_facts seat.old.table_id seat.old.me.0.seen seat.old.me.0.made) (pass_facts seat.new.table_id seat.new.me.0.seen seat.new.me.0.made) }
     {
         self.begin(rt, seat);
         let state = seat.slot_mut(&self.table.shared, 0);
@@ -186,7 +187,8 @@ impl<S: Object> TurnLock<S> {
         ensures seat { (seat.new.table_id ≡ seat.old.table_id) × (seat.new.id ≡ seat.old.id) }
         ensures me { seat.new.me ≡ (view Idle (longer seat.old.me.0.seen other.me.0.seen) (seat.old.me.0.made ++ other.me.0.made), []) }
         ensures few { length (seat.old.me.0.made ++ other.me.0.made) < 2 ^ 32 }
-        ensures seen { IsPrefix seat.old.me.0.seen (longer seat.old.me.0.seen other.me.0.seen) × IsPrefix other.me.0.seen (longer seat.old.me.0.seen other.me.0.seen) }
+        ensures seen { IsPrefix seat.old.me.0.seen (longer seat.old.me.0.seen other.me.0.seen)
+            × IsPrefix other.me.0.seen (longer seat.old.me.0.seen other.me.0.seen) }
     {
         self.table.shared.join_seat::<JoinBoth>(seat, other);
         self.table.shared.load::<Settle>(seat, DRAWN);

@@ -31,5 +31,6 @@ pub trait Object {
     /// Adds nothing to the log, or one move of the operation's role. Want of memory is one of the replies.
     fn play(&mut self, alloc: Global, op: Self::Op) -> Self::Reply
         requires { may (moves_of begins (role op) (entries self.old)) op }
-        ensures { (added : List Self.Entry) × (entries self.new ≡ entries self.old ++ added) × IsMove begins (role op) added × answers (entries self.old) op result added };
+        ensures { (added : List Self.Entry) × (entries self.new ≡ entries self.old ++ added) × IsMove begins (role op) added
+            × answers (entries self.old) op result added };
 }

@@ -1,5 +1,12 @@
 -- `freeze` takes the box apart, and lends its value for a new lifetime.
-use Rattle.shared_parts.proofs.Names.{◌≡◌, ℕ, ◌^◌, List, [], ◌∷◌, ◌++◌, sym, refl, ap, ◌∙◌, subst, inst_fn, bare, Fn, a_type, dcons, dnil, Val, vstruct, vcons, vnil, of_list, has_ty, Lft, Fml, ftrue, fsep, feq, flft, full_share, SProp, ent, emp, id⊢, fst∗, never, ◌⊑◌, fact, fact_i, tables, WpFn, Item, ‵, raw, ◌⊛◌, some, later, ◌$◌, ◌∵◌, !, qed, by, move, keep, drop, split, split3, join, fsplit, fjoin, fpick, fpack, pick, sem, use0, use1, use3, await, rewrite, feq_i, feq_l, suffices, stop, fld, of_opd, no_more, and_then, returns, enter, alloc_all, pass_all, free_all, look_at, get, get_in, sets, lands_as, sub, whole, agg, RawPtr, no, bounded, layout, param_laws, RattleType, Valss, owns, Ptr, block_ptr, null_ptr, ptr_val, lies_at, in_a_block, lent_at, Lends-lies, Tuple, plain, nothing, only, heard, calls_at, Lasts, lasts, triple_of, Stays, stay_dropped, walk_of, fm, proved_at, leaves}
+use Rattle.shared_parts.proofs.Names.{◌≡◌, ℕ, ◌^◌, List, [], ◌∷◌, ◌++◌, sym, refl, ap, ◌∙◌, subst, inst_fn, bare, Fn, a_type, dcons, dnil, Val, vstruct}
+use Rattle.shared_parts.proofs.Names.{vcons, vnil, of_list, has_ty, Lft, Fml, ftrue, fsep, feq, flft, full_share, SProp, ent, emp, id⊢, fst∗, never, ◌⊑◌}
+use Rattle.shared_parts.proofs.Names.{fact, fact_i, tables, WpFn, Item, ‵, raw, ◌⊛◌, some, later, ◌$◌, ◌∵◌, !, qed, by, move, keep, drop, split, split3}
+use Rattle.shared_parts.proofs.Names.{join, fsplit, fjoin, fpick, fpack, pick, sem, use0, use1, use3, await, rewrite, feq_i, feq_l, suffices, stop, fld}
+use Rattle.shared_parts.proofs.Names.{of_opd, no_more, and_then, returns, enter, alloc_all, pass_all, free_all, look_at, get, get_in, sets, lands_as, sub}
+use Rattle.shared_parts.proofs.Names.{whole, agg, RawPtr, no, bounded, layout, param_laws, RattleType, Valss, owns, Ptr, block_ptr, null_ptr, ptr_val}
+use Rattle.shared_parts.proofs.Names.{lies_at, in_a_block, lent_at, Lends-lies, Tuple, plain, nothing, only, heard, calls_at, Lasts, lasts, triple_of}
+use Rattle.shared_parts.proofs.Names.{Stays, stay_dropped, walk_of, fm, proved_at, leaves}
 use base.Fml.{GName, fex}
 use denote.Memory.{lone}
 use Rattle.core.proofs.alloc.Calls.{α, token, handle_tells, Goes-blank}

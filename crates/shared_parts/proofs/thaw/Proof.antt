@@ -1,5 +1,12 @@
 -- `thaw` ends the block's lifetime by all its parts, takes back what was kept, and makes the box again.
-use Rattle.shared_parts.proofs.Names.{◌≡◌, ℕ, ◌^◌, List, [], ◌∷◌, ◌++◌, T, sym, refl, ap, ◌∙◌, subst, inst_fn, bare, Fn, a_type, dcons, dnil, Val, vptr, has_ty, WT, Fml, ftrue, fsep, flft, full_share, SProp, ent, emp, id⊢, ◌⊑◌, fact, fact_i, tables, WpFn, Item, ‵, raw, ◌⊛◌, some, given, later, at_ret, ◌$◌, ◌∵◌, !, qed, by, move, keep, drop, split, split3, join, fsplit, fsplit3, fjoin, fjoin3, pick, learn, use0, use1, use2, await, rewrite, feq_i, suffices, stop, fld, of_opd, no_more, and_then, first, blocks, exec, returns, enter, alloc_all, pass_all, free_all, look_at, get, get_in, sets, lands_last, is, env, sub, whole, no, bounded, RattleType, Ptr, InBlock, block_ptr, ptr_val, block_of, count_of, at_block, lies_at, plain, nothing, only, heard, calls_at_last, Lasts, lasts, triple_of, Stays, stay_dropped, walk_of, Goes-dropped, tail, fm, proved_at, leaves}
+use Rattle.shared_parts.proofs.Names.{◌≡◌, ℕ, ◌^◌, List, [], ◌∷◌, ◌++◌, T, sym, refl, ap, ◌∙◌, subst, inst_fn, bare, Fn, a_type, dcons, dnil, Val, vptr}
+use Rattle.shared_parts.proofs.Names.{has_ty, WT, Fml, ftrue, fsep, flft, full_share, SProp, ent, emp, id⊢, ◌⊑◌, fact, fact_i, tables, WpFn, Item, ‵, raw}
+use Rattle.shared_parts.proofs.Names.{◌⊛◌, some, given, later, at_ret, ◌$◌, ◌∵◌, !, qed, by, move, keep, drop, split, split3, join, fsplit, fsplit3, fjoin}
+use Rattle.shared_parts.proofs.Names.{fjoin3, pick, learn, use0, use1, use2, await, rewrite, feq_i, suffices, stop, fld, of_opd, no_more, and_then, first}
+use Rattle.shared_parts.proofs.Names.{blocks, exec, returns, enter, alloc_all, pass_all, free_all, look_at, get, get_in, sets, lands_last, is, env, sub}
+use Rattle.shared_parts.proofs.Names.{whole, no, bounded, RattleType, Ptr, InBlock, block_ptr, ptr_val, block_of, count_of, at_block, lies_at, plain}
+use Rattle.shared_parts.proofs.Names.{nothing, only, heard, calls_at_last, Lasts, lasts, triple_of, Stays, stay_dropped, walk_of, Goes-dropped, tail, fm}
+use Rattle.shared_parts.proofs.Names.{proved_at, leaves}
 use denote.Memory.{lone}
 use Rattle.core.proofs.alloc.Calls.{handle_tells}
 use Rattle.std_alloc.proofs.BoxSteps.Form as box

@@ -9,8 +9,13 @@ returns-then-size-gt-LARGEST-clause-none c =
     let numbers = c.args.numbers.now in
     let i = c.loop-number.number-index in
     let factor : c.from-size-in-loop-number.result ≡ max (dim_length dims (get_or numbers i 0)) 1 = grind arith in
-    let more = size_step dims numbers i c.loop-number.size c.from-size-in-loop-number.result (size_of dims numbers c.args.kind) c.loop-number-test.true factor c.loop-number.invariant.whole in
-    omega (arith, c.if-size-gt-LARGEST.true, size_most dims (drop (i + 1) numbers) (c.loop-number.size * c.from-size-in-loop-number.result) (size_of dims numbers c.args.kind) more)
+    let more = size_step dims numbers i c.loop-number.size c.from-size-in-loop-number.result
+    (size_of dims numbers c.args.kind) c.loop-number-test.true factor c.loop-number.invariant.whole in
+    omega (
+      arith,
+      c.if-size-gt-LARGEST.true,
+      size_most dims (drop (i + 1) numbers) (c.loop-number.size * c.from-size-in-loop-number.result) (size_of dims numbers c.args.kind) more,
+    )
 
 pub loop-number-preserved : goal.loop-number-preserved
 loop-number-preserved c =
@@ -19,6 +24,7 @@ loop-number-preserved c =
     let i = c.loop-number.number-index in
     let factor : c.from-size-in-loop-number.result ≡ max (dim_length dims (get_or numbers i 0)) 1 = grind arith in
     record {
-      whole = size_step dims numbers i c.loop-number.size c.from-size-in-loop-number.result (size_of dims numbers c.args.kind) c.loop-number-test.true factor c.loop-number.invariant.whole;
+      whole = size_step dims numbers i c.loop-number.size c.from-size-in-loop-number.result
+          (size_of dims numbers c.args.kind) c.loop-number-test.true factor c.loop-number.invariant.whole;
       within = c.if-size-gt-LARGEST.false;
     }

@@ -1,5 +1,11 @@
 -- `get` shows the value for as long as the part is borrowed.
-use Rattle.shared_parts.proofs.Names.{◌≡◌, ℕ, List, [], ◌∷◌, sym, refl, ap, ◌∙◌, inst_fn, Fn, a_type, dcons, dnil, named, Val, vptr, Lft, Fml, ftrue, fsep, flft, fhide, SProp, emp, fact, fact_i, tables, ‵, raw, ◌⊛◌, at_ret, ◌$◌, ◌∵◌, !, qed, by, move, keep, split, join, fsplit, fjoin, use0, use1, rewrite, feq_i, sub, whole, look_in, stop, fld, hop, addr, of_opd, first, blocks, exec, returns, enter, alloc_all, pass_all, free_all, look_at, get, through, sets, sets_last, env, RefOf, RawPtr, yes, Is, shows, cell_at, hidden_shr, unhide, hide, param, bounded, param_laws, RattleType, owns, Ptr, InBlock, block_ptr, block_of, count_of, at_block, shr_vals, shr_Tells, types_at, plain, nothing, peeks, heard, looks, shuts, lent_at, lent_at_shr_laws, lent_out, in_block_says, Stays, stay_dropped, walk_of, Goes-dropped, tail, proved, leaves}
+use Rattle.shared_parts.proofs.Names.{◌≡◌, ℕ, List, [], ◌∷◌, sym, refl, ap, ◌∙◌, inst_fn, Fn, a_type, dcons, dnil, named, Val, vptr, Lft, Fml, ftrue, fsep}
+use Rattle.shared_parts.proofs.Names.{flft, fhide, SProp, emp, fact, fact_i, tables, ‵, raw, ◌⊛◌, at_ret, ◌$◌, ◌∵◌, !, qed, by, move, keep, split, join}
+use Rattle.shared_parts.proofs.Names.{fsplit, fjoin, use0, use1, rewrite, feq_i, sub, whole, look_in, stop, fld, hop, addr, of_opd, first, blocks, exec}
+use Rattle.shared_parts.proofs.Names.{returns, enter, alloc_all, pass_all, free_all, look_at, get, through, sets, sets_last, env, RefOf, RawPtr, yes, Is}
+use Rattle.shared_parts.proofs.Names.{shows, cell_at, hidden_shr, unhide, hide, param, bounded, param_laws, RattleType, owns, Ptr, InBlock, block_ptr}
+use Rattle.shared_parts.proofs.Names.{block_of, count_of, at_block, shr_vals, shr_Tells, types_at, plain, nothing, peeks, heard, looks, shuts, lent_at}
+use Rattle.shared_parts.proofs.Names.{lent_at_shr_laws, lent_out, in_block_says, Stays, stay_dropped, walk_of, Goes-dropped, tail, proved, leaves}
 use Rattle.core.specs.contracts.marker.PhantomData as Phantom
 use Rattle.shared_parts.specs.Ownership.{part_shares}
 use Rattle.shared_parts.specs.contracts.Part as Part

@@ -1,5 +1,10 @@
 -- `join` glues the parts of both.
-use Rattle.shared_parts.proofs.Names.{◌≡◌, ℕ, ◌+◌, ◌^◌, ◌≤◌, List, [], ◌∷◌, refl, inst_fn, Fn, a_type, dcons, dnil, named, Val, vunit, vptr, Lft, Fml, ftrue, fsep, flft, SProp, emp, fact, fact_i, tables, ‵, raw, ◌⊛◌, given, ◌$◌, ◌∵◌, !, qed, by, move, keep, drop, split, join, fsplit, fsplit3, fjoin, fjoin3, learn, use0, use1, use2, rewrite, feq_i, unit_lit, of_opd, returns, enter, alloc_all, pass_all, free_all, look_at, sets, no, param, bounded, RattleType, owns, InBlock, mut_vals, mut_Tells, types_at, plain, nothing, heard, opens, closes, Stays, stay_dropped, stay_ref, walk_of, Goes-dropped, Goes-ref, proved, leaves}
+use Rattle.shared_parts.proofs.Names.{◌≡◌, ℕ, ◌+◌, ◌^◌, ◌≤◌, List, [], ◌∷◌, refl, inst_fn, Fn, a_type, dcons, dnil, named, Val, vunit, vptr, Lft, Fml}
+use Rattle.shared_parts.proofs.Names.{ftrue, fsep, flft, SProp, emp, fact, fact_i, tables, ‵, raw, ◌⊛◌, given, ◌$◌, ◌∵◌, !, qed, by, move, keep, drop}
+use Rattle.shared_parts.proofs.Names.{split, join, fsplit, fsplit3, fjoin, fjoin3, learn, use0, use1, use2, rewrite, feq_i, unit_lit, of_opd, returns}
+use Rattle.shared_parts.proofs.Names.{enter, alloc_all, pass_all, free_all, look_at, sets, no, param, bounded, RattleType, owns, InBlock, mut_vals}
+use Rattle.shared_parts.proofs.Names.{mut_Tells, types_at, plain, nothing, heard, opens, closes, Stays, stay_dropped, stay_ref, walk_of, Goes-dropped}
+use Rattle.shared_parts.proofs.Names.{Goes-ref, proved, leaves}
 use Rattle.shared_parts.specs.Ownership.{parts, part_owns}
 use Rattle.shared_parts.specs.contracts.Part as Part
 use Rattle.shared_parts.specs.contracts.Part.join.{ended, clauses}

@@ -1,5 +1,11 @@
 -- `split_one` cuts one part off, and makes a second owner of the same pointer.
-use Rattle.shared_parts.proofs.Names.{◌≡◌, ℕ, ◌-◌, ◌<◌, List, [], ◌∷◌, sym, refl, arith, inst_fn, Fn, a_type, dcons, dnil, named, Val, vptr, Lft, Fml, ftrue, fsep, flft, full_share, SProp, emp, fact, fact_i, tables, ‵, raw, ◌⊛◌, given, ◌$◌, ◌∵◌, !, qed, by, move, keep, split, join, fsplit, fsplit3, fjoin, fjoin3, learn, use0, use1, rewrite, feq_i, sub, whole, look_in, agg, stop, fld, load, of_opd, no_more, and_then, returns, enter, alloc_all, pass_all, free_all, look_at, get, through, sets, Is, shows, cell_at, param, bounded, param_laws, RattleType, owns, Ptr, InBlock, lent_at, lent_at_shr_laws, mut_vals, mut_Tells, contraction, types_at, plain, nothing, peeks, heard, opens, closes, Stays, stay_ref, walk_of, Goes-ref, proved, leaves}
+use Rattle.shared_parts.proofs.Names.{◌≡◌, ℕ, ◌-◌, ◌<◌, List, [], ◌∷◌, sym, refl, arith, inst_fn, Fn, a_type, dcons, dnil, named, Val, vptr, Lft, Fml}
+use Rattle.shared_parts.proofs.Names.{ftrue, fsep, flft, full_share, SProp, emp, fact, fact_i, tables, ‵, raw, ◌⊛◌, given, ◌$◌, ◌∵◌, !, qed, by, move, keep}
+use Rattle.shared_parts.proofs.Names.{split, join, fsplit, fsplit3, fjoin, fjoin3, learn, use0, use1, rewrite, feq_i, sub, whole, look_in, agg, stop, fld}
+use Rattle.shared_parts.proofs.Names.{load, of_opd, no_more, and_then, returns, enter, alloc_all, pass_all, free_all, look_at, get, through, sets, Is}
+use Rattle.shared_parts.proofs.Names.{shows, cell_at, param, bounded, param_laws, RattleType, owns, Ptr, InBlock, lent_at, lent_at_shr_laws, mut_vals}
+use Rattle.shared_parts.proofs.Names.{mut_Tells, contraction, types_at, plain, nothing, peeks, heard, opens, closes, Stays, stay_ref, walk_of, Goes-ref}
+use Rattle.shared_parts.proofs.Names.{proved, leaves}
 use base.Fml.{finv}
 use Rattle.shared_parts.specs.Ownership.{parts, block, part_owns}
 use Rattle.shared_parts.specs.contracts.Part as Part

@@ -1,7 +1,8 @@
 use Rattle.std.proofs.Common.{◌≢◌, ◌<◌, true, false, refl, sym, ◌∙◌, arith}
 use Rattle.trig_window.proofs.Stored.{at_window, unchanged, as_fired, stored-inside, stored-complete, stored-fired, stored-kept, stored-let_go, stored-kept_for}
 use Rattle.trig_window.proofs.window.Window.push.Goals as goal
-use Rattle.trig_window.proofs.window.Window.push.Goals.{else-self-gt0-2-via-then-self-gt0-2+else-self-eq0, else-self-gt0-2-via-else-self-gt0-2, in-None, in-Some, in-Some-2}
+use Rattle.trig_window.proofs.window.Window.push.Goals.{else-self-gt0-2-via-then-self-gt0-2+else-self-eq0, else-self-gt0-2-via-else-self-gt0-2, in-None}
+use Rattle.trig_window.proofs.window.Window.push.Goals.{in-Some, in-Some-2}
 
 pub returns-then-self-gt0-clause-push : goal.returns-then-self-gt0-clause-push
 returns-then-self-gt0-clause-push g c =

@@ -16,7 +16,8 @@ fetch_add-ended-requires g c = (
 
 pub returns-clause-call : goal.returns-clause-call
 returns-clause-call g c =
-    subst (λ (m : Seated g.row.S.Denot g.row.S-Entry.Denot). Called g.S.Object.begins (g.S.Object.role c.args.op) (λ before added. g.S.Object.answers before c.args.op c.play-reply.result added)
+    subst (λ (m : Seated g.row.S.Denot g.row.S-Entry.Denot). Called g.S.Object.begins (g.S.Object.role c.args.op)
+    (λ before added. g.S.Object.answers before c.args.op c.play-reply.result added)
     (pass_facts c.args.seat.now.table_id c.args.seat.now.me.0.seen c.args.seat.now.me.0.made)
     (pass_facts c.args.seat.now.table_id m.0.seen m.0.made)) (sym c.wake_next.ensures.stays)
     (turn_tells g.S.Object.entries g.S.Object.begins 0 (g.S.Object.role c.args.op) (λ mine. g.S.Object.may mine c.args.op)
