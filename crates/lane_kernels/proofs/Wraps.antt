@@ -1,7 +1,8 @@
 -- Sums that wrap.
-use Rattle.std.proofs.Common.{◌≡◌, ℕ, ◌+◌, ◌*◌, ◌/◌, ◌<◌, ◌≤◌, ℤ, pos, ◌+ℤ◌, FitsSigned, refl, ap, sym, ◌∙◌, arith}
+use Rattle.std.proofs.Common.{◌≡◌, ℕ, ◌+◌, ◌*◌, ◌/◌, ◌<◌, ◌≤◌, ◌%◌, ℤ, pos, negsuc, ◌+ℤ◌, to_z, of_z, FitsSigned, refl, ap, sym, ◌∙◌, arith}
 use Rattle.std.proofs.Math.Numerals.{add-one}
-use Rattle.std.specs.Int.{w64, int_wrap}
+use Rattle.std.specs.Int.{w32, w64, int_wrap, cast_signed, int_rem_euclid}
+use Rattle.std.specs.Int.RustNames.{unsigned_abs}
 use Rattle.std.proofs.lemmas.Int.{wraps, int_wrap-add_left, int_wrap-add_right, int_wrap_fits, ints}
 use Rattle.std.proofs.Math.Nat.{div-le_self}
 use Rattle.nd_base.specs.declared.array.SampleType.{SampleType}
@@ -19,6 +20,19 @@ sum_below-more n value = rw add-one
 pub wraps_zero : int_wrap w64 (pos 0) ≡ pos 0
 unfolding int_wrap
 wraps_zero = refl
+
+pub wraps_zero_32 : int_wrap w32 (pos 0) ≡ pos 0
+unfolding int_wrap
+wraps_zero_32 = refl
+
+low_word : (z : ℤ) → FitsSigned w64 z → of_z w64 z % 4294967296 ≡ unsigned_abs (int_rem_euclid z (pos 4294967296))
+low_word (pos n) fits = refl
+low_word (negsuc n) fits = omega arith
+
+-- the lowest 32 bits of a number
+pub wraps-low : (z : ℤ) → FitsSigned w64 z → to_z w32 (of_z w64 z % 4294967296) ≡ int_wrap w32 z
+unfolding int_wrap
+wraps-low z fits = ap (cast_signed w32) (low_word z fits)
 
 -- a sample's bytes are within those of all
 pub stored_within : (kind : SampleType) (p bytes : ℕ) → p < bytes / width kind → p * width kind + width kind ≤ bytes
@@ -44,4 +58,4 @@ sums_more value j start before after v b a e =
     a ∙ ap (λ z. int_wrap w64 (z +ℤ v)) b ∙ wraps-more start (sum_below j value) v ∙ ap (λ z. int_wrap w64 (start +ℤ (sum_below j value +ℤ z))) e
     ∙ ap (λ z. int_wrap w64 (start +ℤ z)) (sym (sum_below-more j value))
 
-pub ruleset wrapping = (sum_below-more, wraps, wraps_zero, stored_within, samples_most)
+pub ruleset wrapping = (sum_below-more, wraps, wraps_zero, wraps_zero_32, stored_within, samples_most)

@@ -1,13 +1,13 @@
 //! Binned lines.
 
 ghost use Rattle.std.specs.Prelude.{◌≡◌, ℕ, ◌+◌, ◌*◌, ◌/◌, ◌<◌, ◌≤◌, length, pos, ◌+ℤ◌, slice_index_or, map, FitsSigned};
-ghost use Rattle.std.specs.Int.{w64, int_wrap};
+ghost use Rattle.std.specs.Int.{w32, w64, int_wrap};
 ghost use Rattle.std.specs.List.{range_with_len};
 ghost use Rattle.nd_base.specs.Samples.{width};
 ghost use Rattle.nd_base.specs.declared.array.SampleType.TheVariants.{UInt8};
 ghost use Rattle.lane_kernels.specs.Plain.{run};
 
-use crate::sample::sample_at;
+use crate::sample::{low_word, sample_at};
 use nd_base::SampleType;
 use std::simd::prelude::*;
 
@@ -35,6 +35,34 @@ fn add_each(kind: SampleType, input: &[u8], bin: usize, place: usize, sums: &mut
     let mut at = place;
     for sum in sums.iter_mut() {
         *sum = sum.wrapping_add(sum_run(kind, input, bin, at));
+        at += bin;
+    }
+}
+
+/// What is left in 32 bits of the sum of the `bin` samples from a place on.
+#[inline(always)]
+#[tactic(auto, using(crate::proofs::Wraps::wrapping))]
+fn low_run(kind: SampleType, input: &[u8], bin: usize, place: usize) -> i32
+    requires { place + bin ≤ length input.now / width kind }
+    ensures { result ≡ int_wrap w32 (run kind input.now bin place) }
+{
+    let mut sum = 0i32;
+    for j in 0..bin {
+        sum = sum.wrapping_add(low_word(sample_at(kind, input, place + j)));
+    }
+    sum
+}
+
+/// Adds `bin` samples to each sum of 32 bits, those from the line's start on to the first.
+#[inline(always)]
+#[tactic(auto, using(crate::proofs::Wraps::wrapping))]
+fn add_low_each(kind: SampleType, line: &[u8], bin: usize, sums: &mut [i32])
+    requires { length sums.old * bin ≤ length line.now / width kind }
+    ensures { (k : ℕ) → k < length sums.new → slice_index_or sums.new k (pos 0) ≡ int_wrap w32 (slice_index_or sums.old k (pos 0) +ℤ run kind line.now bin (k * bin)) }
+{
+    let mut at = 0;
+    for sum in sums.iter_mut() {
+        *sum = sum.wrapping_add(low_run(kind, line, bin, at));
         at += bin;
     }
 }
@@ -98,6 +126,22 @@ pub(crate) fn add_runs(kind: SampleType, line: &[u8], bin: usize, sums: &mut [i6
         4 => add_each(kind, line, 4, 0, sums),
         8 => add_each(kind, line, 8, 0, sums),
         _ => add_each(kind, line, bin, 0, sums),
+    }
+}
+
+/// Adds `bin` samples to each sum of 32 bits. The usual bins have code of their own.
+#[inline(always)]
+pub(crate) fn add_low_runs(kind: SampleType, line: &[u8], bin: usize, sums: &mut [i32])
+    requires { length sums.old * bin ≤ length line.now / width kind }
+    ensures { (k : ℕ) → k < length sums.new → slice_index_or sums.new k (pos 0) ≡ int_wrap w32 (slice_index_or sums.old k (pos 0) +ℤ run kind line.now bin (k * bin)) }
+{
+    match bin {
+        1 => add_low_each(kind, line, 1, sums),
+        2 => add_low_each(kind, line, 2, sums),
+        3 => add_low_each(kind, line, 3, sums),
+        4 => add_low_each(kind, line, 4, sums),
+        8 => add_low_each(kind, line, 8, sums),
+        _ => add_low_each(kind, line, bin, sums),
     }
 }
 

@@ -2,7 +2,7 @@
 #![tactic(auto)]
 
 ghost use Rattle.std.specs.Prelude.{◌≡◌, ◌≢◌, ℕ, ◌*◌, ◌/◌, ◌%◌, ◌<◌, ◌≤◌, ◌+ℤ◌, pos, length, slice_index_or, FitsSigned};
-ghost use Rattle.std.specs.Int.{w64, int_wrap};
+ghost use Rattle.std.specs.Int.{w32, w64, int_wrap};
 ghost use Rattle.nd_base.specs.Samples.{width, samples_of};
 ghost use Rattle.nd_base.specs.Shapes.{most_samples};
 ghost use Rattle.lane_kernels.specs.Plain.{total, squares, least, greatest, stored, run};
@@ -13,7 +13,7 @@ mod sample;
 mod sums;
 
 use nd_base::SampleType;
-pub use sample::sample_at;
+pub use sample::{low_word, sample_at};
 
 /// The sum of the samples.
 pub fn sum_bytes(kind: SampleType, samples: &[u8]) -> i64
@@ -109,5 +109,21 @@ pub fn add_binned(kind: SampleType, line: &[u8], bin: u32, sums: &mut [i64])
         SampleType::UInt16 => binned::add_runs(SampleType::UInt16, line, bin, sums),
         SampleType::Int32 => binned::add_runs(SampleType::Int32, line, bin, sums),
         SampleType::UInt32 => binned::add_runs(SampleType::UInt32, line, bin, sums),
+    }
+}
+
+/// The same with sums of 32 bits: what leaves them is lost.
+pub fn add_binned_low(kind: SampleType, line: &[u8], bin: u32, sums: &mut [i32])
+    requires { length sums.old * bin ≤ length line.now / width kind }
+    ensures { (k : ℕ) → k < length sums.new → slice_index_or sums.new k (pos 0) ≡ int_wrap w32 (slice_index_or sums.old k (pos 0) +ℤ run kind line.now bin (k * bin)) }
+{
+    let bin = bin as usize;
+    match kind {
+        SampleType::Int8 => binned::add_low_runs(SampleType::Int8, line, bin, sums),
+        SampleType::UInt8 => binned::add_low_runs(SampleType::UInt8, line, bin, sums),
+        SampleType::Int16 => binned::add_low_runs(SampleType::Int16, line, bin, sums),
+        SampleType::UInt16 => binned::add_low_runs(SampleType::UInt16, line, bin, sums),
+        SampleType::Int32 => binned::add_low_runs(SampleType::Int32, line, bin, sums),
+        SampleType::UInt32 => binned::add_low_runs(SampleType::UInt32, line, bin, sums),
     }
 }

@@ -1,6 +1,7 @@
 //! Samples by their places.
 
 ghost use Rattle.std.specs.Prelude.{◌≡◌, ◌*◌, ◌/◌, ◌<◌, ◌≤◌, length, unsigned_abs};
+ghost use Rattle.std.specs.Int.{w32, int_wrap};
 ghost use Rattle.nd_base.specs.Samples.{width, IsSmall};
 ghost use Rattle.lane_kernels.specs.Plain.{stored};
 
@@ -50,4 +51,14 @@ pub(crate) fn byte_square(kind: SampleType, bytes: &[u8], place: usize) -> u32
 {
     let size = byte_size(kind, bytes, place);
     size * size
+}
+
+/// What is left of a number in 32 bits.
+#[inline(always)]
+pub fn low_word(number: i64) -> i32
+    ensures { result ≡ int_wrap w32 number }
+{
+    let bits = number.cast_unsigned();
+    let low = (bits % 0x1_0000_0000) as u32;
+    low.cast_signed()
 }

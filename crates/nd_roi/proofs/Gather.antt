@@ -1,6 +1,6 @@
 -- Sums that were gathered, and their samples as bytes.
 use Rattle.std.proofs.Common.{◌≡◌, ℕ, ◌+◌, ◌-◌, ◌*◌, ◌<◌, true, false, ℤ, pos, negsuc, ◌+ℤ◌, List, length, get_or, map, reverse, FitsSigned, refl, ap, sym, ◌∙◌, arith}
-use Rattle.std.specs.Int.{w64, int_wrap}
+use Rattle.std.specs.Int.{w32, w64, int_wrap}
 use Rattle.std.specs.Int.RustNames.{int_div, int_rem, unsigned_abs}
 use Rattle.std.specs.List.{range_with_len, flat_map}
 use Rattle.std.proofs.lemmas.Int.{ints, int_wrap_fits, quot-rem, rem_below}
@@ -11,10 +11,15 @@ use Rattle.nd_base.specs.declared.array.SampleType.{SampleType}
 use Rattle.nd_roi.specs.declared.cut.Cut.{Cut}
 use Rattle.nd_roi.specs.Region.{first_covered}
 use Rattle.nd_roi.specs.Walk.{bytes_of}
+use Rattle.nd_roi.proofs.Bytes.{bytes_of-low}
+use Rattle.nd_roi.proofs.Places.{flat_map-cong}
 
 -- each sum began at zero, and none wrapped
 pub from_zero : (z v : ℤ) → z ≡ pos 0 → FitsSigned w64 v → int_wrap w64 (z +ℤ v) ≡ v
 from_zero z v e fits = let f : z +ℤ v ≡ v = omega (arith, ints) in ap (int_wrap w64) f ∙ int_wrap_fits w64 v fits
+
+pub low_from_zero : (z v : ℤ) → z ≡ pos 0 → int_wrap w32 (z +ℤ v) ≡ int_wrap w32 v
+low_from_zero z v e = let f : z +ℤ v ≡ v = omega (arith, ints) in ap (int_wrap w32) f
 
 pub first_covered-forward : (c : Cut) (out : ℕ) → c.reverse ≡ false → first_covered c out ≡ c.min + out * c.bin
 first_covered-forward c out h = rw h refl
@@ -46,11 +51,10 @@ int_div-one z =
     let r = none_left (int_rem z (pos 1)) (rem_below z (pos 1) (omega arith)) in
     omega (arith, ints, q, r)
 
-pub divided_bytes : (kind : SampleType) (total : ℕ → ℤ) (scale : ℕ) (outs : List ℕ) (sums quotients : List ℤ) → sums ≡ map total outs → quotients ≡ map (λ sum. int_div sum (pos scale)) sums → flat_map (bytes_of kind) quotients ≡ flat_map (λ out. bytes_of kind (int_div (total out) (pos scale))) outs
-divided_bytes kind total scale outs sums quotients s q =
-    ap (flat_map (bytes_of kind)) q ∙ flat_map-map (bytes_of kind) (λ sum. int_div sum (pos scale)) sums
-    ∙ ap (flat_map (λ sum. bytes_of kind (int_div sum (pos scale)))) s ∙ flat_map-map (λ sum. bytes_of kind (int_div sum (pos scale))) total outs
+-- the bytes of what is left of the quotients in 32 bits
+pub low_bytes : (kind : SampleType) (quotient : ℕ → ℤ) (outs : List ℕ) → flat_map (bytes_of kind) (map (λ out. int_wrap w32 (quotient out)) outs) ≡ flat_map (λ out. bytes_of kind (quotient out)) outs
+low_bytes kind quotient outs = flat_map-map (bytes_of kind) (λ out. int_wrap w32 (quotient out)) outs ∙ flat_map-cong _ _ outs (λ out. bytes_of-low kind (quotient out))
 
-pub undivided_bytes : (kind : SampleType) (total : ℕ → ℤ) (scale : ℕ) (outs : List ℕ) (sums : List ℤ) → sums ≡ map total outs → scale ≡ 1 → flat_map (bytes_of kind) sums ≡ flat_map (λ out. bytes_of kind (int_div (total out) (pos scale))) outs
-undivided_bytes kind total scale outs sums s one =
-    ap (flat_map (bytes_of kind)) s ∙ flat_map-map (bytes_of kind) total outs ∙ rw one (simp int_div-one)
+-- a sum divided by 1 is the sum
+pub undivided : (kind : SampleType) (total : ℕ → ℤ) (scale : ℕ) (outs : List ℕ) → scale ≡ 1 → flat_map (λ out. bytes_of kind (total out)) outs ≡ flat_map (λ out. bytes_of kind (int_div (total out) (pos scale))) outs
+undivided kind total scale outs one = rw one (simp int_div-one)

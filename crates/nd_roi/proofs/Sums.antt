@@ -1,7 +1,7 @@
 -- Sums that grow.
 use Rattle.std.proofs.Common.{◌≡◌, ℕ, ◌+◌, ◌*◌, ◌/◌, ◌<◌, ◌≤◌, ℤ, pos, ◌+ℤ◌, FitsSigned, refl, ap, sym, ◌∙◌, arith}
 use Rattle.std.proofs.Math.Numerals.{add-one}
-use Rattle.std.specs.Int.{w64, int_wrap}
+use Rattle.std.specs.Int.{Width, w64, int_wrap}
 use Rattle.std.proofs.lemmas.Int.{wraps, int_wrap-add_left, int_wrap-add_right, int_wrap_fits, ints}
 use Rattle.std.proofs.Math.Nat.{div-le_self}
 use Rattle.nd_base.specs.declared.array.SampleType.{SampleType}
@@ -32,16 +32,16 @@ pub samples_most : (kind : SampleType) (bytes : ℕ) → bytes / width kind ≤ 
 samples_most kind bytes = div-le_self bytes (width kind)
 
 -- a sum of nothing yet
-pub wraps-none : (x : ℤ) → FitsSigned w64 x → x ≡ int_wrap w64 (x +ℤ pos 0)
-wraps-none x fits = sym (int_wrap_fits w64 (x +ℤ pos 0) (rw (add_zero x) fits) ∙ add_zero x)
+pub wraps-none : (w : Width) (x : ℤ) → FitsSigned w x → x ≡ int_wrap w (x +ℤ pos 0)
+wraps-none w x fits = sym (int_wrap_fits w (x +ℤ pos 0) (rw (add_zero x) fits) ∙ add_zero x)
 
 -- a value more, where the sum wrapped before
-pub wraps-more : (start before value : ℤ) → int_wrap w64 (int_wrap w64 (start +ℤ before) +ℤ value) ≡ int_wrap w64 (start +ℤ (before +ℤ value))
-wraps-more start before value = int_wrap-add_left w64 (start +ℤ before) value ∙ ap (int_wrap w64) (omega (arith, ints))
+pub wraps-more : (w : Width) (start before value : ℤ) → int_wrap w (int_wrap w (start +ℤ before) +ℤ value) ≡ int_wrap w (start +ℤ (before +ℤ value))
+wraps-more w start before value = int_wrap-add_left w (start +ℤ before) value ∙ ap (int_wrap w) (omega (arith, ints))
 
-pub sums_more : (value : ℕ → ℤ) (j : ℕ) (start before after v : ℤ) → before ≡ int_wrap w64 (start +ℤ sum_below j value) → after ≡ int_wrap w64 (before +ℤ v) → v ≡ value j → after ≡ int_wrap w64 (start +ℤ sum_below (j + 1) value)
-sums_more value j start before after v b a e =
-    a ∙ ap (λ z. int_wrap w64 (z +ℤ v)) b ∙ wraps-more start (sum_below j value) v ∙ ap (λ z. int_wrap w64 (start +ℤ (sum_below j value +ℤ z))) e
-    ∙ ap (λ z. int_wrap w64 (start +ℤ z)) (sym (sum_below-more j value))
+pub sums_more : (w : Width) (value : ℕ → ℤ) (j : ℕ) (start before after v : ℤ) → before ≡ int_wrap w (start +ℤ sum_below j value) → after ≡ int_wrap w (before +ℤ v) → v ≡ value j → after ≡ int_wrap w (start +ℤ sum_below (j + 1) value)
+sums_more w value j start before after v b a e =
+    a ∙ ap (λ z. int_wrap w (z +ℤ v)) b ∙ wraps-more w start (sum_below j value) v ∙ ap (λ z. int_wrap w (start +ℤ (sum_below j value +ℤ z))) e
+    ∙ ap (λ z. int_wrap w (start +ℤ z)) (sym (sum_below-more j value))
 
 pub ruleset sums = (sum_below-more, wraps, wraps_zero, stored_within, samples_most)

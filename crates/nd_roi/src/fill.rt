@@ -64,6 +64,6 @@ pub fn fill_region(rule: &RoiRule, kind: SampleType, dims: &[Dim], input: &[u8],
         scale: rule.scale,
         out_kind: rule.out.unwrap_or(kind),
     };
-    let mut sums = [0i64; CHUNK];
+    let mut sums = [0i32; CHUNK];
     fill_lines(&job, input, job.slower, 0, 0, &mut sums, out);
 }

@@ -9,7 +9,7 @@ ghost use Rattle.nd_roi.specs.Region.{low_bits};
 ghost use Rattle.nd_base.specs.declared.array.SampleType.TheVariants.{UInt8};
 ghost use Rattle.nd_roi.specs.Walk.{stored, run, bytes_of};
 
-use lane_kernels::add_binned;
+use lane_kernels::{add_binned, add_binned_low, low_word};
 use nd_base::SampleType;
 
 /// Adds `bin` samples to each sum, those from `place` on to the first.
@@ -22,19 +22,29 @@ pub(crate) fn add_line(kind: SampleType, input: &[u8], bin: u32, place: usize, s
     add_binned(kind, &input[from..], bin, sums);
 }
 
-/// Divides each by `scale`, toward zero.
-pub(crate) fn divide_each(sums: &mut [i64], scale: u32)
-    requires { 0 < scale }
-    ensures { sums.new ≡ map (λ sum. int_div sum (pos scale)) sums.old }
+/// Adds `bin` samples to each sum of 32 bits, those from `place` on to the first.
+pub(crate) fn add_low_line(kind: SampleType, input: &[u8], bin: u32, place: usize, sums: &mut [i32])
+    requires { place + length sums.old * bin ≤ length input.now / width kind }
+    ensures { (k : ℕ) → k < length sums.new → slice_index_or sums.new k (pos 0) ≡ int_wrap w32 (slice_index_or sums.old k (pos 0) +ℤ run kind input.now bin (place + k * bin)) }
+{
+    let from = place * kind.width();
+    add_binned_low(kind, &input[from..], bin, sums);
+}
+
+/// Sets each to what is left in 32 bits of a sum that was divided by `scale`, toward zero.
+pub(crate) fn divide_each(sums: &[i64], scale: u32, quotients: &mut [i32])
+    requires scale { 0 < scale }
+    requires room { length quotients.old ≡ length sums.now }
+    ensures { quotients.new ≡ map (λ sum. int_wrap w32 (int_div sum (pos scale))) sums.now }
 {
     let scale = i64::from(scale);
-    for sum in sums.iter_mut() {
-        *sum /= scale;
+    for (k, sum) in sums.iter().enumerate() {
+        quotients[k] = low_word(*sum / scale);
     }
 }
 
 /// Writes each as a sample, what is left of it in the bits of the type.
-pub(crate) fn write_samples(kind: SampleType, sums: &[i64], out: &mut [u8])
+pub(crate) fn write_samples(kind: SampleType, sums: &[i32], out: &mut [u8])
     requires { length out.old ≡ length sums.now * width kind }
     ensures { out.new ≡ flat_map (bytes_of kind) sums.now }
 {
@@ -46,24 +56,24 @@ pub(crate) fn write_samples(kind: SampleType, sums: &[i64], out: &mut [u8])
 }
 
 /// The lowest 8 bits.
-fn low_byte(sum: i64) -> u8
+fn low_byte(sum: i32) -> u8
     ensures { result ≡ low_bits 8 sum }
 {
     (sum.cast_unsigned() % 0x100) as u8
 }
 
 /// The lowest 16 bits.
-fn low_pair(sum: i64) -> u16
+fn low_pair(sum: i32) -> u16
     ensures { result ≡ low_bits 16 sum }
 {
     (sum.cast_unsigned() % 0x1_0000) as u16
 }
 
-/// The lowest 32 bits.
-fn low_word(sum: i64) -> u32
+/// All 32 bits.
+fn whole_word(sum: i32) -> u32
     ensures { result ≡ low_bits 32 sum }
 {
-    (sum.cast_unsigned() % 0x1_0000_0000) as u32
+    sum.cast_unsigned()
 }
 
 /// The bytes, the most significant first. They are swapped as a whole, so that the compiler stores them as one.
@@ -81,7 +91,7 @@ fn word_bytes(word: u32) -> [u8; 4]
 }
 
 /// Writes the lowest 8 bits of each.
-fn write_bytes(sums: &[i64], out: &mut [u8])
+fn write_bytes(sums: &[i32], out: &mut [u8])
     requires { length out.old ≡ length sums.now }
     ensures { out.new ≡ flat_map (bytes_of SampleType.UInt8) sums.now }
 {
@@ -91,7 +101,7 @@ fn write_bytes(sums: &[i64], out: &mut [u8])
 }
 
 /// Writes the lowest 16 bits of each.
-fn write_pairs(sums: &[i64], out: &mut [u8])
+fn write_pairs(sums: &[i32], out: &mut [u8])
     requires { length out.old ≡ length sums.now * 2 }
     ensures { out.new ≡ flat_map (bytes_of SampleType.UInt16) sums.now }
 {
@@ -103,12 +113,12 @@ fn write_pairs(sums: &[i64], out: &mut [u8])
 }
 
 /// Writes the lowest 32 bits of each.
-fn write_words(sums: &[i64], out: &mut [u8])
+fn write_words(sums: &[i32], out: &mut [u8])
     requires { length out.old ≡ length sums.now * 4 }
     ensures { out.new ≡ flat_map (bytes_of SampleType.UInt32) sums.now }
 {
     for (k, sum) in sums.iter().enumerate() {
-        let [first, second, third, last] = word_bytes(low_word(*sum));
+        let [first, second, third, last] = word_bytes(whole_word(*sum));
         out[4 * k] = first;
         out[4 * k + 1] = second;
         out[4 * k + 2] = third;

@@ -2,14 +2,15 @@
 
 ghost use Rattle.std.specs.Prelude.{◌≡◌, ℕ, ◌+◌, ◌*◌, ◌-◌, ◌/◌, ◌<◌, ◌≤◌, ◌++◌, length, take, drop, map, pos, ◌+ℤ◌, slice_index_or, reverse, sum_by, true, false, FitsSigned};
 ghost use Rattle.std.specs.List.{range_with_len};
-ghost use Rattle.std.specs.Int.{w64, int_wrap};
+ghost use Rattle.std.specs.Int.{w32, w64, int_wrap};
+ghost use Rattle.std.specs.Int.RustNames.{int_div};
 ghost use Rattle.nd_base.specs.GraphRules.{IsBetween};
 ghost use Rattle.nd_base.specs.Samples.{width};
 ghost use Rattle.nd_base.specs.Shapes.{most_samples};
 ghost use Rattle.nd_roi.specs.Walk.{run, lines_total, bin_reach, bins_of, lines, for_lines, first_reach, line_total, line_bytes};
 
 use crate::cut::Cut;
-use crate::sample::{add_line, divide_each, write_samples};
+use crate::sample::{add_line, add_low_line, divide_each, write_samples};
 use nd_base::SampleType;
 
 /// One dimension of the walk: its cut, and how many places lie between neighbours.
@@ -61,6 +62,44 @@ pub(crate) fn add_lines(
     }
 }
 
+/// Adds to each sum of 32 bits the samples of all lines that a bin covers along the slower axes: `bin` of each line,
+/// those from `base` on to the first sum.
+pub(crate) fn add_low_lines(
+    kind: SampleType,
+    input: &[u8],
+    bin: u32,
+    slower: &[Axis],
+    base: usize,
+    sums: &mut [i32],
+)
+    requires within { base + length sums.old * bin + sum_by bin_reach slower.now ≤ length input.now / width kind }
+    requires fit { (k : ℕ) → k < length sums.old → FitsSigned w32 (slice_index_or sums.old k (pos 0)) }
+    ensures { (k : ℕ) → k < length sums.new → slice_index_or sums.new k (pos 0) ≡ int_wrap w32 (slice_index_or sums.old k (pos 0) +ℤ lines_total (reverse slower.now) (run kind input.now bin) (base + k * bin)) }
+{
+    match slower.split_last() {
+        None => add_low_line(kind, input, bin, base, sums),
+        Some((axis, faster)) => {
+            for j in 0..axis.cut.bin as usize {
+                add_low_lines(kind, input, bin, faster, base + j * axis.stride, sums);
+            }
+        }
+    }
+}
+
+/// Of the `count` bins of a line that the output indices from `done` on cover, the first in the array's order.
+fn first_bin(line: Cut, done: usize, count: usize) -> usize
+    requires { done + count ≤ line.size }
+    ensures within { result + count ≤ line.size }
+    ensures forward { line.reverse ≡ false → result ≡ done }
+    ensures reversed { line.reverse ≡ true → result + count + done ≡ line.size }
+{
+    if line.reverse {
+        line.size as usize - done - count
+    } else {
+        done
+    }
+}
+
 /// Sets each sum to that of the samples that an output index of the line covers, from output index `done` on.
 /// `base` is the place of the first line that the bin covers.
 fn gather(job: &Job, input: &[u8], base: usize, done: usize, sums: &mut [i64])
@@ -70,11 +109,7 @@ fn gather(job: &Job, input: &[u8], base: usize, done: usize, sums: &mut [i64])
     ensures { sums.new ≡ map (λ out. line_total job.now.kind input.now job.now.line (reverse job.now.slower.now) base out) (range_with_len done (length sums.old)) }
 {
     let line = job.line;
-    let first = if line.reverse {
-        line.size as usize - done - sums.len()
-    } else {
-        done
-    };
+    let first = first_bin(line, done, sums.len());
     let bin = line.bin as usize;
     sums.fill(0);
     add_lines(
@@ -90,9 +125,49 @@ fn gather(job: &Job, input: &[u8], base: usize, done: usize, sums: &mut [i64])
     }
 }
 
+/// Sets each to what is left in 32 bits of the sum of the samples that an output index of the line covers, from output index `done` on.
+/// `base` is the place of the first line that the bin covers.
+fn gather_low(job: &Job, input: &[u8], base: usize, done: usize, sums: &mut [i32])
+    requires range { done + length sums.old ≤ job.now.line.size }
+    requires within { base + (job.now.line.min + job.now.line.size * job.now.line.bin) + sum_by bin_reach job.now.slower.now ≤ length input.now / width job.now.kind }
+    ensures { sums.new ≡ map (λ out. int_wrap w32 (line_total job.now.kind input.now job.now.line (reverse job.now.slower.now) base out)) (range_with_len done (length sums.old)) }
+{
+    let line = job.line;
+    let first = first_bin(line, done, sums.len());
+    let bin = line.bin as usize;
+    sums.fill(0);
+    add_low_lines(
+        job.kind,
+        input,
+        line.bin,
+        job.slower,
+        base + line.min as usize + first * bin,
+        sums,
+    );
+    if line.reverse {
+        sums.reverse();
+    }
+}
+
+/// The same of the sums divided by the scale, which are gathered in 64 bits.
+fn gather_divided(job: &Job, input: &[u8], base: usize, done: usize, quotients: &mut [i32])
+    requires chunk { length quotients.old ≤ CHUNK }
+    requires range { done + length quotients.old ≤ job.now.line.size }
+    requires within { base + (job.now.line.min + job.now.line.size * job.now.line.bin) + sum_by bin_reach job.now.slower.now ≤ length input.now / width job.now.kind }
+    requires few { bins_of (reverse job.now.slower.now) * job.now.line.bin ≤ most_samples }
+    requires scale { 0 < job.now.scale }
+    ensures { quotients.new ≡ map (λ out. int_wrap w32 (int_div (line_total job.now.kind input.now job.now.line (reverse job.now.slower.now) base out) (pos job.now.scale))) (range_with_len done (length quotients.old)) }
+{
+    let mut sums = [0i64; CHUNK];
+    let sums = &mut sums[..quotients.len()];
+    gather(job, input, base, done, sums);
+    divide_each(sums, job.scale, quotients);
+}
+
 /// Writes the samples of the line from output index `done` on, one for each sum. `base` is the place of the
 /// first line that the bin covers.
-fn fill_chunk(job: &Job, input: &[u8], base: usize, done: usize, sums: &mut [i64], out: &mut [u8])
+fn fill_chunk(job: &Job, input: &[u8], base: usize, done: usize, sums: &mut [i32], out: &mut [u8])
+    requires chunk { length sums.old ≤ CHUNK }
     requires range { done + length sums.old ≤ job.now.line.size }
     requires room { length out.old ≡ length sums.old * width job.now.out_kind }
     requires within { base + (job.now.line.min + job.now.line.size * job.now.line.bin) + sum_by bin_reach job.now.slower.now ≤ length input.now / width job.now.kind }
@@ -100,9 +175,10 @@ fn fill_chunk(job: &Job, input: &[u8], base: usize, done: usize, sums: &mut [i64
     requires scale { 0 < job.now.scale }
     ensures { out.new ≡ line_bytes job.now.kind input.now job.now.line (reverse job.now.slower.now) job.now.scale job.now.out_kind base done (length sums.old) }
 {
-    gather(job, input, base, done, sums);
-    if job.scale != 1 {
-        divide_each(sums, job.scale);
+    if job.scale == 1 {
+        gather_low(job, input, base, done, sums);
+    } else {
+        gather_divided(job, input, base, done, sums);
     }
     write_samples(job.out_kind, sums, out);
 }
@@ -148,7 +224,7 @@ fn fill_line(
     input: &[u8],
     base: usize,
     at: usize,
-    sums: &mut [i64],
+    sums: &mut [i32],
     out: &mut [u8],
 ) -> usize
     requires chunk { length sums.old ≡ CHUNK }
@@ -198,7 +274,7 @@ pub(crate) fn fill_lines(
     slower: &[Axis],
     base: usize,
     at: usize,
-    sums: &mut [i64],
+    sums: &mut [i32],
     out: &mut [u8],
 ) -> usize
     requires chunk { length sums.old ≡ CHUNK }

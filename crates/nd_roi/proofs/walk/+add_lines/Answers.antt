@@ -9,12 +9,12 @@ use Rattle.nd_roi.proofs.Sums.{wraps-none, sums_more}
 use Rattle.nd_roi.proofs.walk.+add_lines.Goals as goal
 
 pub loop-j-init : goal.loop-j-init
-loop-j-init t c = λ k h. wraps-none (get_or c.args.sums.now k (pos 0)) (c.requires.fit k h)
+loop-j-init t c = λ k h. wraps-none w64 (get_or c.args.sums.now k (pos 0)) (c.requires.fit k h)
 
 pub loop-j-preserved : goal.loop-j-preserved
 loop-j-preserved t c = λ k h.
     let total : ℕ → ℤ = lines_total (reverse c.in-Some.faster.now) (run c.args.kind c.args.input.now c.args.bin) in
-    sums_more (λ j. total (c.args.base + k * c.args.bin + j * c.in-Some.axis.now.stride)) c.loop-j.j _ _ _ _
+    sums_more w64 (λ j. total (c.args.base + k * c.args.bin + j * c.in-Some.axis.now.stride)) c.loop-j.j _ _ _ _
     (c.loop-j.invariant k (omega arith)) (c.add_lines.ensures k h) (ap total (omega arith))
 
 pub returns-after-loop-j : goal.returns-after-loop-j
