@@ -3,6 +3,7 @@ use Rattle.std.proofs.Common.{◌≡◌, ◌≢◌, ℕ, zero, suc, ◌+◌, ◌
 use Rattle.std.proofs.Common.{List, [], ◌∷◌, ◌++◌, length, ap, ◌∙◌, inl, inr, length-append}
 use Rattle.std.specs.Prelude.{unsigned_abs}
 use Rattle.std.proofs.lemmas.Bool.{cases_lt}
+use Rattle.std.proofs.lemmas.Nat.{div-mul-add}
 use Rattle.std.proofs.lemmas.List.{get_or_append_left, get_or_push}
 use Rattle.std.proofs.Math.Nat.{mul-le-mul, mul-le-mul_left, mul-le-mul_right, div-lt_iff_lt-mul}
 use Rattle.std.proofs.lemmas.Int.{ints, fits_signed_mul, unsigned_abs-mul}
@@ -75,4 +76,20 @@ bins_push rule bins b are e = λ k h.
           let here : length bins ≡ k = omega (arith, long, h) in
           let range = unsigned_abs (rule.hist_hi -ℤ rule.hist_lo) in
           get_or_push bins b 0 k here ∙ e ∙ ap (λ n. (2 * n * (rule.hist_size - 1) + range) / (2 * range)) here
+    ]
+
+-- the bin of a mark, which is the quotient
+pub mark_bin : (b r n w : ℕ) → b * w + r ≡ n → r < w → b ≡ n / w
+mark_bin b r n w e h = sym (div-mul-add b w r h) ∙ ap (λ m. m / w) e
+
+-- a mark one step further
+pub mark_more : (x y s a m r : ℕ) → x ≡ y + s → y ≡ 2 * a * m + r → s ≡ 2 * m → x ≡ 2 * (a + 1) * m + r
+mark_more x y s a m r e f g = omega (arith, e, f, g)
+
+-- a mark of the range, and the one behind it, has a small bin
+pub mark_small : (b r a m range : ℕ) → b * (2 * range) + r ≡ 2 * a * m + range → a ≤ range + 1 → 0 < range → m ≤ 1023 → b ≤ 2046
+mark_small b r a m range e h some few =
+    elim (cases_lt b 2047) [
+      | inl below ↦ omega (arith, below)
+      | inr over ↦ absurd (let p : 2047 * range ≤ b * range = mul-le-mul_right range over in let q : a * m ≤ (range + 1) * 1023 = mul-le-mul h few in omega (arith, p, q, e, some))
     ]

@@ -35,7 +35,7 @@ x_along dims p x (suc j) at h =
     ap (index_in dims 0) (let e : p + suc j ≡ p + j + 1 = omega arith in e) ∙ next_x dims (p + j) (omega (arith, before)) ∙ ap (λ n. n + 1) before ∙ (let e : x + j + 1 ≡ x + suc j = omega arith in e)
 
 -- and whether the line is at the border stays
-row_along : (b : ℕ) (dims : List Dim) (p x j : ℕ) → index_in dims 0 p ≡ x → x + j < size_in dims 0 → is_at_border b (drop 1 dims) ((p + j) / size_in dims 0) ≡ is_at_border b (drop 1 dims) (p / size_in dims 0)
+pub row_along : (b : ℕ) (dims : List Dim) (p x j : ℕ) → index_in dims 0 p ≡ x → x + j < size_in dims 0 → is_at_border b (drop 1 dims) ((p + j) / size_in dims 0) ≡ is_at_border b (drop 1 dims) (p / size_in dims 0)
 row_along b dims p x zero at h = ap (λ n. is_at_border b (drop 1 dims) (n / size_in dims 0)) (let e : p + 0 ≡ p = omega arith in e)
 row_along b dims p x (suc j) at h =
     let before = x_along dims p x j at (omega arith) in
@@ -109,7 +109,7 @@ part_rooms q kind from k m bytes a b fit few e f =
     (subst HasRoom (sym e) (where_room q (placed from (numbers kind k bytes)) (parts_small kind from k bytes fit) (omega (arith, long))), part_room kind (k * width kind) m bytes b fit (omega arith) f)
 
 -- along a line the index in dimension 1 stays
-y_along : (dims : List Dim) (p x y j : ℕ) → index_in dims 0 p ≡ x → index_in dims 1 p ≡ y → x + j < size_in dims 0 → index_in dims 1 (p + j) ≡ y
+pub y_along : (dims : List Dim) (p x y j : ℕ) → index_in dims 0 p ≡ x → index_in dims 1 p ≡ y → x + j < size_in dims 0 → index_in dims 1 (p + j) ≡ y
 y_along dims p x y zero at row h = ap (index_in dims 1) (let e : p + 0 ≡ p = omega arith in e) ∙ row
 y_along dims p x y (suc j) at row h =
     let before = x_along dims p x j at (omega arith) in

@@ -1,6 +1,6 @@
 //! The histogram of a piece.
 
-ghost use Rattle.std.specs.Prelude.{◌≡◌, ◌≢◌, ◌+◌, ◌/◌, ◌<◌, ◌≤◌, ◌^◌, ◌≤ℤ◌, ◌-ℤ◌, ◌&&◌, [], int_lt, length, unsigned_abs, IfOk, IfSome};
+ghost use Rattle.std.specs.Prelude.{◌≡◌, ◌≢◌, ◌+◌, ◌*◌, ◌/◌, ◌<◌, ◌≤◌, ◌^◌, ◌≤ℤ◌, ◌-ℤ◌, ◌&&◌, [], int_lt, length, unsigned_abs, IfOk, IfSome};
 ghost use Rattle.nd_base.specs.GraphRules.{IsStats};
 ghost use Rattle.nd_base.specs.Samples.{width, samples_of, IsSmall};
 ghost use Rattle.nd_base.specs.Shapes.{most_samples};
@@ -9,12 +9,56 @@ ghost use Rattle.nd_stats.specs.Tallies.{HaveRoom, bins_after, one_if};
 ghost use Rattle.nd_stats.specs.Samples.{placed};
 ghost use Rattle.nd_stats.specs.Running.{IsHistogram, AreBins, IsWithinRange, IsCounted};
 
-use crate::tally::{Histogram, add_at, bin_at, bin_of, distance};
+use crate::tally::{Histogram, add_at, bin_of, distance};
 use lane_kernels::sample_at;
 use nd_base::{OutOfMemory, SampleType, StatsRule};
 use std::alloc::Global;
 
+/// Bins, and a rest in parts of which some number make a bin.
+#[derive(Clone, Copy)]
+struct Mark {
+    bin: u64,
+    rest: u64,
+}
+
+/// So many parts as bins and a rest.
+fn mark_of(parts: u64, whole: u64) -> Mark
+    requires { 0 < whole }
+    ensures value { result.bin * whole + result.rest ≡ parts }
+    ensures rest { result.rest < whole }
+    ensures bin { result.bin ≤ parts }
+{
+    Mark {
+        bin: parts / whole,
+        rest: parts % whole,
+    }
+}
+
+/// The mark a step further, without a division.
+#[inline(always)]
+fn next_mark(mark: Mark, step: Mark, whole: u64) -> Mark
+    requires bin { mark.bin < 2 ^ 32 }
+    requires rest { mark.rest < whole }
+    requires step { step.bin < 2 ^ 32 }
+    requires step_rest { step.rest < whole }
+    requires whole { whole < 2 ^ 40 }
+    ensures value { result.bin * whole + result.rest ≡ mark.bin * whole + mark.rest + (step.bin * whole + step.rest) }
+    ensures rest { result.rest < whole }
+{
+    let bin = mark.bin + step.bin;
+    let rest = mark.rest + step.rest;
+    if rest < whole {
+        Mark { bin, rest }
+    } else {
+        Mark {
+            bin: bin + 1,
+            rest: rest - whole,
+        }
+    }
+}
+
 /// The bins of the values of the histogram's range, from its low end on; none where the range is too wide for so few samples.
+#[inline(never)]
 pub(crate) fn list_bins(
     alloc: Global,
     rule: &StatsRule,
@@ -33,8 +77,16 @@ pub(crate) fn list_bins(
     if range >= count as u64 / 2 {
         return Ok(bins);
     }
-    for above in 0..range + 1 {
-        bins.push(bin_at(above, range, rule.hist_size) as u16)?;
+    let whole = 2 * range;
+    let last = u64::from(rule.hist_size - 1);
+    let step = mark_of(2 * last, whole);
+    let mut mark = Mark {
+        bin: 0,
+        rest: range,
+    };
+    for _ in 0..range + 1 {
+        bins.push(mark.bin as u16)?;
+        mark = next_mark(mark, step, whole);
     }
     Ok(bins)
 }

@@ -96,6 +96,28 @@ pub(crate) fn is_on_border(border: u32, dims: &[Dim], spot: &Spot) -> bool
     is_near_end(border, first_size(dims), spot.x) || spot.line_at_border
 }
 
+/// The place that lies so many places later. `width` is the size of dimension 0.
+#[inline(always)]
+pub(crate) fn later_spot(border: u32, dims: &[Dim], width: u32, spot: Spot, more: u32) -> Spot
+    requires sizes { list_all (λ d. nat_lt 0 d.size) dims.now ≡ true }
+    requires width { width ≡ size_in dims.now 0 }
+    requires spot { IsSpot border dims.now spot }
+    requires few { spot.place < 2 ^ 31 }
+    requires more { more < 2 ^ 31 }
+    ensures place { result.place ≡ spot.place + more }
+    ensures spot { IsSpot border dims.now result }
+{
+    let place = spot.place + more;
+    if width.saturating_sub(spot.x) <= more {
+        return spot_at(border, dims, place);
+    }
+    Spot {
+        place,
+        x: spot.x + more,
+        ..spot
+    }
+}
+
 /// The next place. `width` is the size of dimension 0.
 pub(crate) fn next_spot(border: u32, dims: &[Dim], width: u32, spot: Spot) -> Spot
     requires sizes { list_all (λ d. nat_lt 0 d.size) dims.now ≡ true }
@@ -105,13 +127,5 @@ pub(crate) fn next_spot(border: u32, dims: &[Dim], width: u32, spot: Spot) -> Sp
     ensures place { result.place ≡ spot.place + 1 }
     ensures spot { IsSpot border dims.now result }
 {
-    let place = spot.place + 1;
-    if width.saturating_sub(spot.x) <= 1 {
-        return spot_at(border, dims, place);
-    }
-    Spot {
-        place,
-        x: spot.x + 1,
-        ..spot
-    }
+    later_spot(border, dims, width, spot, 1)
 }

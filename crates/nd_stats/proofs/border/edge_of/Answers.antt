@@ -42,6 +42,11 @@ overflow_add-edge-then-run c =
     (omega (arith, count, c.min-size.ensures, c.requires.within, c.requires.frame.few)) c.loop-done.invariant.edge.sum (c.sum_bytes.ensures ∙ ap total c.part.ensures.values) in
     rw (to_z-of_z w64 c.loop-done.edge.sum (fits_room c.loop-done.edge.sum rooms.0), to_z-of_z w64 c.sum_bytes.result (fits_room c.sum_bytes.result rooms.1)) (fits_rooms c.loop-done.edge.sum c.sum_bytes.result rooms.0 rooms.1)
 
+pub later_spot-spot-requires-clause-more : goal.later_spot-spot-requires-clause-more
+later_spot-spot-requires-clause-more c =
+    let count : length c.args.samples.now / c.width.result ≡ length c.args.samples.now / width c.args.kind = ap (λ w. length c.args.samples.now / w) c.width.ensures in
+    omega (arith, count, c.min-size.ensures, c.requires.within, c.requires.frame.few)
+
 pub loop-done-preserved : goal.loop-done-preserved
 loop-done-preserved c =
     let rule = c.args.rule.now in
@@ -51,21 +56,23 @@ loop-done-preserved c =
     let k = c.loop-done.done in
     let m = c.min-size.result in
     let p = c.args.from + k in
-    let spot = c.spot_at-spot.result in
+    let spot = c.loop-done.spot in
     let vs = numbers kind m (drop (k * width kind) bytes) in
     let xs = placed c.args.from (numbers kind k bytes) in
     let long = length-numbers kind m (drop (k * width kind) bytes) in
-    let is = c.spot_at-spot.ensures.spot in
+    let is = c.loop-done.invariant.spot in
     let count : length bytes / c.width.result ≡ length bytes / width kind = ap (λ w. length bytes / w) c.width.ensures in
     let same : (j : ℕ) → j < length vs → is_at_border rule.border dims (p + j) ≡ c.run_at-run.result.at_border =
     λ j h.
-    border_along rule.border dims p spot.x j spot.line_at_border c.requires.frame.some (sym (is.x ∙ ap (index_in dims 0) c.spot_at-spot.ensures.place))
-    (is.line ∙ ap (λ q. is_at_border rule.border (drop 1 dims) (q / size_in dims 0)) c.spot_at-spot.ensures.place)
+    border_along rule.border dims p spot.x j spot.line_at_border c.requires.frame.some (sym (is.x ∙ ap (index_in dims 0) c.loop-done.invariant.place))
+    (is.line ∙ ap (λ q. is_at_border rule.border (drop 1 dims) (q / size_in dims 0)) c.loop-done.invariant.place)
     (omega (arith, long, c.min-size.ensures, c.run_at-run.ensures.within, c.first_size-width.ensures))
     ∙ ap (λ w. is_near_end rule.border w (spot.x + j) || spot.line_at_border) (sym c.first_size-width.ensures)
     ∙ c.run_at-run.ensures.same j (omega (arith, long, c.min-size.ensures)) in
     record {
       done = omega (arith, count, c.min-size.ensures, c.loop-done-test.true);
+      place = omega (arith, c.later_spot-spot.ensures.place, c.loop-done.invariant.place);
+      spot = c.later_spot-spot.ensures.spot;
       edge = subst (λ ys. IsEdge rule dims ys c.if-run.edge) (sym (parts-more kind c.args.from k m bytes))
           (elim c.if-run.branch [
             | then-run w ↦
