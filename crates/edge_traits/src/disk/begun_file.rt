@@ -1,12 +1,13 @@
 //! A file that was begun, and writes to it.
 
-ghost use Rattle.std.specs.Prelude.{◌≡◌, ◌+◌, ◌<◌, ◌≤◌, ◌^◌, ◌++◌, ℕ, List, [], None, Some, length, max, is_some, bytes_eq, IsSome, OnOk};
+ghost use Rattle.std.specs.Prelude.{◌≡◌, ◌+◌, ◌<◌, ◌≤◌, ◌^◌, ◌++◌, ℕ, List, [], None, Some, length, max, is_some, bytes_eq, IsSome, IfOk, OnOk};
 ghost use Rattle.std.specs.Option.{option_map};
 ghost use Rattle.std.specs.Io.KnownBytes.{Appends};
 ghost use Rattle.edge_traits.specs.RealFiles.{GoesTo, Writes, closed};
 
 use super::interrupted;
-use super::kept_file::NAME_LIMIT;
+use crate::OutOfMemory;
+use std::alloc::Global;
 use std::io;
 use std::io::{ErrorKind, Seek, SeekFrom, Write};
 use std::marker::Model;
@@ -65,51 +66,49 @@ struct Placed<F: Drop> {
 /// the file.
 #[derive(Drop)]
 pub struct BegunFile<F: Drop> {
-    name: [u8; NAME_LIMIT],
-    len: usize,
+    name: Vec<u8>,
     ends: u64,
     placed: Option<Placed<F>>,
 }
 
 impl<F: Drop> Model for BegunFile<F> {
-    ghost use Rattle.std.specs.Prelude.{◌≤◌, take};
     ghost use Rattle.std.specs.Option.{option_map};
     ghost use Rattle.edge_traits.specs.RealFiles.{Begun};
 
     ghost Value = { Begun F };
 
     ghost view = { λ s. record {
-      name = take s.len s.name;
+      name = s.name.items;
       ends = s.ends;
       file = option_map (λ p. (p.file, p.place)) s.placed;
     } };
-
-    ghost invariant = { λ s. s.len ≤ 4096 };
 }
 
 impl<F: Drop> BegunFile<F> {
-    /// An open file that is at its end.
-    pub fn at_end(name: &str, file: F, ends: u64) -> BegunFile<F>
-        requires { length name.now ≤ 4096 }
-        ensures { result ≡ record { name = name.now; ends = ends; file = Some (file, ends) } }
+    /// An open file that is at its end. It takes the memory for the name.
+    pub fn at_end(
+        alloc: Global,
+        name: &str,
+        file: F,
+        ends: u64,
+    ) -> Result<BegunFile<F>, OutOfMemory>
+        ensures { IfOk result (λ b. b ≡ record { name = name.now; ends = ends; file = Some (file, ends) }) }
     {
-        let len = name.len();
-        let mut held = [0; NAME_LIMIT];
-        held[..len].copy_from_slice(name.as_bytes());
+        let mut held = Vec::with_capacity(alloc, name.len())?;
+        held.extend_from_slice(name.as_bytes())?;
         let place = ends;
-        BegunFile {
+        Ok(BegunFile {
             name: held,
-            len,
             ends,
             placed: Some(Placed { file, place }),
-        }
+        })
     }
 
     /// Whether it is the one of this name.
     pub fn has_name(&self, name: &str) -> bool
         ensures { result ≡ bytes_eq self.now.name name.now }
     {
-        &self.name[..self.len] == name.as_bytes()
+        self.name.as_slice() == name.as_bytes()
     }
 
     /// Whether it is open.

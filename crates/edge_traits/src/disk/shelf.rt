@@ -21,6 +21,7 @@ use std::rt::Files;
 #[derive(Drop)]
 pub struct DiskShelf<'a, R: Files> {
     rt: &'a R,
+    alloc: Global,
     files: FileTable<R::File>,
     faults: u64,
 }
@@ -58,6 +59,7 @@ impl<'a, R: Files> DiskShelf<'a, R> {
     {
         Ok(DiskShelf {
             rt,
+            alloc,
             files: FileTable::new(alloc)?,
             faults: 0,
         })
@@ -78,6 +80,18 @@ impl<'a, R: Files> DiskShelf<'a, R> {
     {
         counted(&mut self.faults, self.files.make_room())?;
         open(self.rt, how, name, &mut self.faults)
+    }
+
+    /// An open file that is at its end, with its name.
+    fn begun(&mut self, name: &str, file: R::File, ends: u64) -> Result<BegunFile<R::File>, Failed>
+        ensures begun { IfOk result (λ b. b ≡ record { name = name.now; ends = ends; file = Some (file, ends) }) }
+        ensures files { self.new.files ≡ self.old.files }
+        ensures cause { Counts self.old.faults self.new.faults result }
+    {
+        match BegunFile::at_end(self.alloc, name, file, ends) {
+            Ok(begun) => Ok(begun),
+            Err(_) => Err(fault(&mut self.faults)),
+        }
     }
 
     /// Keeps a file for the next call on its name.
@@ -126,7 +140,7 @@ impl<'a, R: Files> DiskShelf<'a, R> {
     {
         let mut file = self.opened(&keeping(), name)?;
         let ends = counted(&mut self.faults, file.seek(SeekFrom::End(0)))?;
-        Ok(BegunFile::at_end(name, file, ends))
+        self.begun(name, file, ends)
     }
 
     /// The file of a name, open and taken out.
@@ -189,7 +203,8 @@ impl<'a, R: Files> Shelf for DiskShelf<'a, R> {
     {
         drop(self.files.take(name));
         let file = self.opened(&emptying(), name)?;
-        self.kept(BegunFile::at_end(name, file, 0))
+        let begun = self.begun(name, file, 0)?;
+        self.kept(begun)
     }
 
     fn append(&mut self, name: &str, bytes: &[u8]) -> Result<(), Failed>
