@@ -25,6 +25,7 @@ use Rattle.graph_files.specs.OpenFileLaws.{get-set_same, get-set_other, elsewher
 use Rattle.graph_files.specs.OutFiles.{stats_name}
 use Rattle.plain_saver.specs.declared.passes.Pass.{Pass}
 use Rattle.plain_saver.specs.Passes.{pass_at, with_one_gone, is_next}
+use Rattle.plain_saver.specs.Texts.{HasFront, text_at}
 use Rattle.plain_saver.specs.Saved.{written, rows_of, group_size, IsGrouped, IsSaved}
 use Rattle.plain_saver.proofs.FileNodes.{FileOf, apart, closed-set, file-of, group-apart_stats}
 use Rattle.plain_saver.proofs.Gone.{pass_at-other, pass_at-same, gone-below, passes-more, written-more, written-other, length-gone}
@@ -53,7 +54,7 @@ group-goes count gone some =
     ]
 
 module _ (g : Graph) (s : StackValue) (prefix : List ℕ) (before t u : Option Files) (ps : List Pass) (xs ys : List NodeFile) (sound : IsGraph g)
-    (few : length s.arrays ≤ 65536) (saved : IsSaved g s prefix before ps xs t) (at : ℕ) (x : NodeFile) (is : slice_get xs at ≡ Some x) (k : ℕ)
+    (few : length s.arrays ≤ 65536) {ts : List (List ℕ)} (saved : IsSaved g s prefix before ps ts xs t) (at : ℕ) (x : NodeFile) (is : slice_get xs at ≡ Some x) (k : ℕ)
     (next : is_next ps x.node k ≡ true) (a : Array) (made : content g.nodes s.arrays (frame x.node k) ≡ Some a) where
   abbrev node : FileOf g s prefix x
   node = file-of g s prefix sound xs saved.nodes at x is
@@ -168,13 +169,15 @@ module _ (g : Graph) (s : StackValue) (prefix : List ℕ) (before t u : Option F
     rows-still name = all.others (stats_name prefix name) (λ j y i h named. λ e. group-apart_stats g s prefix sound ys nodes-now j y h i name (sym e))
 
     rows-now : (v : ℕ) (n : NodeRule) (r : StatsRule) → rule_at g.nodes v ≡ Some n → n.kind ≡ Stats r
-        → HasFile u (stats_name prefix n.name) (rows_of r (written g s now v))
+        → HasFront u (stats_name prefix n.name) (text_at ts v) (rows_of r (written g s now v))
     rows-now v n r rule kind =
         let apart : v ≢ x.node = λ e. (let both : Some n ≡ Some node.rule = sym rule ∙ ap (rule_at g.nodes) e ∙ node.at in
         let kinds : Stats r ≡ File node.file = sym kind ∙ ap (λ (m : NodeRule). m.kind) (same_Some n node.rule both) ∙ node.kind in absurd (cc)) in
-        subst (λ (xs : List Array). HasFile u (stats_name prefix n.name) (rows_of r xs))
-        (sym (written-other g s ps x.node node.first node.within saved.passes v apart))
-        (HasFile-same t u (stats_name prefix n.name) (rows_of r (written g s ps v)) (rows-still n.name) all.told (saved.rows v n r rule kind))
+        let has = saved.rows v n r rule kind in (
+          has.0,
+          ap (rows_of r) (written-other g s ps x.node node.first node.within saved.passes v apart) ∙ has.1,
+          HasFile-same t u (stats_name prefix n.name) has.0 (rows-still n.name) all.told has.2,
+        )
 
     long : length (written g s ps x.node ++ a ∷ []) < 2 ^ 64
     long =
@@ -191,10 +194,11 @@ module _ (g : Graph) (s : StackValue) (prefix : List ℕ) (before t u : Option F
         (subst (λ (w : ℕ → List Array). IsElsewhere ys w q) (sym with-is) away))
 
     -- the array is written
-    pub saved-write : IsSaved g s prefix before now ys u
+    pub saved-write : IsSaved g s prefix before now ts ys u
     saved-write = record {
       told = all.told ∙ saved.told;
       passes = passes-more g s ps x.node node.first node.within saved.passes k next;
+      kept = saved.kept;
       nodes = nodes-now;
       groups = grouped;
       rows = rows-now;

@@ -1,6 +1,6 @@
 -- What stands before a frame is written.
 use Rattle.std.proofs.Common.{◌≡◌, ◌⊎◌, inl, inr, ℕ, zero, suc, ◌+◌, ◌*◌, ◌%◌, ◌<◌, ◌≤◌, List, [], ◌∷◌, ◌++◌, Option, None, Some, length, map, take, drop, refl, sym, ap, subst, ◌∙◌, arith}
-use Rattle.std.specs.Prelude.{is_some, slice_get}
+use Rattle.std.specs.Prelude.{All, is_some, slice_get}
 use Rattle.std.proofs.lemmas.Bool.{cases_lt}
 use Rattle.std.proofs.lemmas.Nat.{mod-mul-add}
 use Rattle.std.proofs.lemmas.Option.{same_Some, slice_get_within}
@@ -23,6 +23,7 @@ use Rattle.graph_files.specs.OpenFileLaws.{IsOfNode, of_node}
 use Rattle.graph_files.specs.OutFiles.{stats_name}
 use Rattle.plain_saver.specs.declared.passes.Pass.{Pass}
 use Rattle.plain_saver.specs.Passes.{pass_at, ArePasses}
+use Rattle.plain_saver.proofs.Kept.{text_at-none}
 use Rattle.plain_saver.specs.Saved.{written, rows_of, group_size, IsGrouped, IsSaved}
 use Rattle.plain_saver.specs.BegunRows.{IsKindBegun, IsRowsFileBegun, MayBeginRowsFile, AreBegunTo, AreRowsBegun, AreRowsTouched}
 
@@ -157,7 +158,7 @@ may-create prefix n r t u is (inr made) = inr (subst (λ (k : Kind). IsKindBegun
 -- NO ARRAY HAS GONE OUT
 
 module _ (g : Graph) (s : StackValue) (prefix : List ℕ) (before t : Option Files) (ps : List Pass) (passes : ArePasses g s ps)
-    (none : (v : ℕ) → (pass_at ps v).gone ≡ 0) (begun : AreRowsBegun g prefix before t) where
+    (none : (v : ℕ) → (pass_at ps v).gone ≡ 0) (ts : List (List ℕ)) (size : length ts ≡ length g.nodes) (empty : All (λ text. text ≡ []) ts) (begun : AreRowsBegun g prefix before t) where
   written-none : (v : ℕ) → written g s ps v ≡ []
   written-none v = ap (λ (n : ℕ). arrays_out g.nodes s.arrays v (take n (passed g s v))) (none v)
 
@@ -209,13 +210,13 @@ module _ (g : Graph) (s : StackValue) (prefix : List ℕ) (before t : Option Fil
   place-of (suc k) n is = let inside = slice_get_within g.nodes k n is in omega (arith, inside)
 
   -- the files of a run of which nothing was written
-  pub saved-none : IsSaved g s prefix before ps (file_nodes g s prefix) t
+  pub saved-none : IsSaved g s prefix before ps ts (file_nodes g s prefix) t
   saved-none = record {
     told = begun.told;
     passes = passes;
+    kept = size;
     nodes = closed-all 1 g.nodes;
     groups = grouped-none;
-    rows = λ v n r rule kind. subst (λ (xs : List Array). HasFile t (stats_name prefix n.name) (rows_of r xs)) (sym (written-none v))
-        (begun.each v n r (place-of v n rule) rule kind);
+    rows = λ v n r rule kind. ([], ap (rows_of r) (written-none v) ∙ sym (text_at-none ts empty v), begun.each v n r (place-of v n rule) rule kind);
     others = λ q away off. begun.others q off;
   }

@@ -1,10 +1,10 @@
 -- The end of a plain run's files, once every array has gone out of its node.
-use Rattle.std.proofs.Common.{◌≡◌, inl, inr, ℕ, ◌%◌, ◌<◌, ◌≤◌, Bool, true, false, List, [], ◌∷◌, length, drop, refl, sym, ap, subst, ◌∙◌, arith, Option, Some, None}
+use Rattle.std.proofs.Common.{◌≡◌, inl, inr, ℕ, ◌%◌, ◌<◌, ◌≤◌, Bool, true, false, List, [], ◌∷◌, ◌++◌, length, drop, refl, sym, ap, subst, ◌∙◌, arith, Option, Some, None}
 use Rattle.std.specs.Prelude.{All, slice_get, IsSome, is_some}
 use Rattle.std.proofs.Common.{length-drop}
 use Rattle.std.proofs.Math.Nat.{mod-lt}
 use Rattle.std.proofs.lemmas.Bool.{false≢true}
-use Rattle.std.proofs.lemmas.List.{take_all}
+use Rattle.std.proofs.lemmas.List.{take_all, append-nil}
 use Rattle.std.proofs.lemmas.List.Elements.{All-head, All-drop}
 use Rattle.std.proofs.lemmas.Nat.{div-add-mod'}
 use Rattle.std.proofs.lemmas.Option.{same_Some}
@@ -28,6 +28,8 @@ use Rattle.graph_files.specs.NodeFiles.{NodeFile, HasNumrecs, IsFilled, IsOpenAf
 use Rattle.graph_files.specs.NodeFileLaws.{cases_eq}
 use Rattle.graph_files.specs.OutFiles.{plain_files, stats_name, with_files}
 use Rattle.plain_saver.specs.Passes.{AreFrom, pass_at}
+use Rattle.plain_saver.specs.Texts.{text_at, AreEmptyTo}
+use Rattle.plain_saver.proofs.Pushed.{node-place}
 use Rattle.plain_saver.specs.Saved.{IsSaved, IsNoRows, AreLeftFrom, written, rows_of, group_size}
 use Rattle.plain_saver.specs.declared.passes.Pass.{Pass}
 use Rattle.plain_saver.proofs.FileNodes.{FileOf, file-of, group-apart_stats}
@@ -63,7 +65,7 @@ numrecs-is true n m is = let none_ : None ≡ Some m = is in absurd (cc)
 numrecs-is false n m is = same_Some m n (sym is)
 
 module _ (g : Graph) (s : StackValue) (prefix : List ℕ) (sound : IsGraph g) (kept : IsKeptStack s) (before : Option Files) (ps : List Pass)
-    (xs : List NodeFile) (t : Option Files) (h : IsSaved g s prefix before ps xs t) (left : AreLeftFrom g ps xs (length s.arrays) (length s.arrays)) where
+    (xs : List NodeFile) (t : Option Files) {ts : List (List ℕ)} (h : IsSaved g s prefix before ps ts xs t) (left : AreLeftFrom g ps xs (length s.arrays) (length s.arrays)) where
   abbrev W : ℕ → List Array
   W v = written g s ps v
 
@@ -140,7 +142,7 @@ module _ (g : Graph) (s : StackValue) (prefix : List ℕ) (sound : IsGraph g) (k
 
   -- THE WHOLE RUN
 
-  module _ (now : Option Files) (ended : AllEnded t xs W now) where
+  module _ (now : Option Files) (ended : AllEnded t xs W now) (empty : AreEmptyTo g ts (length g.nodes)) where
     -- each group that has an array has its file
     ended-group : (k i : ℕ) (x : NodeFile) → slice_get xs k ≡ Some x → IsFilledGroup g s x i
         → HasFile now (name_of x i) (layout x.shape (group_of x.count i (all_out g s x.node)))
@@ -157,8 +159,12 @@ module _ (g : Graph) (s : StackValue) (prefix : List ℕ) (sound : IsGraph g) (k
     ended-row : (v : ℕ) (n : NodeRule) (r : StatsRule) → rule_at g.nodes v ≡ Some n → n.kind ≡ Stats r
         → HasFile now (stats_name prefix n.name) (rows_of r (all_out g s v))
     ended-row v n r rule kind =
+        let has = h.rows v n r rule kind in
+        let none : text_at ts v ≡ [] = empty v n r (node-place g v n rule).1 rule kind in
+        let whole : has.0 ≡ rows_of r (all_out g s v) =
+        sym (has.1 ∙ ap (λ (b : List ℕ). has.0 ++ b) none ∙ append-nil has.0) ∙ ap (rows_of r) (written-all_row v n r rule kind) in
         moved-file now t (stats_name prefix n.name) (rows_of r (all_out g s v)) ended.told (ended-stats n.name)
-        (subst (λ (zs : List Array). HasFile t (stats_name prefix n.name) (rows_of r zs)) (written-all_row v n r rule kind) (h.rows v n r rule kind))
+        (subst (HasFile t (stats_name prefix n.name)) whole has.2)
 
     -- every other name is as before
     ended-away : (q : List ℕ) → IsNoName g s xs q → IsNoRows g prefix q → file_at now q ≡ file_at before q

@@ -30,6 +30,7 @@ use Rattle.graph_files.proofs.BegunBytes.{GroupHas, Nothing, Whole, Opened, grou
 use Rattle.graph_files.proofs.Writes.{next-place}
 use Rattle.plain_saver.specs.BegunRows.{AreRowsTouched}
 use Rattle.plain_saver.specs.Passes.{pass_at, is_next}
+use Rattle.plain_saver.specs.Texts.{text_at}
 use Rattle.plain_saver.specs.Saved.{IsSaved, IsNoRows, written, rows_of}
 use Rattle.plain_saver.specs.declared.passes.Pass.{Pass}
 use Rattle.plain_saver.proofs.FileNodes.{FileOf, file-of, group-apart_stats, group-no_rows, none-elsewhere, one-node}
@@ -83,7 +84,7 @@ stats-same : (q r : StatsRule) → Stats q ≡ Stats r → q ≡ r
 stats-same q r e = cc
 
 module _ (g : Graph) (s : StackValue) (prefix : List ℕ) (sound : IsGraph g) (kept : IsKeptStack s) (before : Option Files) (ps : List Pass)
-    (xs : List NodeFile) (t : Option Files) (h : IsSaved g s prefix before ps xs t) where
+    (xs : List NodeFile) (t : Option Files) {ts : List (List ℕ)} (h : IsSaved g s prefix before ps ts xs t) where
   abbrev W : ℕ → List Array
   W v = written g s ps v
 
@@ -157,9 +158,12 @@ module _ (g : Graph) (s : StackValue) (prefix : List ℕ) (sound : IsGraph g) (k
       → IsStanding false (rows_of r (all_out g s v)) (file_at before (stats_name prefix n.name)) (file_at t (stats_name prefix n.name))
   saved-row v n r rule kind =
       let p = split g s prefix kept ps h.passes v in
+      let has = h.rows v n r rule kind in
+      let rest = rows_of r p.0 in
       standing-by false (rows_of r (all_out g s v)) (stats_name prefix n.name) before t h.told (λ told.
-      interrupted.Front (rows_of r (W v)) (rows_of r p.0) (ap (rows_of r) p.1 ∙ rows_of-append r (W v) p.0)
-      (told-file t (stats_name prefix n.name) (rows_of r (W v)) told (h.rows v n r rule kind)))
+      interrupted.Front has.0 (text_at ts v ++ rest)
+      (ap (rows_of r) p.1 ∙ rows_of-append r (W v) p.0 ∙ ap (λ (b : List ℕ). b ++ rest) has.1 ∙ append_assoc has.0 (text_at ts v) rest)
+      (told-file t (stats_name prefix n.name) has.0 told has.2))
 
   -- every other name is as before
   pub saved-away : (q : List ℕ) → IsNoName g s xs q → IsNoRows g prefix q → file_at t q ≡ file_at before q
@@ -172,40 +176,38 @@ module _ (g : Graph) (s : StackValue) (prefix : List ℕ) (sound : IsGraph g) (k
       (λ k i x at filled. stands-in [] before t (group_record g s x i) (saved-group k i x at filled))
       (λ v n r rule kind. stands-in [] before t (rows_file g s prefix v n r) (saved-row v n r rule kind)) saved-away
 
-  -- A ROW THAT WASN'T ADDED
+  -- ROWS THAT WEREN'T ADDED
 
-  module _ (v k : ℕ) (n : NodeRule) (r : StatsRule) (rule : rule_at g.nodes v ≡ Some n) (kind : n.kind ≡ Stats r) (next : is_next ps v k ≡ true)
-      (text : List ℕ) (is : text ≡ rows_of r (arrays_out g.nodes s.arrays v (k ∷ []))) (now : Option Files)
-      (may : MayAppend t (stats_name prefix n.name) text now) where
+  module _ (v : ℕ) (n : NodeRule) (r : StatsRule) (rule : rule_at g.nodes v ≡ Some n) (kind : n.kind ≡ Stats r) (now : Option Files)
+      (may : MayAppend t (stats_name prefix n.name) (text_at ts v) now) where
     abbrev name : List ℕ
     name = stats_name prefix n.name
 
     -- no other name changes
     off-name : (q : List ℕ) → q ≢ name → file_at now q ≡ file_at t q
-    off-name q ne = file_at-MayAppend t now name text q may ne
+    off-name q ne = file_at-MayAppend t now name (text_at ts v) q may ne
 
     -- the shelf tells its files as before
     more-told : is_some now ≡ is_some before
-    more-told = ap (λ (o : Option Files). is_some o) may.1 ∙ told-more t name (take may.0 text) ∙ h.told
+    more-told = ap (λ (o : Option Files). is_some o) may.1 ∙ told-more t name (take may.0 (text_at ts v)) ∙ h.told
 
-    -- with a front of the row
+    -- with a front of the rows that are kept back
     row-here : IsStanding false (rows_of r (all_out g s v)) (file_at before name) (file_at now name)
     row-here =
-        let p = next-out g s prefix kept ps h.passes v k n rule next in
-        let out = arrays_out g.nodes s.arrays v (k ∷ []) in
-        let added = take may.0 text in
-        let left = drop may.0 text in
+        let p = split g s prefix kept ps h.passes v in
+        let has = h.rows v n r rule kind in
+        let added = take may.0 (text_at ts v) in
+        let left = drop may.0 (text_at ts v) in
         let rest = rows_of r p.0 in
-        let whole : rows_of r (all_out g s v) ≡ (rows_of r (W v) ++ added) ++ (left ++ rest) =
-        ap (rows_of r) p.1 ∙ rows_of-append r (W v ++ out) p.0
-        ∙ ap (λ (b : List ℕ). b ++ rest) (rows_of-append r (W v) out ∙ ap (λ (b : List ℕ). rows_of r (W v) ++ b) (sym is ∙ sym (take-append-drop may.0 text))
-        ∙ sym (append_assoc (rows_of r (W v)) added left))
-        ∙ append_assoc (rows_of r (W v) ++ added) left rest in
+        let whole : rows_of r (all_out g s v) ≡ (has.0 ++ added) ++ (left ++ rest) =
+        ap (rows_of r) p.1 ∙ rows_of-append r (W v) p.0
+        ∙ ap (λ (b : List ℕ). b ++ rest) (has.1 ∙ ap (λ (b : List ℕ). has.0 ++ b) (sym (take-append-drop may.0 (text_at ts v)))
+        ∙ sym (append_assoc has.0 added left))
+        ∙ append_assoc (has.0 ++ added) left rest in
         standing-by false (rows_of r (all_out g s v)) name before now more-told (λ told.
         let told_t : is_some t ≡ true = h.told ∙ sym more-told ∙ told in
-        interrupted.Front (rows_of r (W v) ++ added) (left ++ rest) whole
-        (ap (λ (o : Option Files). file_at o name) may.1
-        ∙ file_at-with_more_same t name added (rows_of r (W v)) (told-file t name (rows_of r (W v)) told_t (h.rows v n r rule kind))))
+        interrupted.Front (has.0 ++ added) (left ++ rest) whole
+        (ap (λ (o : Option Files). file_at o name) may.1 ∙ file_at-with_more_same t name added has.0 (told-file t name has.0 told_t has.2)))
 
     -- and every other statistics node has what it had
     each-row : (w : ℕ) (m : NodeRule) (q : StatsRule) → rule_at g.nodes w ≡ Some m → m.kind ≡ Stats q → StandsIn [] before now (rows_file g s prefix w m q)
@@ -224,7 +226,7 @@ module _ (g : Graph) (s : StackValue) (prefix : List ℕ) (sound : IsGraph g) (k
               (file_at now (stats_name prefix m.name)) (off-name (stats_name prefix m.name) other) (saved-row w m q rule_w kind_w))
         ]
 
-    -- a row of the next array at a statistics node, of which a part may have been added
+    -- the rows that are kept back at a statistics node, of which a front may have been added
     pub interrupted-row : AreInterrupted before (plain_files g s prefix) now
     interrupted-row =
         interrupted-by g s prefix sound xs h.nodes before now more-told []

@@ -36,7 +36,7 @@ use Rattle.plain_saver.proofs.Standing.{begun-of, standing-by, standing-then, St
 use Rattle.plain_saver.proofs.Interrupted.{same-file, saved-group, saved-long, saved-row, saved-away}
 
 module _ (g : Graph) (s : StackValue) (prefix : List ℕ) (sound : IsGraph g) (kept : IsKeptStack s) (before : Option Files) (ps : List Pass)
-    (xs : List NodeFile) (t : Option Files) (h : IsSaved g s prefix before ps xs t) where
+    (xs : List NodeFile) (t : Option Files) {ts : List (List ℕ)} (h : IsSaved g s prefix before ps ts xs t) where
   abbrev W : ℕ → List Array
   W v = written g s ps v
 

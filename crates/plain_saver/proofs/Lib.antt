@@ -19,3 +19,4 @@ pub mod Turns
 pub mod Pushed
 pub mod Writing
 pub mod KeptStacks
+pub mod Kept

@@ -98,7 +98,7 @@ arrays-end g ps xs at k all h = record {
 }
 
 module _ (g : Graph) (s : StackValue) (prefix : List ℕ) (before t : Option Files) (ps : List Pass) (xs : List NodeFile) (sound : IsGraph g)
-    (saved : IsSaved g s prefix before ps xs t) (k : ℕ) where
+    {ts : List (List ℕ)} (saved : IsSaved g s prefix before ps ts xs t) (k : ℕ) where
   -- one file node more was asked
   pub arrays-next : (ys : List NodeFile) (at : ℕ) (x : NodeFile) → slice_get xs at ≡ Some x → map closed ys ≡ map closed xs → ArrayTurns g ps xs at k
       → ArrayTurns g (stepped ps x.node k) ys (at + 1) k
@@ -157,7 +157,7 @@ rows-end g ps xs at k all h = record {
 }
 
 module _ (g : Graph) (s : StackValue) (prefix : List ℕ) (before t : Option Files) (ps : List Pass) (xs : List NodeFile) (sound : IsGraph g)
-    (saved : IsSaved g s prefix before ps xs t) (k at : ℕ) (n : NodeRule) (is : slice_get g.nodes at ≡ Some n) (h : RowTurns g ps xs at k) where
+    {ts : List (List ℕ)} (saved : IsSaved g s prefix before ps ts xs t) (k at : ℕ) (n : NodeRule) (is : slice_get g.nodes at ≡ Some n) (h : RowTurns g ps xs at k) where
   node-inside : at + 1 ≤ length g.nodes
   node-inside = let low = slice_get_within g.nodes at n is in omega (arith, low)
 

@@ -40,7 +40,7 @@ below-min : (a b c : ℕ) → a < b → a < c → a < min b c
 below-min a b c hb hc = omega (arith, hb, hc)
 
 module _ (g : Graph) (s : StackValue) (sound : IsGraph g) (kept : IsKeptStack s) (prefix : List ℕ) (before : Option Files) (ps : List Pass) (xs : List NodeFile)
-    (t : Option Files) (saved : IsSaved g s prefix before ps xs t) (at : ℕ) (x : NodeFile) (is : slice_get xs at ≡ Some x) where
+    (t : Option Files) {ts : List (List ℕ)} (saved : IsSaved g s prefix before ps ts xs t) (at : ℕ) (x : NodeFile) (is : slice_get xs at ≡ Some x) where
   abbrev rules : FileOf g s prefix x
   rules = file-of g s prefix sound xs saved.nodes at x is
 
@@ -120,7 +120,7 @@ module _ (g : Graph) (s : StackValue) (sound : IsGraph g) (kept : IsKeptStack s)
       pub written-then : (u : Option Files) (ys : List NodeFile) → IsReopened xs at (Some of) ys
           → AllWritten t ys (with_array (written g s ps) x.node (array_of head x.shape.kind x.shape.dims bytes)) u
           → (at_group + 1 ≡ x.count → (y : NodeFile) → slice_get ys at ≡ Some y → y.current ≡ None)
-          → IsSaved g s prefix before (with_one_gone ps x.node) ys u
+          → IsSaved g s prefix before (with_one_gone ps x.node) ts ys u
       written-then u ys reopened whole ended =
           let r = reopened x is in
           saved-write g s prefix before t u ps xs ys sound kept.few saved at x is k goes.next out.array out.made r.0 r.1

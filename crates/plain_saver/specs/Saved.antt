@@ -7,7 +7,7 @@ use Rattle.nd_base.specs.declared.graph.Graph.{Graph}
 use Rattle.nd_base.specs.declared.graph.Kind.TheVariants.{Stats}
 use Rattle.nd_base.specs.declared.graph.NodeRule.{NodeRule}
 use Rattle.nd_base.specs.declared.graph.StatsRule.{StatsRule}
-use Rattle.edge_traits.specs.Files.{Files, HasFile, file_at}
+use Rattle.edge_traits.specs.Files.{Files, file_at}
 use Rattle.nd_stats.specs.Row.{row}
 use Rattle.chain_plain.specs.OneThread.{arrays_out, measure_of_array}
 use Rattle.chain_plain.specs.PlainRun.{passed}
@@ -15,6 +15,7 @@ use Rattle.graph_files.specs.NodeFiles.{NodeFile, AreWritten, HasNumrecs, first_
 use Rattle.graph_files.specs.OpenFiles.{closed, file_nodes, IsElsewhere}
 use Rattle.graph_files.specs.OutFiles.{stats_name}
 use Rattle.plain_saver.specs.Passes.{ArePasses, AreFrom, is_next, pass_at}
+use Rattle.plain_saver.specs.Texts.{HasFront, text_at}
 use Rattle.plain_saver.specs.declared.passes.Pass.{Pass}
 
 -- the arrays that have gone out of node v
@@ -40,14 +41,16 @@ abbrev pub IsNoRows : Graph → (prefix name : List ℕ) → Type 0
 IsNoRows g prefix q = (v : ℕ) (n : NodeRule) (r : StatsRule) → rule_at g.nodes v ≡ Some n → n.kind ≡ Stats r → q ≢ stats_name prefix n.name
 
 -- Since the shelf had these files, just the arrays that have gone out of each node were written: a file node has its groups' files, a statistics node its
--- rows, and every other name is as it was.
-pub record IsSaved (g : Graph) (s : StackValue) (prefix : List ℕ) (before : Option Files) (ps : List Pass) (xs : List NodeFile) (held : Option Files) : Type 0 where
+-- rows but for those that are kept back, and every other name is as it was.
+pub record IsSaved (g : Graph) (s : StackValue) (prefix : List ℕ) (before : Option Files) (ps : List Pass) (ts : List (List ℕ)) (xs : List NodeFile)
+    (held : Option Files) : Type 0 where
   pub told : is_some held ≡ is_some before
   pub passes : ArePasses g s ps
+  pub kept : length ts ≡ length g.nodes
   pub nodes : map closed xs ≡ file_nodes g s prefix
   pub groups : (k : ℕ) (x : NodeFile) → slice_get xs k ≡ Some x → IsGrouped g s ps x held
   pub rows : (v : ℕ) (n : NodeRule) (r : StatsRule) → rule_at g.nodes v ≡ Some n → n.kind ≡ Stats r
-      → HasFile held (stats_name prefix n.name) (rows_of r (written g s ps v))
+      → HasFront held (stats_name prefix n.name) (text_at ts v) (rows_of r (written g s ps v))
   pub others : (q : List ℕ) → IsElsewhere xs (written g s ps) q → IsNoRows g prefix q → file_at held q ≡ file_at before q
 
 -- no position that is left at a file node is below k, and none that is left at a statistics node is below l

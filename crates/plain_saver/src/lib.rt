@@ -7,6 +7,7 @@ mod rooms;
 mod rows;
 mod saver;
 mod saving;
+mod texts;
 
 pub use passing::passed;
 pub use saving::save_files;

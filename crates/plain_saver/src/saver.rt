@@ -1,6 +1,6 @@
 //! The files of a plain run while they are written, frame by frame.
 
-ghost use Rattle.std.specs.Prelude.{◌≡◌, ◌+◌, ◌-◌, ◌*◌, ◌/◌, ◌%◌, ◌<◌, ◌≤◌, ◌^◌, ℕ, List, Some, None, Option, length, slice_get, IfOk, IfErr, OnOk, OnErr, IfSome, IfNone, false};
+ghost use Rattle.std.specs.Prelude.{◌≡◌, [], ◌+◌, ◌-◌, ◌*◌, ◌/◌, ◌%◌, ◌<◌, ◌≤◌, ◌^◌, ℕ, List, Some, None, Option, length, slice_get, IfOk, IfErr, OnOk, OnErr, IfSome, IfNone, false};
 ghost use Rattle.nd_base.specs.GraphRules.{IsGraph, IsStats, rule_at};
 ghost use Rattle.nd_base.specs.declared.graph.Kind.TheVariants.{Stats};
 ghost use Rattle.edge_traits.specs.Files.{Files};
@@ -14,21 +14,25 @@ ghost use Rattle.graph_files.specs.OutFiles.{plain_files, with_files};
 ghost use Rattle.plain_saver.specs.Passes.{is_next, pass_at, stepped, stepped_rows, with_one_gone};
 ghost use Rattle.plain_saver.specs.Rooms.{AreRooms};
 ghost use Rattle.plain_saver.specs.Saved.{IsSaved, AreLeftFrom, IsCounted, IsNextPlace, group_size};
+ghost use Rattle.plain_saver.specs.Texts.{AreEmptyTo, emptied, with_text};
 
 use crate::passes::{Pass, passes};
 use crate::rooms::Rooms;
 use crate::rows::{begin_rows, finish_rows, row_of, rows_name};
+use crate::texts::Texts;
 use edge_traits::Shelf;
 use file_out::SaveFault;
 use graph_files::OpenFiles;
-use nd_base::{Kind, NodeRule, Plan, Stack, StatsRule};
+use nd_base::{Kind, NodeRule, OutOfMemory, Plan, Stack, StatsRule};
 use std::alloc::Global;
 
-/// The files of a plain run while they are written, with what has gone out of each node and room for the samples of one frame.
+/// The files of a plain run while they are written, with what has gone out of each node, the rows that are kept back, and room for the samples of one
+/// frame.
 #[derive(Drop)]
 pub(crate) struct Saver {
     rooms: Rooms,
     passes: Vec<Pass>,
+    texts: Texts,
     files: OpenFiles,
 }
 
@@ -69,7 +73,7 @@ impl Saver {
         requires plan { plan.now ≡ plan_of plan.now.graph stack.now }
         requires kept { IsKeptStack stack.now }
         requires within { limit_fault plan.now.graph stack.now ≡ None }
-        ensures saved { IfOk result (λ x. IsSaved plan.now.graph stack.now prefix.now (K.held shelf.old) x.passes.items x.files (K.held shelf.new)) }
+        ensures saved { IfOk result (λ x. IsSaved plan.now.graph stack.now prefix.now (K.held shelf.old) x.passes.items x.texts x.files (K.held shelf.new)) }
         ensures left { IfOk result (λ x. AreLeftFrom plan.now.graph x.passes.items x.files 0 0) }
         ensures rooms { IfOk result (λ x. AreRooms plan.now.graph stack.now x.rooms) }
         ensures err { OnErr result (AreInterrupted (K.held shelf.old) (plain_files plan.now.graph stack.now prefix.now) (K.held shelf.new)) }
@@ -78,6 +82,7 @@ impl Saver {
         let saver = Saver {
             rooms: Rooms::new(alloc, plan)?,
             passes: passes(alloc, plan, stack)?,
+            texts: Texts::new(alloc, plan)?,
             files: OpenFiles::new(alloc, prefix, plan, stack)?,
         };
         begin_rows(alloc, shelf, prefix, plan)?;
@@ -91,6 +96,7 @@ impl Saver {
         requires next { (pass_at self.old.passes.items node).gone + 1 < 2 ^ 32 }
         ensures passes { self.new.passes.items ≡ with_one_gone self.old.passes.items node }
         ensures rooms { self.new.rooms ≡ self.old.rooms }
+        ensures texts { self.new.texts ≡ self.old.texts }
         ensures files { self.new.files ≡ self.old.files }
     {
         self.passes[node as usize - 1].gone += 1;
@@ -127,13 +133,13 @@ impl Saver {
         requires frame { index < length stack.now.arrays }
         requires at { at < length self.old.files }
         requires rooms { AreRooms plan.now.graph stack.now self.old.rooms }
-        requires saved { (prefix : List ℕ) × ((before : Option Files) × IsSaved plan.now.graph stack.now prefix before self.old.passes.items self.old.files (K.held shelf.old)) }
+        requires saved { (prefix : List ℕ) × ((before : Option Files) × IsSaved plan.now.graph stack.now prefix before self.old.passes.items self.old.texts self.old.files (K.held shelf.old)) }
         ensures rooms { AreRooms plan.now.graph stack.now self.new.rooms }
         ensures count { length self.new.files ≡ length self.old.files }
         ensures passes { OnOk result ((x : NodeFile) → slice_get self.old.files at ≡ Some x → self.new.passes.items ≡ stepped self.old.passes.items x.node index) }
-        ensures saved { OnOk result ((prefix : List ℕ) (before : Option Files) → IsSaved plan.now.graph stack.now prefix before self.old.passes.items self.old.files (K.held shelf.old)
-            → IsSaved plan.now.graph stack.now prefix before self.new.passes.items self.new.files (K.held shelf.new)) }
-        ensures err { OnErr result ((prefix : List ℕ) (before : Option Files) → IsSaved plan.now.graph stack.now prefix before self.old.passes.items self.old.files (K.held shelf.old)
+        ensures saved { OnOk result ((prefix : List ℕ) (before : Option Files) → IsSaved plan.now.graph stack.now prefix before self.old.passes.items self.old.texts self.old.files (K.held shelf.old)
+            → IsSaved plan.now.graph stack.now prefix before self.new.passes.items self.new.texts self.new.files (K.held shelf.new)) }
+        ensures err { OnErr result ((prefix : List ℕ) (before : Option Files) → IsSaved plan.now.graph stack.now prefix before self.old.passes.items self.old.texts self.old.files (K.held shelf.old)
             → AreInterrupted before (plain_files plan.now.graph stack.now prefix) (K.held shelf.new)) }
         ensures cause { IsSaveCause result (K.faults shelf.old) (K.faults shelf.new) }
     {
@@ -156,7 +162,73 @@ impl Saver {
         Ok(())
     }
 
-    /// Writes the row of a frame's array at a statistics node of this name, where it goes out of that node.
+    /// Keeps back the row of a frame's array at a statistics node, where it goes out of that node.
+    fn keep_row(
+        &mut self,
+        alloc: Global,
+        plan: &Plan,
+        stack: &Stack,
+        index: u32,
+        node: u32,
+        rule: &StatsRule,
+    ) -> Result<(), OutOfMemory>
+        requires graph { IsGraph plan.now.graph }
+        requires plan { plan.now ≡ plan_of plan.now.graph stack.now }
+        requires kept { IsKeptStack stack.now }
+        requires frame { index < length stack.now.arrays }
+        requires rule { (n : NodeRule) × ((rule_at plan.now.graph.nodes node ≡ Some n) × (n.kind ≡ Stats rule.now)) }
+        requires rooms { AreRooms plan.now.graph stack.now self.old.rooms }
+        requires saved { (prefix : List ℕ) × ((before : Option Files) × ((held : Option Files) × IsSaved plan.now.graph stack.now prefix before self.old.passes.items self.old.texts self.old.files held)) }
+        ensures rooms { AreRooms plan.now.graph stack.now self.new.rooms }
+        ensures files { self.new.files ≡ self.old.files }
+        ensures passes { OnOk result (self.new.passes.items ≡ stepped self.old.passes.items node index) }
+        ensures saved { (prefix : List ℕ) (before held : Option Files) → IsSaved plan.now.graph stack.now prefix before self.old.passes.items self.old.texts self.old.files held
+            → IsSaved plan.now.graph stack.now prefix before self.new.passes.items self.new.texts self.new.files held }
+    {
+        if !self.passes[node as usize - 1].is_next(index) {
+            return Ok(());
+        }
+        self.rooms.cut(alloc, plan, stack, node, index)?;
+        let samples = self.rooms.samples(plan, stack, node, index);
+        let row = row_of(alloc, plan, stack, node, rule, index, samples)?;
+        self.texts.add(alloc, node, row.as_bytes())?;
+        self.count_one(node);
+        Ok(())
+    }
+
+    /// Writes the rows that are kept back at a statistics node of this name.
+    fn put_rows<K: Shelf>(
+        &mut self,
+        alloc: Global,
+        shelf: &mut K,
+        prefix: &str,
+        plan: &Plan,
+        stack: &Stack,
+        node: u32,
+        name: &str,
+    ) -> Result<(), SaveFault>
+        requires graph { IsGraph plan.now.graph }
+        requires kept { IsKeptStack stack.now }
+        requires rule { (n : NodeRule) × ((r : StatsRule) × ((rule_at plan.now.graph.nodes node ≡ Some n) × (n.name ≡ name.now) × (n.kind ≡ Stats r))) }
+        requires saved { (before : Option Files) × IsSaved plan.now.graph stack.now prefix.now before self.old.passes.items self.old.texts self.old.files (K.held shelf.old) }
+        ensures rooms { self.new.rooms ≡ self.old.rooms }
+        ensures files { self.new.files ≡ self.old.files }
+        ensures passes { self.new.passes ≡ self.old.passes }
+        ensures texts { OnOk result (self.new.texts ≡ with_text self.old.texts node []) }
+        ensures saved { OnOk result ((before : Option Files) → IsSaved plan.now.graph stack.now prefix.now before self.old.passes.items self.old.texts self.old.files (K.held shelf.old)
+            → IsSaved plan.now.graph stack.now prefix.now before self.new.passes.items self.new.texts self.new.files (K.held shelf.new)) }
+        ensures err { OnErr result ((before : Option Files) → IsSaved plan.now.graph stack.now prefix.now before self.old.passes.items self.old.texts self.old.files (K.held shelf.old)
+            → AreInterrupted before (plain_files plan.now.graph stack.now prefix.now) (K.held shelf.new)) }
+        ensures cause { IsSaveCause result (K.faults shelf.old) (K.faults shelf.new) }
+    {
+        let file = rows_name(alloc, prefix, name)?;
+        shelf.append(file.as_str(), self.texts.text(node))?;
+        self.texts.empty(alloc, node);
+        Ok(())
+    }
+
+    /// Keeps back the row of a frame's array at a statistics node of this name, where it goes out of that node, and writes what is kept back there once it is
+    /// enough.
     fn write_row<K: Shelf>(
         &mut self,
         alloc: Global,
@@ -175,25 +247,20 @@ impl Saver {
         requires frame { index < length stack.now.arrays }
         requires rule { (n : NodeRule) × ((rule_at plan.now.graph.nodes node ≡ Some n) × (n.name ≡ name.now) × (n.kind ≡ Stats rule.now)) }
         requires rooms { AreRooms plan.now.graph stack.now self.old.rooms }
-        requires saved { (before : Option Files) × IsSaved plan.now.graph stack.now prefix.now before self.old.passes.items self.old.files (K.held shelf.old) }
+        requires saved { (before : Option Files) × IsSaved plan.now.graph stack.now prefix.now before self.old.passes.items self.old.texts self.old.files (K.held shelf.old) }
         ensures rooms { AreRooms plan.now.graph stack.now self.new.rooms }
         ensures files { self.new.files ≡ self.old.files }
         ensures passes { OnOk result (self.new.passes.items ≡ stepped self.old.passes.items node index) }
-        ensures saved { OnOk result ((before : Option Files) → IsSaved plan.now.graph stack.now prefix.now before self.old.passes.items self.old.files (K.held shelf.old)
-            → IsSaved plan.now.graph stack.now prefix.now before self.new.passes.items self.new.files (K.held shelf.new)) }
-        ensures err { OnErr result ((before : Option Files) → IsSaved plan.now.graph stack.now prefix.now before self.old.passes.items self.old.files (K.held shelf.old)
+        ensures saved { OnOk result ((before : Option Files) → IsSaved plan.now.graph stack.now prefix.now before self.old.passes.items self.old.texts self.old.files (K.held shelf.old)
+            → IsSaved plan.now.graph stack.now prefix.now before self.new.passes.items self.new.texts self.new.files (K.held shelf.new)) }
+        ensures err { OnErr result ((before : Option Files) → IsSaved plan.now.graph stack.now prefix.now before self.old.passes.items self.old.texts self.old.files (K.held shelf.old)
             → AreInterrupted before (plain_files plan.now.graph stack.now prefix.now) (K.held shelf.new)) }
         ensures cause { IsSaveCause result (K.faults shelf.old) (K.faults shelf.new) }
     {
-        if !self.passes[node as usize - 1].is_next(index) {
-            return Ok(());
+        self.keep_row(alloc, plan, stack, index, node, rule)?;
+        if self.texts.is_enough(node) {
+            self.put_rows(alloc, shelf, prefix, plan, stack, node, name)?;
         }
-        self.rooms.cut(alloc, plan, stack, node, index)?;
-        let samples = self.rooms.samples(plan, stack, node, index);
-        let row = row_of(alloc, plan, stack, node, rule, index, samples)?;
-        let file = rows_name(alloc, prefix, name)?;
-        shelf.append(file.as_str(), row.as_bytes())?;
-        self.count_one(node);
         Ok(())
     }
 
@@ -215,13 +282,13 @@ impl Saver {
         requires frame { index < length stack.now.arrays }
         requires rule { rule_at plan.now.graph.nodes node ≡ Some rule.now }
         requires rooms { AreRooms plan.now.graph stack.now self.old.rooms }
-        requires saved { (before : Option Files) × IsSaved plan.now.graph stack.now prefix.now before self.old.passes.items self.old.files (K.held shelf.old) }
+        requires saved { (before : Option Files) × IsSaved plan.now.graph stack.now prefix.now before self.old.passes.items self.old.texts self.old.files (K.held shelf.old) }
         ensures rooms { AreRooms plan.now.graph stack.now self.new.rooms }
         ensures files { self.new.files ≡ self.old.files }
         ensures passes { OnOk result (self.new.passes.items ≡ stepped_rows rule.now self.old.passes.items node index) }
-        ensures saved { OnOk result ((before : Option Files) → IsSaved plan.now.graph stack.now prefix.now before self.old.passes.items self.old.files (K.held shelf.old)
-            → IsSaved plan.now.graph stack.now prefix.now before self.new.passes.items self.new.files (K.held shelf.new)) }
-        ensures err { OnErr result ((before : Option Files) → IsSaved plan.now.graph stack.now prefix.now before self.old.passes.items self.old.files (K.held shelf.old)
+        ensures saved { OnOk result ((before : Option Files) → IsSaved plan.now.graph stack.now prefix.now before self.old.passes.items self.old.texts self.old.files (K.held shelf.old)
+            → IsSaved plan.now.graph stack.now prefix.now before self.new.passes.items self.new.texts self.new.files (K.held shelf.new)) }
+        ensures err { OnErr result ((before : Option Files) → IsSaved plan.now.graph stack.now prefix.now before self.old.passes.items self.old.texts self.old.files (K.held shelf.old)
             → AreInterrupted before (plain_files plan.now.graph stack.now prefix.now) (K.held shelf.new)) }
         ensures cause { IsSaveCause result (K.faults shelf.old) (K.faults shelf.new) }
     {
@@ -255,13 +322,13 @@ impl Saver {
         requires kept { IsKeptStack stack.now }
         requires frame { index < length stack.now.arrays }
         requires rooms { AreRooms plan.now.graph stack.now self.old.rooms }
-        requires saved { (prefix : List ℕ) × ((before : Option Files) × IsSaved plan.now.graph stack.now prefix before self.old.passes.items self.old.files (K.held shelf.old)) }
+        requires saved { (prefix : List ℕ) × ((before : Option Files) × IsSaved plan.now.graph stack.now prefix before self.old.passes.items self.old.texts self.old.files (K.held shelf.old)) }
         requires left { AreLeftFrom plan.now.graph self.old.passes.items self.old.files index index }
         ensures rooms { AreRooms plan.now.graph stack.now self.new.rooms }
         ensures left { OnOk result (AreLeftFrom plan.now.graph self.new.passes.items self.new.files (index + 1) index) }
-        ensures saved { OnOk result ((prefix : List ℕ) (before : Option Files) → IsSaved plan.now.graph stack.now prefix before self.old.passes.items self.old.files (K.held shelf.old)
-            → IsSaved plan.now.graph stack.now prefix before self.new.passes.items self.new.files (K.held shelf.new)) }
-        ensures err { OnErr result ((prefix : List ℕ) (before : Option Files) → IsSaved plan.now.graph stack.now prefix before self.old.passes.items self.old.files (K.held shelf.old)
+        ensures saved { OnOk result ((prefix : List ℕ) (before : Option Files) → IsSaved plan.now.graph stack.now prefix before self.old.passes.items self.old.texts self.old.files (K.held shelf.old)
+            → IsSaved plan.now.graph stack.now prefix before self.new.passes.items self.new.texts self.new.files (K.held shelf.new)) }
+        ensures err { OnErr result ((prefix : List ℕ) (before : Option Files) → IsSaved plan.now.graph stack.now prefix before self.old.passes.items self.old.texts self.old.files (K.held shelf.old)
             → AreInterrupted before (plain_files plan.now.graph stack.now prefix) (K.held shelf.new)) }
         ensures cause { IsSaveCause result (K.faults shelf.old) (K.faults shelf.new) }
     {
@@ -286,13 +353,13 @@ impl Saver {
         requires kept { IsKeptStack stack.now }
         requires frame { index < length stack.now.arrays }
         requires rooms { AreRooms plan.now.graph stack.now self.old.rooms }
-        requires saved { (before : Option Files) × IsSaved plan.now.graph stack.now prefix.now before self.old.passes.items self.old.files (K.held shelf.old) }
+        requires saved { (before : Option Files) × IsSaved plan.now.graph stack.now prefix.now before self.old.passes.items self.old.texts self.old.files (K.held shelf.old) }
         requires left { AreLeftFrom plan.now.graph self.old.passes.items self.old.files (index + 1) index }
         ensures rooms { AreRooms plan.now.graph stack.now self.new.rooms }
         ensures left { OnOk result (AreLeftFrom plan.now.graph self.new.passes.items self.new.files (index + 1) (index + 1)) }
-        ensures saved { OnOk result ((before : Option Files) → IsSaved plan.now.graph stack.now prefix.now before self.old.passes.items self.old.files (K.held shelf.old)
-            → IsSaved plan.now.graph stack.now prefix.now before self.new.passes.items self.new.files (K.held shelf.new)) }
-        ensures err { OnErr result ((before : Option Files) → IsSaved plan.now.graph stack.now prefix.now before self.old.passes.items self.old.files (K.held shelf.old)
+        ensures saved { OnOk result ((before : Option Files) → IsSaved plan.now.graph stack.now prefix.now before self.old.passes.items self.old.texts self.old.files (K.held shelf.old)
+            → IsSaved plan.now.graph stack.now prefix.now before self.new.passes.items self.new.texts self.new.files (K.held shelf.new)) }
+        ensures err { OnErr result ((before : Option Files) → IsSaved plan.now.graph stack.now prefix.now before self.old.passes.items self.old.texts self.old.files (K.held shelf.old)
             → AreInterrupted before (plain_files plan.now.graph stack.now prefix.now) (K.held shelf.new)) }
         ensures cause { IsSaveCause result (K.faults shelf.old) (K.faults shelf.new) }
     {
@@ -313,7 +380,98 @@ impl Saver {
         Ok(())
     }
 
-    /// Ends all files, once every array has gone out of its node.
+    /// Writes the rows that are kept back at a node of this rule, where it is a statistics node.
+    fn put_node_rows<K: Shelf>(
+        &mut self,
+        alloc: Global,
+        shelf: &mut K,
+        prefix: &str,
+        plan: &Plan,
+        stack: &Stack,
+        node: u32,
+        rule: &NodeRule,
+    ) -> Result<(), SaveFault>
+        requires graph { IsGraph plan.now.graph }
+        requires kept { IsKeptStack stack.now }
+        requires rule { rule_at plan.now.graph.nodes node ≡ Some rule.now }
+        requires saved { (before : Option Files) × IsSaved plan.now.graph stack.now prefix.now before self.old.passes.items self.old.texts self.old.files (K.held shelf.old) }
+        ensures files { self.new.files ≡ self.old.files }
+        ensures passes { self.new.passes ≡ self.old.passes }
+        ensures texts { OnOk result (self.new.texts ≡ emptied rule.now self.old.texts node) }
+        ensures saved { OnOk result ((before : Option Files) → IsSaved plan.now.graph stack.now prefix.now before self.old.passes.items self.old.texts self.old.files (K.held shelf.old)
+            → IsSaved plan.now.graph stack.now prefix.now before self.new.passes.items self.new.texts self.new.files (K.held shelf.new)) }
+        ensures err { OnErr result ((before : Option Files) → IsSaved plan.now.graph stack.now prefix.now before self.old.passes.items self.old.texts self.old.files (K.held shelf.old)
+            → AreInterrupted before (plain_files plan.now.graph stack.now prefix.now) (K.held shelf.new)) }
+        ensures cause { IsSaveCause result (K.faults shelf.old) (K.faults shelf.new) }
+    {
+        match &rule.kind {
+            Kind::Stats(_) => {
+                self.put_rows(alloc, shelf, prefix, plan, stack, node, rule.name.text())
+            }
+            Kind::Roi(_) | Kind::Circular(_) | Kind::File(_) | Kind::Scatter => Ok(()),
+        }
+    }
+
+    /// Writes all rows that are kept back.
+    fn put_all_rows<K: Shelf>(
+        &mut self,
+        alloc: Global,
+        shelf: &mut K,
+        prefix: &str,
+        plan: &Plan,
+        stack: &Stack,
+    ) -> Result<(), SaveFault>
+        requires graph { IsGraph plan.now.graph }
+        requires kept { IsKeptStack stack.now }
+        requires saved { (before : Option Files) × IsSaved plan.now.graph stack.now prefix.now before self.old.passes.items self.old.texts self.old.files (K.held shelf.old) }
+        ensures files { self.new.files ≡ self.old.files }
+        ensures passes { self.new.passes ≡ self.old.passes }
+        ensures empty { OnOk result (AreEmptyTo plan.now.graph self.new.texts (length plan.now.graph.nodes)) }
+        ensures saved { OnOk result ((before : Option Files) → IsSaved plan.now.graph stack.now prefix.now before self.old.passes.items self.old.texts self.old.files (K.held shelf.old)
+            → IsSaved plan.now.graph stack.now prefix.now before self.new.passes.items self.new.texts self.new.files (K.held shelf.new)) }
+        ensures err { OnErr result ((before : Option Files) → IsSaved plan.now.graph stack.now prefix.now before self.old.passes.items self.old.texts self.old.files (K.held shelf.old)
+            → AreInterrupted before (plain_files plan.now.graph stack.now prefix.now) (K.held shelf.new)) }
+        ensures cause { IsSaveCause result (K.faults shelf.old) (K.faults shelf.new) }
+    {
+        let rules = plan.graph.nodes.as_slice();
+        for place in 0..rules.len() {
+            let node = place as u32 + 1;
+            self.put_node_rows(alloc, shelf, prefix, plan, stack, node, &rules[place])?;
+        }
+        Ok(())
+    }
+
+    /// Ends all files, once every array has gone out of its node and every row is written.
+    fn end_files<K: Shelf>(
+        self,
+        alloc: Global,
+        shelf: &mut K,
+        prefix: &str,
+        plan: &Plan,
+        stack: &Stack,
+    ) -> Result<(), SaveFault>
+        requires graph { IsGraph plan.now.graph }
+        requires kept { IsKeptStack stack.now }
+        requires saved { (before : Option Files) × IsSaved plan.now.graph stack.now prefix.now before self.passes.items self.texts self.files (K.held shelf.old) }
+        requires left { AreLeftFrom plan.now.graph self.passes.items self.files (length stack.now.arrays) (length stack.now.arrays) }
+        requires empty { AreEmptyTo plan.now.graph self.texts (length plan.now.graph.nodes) }
+        ensures ok { OnOk result ((before : Option Files) → IsSaved plan.now.graph stack.now prefix.now before self.passes.items self.texts self.files (K.held shelf.old)
+            → K.held shelf.new ≡ with_files before (plain_files plan.now.graph stack.now prefix.now)) }
+        ensures err { OnErr result ((before : Option Files) → IsSaved plan.now.graph stack.now prefix.now before self.passes.items self.texts self.files (K.held shelf.old)
+            → AreInterrupted before (plain_files plan.now.graph stack.now prefix.now) (K.held shelf.new)) }
+        ensures cause { IsSaveCause result (K.faults shelf.old) (K.faults shelf.new) }
+    {
+        let Saver {
+            rooms: _,
+            passes: _,
+            texts: _,
+            files,
+        } = self;
+        finish_rows(alloc, shelf, prefix, plan)?;
+        files.end(shelf)
+    }
+
+    /// Writes the rows that are kept back, and ends all files, once every array has gone out of its node.
     pub(crate) fn end<K: Shelf>(
         self,
         alloc: Global,
@@ -324,20 +482,16 @@ impl Saver {
     ) -> Result<(), SaveFault>
         requires graph { IsGraph plan.now.graph }
         requires kept { IsKeptStack stack.now }
-        requires saved { (before : Option Files) × IsSaved plan.now.graph stack.now prefix.now before self.passes.items self.files (K.held shelf.old) }
+        requires saved { (before : Option Files) × IsSaved plan.now.graph stack.now prefix.now before self.passes.items self.texts self.files (K.held shelf.old) }
         requires left { AreLeftFrom plan.now.graph self.passes.items self.files (length stack.now.arrays) (length stack.now.arrays) }
-        ensures ok { OnOk result ((before : Option Files) → IsSaved plan.now.graph stack.now prefix.now before self.passes.items self.files (K.held shelf.old)
+        ensures ok { OnOk result ((before : Option Files) → IsSaved plan.now.graph stack.now prefix.now before self.passes.items self.texts self.files (K.held shelf.old)
             → K.held shelf.new ≡ with_files before (plain_files plan.now.graph stack.now prefix.now)) }
-        ensures err { OnErr result ((before : Option Files) → IsSaved plan.now.graph stack.now prefix.now before self.passes.items self.files (K.held shelf.old)
+        ensures err { OnErr result ((before : Option Files) → IsSaved plan.now.graph stack.now prefix.now before self.passes.items self.texts self.files (K.held shelf.old)
             → AreInterrupted before (plain_files plan.now.graph stack.now prefix.now) (K.held shelf.new)) }
         ensures cause { IsSaveCause result (K.faults shelf.old) (K.faults shelf.new) }
     {
-        let Saver {
-            rooms: _,
-            passes: _,
-            files,
-        } = self;
-        finish_rows(alloc, shelf, prefix, plan)?;
-        files.end(shelf)
+        let mut saver = self;
+        saver.put_all_rows(alloc, shelf, prefix, plan, stack)?;
+        saver.end_files(alloc, shelf, prefix, plan, stack)
     }
 }

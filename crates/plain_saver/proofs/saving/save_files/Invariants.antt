@@ -10,6 +10,6 @@ invariant-loop-index g l =
     record {
       rooms : AreRooms l.plan.graph l.stack l.saver.rooms;
       left : AreLeftFrom l.plan.graph l.saver.passes.items l.saver.files l.index l.index;
-      saved : IsSaved l.plan.graph l.stack l.prefix (held l.fn.shelf) l.saver.passes.items l.saver.files (held l.shelf);
+      saved : IsSaved l.plan.graph l.stack l.prefix (held l.fn.shelf) l.saver.passes.items l.saver.texts l.saver.files (held l.shelf);
       none : g.K.Shelf.faults l.shelf ≡ g.K.Shelf.faults l.fn.shelf;
     }

@@ -1,4 +1,4 @@
-use Rattle.std.proofs.Common.{◌≤◌, List, length, sym, ap, subst, ◌∙◌, arith}
+use Rattle.std.proofs.Common.{◌≤◌, List, ℕ, length, sym, ap, subst, ◌∙◌, arith}
 use Rattle.std.proofs.lemmas.List.{length-set}
 use Rattle.std.proofs.lemmas.Result.{err_from_is_err_and}
 use Rattle.graph_files.proofs.Ends.{item}
@@ -119,5 +119,8 @@ returns-clause-saved g c = λ prefix before h.
     c.in-Some.next.of at c.head.result.now c.samples.result.now out)
     (saved-written graph s prefix c.requires.graph c.requires.kept before ps xs t h))
     (λ last y hy. c.in_ok-write.ensures.ended x i.1 last y hy) in
-    subst (λ (zs : List NodeFile). IsSaved graph s prefix before c.count_one.new.self.passes.items zs u) (sym c.count_one.ensures.files)
-    (subst (λ (qs : List Pass). IsSaved graph s prefix before qs c.write.new.self u) (sym (c.count_one.ensures.passes ∙ ap (with_one_gone ps) n)) done)
+    subst (λ (zs : List NodeFile). IsSaved graph s prefix before c.count_one.new.self.passes.items c.count_one.new.self.texts zs u)
+    (sym c.count_one.ensures.files)
+    (subst (λ (us : List (List ℕ)). IsSaved graph s prefix before c.count_one.new.self.passes.items us c.write.new.self u) (sym c.count_one.ensures.texts)
+    (subst (λ (qs : List Pass). IsSaved graph s prefix before qs c.args.self.now.texts c.write.new.self u)
+    (sym (c.count_one.ensures.passes ∙ ap (with_one_gone ps) n)) done))

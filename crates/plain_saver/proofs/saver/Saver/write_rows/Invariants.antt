@@ -13,8 +13,8 @@ invariant-loop-place g l =
     record {
       rooms : AreRooms l.plan.graph l.stack l.self.rooms;
       turns : RowTurns l.plan.graph l.self.passes.items l.self.files l.place l.index;
-      some : (before : Option Files) × IsSaved l.plan.graph l.stack l.prefix before l.self.passes.items l.self.files (held l.shelf);
-      saved : (before : Option Files) → IsSaved l.plan.graph l.stack l.prefix before l.fn.self.passes.items l.fn.self.files (held l.fn.shelf)
-          → IsSaved l.plan.graph l.stack l.prefix before l.self.passes.items l.self.files (held l.shelf);
+      some : (before : Option Files) × IsSaved l.plan.graph l.stack l.prefix before l.self.passes.items l.self.texts l.self.files (held l.shelf);
+      saved : (before : Option Files) → IsSaved l.plan.graph l.stack l.prefix before l.fn.self.passes.items l.fn.self.texts l.fn.self.files (held l.fn.shelf)
+          → IsSaved l.plan.graph l.stack l.prefix before l.self.passes.items l.self.texts l.self.files (held l.shelf);
       none : g.K.Shelf.faults l.shelf ≡ g.K.Shelf.faults l.fn.shelf;
     }
