@@ -1,4 +1,6 @@
 pub mod Files
+pub mod FileNames
+pub mod PlainRuns
 pub mod Frames
 pub mod Ids
 pub mod EachNode

@@ -8,7 +8,7 @@ use Rattle.nd_stack.specs.declared.fault.StackFault.TheVariants as refusal
 use Rattle.graph_conf.specs.declared.fault.GraphFault.{GraphFault}
 use Rattle.graph_conf.specs.declared.fault.GraphFault.TheVariants as rule
 use Rattle.graph_conf.specs.declared.load.LimitFault.{LimitFault}
-use Rattle.graph_conf.specs.declared.load.LimitFault.TheVariants.{GraphBytes, StackFile}
+use Rattle.graph_conf.specs.declared.load.LimitFault.TheVariants.{GraphBytes, StackFile, Load, Kept, FileTooLarge}
 use Rattle.replay_top.specs.declared.status.Status.{Status}
 use Rattle.replay_top.specs.declared.status.Status.TheVariants.{Done, Usage, GraphText, GraphRule, StackBytes, Limit, ReadFault, ShelfFault, OutFault, OutOfMemory}
 use Rattle.graph_files.specs.Interrupted.{AreInterrupted}
@@ -57,12 +57,14 @@ stack_name (Info stack) = stack
 -- the command's graph is refused so
 abbrev pub HasGraphRefusal : Option Files → Command → Status → Type 0
 HasGraphRefusal told (Plain graph stack prefix) status = IsGraphRefused status told graph
-HasGraphRefusal told _ status = ⊥
+HasGraphRefusal told (Copy stack prefix) status = ⊥
+HasGraphRefusal told (Info stack) status = ⊥
 
 -- the command's graph was read, where it has one
 abbrev pub HasGraph : Option Files → Command → Type 0
 HasGraph told (Plain graph stack prefix) = (g : Graph) × IsGraphRead told graph g
-HasGraph told _ = Unit {0}
+HasGraph told (Copy stack prefix) = Unit {0}
+HasGraph told (Info stack) = Unit {0}
 
 -- its graph was read, and its stack is refused so
 abbrev pub HasStackRefusal : Option Files → Command → Status → Type 0
@@ -93,7 +95,9 @@ HasStackFault (Some command) told fault = (fault ≢ refusal.OutOfMemory) × Has
 abbrev pub PassesLimit : Option Files → Command → LimitFault → Type 0
 PassesLimit told command (GraphBytes bytes) = (most_graph_bytes < bytes) × HasGraphRefusal told command (Limit (GraphBytes bytes))
 PassesLimit told command (StackFile bytes) = (most_stack_bytes < bytes) × HasStackRefusal told command (Limit (StackFile bytes))
-PassesLimit told command fault = HasLoadRefusal told command fault
+PassesLimit told command (Load arrivals) = HasLoadRefusal told command (Load arrivals)
+PassesLimit told command (Kept numbers) = HasLoadRefusal told command (Kept numbers)
+PassesLimit told command (FileTooLarge node bytes) = HasLoadRefusal told command (FileTooLarge node bytes)
 
 abbrev pub HasLimitFault : Option Command → Option Files → LimitFault → Type 0
 HasLimitFault None told fault = ⊥
@@ -133,4 +137,7 @@ IsRefused (GraphRule fault) = Unit {0}
 IsRefused (StackBytes fault) = Unit {0}
 IsRefused (Limit fault) = Unit {0}
 IsRefused ReadFault = Unit {0}
-IsRefused _ = ⊥
+IsRefused Done = ⊥
+IsRefused ShelfFault = ⊥
+IsRefused OutFault = ⊥
+IsRefused OutOfMemory = ⊥

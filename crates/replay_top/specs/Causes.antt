@@ -2,7 +2,7 @@
 use Rattle.std.specs.Prelude.{◌≡◌, ℕ}
 use Rattle.edge_traits.specs.Faults.{Rose}
 use Rattle.replay_top.specs.declared.status.Status.{Status}
-use Rattle.replay_top.specs.declared.status.Status.TheVariants.{ReadFault, ShelfFault, OutFault}
+use Rattle.replay_top.specs.declared.status.Status.TheVariants.{Done, Usage, GraphText, GraphRule, StackBytes, Limit, ReadFault, ShelfFault, OutFault, OutOfMemory}
 
 -- the counts of faults of the library, the shelf and the sink
 pub record Counts : Type 0 where
@@ -15,4 +15,10 @@ abbrev pub IsCause : Status → Counts → Counts → Type 0
 IsCause ReadFault before after = Rose before.library after.library × (after.shelf ≡ before.shelf) × (after.sink ≡ before.sink)
 IsCause ShelfFault before after = (after.library ≡ before.library) × Rose before.shelf after.shelf × (after.sink ≡ before.sink)
 IsCause OutFault before after = (after.library ≡ before.library) × (after.shelf ≡ before.shelf) × Rose before.sink after.sink
-IsCause status before after = after ≡ before
+IsCause Done before after = after ≡ before
+IsCause Usage before after = after ≡ before
+IsCause GraphText before after = after ≡ before
+IsCause (GraphRule fault) before after = after ≡ before
+IsCause (StackBytes fault) before after = after ≡ before
+IsCause (Limit fault) before after = after ≡ before
+IsCause OutOfMemory before after = after ≡ before

@@ -4,10 +4,12 @@ pub mod Claims
 pub mod Command
 pub mod Copy
 pub mod CopyLaw
+pub mod FileNames
 pub mod Info
 pub mod Limits
 pub mod LogFiles
 pub mod MeasuredFiles
+pub mod PlainRuns
 pub mod PlainText
 pub mod Printed
 pub mod ReadBack

@@ -13,7 +13,7 @@ use Rattle.run_report.specs.Text.{report_text}
 use Rattle.flow_run.specs.Strangers.{AreOwnMoves}
 use Rattle.flow_run.specs.Ticks.{IsFedByTheClock}
 use Rattle.replay_top.specs.declared.status.Status.{Status}
-use Rattle.replay_top.specs.declared.status.Status.TheVariants.{Done, ShelfFault, OutFault, OutOfMemory}
+use Rattle.replay_top.specs.declared.status.Status.TheVariants.{Done, Usage, GraphText, GraphRule, StackBytes, Limit, ReadFault, ShelfFault, OutFault, OutOfMemory}
 use Rattle.replay_top.specs.Answers.{Ends}
 use Rattle.replay_top.specs.Causes.{Counts, IsCause}
 use Rattle.replay_top.specs.Printed.{IsCutShort}
@@ -72,7 +72,13 @@ abbrev pub HasFinished : Status → Type 0
 HasFinished Done = Unit {0}
 HasFinished ShelfFault = Unit {0}
 HasFinished OutFault = Unit {0}
-HasFinished _ = ⊥
+HasFinished Usage = ⊥
+HasFinished GraphText = ⊥
+HasFinished (GraphRule fault) = ⊥
+HasFinished (StackBytes fault) = ⊥
+HasFinished (Limit fault) = ⊥
+HasFinished ReadFault = ⊥
+HasFinished OutOfMemory = ⊥
 
 -- there is a command and a log, and this holds of them
 abbrev pub OfLog : (RunCommand → Past → Type 0) → Option RunCommand → Option Journal → Type 0
@@ -86,16 +92,35 @@ EndsUnlogged OutOfMemory command o = o.out ≡ o.written
 EndsUnlogged Done command o = ⊥
 EndsUnlogged ShelfFault command o = ⊥
 EndsUnlogged OutFault command o = ⊥
-EndsUnlogged status command o = Ends status (plain_run_of command) o.told o.held o.now o.written o.out
+EndsUnlogged Usage command o = Ends Usage (plain_run_of command) o.told o.held o.now o.written o.out
+EndsUnlogged GraphText command o = Ends GraphText (plain_run_of command) o.told o.held o.now o.written o.out
+EndsUnlogged (GraphRule fault) command o = Ends (GraphRule fault) (plain_run_of command) o.told o.held o.now o.written o.out
+EndsUnlogged (StackBytes fault) command o = Ends (StackBytes fault) (plain_run_of command) o.told o.held o.now o.written o.out
+EndsUnlogged (Limit fault) command o = Ends (Limit fault) (plain_run_of command) o.told o.held o.now o.written o.out
+EndsUnlogged ReadFault command o = Ends ReadFault (plain_run_of command) o.told o.held o.now o.written o.out
 
 -- how a run ends
 abbrev pub RunEnds : Status → Option Journal → Option RunCommand → Objects → Type 0
 RunEnds Done log command o = OfLog (IsRunDone o) command log
 RunEnds ShelfFault log command o = OfLog (IsRunTorn o) command log
 RunEnds OutFault log command o = OfLog (IsRunCutShort o) command log
-RunEnds status log command o = (log ≡ None) × EndsUnlogged status command o
+RunEnds Usage log command o = (log ≡ None) × EndsUnlogged Usage command o
+RunEnds GraphText log command o = (log ≡ None) × EndsUnlogged GraphText command o
+RunEnds (GraphRule fault) log command o = (log ≡ None) × EndsUnlogged (GraphRule fault) command o
+RunEnds (StackBytes fault) log command o = (log ≡ None) × EndsUnlogged (StackBytes fault) command o
+RunEnds (Limit fault) log command o = (log ≡ None) × EndsUnlogged (Limit fault) command o
+RunEnds ReadFault log command o = (log ≡ None) × EndsUnlogged ReadFault command o
+RunEnds OutOfMemory log command o = (log ≡ None) × EndsUnlogged OutOfMemory command o
 
 -- the counts rise as with a plain run, but that want of memory may come after the shelf has failed
 abbrev pub IsRunCause : Status → Counts → Counts → Type 0
 IsRunCause OutOfMemory before after = (after.library ≡ before.library) × (after.sink ≡ before.sink)
-IsRunCause status before after = IsCause status before after
+IsRunCause Done before after = IsCause Done before after
+IsRunCause Usage before after = IsCause Usage before after
+IsRunCause GraphText before after = IsCause GraphText before after
+IsRunCause (GraphRule fault) before after = IsCause (GraphRule fault) before after
+IsRunCause (StackBytes fault) before after = IsCause (StackBytes fault) before after
+IsRunCause (Limit fault) before after = IsCause (Limit fault) before after
+IsRunCause ReadFault before after = IsCause ReadFault before after
+IsRunCause ShelfFault before after = IsCause ShelfFault before after
+IsRunCause OutFault before after = IsCause OutFault before after

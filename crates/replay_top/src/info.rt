@@ -138,6 +138,7 @@ pub(crate) fn info<L: Library, T: Sink>(
     ensures ends { (held : Option Files) → Ends result (Some (Info name.now)) (L.holds library.old) held held (T.written out.old) (T.written out.new) }
     ensures cause { (shelf : ℕ) → IsCause result (record { library = L.faults library.old; shelf = shelf; sink = T.faults out.old })
         (record { library = L.faults library.new; shelf = shelf; sink = T.faults out.new }) }
+    ensures library { L.holds library.new ≡ L.holds library.old }
 {
     let stack = match load_stack(alloc, library, name) {
         Ok(stack) => stack,

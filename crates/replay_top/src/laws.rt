@@ -1,6 +1,8 @@
 //! What holds of the commands. Each function is a law: it does nothing, and its contract says what holds.
 
 ghost use Rattle.replay_top.specs.CopyLaw.{SameFiles, SameLimit};
+ghost use Rattle.replay_top.specs.FileNames.{CommandsHaveOwnNames, GroupsHaveOwnNames, RowsHaveOwnNames, GroupsAreNoTexts, OnlyLogsMeetTheLog};
+ghost use Rattle.replay_top.specs.PlainRuns.{DriverPassesOnAll, NodesPassOnTheirInputs, ResultsAreOfTheInputs, ResultsAreOfThePassed};
 ghost use Rattle.replay_top.specs.SmoothRuns.{SmoothFilesArePlain};
 
 use run_laws::smooth_runs_are_plain;
@@ -10,6 +12,24 @@ use run_laws::smooth_runs_are_plain;
 pub fn copy_is_plain()
     ensures files { SameFiles }
     ensures limit { SameLimit }
+{}
+
+/// No two files of a command have one name, and no two of a graph's groups and rows, be they of a plain run or of one with its threads. The log's text
+/// has a name of its own but where a statistics node is named `log`.
+pub fn files_have_own_names()
+    ensures commands { CommandsHaveOwnNames }
+    ensures groups { GroupsHaveOwnNames }
+    ensures rows { RowsHaveOwnNames }
+    ensures texts { GroupsAreNoTexts }
+    ensures log { OnlyLogsMeetTheLog }
+{}
+
+/// In the plain run each node acts on what goes out of its input, and on nothing else.
+pub fn plain_runs_go_by_inputs()
+    ensures driver { DriverPassesOnAll }
+    ensures passed { NodesPassOnTheirInputs }
+    ensures results { ResultsAreOfTheInputs }
+    ensures arrays { ResultsAreOfThePassed }
 {}
 
 /// The files of a run in which nothing was dropped and nothing came out of order are those of the plain run, where the ids are distinct and no

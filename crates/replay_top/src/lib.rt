@@ -22,7 +22,9 @@ mod words;
 
 pub use exit::Exit;
 pub use graph_conf::LimitFault;
-pub use laws::{copy_is_plain, smooth_runs_are_plain_files};
+pub use laws::{
+    copy_is_plain, files_have_own_names, plain_runs_go_by_inputs, smooth_runs_are_plain_files,
+};
 pub use run::run_top;
 pub use status::{Status, status_text};
 pub use top::tool_top;

@@ -79,6 +79,7 @@ pub(crate) fn plain<L: Library, K: Shelf, T: Sink>(
     ensures ends { Ends result (Some (Plain graph.now name.now prefix.now)) (L.holds library.old) (K.held shelf.old) (K.held shelf.new) (T.written out.old) (T.written out.new) }
     ensures cause { IsCause result (record { library = L.faults library.old; shelf = K.faults shelf.old; sink = T.faults out.old })
         (record { library = L.faults library.new; shelf = K.faults shelf.new; sink = T.faults out.new }) }
+    ensures library { L.holds library.new ≡ L.holds library.old }
 {
     let graph = match load_graph(alloc, library, graph) {
         Ok(graph) => graph,

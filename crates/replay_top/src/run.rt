@@ -142,6 +142,7 @@ fn run_words<
         (record { told = L.holds library.old; coming = C.coming clock.old; later = C.coming clock.new; held = K.held shelf.old; now = K.held shelf.new; written = T.written out.old; out = T.written out.new }) }
     ensures cause { IsRunCause result.status (record { library = L.faults library.old; shelf = K.faults shelf.old; sink = T.faults out.old })
         (record { library = L.faults library.new; shelf = K.faults shelf.new; sink = T.faults out.new }) }
+    ensures library { L.holds library.new ≡ L.holds library.old }
 {
     let (plan, stack) = match load_run(alloc, library, words.graph, words.stack) {
         Ok(loaded) => loaded,
@@ -203,6 +204,7 @@ pub fn run_top<
     ensures limit { (fault : LimitFault) → result.status ≡ Status.Limit fault → HasLimitFault (plain_run_of (run_command_of (map string_bytes words.now))) (L.holds library.old) fault }
     ensures untouched { IsRefused result.status → (K.held shelf.new ≡ K.held shelf.old) × (T.written out.new ≡ T.written out.old) }
     ensures memory { result.status ≡ Status.OutOfMemory → T.written out.new ≡ T.written out.old }
+    ensures library { L.holds library.new ≡ L.holds library.old }
 
     // Faults come only where their object's count rose; where none rose, the files that were read decide.
     ensures cause { IsRunCause result.status (record { library = L.faults library.old; shelf = K.faults shelf.old; sink = T.faults out.old })

@@ -22,6 +22,7 @@ pub(crate) fn load_run<L: Library>(
     ensures read { IfOk result (λ r. IsSourceRead (L.holds library.old) graph.now name.now r.0.graph r.1) }
     ensures plan { IfOk result (λ r. r.0 ≡ plan_of r.0.graph r.1) }
     ensures stays { OnOk result (L.faults library.new ≡ L.faults library.old) }
+    ensures files { L.holds library.new ≡ L.holds library.old }
     ensures err { IfErr result (λ s. SourceStops s (L.holds library.old) graph.now name.now (L.faults library.old) (L.faults library.new)) }
 {
     let graph = match load_graph(alloc, library, graph) {

@@ -81,6 +81,7 @@ pub(crate) fn load_stack<L: Library>(
 ) -> Result<Stack, Status>
     ensures ok { IfOk result (λ stack. IsLoaded (L.holds library.old) name.now stack) }
     ensures stays { OnOk result (L.faults library.new ≡ L.faults library.old) }
+    ensures files { L.holds library.new ≡ L.holds library.old }
     ensures err { IfErr result (λ s. StackStops s (L.holds library.old) name.now (L.faults library.old) (L.faults library.new)) }
 {
     let bytes = match read_file(alloc, library, name, STACK_LIMIT) {

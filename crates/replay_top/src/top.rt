@@ -28,6 +28,7 @@ fn run_command<L: Library, K: Shelf, T: Sink>(
     ensures ends { Ends result (command_of (map string_bytes words.now)) (L.holds library.old) (K.held shelf.old) (K.held shelf.new) (T.written out.old) (T.written out.new) }
     ensures cause { IsCause result (record { library = L.faults library.old; shelf = K.faults shelf.old; sink = T.faults out.old })
         (record { library = L.faults library.new; shelf = K.faults shelf.new; sink = T.faults out.new }) }
+    ensures library { L.holds library.new ≡ L.holds library.old }
 {
     match command_in(words) {
         Some(Command::Copy { stack, prefix }) => copy(alloc, stack, prefix, library, shelf, out),
@@ -66,7 +67,8 @@ pub fn tool_top<L: Library, K: Shelf, T: Sink>(
     ensures refused { (fault : StackFault) → result ≡ Status.StackBytes fault → HasStackFault (command_of (map string_bytes words.now)) (L.holds library.old) fault }
     ensures limit { (fault : LimitFault) → result ≡ Status.Limit fault → HasLimitFault (command_of (map string_bytes words.now)) (L.holds library.old) fault }
 
-    // What a status other than Done leaves.
+    // What a status other than Done leaves. The files that are read stay, whatever the status.
+    ensures library { L.holds library.new ≡ L.holds library.old }
     ensures untouched { IsRefused result → (K.held shelf.new ≡ K.held shelf.old) × (T.written out.new ≡ T.written out.old) }
     ensures shelf_fault { result ≡ Status.ShelfFault →
         IsSaveFailed (command_of (map string_bytes words.now)) (L.holds library.old) (K.held shelf.old) (K.held shelf.new) × (T.written out.new ≡ T.written out.old) }

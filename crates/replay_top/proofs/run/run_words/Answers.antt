@@ -34,4 +34,5 @@ returns g c =
           rw c.in-Ok.ensures.stays
           (IsRunCause-rest c.finish.result history.fault _ _ _ _ _ _ _ _
           (g.K.Shelf.faults c.run_plan.new.shelf) _ _ _ c.finish.ensures.ends h.fault c.finish.ensures.cause);
+      library = c.in-Ok.ensures.files;
     }
