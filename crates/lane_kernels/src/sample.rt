@@ -53,6 +53,17 @@ pub(crate) fn byte_square(kind: SampleType, bytes: &[u8], place: usize) -> u32
     size * size
 }
 
+/// The square of the sample at a place. In 64 bits a number's own bits have its square, so its size need not be taken.
+#[inline(always)]
+#[tactic(auto, using(crate::proofs::Squares::bits_squared))]
+pub(crate) fn sample_square(kind: SampleType, bytes: &[u8], place: usize) -> u64
+    requires { place < length bytes.now / width kind }
+    ensures { result ≡ unsigned_abs (stored kind bytes.now place) * unsigned_abs (stored kind bytes.now place) }
+{
+    let bits = sample_at(kind, bytes, place).cast_unsigned();
+    bits.wrapping_mul(bits)
+}
+
 /// What is left of a number in 32 bits.
 #[inline(always)]
 pub fn low_word(number: i64) -> i32

@@ -6,7 +6,7 @@ ghost use Rattle.nd_base.specs.Samples.{width, samples_of};
 ghost use Rattle.nd_base.specs.Shapes.{most_samples};
 ghost use Rattle.lane_kernels.specs.Plain.{total, squares, run, square_run};
 
-use crate::sample::{byte_square, narrow_at};
+use crate::sample::{byte_square, narrow_at, sample_square};
 use nd_base::{SampleType, number_at};
 
 /// How many samples a block has.
@@ -113,28 +113,41 @@ pub(crate) fn squares(kind: SampleType, samples: &[u8]) -> u128
     requires { length samples.now / width kind ≤ most_samples }
     ensures { result ≡ squares (samples_of kind samples.now) }
 {
-    if kind.width() == 1 {
-        u128::from(square_blocks(kind, samples))
-    } else {
-        squares_by_parts(kind, samples)
+    match kind.width() {
+        1 => u128::from(square_blocks(kind, samples)),
+        2 => u128::from(narrow_squares(kind, samples)),
+        _ => squares_by_parts(kind, samples),
     }
 }
 
-/// The sum of the squares, by the sums of their lowest 36 bits and of the rest. Were they cut at 32 bits, the compiler would make
-/// two products of each.
+/// The sum of the squares of samples of at most 16 bits.
+#[inline(always)]
+fn narrow_squares(kind: SampleType, samples: &[u8]) -> u64
+    requires narrow { width kind ≤ 2 }
+    requires few { length samples.now / width kind ≤ most_samples }
+    ensures { result ≡ squares (samples_of kind samples.now) }
+{
+    let mut sum = 0u64;
+    for k in 0..samples.len() / kind.width() {
+        sum += sample_square(kind, samples, k);
+    }
+    sum
+}
+
+/// The sum of the squares, by their sum in 64 bits, which may wrap, and the sum of all but their lowest 36 bits. What the second leaves of
+/// the first is less than 64 bits, so that no bit of it is lost. Were they cut at 32 bits, the compiler would make two products of each.
 #[inline(always)]
 fn squares_by_parts(kind: SampleType, samples: &[u8]) -> u128
     requires { length samples.now / width kind ≤ most_samples }
     ensures { result ≡ squares (samples_of kind samples.now) }
 {
-    let width = kind.width();
-    let mut low = 0u64;
+    let mut whole = 0u64;
     let mut high = 0u64;
-    for k in 0..samples.len() / width {
-        let size = number_at(kind, samples, k * width).unsigned_abs();
-        let square = size * size;
-        low += square % 0x10_0000_0000;
+    for k in 0..samples.len() / kind.width() {
+        let square = sample_square(kind, samples, k);
+        whole = whole.wrapping_add(square);
         high += square / 0x10_0000_0000;
     }
+    let low = whole.wrapping_sub(high.wrapping_mul(0x10_0000_0000));
     u128::from(low) + u128::from(high) * 0x10_0000_0000
 }
