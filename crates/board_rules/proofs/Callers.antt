@@ -24,7 +24,8 @@ use Rattle.board_rules.specs.Feeding.{LoadAnswers}
 use Rattle.board_rules.specs.Working.{TakeAnswers}
 use Rattle.board_rules.specs.Saving.{SaveAnswers}
 use Rattle.std.specs.List.{list_all}
-use Rattle.board_rules.specs.Runs.{Frames, Call, Loads, Issues, Takes, Puts, Settles, Saves as SavesOne, Saveds, Closes, Leaves, Reclaims, Asks, Finishes, Gives, caller, saver}
+use Rattle.board_rules.specs.Runs.{Frames, Call, Loads, Issues, Takes, Puts, Settles, Saves as SavesOne, Saveds, Closes, Leaves, Reclaims, Asks, Finishes}
+use Rattle.board_rules.specs.Runs.{Gives, caller, saver}
 use Rattle.board_rules.specs.RunLaws.{IsAddedBy, saves_as, CallsAddMoves}
 use Rattle.std.proofs.lemmas.Bool.{eq-eqb}
 use Rattle.std.proofs.lemmas.List.{append_assoc}

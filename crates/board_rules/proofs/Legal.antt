@@ -1,8 +1,10 @@
 -- By its contract each call leads from a legal history to a legal history.
-use Rattle.std.proofs.Common.{◌≡◌, ◌≢◌, ◌⊎◌, ℕ, ◌<◌, ◌≤◌, Bool, true, false, not, ◌&&◌, ◌||◌, cond, List, [], ◌∷◌, length, refl, sym, ap, ◌∙◌, subst, subst₂, eqb, ltb, leb, arith, Option, Some, None, Result, Ok, Err, inl, inr, if◌then◌else◌}
+use Rattle.std.proofs.Common.{◌≡◌, ◌≢◌, ◌⊎◌, ℕ, ◌<◌, ◌≤◌, Bool, true, false, not, ◌&&◌, ◌||◌, cond, List, [], ◌∷◌, length, refl, sym, ap, ◌∙◌, subst}
+use Rattle.std.proofs.Common.{subst₂, eqb, ltb, leb, arith, Option, Some, None, Result, Ok, Err, inl, inr, if◌then◌else◌}
 use Rattle.std.specs.Prelude.{is_none}
 use Rattle.std.specs.List.{list_all, list_any}
-use Rattle.std.proofs.lemmas.Bool.{and_parts, and_from, false≢true, true≢false, eqb-true, eq-eqb, cases_Bool, or_parts, not-true, not-false, not_from_false, ne_eqb, leb-false, leb-true, ltb-true, ltb-false}
+use Rattle.std.proofs.lemmas.Bool.{and_parts, and_from, false≢true, true≢false, eqb-true, eq-eqb, cases_Bool, or_parts, not-true, not-false, not_from_false}
+use Rattle.std.proofs.lemmas.Bool.{ne_eqb, leb-false, leb-true, ltb-true, ltb-false}
 use Rattle.nd_base.specs.Parts.{Parts}
 use Rattle.nd_base.specs.declared.frame.FrameName.{FrameName}
 use Rattle.nd_base.specs.declared.measure.Measure.{Measure}
@@ -21,7 +23,8 @@ use Rattle.flow_journal.specs.Accounts.{held, grant}
 use Rattle.flow_journal.specs.FirstEntries.{first, has_loaded, is_next}
 use Rattle.flow_journal.specs.Finished.{none_left}
 use Rattle.flow_journal.specs.Histories.{is_history, is_legal}
-use Rattle.flow_journal.specs.RowFacts.{IsFirstOf, Acts, LoadFacts, TakeFacts, HasLoaded, HasJob, HasResult, SettleFacts, PieceFacts, SaveFacts, CloseFacts, ReclaimFacts}
+use Rattle.flow_journal.specs.RowFacts.{IsFirstOf, Acts, LoadFacts, TakeFacts, HasLoaded, HasJob, HasResult, SettleFacts, PieceFacts, SaveFacts, CloseFacts}
+use Rattle.flow_journal.specs.RowFacts.{ReclaimFacts}
 use Rattle.flow_journal.proofs.Rows.{row_laws}
 use Rattle.flow_journal.proofs.Found.{found_up}
 use Rattle.flow_journal.proofs.Steps.{same-true, next_is}
@@ -48,7 +51,8 @@ use Rattle.board_rules.specs.Feeding.{is_sent_away, load_refusal, LoadAnswers, I
 use Rattle.board_rules.specs.Working.{IsResult, take_refusal, asked, TakeAnswers, PutGives, SettleGives}
 use Rattle.board_rules.specs.Saving.{has_due, save_refusal, SaveAnswers, SavedGives}
 use Rattle.board_rules.specs.Leaving.{LeaveGives, ReclaimGives}
-use Rattle.board_rules.specs.Runs.{Frames, Call, Loads, Issues, Takes, Puts, Settles, Saves as SavesOne, Saveds, Closes, Leaves, Reclaims, Asks, Finishes, May, Gives}
+use Rattle.board_rules.specs.Runs.{Frames, Call, Loads, Issues, Takes, Puts, Settles, Saves as SavesOne, Saveds, Closes, Leaves, Reclaims, Asks, Finishes}
+use Rattle.board_rules.specs.Runs.{May, Gives}
 use Rattle.board_rules.specs.RunLaws.{RunsAreLegal}
 use Rattle.board_rules.proofs.Moved.{moved-legal}
 use Rattle.board_rules.proofs.Makers.{suits, hand-suits}

@@ -109,7 +109,8 @@ one-take name_of parts bytes_of s old new other r v None (Some pool.Refused) (ta
     let q : h ≡ i = c.0 ∙ sym d.0 in
     moves s 0 old new other (plain (PoolDrop r v c.1.0.maker c.1.0.index (s.need v) h)) (plain (PoolDrop r v d.1.0.maker d.1.0.index (s.need v) i)) c.1.3 d.1.3
     (ap (λ (n : FrameName). PoolDrop r v n.maker n.index (s.need v) h) p ∙ ap (λ (y : ℕ). PoolDrop r v d.1.0.maker d.1.0.index (s.need v) y) q)
-one-take name_of parts bytes_of s old new other r v None (Some (Granted n m f g)) (take.Job x input (Some blank)) (take.Job y part (Some storage)) tell z w c d =
+one-take name_of parts bytes_of s old new other r v None (Some (Granted n m f g)) (take.Job x input (Some blank))
+    (take.Job y part (Some storage)) tell z w c d =
     let p : name_of input ≡ name_of part = same-next (name_of input) (name_of part) _ c.1.0 d.1.0 in
     let q : c.3.0 ≡ d.3.0 = same-regrown parts old n f c.3.0 d.3.0 tell c.3.1 d.3.1 in
     moves s 0 old new other (lends (take_block r v (name_of input) n m f g c.3.0) (parts input))

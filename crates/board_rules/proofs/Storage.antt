@@ -1,5 +1,6 @@
 -- Where nothing stayed away, no storage is made anew.
-use Rattle.std.proofs.Common.{◌≡◌, ℕ, zero, suc, Bool, true, false, not, ◌&&◌, ◌||◌, List, [], ◌∷◌, refl, sym, ap, ◌∙◌, subst, Option, Some, None, Ok, Err, inl, inr, if◌then◌else◌}
+use Rattle.std.proofs.Common.{◌≡◌, ℕ, zero, suc, Bool, true, false, not, ◌&&◌, ◌||◌, List, [], ◌∷◌, refl, sym, ap, ◌∙◌, subst, Option, Some, None, Ok, Err}
+use Rattle.std.proofs.Common.{inl, inr, if◌then◌else◌}
 use Rattle.std.specs.List.{list_any}
 use Rattle.std.proofs.lemmas.Bool.{and_parts, false≢true, true≢false, cases_Bool, or_parts, not_from_false}
 use Rattle.nd_base.specs.Parts.{Parts}
@@ -7,7 +8,8 @@ use Rattle.nd_base.specs.declared.frame.FrameName.{FrameName}
 use Rattle.pool_ledger.specs.Grants.{Answer, Granted}
 use Rattle.pool_ledger.specs.Grants as pool
 use Rattle.flow_journal.specs.declared.entry.Entry.{Entry}
-use Rattle.flow_journal.specs.declared.entry.Entry.TheVariants.{Load, LoadRefused, Tick, Issue, Emit, Accept, Full, Take, PoolDrop, Put, SortDrop, Settle, Save, Saved, Close, Leave}
+use Rattle.flow_journal.specs.declared.entry.Entry.TheVariants.{Load, LoadRefused, Tick, Issue, Emit, Accept, Full, Take, PoolDrop, Put, SortDrop, Settle}
+use Rattle.flow_journal.specs.declared.entry.Entry.TheVariants.{Save, Saved, Close, Leave}
 use Rattle.flow_journal.specs.Setting.{Setting}
 use Rattle.flow_journal.specs.Pasts.{Past}
 use Rattle.flow_journal.specs.Following.{calls_for}
@@ -25,7 +27,8 @@ use Rattle.board_rules.specs.InHand.{TellParts, result_name, hand_node}
 use Rattle.board_rules.specs.Feeding.{LoadAnswers}
 use Rattle.board_rules.specs.Working.{TakeAnswers}
 use Rattle.board_rules.specs.Saving.{SaveAnswers}
-use Rattle.board_rules.specs.Runs.{Frames, Call, Loads, Issues, Takes, Puts, Settles, Saves as SavesOne, Saveds, Closes, Leaves, Reclaims, Asks, Finishes, Gives, Runs}
+use Rattle.board_rules.specs.Runs.{Frames, Call, Loads, Issues, Takes, Puts, Settles, Saves as SavesOne, Saveds, Closes, Leaves, Reclaims, Asks, Finishes}
+use Rattle.board_rules.specs.Runs.{Gives, Runs}
 use Rattle.board_rules.specs.RunLaws.{RunsKeepStorage}
 use Rattle.board_rules.specs.declared.told.Told.{Told}
 use Rattle.board_rules.specs.States.{BoardState, past, plain, lends, loses, take_block}

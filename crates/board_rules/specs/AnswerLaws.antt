@@ -13,7 +13,8 @@ use Rattle.board_rules.specs.declared.answers.NoReclaim.{NoReclaim}
 use Rattle.flow_journal.specs.declared.progress.Progress.{Progress}
 use Rattle.board_rules.specs.States.{BoardState, past}
 use Rattle.board_rules.specs.InHand.{IsOnePart, TellParts}
-use Rattle.board_rules.specs.Runs.{Frames, Call, Loads, Issues, Takes, Puts, Settles, Saves, Saveds, Closes, Leaves, Reclaims, Asks, Finishes, Gives, wants_memory}
+use Rattle.board_rules.specs.Runs.{Frames, Call, Loads, Issues, Takes, Puts, Settles, Saves, Saveds, Closes, Leaves, Reclaims, Asks, Finishes, Gives}
+use Rattle.board_rules.specs.Runs.{wants_memory}
 
 -- P holds of each call, as a function of its answer
 pub record OfEachCall (F B O : Type 0) (P : (A : Type 0) → (A → Call F B O) → Type 0) : Type 0 where

@@ -9,6 +9,8 @@ pub mod Feeding
 pub mod Working
 pub mod Saving
 pub mod Leaving
+pub mod LastGrants
+pub mod Reusing
 pub mod Ends
 pub mod Runs
 pub mod RunLaws

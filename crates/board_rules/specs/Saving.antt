@@ -1,5 +1,6 @@
 -- What the calls that save answer, and what they log.
-use Rattle.std.specs.Prelude.{◌≡◌, ℕ, ◌+◌, ◌*◌, ◌-◌, ◌/◌, ◌%◌, Bool, false, ◌&&◌, ◌||◌, not, nat_le, length, Option, Some, None, Result, Ok, Err, IsTrue, if◌then◌else◌}
+use Rattle.std.specs.Prelude.{◌≡◌, ℕ, ◌+◌, ◌*◌, ◌-◌, ◌/◌, ◌%◌, Bool, false, ◌&&◌, ◌||◌, not, nat_le, length, Option, Some, None, Result, Ok, Err, IsTrue}
+use Rattle.std.specs.Prelude.{if◌then◌else◌}
 use Rattle.std.specs.List.{list_any}
 use Rattle.nd_base.specs.declared.frame.FrameName.{FrameName}
 use Rattle.nd_base.specs.Parts.{Parts}

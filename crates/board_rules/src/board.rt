@@ -12,6 +12,7 @@ ghost use Rattle.board_rules.specs.States.{past};
 ghost use Rattle.board_rules.specs.RunMeasures.{run_setting, run_measure};
 ghost use Rattle.board_rules.specs.Feeding.{LoadGives, HasRoom, MayIssue, IssueGives, CloseGives};
 ghost use Rattle.board_rules.specs.Working.{TakeGives, LendsJob, IsAtNode, MayPut, PutGives, SettleGives};
+ghost use Rattle.board_rules.specs.Reusing.{LoadReuses, TakeReuses};
 ghost use Rattle.board_rules.specs.Saving.{SaveGives, LendsPiece, MaySaved, SavedGives};
 ghost use Rattle.board_rules.specs.Leaving.{LeaveGives, MayReclaim, ReclaimGives};
 ghost use Rattle.board_rules.specs.Ends.{measured};
@@ -41,7 +42,8 @@ pub trait BoardCalls<F: Held>: Sized + Drop {
     fn load(&mut self, alloc: Global, role: u32, tick: u64) -> Load<F::Blank>
         requires role { role ≤ last_role (run_setting F.Of.graph F.Of.stack) }
         ensures gives { LoadGives F.parts F.bytes_of (run_setting F.Of.graph F.Of.stack) (shown self.old) role tick result (shown self.new) }
-        ensures room { HasRoom F.bytes_of (run_setting F.Of.graph F.Of.stack) role result (shown self.new) };
+        ensures room { HasRoom F.bytes_of (run_setting F.Of.graph F.Of.stack) role result (shown self.new) }
+        ensures reused { LoadReuses F.parts F.is_used (shown self.old) role result (shown self.new) };
 
     /// Offers the loaded frame to the children of the driver.
     fn issue(&mut self, role: u32, frame: F) -> Result<(), NotYours<F>>
@@ -54,7 +56,8 @@ pub trait BoardCalls<F: Held>: Sized + Drop {
         requires role { role ≤ last_role (run_setting F.Of.graph F.Of.stack) }
         requires node { IsTrue (is_node (run_setting F.Of.graph F.Of.stack) node) }
         ensures gives { TakeGives F.name_of F.parts F.bytes_of (run_setting F.Of.graph F.Of.stack) (shown self.old) role node result (shown self.new) }
-        ensures lent { LendsJob F.parts F.bytes_of (run_setting F.Of.graph F.Of.stack) role node result (shown self.new) };
+        ensures lent { LendsJob F.parts F.bytes_of (run_setting F.Of.graph F.Of.stack) role node result (shown self.new) }
+        ensures reused { TakeReuses F.parts F.is_used (shown self.old) role result (shown self.new) };
 
     /// Takes the result of a job, and lets go out what then goes out of the node.
     fn put(&mut self, role: u32, done: Done<F>) -> Result<(), NotYours<F>>

@@ -6,6 +6,7 @@ use Rattle.nd_base.specs.declared.frame.FrameName.{FrameName}
 use Rattle.nd_base.specs.Parts.{Parts}
 use Rattle.pool_ledger.specs.Grants.{Answer, Granted}
 use Rattle.pool_ledger.specs.Grants as pool
+use Rattle.flow_journal.specs.declared.entry.Entry.{Entry}
 use Rattle.flow_journal.specs.declared.entry.Entry.TheVariants.{Load, LoadRefused}
 use Rattle.flow_journal.specs.Setting.{Setting, last_role}
 use Rattle.flow_journal.specs.Hands.{hand}
@@ -19,6 +20,7 @@ use Rattle.board_rules.specs.Moving.{moved_at}
 use Rattle.board_rules.specs.InHand.{granted_size, TellParts}
 use Rattle.board_rules.specs.Storage.{wants_storage}
 use Rattle.board_rules.specs.Feeding.{load_refusal, LoadAnswers, LoadGives, HasRoom}
+use Rattle.board_rules.specs.Reusing.{ReusesStorage, LoadReuses}
 use Rattle.board_rules.proofs.Legal.{load-by}
 use Rattle.frame_table.specs.Kept.{Kept, Empty, with_kept, with_room}
 use Rattle.flow_emit.specs.Courses.{Coursed}
@@ -26,11 +28,11 @@ use Rattle.kept_blocks.specs.Keeping.{HoldsBlocks}
 use Rattle.kept_blocks.specs.GrantLaws.{GrantLaws, IsGranted}
 use Rattle.kept_blocks.specs.LookLaws.{LookLaws}
 use Rattle.kept_blocks.specs.MoveLaws.{MoveLaws}
-use Rattle.flow_core.specs.Boards.{IsBoard, IsRemade, with_storage}
+use Rattle.flow_core.specs.Boards.{IsBoard, IsRemade, IsSameStorage, with_storage}
 use Rattle.flow_core.proofs.Answered.{enough}
 use Rattle.flow_core.proofs.Boarding.{board-moved, legal-of}
 use Rattle.flow_core.proofs.Places.{room-there}
-use Rattle.flow_core.proofs.Stored.{remade-regrown, roomy, emptied}
+use Rattle.flow_core.proofs.Stored.{remade-regrown, storage-reused, roomy, emptied}
 
 -- where this stands against a load, and the pool answers so
 pub load-gives : {F B : Type 0} (parts : F → Option Parts) (bytes_of : B → ℕ) (s : Setting) (old new : BoardState) (r tick : ℕ) (o : Option (load_answer B))
@@ -98,6 +100,18 @@ loaded-room parts bytes_of look s w t r tick b z f g x blank k new l is =
     let has = (look.handed s w.told tick r e (eq-eqb r r refl)).0 in
     let hold : hand r (past new) ≡ Some (Load r (next_index (past w.told)) b z f g x) = ap (λ (u : BoardState). hand r (past u)) is ∙ has in
     (subst (λ n. s.need 0 ≤ n) (sym l.size) (enough s (past w.told) (s.need 0) b z f g l.board.run.pooled l.granted), l.size ∙ sym (ap granted_size hold))
+
+pub loaded-reuses : {F B : Type 0} (parts : F → Option Parts) (is_used : B → Bool) (look : LookLaws parts) (laws : GrantLaws parts)
+    (s : Setting) (w : Coursed) (t : List Kept) (r tick b z : ℕ) (f : Bool) (g : ℕ) (x : Bool) (blank : B) (k : ℕ) (new : BoardState)
+    → IsGranted parts s w.told t (s.need 0) b z f g → IsSameStorage b f t x (is_used blank)
+    → new ≡ moved_at s tick (plain (Load r (next_index (past w.told)) b z f g x)) w.told
+    → LoadReuses parts is_used w.told r (load.Loaded k blank) new
+loaded-reuses parts is_used look laws s w t r tick b z f g x blank k new i same_ is =
+    let e = plain (Load r (next_index (past w.told)) b z f g x) in
+    let has = (look.handed s w.told tick r e (eq-eqb r r refl)).0 in
+    let hold : hand r (past new) ≡ Some (Load r (next_index (past w.told)) b z f g x) = ap (λ (u : BoardState). hand r (past u)) is ∙ has in
+    subst (λ (o : Option Entry). ReusesStorage parts is_used w.told o blank) (sym hold)
+    (storage-reused parts is_used laws s w.told t (s.need 0) b z f g x blank i same_)
 
 -- A FRAME THAT THE POOL REFUSES
 pub refused-gives : {F B : Type 0} (parts : F → Option Parts) (bytes_of : B → ℕ) (s : Setting) (old new : BoardState) (r tick k h : ℕ)

@@ -1,5 +1,6 @@
 -- What is taken back of a hand.
-use Rattle.std.proofs.Common.{◌≡◌, ◌∙◌, ℕ, [], ◌∷◌, ◌++◌, true, false, Bool, ◌||◌, List, Option, Some, None, Ok, length, refl, sym, ap, subst, cond, inl, inr, ◌⊎◌}
+use Rattle.std.proofs.Common.{◌≡◌, ◌∙◌, ℕ, [], ◌∷◌, ◌++◌, true, false, Bool, ◌||◌, List, Option, Some, None, Ok, length, refl, sym, ap, subst, cond, inl}
+use Rattle.std.proofs.Common.{inr, ◌⊎◌}
 use Rattle.std.specs.Option.{option_to_list}
 use Rattle.std.specs.Prelude.{IsTrue, is_some}
 use Rattle.std.proofs.lemmas.Bool.{true≢false, false≢true}
@@ -141,17 +142,18 @@ load-lost name_of told r b left grant alone =
     append-nil (option_to_list (lost_block (is_some left.made || is_some left.blank) b))
     ∙ (grant-listed (is_some left.made || is_some left.blank) b ∙ sym (ap (λ (o : Option Entry). lost_of name_of (past told) o left) l.6))
 
-pub load-back : {F B O : Type 0} (name_of : F → FrameName) (parts : F → Option Parts) (bytes_of : B → ℕ) (moves : MoveLaws O name_of parts bytes_of)
+pub load-back : {F B O : Type 0} (name_of : F → FrameName) (parts : F → Option Parts) (bytes_of : B → ℕ) (is_used : B → Bool)
+    (moves : MoveLaws O name_of parts bytes_of)
     (s : Setting) (w w' : Coursed) (t t' : List Kept) (r b : ℕ) (left : Left F B O) (lost : List ℕ)
     → TakesBack {F = F} {B = B} {O = O} name_of parts bytes_of s w t r left
     → granted_block (hand r (past w.told)) ≡ b ∷ [] → ((a : FrameName) → has_part_of a (hand r (past w.told)) ≡ false)
     → w' ≡ record w { told = moved s (loses r lost) w.told } → lost ≡ option_to_list (lost_block (is_some left.made || is_some left.blank) b) ++ []
-    → t' ≡ with_grant name_of parts bytes_of b left.made left.blank t → IsBoard parts s w' t'
-load-back {F} {B} {O} name_of parts bytes_of moves s w w' t t' r b left lost i grant alone is gone kept =
+    → t' ≡ with_grant name_of parts bytes_of is_used b left.made left.blank t → IsBoard parts s w' t'
+load-back {F} {B} {O} name_of parts bytes_of is_used moves s w w' t t' r b left lost i grant alone is gone kept =
     let l = hand-load b (hand r (past w.told)) grant alone in
     back-board {F = F} {B = B} {O = O} name_of parts bytes_of s w w' t t' r left lost i is (gone ∙ load-lost name_of w.told r b left grant alone)
     (subst (λ (u : List Kept). HoldsBlocks parts s (taken_back name_of s r left w.told) u) (sym kept)
-    (moves.reclaim_load s w.told t r left l.0 l.1 b l.2 l.3 l.4 l.5 (may-back {F = F} {B = B} {O = O} name_of parts bytes_of s w t r left i) l.6))
+    (moves.reclaim_load is_used s w.told t r left l.0 l.1 b l.2 l.3 l.4 l.5 (may-back {F = F} {B = B} {O = O} name_of parts bytes_of s w t r left i) l.6))
 
 -- A PART
 pub part-lost : {F B O : Type 0} (name_of : F → FrameName) (told : BoardState) (r c : ℕ) (a : FrameName) (left : Left F B O)
@@ -193,18 +195,19 @@ making-lost name_of told r b c a left grant part has =
     ∙ ap (λ (xs : List ℕ). cond (brings name_of a left.input) [] xs) (sym has))
     ∙ sym (ap (λ (o : Option Entry). lost_of name_of (past told) o left) l.6))
 
-pub making-back : {F B O : Type 0} (name_of : F → FrameName) (parts : F → Option Parts) (bytes_of : B → ℕ) (moves : MoveLaws O name_of parts bytes_of)
+pub making-back : {F B O : Type 0} (name_of : F → FrameName) (parts : F → Option Parts) (bytes_of : B → ℕ) (is_used : B → Bool)
+    (moves : MoveLaws O name_of parts bytes_of)
     (s : Setting) (w w' : Coursed) (t t' : List Kept) (r b c : ℕ) (a : FrameName) (left : Left F B O) (lost : List ℕ)
     → TakesBack {F = F} {B = B} {O = O} name_of parts bytes_of s w t r left
     → granted_block (hand r (past w.told)) ≡ b ∷ [] → has_part_of a (hand r (past w.told)) ≡ true → block_of (past w.told) a ≡ c ∷ []
     → w' ≡ record w { told = moved s (loses r lost) w.told }
     → lost ≡ option_to_list (lost_block (is_some left.made || is_some left.blank) b) ++ option_to_list (lost_block (brings name_of a left.input) c)
-    → t' ≡ with_grant name_of parts bytes_of b left.made left.blank (with_input name_of parts a c left.input t) → IsBoard parts s w' t'
-making-back {F} {B} {O} name_of parts bytes_of moves s w w' t t' r b c a left lost i grant part has is gone kept =
+    → t' ≡ with_grant name_of parts bytes_of is_used b left.made left.blank (with_input name_of parts a c left.input t) → IsBoard parts s w' t'
+making-back {F} {B} {O} name_of parts bytes_of is_used moves s w w' t t' r b c a left lost i grant part has is gone kept =
     let l = hand-making b a (hand r (past w.told)) grant part in
     back-board {F = F} {B = B} {O = O} name_of parts bytes_of s w w' t t' r left lost i is (gone ∙ making-lost name_of w.told r b c a left grant part has)
     (subst (λ (u : List Kept). HoldsBlocks parts s (taken_back name_of s r left w.told) u) (sym kept)
-    (moves.reclaim_block s w.told t r left l.0 l.1 a.maker a.index b l.2 c l.3 l.4 l.5
+    (moves.reclaim_block is_used s w.told t r left l.0 l.1 a.maker a.index b l.2 c l.3 l.4 l.5
     (may-back {F = F} {B = B} {O = O} name_of parts bytes_of s w t r left i) l.6 has))
 
 -- where nothing stands against it there is a hand

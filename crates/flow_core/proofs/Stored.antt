@@ -7,10 +7,11 @@ use Rattle.flow_journal.specs.Setting.{Setting}
 use Rattle.board_rules.specs.States.{BoardState}
 use Rattle.board_rules.specs.InHand.{TellParts}
 use Rattle.board_rules.specs.Storage.{wants_storage, IsRegrown}
+use Rattle.board_rules.specs.Reusing.{IsReused}
 use Rattle.frame_table.specs.Kept.{Kept, Empty, with_kept, with_room}
 use Rattle.kept_blocks.specs.Keeping.{HoldsBlocks}
 use Rattle.kept_blocks.specs.GrantLaws.{GrantLaws, IsGranted}
-use Rattle.flow_core.specs.Boards.{IsRemade, IsNotStored, with_storage}
+use Rattle.flow_core.specs.Boards.{IsRemade, IsSameStorage, IsNotStored, with_storage}
 use Rattle.flow_core.proofs.Places.{room-there, kept-length, kept-again}
 
 -- the same grant, with a place more
@@ -29,6 +30,16 @@ pub remade-regrown : {F : Type 0} (parts : F → Option Parts) (laws : GrantLaws
     → IsGranted parts s told t need b z f g → IsRemade z b f t x → IsRegrown parts told b f x
 remade-regrown parts laws s told t need b z true g x i r = subst (λ (y : Bool). IsRegrown parts told b true y) (sym r) (laws.fresh_anew told b)
 remade-regrown parts laws s told t need b z false g x i r = laws.anew s told (with_room t b) need b z g x (roomy parts laws s told t need b z false g i) r
+
+-- what wasn't made anew of a block that isn't new was used, unless its last hand was taken back
+pub storage-reused : {F B : Type 0} (parts : F → Option Parts) (is_used : B → Bool) (laws : GrantLaws parts) (s : Setting) (told : BoardState) (t : List Kept)
+    (need b z : ℕ) (f : Bool) (g : ℕ) (x : Bool) (blank : B)
+    → IsGranted parts s told t need b z f g → IsSameStorage b f t x (is_used blank) → IsReused parts is_used told b f x blank
+storage-reused parts is_used laws s told t need b z true g true blank i same_ = tt
+storage-reused parts is_used laws s told t need b z true g false blank i same_ = tt
+storage-reused parts is_used laws s told t need b z false g true blank i same_ = tt
+storage-reused parts is_used laws s told t need b z false g false blank i same_ =
+    λ tell out. same_ ∙ laws.used s told (with_room t b) need b z g (roomy parts laws s told t need b z false g i) tell out
 
 -- no memory for it: then it is wanted, and the table holds the blocks as before
 pub not-stored-wants : {F : Type 0} (parts : F → Option Parts) (laws : GrantLaws parts)

@@ -1,11 +1,13 @@
 -- What a take gives, and what it leaves.
-use Rattle.std.proofs.Common.{◌≡◌, ◌≢◌, ◌≤◌, ◌<◌, ◌∙◌, ℕ, [], ◌∷◌, true, false, Bool, List, Option, Some, None, length, refl, sym, ap, subst, cond, arith, ltb, ◌++◌, length-append, inl, inr, if◌then◌else◌}
+use Rattle.std.proofs.Common.{◌≡◌, ◌≢◌, ◌≤◌, ◌<◌, ◌∙◌, ℕ, [], ◌∷◌, true, false, Bool, List, Option, Some, None, length, refl, sym, ap, subst, cond, arith}
+use Rattle.std.proofs.Common.{ltb, ◌++◌, length-append, inl, inr, if◌then◌else◌}
 use Rattle.std.specs.Prelude.{IsTrue}
 use Rattle.std.proofs.lemmas.Bool.{eq-eqb}
 use Rattle.nd_base.specs.declared.frame.FrameName.{FrameName}
 use Rattle.nd_base.specs.Parts.{Parts}
 use Rattle.pool_ledger.specs.Grants.{Answer, Granted}
 use Rattle.pool_ledger.specs.Grants as pool
+use Rattle.flow_journal.specs.declared.entry.Entry.{Entry}
 use Rattle.flow_journal.specs.declared.entry.Entry.TheVariants.{Take, PoolDrop}
 use Rattle.flow_journal.specs.Setting.{Setting, is_maker, last_role}
 use Rattle.flow_journal.specs.Hands.{hand}
@@ -21,18 +23,20 @@ use Rattle.board_rules.specs.Moving.{moved}
 use Rattle.board_rules.specs.InHand.{granted_size, TellParts}
 use Rattle.board_rules.specs.Storage.{wants_storage, IsRegrown}
 use Rattle.board_rules.specs.Working.{take_refusal, asked, TakeAnswers, TakeGives, LendsJob}
+use Rattle.board_rules.specs.Reusing.{IsReused, ReusesStorage, TakeReuses}
 use Rattle.board_rules.proofs.Legal.{take-by, may_take}
-use Rattle.frame_table.specs.Kept.{IsRefused, IsMadeAnew, IsAway, at_home, Kept, Empty, kept_at, with_kept, with_room, IsPartOf, MayLend, MayGiveBack, less_one, united}
+use Rattle.frame_table.specs.Kept.{IsRefused, IsMadeAnew, IsAway, at_home, was_used, Kept, Empty, kept_at, with_kept, with_room, IsPartOf, MayLend}
+use Rattle.frame_table.specs.Kept.{MayGiveBack, less_one, united}
 use Rattle.flow_emit.specs.Courses.{Coursed}
 use Rattle.kept_blocks.specs.Keeping.{HoldsBlocks}
 use Rattle.kept_blocks.specs.GrantLaws.{GrantLaws, IsGranted}
 use Rattle.kept_blocks.specs.LookLaws.{LookLaws, IsWithin}
 use Rattle.kept_blocks.specs.MoveLaws.{MoveLaws}
-use Rattle.flow_core.specs.Boards.{IsBoard, IsRemade, IsNotStored, with_storage}
+use Rattle.flow_core.specs.Boards.{IsBoard, IsRemade, IsSameStorage, IsNotStored, with_storage}
 use Rattle.flow_core.proofs.Answered.{enough}
 use Rattle.flow_core.proofs.Boarding.{board-moved, legal-of}
 use Rattle.flow_core.proofs.Places.{room-there, kept-other, kept-length}
-use Rattle.flow_core.proofs.Stored.{roomy, emptied}
+use Rattle.flow_core.proofs.Stored.{roomy, emptied, storage-reused}
 use Rattle.flow_core.proofs.Lent.{LendsAt}
 
 -- where this stands against a take, and the pool is asked so
@@ -153,6 +157,16 @@ lent-regrown parts laws s told t v need b z false g x a c i r =
     laws.anew s told (with_room t b) need b z g x (roomy parts laws s told t need b z false g i.granted)
     (subst (λ (k : Kept). IsMadeAnew (at_home z k) x) (beside-same parts laws t b c i.lends.place (apart-from parts laws s told t v need b z false g a c i)) r)
 
+lent-reused : {F B : Type 0} (parts : F → Option Parts) (is_used : B → Bool) (laws : GrantLaws parts) (s : Setting) (told : BoardState) (t : List Kept)
+    (v need b z : ℕ) (f : Bool) (g : ℕ) (x : Bool) (a : FrameName) (c : ℕ) (blank : B) → LendsBeside parts s told t v need b z f g a c
+    → IsSameStorage b f (lent_out t c) x (is_used blank) → IsReused parts is_used told b f x blank
+lent-reused parts is_used laws s told t v need b z true g true a c blank i same_ = tt
+lent-reused parts is_used laws s told t v need b z true g false a c blank i same_ = tt
+lent-reused parts is_used laws s told t v need b z false g true a c blank i same_ = tt
+lent-reused parts is_used laws s told t v need b z false g false a c blank i same_ =
+    storage-reused parts is_used laws s told t need b z false g false blank i.granted
+    (same_ ∙ ap was_used (beside-same parts laws t b c i.lends.place (apart-from parts laws s told t v need b z false g a c i)))
+
 making : {F B : Type 0} (O : Type 0) (name_of : F → FrameName) (parts : F → Option Parts) (bytes_of : B → ℕ) (s : Setting) (w : Coursed) (t : List Kept)
     (r v c b z : ℕ) (f : Bool) (g : ℕ) (x : Bool) (input : F) (blank : B) → Makes O name_of parts bytes_of s w t r v c b z f g x input blank
     → LendsBeside parts s w.told t v (s.need v) b z f g (name_of input) c
@@ -226,6 +240,17 @@ made-lends O name_of parts bytes_of look s w t r v c b z f g x input blank new i
       ap (lent_to r) is ∙ has.1,
       (subst (λ n. s.need v ≤ n) (sym i.size) (enough s (past w.told) (s.need v) b z f g i.board.run.pooled i.granted), i.size ∙ sym (ap granted_size hold)),
     )
+
+pub made-reuses : {F B : Type 0} (O : Type 0) (name_of : F → FrameName) (parts : F → Option Parts) (is_used : B → Bool) (look : LookLaws parts)
+    (laws : GrantLaws parts) (s : Setting) (w : Coursed) (t : List Kept) (r v c b z : ℕ) (f : Bool) (g : ℕ) (x : Bool) (input : F) (blank : B)
+    (new : BoardState) → LendsBeside parts s w.told t v (s.need v) b z f g (name_of input) c → IsSameStorage b f (lent_out t c) x (is_used blank)
+    → new ≡ made name_of parts s r v b z f g x input w.told → TakeReuses {F = F} {B = B} {O = O} parts is_used w.told r (take.Job v input (Some blank)) new
+made-reuses O name_of parts is_used look laws s w t r v c b z f g x input blank new i same_ is =
+    let e = lends (take_block r v (name_of input) b z f g x) (parts input) in
+    let has = look.handed s w.told 0 r e (eq-eqb r r refl) in
+    let hold : hand r (past new) ≡ Some e.entry = ap (λ (u : BoardState). hand r (past u)) is ∙ has.0 in
+    subst (λ (o : Option Entry). ReusesStorage parts is_used w.told o blank) (sym hold)
+    (lent-reused parts is_used laws s w.told t v (s.need v) b z f g x (name_of input) c blank i same_)
 
 pub made-no_memory : {F B : Type 0} (O : Type 0) (name_of : F → FrameName) (parts : F → Option Parts)
     (bytes_of : B → ℕ) (s : Setting) (old new : BoardState) (r v b z : ℕ) (f : Bool) (g : ℕ) → take_refusal {F = F} {B = B} {O = O} s r v (past old) ≡ None
@@ -316,7 +341,8 @@ back-again parts look s told t now_ a c q l part back =
     let within = subst IsWithin (sym back.same_) l.within in
     let mine : IsPartOf (kept_at L c) a q = subst (λ (k : Kept). IsPartOf k a q) (sym back.same_) part in
     let again = look.lent_and_back L c a q back.place may within mine in
-    subst (λ (u : List Kept). (c < length u) × MayGiveBack (kept_at u c) q × HoldsBlocks parts s told (with_kept u c (united (kept_at u c) q))) (sym back.lent) (
+    subst (λ (u : List Kept). (c < length u) × MayGiveBack (kept_at u c) q × HoldsBlocks parts s told (with_kept u c (united (kept_at u c) q)))
+    (sym back.lent) (
       omega (arith, back.place, kept-length L c (less_one (kept_at L c))),
       again.0,
       subst (λ (u : List Kept). HoldsBlocks parts s told u) (sym again.1) back.holds,

@@ -2,7 +2,7 @@
 use Rattle.std.specs.Prelude.{◌≡◌, ◌⊎◌, ℕ, Bool, true, false, List, [], length, Option, Some, None, if◌then◌else◌}
 use Rattle.nd_base.specs.Parts.{Parts}
 use Rattle.flow_journal.specs.Setting.{Setting}
-use Rattle.frame_table.specs.Kept.{Kept, Empty, kept_at, with_kept, with_room, at_home, IsMadeAnew, IsAway, IsRefused}
+use Rattle.frame_table.specs.Kept.{Kept, Empty, kept_at, with_kept, with_room, at_home, IsMadeAnew, IsAsUsed, IsAway, IsRefused}
 use Rattle.flow_emit.specs.Courses.{Coursed}
 use Rattle.kept_blocks.specs.Keeping.{HoldsBlocks, IsRunOf}
 
@@ -16,6 +16,11 @@ pub record IsBoard {F : Type 0} (parts : F → Option Parts) (s : Setting) (cour
 abbrev pub IsRemade : (size block : ℕ) (fresh : Bool) → List Kept → (regrown : Bool) → Type 0
 IsRemade size block true t regrown = regrown ≡ false
 IsRemade size block false t regrown = IsMadeAnew (at_home size (kept_at (with_room t block) block)) regrown
+
+-- storage of a block that isn't new, and that wasn't made anew, is that which was kept
+abbrev pub IsSameStorage : (block : ℕ) (fresh : Bool) → List Kept → (regrown used : Bool) → Type 0
+IsSameStorage block true t regrown used = Unit {0}
+IsSameStorage block false t regrown used = IsAsUsed (kept_at (with_room t block) block) regrown used
 
 -- The table once there is storage for a block. What is kept at the place of a new one stays until the log has it.
 abbrev pub with_storage : (block : ℕ) (fresh : Bool) → List Kept → List Kept

@@ -7,6 +7,7 @@ ghost use Rattle.flow_journal.specs.Accounts.{grant as granted_by, held as held_
 ghost use Rattle.board_rules.specs.States.{past};
 ghost use Rattle.board_rules.specs.RunMeasures.{run_setting};
 ghost use Rattle.board_rules.specs.Feeding.{load_refusal, LoadGives, HasRoom};
+ghost use Rattle.board_rules.specs.Reusing.{LoadReuses};
 
 use crate::Board;
 use crate::storage::storage_for;
@@ -27,9 +28,11 @@ impl<F: Held> Board<F> {
     ) -> Load<F::Blank>
         requires role { role ≤ last_role (run_setting F.Of.graph F.Of.stack) }
         requires allowed { load_refusal {B = F.Blank} (run_setting F.Of.graph F.Of.stack) role (past self.old) ≡ None }
-        requires granted { granted_by (run_setting F.Of.graph F.Of.stack) (past self.old) ((run_setting F.Of.graph F.Of.stack).need 0) ≡ Granted grant.block grant.size grant.fresh grant.given_up }
+        requires granted { granted_by (run_setting F.Of.graph F.Of.stack) (past self.old) ((run_setting F.Of.graph F.Of.stack).need 0)
+            ≡ Granted grant.block grant.size grant.fresh grant.given_up }
         ensures gives { LoadGives F.parts F.bytes_of (run_setting F.Of.graph F.Of.stack) self.old role tick result self.new }
         ensures room { HasRoom F.bytes_of (run_setting F.Of.graph F.Of.stack) role result self.new }
+        ensures reused { LoadReuses F.parts F.is_used self.old role result self.new }
     {
         let Ok(Taken { blank, regrown }) = storage_for(&mut self.table, alloc, grant) else {
             return Load::OutOfMemory;
@@ -50,6 +53,7 @@ impl<F: Held> Board<F> {
         requires held { held ≡ held_by (run_setting F.Of.graph F.Of.stack) (past self.old) }
         ensures gives { LoadGives F.parts F.bytes_of (run_setting F.Of.graph F.Of.stack) self.old role tick result self.new }
         ensures room { HasRoom F.bytes_of (run_setting F.Of.graph F.Of.stack) role result self.new }
+        ensures reused { LoadReuses F.parts F.is_used self.old role result self.new }
     {
         let index = self.course.next_index();
         self.course.refuse_load(role, tick);

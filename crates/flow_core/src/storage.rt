@@ -6,7 +6,7 @@ ghost use Rattle.board_rules.specs.Storage.{brings};
 ghost use Rattle.flow_journal.specs.Pasts.{same};
 ghost use Rattle.frame_table.specs.Kept.{kept_at, MayGiveBack};
 ghost use Rattle.kept_blocks.specs.MoveLaws.{with_grant, with_input};
-ghost use Rattle.flow_core.specs.Boards.{IsRemade, IsNotStored, with_storage, lost_block};
+ghost use Rattle.flow_core.specs.Boards.{IsRemade, IsSameStorage, IsNotStored, with_storage, lost_block};
 
 use frame_table::{FrameTable, Taken};
 use nd_base::{FrameName, Held, OutOfMemory};
@@ -27,6 +27,7 @@ pub(crate) fn storage_for<F: Held>(
     requires { grant.block ≤ length table.old }
     ensures size { IfOk result (λ taken. F.bytes_of taken.blank ≡ grant.size) }
     ensures regrown { IfOk result (λ taken. IsRemade grant.size grant.block grant.fresh table.old taken.regrown) }
+    ensures used { IfOk result (λ taken. IsSameStorage grant.block grant.fresh table.old taken.regrown (F.is_used taken.blank)) }
     ensures place { OnOk result (table.new ≡ with_storage grant.block grant.fresh table.old) }
     ensures refused { OnErr result (IsNotStored grant.size grant.block grant.fresh table.old table.new) }
 {
@@ -69,7 +70,7 @@ pub(crate) fn keep_grant<F: Held>(
     blank: Option<F::Blank>,
 ) -> Option<u32>
     requires { block < length table.old }
-    ensures table { table.new ≡ with_grant F.name_of F.parts F.bytes_of block made blank table.old }
+    ensures table { table.new ≡ with_grant F.name_of F.parts F.bytes_of F.is_used block made blank table.old }
     ensures lost { result ≡ lost_block (is_some made || is_some blank) block }
 {
     match (made, blank) {

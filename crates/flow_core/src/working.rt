@@ -11,6 +11,7 @@ ghost use Rattle.board_rules.specs.Moving.{moved};
 ghost use Rattle.board_rules.specs.InHand.{is_job_on, result_name, granted_size, IsMadeAs, IsWholeOf};
 ghost use Rattle.board_rules.specs.RunMeasures.{run_setting, run_measure};
 ghost use Rattle.board_rules.specs.Working.{take_refusal, TakeGives, LendsJob};
+ghost use Rattle.board_rules.specs.Reusing.{TakeReuses};
 ghost use Rattle.flow_emit.specs.Puts.{put_of, fires_for};
 
 use crate::Board;
@@ -30,6 +31,7 @@ impl<F: Held> Board<F> {
         requires passes { is_maker (run_setting F.Of.graph F.Of.stack) node ≡ false }
         ensures gives { TakeGives F.name_of F.parts F.bytes_of (run_setting F.Of.graph F.Of.stack) self.old role node result self.new }
         ensures lent { LendsJob F.parts F.bytes_of (run_setting F.Of.graph F.Of.stack) role node result self.new }
+        ensures reused { TakeReuses F.parts F.is_used self.old role result self.new }
     {
         let name = self.course.next_queued(node);
         let block = self.course.block(name);
@@ -56,9 +58,11 @@ impl<F: Held> Board<F> {
         requires node { is_node (run_setting F.Of.graph F.Of.stack) node ≡ true }
         requires allowed { take_refusal {F = F} {B = F.Blank} {O = F.Of} (run_setting F.Of.graph F.Of.stack) role node (past self.old) ≡ None }
         requires makes { is_maker (run_setting F.Of.graph F.Of.stack) node ≡ true }
-        requires granted { granted_by (run_setting F.Of.graph F.Of.stack) (past self.old) ((run_setting F.Of.graph F.Of.stack).need node) ≡ Granted grant.block grant.size grant.fresh grant.given_up }
+        requires granted { granted_by (run_setting F.Of.graph F.Of.stack) (past self.old) ((run_setting F.Of.graph F.Of.stack).need node)
+            ≡ Granted grant.block grant.size grant.fresh grant.given_up }
         ensures gives { TakeGives F.name_of F.parts F.bytes_of (run_setting F.Of.graph F.Of.stack) self.old role node result self.new }
         ensures lent { LendsJob F.parts F.bytes_of (run_setting F.Of.graph F.Of.stack) role node result self.new }
+        ensures reused { TakeReuses F.parts F.is_used self.old role result self.new }
     {
         let name = self.course.next_queued(node);
         let block = self.course.block(name);
@@ -94,6 +98,7 @@ impl<F: Held> Board<F> {
         requires held { held ≡ held_by (run_setting F.Of.graph F.Of.stack) (past self.old) }
         ensures gives { TakeGives F.name_of F.parts F.bytes_of (run_setting F.Of.graph F.Of.stack) self.old role node result self.new }
         ensures lent { LendsJob F.parts F.bytes_of (run_setting F.Of.graph F.Of.stack) role node result self.new }
+        ensures reused { TakeReuses F.parts F.is_used self.old role result self.new }
     {
         let index = self.course.drop_at_pool(role, node).index;
         Take::PoolDrop { index, held }
@@ -111,11 +116,13 @@ impl<F: Held> Board<F> {
         requires role { role ≤ last_role (run_setting F.Of.graph F.Of.stack) }
         requires node { is_node (run_setting F.Of.graph F.Of.stack) node ≡ true }
         requires hand { is_job_on node (F.name_of input) (hand role (past self.old)) ≡ true }
-        requires passes { IsMadeAs F.name_of (is_maker (run_setting F.Of.graph F.Of.stack) node) (result_name (run_setting F.Of.graph F.Of.stack) node (F.name_of input)) None }
+        requires passes { IsMadeAs F.name_of (is_maker (run_setting F.Of.graph F.Of.stack) node)
+            (result_name (run_setting F.Of.graph F.Of.stack) node (F.name_of input)) None }
         requires measured { measured ≡ run_measure F.Of.graph F.Of.stack node (F.name_of input) }
         requires fired { fired ≡ fires_for (run_setting F.Of.graph F.Of.stack) node (F.name_of input) }
         requires lent { F.parts input ≡ lent_to role self.old }
-        ensures { self.new ≡ moved (run_setting F.Of.graph F.Of.stack) (plain (put_of (run_setting F.Of.graph F.Of.stack) role node (F.name_of input) fired)) self.old }
+        ensures { self.new ≡ moved (run_setting F.Of.graph F.Of.stack)
+            (plain (put_of (run_setting F.Of.graph F.Of.stack) role node (F.name_of input) fired)) self.old }
     {
         let name = input.name();
         let block = self.course.block(name);
@@ -136,12 +143,14 @@ impl<F: Held> Board<F> {
         requires role { role ≤ last_role (run_setting F.Of.graph F.Of.stack) }
         requires node { is_node (run_setting F.Of.graph F.Of.stack) node ≡ true }
         requires hand { is_job_on node (F.name_of input) (hand role (past self.old)) ≡ true }
-        requires makes { IsMadeAs F.name_of (is_maker (run_setting F.Of.graph F.Of.stack) node) (result_name (run_setting F.Of.graph F.Of.stack) node (F.name_of input)) (Some made) }
+        requires makes { IsMadeAs F.name_of (is_maker (run_setting F.Of.graph F.Of.stack) node)
+            (result_name (run_setting F.Of.graph F.Of.stack) node (F.name_of input)) (Some made) }
         requires measured { measured ≡ run_measure F.Of.graph F.Of.stack node (F.name_of input) }
         requires fired { fired ≡ fires_for (run_setting F.Of.graph F.Of.stack) node (F.name_of input) }
         requires lent { F.parts input ≡ lent_to role self.old }
         requires whole { IsWholeOf (granted_size (hand role (past self.old))) (F.parts made) }
-        ensures { self.new ≡ moved (run_setting F.Of.graph F.Of.stack) (plain (put_of (run_setting F.Of.graph F.Of.stack) role node (F.name_of input) fired)) self.old }
+        ensures { self.new ≡ moved (run_setting F.Of.graph F.Of.stack)
+            (plain (put_of (run_setting F.Of.graph F.Of.stack) role node (F.name_of input) fired)) self.old }
     {
         let name = input.name();
         let block = self.course.block(name);

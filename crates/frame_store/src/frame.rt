@@ -148,11 +148,13 @@ impl<R: Run> Named for Frame<R> {
 impl<R: Run> Held for Frame<R> {
     type Blank = Blank;
 
-    ghost use Rattle.std.specs.Prelude.{Some, length};
+    ghost use Rattle.std.specs.Prelude.{Some, true, length};
 
     ghost parts = { λ f. Some f.parts };
 
     ghost bytes_of = { λ blank. length blank };
+
+    ghost is_used = { λ blank. true };
 
     fn fresh(alloc: Global, size: u32) -> Result<Blank, OutOfMemory> {
         Blank::new(alloc, size)

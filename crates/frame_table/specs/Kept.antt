@@ -1,13 +1,14 @@
 -- What is kept at the place of a block, and what the calls of a table make of it.
-use Rattle.std.specs.Prelude.{◌≡◌, ◌≢◌, ℕ, ◌+◌, ◌-◌, ◌^◌, ◌==◌, Bool, false, ◌&&◌, not, ◌⊎◌, nat_lt, List, [], ◌∷◌, ◌++◌, length, slice_index_or, slice_set, Option, Some, None, IfSome, IsNone, if◌then◌else◌}
+use Rattle.std.specs.Prelude.{◌≡◌, ◌≢◌, ℕ, ◌+◌, ◌-◌, ◌^◌, ◌==◌, Bool, true, false, ◌&&◌, not, ◌⊎◌, nat_lt, List, [], ◌∷◌, ◌++◌, length, slice_index_or}
+use Rattle.std.specs.Prelude.{slice_set, Option, Some, None, IfSome, IsNone, if◌then◌else◌}
 use Rattle.nd_base.specs.declared.frame.FrameName.{FrameName}
 use Rattle.nd_base.specs.Parts.{Parts, MayPart, MayUnite}
 
--- nothing, a frame of this name with these parts of its block, or storage of so many bytes
+-- Nothing, a frame of this name with these parts of its block, or storage of so many bytes, on which a frame stood or none.
 pub data Kept : Type 0 where
   Empty : Kept
   Frame : (name : FrameName) → (parts : Option Parts) → Kept
-  Storage : (bytes : ℕ) → Kept
+  Storage : (bytes : ℕ) → (is_used : Bool) → Kept
 
 -- what is kept of the block: what stands at its place
 abbrev pub kept_at : List Kept → ℕ → Kept
@@ -75,11 +76,21 @@ abbrev pub at_home : ℕ → Kept → Option Bool
 at_home size Empty = Some false
 at_home size (Frame a None) = None
 at_home size (Frame a (Some p)) = Some ((p.here == 2 ^ 32) && (p.size == size))
-at_home size (Storage n) = Some (n == size)
+at_home size (Storage n used) = Some (n == size)
 
 -- the storage was made anew: exactly where it isn't at home, where that is told
 abbrev pub IsMadeAnew : Option Bool → Bool → Type 0
 IsMadeAnew home regrown = IfSome home (λ h. regrown ≡ not h)
+
+-- a frame stood on what is kept, or stands there: not so only at storage on which none stood
+abbrev pub was_used : Kept → Bool
+was_used (Storage n used) = used
+was_used _ = true
+
+-- storage that wasn't made anew is that which was kept
+abbrev pub IsAsUsed : Kept → (regrown used : Bool) → Type 0
+IsAsUsed k true used = Unit {0}
+IsAsUsed k false used = used ≡ was_used k
 
 -- no storage of this size is at home, where that is told
 abbrev pub IsAway : Option Bool → Type 0
@@ -99,7 +110,7 @@ MayBecome n _ = ⊥
 
 -- a frame became storage of another size, which stays here
 abbrev pub BecomesOther : ℕ → Kept → Kept → Type 0
-BecomesOther size k (Storage n) = MayBecome n k × (n ≢ size)
+BecomesOther size k (Storage n used) = MayBecome n k × (n ≢ size) × (used ≡ true)
 BecomesOther size k _ = ⊥
 
 -- what stays here where no storage of the size could be made: what was here, or what the frame became

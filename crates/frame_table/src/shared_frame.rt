@@ -51,11 +51,13 @@ impl<R: Run> Named for SharedFrame<R> {
 impl<R: Run> Held for SharedFrame<R> {
     type Blank = SharedBlank;
 
-    ghost use Rattle.std.specs.Prelude.{None};
+    ghost use Rattle.std.specs.Prelude.{None, true};
 
     ghost parts = { λ f. None };
 
     ghost bytes_of = { λ blank. blank.size };
+
+    ghost is_used = { λ blank. true };
 
     fn fresh(alloc: Global, size: u32) -> Result<SharedBlank, OutOfMemory> {
         let _ = alloc;

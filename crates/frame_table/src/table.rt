@@ -1,7 +1,8 @@
 //! The table.
 
 ghost use Rattle.std.specs.Prelude.{◌≡◌, ◌<◌, ◌≤◌, [], length, IfOk, OnOk, OnErr};
-ghost use Rattle.frame_table.specs.Kept.{Empty, Frame, Storage, kept_at, with_kept, with_room, MayLend, IsPartOf, less_one, IsUntold, MayGiveBack, united, at_home, IsMadeAnew, IsAway, IsSized, IsRefused};
+ghost use Rattle.frame_table.specs.Kept.{Empty, Frame, Storage, kept_at, with_kept, with_room, MayLend, IsPartOf, less_one, IsUntold, MayGiveBack, united};
+ghost use Rattle.frame_table.specs.Kept.{at_home, IsMadeAnew, IsAsUsed, IsAway, IsSized, IsRefused};
 
 use crate::place::Place;
 use nd_base::{Held, OutOfMemory};
@@ -31,7 +32,7 @@ impl<F: Held> Model for FrameTable<F> {
 
     ghost use Rattle.frame_table.specs.Places.{kept};
 
-    ghost view = { λ t. map (kept F.name_of F.parts F.bytes_of) t.places.items };
+    ghost view = { λ t. map (kept F.name_of F.parts F.bytes_of F.is_used) t.places.items };
 }
 
 impl<F: Held> FrameTable<F> {
@@ -75,7 +76,7 @@ impl<F: Held> FrameTable<F> {
     #[tactic(auto, using(crate::proofs::Views::views))]
     pub fn store(&mut self, block: u32, blank: F::Blank)
         requires { block < length self.old }
-        ensures { self.new ≡ with_kept self.old block (Storage (F.bytes_of blank)) }
+        ensures { self.new ≡ with_kept self.old block (Storage (F.bytes_of blank) (F.is_used blank)) }
     {
         self.places[block as usize] = Place::Storage(blank);
     }
@@ -135,6 +136,7 @@ impl<F: Held> FrameTable<F> {
         requires { block < length self.old }
         ensures size { IfOk result (λ taken. F.bytes_of taken.blank ≡ size) }
         ensures regrown { IfOk result (λ taken. IsMadeAnew (at_home size (kept_at self.old block)) taken.regrown) }
+        ensures used { IfOk result (λ taken. IsAsUsed (kept_at self.old block) taken.regrown (F.is_used taken.blank)) }
         ensures place { OnOk result (self.new ≡ with_kept self.old block Empty) }
         ensures away { OnErr result (IsAway (at_home size (kept_at self.old block))) }
         ensures same { IsSized size (kept_at self.old block) → OnErr result (self.new ≡ self.old) }

@@ -13,15 +13,15 @@ fn storage_comes_home(rt: HostRuntime) -> Result<(), Fail> {
     let mut table = FrameTable::<TestFrame<Brand>>::new(rt.alloc());
     table.make_room(0)?;
     table.make_room(1)?;
-    table.keep(1, TestBlank { size: 8 }.seal(SEVENTH, 5));
+    table.keep(1, TestBlank::new(8).seal(SEVENTH, 5));
     let part = table.lend(1)?;
     assert_eq!(rt; part.name(), SEVENTH);
     table.give_back(1, part);
     let home = table.take_storage(rt.alloc(), 1, 8)?;
-    assert!(rt; !home.regrown && home.blank.size == 8);
+    assert!(rt; !home.regrown && home.blank.used && home.blank.size == 8);
     table.store(0, home.blank);
     let larger = table.take_storage(rt.alloc(), 0, 9)?;
-    assert!(rt; larger.regrown && larger.blank.size == 9);
+    assert!(rt; larger.regrown && !larger.blank.used && larger.blank.size == 9);
     table.store(0, larger.blank);
     table.forget(0);
     assert!(rt; table.take_storage(rt.alloc(), 0, 9)?.regrown);

@@ -1,5 +1,6 @@
 -- The array of a hand that ends, with its part given back or lost, and what is kept of what was granted with the hand.
-use Rattle.std.proofs.Common.{◌≡◌, ◌≢◌, ℕ, ◌≤◌, ◌<◌, Bool, true, false, not, ◌||◌, eqb, List, [], ◌∷◌, length, refl, sym, ap, ◌∙◌, subst, Option, Some, None, inl, inr, if◌then◌else◌}
+use Rattle.std.proofs.Common.{◌≡◌, ◌≢◌, ℕ, ◌≤◌, ◌<◌, Bool, true, false, not, ◌||◌, eqb, List, [], ◌∷◌, length, refl, sym, ap, ◌∙◌, subst, Option, Some}
+use Rattle.std.proofs.Common.{None, inl, inr, if◌then◌else◌}
 use Rattle.std.proofs.lemmas.Bool.{false≢true, true≢false, eq-eqb, eqb-true, cases_Bool, cases_eq}
 use Rattle.nd_base.specs.declared.frame.FrameName.{FrameName}
 use Rattle.nd_base.specs.Parts.{Parts}
@@ -14,7 +15,7 @@ use Rattle.board_rules.specs.States.{BoardState, past, lent_to}
 use Rattle.board_rules.specs.InHand.{has_part_of, granted_block, TellParts, OfSome}
 use Rattle.board_rules.specs.Storage.{is_among, is_away, has_part, parts_away, brings}
 use Rattle.frame_table.specs.Kept.{Kept, kept_at, with_kept, IsPartOf, united, IsSized, at_home}
-use Rattle.kept_blocks.specs.LastGrants.{LastGrant, InMaking, TakenBack, once_taken_back, last_grant}
+use Rattle.board_rules.specs.LastGrants.{LastGrant, InMaking, TakenBack, once_taken_back, last_grant}
 use Rattle.kept_blocks.specs.Keeping.{IsRunOf, IsFrameOn, most_lost}
 use Rattle.kept_blocks.specs.MoveLaws.{with_input}
 use Rattle.kept_blocks.proofs.Placing.{placed-on, hand-used}

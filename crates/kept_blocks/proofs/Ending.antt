@@ -1,5 +1,6 @@
 -- A hand ends: what it had of its array comes back or stays away, and what was made on its block is kept or taken back.
-use Rattle.std.proofs.Common.{◌≡◌, ℕ, ◌+◌, ◌-◌, ◌^◌, ◌≤◌, Bool, true, false, ◌||◌, eqb, List, [], ◌∷◌, length, refl, sym, ap, ◌∙◌, subst, arith, Option, Some, None, inl, inr, if◌then◌else◌}
+use Rattle.std.proofs.Common.{◌≡◌, ℕ, ◌+◌, ◌-◌, ◌^◌, ◌≤◌, Bool, true, false, ◌||◌, eqb, List, [], ◌∷◌, length, refl, sym, ap, ◌∙◌, subst, arith, Option}
+use Rattle.std.proofs.Common.{Some, None, inl, inr, if◌then◌else◌}
 use Rattle.std.specs.Prelude.{IsSome}
 use Rattle.std.proofs.lemmas.Bool.{false≢true, true≢false, eqb-true, cases_Bool, or_parts}
 use Rattle.nd_base.specs.declared.frame.FrameName.{FrameName}
@@ -24,7 +25,7 @@ use Rattle.board_rules.specs.States.{BoardState, past, lent_to}
 use Rattle.board_rules.specs.InHand.{has_part_of, granted_block, OfSome}
 use Rattle.board_rules.specs.Storage.{is_among, grants, is_away, has_part, parts_in_hand, parts_away, parts_here}
 use Rattle.frame_table.specs.Kept.{Kept, Empty, Frame, Storage, kept_at, IsPartOf, one_part, together, united}
-use Rattle.kept_blocks.specs.LastGrants.{LastGrant, InMaking, Made, last_grant}
+use Rattle.board_rules.specs.LastGrants.{LastGrant, InMaking, Made, last_grant}
 use Rattle.kept_blocks.specs.Keeping.{IsRunOf, IsFrameOn, LoseFew}
 use Rattle.kept_blocks.proofs.Granted.{Makes, making-granted, alone-making, alone-from}
 use Rattle.kept_blocks.proofs.Tied.{is_array_of, tied}
@@ -141,7 +142,7 @@ pub united-part : (k : Kept) (x y : FrameName) (q p : Option Parts) → IsPartOf
 united-part (Frame c None) x y q p part other = subst (λ (o : Option Parts). IsPartOf (Frame c (together None o)) x q) (sym other.1) part
 united-part (Frame c (Some z)) x y q p part other = subst (λ (o : Option Parts). IsPartOf (Frame c (together (Some z) o)) x q) (sym other.1) part
 united-part Empty x y q p part other = part
-united-part (Storage n) x y q p part other = part
+united-part (Storage n u) x y q p part other = part
 
 more-tells : (p : Option Parts) → IsSome p → IsSome (together p (one_part p))
 more-tells None some = absurd (true≢false (sym some))

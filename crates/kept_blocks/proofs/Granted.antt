@@ -20,7 +20,7 @@ use Rattle.flow_journal.proofs.AccountChanges.{block_laws}
 use Rattle.flow_journal.proofs.Places.{load-unplaced, take-unplaced}
 use Rattle.flow_journal.proofs.Travels.{holds, holds_by, ClearBy, Clear, clear_by-more, hand-clear, bit-none}
 use Rattle.flow_journal.proofs.Making.{is_frame, no_frame, unloaded-nowhere, untaken-nowhere}
-use Rattle.kept_blocks.specs.LastGrants.{LastGrant, Never, InMaking, Made, TakenBack, once_done, once_taken_back, last_grant}
+use Rattle.board_rules.specs.LastGrants.{LastGrant, Never, InMaking, Made, TakenBack, once_done, once_taken_back, last_grant}
 use Rattle.kept_blocks.proofs.Unplaced.{unplaced-clear}
 
 pub legal-before : (s : Setting) (e : Entry) (P : Past) → is_legal s (e ∷ P) ≡ true → is_legal s P ≡ true

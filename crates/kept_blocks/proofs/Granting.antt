@@ -1,5 +1,6 @@
 -- What a grant finds.
-use Rattle.std.proofs.Common.{◌≡◌, ◌≢◌, ℕ, zero, suc, ◌+◌, ◌-◌, ◌^◌, ◌≤◌, ◌<◌, Bool, true, false, not, ◌&&◌, ◌||◌, eqb, ltb, List, [], ◌∷◌, ◌++◌, length, refl, sym, ap, ◌∙◌, subst, arith, Option, Some, None, inl, inr, if◌then◌else◌, length-append}
+use Rattle.std.proofs.Common.{◌≡◌, ◌≢◌, ℕ, zero, suc, ◌+◌, ◌-◌, ◌^◌, ◌≤◌, ◌<◌, Bool, true, false, not, ◌&&◌, ◌||◌, eqb, ltb, List, [], ◌∷◌, ◌++◌, length}
+use Rattle.std.proofs.Common.{refl, sym, ap, ◌∙◌, subst, arith, Option, Some, None, inl, inr, if◌then◌else◌, length-append}
 use Rattle.std.specs.Prelude.{filter, map, IsSome}
 use Rattle.std.specs.List.{list_any}
 use Rattle.std.proofs.lemmas.Bool.{and_from, false≢true, true≢false, eq-eqb, ne_eqb, eqb-true, cases_Bool, cases_eq, not-false, or_cases}
@@ -19,8 +20,9 @@ use Rattle.flow_journal.proofs.Making.{is_frame}
 use Rattle.board_rules.specs.States.{lent_to, BoardState, past}
 use Rattle.board_rules.specs.InHand.{TellParts, OfSome}
 use Rattle.board_rules.specs.Storage.{wants_storage, IsRegrown, is_away, parts_in_hand, parts_away, parts_here}
-use Rattle.frame_table.specs.Kept.{IsUntold, MayLend, IsPartOf, Kept, Empty, Frame, Storage, kept_at, with_kept, with_room, less_one, at_home, IsMadeAnew, IsAway, IsLeft, BecomesOther, IsRefused}
-use Rattle.kept_blocks.specs.LastGrants.{LastGrant, Never, InMaking, Made, TakenBack, last_grant}
+use Rattle.frame_table.specs.Kept.{IsUntold, MayLend, IsPartOf, Kept, Empty, Frame, Storage, kept_at, with_kept, with_room, less_one, at_home, was_used}
+use Rattle.frame_table.specs.Kept.{IsMadeAnew, IsAway, IsLeft, BecomesOther, IsRefused}
+use Rattle.board_rules.specs.LastGrants.{LastGrant, Never, InMaking, Made, TakenBack, last_grant, is_taken_back, was_taken_back}
 use Rattle.kept_blocks.specs.Keeping.{IsKeptBy, HoldsBlocks, IsRunOf, IsHome}
 use Rattle.kept_blocks.specs.LookLaws.{IsWithin, IsLendable}
 use Rattle.kept_blocks.specs.GrantLaws.{IsGranted, IsRefusedLent}
@@ -231,6 +233,17 @@ module _ {F : Type 0} (parts : F → Option Parts) (s : Setting) (B : BoardState
   pub home-of : TellParts parts → IsHome B b z (kept_at t b)
   home-of tell = let h = holds-in parts s B t i.run i.holds in home-by (last_grant b (past B)) refl (h.kept b known-block) tell
 
+  used-by : (l : LastGrant) → last_grant b (past B) ≡ l → IsKeptIn parts s B b l (kept_at t b) → TellParts parts → is_taken_back l ≡ false
+      → was_used (kept_at t b) ≡ true
+  used-by Never is k tell out = let zero_size : 0 ≡ suc z = sym (ap size_in is) ∙ granted-size parts s B t need b z g i in absurd (omega (arith, zero_size))
+  used-by (InMaking r a n) is k tell out = absurd (not-making parts s B t need b z false g i r n a is)
+  used-by (Made a n) is (inl on) tell out = ap was_used on.is
+  used-by (Made a n) is (inr gone) tell out = absurd (gone.0 tell)
+  used-by (TakenBack n) is k tell out = absurd (true≢false out)
+
+  pub used-of : TellParts parts → was_taken_back b (past B) ≡ false → was_used (kept_at t b) ≡ true
+  used-of tell out = let h = holds-in parts s B t i.run i.holds in used-by (last_grant b (past B)) refl (h.kept b known-block) tell out
+
   -- another thing may be kept of it, where frames don't tell their parts
   pub other-kept : (TellParts parts → ⊥) → (k : Kept) → HoldsBlocks parts s B (with_kept t b k)
   other-kept untold k =
@@ -258,10 +271,10 @@ module _ {F : Type 0} (parts : F → Option Parts) (s : Setting) (B : BoardState
 
   -- what becomes of a frame that doesn't tell
   other-untold : (k l : Kept) → (TellParts parts → IsHome B b z k) → BecomesOther z k l → TellParts parts → ⊥
-  other-untold (Frame a None) (Storage n) home other tell = let h = home tell in h.sized
-  other-untold (Frame a (Some p)) (Storage n) home other tell = let h = home tell in other.1 (sym other.0.1 ∙ h.sized)
-  other-untold Empty (Storage n) home other tell = other.0
-  other-untold (Storage m) (Storage n) home other tell = other.0
+  other-untold (Frame a None) (Storage n u) home other tell = let h = home tell in h.sized
+  other-untold (Frame a (Some p)) (Storage n u) home other tell = let h = home tell in other.1 (sym other.0.1 ∙ h.sized)
+  other-untold Empty (Storage n u) home other tell = other.0
+  other-untold (Storage m w) (Storage n u) home other tell = other.0
   other-untold k Empty home other tell = other
   other-untold k (Frame a p) home other tell = other
 
@@ -299,10 +312,10 @@ pub refused-law : {F : Type 0} (parts : F → Option Parts) (s : Setting) (B : B
 refused-law parts s B t new need b z g i refused =
     subst (λ (u : List Kept). HoldsBlocks parts s B u) (sym refused.2) (left-holds parts s B t need b z g i refused.0 refused.1)
 
-pub put-back-law : {F : Type 0} (parts : F → Option Parts) (s : Setting) (B : BoardState) (t : List Kept) (need b z : ℕ) (g : ℕ)
-    → IsGranted parts s B t need b z false g → (TellParts parts → ⊥) → HoldsBlocks parts s B (with_kept (with_kept t b Empty) b (Storage z))
-put-back-law parts s B t need b z g i untold =
-    subst (λ (u : List Kept). HoldsBlocks parts s B u) (sym (set-set t b Empty (Storage z))) (other-kept parts s B t need b z g i untold (Storage z))
+pub put-back-law : {F : Type 0} (parts : F → Option Parts) (s : Setting) (B : BoardState) (t : List Kept) (need b z : ℕ) (g : ℕ) (used : Bool)
+    → IsGranted parts s B t need b z false g → (TellParts parts → ⊥) → HoldsBlocks parts s B (with_kept (with_kept t b Empty) b (Storage z used))
+put-back-law parts s B t need b z g used i untold =
+    subst (λ (u : List Kept). HoldsBlocks parts s B u) (sym (set-set t b Empty (Storage z used))) (other-kept parts s B t need b z g i untold (Storage z used))
 
 pub refused-lent-law : {F : Type 0} (parts : F → Option Parts) (s : Setting) (B : BoardState) (t new : List Kept) (need b z c : ℕ) (g : ℕ)
     → IsGranted parts s B t need b z false g → c ≢ b → IsRefused z b (with_kept t c (less_one (kept_at t c))) new → IsRefusedLent parts s B t new c

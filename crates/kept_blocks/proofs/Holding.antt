@@ -1,5 +1,6 @@
 -- What is kept of each block, while a move goes on: as `HoldsBlocks`, with nothing owed of an array that has no place.
-use Rattle.std.proofs.Common.{◌≡◌, ◌≢◌, ◌⊎◌, ℕ, ◌+◌, ◌-◌, ◌^◌, ◌≤◌, ◌<◌, Bool, true, false, not, List, [], ◌∷◌, length, refl, sym, ap, ◌∙◌, subst, arith, Option, Some, None, inl, inr}
+use Rattle.std.proofs.Common.{◌≡◌, ◌≢◌, ◌⊎◌, ℕ, ◌+◌, ◌-◌, ◌^◌, ◌≤◌, ◌<◌, Bool, true, false, not, List, [], ◌∷◌, length, refl, sym, ap, ◌∙◌, subst, arith}
+use Rattle.std.proofs.Common.{Option, Some, None, inl, inr}
 use Rattle.std.specs.Prelude.{IsSome}
 use Rattle.std.specs.List.{list_any}
 use Rattle.std.proofs.lemmas.Bool.{true≢false}
@@ -26,7 +27,7 @@ use Rattle.board_rules.specs.States.{BoardState, past, lent_to}
 use Rattle.board_rules.specs.InHand.{has_part_of, TellParts, OfSome}
 use Rattle.board_rules.specs.Storage.{is_away, has_part, parts_in_hand, parts_away, parts_here}
 use Rattle.frame_table.specs.Kept.{Kept, Empty, kept_at, with_kept, MayLend, IsPartOf, IsUntold}
-use Rattle.kept_blocks.specs.LastGrants.{LastGrant, Never, InMaking, Made, TakenBack, last_grant}
+use Rattle.board_rules.specs.LastGrants.{LastGrant, Never, InMaking, Made, TakenBack, last_grant}
 use Rattle.kept_blocks.specs.Keeping.{has_array, IsNowhere, IsFrameOn, IsHome, IsKeptBy, LoseFew, HoldsBlocks, IsRunOf}
 use Rattle.kept_blocks.proofs.Unplaced.{at_some}
 use Rattle.kept_blocks.proofs.Granted.{alone-from}

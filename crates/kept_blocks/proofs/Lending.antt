@@ -1,5 +1,6 @@
 -- A part of an array is lent.
-use Rattle.std.proofs.Common.{◌≡◌, ◌≢◌, ℕ, ◌+◌, ◌-◌, ◌^◌, ◌≤◌, ◌<◌, Bool, true, false, ◌||◌, eqb, List, [], ◌∷◌, length, refl, sym, ap, ◌∙◌, subst, arith, Option, Some, None, inl, inr, if◌then◌else◌}
+use Rattle.std.proofs.Common.{◌≡◌, ◌≢◌, ℕ, ◌+◌, ◌-◌, ◌^◌, ◌≤◌, ◌<◌, Bool, true, false, ◌||◌, eqb, List, [], ◌∷◌, length, refl, sym, ap, ◌∙◌, subst, arith}
+use Rattle.std.proofs.Common.{Option, Some, None, inl, inr, if◌then◌else◌}
 use Rattle.std.specs.Prelude.{IsSome}
 use Rattle.std.proofs.lemmas.Bool.{true≢false, eq-eqb, ne_eqb, cases_Bool, cases_eq}
 use Rattle.nd_base.specs.declared.frame.FrameName.{FrameName}
@@ -27,7 +28,7 @@ use Rattle.board_rules.specs.InHand.{has_part_of, OfSome}
 use Rattle.board_rules.specs.Storage.{is_among, grants, is_away, has_part, parts_in_hand, parts_away, parts_here}
 use Rattle.board_rules.specs.Moving.{moved}
 use Rattle.frame_table.specs.Kept.{Kept, Empty, Frame, Storage, kept_at, with_kept, IsPartOf, one_less, less_one}
-use Rattle.kept_blocks.specs.LastGrants.{LastGrant, last_grant}
+use Rattle.board_rules.specs.LastGrants.{LastGrant, last_grant}
 use Rattle.kept_blocks.specs.Keeping.{HoldsBlocks, IsRunOf, IsFrameOn}
 use Rattle.kept_blocks.proofs.Placing.{placed-on, queued-used, unsaved-used}
 use Rattle.kept_blocks.proofs.Rest.{later, none-more}
@@ -40,7 +41,7 @@ pub less-part : (k : Kept) (a : FrameName) (q : Option Parts) → IsPartOf k a q
 less-part (Frame c None) a q part = part
 less-part (Frame c (Some p)) a q part = part
 less-part Empty a q part = part
-less-part (Storage n) a q part = part
+less-part (Storage n u) a q part = part
 
 less-tells : (p : Option Parts) → IsSome p → IsSome (one_less p)
 less-tells None some = absurd (true≢false (sym some))

@@ -1,5 +1,6 @@
 -- The moves of a grant: a load, and a take at a node that makes arrays.
-use Rattle.std.proofs.Common.{◌≡◌, ◌≢◌, ℕ, ◌+◌, ◌-◌, ◌^◌, ◌<◌, Bool, true, false, not, eqb, List, [], ◌∷◌, ◌++◌, length, refl, sym, ap, ◌∙◌, subst, arith, Option, Some, None, inl, inr, if◌then◌else◌}
+use Rattle.std.proofs.Common.{◌≡◌, ◌≢◌, ℕ, ◌+◌, ◌-◌, ◌^◌, ◌<◌, Bool, true, false, not, eqb, List, [], ◌∷◌, ◌++◌, length, refl, sym, ap, ◌∙◌, subst, arith}
+use Rattle.std.proofs.Common.{Option, Some, None, inl, inr, if◌then◌else◌}
 use Rattle.std.proofs.lemmas.Bool.{false≢true, eq-eqb, ne_eqb, eqb-true, cases_Bool, cases_eq, or_cases}
 use Rattle.nd_base.specs.declared.frame.FrameName.{FrameName}
 use Rattle.nd_base.specs.Parts.{Parts}
@@ -27,7 +28,7 @@ use Rattle.board_rules.specs.Moving.{moved, moved_at}
 use Rattle.board_rules.specs.InHand.{has_part_of}
 use Rattle.board_rules.specs.Storage.{grants, is_away, has_part, parts_in_hand, parts_away, parts_here}
 use Rattle.frame_table.specs.Kept.{Kept, Empty, kept_at, with_kept, IsPartOf, less_one}
-use Rattle.kept_blocks.specs.LastGrants.{LastGrant, InMaking, Made, last_grant}
+use Rattle.board_rules.specs.LastGrants.{LastGrant, InMaking, Made, last_grant}
 use Rattle.kept_blocks.specs.Keeping.{HoldsBlocks, IsRunOf, IsFrameOn}
 use Rattle.kept_blocks.specs.GrantLaws.{IsGranted}
 use Rattle.kept_blocks.proofs.Granted.{alone-from}

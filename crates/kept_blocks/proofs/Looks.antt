@@ -1,5 +1,6 @@
 -- What stands in the table.
-use Rattle.std.proofs.Common.{◌≡◌, ℕ, ◌+◌, ◌-◌, ◌^◌, ◌≤◌, ◌<◌, Bool, true, false, ◌||◌, List, [], ◌∷◌, length, refl, sym, ap, ◌∙◌, subst, arith, Option, Some, None, if◌then◌else◌}
+use Rattle.std.proofs.Common.{◌≡◌, ℕ, ◌+◌, ◌-◌, ◌^◌, ◌≤◌, ◌<◌, Bool, true, false, ◌||◌, List, [], ◌∷◌, length, refl, sym, ap, ◌∙◌, subst, arith, Option}
+use Rattle.std.proofs.Common.{Some, None, if◌then◌else◌}
 use Rattle.std.specs.List.{find}
 use Rattle.std.proofs.lemmas.Bool.{false≢true}
 use Rattle.std.proofs.lemmas.List.{set-set, set-get_or}
@@ -23,7 +24,7 @@ use Rattle.board_rules.specs.InHand.{has_part_of, granted_block, IsOnePart, OfSo
 use Rattle.board_rules.specs.Storage.{is_among, has_part, parts_in_hand, parts_away}
 use Rattle.frame_table.specs.Kept.{Kept, Empty, Frame, Storage, kept_at, with_kept, MayLend, MayGiveBack, IsPartOf, one_part, less_one, united}
 use Rattle.std.proofs.lemmas.Bool.{eq-eqb}
-use Rattle.kept_blocks.specs.LastGrants.{LastGrant}
+use Rattle.board_rules.specs.LastGrants.{LastGrant}
 use Rattle.kept_blocks.specs.Keeping.{HoldsBlocks, IsRunOf}
 use Rattle.kept_blocks.specs.LookLaws.{IsWithin, IsLendable, IsLent, IsAwaited, LookLaws}
 use Rattle.kept_blocks.proofs.Granted.{Makes, making-granted, makes-block, makes-placed}
@@ -62,7 +63,7 @@ lendable parts s B t a run hb used =
 -- what is lent and given back
 back-kept : (k : Kept) (a : FrameName) (q : Option Parts) → MayLend k → IsWithin k → IsPartOf k a q → MayGiveBack (less_one k) q × (united (less_one k) q ≡ k)
 back-kept Empty a q may within part = absurd may
-back-kept (Storage n) a q may within part = absurd may
+back-kept (Storage n u) a q may within part = absurd may
 back-kept (Frame c None) a q may within part =
     subst (λ (o : Option Parts). MayGiveBack (Frame c None) o × (united (Frame c None) o ≡ Frame c None)) (sym part.1) (tt, refl)
 back-kept (Frame c (Some p)) a q may within part =
@@ -156,7 +157,7 @@ one-part : (k : Kept) (a : FrameName) (q : Option Parts) → IsPartOf k a q → 
 one-part (Frame c None) a q part = subst IsOnePart (sym part.1) tt
 one-part (Frame c (Some p)) a q part = subst IsOnePart (sym part.1) refl
 one-part Empty a q part = absurd part
-one-part (Storage n) a q part = absurd part
+one-part (Storage n u) a q part = absurd part
 
 handed : (s : Setting) (B : BoardState) (tick r : ℕ) (t : Told) → takes_up r t.entry ≡ true
     → (hand r (past (moved_at s tick t B)) ≡ Some t.entry) × (lent_to r (moved_at s tick t B) ≡ t.lent)

@@ -27,7 +27,7 @@ use Rattle.flow_journal.proofs.Places.{none_lost}
 use Rattle.flow_journal.proofs.Steps.{same_refl, same-true, next_is}
 use Rattle.board_rules.specs.InHand.{has_part_of}
 use Rattle.board_rules.proofs.Legal.{names_role}
-use Rattle.kept_blocks.specs.LastGrants.{LastGrant, Never, InMaking, Made, TakenBack, last_grant}
+use Rattle.board_rules.specs.LastGrants.{LastGrant, Never, InMaking, Made, TakenBack, last_grant}
 use Rattle.kept_blocks.proofs.Unplaced.{clear-fewer}
 use Rattle.kept_blocks.proofs.Granted.{alone-from, alone-making}
 use Rattle.kept_blocks.proofs.Tied.{is_array_of, tied}

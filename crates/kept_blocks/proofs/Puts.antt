@@ -19,7 +19,7 @@ use Rattle.board_rules.specs.InHand.{is_job_on, result_name, granted_block, gran
 use Rattle.board_rules.specs.Storage.{is_among}
 use Rattle.board_rules.proofs.Makers.{hand-suits}
 use Rattle.frame_table.specs.Kept.{Kept, Frame, kept_at, with_kept, united}
-use Rattle.kept_blocks.specs.LastGrants.{LastGrant, InMaking, last_grant}
+use Rattle.board_rules.specs.LastGrants.{LastGrant, InMaking, last_grant}
 use Rattle.kept_blocks.specs.Keeping.{HoldsBlocks, IsRunOf}
 use Rattle.kept_blocks.proofs.Granted.{making-granted}
 use Rattle.kept_blocks.proofs.Rest.{later}

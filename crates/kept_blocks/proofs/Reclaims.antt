@@ -1,5 +1,6 @@
 -- A hand is taken back.
-use Rattle.std.proofs.Common.{◌≡◌, ℕ, ◌≤◌, ◌^◌, Bool, true, false, not, ◌||◌, eqb, List, [], ◌∷◌, ◌++◌, length, refl, sym, ap, ◌∙◌, subst, arith, Option, Some, None, if◌then◌else◌, length-append}
+use Rattle.std.proofs.Common.{◌≡◌, ℕ, ◌≤◌, ◌^◌, Bool, true, false, not, ◌||◌, eqb, List, [], ◌∷◌, ◌++◌, length, refl, sym, ap, ◌∙◌, subst, arith, Option}
+use Rattle.std.proofs.Common.{Some, None, if◌then◌else◌, length-append}
 use Rattle.std.specs.Prelude.{IsSome, is_some}
 use Rattle.std.proofs.lemmas.Bool.{and_from, false≢true, true≢false, eq-eqb, ne_eqb, or_from}
 use Rattle.nd_base.specs.declared.frame.FrameName.{FrameName}
@@ -24,7 +25,7 @@ use Rattle.board_rules.specs.Moving.{moved}
 use Rattle.board_rules.specs.InHand.{has_part_of, has_grant, granted_block, granted_size, IsWholeOf, TellParts, OfSome}
 use Rattle.board_rules.specs.Storage.{is_among, has_part, brings, part_lost, lost_of}
 use Rattle.frame_table.specs.Kept.{Kept, Frame, Storage, kept_at, IsSized, at_home}
-use Rattle.kept_blocks.specs.LastGrants.{LastGrant, InMaking, once_taken_back, last_grant}
+use Rattle.board_rules.specs.LastGrants.{LastGrant, InMaking, once_taken_back, last_grant}
 use Rattle.kept_blocks.specs.Keeping.{HoldsBlocks, IsRunOf, most_lost}
 use Rattle.kept_blocks.specs.MoveLaws.{with_input, with_grant, taken_back, MayTakeBack}
 use Rattle.kept_blocks.proofs.Granted.{making-granted}
@@ -132,29 +133,30 @@ whole-home (Some p) a n some whole =
     (whole.1, ap (λ (y : Bool). Some y) (and_from (eqb p.here (2 ^ 32)) (eqb p.size n) (eq-eqb p.here (2 ^ 32) whole.0) (eq-eqb p.size n whole.1)))
 
 -- by what came back of a grant
-grant-back : {F K : Type 0} (name_of : F → FrameName) (parts : F → Option Parts) (bytes_of : K → ℕ) (s : Setting) (B : BoardState) (t mid : List Kept)
+grant-back : {F K : Type 0} (name_of : F → FrameName) (parts : F → Option Parts) (bytes_of : K → ℕ) (is_used : K
+    → Bool) (s : Setting) (B : BoardState) (t mid : List Kept)
     (w : FrameName → Bool) (r b n : ℕ) (a : FrameName) (d e : Entry) (L : List ℕ) (made : Option F) (blank : Option K)
     → IsRunOf s B → Holds parts s B t → EndsHand s (past B) w r d e → PartBack parts s B t mid d e L → granted_block (Some d) ≡ b ∷ []
     → has_part (past B) b d ≡ false → last_grant b (past B) ≡ InMaking r a n
     → last_grant b (e ∷ past B) ≡ once_taken_back r (last_grant b (past B))
     → OfSome (λ f. IsWholeOf n (parts f)) made → OfSome (λ k. TellParts parts → bytes_of k ≡ n) blank → is_among b L ≡ not (is_some made || is_some blank)
     → ((i : ℕ) → is_among i (granted_block (Some d)) ≡ false → has_part (past B) i d ≡ false → is_among i L ≡ false) → length L ≤ most_lost e
-    → EndsAt parts s B t (with_grant name_of parts bytes_of b made blank mid) d e L
-grant-back name_of parts bytes_of s B t mid w r b n a d e L (Some f) blank run h l p grant no_part making turn whole sized among unlost few =
+    → EndsAt parts s B t (with_grant name_of parts bytes_of is_used b made blank mid) d e L
+grant-back name_of parts bytes_of is_used s B t mid w r b n a d e L (Some f) blank run h l p grant no_part making turn whole sized among unlost few =
     with-grant parts s B t mid d e L b (Frame (name_of f) (parts f)) h p grant
     (λ known_b.
     let was : IsKeptIn parts s B b (InMaking r a n) (kept_at t b) = subst (λ (y : LastGrant). IsKeptIn parts s B b y (kept_at t b)) making (h.kept b known_b) in
     taken-kept parts s B w r b n a d e L (Frame (name_of f) (parts f)) l making turn was.1
     (λ tell. let home = whole-home (parts f) (name_of f) n (tell f) whole in (home.0, home.1 ∙ ap (λ (y : Bool). Some (not y)) (sym among))))
     unlost few
-grant-back name_of parts bytes_of s B t mid w r b n a d e L None (Some k) run h l p grant no_part making turn whole sized among unlost few =
-    with-grant parts s B t mid d e L b (Storage (bytes_of k)) h p grant
+grant-back name_of parts bytes_of is_used s B t mid w r b n a d e L None (Some k) run h l p grant no_part making turn whole sized among unlost few =
+    with-grant parts s B t mid d e L b (Storage (bytes_of k) (is_used k)) h p grant
     (λ known_b.
     let was : IsKeptIn parts s B b (InMaking r a n) (kept_at t b) = subst (λ (y : LastGrant). IsKeptIn parts s B b y (kept_at t b)) making (h.kept b known_b) in
-    taken-kept parts s B w r b n a d e L (Storage (bytes_of k)) l making turn was.1
+    taken-kept parts s B w r b n a d e L (Storage (bytes_of k) (is_used k)) l making turn was.1
     (λ tell. (tt, ap (λ (y : Bool). Some y) (eq-eqb (bytes_of k) n (sized tell)) ∙ ap (λ (y : Bool). Some (not y)) (sym among))))
     unlost few
-grant-back name_of parts bytes_of s B t mid w r b n a d e L None None run h l p grant no_part making turn whole sized among unlost few =
+grant-back name_of parts bytes_of is_used s B t mid w r b n a d e L None None run h l p grant no_part making turn whole sized among unlost few =
     with-empty parts s B t mid d e L b h p grant no_part
     (λ known_b.
     let was : IsKeptIn parts s B b (InMaking r a n) (kept_at t b) = subst (λ (y : LastGrant). IsKeptIn parts s B b y (kept_at t b)) making (h.kept b known_b) in
@@ -211,9 +213,9 @@ module _ {F K O : Type 0} (name_of : F → FrameName) (parts : F → Option Part
       (holds-out parts s (moved s (loses r L) B) new (rest-holds parts s (loses r L ∷ B) (moved s (loses r L) B) new rest (legal-at d held)
       (ends-holds parts s B t new w r d (Reclaim r) L may.run (holds-in parts s B t may.run may.holds) l at)))
 
-  pub back-load : (q k b n : ℕ) (f : Bool) (g : ℕ) (x : Bool) → hand r (past B) ≡ Some (Load q k b n f g x)
-      → HoldsBlocks parts s (taken_back name_of s r left B) (with_grant name_of parts bytes_of b left.made left.blank t)
-  back-load q k b n f g x held =
+  pub back-load : (is_used : K → Bool) (q k b n : ℕ) (f : Bool) (g : ℕ) (x : Bool) → hand r (past B) ≡ Some (Load q k b n f g x)
+      → HoldsBlocks parts s (taken_back name_of s r left B) (with_grant name_of parts bytes_of is_used b left.made left.blank t)
+  back-load is_used q k b n f g x held =
       let P = past B in
       let d = Load q k b n f g x in
       let e = Reclaim r in
@@ -224,8 +226,8 @@ module _ {F K O : Type 0} (name_of : F → FrameName) (parts : F → Option Part
       let making : last_grant b P ≡ InMaking r (frame 0 k) n = making-granted s P r b n (frame 0 k) d may.run.pooled before held (refl, refl, refl) in
       let p : PartBack parts s B t t d e L =
       record { long = refl; at_part = λ i no_ has. absurd (false≢true has); others = λ i none. refl; tables = λ i y z part. part } in
-      finish d (is_frame (frame 0 k)) (with_grant name_of parts bytes_of b left.made left.blank t) held l
-      (grant-back name_of parts bytes_of s B t t (is_frame (frame 0 k)) r b n (frame 0 k) d e L left.made left.blank may.run h l p refl refl making refl
+      finish d (is_frame (frame 0 k)) (with_grant name_of parts bytes_of is_used b left.made left.blank t) held l
+      (grant-back name_of parts bytes_of is_used s B t t (is_frame (frame 0 k)) r b n (frame 0 k) d e L left.made left.blank may.run h l p refl refl making refl
       (own-made d n held refl refl) (own-blank d n held refl refl)
       (own-among b (is_some left.made || is_some left.blank)) (λ i no_ none. among-if i (is_some left.made || is_some left.blank) (b ∷ []) no_)
       (let one = few-if (is_some left.made || is_some left.blank) (b ∷ []) (omega arith) in omega (arith, one)))
@@ -280,11 +282,11 @@ module _ {F K O : Type 0} (name_of : F → FrameName) (parts : F → Option Part
       (own-input d (frame m k) held (λ x is. is)) (none-lost P c (frame m k)) (one-lost P c (frame m k) on)) refl
       (λ i none. array-lost P i c (frame m k) on none) (omega (arith, few)))
 
-  pub back-block : (q v m k b n c : ℕ) (f : Bool) (g : ℕ) (x : Bool) → hand r (past B) ≡ Some (TakeBlock f x q v m k b n g)
+  pub back-block : (is_used : K → Bool) (q v m k b n c : ℕ) (f : Bool) (g : ℕ) (x : Bool) → hand r (past B) ≡ Some (TakeBlock f x q v m k b n g)
       → block_of (past B) (frame m k) ≡ c ∷ []
       → HoldsBlocks parts s (taken_back name_of s r left B)
-      (with_grant name_of parts bytes_of b left.made left.blank (with_input name_of parts (frame m k) c left.input t))
-  back-block q v m k b n c f g x held on =
+      (with_grant name_of parts bytes_of is_used b left.made left.blank (with_input name_of parts (frame m k) c left.input t))
+  back-block is_used q v m k b n c f g x held on =
       let P = past B in
       let d = TakeBlock f x q v m k b n g in
       let e = Reclaim r in
@@ -312,8 +314,8 @@ module _ {F K O : Type 0} (name_of : F → FrameName) (parts : F → Option Part
       let mid = with_input name_of parts a c left.input t in
       let few_g = few-if y (b ∷ []) (omega arith) in
       let few_p = few-lost P c a on in
-      finish d (is_frame (frame v k)) (with_grant name_of parts bytes_of b left.made left.blank mid) held l
-      (grant-back name_of parts bytes_of s B t mid (is_frame (frame v k)) r b n (frame v k) d e L left.made left.blank may.run h l
+      finish d (is_frame (frame v k)) (with_grant name_of parts bytes_of is_used b left.made left.blank mid) held l
+      (grant-back name_of parts bytes_of is_used s B t mid (is_frame (frame v k)) r b n (frame v k) d e L left.made left.blank may.run h l
       (input-back name_of parts s B t (is_frame (frame v k)) r c a left.input d e L may.run h l has (own-input d a held (λ z is. is)) none_c one_c)
       refl no_part making refl (own-made d n held refl refl) (own-blank d n held refl refl) among
       (λ i no_ none. among-both i Lg Lp (among-if i y (b ∷ []) no_) (array-lost P i c a on none))

@@ -18,7 +18,7 @@ use Rattle.board_rules.specs.States.{BoardState, past, plain, lent_to}
 use Rattle.board_rules.specs.Moving.{made_of, with_all, moved_at}
 use Rattle.board_rules.specs.Storage.{is_away, parts_away}
 use Rattle.board_rules.proofs.Moved.{fits, all_fit, fit-first, fit-next}
-use Rattle.kept_blocks.specs.LastGrants.{last_grant}
+use Rattle.board_rules.specs.LastGrants.{last_grant}
 use Rattle.kept_blocks.specs.Keeping.{LoseFew}
 use Rattle.kept_blocks.specs.MoveLaws.{touches_no_hand}
 use Rattle.kept_blocks.proofs.Granted.{legal-before}

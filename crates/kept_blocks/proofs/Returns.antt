@@ -1,5 +1,6 @@
 -- The moves that end a hand.
-use Rattle.std.proofs.Common.{◌≡◌, ◌≢◌, ℕ, ◌+◌, ◌-◌, ◌^◌, ◌≤◌, ◌<◌, Bool, true, false, eqb, List, [], ◌∷◌, length, refl, sym, ap, ◌∙◌, subst, arith, Option, Some, None, inl, inr, if◌then◌else◌}
+use Rattle.std.proofs.Common.{◌≡◌, ◌≢◌, ℕ, ◌+◌, ◌-◌, ◌^◌, ◌≤◌, ◌<◌, Bool, true, false, eqb, List, [], ◌∷◌, length, refl, sym, ap, ◌∙◌, subst, arith, Option}
+use Rattle.std.proofs.Common.{Some, None, inl, inr, if◌then◌else◌}
 use Rattle.std.proofs.lemmas.Bool.{false≢true, true≢false, eq-eqb, eqb-true, cases_Bool, cases_eq}
 use Rattle.nd_base.specs.declared.frame.FrameName.{FrameName}
 use Rattle.nd_base.specs.Parts.{Parts}
@@ -20,7 +21,7 @@ use Rattle.board_rules.specs.InHand.{hand_node, has_part_of, is_load_of, is_piec
 use Rattle.board_rules.specs.Storage.{is_among, has_part, parts_in_hand, parts_away}
 use Rattle.board_rules.proofs.Legal.{names_role, load_in, piece_in}
 use Rattle.frame_table.specs.Kept.{Kept, Frame, kept_at, with_kept, IsPartOf, united}
-use Rattle.kept_blocks.specs.LastGrants.{LastGrant, Never, InMaking, Made, TakenBack, once_done, once_taken_back, last_grant}
+use Rattle.board_rules.specs.LastGrants.{LastGrant, Never, InMaking, Made, TakenBack, once_done, once_taken_back, last_grant}
 use Rattle.kept_blocks.specs.Keeping.{HoldsBlocks, IsRunOf, IsFrameOn, most_lost}
 use Rattle.kept_blocks.specs.MoveLaws.{touches_no_hand}
 use Rattle.kept_blocks.proofs.Granted.{Makes, held-making, making-granted}

@@ -1,10 +1,12 @@
 -- A frame on a block is that of the block's last grant, or it is nowhere.
-use Rattle.std.proofs.Common.{◌≡◌, ◌≢◌, ◌⊎◌, ℕ, suc, ◌+◌, ◌≤◌, Bool, true, false, not, ◌&&◌, cond, eqb, leb, List, [], ◌∷◌, ◌++◌, length, refl, sym, ap, ◌∙◌, subst, arith, Option, Some, None, inl, inr, length-append}
+use Rattle.std.proofs.Common.{◌≡◌, ◌≢◌, ◌⊎◌, ℕ, suc, ◌+◌, ◌≤◌, Bool, true, false, not, ◌&&◌, cond, eqb, leb, List, [], ◌∷◌, ◌++◌, length, refl, sym, ap}
+use Rattle.std.proofs.Common.{◌∙◌, subst, arith, Option, Some, None, inl, inr, length-append}
 use Rattle.std.specs.Prelude.{filter, map}
 use Rattle.std.specs.List.{list_all}
 use Rattle.std.proofs.lemmas.Bool.{and_parts, and_from, false≢true, true≢false, eq-eqb, ne_eqb, eqb-true, eqb-false, cases_Bool, or_parts}
 use Rattle.nd_base.specs.declared.frame.FrameName.{FrameName}
-use Rattle.pool_ledger.specs.Grants.{Block, has_number, Granted, Refused, granted, fit_or_fresh, smallest_fit, free_in_order, left_after, largest_free, passes, given_up, new_number, known_after}
+use Rattle.pool_ledger.specs.Grants.{Block, has_number, Granted, Refused, granted, fit_or_fresh, smallest_fit, free_in_order, left_after, largest_free}
+use Rattle.pool_ledger.specs.Grants.{passes, given_up, new_number, known_after}
 use Rattle.flow_journal.specs.declared.entry.Entry.{Entry}
 use Rattle.flow_journal.specs.declared.entry.Entry.TheVariants.{Load, Issue, TakeBlock, Put, Reclaim}
 use Rattle.flow_journal.specs.Setting.{Setting, is_maker}
@@ -24,9 +26,10 @@ use Rattle.flow_journal.proofs.Making.{is_frame, reclaimed-nowhere, untaken-agai
 use Rattle.flow_journal.proofs.Once.{is_among, least_missing-not_among}
 use Rattle.flow_journal.proofs.Grants.{all_in_order, all_found, all_filtered, granted-is, number-among}
 use Rattle.board_rules.proofs.Legal.{names_role}
-use Rattle.kept_blocks.specs.LastGrants.{LastGrant, Never, InMaking, Made, TakenBack, once_done, once_taken_back, last_grant}
+use Rattle.board_rules.specs.LastGrants.{LastGrant, Never, InMaking, Made, TakenBack, once_done, once_taken_back, last_grant}
 use Rattle.kept_blocks.proofs.Unplaced.{unplaced-clear}
-use Rattle.kept_blocks.proofs.Granted.{legal-before, once_done-made, once_taken_back-made, Makes, held-making, making-granted, makes-block, load-none, take-none}
+use Rattle.kept_blocks.proofs.Granted.{legal-before, once_done-made, once_taken_back-made, Makes, held-making, making-granted, makes-block, load-none}
+use Rattle.kept_blocks.proofs.Granted.{take-none}
 
 same-turned : (a c : FrameName) → same a c ≡ false → same c a ≡ false
 same-turned a c h =

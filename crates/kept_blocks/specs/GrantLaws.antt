@@ -12,8 +12,10 @@ use Rattle.flow_journal.specs.Histories.{is_legal}
 use Rattle.board_rules.specs.States.{BoardState, past, plain, lends, take_block}
 use Rattle.board_rules.specs.Moving.{moved, moved_at}
 use Rattle.board_rules.specs.InHand.{TellParts}
+use Rattle.board_rules.specs.LastGrants.{was_taken_back}
 use Rattle.board_rules.specs.Storage.{wants_storage, IsRegrown}
-use Rattle.frame_table.specs.Kept.{Kept, Empty, Storage, kept_at, with_kept, with_room, at_home, IsMadeAnew, IsAway, IsSized, IsRefused, IsPartOf, less_one}
+use Rattle.frame_table.specs.Kept.{Kept, Empty, Storage, kept_at, with_kept, with_room, at_home, was_used, IsMadeAnew, IsAway, IsSized, IsRefused, IsPartOf}
+use Rattle.frame_table.specs.Kept.{less_one}
 use Rattle.kept_blocks.specs.Keeping.{HoldsBlocks, IsRunOf}
 use Rattle.kept_blocks.specs.LookLaws.{IsLendable}
 
@@ -41,9 +43,12 @@ pub record GrantLaws {F : Type 0} (parts : F → Option Parts) : Type 0 where
   pub room_of_lent : (t : List Kept) (b c : ℕ) → c < length t
       → with_room (with_kept t c (less_one (kept_at t c))) b ≡ with_kept (with_room t b) c (less_one (kept_at (with_room t b) c))
   -- Of a block that isn't fresh: what was made anew is what the log says of it; where frames tell their parts memory is wanted only where
-  -- storage is, and the block has the size that is granted. Of a fresh one nothing was.
+  -- storage is, and the block has the size that is granted; and a frame stood on what is kept, unless the last hand was taken back. Of a
+  -- fresh one nothing was made anew.
   pub anew : (s : Setting) (told : BoardState) (t : List Kept) (need b z : ℕ) (g : ℕ) (x : Bool) → IsGranted parts s told t need b z false g
       → IsMadeAnew (at_home z (kept_at t b)) x → IsRegrown parts told b false x
+  pub used : (s : Setting) (told : BoardState) (t : List Kept) (need b z : ℕ) (g : ℕ) → IsGranted parts s told t need b z false g
+      → TellParts parts → was_taken_back b (past told) ≡ false → was_used (kept_at t b) ≡ true
   pub fresh_anew : (told : BoardState) (b : ℕ) → IsRegrown parts told b true false
   pub wants : (s : Setting) (told : BoardState) (t : List Kept) (need b z : ℕ) (g : ℕ) → IsGranted parts s told t need b z false g
       → TellParts parts → IsAway (at_home z (kept_at t b)) → wants_storage told (Granted b z false g) ≡ true
@@ -53,8 +58,8 @@ pub record GrantLaws {F : Type 0} (parts : F → Option Parts) : Type 0 where
   -- is put back
   pub refused : (s : Setting) (told : BoardState) (t new : List Kept) (need b z : ℕ) (g : ℕ) → IsGranted parts s told t need b z false g
       → IsRefused z b t new → HoldsBlocks parts s told new
-  pub put_back : (s : Setting) (told : BoardState) (t : List Kept) (need b z : ℕ) (g : ℕ) → IsGranted parts s told t need b z false g
-      → (TellParts parts → ⊥) → HoldsBlocks parts s told (with_kept (with_kept t b Empty) b (Storage z))
+  pub put_back : (s : Setting) (told : BoardState) (t : List Kept) (need b z : ℕ) (g : ℕ) (used : Bool) → IsGranted parts s told t need b z false g
+      → (TellParts parts → ⊥) → HoldsBlocks parts s told (with_kept (with_kept t b Empty) b (Storage z used))
   -- the block isn't that of the next array of a queue; with the storage taken, a part of that may be lent
   pub apart : (s : Setting) (told : BoardState) (t : List Kept) (need b z : ℕ) (f : Bool) (g v c : ℕ) (a : FrameName)
       → IsGranted parts s told t need b z f g → is_next a (queued v (past told)) ≡ true → block_of (past told) a ≡ c ∷ [] → c ≢ b

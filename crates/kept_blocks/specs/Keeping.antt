@@ -16,7 +16,7 @@ use Rattle.board_rules.specs.States.{BoardState, past, lent_to}
 use Rattle.board_rules.specs.InHand.{has_part_of, TellParts, OfSome}
 use Rattle.board_rules.specs.Storage.{is_away, parts_away, parts_here}
 use Rattle.frame_table.specs.Kept.{Kept, Empty, Frame, kept_at, IsPartOf, IsSized, at_home}
-use Rattle.kept_blocks.specs.LastGrants.{LastGrant, Never, InMaking, Made, TakenBack, last_grant}
+use Rattle.board_rules.specs.LastGrants.{LastGrant, Never, InMaking, Made, TakenBack, last_grant}
 
 -- NO PLACE
 

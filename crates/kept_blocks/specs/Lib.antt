@@ -1,4 +1,3 @@
-pub mod LastGrants
 pub mod Keeping
 pub mod LookLaws
 pub mod GrantLaws

@@ -36,11 +36,11 @@ with_input name_of parts a c None t = t
 with_input name_of parts a c (Some f) t = if same (name_of f) a then with_kept t c (united (kept_at t c) (parts f)) else t
 
 -- the table once what came back of the block b that was granted with the hand was kept: the frame, or else the storage
-abbrev pub with_grant : {F B : Type 0} → (F → FrameName) → (F → Option Parts) → (B → ℕ) → (b : ℕ) → (made : Option F)
+abbrev pub with_grant : {F B : Type 0} → (F → FrameName) → (F → Option Parts) → (B → ℕ) → (B → Bool) → (b : ℕ) → (made : Option F)
     → (blank : Option B) → List Kept → List Kept
-with_grant name_of parts bytes_of b (Some f) blank t = with_kept t b (Frame (name_of f) (parts f))
-with_grant name_of parts bytes_of b None (Some k) t = with_kept t b (Storage (bytes_of k))
-with_grant name_of parts bytes_of b None None t = t
+with_grant name_of parts bytes_of is_used b (Some f) blank t = with_kept t b (Frame (name_of f) (parts f))
+with_grant name_of parts bytes_of is_used b None (Some k) t = with_kept t b (Storage (bytes_of k) (is_used k))
+with_grant name_of parts bytes_of is_used b None None t = t
 
 -- the move of a Reclaim of this role, with what stayed away
 abbrev pub taken_back : {F B O : Type 0} → (F → FrameName) → Setting → (r : ℕ) → Left F B O → BoardState → BoardState
@@ -88,18 +88,20 @@ pub record MoveLaws {F B : Type 0} (O : Type 0) (name_of : F → FrameName) (par
       → is_legal s (past (moved s (plain (Put r v m (name_of f).index fired)) told)) ≡ true
       → HoldsBlocks parts s (moved s (plain (Put r v m (name_of f).index fired)) told)
       (with_kept (with_kept t c (united (kept_at t c) (parts f))) b (Frame (name_of made) (parts made)))
-  -- what came back of a hand that is taken back is given back and kept
-  pub reclaim_load : (s : Setting) (told : BoardState) (t : List Kept) (r : ℕ) (left : Left F B O) (q k b n : ℕ) (f : Bool) (g : ℕ) (x : Bool)
+  -- what came back of a hand that is taken back is given back and kept, whether or not a frame stood on the storage
+  pub reclaim_load : (is_used : B → Bool) (s : Setting) (told : BoardState) (t : List Kept) (r : ℕ) (left : Left F B O)
+      (q k b n : ℕ) (f : Bool) (g : ℕ) (x : Bool)
       → MayTakeBack name_of parts bytes_of s told t r left → hand r (past told) ≡ Some (Load q k b n f g x)
-      → HoldsBlocks parts s (taken_back name_of s r left told) (with_grant name_of parts bytes_of b left.made left.blank t)
+      → HoldsBlocks parts s (taken_back name_of s r left told) (with_grant name_of parts bytes_of is_used b left.made left.blank t)
   pub reclaim_take : (s : Setting) (told : BoardState) (t : List Kept) (r : ℕ) (left : Left F B O) (q v m k c : ℕ)
       → MayTakeBack name_of parts bytes_of s told t r left → hand r (past told) ≡ Some (Take q v m k) → block_of (past told) (frame m k) ≡ c ∷ []
       → HoldsBlocks parts s (taken_back name_of s r left told) (with_input name_of parts (frame m k) c left.input t)
-  pub reclaim_block : (s : Setting) (told : BoardState) (t : List Kept) (r : ℕ) (left : Left F B O) (q v m k b n c : ℕ) (f : Bool) (g : ℕ) (x : Bool)
+  pub reclaim_block : (is_used : B → Bool) (s : Setting) (told : BoardState) (t : List Kept) (r : ℕ) (left : Left F B O)
+      (q v m k b n c : ℕ) (f : Bool) (g : ℕ) (x : Bool)
       → MayTakeBack name_of parts bytes_of s told t r left → hand r (past told) ≡ Some (TakeBlock f x q v m k b n g)
       → block_of (past told) (frame m k) ≡ c ∷ []
       → HoldsBlocks parts s (taken_back name_of s r left told)
-      (with_grant name_of parts bytes_of b left.made left.blank (with_input name_of parts (frame m k) c left.input t))
+      (with_grant name_of parts bytes_of is_used b left.made left.blank (with_input name_of parts (frame m k) c left.input t))
   pub reclaim_piece : (s : Setting) (told : BoardState) (t : List Kept) (r : ℕ) (left : Left F B O) (q v m k g c : ℕ)
       → MayTakeBack name_of parts bytes_of s told t r left → hand r (past told) ≡ Some (Save q v m k g) → block_of (past told) (frame m k) ≡ c ∷ []
       → HoldsBlocks parts s (taken_back name_of s r left told) (with_input name_of parts (frame m k) c left.input t)

@@ -29,12 +29,15 @@ pub range-split : (from m n : ℕ) → range_with_len from (m + n) ≡ range_wit
 range-split from zero n = ap (λ k. range_with_len from k) (omega arith) ∙ ap (λ k. range_with_len k n) (omega arith)
 range-split from (suc m) n =
     let e : suc m + n ≡ suc (m + n) = omega arith in
-    ap (λ k. range_with_len from k) e ∙ ap (λ z. from ∷ z) (range-split (from + 1) m n ∙ ap (λ k. range_with_len (from + 1) m ++ range_with_len k n) (omega arith))
+    ap (λ k. range_with_len from k) e
+    ∙ ap (λ z. from ∷ z) (range-split (from + 1) m n ∙ ap (λ k. range_with_len (from + 1) m ++ range_with_len k n) (omega arith))
 
 -- the places of the indices in one row, from its first place on
-places-row : (sizes rest : List ℕ) (size n from : ℕ) → map (place (size ∷ sizes)) (map (λ x. x ∷ rest) (range_with_len from n)) ≡ range_with_len (from + size * place sizes rest) n
+places-row : (sizes rest : List ℕ) (size n from : ℕ)
+    → map (place (size ∷ sizes)) (map (λ x. x ∷ rest) (range_with_len from n)) ≡ range_with_len (from + size * place sizes rest) n
 places-row sizes rest size zero from = refl
-places-row sizes rest size (suc n) from = ap (λ z. (from + size * place sizes rest) ∷ z) (places-row sizes rest size n (from + 1) ∙ ap (λ k. range_with_len k n) (omega arith))
+places-row sizes rest size (suc n) from =
+    ap (λ z. (from + size * place sizes rest) ∷ z) (places-row sizes rest size n (from + 1) ∙ ap (λ k. range_with_len k n) (omega arith))
 
 -- the rows that follow one another
 places-rows : (sizes : List ℕ) (size from count : ℕ) (rests : List (List ℕ)) → map (place sizes) rests ≡ range_with_len from count →
@@ -59,7 +62,8 @@ places-rows sizes size from (suc n) (rest ∷ rests) h =
 -- the k-th index has place k
 pub place-indices : (sizes : List ℕ) → map (place sizes) (indices sizes) ≡ range_with_len 0 (product sizes)
 place-indices [] = refl
-place-indices (size ∷ sizes) = places-rows sizes size 0 (product sizes) (indices sizes) (place-indices sizes) ∙ ap (λ k. range_with_len k (size * product sizes)) (omega arith)
+place-indices (size ∷ sizes) = places-rows sizes size 0 (product sizes) (indices sizes) (place-indices sizes)
+    ∙ ap (λ k. range_with_len k (size * product sizes)) (omega arith)
 
 -- the index of a place in a dimension is the number of the index that has this place
 pub index_in-place : (dims : List Dim) (index : List ℕ) (k : ℕ) → IsIndex dims index → index_in dims k (place (sizes_of dims) index) ≡ get_or index k 0
@@ -68,5 +72,6 @@ index_in-place [] (x ∷ index) k h = absurd h
 index_in-place (d ∷ dims) [] k h = absurd h
 index_in-place (d ∷ dims) (x ∷ index) zero h = add-mul-mod_self_left x d.size (place (sizes_of dims) index) ∙ mod-eq_of_lt h.0
 index_in-place (d ∷ dims) (x ∷ index) (suc k) h =
-    ap (λ p. index_in dims k p) (add-mul-div_left x (place (sizes_of dims) index) (omega (arith, h.0)) ∙ ap (λ q. q + place (sizes_of dims) index) (div-eq_of_lt h.0) ∙ omega arith)
+    ap (λ p. index_in dims k p) (add-mul-div_left x (place (sizes_of dims) index) (omega (arith, h.0))
+    ∙ ap (λ q. q + place (sizes_of dims) index) (div-eq_of_lt h.0) ∙ omega arith)
     ∙ index_in-place dims index k h.1

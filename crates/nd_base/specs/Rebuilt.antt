@@ -23,7 +23,8 @@ with_samples head kind dims samples = record {
   attrs = head.attrs;
 }
 
-rebuilt : (a : Array) (shape : FileShape) (head : Head) (out : List ℕ) → HasShape shape a → head_of a ≡ head → samples_of shape.kind out ≡ a.samples → a ≡ array_of head shape.kind shape.dims out
+rebuilt : (a : Array) (shape : FileShape) (head : Head) (out : List ℕ) → HasShape shape a → head_of a ≡ head → samples_of shape.kind out ≡ a.samples
+    → a ≡ array_of head shape.kind shape.dims out
 rebuilt a shape head out has is samples =
     ap (λ kind. with_samples (head_of a) kind a.dims a.samples) has.kind ∙ ap (λ dims. with_samples (head_of a) shape.kind dims a.samples) has.dims
     ∙ ap (λ h. with_samples h shape.kind shape.dims a.samples) is ∙ ap (with_samples head shape.kind shape.dims) (sym samples)

@@ -1,5 +1,6 @@
 -- Laws of samples as numbers.
-use Rattle.std.specs.Prelude.{◌≡◌, ℕ, zero, suc, ◌+◌, ◌*◌, ◌/◌, ◌<◌, ◌≤◌, ◌^◌, ℤ, pos, negsuc, List, [], ◌∷◌, ◌++◌, length, take, drop, slice_get, Some, All, FitsSigned, refl}
+use Rattle.std.specs.Prelude.{◌≡◌, ℕ, zero, suc, ◌+◌, ◌*◌, ◌/◌, ◌<◌, ◌≤◌, ◌^◌, ℤ, pos, negsuc, List, [], ◌∷◌, ◌++◌, length, take, drop, slice_get, Some}
+use Rattle.std.specs.Prelude.{All, FitsSigned, refl}
 use Rattle.std.specs.Int.{w8, w16, w32, w64, cast_signed, cast_unsigned, FitsUnsigned, from_be_bytes, to_be_bytes}
 use Rattle.std.proofs.Common.{ap, sym, subst, ◌∙◌, arith, add_comm, length-append, get_or}
 use Rattle.std.proofs.Math.Nat.{mul-div_cancel, zero-mul, suc-mul, mul-le-mul_right}
@@ -30,12 +31,14 @@ length-samples_of kind n bytes h =
     length-numbers kind (length bytes / width kind) bytes ∙ ap (λ m. m / width kind) h ∙ mul-div_cancel n (width-positive kind)
 
 -- sample k has the bytes from k * width on
-pub slice_get-numbers : (kind : SampleType) (n k : ℕ) (bytes : List ℕ) → k < n → slice_get (numbers kind n bytes) k ≡ Some (number kind (take (width kind) (drop (k * width kind) bytes)))
+pub slice_get-numbers : (kind : SampleType) (n k : ℕ) (bytes : List ℕ) → k < n
+    → slice_get (numbers kind n bytes) k ≡ Some (number kind (take (width kind) (drop (k * width kind) bytes)))
 slice_get-numbers kind zero k bytes h = absurd (omega arith)
 slice_get-numbers kind (suc n) zero bytes h = ap (λ m. Some (number kind (take (width kind) (drop m bytes)))) (sym (zero-mul (width kind)))
 slice_get-numbers kind (suc n) (suc k) bytes h =
     slice_get-numbers kind n k (drop (width kind) bytes) (omega arith)
-    ∙ ap (λ rest. Some (number kind (take (width kind) rest))) (drop-drop (k * width kind) (width kind) bytes ∙ ap (λ m. drop m bytes) (sym (suc-mul k (width kind) ∙ add_comm (k * width kind) (width kind))))
+    ∙ ap (λ rest. Some (number kind (take (width kind) rest))) (drop-drop (k * width kind) (width kind) bytes
+    ∙ ap (λ m. drop m bytes) (sym (suc-mul k (width kind) ∙ add_comm (k * width kind) (width kind))))
 
 pub width-most : (kind : SampleType) → width kind ≤ 4
 width-most Int8 = omega arith
@@ -49,7 +52,8 @@ width-most UInt32 = omega arith
 pub sample_within : (i n w : ℕ) → i < n → i * w + w ≤ n * w
 sample_within i n w h = subst (λ m. m ≤ n * w) (suc-mul i w) (mul-le-mul_right w h)
 
-pub slice_get-samples_of : (kind : SampleType) (n k : ℕ) (bytes : List ℕ) → length bytes ≡ n * width kind → k < n → slice_get (samples_of kind bytes) k ≡ Some (number kind (take (width kind) (drop (k * width kind) bytes)))
+pub slice_get-samples_of : (kind : SampleType) (n k : ℕ) (bytes : List ℕ) → length bytes ≡ n * width kind → k < n
+    → slice_get (samples_of kind bytes) k ≡ Some (number kind (take (width kind) (drop (k * width kind) bytes)))
 slice_get-samples_of kind n k bytes h within =
     slice_get-numbers kind (length bytes / width kind) k bytes (rw (h, mul-div_cancel n (width-positive kind)) within)
 
@@ -115,7 +119,8 @@ bytes_of-numbers kind (suc n) bytes h small =
     ∙ take-append-drop w bytes
 
 -- the bytes of the samples that whole samples' bytes hold
-pub bytes_of-samples_of : (kind : SampleType) (n : ℕ) (bytes : List ℕ) → length bytes ≡ n * width kind → AreBytes bytes → bytes_of kind (samples_of kind bytes) ≡ bytes
+pub bytes_of-samples_of : (kind : SampleType) (n : ℕ) (bytes : List ℕ) → length bytes ≡ n * width kind → AreBytes bytes
+    → bytes_of kind (samples_of kind bytes) ≡ bytes
 bytes_of-samples_of kind n bytes h small =
     let count : length bytes / width kind ≡ n = ap (λ m. m / width kind) h ∙ mul-div_cancel n (width-positive kind) in
     ap (λ m. bytes_of kind (numbers kind m bytes)) count ∙ bytes_of-numbers kind n bytes h small
@@ -216,12 +221,14 @@ numbers-bytes_of kind (v ∷ samples) h =
     let here = take_at (sample_bytes kind v) (bytes_of kind samples) w (length-sample_bytes kind v) in
     let others = drop_at (sample_bytes kind v) (bytes_of kind samples) w (length-sample_bytes kind v) in
     ap (λ bytes. number kind bytes ∷ numbers kind (length samples) (drop w (sample_bytes kind v ++ bytes_of kind samples))) here
-    ∙ ap (λ m. m ∷ numbers kind (length samples) (drop w (sample_bytes kind v ++ bytes_of kind samples))) (number-sample_bytes kind v (All-head (IsSample kind) v samples h))
+    ∙ ap (λ m. m ∷ numbers kind (length samples) (drop w (sample_bytes kind v ++ bytes_of kind samples)))
+    (number-sample_bytes kind v (All-head (IsSample kind) v samples h))
     ∙ ap (λ bytes. v ∷ numbers kind (length samples) bytes) others
     ∙ ap (λ rest. v ∷ rest) (numbers-bytes_of kind samples (All-tail (IsSample kind) v samples h))
 
 -- the samples of the bytes of samples
 pub samples_of-bytes_of : (kind : SampleType) (samples : List ℤ) → All (IsSample kind) samples → samples_of kind (bytes_of kind samples) ≡ samples
 samples_of-bytes_of kind samples h =
-    let count : length (bytes_of kind samples) / width kind ≡ length samples = ap (λ m. m / width kind) (length-bytes_of kind samples) ∙ mul-div_cancel (length samples) (width-positive kind) in
+    let count : length (bytes_of kind samples) / width kind ≡ length samples = ap (λ m. m / width kind) (length-bytes_of kind samples)
+    ∙ mul-div_cancel (length samples) (width-positive kind) in
     ap (λ m. numbers kind m (bytes_of kind samples)) count ∙ numbers-bytes_of kind samples h

@@ -1,5 +1,6 @@
 -- What it says that an array isn't refused, and numbers of samples.
-use Rattle.std.specs.Prelude.{◌≡◌, ℕ, zero, suc, ◌*◌, ◌==◌, ◌&&◌, ◌<◌, ◌≤◌, nat_lt, nat_le, not, Bool, true, false, List, [], ◌∷◌, length, take, None, Some, IsTrue, if◌then◌else◌, refl}
+use Rattle.std.specs.Prelude.{◌≡◌, ℕ, zero, suc, ◌*◌, ◌==◌, ◌&&◌, ◌<◌, ◌≤◌, nat_lt, nat_le, not, Bool, true, false, List, [], ◌∷◌, length, take, None, Some}
+use Rattle.std.specs.Prelude.{IsTrue, if◌then◌else◌, refl}
 use Rattle.std.specs.List.{list_all}
 use Rattle.std.proofs.Common.{arith, ap, sym, ◌∙◌, get_or}
 use Rattle.std.proofs.Math.Nat.{mul_assoc, mul-le-mul_left, one-le-mul}
@@ -16,7 +17,8 @@ pub record IsSound (kind : SampleType) (dims : List Dim) (bytes : ℕ) : Type 0 
   pub few : sample_count dims ≤ most_samples
   pub count : bytes ≡ sample_count dims * width kind
 
-sound_by : (shaped many whole : Bool) → (if shaped then (if many then Some TooManySamples else (if whole then None else Some BadShape)) else Some BadShape) ≡ None → (shaped ≡ true) × (many ≡ false) × (whole ≡ true)
+sound_by : (shaped many whole : Bool) → (if shaped then (if many then Some TooManySamples else (if whole then None else Some BadShape)) else Some BadShape)
+    ≡ None → (shaped ≡ true) × (many ≡ false) × (whole ≡ true)
 sound_by true false true h = (refl, refl, refl)
 sound_by true false false h = absurd (cc)
 sound_by true true whole h = absurd (cc)
@@ -32,7 +34,8 @@ shape_fault-none kind dims bytes h =
     }
 
 -- one dimension more
-pub sample_count-take : (dims : List Dim) (i : ℕ) (d : Dim) → i < length dims → sample_count (take (suc i) dims) ≡ sample_count (take i dims) * (get_or dims i d).size
+pub sample_count-take : (dims : List Dim) (i : ℕ) (d : Dim) → i < length dims
+    → sample_count (take (suc i) dims) ≡ sample_count (take i dims) * (get_or dims i d).size
 sample_count-take [] i d h = absurd (omega arith)
 sample_count-take (x ∷ dims) zero d h = grind arith
 sample_count-take (x ∷ dims) (suc i) d h =

@@ -21,7 +21,15 @@ abbrev gate : NodeRule
 gate = record { name = codes "gate"; kind = Circular gate_rule; input = 0; queue = 8; threads = 1; sort = 0; sort_time = 0 }
 
 abbrev saved : NodeRule
-saved = record { name = codes "out"; kind = File (record { mode = Stream; count = 4; form = Classic }); input = 1; queue = 8; threads = 1; sort = 0; sort_time = 0 }
+saved = record {
+  name = codes "out";
+  kind = File (record { mode = Stream; count = 4; form = Classic });
+  input = 1;
+  queue = 8;
+  threads = 1;
+  sort = 0;
+  sort_time = 0;
+}
 
 -- the driver, a circular node and a file node behind it
 abbrev two_nodes : Graph
@@ -36,5 +44,13 @@ a_file_node_feeds_none = refl
 two_steps_lead_to_the_driver : source_of two_nodes.nodes 2 2 ≡ 0
 two_steps_lead_to_the_driver = refl
 
-its_trigger_is_seen : (record gate { kind = Circular (record gate_rule { trigger = letter_a }) }) ≡ record { name = codes "gate"; kind = Circular (record { pre = 2; post = 3; preset = 0; trigger = letter_a; a = codes "Gate"; b = codes "Beam" }); input = 0; queue = 8; threads = 1; sort = 0; sort_time = 0 }
+its_trigger_is_seen : (record gate { kind = Circular (record gate_rule { trigger = letter_a }) }) ≡ record {
+  name = codes "gate";
+  kind = Circular (record { pre = 2; post = 3; preset = 0; trigger = letter_a; a = codes "Gate"; b = codes "Beam" });
+  input = 0;
+  queue = 8;
+  threads = 1;
+  sort = 0;
+  sort_time = 0;
+}
 its_trigger_is_seen = refl

@@ -27,7 +27,11 @@ impl<F: Held> Model for ToldLog<F> {
 
     ghost Value = { ToldState };
 
-    ghost view = { λ t. record { told = told_with t.log.past (map (λ s. F.parts s.value) (reverse t.lent.items)) (reverse t.lost.items); room = t.log.room; reclaims = vec_capacity t.lost } };
+    ghost view = { λ t. record {
+      told = told_with t.log.past (map (λ s. F.parts s.value) (reverse t.lent.items)) (reverse t.lost.items);
+      room = t.log.room;
+      reclaims = vec_capacity t.lost;
+    } };
 
     ghost invariant = { λ t. (vec_len t.lent ≤ length t.log.past) × (t.log.room ≤ vec_capacity t.lent) × (vec_len t.lost ≤ count_reclaims t.log.past) };
 }

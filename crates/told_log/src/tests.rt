@@ -9,7 +9,7 @@ use std::test::Fail;
 
 #[test]
 fn three_entries_fill_their_room(rt: HostRuntime) -> Result<(), Fail> {
-    let frame: TestFrame<Brand> = TestBlank { size: 8 }.seal(FrameName { maker: 0, index: 0 }, 0);
+    let frame: TestFrame<Brand> = TestBlank::new(8).seal(FrameName { maker: 0, index: 0 }, 0);
     let take = Entry::Take {
         role: 1,
         node: 1,

@@ -1,4 +1,5 @@
-use Rattle.kept_blocks.proofs.Granting.{next-place, old-place, room-holds, room-keeps, room-of-lent, anew-law, fresh-anew, wants-law, home-of, refused-law, put-back-law, apart-from, lendable-law, refused-lent-law, forget-law}
+use Rattle.kept_blocks.proofs.Granting.{next-place, old-place, room-holds, room-keeps, room-of-lent, anew-law, fresh-anew, wants-law, home-of, used-of}
+use Rattle.kept_blocks.proofs.Granting.{refused-law, put-back-law, apart-from, lendable-law, refused-lent-law, forget-law}
 use Rattle.kept_blocks.proofs.Loads.{load-law, take-block-law, take-lent-law}
 use Rattle.kept_blocks.proofs.grants_find_storage.Goals as goal
 
@@ -12,6 +13,7 @@ returns g c =
       room_keeps = room-keeps;
       room_of_lent = room-of-lent;
       anew = anew-law parts;
+      used = used-of parts;
       fresh_anew = fresh-anew parts;
       wants = wants-law parts;
       sized = λ s told t need b z given i tell. let home = home-of parts s told t need b z given i tell in home.sized;

@@ -19,8 +19,9 @@ returns g c =
       put_made =
           λ s B t r v m b c f made fired run h job on own grant kind whole legal.
           put-made name_of parts s B t r v m c f fired run h on own legal b made job grant kind whole;
-      reclaim_load = λ s B t r left q k b n f g x may held. back-load name_of parts bytes_of s B t r left may q k b n f g x held;
+      reclaim_load = λ is_used s B t r left q k b n f g x may held. back-load name_of parts bytes_of s B t r left may is_used q k b n f g x held;
       reclaim_take = λ s B t r left q v m k c may held on. back-take name_of parts bytes_of s B t r left may q v m k c held on;
-      reclaim_block = λ s B t r left q v m k b n c f g x may held on. back-block name_of parts bytes_of s B t r left may q v m k b n c f g x held on;
+      reclaim_block = λ is_used s B t r left q v m k b n c f g x may held on. back-block name_of parts bytes_of s B t r left may is_used q v m k b n c f g
+          x held on;
       reclaim_piece = λ s B t r left q v m k g c may held on. back-piece name_of parts bytes_of s B t r left may q v m k g c held on;
     }

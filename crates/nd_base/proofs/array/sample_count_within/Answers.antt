@@ -25,6 +25,7 @@ loop-dim-preserved c =
     let i = c.loop-dim.dim-index in
     let more = sample_count-take dims i nothing c.loop-dim-test.true in
     record {
-      front = rw add-one (ap (λ n. n * c.from-count.result) c.loop-dim.invariant.front ∙ ap (λ n. sample_count (take i dims) * n) c.from-count.ensures ∙ sym more);
+      front = rw add-one (ap (λ n. n * c.from-count.result) c.loop-dim.invariant.front ∙ ap (λ n. sample_count (take i dims) * n) c.from-count.ensures
+          ∙ sym more);
       within = c.if-count-gt-MOST_SAMPLES.false;
     }

@@ -5,6 +5,7 @@ use Rattle.board_rules.specs.RunMeasures.{run_setting}
 use Rattle.board_rules.specs.States.{BoardState, past}
 use Rattle.board_rules.specs.declared.answers.Load.TheVariants as load
 use Rattle.board_rules.specs.Feeding.{load_refusal, LoadGives}
+use Rattle.board_rules.specs.Reusing.{LoadReuses}
 use Rattle.frame_table.specs.Kept.{Kept, Empty, with_kept}
 use Rattle.flow_emit.specs.Courses.{Coursed}
 use Rattle.kept_blocks.specs.GrantLaws.{IsGranted}
@@ -12,7 +13,7 @@ use Rattle.kept_blocks.proofs.Looks.{look_laws}
 use Rattle.flow_core.specs.Boards.{IsBoard}
 use Rattle.flow_core.proofs.Boarding.{board-same}
 use Rattle.flow_core.proofs.Laws.{grant_laws}
-use Rattle.flow_core.proofs.Loads.{LoadsOn, loaded-gives, loaded-board, loaded-room, no_memory-gives}
+use Rattle.flow_core.proofs.Loads.{LoadsOn, loaded-gives, loaded-board, loaded-room, loaded-reuses, no_memory-gives}
 use Rattle.flow_core.proofs.Stored.{not-stored-wants, not-stored-holds, fresh-holds, storage-there}
 use Rattle.flow_core.proofs.board.Board.load_granted.Goals as goal
 
@@ -156,3 +157,23 @@ returns-clause-room g c =
     record { board = board; role = c.requires.role; allowed = none; granted = given; size = c.in-Ok.ensures.size; remade = c.in-Ok.ensures.regrown } in
     loaded-room parts_ bytes (look_laws parts_) s w t c.args.role c.args.tick gr.block gr.size gr.fresh gr.given_up c.in-Ok.field-0.regrown blank
     c.next_index-index.result c.load.new.self.told l (ap (λ (x : Coursed). x.told) c.in-Ok-load.ensures.loaded)
+
+pub returns-clause-reused : goal.returns-clause-reused
+returns-clause-reused g c =
+    let parts_ = g.F.Held.parts in
+    let bytes = g.F.Held.bytes_of in
+    let s = run_setting g.F.Of.Run.graph g.F.Of.Run.stack in
+    let w = c.self.inside.course in
+    let t = c.self.inside.table in
+    let gr = c.args.grant in
+    let board : IsBoard parts_ s w t = c.self.invariant in
+    let none = subst (λ (b : BoardState). load_refusal {B = g.row.F-Blank.Denot} s c.args.role (past b) ≡ None) (sym c.self.view_is) c.requires.allowed in
+    let given : grant s (past w.told) (s.need 0) ≡ Granted gr.block gr.size gr.fresh gr.given_up =
+    subst (λ (b : BoardState). grant s (past b) (s.need 0) ≡ Granted gr.block gr.size gr.fresh gr.given_up) (sym c.self.view_is) c.requires.granted in
+    let i : IsGranted parts_ s w.told t (s.need 0) gr.block gr.size gr.fresh gr.given_up = record { run = board.run; holds = board.holds; granted = given } in
+    let blank = c.in-Ok.field-0.blank in
+    subst (λ (b : BoardState). LoadReuses parts_ g.F.Held.is_used b c.args.role (load.Loaded c.next_index-index.result blank) c.load.new.self.told)
+    c.self.view_is
+    (loaded-reuses parts_ g.F.Held.is_used (look_laws parts_) (grant_laws parts_) s w t c.args.role c.args.tick gr.block gr.size gr.fresh gr.given_up
+    c.in-Ok.field-0.regrown blank c.next_index-index.result c.load.new.self.told i c.in-Ok.ensures.used
+    (ap (λ (x : Coursed). x.told) c.in-Ok-load.ensures.loaded))

@@ -56,7 +56,8 @@ invariant_of-self g c =
     let alone : (a : FrameName) → has_part_of a (hand r (past w.told)) ≡ false =
     λ a. subst (λ (b : BoardState). has_part_of a (hand r (past b)) ≡ false) back (c.requires.alone a) in
     let gone = c.new.ensures ∙ ap (λ (o : Option ℕ). option_to_list o ++ []) c.keep_grant-lost.ensures.lost in
-    load-back name_of parts_ bytes (move_laws _ name_of parts_ bytes) s w c.reclaim.new.self t c.keep_grant-lost.new.table r c.args.block left c.new.result
+    load-back name_of parts_ bytes g.F.Held.is_used
+    (move_laws _ name_of parts_ bytes) s w c.reclaim.new.self t c.keep_grant-lost.new.table r c.args.block left c.new.result
     takes grant alone c.reclaim.ensures gone c.keep_grant-lost.ensures.table
 
 pub returns : goal.returns

@@ -8,6 +8,7 @@ use Rattle.board_rules.specs.States.{BoardState, past}
 use Rattle.board_rules.specs.InHand.{TellParts}
 use Rattle.board_rules.specs.Storage.{wants_storage}
 use Rattle.board_rules.specs.Working.{take_refusal, TakeGives}
+use Rattle.board_rules.specs.Reusing.{TakeReuses}
 use Rattle.flow_journal.specs.Queued.{queued}
 use Rattle.flow_journal.specs.Accounts.{grant}
 use Rattle.flow_journal.specs.FirstEntries.{is_next}
@@ -16,13 +17,14 @@ use Rattle.frame_table.specs.Kept.{Kept, Empty, kept_at, with_kept, IsPartOf, le
 use Rattle.kept_blocks.specs.Keeping.{HoldsBlocks}
 use Rattle.kept_blocks.specs.GrantLaws.{IsGranted}
 use Rattle.kept_blocks.proofs.Looks.{look_laws}
-use Rattle.flow_core.specs.Boards.{IsRemade, IsNotStored, with_storage}
+use Rattle.flow_core.specs.Boards.{IsRemade, IsSameStorage, IsNotStored, with_storage}
 use Rattle.flow_core.proofs.Laws.{grant_laws}
 use Rattle.flow_core.proofs.Boarding.{board-same}
 use Rattle.flow_core.proofs.Places.{kept-length}
 use Rattle.flow_core.proofs.Stored.{storage-there}
 use Rattle.flow_core.proofs.Lent.{Tells, LendsAt, lends-at, lent-name}
-use Rattle.flow_core.proofs.Takes.{LendsBeside, Makes, BackTo, lent_out, made, made-gives, made-board, made-lends, made-no_memory, not-stored-back, not-stored-lent-wants, fresh-back, back-again}
+use Rattle.flow_core.proofs.Takes.{LendsBeside, Makes, BackTo, lent_out, made, made-gives, made-board, made-lends, made-reuses, made-no_memory}
+use Rattle.flow_core.proofs.Takes.{not-stored-back, not-stored-lent-wants, fresh-back, back-again}
 use Rattle.flow_core.proofs.board.Board.take_granted.Goals as goal
 
 pub lend-requires-clause-place : goal.lend-requires-clause-place
@@ -596,3 +598,55 @@ returns-clause-lent g c =
     c.next_queued-name.ensures.same in
     made-lends O name_of parts_ bytes (look_laws parts_) s w t r v b gr.block gr.size gr.fresh gr.given_up x input blank c.take_block.new.self.told m
     (ap (λ (y : Coursed). y.told) told)
+
+pub returns-clause-reused : goal.returns-clause-reused
+returns-clause-reused g c =
+    let name_of = g.F.Named.name_of in
+    let parts_ = g.F.Held.parts in
+    let bytes = g.F.Held.bytes_of in
+    let O = g.row.F-Of.Denot in
+    let s = run_setting g.F.Of.Run.graph g.F.Of.Run.stack in
+    let w = c.self.inside.course in
+    let t = c.self.inside.table in
+    let r = c.args.role in
+    let v = c.args.node in
+    let gr = c.args.grant in
+    let a = c.next_queued-name.result in
+    let b = c.block-block.result in
+    let w0 = c.next_queued-name.new.self in
+    let allowed : take_refusal {F = g.row.F.Denot} {B = g.row.F-Blank.Denot} {O = g.row.F-Of.Denot} s r v (past w.told) ≡ None =
+    subst (λ (x : BoardState). take_refusal {F = g.row.F.Denot} {B = g.row.F-Blank.Denot} {O = g.row.F-Of.Denot} s r v (past x) ≡ None) (sym c.self.view_is)
+    c.requires.allowed in
+    let given : grant s (past w.told) (s.need v) ≡ Granted gr.block gr.size gr.fresh gr.given_up =
+    subst (λ (x : BoardState). grant s (past x) (s.need v) ≡ Granted gr.block gr.size gr.fresh gr.given_up) (sym c.self.view_is) c.requires.granted in
+    let i : IsGranted parts_ s w.told t (s.need v) gr.block gr.size gr.fresh gr.given_up =
+    record { run = c.self.invariant.run; holds = c.self.invariant.holds; granted = given } in
+    let l : LendsAt parts_ w.told t a b =
+    lends-at parts_ w.told t a b ((look_laws parts_).queued s w.told t v a c.self.invariant.run c.self.invariant.holds c.next_queued-name.ensures.next)
+    (subst (λ (x : Coursed). Tells x.told a b) c.next_queued-name.ensures.same c.block-block.ensures) in
+    let beside : LendsBeside parts_ s w.told t v (s.need v) gr.block gr.size gr.fresh gr.given_up a b =
+    record { granted = i; next = c.next_queued-name.ensures.next; lends = l } in
+    let input = c.in-Ok.input in
+    let named : name_of input ≡ a = lent-name parts_ w.told t a b (name_of input) (parts_ input) l c.in-Ok.ensures.part in
+    let part : IsPartOf (kept_at t b) a (parts_ input) = subst (λ (x : FrameName). IsPartOf (kept_at t b) x (parts_ input)) named c.in-Ok.ensures.part in
+    let T = c.storage_for.new.table in
+    let blank = c.in-Ok-storage_for.field-0.blank in
+    let x = c.in-Ok-storage_for.field-0.regrown in
+    let place : T ≡ with_storage gr.block gr.fresh (lent_out t b) =
+    c.in-Ok-storage_for.ensures.place ∙ ap (λ (u : List Kept). with_storage gr.block gr.fresh u) c.in-Ok.ensures.rest in
+    let next : is_next (name_of input) (queued v (past w.told)) ≡ true =
+    subst (λ (y : FrameName). is_next y (queued v (past w.told)) ≡ true) (sym named) c.next_queued-name.ensures.next in
+    let ls : LendsAt parts_ w.told t (name_of input) b = subst (λ (y : FrameName). LendsAt parts_ w.told t y b) (sym named) l in
+    let near : LendsBeside parts_ s w.told t v (s.need v) gr.block gr.size gr.fresh gr.given_up (name_of input) b =
+    record { granted = i; next = next; lends = ls } in
+    let same_ : IsSameStorage gr.block gr.fresh (lent_out t b) x (g.F.Held.is_used blank) =
+    subst (λ (u : List Kept). IsSameStorage gr.block gr.fresh u x (g.F.Held.is_used blank)) c.in-Ok.ensures.rest c.in-Ok-storage_for.ensures.used in
+    let told : c.take_block.new.self ≡ record w { told = made name_of parts_ s r v gr.block gr.size gr.fresh gr.given_up x input w.told } =
+    c.in-Ok-take_block.ensures.taken
+    ∙ ap (λ (y : Coursed). record y { told = made name_of parts_ s r v gr.block gr.size gr.fresh gr.given_up x input y.told })
+    c.next_queued-name.ensures.same in
+    subst (λ (y : BoardState). TakeReuses {F = g.row.F.Denot} {B = g.row.F-Blank.Denot} {O = g.row.F-Of.Denot} parts_ g.F.Held.is_used y r
+    (take.Job v input (Some blank)) c.take_block.new.self.told) c.self.view_is
+    (made-reuses O name_of parts_ g.F.Held.is_used (look_laws parts_)
+    (grant_laws parts_) s w t r v b gr.block gr.size gr.fresh gr.given_up x input blank c.take_block.new.self.told near same_
+    (ap (λ (y : Coursed). y.told) told))

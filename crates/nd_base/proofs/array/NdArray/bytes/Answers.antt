@@ -7,4 +7,5 @@ use Rattle.nd_base.proofs.array.NdArray.bytes.Goals as goal
 pub returns-clause-count : goal.returns-clause-count
 returns-clause-count c =
     let sound = shape_fault-none _ _ _ c.self.invariant in
-    rw (← c.self.view_is, length-samples_of c.self.inside.kind (sample_count c.self.inside.dims) c.self.inside.bytes sound.count) (ap length c.list.ensures ∙ sound.count)
+    rw (← c.self.view_is, length-samples_of c.self.inside.kind (sample_count c.self.inside.dims) c.self.inside.bytes sound.count) (ap length c.list.ensures
+    ∙ sound.count)

@@ -9,7 +9,8 @@ use Rattle.nd_base.specs.ShapeLaws.{shape_fault-none}
 use Rattle.nd_base.proofs.array.NdArray.sample.Goals as goal
 
 -- a place among the samples is one that the dimensions have
-within : (kind : SampleType) (dims : List Dim) (bytes : List ℕ) (samples : List ℤ) (i : ℕ) → samples_of kind bytes ≡ samples → length bytes ≡ sample_count dims * width kind → i < length samples → i < sample_count dims
+within : (kind : SampleType) (dims : List Dim) (bytes : List ℕ) (samples : List ℤ) (i : ℕ) → samples_of kind bytes ≡ samples
+    → length bytes ≡ sample_count dims * width kind → i < length samples → i < sample_count dims
 within kind dims bytes samples i is count h =
     let all : length samples ≡ sample_count dims = ap length (sym is) ∙ length-samples_of kind (sample_count dims) bytes count in
     rw (← all) h

@@ -17,4 +17,5 @@ returns c =
     let samples = subst (λ b. IfSome (slice_get s.arrays c.args.k) (λ a. samples_of s.shape.kind b ≡ a.samples)) (sym copied) c.frame.ensures.samples in
     let frame = frame-rebuilt s.arrays s.shape c.args.k c.head.result.now bytes c.requires c.shape-shape.ensures.sound.frames c.head.ensures samples in
     frame ∙ ap Some (sym (value ∙ ap (λ h. array_of h c.shape-shape.result.now.kind c.in_ok-dims.dims.items bytes) head
-    ∙ ap (λ k. array_of c.head.result.now k c.in_ok-dims.dims.items bytes) (ap (λ shape. shape.kind) same) ∙ ap (λ d. array_of c.head.result.now s.shape.kind d bytes) dims))
+    ∙ ap (λ k. array_of c.head.result.now k c.in_ok-dims.dims.items bytes) (ap (λ shape. shape.kind) same)
+    ∙ ap (λ d. array_of c.head.result.now s.shape.kind d bytes) dims))

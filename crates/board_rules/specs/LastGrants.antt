@@ -1,5 +1,5 @@
 -- What became of the last grant of a block, by the log.
-use Rattle.std.specs.Prelude.{ℕ, ◌==◌, [], ◌∷◌, if◌then◌else◌}
+use Rattle.std.specs.Prelude.{ℕ, ◌==◌, Bool, true, false, [], ◌∷◌, if◌then◌else◌}
 use Rattle.nd_base.specs.declared.frame.FrameName.{FrameName}
 use Rattle.flow_journal.specs.declared.entry.Entry.TheVariants.{Load, Issue, TakeBlock, Put, Reclaim}
 use Rattle.flow_journal.specs.Pasts.{Past, frame}
@@ -30,3 +30,11 @@ last_grant b (Issue r k ∷ P) = once_done r (last_grant b P)
 last_grant b (Put r v m k f ∷ P) = once_done r (last_grant b P)
 last_grant b (Reclaim r ∷ P) = once_taken_back r (last_grant b P)
 last_grant b (e ∷ P) = last_grant b P
+
+-- the hand for which the block was last granted was taken back
+abbrev pub is_taken_back : LastGrant → Bool
+is_taken_back (TakenBack n) = true
+is_taken_back _ = false
+
+abbrev pub was_taken_back : ℕ → Past → Bool
+was_taken_back b P = is_taken_back (last_grant b P)
