@@ -1,5 +1,6 @@
 -- The files that a shelf has begun.
-use Rattle.std.proofs.Common.{◌≡◌, ◌⊎◌, ℕ, zero, suc, ◌+◌, ◌<◌, Bool, true, false, List, [], ◌∷◌, ◌++◌, length, take, drop, get_or, add-one, append_assoc, slice_index_or, slice_set, ◌≤◌, Option, Some, None, is_some, if◌then◌else◌, inl, inr, refl, sym, ap, ◌∙◌, arith}
+use Rattle.std.proofs.Common.{◌≡◌, ℕ, zero, suc, ◌+◌, ◌<◌, Bool, true, false, List, [], ◌∷◌, ◌++◌, length, take, drop, get_or, add-one, append_assoc}
+use Rattle.std.proofs.Common.{slice_index_or, slice_set, ◌≤◌, Option, Some, None, is_some, if◌then◌else◌, inl, inr, refl, sym, ap, ◌∙◌}
 use Rattle.std.proofs.Math.Seq.{drop-cons}
 use Rattle.std.proofs.Math.ListN.{drop_of_length-le}
 use Rattle.std.proofs.lemmas.List.{take-append-drop}
@@ -16,7 +17,8 @@ true_of n m false d e = let impossible : false ≡ true = d.1 e in cc
 pub find_begun-front : {F : Type 0} (b : Begun F) (bs : List (Begun F)) (name : List ℕ) → b.name ≡ name → find_begun (b ∷ bs) name ≡ Some b
 find_begun-front b bs name e = ap (λ t. if t then Some b else find_begun bs name) (true_of b.name name (bytes_eq b.name name) (bytes_eq-Decides b.name name) e)
 
-name_by : {F : Type 0} (x : Begun F) (xs : List (Begun F)) (name : List ℕ) (b : Begun F) (t : Bool) → Decides t (x.name ≡ name) → (if t then Some x else find_begun xs name) ≡ Some b → (find_begun xs name ≡ Some b → b.name ≡ name) → b.name ≡ name
+name_by : {F : Type 0} (x : Begun F) (xs : List (Begun F)) (name : List ℕ) (b : Begun F) (t : Bool) → Decides t (x.name ≡ name)
+    → (if t then Some x else find_begun xs name) ≡ Some b → (find_begun xs name ≡ Some b → b.name ≡ name) → b.name ≡ name
 name_by x xs name b true d e later = let same : Some x ≡ Some b = e in let first : x ≡ b = cc in ap (λ (y : Begun _). y.name) (sym first) ∙ d.0 refl
 name_by x xs name b false d e later = later e
 
@@ -36,12 +38,14 @@ pub MayClose-same : {F : Type 0} (bs : List (Begun F)) → MayClose bs bs
 MayClose-same [] = tt
 MayClose-same (b ∷ bs) = (inl refl, MayClose-same bs)
 
-taken_open : {F : Type 0} (place : F → Option ℕ) (bytes : F → Option (List ℕ)) (b : Begun F) (name : List ℕ) (o : Option (F × ℕ)) → b.file ≡ o → is_some o ≡ true → Takes place bytes (Some b) name b
+taken_open : {F : Type 0} (place : F → Option ℕ) (bytes : F → Option (List ℕ)) (b : Begun F) (name : List ℕ) (o : Option (F × ℕ)) → b.file ≡ o
+    → is_some o ≡ true → Takes place bytes (Some b) name b
 taken_open place bytes b name (Some p) e h = (p.0, p.1, ap (λ o. (record { name = b.name; ends = b.ends; file = o })) e, inl e)
 taken_open place bytes b name None e h = let impossible : false ≡ true = h in cc
 
 -- a file that is open is taken as it is
-pub Takes-open : {F : Type 0} (place : F → Option ℕ) (bytes : F → Option (List ℕ)) (b : Begun F) (name : List ℕ) → is_some b.file ≡ true → Takes place bytes (Some b) name b
+pub Takes-open : {F : Type 0} (place : F → Option ℕ) (bytes : F → Option (List ℕ)) (b : Begun F) (name : List ℕ) → is_some b.file ≡ true
+    → Takes place bytes (Some b) name b
 Takes-open place bytes b name h = taken_open place bytes b name b.file refl h
 
 none_of : {A : Type 0} (o : Option A) → is_some o ≡ false → o ≡ None
@@ -49,7 +53,8 @@ none_of None h = refl
 none_of (Some x) h = let impossible : true ≡ false = h in cc
 
 -- a closed one is opened at its start
-pub Takes-closed : {F : Type 0} (place : F → Option ℕ) (bytes : F → Option (List ℕ)) (b c : Begun F) (name : List ℕ) (file : F) → is_some b.file ≡ false → c ≡ record { name = b.name; ends = b.ends; file = Some (file, 0) } → Takes place bytes (Some b) name c
+pub Takes-closed : {F : Type 0} (place : F → Option ℕ) (bytes : F → Option (List ℕ)) (b c : Begun F) (name : List ℕ) (file : F) → is_some b.file ≡ false
+    → c ≡ record { name = b.name; ends = b.ends; file = Some (file, 0) } → Takes place bytes (Some b) name c
 Takes-closed place bytes b c name file h e = (file, 0, e, inr (none_of b.file h, refl))
 
 -- one of them is closed
@@ -72,7 +77,8 @@ taken_next (y ∷ xs) zero x ys e = let same : y ∷ xs ≡ x ∷ ys = e in cc
 taken_next (y ∷ xs) (suc i) x ys e = ap (λ zs. y ∷ zs) (taken_next xs i x ys e)
 
 -- the file there has another name
-pub Searched-next : {F : Type 0} (bs : List (Begun F)) (name : List ℕ) (i : ℕ) (d : Begun F) → i < length bs → bytes_eq (get_or bs i d).name name ≡ false → Searched bs name i → Searched bs name (i + 1)
+pub Searched-next : {F : Type 0} (bs : List (Begun F)) (name : List ℕ) (i : ℕ) (d : Begun F) → i < length bs → bytes_eq (get_or bs i d).name name ≡ false
+    → Searched bs name i → Searched bs name (i + 1)
 Searched-next bs name i d within other s =
     let x : Begun _ = get_or bs i d in
     let ys : List (Begun _) = drop (suc i) bs in
@@ -85,7 +91,8 @@ Searched-next bs name i d within other s =
     rw add-one (record { finds = finds; leaves = leaves })
 
 -- the file there is the one of the name
-pub Searched-found : {F : Type 0} (bs : List (Begun F)) (name : List ℕ) (i : ℕ) (d : Begun F) → i < length bs → bytes_eq (get_or bs i d).name name ≡ true → Searched bs name i →
+pub Searched-found : {F : Type 0} (bs : List (Begun F)) (name : List ℕ) (i : ℕ) (d : Begun F) → i < length bs → bytes_eq (get_or bs i d).name name ≡ true
+    → Searched bs name i →
     (file : Begun F) × (drop i bs ≡ file ∷ drop (i + 1) bs) × (find_begun bs name ≡ Some file) × (without_begun bs name ≡ take i bs ++ drop (i + 1) bs)
 Searched-found bs name i d within named s =
     let x : Begun _ = get_or bs i d in
@@ -97,10 +104,14 @@ Searched-found bs name i d within named s =
     rw add-one (x, cut, finds, leaves)
 
 -- there is none
-pub Searched-all : {F : Type 0} (bs : List (Begun F)) (name : List ℕ) (i : ℕ) → length bs ≤ i → Searched bs name i → (find_begun bs name ≡ None) × (without_begun bs name ≡ bs)
+pub Searched-all : {F : Type 0} (bs : List (Begun F)) (name : List ℕ) (i : ℕ) → length bs ≤ i → Searched bs name i
+    → (find_begun bs name ≡ None) × (without_begun bs name ≡ bs)
 Searched-all bs name i all s =
-    let rest : drop i bs ≡ [] = drop_of_length-le bs all in
-    (s.finds ∙ ap (λ l. find_begun l name) rest, s.leaves ∙ ap (λ l. take i bs ++ without_begun l name) rest ∙ ap (λ l. take i bs ++ l) (sym rest) ∙ take-append-drop i bs)
+    let rest : drop i bs ≡ [] = drop_of_length-le bs all in (
+      s.finds ∙ ap (λ l. find_begun l name) rest,
+      s.leaves ∙ ap (λ l. take i bs ++ without_begun l name) rest ∙ ap (λ l. take i bs ++ l) (sym rest)
+          ∙ take-append-drop i bs,
+    )
 
 pub Searched-none : {F : Type 0} (bs : List (Begun F)) (name : List ℕ) → Searched bs name 0
 Searched-none bs name = record { finds = refl; leaves = refl }

@@ -15,12 +15,14 @@ second_true true b h = sym h
 second_true false b h = let impossible : true ≡ false = h in cc
 
 -- an answer that comes only where the name is found
-pub Stands-found : {T E : Type 0} (fs : List NamedFile) (n : List ℕ) (r : Result T E) (free : Bool) → is_ok r ≡ (free && is_some (find_file fs n)) → OnOk r (Stands (Some (files_of fs)) n)
+pub Stands-found : {T E : Type 0} (fs : List NamedFile) (n : List ℕ) (r : Result T E) (free : Bool) → is_ok r ≡ (free && is_some (find_file fs n))
+    → OnOk r (Stands (Some (files_of fs)) n)
 Stands-found fs n (Ok x) free h = stands_found fs n (find_file fs n) (get-files_of fs n) (second_true free (is_some (find_file fs n)) h)
 Stands-found fs n (Err e) free h = tt
 
 -- what holds of the file that is found holds of the file that is told
-pub told_as_found : {T E : Type 0} (fs : List NamedFile) (n : List ℕ) (r : Result T E) (P : T → List ℕ → Type 0) → IfOk r (λ k. (file : List ℕ) → find_file fs n ≡ Some file → P k file) → IfOk r (λ k. (file : List ℕ) → map.get (files_of fs) n ≡ Some file → P k file)
+pub told_as_found : {T E : Type 0} (fs : List NamedFile) (n : List ℕ) (r : Result T E) (P : T → List ℕ → Type 0)
+    → IfOk r (λ k. (file : List ℕ) → find_file fs n ≡ Some file → P k file) → IfOk r (λ k. (file : List ℕ) → map.get (files_of fs) n ≡ Some file → P k file)
 told_as_found fs n (Ok x) P h = λ file e. h file (sym (get-files_of fs n) ∙ e)
 told_as_found fs n (Err e) P h = tt
 

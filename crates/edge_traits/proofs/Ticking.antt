@@ -1,5 +1,5 @@
 -- The last tick of a list.
-use Rattle.std.proofs.Common.{◌≡◌, ℕ, ◌-◌, suc, List, [], ◌∷◌, length, Option, Some, None, subst, arith}
+use Rattle.std.proofs.Common.{◌≡◌, ℕ, ◌-◌, suc, List, [], ◌∷◌, length, Some, None, subst, arith}
 use Rattle.std.specs.List.{slice_get}
 use Rattle.edge_traits.specs.Ticks.{last_tick}
 

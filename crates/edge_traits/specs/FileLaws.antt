@@ -10,7 +10,8 @@ use Rattle.std.specs.FinMap as map
 use Rattle.std.proofs.lemmas.Map.Text.{is_eq-slice_cmp}
 use Rattle.std.proofs.lemmas.Map.Lookups.{exact_bytes}
 use Rattle.std.proofs.lemmas.Slice.Eq.{bytes_eq-Decides}
-use Rattle.edge_traits.specs.Files.{Files, bytes_in, overwritten, file_at, with_file, with_more, with_patch, Stands, HasRange, IsTold, HasFile, MayCreate, MayAppend, MayPatch}
+use Rattle.edge_traits.specs.Files.{Files, bytes_in, overwritten, file_at, with_file, with_more, with_patch, Stands, HasRange, IsTold, HasFile, MayCreate}
+use Rattle.edge_traits.specs.Files.{MayAppend, MayPatch}
 
 -- The map alone.
 
@@ -19,7 +20,8 @@ chosen q n true x y d = inl (d.0 refl, refl)
 chosen q n false x y d = inr ((λ e. let impossible : false ≡ true = d.1 e in cc), refl)
 
 -- a look-up after an insert, by cases
-pub get-insert_cases : (m : Files) (n v q : List ℕ) → ((q ≡ n) × (map.get (map.insert m n v) q ≡ Some v)) ⊎ ((q ≢ n) × (map.get (map.insert m n v) q ≡ map.get m q))
+pub get-insert_cases : (m : Files) (n v q : List ℕ)
+    → ((q ≡ n) × (map.get (map.insert m n v) q ≡ Some v)) ⊎ ((q ≢ n) × (map.get (map.insert m n v) q ≡ map.get m q))
 get-insert_cases m n v q =
     let e : map.get (map.insert m n v) q ≡ cond (bytes_eq q n) (Some v) (map.get m q) =
     map.get-insert nat_list_cmp_total m n v q ∙ ap (λ b. cond b (Some v) (map.get m q)) (is_eq-slice_cmp q n) in
@@ -38,7 +40,8 @@ get-insert_other m n v q h = elim (get-insert_cases m n v q) [ inl p ↦ absurd 
 pub insert-insert : (m : Files) (n v w : List ℕ) → map.insert (map.insert m n v) n w ≡ map.insert m n w
 insert-insert m n v w = map.same_map nat_list_cmp_total exact_bytes _ _ (λ q.
     elim (get-insert_cases m n w q) [
-      | inl p ↦ subst (λ (k : List ℕ). map.get (map.insert (map.insert m n v) n w) k ≡ map.get (map.insert m n w) k) (sym p.0) (get-insert_same (map.insert m n v) n w ∙ sym (get-insert_same m n w))
+      | inl p ↦ subst (λ (k : List ℕ). map.get (map.insert (map.insert m n v) n w) k ≡ map.get (map.insert m n w) k) (sym p.0)
+          (get-insert_same (map.insert m n v) n w ∙ sym (get-insert_same m n w))
       | inr p ↦ get-insert_other (map.insert m n v) n w q p.0 ∙ get-insert_other m n v q p.0 ∙ sym p.1
     ])
 
@@ -84,7 +87,8 @@ overwritten-same file off count h =
     ∙ ap (λ r. take off file ++ r) (take-append-drop count (drop off file)) ∙ take-append-drop off file
 
 -- new bytes over the middle of three parts
-pub overwritten-middle : (front old back new : List ℕ) → length new ≡ length old → overwritten (front ++ (old ++ back)) (length front) new ≡ front ++ (new ++ back)
+pub overwritten-middle : (front old back new : List ℕ) → length new ≡ length old
+    → overwritten (front ++ (old ++ back)) (length front) new ≡ front ++ (new ++ back)
 overwritten-middle front old back new same =
     let before : take (length front) (front ++ (old ++ back)) ≡ front = take-append_seam front (old ++ back) in
     let after : drop (length front + length new) (front ++ (old ++ back)) ≡ back =
@@ -135,7 +139,8 @@ pub file_at-with_more_same : (t : Option Files) (n a f : List ℕ) → file_at t
 file_at-with_more_same None n a f h = let impossible : None ≡ Some f = h in cc
 file_at-with_more_same (Some m) n a f h = get-insert_same m n (bytes_in m n ++ a) ∙ ap (λ o. Some (unwrap_or o [] ++ a)) h
 
-pub file_at-with_patch_same : (t : Option Files) (n : List ℕ) (off : ℕ) (a f : List ℕ) → file_at t n ≡ Some f → file_at (with_patch t n off a) n ≡ Some (overwritten f off a)
+pub file_at-with_patch_same : (t : Option Files) (n : List ℕ) (off : ℕ) (a f : List ℕ) → file_at t n ≡ Some f
+    → file_at (with_patch t n off a) n ≡ Some (overwritten f off a)
 file_at-with_patch_same None n off a f h = let impossible : None ≡ Some f = h in cc
 file_at-with_patch_same (Some m) n off a f h =
     get-insert_same m n (overwritten (bytes_in m n) off a) ∙ ap (λ o. Some (overwritten (unwrap_or o []) off a)) h

@@ -43,7 +43,8 @@ pub files_of-set_file : (fs : List NamedFile) (n b : List ℕ) → files_of (set
 files_of-set_file [] n b = refl
 files_of-set_file (f ∷ fs) n b = elim (decided f.0 n) [
   | inl same ↦ ap files_of (same_name f.0 n ((f.0, b) ∷ fs) (f ∷ set_file fs n b) same)
-      ∙ ap (λ k. map.insert (files_of fs) k b) same ∙ sym (insert-insert (files_of fs) n f.1 b) ∙ ap (λ k. map.insert (map.insert (files_of fs) k f.1) n b) (sym same)
+      ∙ ap (λ k. map.insert (files_of fs) k b) same ∙ sym (insert-insert (files_of fs) n f.1 b)
+      ∙ ap (λ k. map.insert (map.insert (files_of fs) k f.1) n b) (sym same)
   | inr other ↦ ap files_of (other_name f.0 n ((f.0, b) ∷ fs) (f ∷ set_file fs n b) other)
       ∙ ap (λ m. map.insert m f.0 f.1) (files_of-set_file fs n b) ∙ insert-insert_other (files_of fs) f.0 f.1 n b other
 ]

@@ -105,7 +105,8 @@ MayClose (b ∷ bs) [] = ⊥
 
 -- a piece is written to the file of a name, from the byte on that `at` tells, and that file is the one that was used last; the others
 -- stay
-pub record WritesTo {F : Type 0} (place : F → Option ℕ) (bytes contents : F → Option (List ℕ)) (at : Begun F → ℕ) (piece : List ℕ) (old new : List (Begun F)) (name : List ℕ) : Type 0 where
+pub record WritesTo {F : Type 0} (place : F → Option ℕ) (bytes contents : F → Option (List ℕ)) (at : Begun F
+    → ℕ) (piece : List ℕ) (old new : List (Begun F)) (name : List ℕ) : Type 0 where
   pub from : Begun F
   pub to : Begun F
   pub others : List (Begun F)

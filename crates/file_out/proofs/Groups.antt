@@ -11,7 +11,8 @@ use Rattle.file_out.specs.StreamLaws.{begun_file-more}
 use Rattle.file_out.specs.Groups.{row_array, arrays_of}
 
 -- the layout of a group, from its rows
-pub layout-arrays_of : (shape : FileShape) (rows : List Row) → layout shape (arrays_of shape rows) ≡ begun_file shape (Some (length rows)) (arrays_of shape rows)
+pub layout-arrays_of : (shape : FileShape) (rows : List Row)
+    → layout shape (arrays_of shape rows) ≡ begun_file shape (Some (length rows)) (arrays_of shape rows)
 layout-arrays_of shape rows = ap (λ n. begun_file shape (Some n) (arrays_of shape rows)) (length-map rows (row_array shape))
 
 -- all rows are the first i, and others
@@ -31,12 +32,14 @@ group-front shape rows i =
 
 -- one row more
 pub group-more : (shape : FileShape) (rows : List Row) (i : ℕ) (r : Row) → i < length rows → r ≡ get_or rows i r →
-    begun_file shape (Some (length rows)) (arrays_of shape (take (i + 1) rows)) ≡ begun_file shape (Some (length rows)) (arrays_of shape (take i rows)) ++ row shape (row_array shape r)
+    begun_file shape (Some (length rows)) (arrays_of shape (take (i + 1) rows)) ≡ begun_file shape (Some (length rows)) (arrays_of shape (take i rows))
+    ++ row shape (row_array shape r)
 group-more shape rows i r h is =
     ap (begun_file shape (Some (length rows))) (map_more (row_array shape) rows i r h)
     ∙ begun_file-more shape (Some (length rows)) (arrays_of shape (take i rows)) (row_array shape (get_or rows i r))
     ∙ ap (λ (q : Row). begun_file shape (Some (length rows)) (arrays_of shape (take i rows)) ++ row shape (row_array shape q)) (sym is)
 
 -- all of them
-pub group-whole : (shape : FileShape) (rows : List Row) (i : ℕ) → length rows ≤ i → begun_file shape (Some (length rows)) (arrays_of shape (take i rows)) ≡ layout shape (arrays_of shape rows)
+pub group-whole : (shape : FileShape) (rows : List Row) (i : ℕ) → length rows ≤ i
+    → begun_file shape (Some (length rows)) (arrays_of shape (take i rows)) ≡ layout shape (arrays_of shape rows)
 group-whole shape rows i h = ap (λ all. begun_file shape (Some (length rows)) (arrays_of shape all)) (take_all i rows h) ∙ sym (layout-arrays_of shape rows)

@@ -13,7 +13,8 @@ IsBegun-create t u name final (inl same) = Untouched same
 IsBegun-create t u name final (inr made) = Front [] final refl made
 
 -- a piece that was added in part, after others
-pub IsBegun-append : (t u v : Option Files) (name done piece rest final : List ℕ) → final ≡ (done ++ piece) ++ rest → u ≡ with_file t name done → MayAppend u name piece v → IsBegun t name final v
+pub IsBegun-append : (t u v : Option Files) (name done piece rest final : List ℕ) → final ≡ (done ++ piece) ++ rest → u ≡ with_file t name done
+    → MayAppend u name piece v → IsBegun t name final v
 IsBegun-append t u v name done piece rest final whole made (count, is) =
     Front (done ++ take count piece) (drop count piece ++ rest)
     (whole ∙ ap (λ p. (done ++ p) ++ rest) (sym (take-append-drop count piece))
@@ -26,13 +27,15 @@ pub IsBegun-whole : (t u : Option Files) (name final : List ℕ) → u ≡ with_
 IsBegun-whole t u name final made = Front final [] (sym (append-nil final)) made
 
 -- a file whose header wasn't written
-pub IsBegun-BeginStops : (fault : SaveFault) (t u : Option Files) (name header rest final : List ℕ) → final ≡ header ++ rest → BeginStops fault t name header u → IsBegun t name final u
+pub IsBegun-BeginStops : (fault : SaveFault) (t u : Option Files) (name header rest final : List ℕ) → final ≡ header ++ rest
+    → BeginStops fault t name header u → IsBegun t name final u
 IsBegun-BeginStops OutOfMemory t u name header rest final whole same = Untouched same
 IsBegun-BeginStops Failed t u name header rest final whole (Untouched same) = Untouched same
 IsBegun-BeginStops Failed t u name header rest final whole (Front front others is made) =
     Front front (others ++ rest) (whole ∙ ap (λ bytes. bytes ++ rest) is ∙ append_assoc front others rest) made
 
 -- a row that wasn't added, after others
-pub IsBegun-AddStops : (fault : SaveFault) (t u v : Option Files) (name done piece rest final : List ℕ) → final ≡ (done ++ piece) ++ rest → u ≡ with_file t name done → AddStops fault u name piece v → IsBegun t name final v
+pub IsBegun-AddStops : (fault : SaveFault) (t u v : Option Files) (name done piece rest final : List ℕ) → final ≡ (done ++ piece) ++ rest
+    → u ≡ with_file t name done → AddStops fault u name piece v → IsBegun t name final v
 IsBegun-AddStops OutOfMemory t u v name done piece rest final whole made same = Front done (piece ++ rest) (whole ∙ append_assoc done piece rest) (same ∙ made)
 IsBegun-AddStops Failed t u v name done piece rest final whole made may = IsBegun-append t u v name done piece rest final whole made may

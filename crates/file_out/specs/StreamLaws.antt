@@ -9,7 +9,8 @@ use Rattle.nd_base.specs.declared.attribute.FileShape.{FileShape}
 use Rattle.nd_base.specs.Array.{Array}
 use Rattle.nd_base.specs.Forms.{longest_of}
 use Rattle.edge_traits.specs.Files.{Files, overwritten, with_file, with_more, HasFile, HasRange, Stands}
-use Rattle.edge_traits.specs.FileLaws.{HasFile-with_file, Stands-HasRange, overwritten-middle, with_patch-with_file, file_at-with_more_same, file_at-with_patch_same, HasRange-with_file}
+use Rattle.edge_traits.specs.FileLaws.{HasFile-with_file, Stands-HasRange, overwritten-middle, with_patch-with_file, file_at-with_more_same}
+use Rattle.edge_traits.specs.FileLaws.{file_at-with_patch_same, HasRange-with_file}
 use Rattle.cdf_write.specs.Spelling.{word, element_list}
 use Rattle.cdf_write.specs.Columns.{columns}
 use Rattle.cdf_write.specs.Layout.{magic, record_count, dimensions, attributes, variables, header_length, header, row, layout}
@@ -26,7 +27,8 @@ rows_few shape room within =
 
 -- a header behind its number of records
 after_count : FileShape → List ℕ
-after_count shape = element_list 10 (dimensions shape) ++ (element_list 12 (attributes shape) ++ element_list 11 (variables shape.form (header_length shape) (columns shape)))
+after_count shape = element_list 10 (dimensions shape)
+    ++ (element_list 12 (attributes shape) ++ element_list 11 (variables shape.form (header_length shape) (columns shape)))
 
 header_parts : (shape : FileShape) (numrecs : Option ℕ) → header shape numrecs ≡ magic shape.form ++ (record_count numrecs ++ after_count shape)
 unfolding header after_count
@@ -39,7 +41,8 @@ header_parts shape numrecs =
     ∙ append_assoc (magic shape.form) (record_count numrecs) (dims ++ (attrs ++ vars))
 
 -- the number of records put into a header that left it open, whatever follows
-pub overwritten-count : (shape : FileShape) (n : ℕ) (rest : List ℕ) → overwritten (header shape None ++ rest) count_place (word n) ≡ header shape (Some n) ++ rest
+pub overwritten-count : (shape : FileShape) (n : ℕ) (rest : List ℕ)
+    → overwritten (header shape None ++ rest) count_place (word n) ≡ header shape (Some n) ++ rest
 overwritten-count shape n rest =
     let parts : (numrecs : Option ℕ) → header shape numrecs ++ rest ≡ magic shape.form ++ (record_count numrecs ++ (after_count shape ++ rest)) =
     λ numrecs. ap (λ bytes. bytes ++ rest) (header_parts shape numrecs) ∙ append_assoc (magic shape.form) (record_count numrecs ++ after_count shape) rest
@@ -48,13 +51,16 @@ overwritten-count shape n rest =
     ∙ overwritten-middle (magic shape.form) (record_count None) (after_count shape ++ rest) (word n) refl ∙ sym (parts (Some n))
 
 -- one array more
-pub begun_file-more : (shape : FileShape) (numrecs : Option ℕ) (arrays : List Array) (a : Array) → begun_file shape numrecs (arrays ++ a ∷ []) ≡ begun_file shape numrecs arrays ++ row shape a
+pub begun_file-more : (shape : FileShape) (numrecs : Option ℕ) (arrays : List Array) (a : Array)
+    → begun_file shape numrecs (arrays ++ a ∷ []) ≡ begun_file shape numrecs arrays ++ row shape a
 begun_file-more shape numrecs arrays a =
-    ap (λ rows. header shape numrecs ++ rows) (flat_map-append (row shape) arrays (a ∷ []) ∙ ap (λ last. flat_map (row shape) arrays ++ last) (append-nil (row shape a)))
+    ap (λ rows. header shape numrecs ++ rows) (flat_map-append (row shape) arrays (a ∷ [])
+    ∙ ap (λ last. flat_map (row shape) arrays ++ last) (append-nil (row shape a)))
     ∙ sym (append_assoc (header shape numrecs) (flat_map (row shape) arrays) (row shape a))
 
 -- the bytes of the number of records are there from the first call on
-pub HasRange-begun_file : (t : Option Files) (name : List ℕ) (shape : FileShape) (numrecs : Option ℕ) (arrays : List Array) → HasRange (with_file t name (begun_file shape numrecs arrays)) name count_place 4
+pub HasRange-begun_file : (t : Option Files) (name : List ℕ) (shape : FileShape) (numrecs : Option ℕ) (arrays : List Array)
+    → HasRange (with_file t name (begun_file shape numrecs arrays)) name count_place 4
 HasRange-begun_file t name shape numrecs arrays =
     HasRange-with_file t name (begun_file shape numrecs arrays) count_place 4
     (let both = length-append (header shape numrecs) (flat_map (row shape) arrays) in
@@ -63,7 +69,8 @@ HasRange-begun_file t name shape numrecs arrays =
     omega (arith, both, front, least))
 
 -- at its end the file has the layout
-pub with_count-begun_file : (t : Option Files) (name : List ℕ) (shape : FileShape) (numrecs : Option ℕ) (arrays : List Array) → ForSome numrecs (λ n. n ≡ length arrays) →
+pub with_count-begun_file : (t : Option Files) (name : List ℕ) (shape : FileShape) (numrecs : Option ℕ) (arrays : List Array)
+    → ForSome numrecs (λ n. n ≡ length arrays) →
     with_count (with_file t name (begun_file shape numrecs arrays)) name numrecs (length arrays) ≡ with_file t name (layout shape arrays)
 with_count-begun_file t name shape None arrays h =
     with_patch-with_file t name (begun_file shape None arrays) count_place (word (length arrays))
@@ -86,7 +93,8 @@ HasRows-with_more (Some m) file arrays a h = record {
 }
 
 -- the number of records put in, or there from the start
-by_numrecs : (m : Option Files) (name : List ℕ) (shape : FileShape) (numrecs : Option ℕ) (arrays : List Array) → ForSome numrecs (λ n. n ≡ length arrays) → HasFile m name (begun_file shape numrecs arrays) →
+by_numrecs : (m : Option Files) (name : List ℕ) (shape : FileShape) (numrecs : Option ℕ) (arrays : List Array) → ForSome numrecs (λ n. n ≡ length arrays)
+    → HasFile m name (begun_file shape numrecs arrays) →
     HasFile (with_count m name numrecs (length arrays)) name (layout shape arrays)
 by_numrecs None name shape None arrays h stands = tt
 by_numrecs None name shape (Some n) arrays h stands = tt
@@ -106,7 +114,8 @@ HasFile-with_count t file arrays h rows =
 pub HasRows-begun : (t u : Option Files) (file : Stream) → file.count ≡ 0 → u ≡ with_file t file.name (header file.shape file.numrecs) → HasRows u file []
 HasRows-begun t u file none made = record {
   all = sym none;
-  bytes = subst (λ v. HasFile v file.name (begun_file file.shape file.numrecs [])) (sym (made ∙ ap (with_file t file.name) (sym (append-nil (header file.shape file.numrecs)))))
+  bytes = subst (λ v. HasFile v file.name (begun_file file.shape file.numrecs []))
+      (sym (made ∙ ap (with_file t file.name) (sym (append-nil (header file.shape file.numrecs)))))
       (HasFile-with_file t file.name (begun_file file.shape file.numrecs []));
 }
 

@@ -149,12 +149,14 @@ impl StreamFile {
         requires room { self.old.count < self.old.room }
         requires row { IsRow self.old.shape head.now samples.now }
         requires stands { Stands (K.held shelf.old) self.old.name }
-        ensures ok { OnOk result (K.held shelf.new ≡ with_more (K.held shelf.old) self.old.name (row self.old.shape (array_of head.now self.old.shape.kind self.old.shape.dims samples.now))) }
+        ensures ok { OnOk result (K.held shelf.new
+            ≡ with_more (K.held shelf.old) self.old.name (row self.old.shape (array_of head.now self.old.shape.kind self.old.shape.dims samples.now))) }
         ensures counted { OnOk result (self.new ≡ record self.old { count = self.old.count + 1 }) }
         ensures rows { OnOk result ((arrays : List Array) → HasRows (K.held shelf.old) self.old arrays →
             HasRows (K.held shelf.new) self.new (arrays ++ array_of head.now self.old.shape.kind self.old.shape.dims samples.now ∷ [])) }
         ensures stays { OnErr result (self.new ≡ self.old) }
-        ensures err { IfErr result (λ fault. AddStops fault (K.held shelf.old) self.old.name (row self.old.shape (array_of head.now self.old.shape.kind self.old.shape.dims samples.now)) (K.held shelf.new)) }
+        ensures err { IfErr result (λ fault. AddStops fault (K.held shelf.old) self.old.name
+            (row self.old.shape (array_of head.now self.old.shape.kind self.old.shape.dims samples.now)) (K.held shelf.new)) }
         ensures others { (q : List ℕ) → q ≢ self.old.name → file_at (K.held shelf.new) q ≡ file_at (K.held shelf.old) q }
         ensures cause { IsSaveCause result (K.faults shelf.old) (K.faults shelf.new) }
     {
@@ -189,7 +191,8 @@ impl StreamFile {
         requires stands { HasRange (K.held shelf.old) self.name count_place 4 }
         ensures count { IfOk result (λ n. n ≡ self.count) }
         ensures ok { OnOk result (K.held shelf.new ≡ with_count (K.held shelf.old) self.name self.numrecs self.count) }
-        ensures layout { OnOk result ((arrays : List Array) → HasRows (K.held shelf.old) self arrays → HasFile (K.held shelf.new) self.name (layout self.shape arrays)) }
+        ensures layout { OnOk result ((arrays : List Array) → HasRows (K.held shelf.old) self arrays
+            → HasFile (K.held shelf.new) self.name (layout self.shape arrays)) }
         ensures failed { IfErr result (λ fault. fault ≡ faults.Failed) }
         ensures err { OnErr result (MayCount (K.held shelf.old) self.name self.numrecs self.count (K.held shelf.new)) }
         ensures others { (q : List ℕ) → q ≢ self.name → file_at (K.held shelf.new) q ≡ file_at (K.held shelf.old) q }

@@ -1,10 +1,12 @@
 -- Nothing is queued or waits at a settled node: what its input emitted came before.
-use Rattle.std.proofs.Common.{◌≡◌, ◌≢◌, ℕ, ◌≤◌, Bool, true, false, ◌&&◌, cond, eqb, List, [], ◌∷◌, map, drop, refl, sym, ap, ◌∙◌, subst, arith, Option, Some, None, inl, inr}
+use Rattle.std.proofs.Common.{◌≡◌, ◌≢◌, ℕ, ◌≤◌, Bool, true, false, ◌&&◌, cond, eqb, List, [], ◌∷◌, map, drop, refl, sym, ap, ◌∙◌, subst, arith, Option}
+use Rattle.std.proofs.Common.{Some, None, inl, inr}
 use Rattle.std.specs.List.{list_all}
 use Rattle.std.proofs.lemmas.Bool.{and_parts, and_from, false≢true, true≢false, eqb-true, eq-eqb, ne_eqb, cases_Bool}
 use Rattle.nd_base.specs.declared.frame.FrameName.{FrameName}
 use Rattle.flow_journal.specs.declared.entry.Entry.{Entry}
-use Rattle.flow_journal.specs.declared.entry.Entry.TheVariants.{Load, LoadRefused, Tick, Issue, Emit, Accept, Full, Take, TakeBlock, PoolDrop, Put, SortDrop, Settle, Save, Saved, Close, Leave, Reclaim}
+use Rattle.flow_journal.specs.declared.entry.Entry.TheVariants.{Load, LoadRefused, Tick, Issue, Emit, Accept, Full, Take, TakeBlock, PoolDrop, Put}
+use Rattle.flow_journal.specs.declared.entry.Entry.TheVariants.{SortDrop, Settle, Save, Saved, Close, Leave, Reclaim}
 use Rattle.flow_journal.specs.declared.entry.Why.TheVariants.{Plain}
 use Rattle.flow_journal.specs.Setting.{Setting, node, is_sorted, node_numbers}
 use Rattle.flow_journal.specs.Turns.{offered_to}
@@ -20,7 +22,8 @@ use Rattle.flow_journal.proofs.Changes.{put_laws}
 use Rattle.flow_journal.proofs.Steps.{same_refl}
 use Rattle.flow_journal.proofs.Hands.{row_of}
 use Rattle.flow_journal.proofs.Rows.{row_laws}
-use Rattle.flow_journal.proofs.EntryCounts.{count, bit, count-cons, count-append, count-drop, count-let_go, owed-first, owed-answered, answers-by_Accept, answers-by_Tick}
+use Rattle.flow_journal.proofs.EntryCounts.{count, bit, count-cons, count-append, count-drop, count-let_go, owed-first, owed-answered, answers-by_Accept}
+use Rattle.flow_journal.proofs.EntryCounts.{answers-by_Tick}
 use Rattle.flow_journal.proofs.Settled.{settled-idle, put-unsettled}
 use Rattle.flow_journal.proofs.Outs.{out_of, is_out_at, AllOutAt, waits, none_elsewhere, result-at, flush-at, goes_out-at, count-flush, count-least_first}
 use Rattle.flow_journal.proofs.Offers.{is_number, once_numbered, none_numbered_0, child_once}

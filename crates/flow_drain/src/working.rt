@@ -1,6 +1,6 @@
 //! The drain as a worker, and as the feeder.
 
-ghost use Rattle.std.specs.Prelude.{◌≡◌, ℕ, ◌<◌, ◌≤◌, ◌⊎◌, length, IfOk, OnOk, IsTrue, true, false, []};
+ghost use Rattle.std.specs.Prelude.{◌≡◌, ℕ, ◌<◌, ◌⊎◌, length, IfOk, OnOk, IsTrue, true, false, []};
 ghost use Rattle.nd_base.specs.GraphRules.{IsGraph};
 ghost use Rattle.chain_plain.specs.Plans.{plan_of};
 ghost use Rattle.flow_journal.specs.Setting.{is_node, last_role};

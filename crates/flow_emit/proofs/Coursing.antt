@@ -1,5 +1,6 @@
 -- What is kept of a run, after a step of the course.
-use Rattle.std.proofs.Common.{◌≡◌, ◌≢◌, ◌≤◌, ◌<◌, ◌∙◌, ◌-◌, ℤ, filter, mul-le-mul_right, ℕ, ◌+◌, ◌*◌, suc, true, false, Bool, List, [], ◌∷◌, ◌++◌, Option, Some, None, length, map, set, drop, refl, sym, ap, subst, eqb, arith}
+use Rattle.std.proofs.Common.{◌≡◌, ◌≢◌, ◌≤◌, ◌<◌, ◌∙◌, ◌-◌, ℤ, filter, mul-le-mul_right, ℕ, ◌+◌, ◌*◌, suc, true, false, Bool, List, [], ◌∷◌, ◌++◌, Option}
+use Rattle.std.proofs.Common.{Some, None, length, map, set, drop, refl, sym, ap, subst, eqb, arith}
 use Rattle.std.specs.Prelude.{slice_get, slice_index_or}
 use Rattle.std.specs.List.{All, flat_map}
 use Rattle.std.proofs.lemmas.List.Elements.{All-head, All-tail}
@@ -18,7 +19,8 @@ use Rattle.flow_emit.specs.declared.hand.RoleState.{RoleState}
 use Rattle.flow_emit.specs.declared.facts.Facts.{Facts}
 use Rattle.flow_emit.specs.Courses.{Parts, log_of, IsCourse}
 use Rattle.flow_journal.specs.declared.entry.Entry.{Entry}
-use Rattle.flow_journal.specs.declared.entry.Entry.TheVariants.{Load, LoadRefused, Tick, Issue, Emit, Accept, Full, Take, PoolDrop, Put, SortDrop, Settle, Save, Saved, Close, Leave}
+use Rattle.flow_journal.specs.declared.entry.Entry.TheVariants.{Load, LoadRefused, Tick, Issue, Emit, Accept, Full, Take, PoolDrop, Put, SortDrop, Settle}
+use Rattle.flow_journal.specs.declared.entry.Entry.TheVariants.{Save, Saved, Close, Leave}
 use Rattle.flow_journal.specs.declared.entry.Why.{Why}
 use Rattle.flow_journal.specs.Setting.{is_sorted}
 use Rattle.flow_journal.specs.Pasts.{Past, frame}
@@ -62,7 +64,8 @@ use Rattle.flow_journal.specs.Accepted.{emitted}
 use Rattle.flow_journal.proofs.Steps.{comes_here}
 use Rattle.flow_emit.proofs.Bounds.{emits-short}
 use Rattle.flow_emit.proofs.Nodes.{nodes-kept, nodes-set}
-use Rattle.flow_emit.proofs.Elsewhere.{same-load_refused, same-tick, same-issue, same-emit, same-accept, same-full, same-take, same-pool_drop, same-sort_drop, same-settle, same-save, same-saved, same-close, same-leave}
+use Rattle.flow_emit.proofs.Elsewhere.{same-load_refused, same-tick, same-issue, same-emit, same-accept, same-full, same-take, same-pool_drop}
+use Rattle.flow_emit.proofs.Elsewhere.{same-sort_drop, same-settle, same-save, same-saved, same-close, same-leave}
 use Rattle.flow_emit.proofs.Here.{here-accept, here-take, here-pool_drop}
 use Rattle.flow_emit.proofs.FactsAfter.{few-of, facts-accept, facts-full, facts-tick, facts-load_refused, facts-close, facts-leave}
 use Rattle.std.proofs.lemmas.Bool.{eq-eqb}

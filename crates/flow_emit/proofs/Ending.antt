@@ -1,5 +1,6 @@
 -- What is left at the end, as code reads it of nodes and roles.
-use Rattle.std.proofs.Common.{◌≡◌, ◌≤◌, ◌<◌, ◌∙◌, ℕ, ◌+◌, ◌^◌, zero, suc, true, false, Bool, ◌&&◌, List, [], ◌∷◌, ◌++◌, Option, Some, None, length, map, refl, sym, ap, subst, arith, inl, inr, ◌⊎◌, eqb}
+use Rattle.std.proofs.Common.{◌≡◌, ◌≤◌, ◌<◌, ◌∙◌, ℕ, ◌+◌, ◌^◌, zero, suc, true, false, Bool, ◌&&◌, List, [], ◌∷◌, ◌++◌, Option, Some, None, length, map}
+use Rattle.std.proofs.Common.{refl, sym, ap, subst, arith, inl, inr, ◌⊎◌, eqb}
 use Rattle.std.proofs.Math.Nat.{mul-le-mul}
 use Rattle.std.specs.Prelude.{slice_get, is_none}
 use Rattle.std.specs.List.{list_all}

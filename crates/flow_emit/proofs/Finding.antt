@@ -1,5 +1,6 @@
 -- What code finds of a node, a role and a rule, by their numbers.
-use Rattle.std.proofs.Common.{◌≡◌, ◌≢◌, ◌≤◌, ◌<◌, ◌∙◌, ◌-◌, ℕ, zero, suc, true, false, Bool, List, [], ◌∷◌, Some, length, map, refl, sym, ap, subst, get_or, arith}
+use Rattle.std.proofs.Common.{◌≡◌, ◌≢◌, ◌≤◌, ◌<◌, ◌∙◌, ◌-◌, ℕ, zero, suc, true, false, Bool, List, [], ◌∷◌, Some, length, map, refl, sym, ap, subst, get_or}
+use Rattle.std.proofs.Common.{arith}
 use Rattle.std.specs.Prelude.{slice_get, slice_index_or}
 use Rattle.std.proofs.lemmas.List.Sums.{get_or-le-sum_by}
 use Rattle.nd_base.specs.declared.frame.FrameName.{FrameName}
@@ -205,7 +206,8 @@ pub group-saves : (w : Work) (whole : Bool) (count n l : ℕ) → w ≡ as_work 
 group-saves w whole count n l is same = rw is (ap (λ j. j / count) same)
 
 pub group-none : (w : Work) (x : NodeWork) (n : ℕ) → w ≡ as_work x
-    → (x ≡ work.Makes) ⊎ ((x ≡ work.Passes) ⊎ ((x ≡ work.Deals) ⊎ ((pre : ℕ) × (post : ℕ) × (preset : ℕ) × (x ≡ work.Watches pre post preset)))) → 0 ≡ group_of w n
+    → (x ≡ work.Makes) ⊎ ((x ≡ work.Passes) ⊎ ((x ≡ work.Deals) ⊎ ((pre : ℕ) × (post : ℕ) × (preset : ℕ) × (x ≡ work.Watches pre post preset))))
+    → 0 ≡ group_of w n
 group-none w x n is other = sym (ap (λ (y : Work). group_of y n) is ∙ elim other [
   | inl makes ↦ ap (λ y. group_of (as_work y) n) makes
   | inr more ↦ elim more [

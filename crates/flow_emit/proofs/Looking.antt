@@ -1,5 +1,6 @@
 -- A look at a sort list, by what the list lets out.
-use Rattle.std.proofs.Common.{◌≡◌, ◌⊎◌, ◌≤◌, ◌<◌, ◌∙◌, ◌-◌, ◌+◌, ℕ, ℤ, true, false, Bool, List, [], ◌∷◌, Some, None, inl, inr, length, map, refl, sym, ap, subst, ltb, arith, if◌then◌else◌}
+use Rattle.std.proofs.Common.{◌≡◌, ◌⊎◌, ◌≤◌, ◌<◌, ◌∙◌, ◌-◌, ◌+◌, ℕ, ℤ, true, false, Bool, List, [], ◌∷◌, Some, None, inl, inr, length, map, refl, sym, ap}
+use Rattle.std.proofs.Common.{subst, ltb, arith, if◌then◌else◌}
 use Rattle.std.specs.List.{All}
 use Rattle.std.proofs.lemmas.List.Elements.{All-map}
 use Rattle.std.proofs.lemmas.List.Sorted.{All-permutation}

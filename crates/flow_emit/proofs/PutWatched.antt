@@ -1,5 +1,6 @@
 -- What is kept of a run, after a Put at a circular node, and what the put calls for.
-use Rattle.std.proofs.Common.{◌≡◌, ◌∙◌, ◌-◌, ◌+◌, ℕ, suc, true, false, Bool, cond, List, [], ◌∷◌, ◌++◌, Some, length, map, set, refl, sym, ap, subst, arith, length-append}
+use Rattle.std.proofs.Common.{◌≡◌, ◌∙◌, ◌-◌, ◌+◌, ℕ, suc, true, false, Bool, cond, List, [], ◌∷◌, ◌++◌, Some, length, map, set, refl, sym, ap, subst, arith}
+use Rattle.std.proofs.Common.{length-append}
 use Rattle.std.specs.Prelude.{slice_get}
 use Rattle.std.specs.List.{All, flat_map}
 use Rattle.std.proofs.lemmas.Bool.{true≢false}

@@ -1,5 +1,6 @@
 -- What is kept of a run, after a Put.
-use Rattle.std.proofs.Common.{◌≡◌, ◌≢◌, ◌≤◌, ◌<◌, ℤ, ◌∙◌, ◌-◌, ℕ, ◌+◌, suc, true, false, Bool, length-append, List, [], ◌∷◌, ◌++◌, Some, length, set, refl, sym, ap, subst, arith}
+use Rattle.std.proofs.Common.{◌≡◌, ◌≢◌, ◌≤◌, ◌<◌, ℤ, ◌∙◌, ◌-◌, ℕ, ◌+◌, suc, true, false, Bool, length-append, List, [], ◌∷◌, ◌++◌, Some, length, set, refl}
+use Rattle.std.proofs.Common.{sym, ap, subst, arith}
 use Rattle.std.specs.Prelude.{slice_get, if◌then◌else◌}
 use Rattle.trig_window.specs.Watch.{Watch}
 use Rattle.board_rules.specs.InHand.{is_job_on, result_name}

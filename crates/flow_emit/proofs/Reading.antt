@@ -1,5 +1,6 @@
 -- What code reads of what is kept.
-use Rattle.std.proofs.Common.{◌≡◌, ◌≤◌, ◌<◌, ◌∙◌, ◌-◌, ℕ, ◌+◌, suc, true, false, List, [], ◌∷◌, Option, Some, length, drop, refl, sym, ap, ltb, leb, arith, get_or}
+use Rattle.std.proofs.Common.{◌≡◌, ◌≤◌, ◌<◌, ◌∙◌, ◌-◌, ℕ, ◌+◌, suc, true, false, List, [], ◌∷◌, Option, Some, length, drop, refl, sym, ap, ltb, leb, arith}
+use Rattle.std.proofs.Common.{get_or}
 use Rattle.std.specs.Prelude.{slice_get}
 use Rattle.std.proofs.lemmas.Bool.{lt-ltb, le-ltb, ltb-true, leb-true, and_parts}
 use Rattle.std.proofs.lemmas.Option.{slice_get_read}

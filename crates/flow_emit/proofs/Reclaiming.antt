@@ -1,5 +1,6 @@
 -- What is kept of a run, after a hand is taken back.
-use Rattle.std.proofs.Common.{◌≡◌, ◌≤◌, ◌<◌, ◌∙◌, ◌-◌, ℕ, ◌+◌, suc, true, false, Bool, not, List, [], ◌∷◌, Option, Some, None, length, set, refl, sym, ap, subst, arith, inl, inr}
+use Rattle.std.proofs.Common.{◌≡◌, ◌≤◌, ◌<◌, ◌∙◌, ◌-◌, ℕ, ◌+◌, suc, true, false, Bool, not, List, [], ◌∷◌, Option, Some, None, length, set, refl, sym, ap}
+use Rattle.std.proofs.Common.{subst, arith, inl, inr}
 use Rattle.std.specs.Prelude.{slice_get}
 use Rattle.std.specs.VecDeque.{deque_capacity}
 use Rattle.std.proofs.lemmas.Bool.{ne_eqb, eq-eqb, cases_Bool, and_parts}
@@ -366,7 +367,8 @@ hand-making (Some (TakeBlock f x r w m k b n g)) v a z h =
       g,
       x,
       ap (λ i. Some (TakeBlock f x r i m k b n g)) e
-          ∙ (ap (λ (y : FrameName). Some (TakeBlock f x r v y.maker y.index b n g)) d ∙ ap (λ (y : Block). Some (TakeBlock f x r v a.maker a.index y.number n g)) c),
+          ∙ (ap (λ (y : FrameName). Some (TakeBlock f x r v y.maker y.index b n g)) d
+          ∙ ap (λ (y : Block). Some (TakeBlock f x r v a.maker a.index y.number n g)) c),
     )
 hand-making (Some (Save r w m k g)) v a z h = cc
 hand-making (Some _) v a z h = cc

@@ -1,5 +1,6 @@
 -- The window of a circular node, by the log.
-use Rattle.std.proofs.Common.{◌≡◌, ◌≤◌, ◌∙◌, ◌-◌, ℕ, zero, suc, true, false, Bool, cond, ltb, ◌||◌, max, List, [], ◌∷◌, length, map, drop, refl, sym, ap, subst, arith, length-drop}
+use Rattle.std.proofs.Common.{◌≡◌, ◌≤◌, ◌∙◌, ◌-◌, ℕ, zero, suc, true, false, Bool, cond, ltb, ◌||◌, max, List, [], ◌∷◌, length, map, drop, refl, sym, ap}
+use Rattle.std.proofs.Common.{subst, arith, length-drop}
 use Rattle.std.specs.Prelude.{slice_index_or}
 use Rattle.std.specs.List.{All}
 use Rattle.std.proofs.lemmas.Bool.{false≢true}

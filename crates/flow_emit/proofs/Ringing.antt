@@ -1,12 +1,14 @@
 -- What comes out of a window at a push, and what a circular node then lets out.
-use Rattle.std.proofs.Common.{◌≡◌, ◌⊎◌, ◌≤◌, ◌<◌, ◌∙◌, ◌-◌, ℕ, Bool, true, false, cond, ltb, ◌||◌, List, [], ◌∷◌, ◌++◌, length, take, drop, max, map, Some, refl, sym, ap, subst, inl, inr, arith}
+use Rattle.std.proofs.Common.{◌≡◌, ◌⊎◌, ◌≤◌, ◌<◌, ◌∙◌, ◌-◌, ℕ, Bool, true, false, cond, ltb, ◌||◌, List, [], ◌∷◌, ◌++◌, length, take, drop, max, map, Some}
+use Rattle.std.proofs.Common.{refl, sym, ap, subst, inl, inr, arith}
 use Rattle.std.specs.List.{list_all}
 use Rattle.std.specs.Prelude.{slice_get}
 use Rattle.std.proofs.lemmas.Bool.{cases_Bool, cases_lt, ltb-true}
 use Rattle.std.proofs.lemmas.List.{append-nil, drop_all, length_push}
 use Rattle.nd_base.specs.declared.frame.FrameName.{FrameName}
 use Rattle.trig_window.specs.Windows.{triggers, is_trigger, end_of_last, is_passed, is_complete, kept}
-use Rattle.trig_window.specs.WindowLaws.{triggers-inside, triggers-complete, triggers-fired, triggers-quiet, grown-is_trigger, same-is_trigger, same-is_passed, same-is_complete, kept-inside, kept-complete}
+use Rattle.trig_window.specs.WindowLaws.{triggers-inside, triggers-complete, triggers-fired, triggers-quiet, grown-is_trigger, same-is_trigger}
+use Rattle.trig_window.specs.WindowLaws.{same-is_passed, same-is_complete, kept-inside, kept-complete}
 use Rattle.trig_window.specs.Watch.{Watch}
 use Rattle.trig_window.specs.Watching.{Pushes, SameRule, StandsAt}
 use Rattle.trig_window.specs.declared.window.Passed.{Passed}

@@ -1,5 +1,6 @@
 -- What a node keeps for a window to come, when it is settled.
-use Rattle.std.proofs.Common.{◌≡◌, ◌⊎◌, ◌∙◌, ◌≤◌, ◌-◌, ℕ, suc, true, false, Bool, List, [], ◌∷◌, ◌++◌, Some, length, set, refl, sym, ap, subst, inl, inr, arith, if◌then◌else◌}
+use Rattle.std.proofs.Common.{◌≡◌, ◌⊎◌, ◌∙◌, ◌≤◌, ◌-◌, ℕ, suc, true, false, Bool, List, [], ◌∷◌, ◌++◌, Some, length, set, refl, sym, ap, subst, inl, inr}
+use Rattle.std.proofs.Common.{arith, if◌then◌else◌}
 use Rattle.std.specs.Prelude.{slice_get}
 use Rattle.std.specs.List.{flat_map}
 use Rattle.std.proofs.lemmas.Bool.{true≢false}

@@ -1,5 +1,6 @@
 -- The rules that are made of a plan are those of its run.
-use Rattle.std.proofs.Common.{◌≡◌, ◌≤◌, ◌<◌, ◌∙◌, ◌⊎◌, inl, inr, ℕ, ◌+◌, ◌-◌, ◌*◌, zero, suc, true, false, Bool, cond, eqb, List, [], ◌∷◌, ◌++◌, Some, length, map, take, drop, filter, get_or, refl, sym, ap, subst, arith, length-append, add-zero}
+use Rattle.std.proofs.Common.{◌≡◌, ◌≤◌, ◌<◌, ◌∙◌, ◌⊎◌, inl, inr, ℕ, ◌+◌, ◌-◌, ◌*◌, zero, suc, true, false, Bool, cond, eqb, List, [], ◌∷◌, ◌++◌, Some}
+use Rattle.std.proofs.Common.{length, map, take, drop, filter, get_or, refl, sym, ap, subst, arith, length-append, add-zero}
 use Rattle.std.specs.Prelude.{slice_get, sum_by, find, fold, IsTrue}
 use Rattle.std.specs.List.{All}
 use Rattle.std.specs.Option.{option_map_or}

@@ -1,5 +1,6 @@
 -- Nodes before any entry.
-use Rattle.std.proofs.Common.{◌≡◌, ◌≤◌, ◌<◌, ◌∙◌, ℕ, ◌+◌, zero, suc, true, false, Bool, cond, List, [], ◌∷◌, ◌++◌, Option, Some, length, map, get_or, refl, sym, ap, subst, arith, length-append, ℤ, pos}
+use Rattle.std.proofs.Common.{◌≡◌, ◌≤◌, ◌<◌, ◌∙◌, ℕ, ◌+◌, zero, suc, true, false, Bool, cond, List, [], ◌∷◌, ◌++◌, Option, Some, length, map, get_or, refl}
+use Rattle.std.proofs.Common.{sym, ap, subst, arith, length-append, ℤ, pos}
 use Rattle.std.specs.Prelude.{◌-ℤ◌, slice_get, slice_index_or}
 use Rattle.std.specs.VecDeque.{deque_capacity}
 use Rattle.std.specs.Prelude.{vec_capacity}

@@ -1,5 +1,6 @@
 -- A tick, and the looks that it calls for: a look at one node leaves those at the others as they were.
-use Rattle.std.proofs.Common.{◌≡◌, ◌≢◌, ◌≤◌, ◌<◌, ◌∙◌, ◌+◌, ℕ, zero, suc, max, ℤ, true, false, Bool, List, [], ◌∷◌, ◌++◌, length, map, drop, refl, sym, ap, subst, eqb, ltb, arith, get_or, if◌then◌else◌}
+use Rattle.std.proofs.Common.{◌≡◌, ◌≢◌, ◌≤◌, ◌<◌, ◌∙◌, ◌+◌, ℕ, zero, suc, max, ℤ, true, false, Bool, List, [], ◌∷◌, ◌++◌, length, map, drop, refl, sym, ap}
+use Rattle.std.proofs.Common.{subst, eqb, ltb, arith, get_or, if◌then◌else◌}
 use Rattle.std.specs.List.{All, list_all}
 use Rattle.std.proofs.lemmas.Bool.{and_parts, and_from, eq-eqb, eqb-true, false≢true, lt-ltb, le-leb}
 use Rattle.std.proofs.lemmas.List.{drop_all}

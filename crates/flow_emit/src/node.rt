@@ -111,7 +111,8 @@ impl NodeState {
         requires threads { rules.now.threads ≤ 16 }
         requires work { IsWorkWithin rules.now.work }
         requires first { i64.MIN <ℤ first }
-        ensures { IfOk result (λ n. (measure : ℕ → FrameName → Option Measure) (s : Setting) (v : ℕ) → Starts measure s v rules.now frames first → IsNode measure s v [] n) }
+        ensures { IfOk result (λ n. (measure : ℕ → FrameName → Option Measure) (s : Setting) (v : ℕ) → Starts measure s v rules.now frames first
+            → IsNode measure s v [] n) }
     {
         Ok(NodeState {
             inbox: Inbox::new(alloc, rules.queue, rules.threads)?,

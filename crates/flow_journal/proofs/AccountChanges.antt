@@ -5,7 +5,8 @@ use Rattle.std.specs.List.{list_any, find}
 use Rattle.std.proofs.lemmas.Bool.{and_parts, eqb-true, true≢false, false≢true, eq-eqb}
 use Rattle.nd_base.specs.declared.frame.FrameName.{FrameName}
 use Rattle.flow_journal.specs.declared.entry.Entry.{Entry}
-use Rattle.flow_journal.specs.declared.entry.Entry.TheVariants.{Load, LoadRefused, Tick, Issue, Emit, Accept, Full, Take, TakeBlock, PoolDrop, Put, SortDrop, Settle, Save, Saved, Close, Leave, Reclaim}
+use Rattle.flow_journal.specs.declared.entry.Entry.TheVariants.{Load, LoadRefused, Tick, Issue, Emit, Accept, Full, Take, TakeBlock, PoolDrop, Put}
+use Rattle.flow_journal.specs.declared.entry.Entry.TheVariants.{SortDrop, Settle, Save, Saved, Close, Leave, Reclaim}
 use Rattle.flow_journal.specs.Setting.{Setting}
 use Rattle.flow_journal.specs.Pasts.{Past, frame}
 use Rattle.flow_journal.specs.Hands.{takes_up, hands, hand, standing}
@@ -25,7 +26,8 @@ use Rattle.flow_journal.proofs.FrameBlocks.{Stands, has, or-false, load-block, t
 use Rattle.flow_journal.proofs.Making.{unloaded-nowhere, reclaimed-nowhere, untaken-nowhere, untaken-again}
 use Rattle.flow_journal.proofs.Places.{map-count}
 use Rattle.flow_journal.proofs.Totals.{held_by, total, hand-count, blocks-count, refs-total, tests-same, sum_of}
-use Rattle.flow_journal.proofs.TotalChanges.{kept_count, total-accept, total-take, total-take_block, total-pool_drop, total-issue, total-saved, total-emit, total-emit_unsorted, total-sort_drop, total-settle, total-save, total-put, made_in, total-reclaim}
+use Rattle.flow_journal.proofs.TotalChanges.{kept_count, total-accept, total-take, total-take_block, total-pool_drop, total-issue, total-saved, total-emit}
+use Rattle.flow_journal.proofs.TotalChanges.{total-emit_unsorted, total-sort_drop, total-settle, total-save, total-put, made_in, total-reclaim}
 
 -- BLOCKS OF FRAMES
 

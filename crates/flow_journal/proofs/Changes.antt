@@ -1,11 +1,13 @@
 -- What each entry changes.
-use Rattle.std.proofs.Common.{◌≡◌, ◌≢◌, ℕ, ◌+◌, Bool, true, false, not, ◌&&◌, cond, eqb, List, [], ◌∷◌, ◌++◌, refl, sym, ap, ◌∙◌, subst, arith, Option, Some, None}
+use Rattle.std.proofs.Common.{◌≡◌, ◌≢◌, ℕ, ◌+◌, Bool, true, false, not, ◌&&◌, cond, eqb, List, [], ◌∷◌, ◌++◌, refl, sym, ap, ◌∙◌, subst, arith, Option}
+use Rattle.std.proofs.Common.{Some, None}
 use Rattle.std.specs.List.{find, flat_map}
 use Rattle.std.proofs.lemmas.Bool.{and_parts, false≢true, true≢false, eq-eqb, ne_eqb, eqb-true, eqb-false, or_left}
 use Rattle.nd_base.specs.declared.frame.FrameName.{FrameName}
 use Rattle.trig_window.specs.Windows.{kept}
 use Rattle.flow_journal.specs.declared.entry.Entry.{Entry}
-use Rattle.flow_journal.specs.declared.entry.Entry.TheVariants.{Load, LoadRefused, Tick, Issue, Emit, Accept, Full, Take, TakeBlock, PoolDrop, Put, SortDrop, Settle, Save, Saved, Reclaim}
+use Rattle.flow_journal.specs.declared.entry.Entry.TheVariants.{Load, LoadRefused, Tick, Issue, Emit, Accept, Full, Take, TakeBlock, PoolDrop, Put}
+use Rattle.flow_journal.specs.declared.entry.Entry.TheVariants.{SortDrop, Settle, Save, Saved, Reclaim}
 use Rattle.flow_journal.specs.Setting.{Setting, Watches, node, is_maker, id_at}
 use Rattle.flow_journal.specs.Pasts.{Past, frame}
 use Rattle.flow_journal.specs.Hands.{takes_up, let_go, hands, hand, standing, is_job, job_array, is_free}
@@ -20,11 +22,14 @@ use Rattle.queue_sort.specs.Sorting.{keeps_step}
 use Rattle.flow_journal.specs.Breaks.{prev_of, outs, prev, breaks_of, breaks}
 use Rattle.flow_journal.specs.FirstEntries.{first, may_take, pool_grants, pool_refuses}
 use Rattle.flow_journal.specs.Histories.{is_legal}
-use Rattle.flow_journal.specs.EntryLaws.{moves_queues, QueueLaws, lets_go, HandLaws, offers, offers_frames, OfferLaws, is_put, moves_lists, PutLaws, moves_rings, RingLaws, moves_saves, changes_saves, SaveLaws, moves_hands, JobLaws, lets_out, ticks, ClockLaws, BreakLaws, RoleLaws}
+use Rattle.flow_journal.specs.EntryLaws.{moves_queues, QueueLaws, lets_go, HandLaws, offers, offers_frames, OfferLaws, is_put, moves_lists, PutLaws}
+use Rattle.flow_journal.specs.EntryLaws.{moves_rings, RingLaws, moves_saves, changes_saves, SaveLaws, moves_hands, JobLaws, lets_out, ticks, ClockLaws}
+use Rattle.flow_journal.specs.EntryLaws.{BreakLaws, RoleLaws}
 use Rattle.flow_journal.proofs.Steps.{comes_here, comes_elsewhere, queued-Accept, queued-Reclaim}
 use Rattle.flow_journal.proofs.EntryCounts.{count, bit, count-cons, count-let_go}
 use Rattle.flow_journal.proofs.Emissions.{flags-puts, waiting-unsorted}
-use Rattle.flow_journal.proofs.Pieces.{saves-front, unsaved-file, unsaved-Put, unsaved-Put_elsewhere, unsaved-Save, unsaved-Save_elsewhere, unsaved-Reclaim, unsaved-Reclaim_other, piece-file}
+use Rattle.flow_journal.proofs.Pieces.{saves-front, unsaved-file, unsaved-Put, unsaved-Put_elsewhere, unsaved-Save, unsaved-Save_elsewhere, unsaved-Reclaim}
+use Rattle.flow_journal.proofs.Pieces.{unsaved-Reclaim_other, piece-file}
 use Rattle.flow_journal.proofs.Counts.{hand-standing}
 use Rattle.flow_journal.proofs.Loads.{loaded-last, offered-Reclaim_other}
 use Rattle.flow_journal.proofs.LastOuts.{outs-let_go, last_out, outs_of, off}

@@ -2,7 +2,8 @@
 use Rattle.std.proofs.Common.{◌≡◌, ℕ, ◌+◌, ◌≤◌, Bool, true, false, eqb, List, [], ◌∷◌, map, drop, refl, ap, ◌∙◌, arith}
 use Rattle.std.proofs.lemmas.Bool.{and_parts}
 use Rattle.flow_journal.specs.declared.entry.Entry.{Entry}
-use Rattle.flow_journal.specs.declared.entry.Entry.TheVariants.{Load, LoadRefused, Tick, Issue, Emit, Take, TakeBlock, Put, SortDrop, Settle, Save, Saved, Reclaim}
+use Rattle.flow_journal.specs.declared.entry.Entry.TheVariants.{Load, LoadRefused, Tick, Issue, Emit, Take, TakeBlock, Put, SortDrop, Settle, Save, Saved}
+use Rattle.flow_journal.specs.declared.entry.Entry.TheVariants.{Reclaim}
 use Rattle.flow_journal.specs.declared.entry.Why.TheVariants.{Plain}
 use Rattle.flow_journal.specs.Setting.{Setting, node, node_numbers}
 use Rattle.flow_journal.specs.Turns.{offered_to}
@@ -14,7 +15,8 @@ use Rattle.flow_journal.specs.Following.{offer, calls_for, owed}
 use Rattle.flow_journal.specs.Histories.{is_legal}
 use Rattle.flow_journal.proofs.Hands.{stood}
 use Rattle.flow_journal.proofs.Counts.{hand-standing}
-use Rattle.flow_journal.proofs.EntryCounts.{count, bit, count-cons, count-append, count-drop, count-let_go, count-let_go-le, emits_at, loads_at, owed-answered, answers-by_Tick}
+use Rattle.flow_journal.proofs.EntryCounts.{count, bit, count-cons, count-append, count-drop, count-let_go, count-let_go-le, emits_at, loads_at}
+use Rattle.flow_journal.proofs.EntryCounts.{owed-answered, answers-by_Tick}
 use Rattle.flow_journal.proofs.Jobs.{issued_hand, reclaim_hand}
 use Rattle.flow_journal.proofs.Outs.{out_of, of_index, emits-le, none_elsewhere, result-at, flush-at}
 use Rattle.flow_journal.proofs.Offers.{none_numbered_0}

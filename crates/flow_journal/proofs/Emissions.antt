@@ -1,5 +1,6 @@
 -- A node emits each of its results once at most.
-use Rattle.std.proofs.Common.{◌≡◌, ◌≢◌, ℕ, ◌+◌, ◌≤◌, Bool, true, false, ◌&&◌, cond, eqb, List, [], ◌∷◌, ◌++◌, map, length, drop, refl, sym, ap, ◌∙◌, subst, arith, inl, inr, length-append, ◌⊎◌}
+use Rattle.std.proofs.Common.{◌≡◌, ◌≢◌, ℕ, ◌+◌, ◌≤◌, Bool, true, false, ◌&&◌, cond, eqb, List, [], ◌∷◌, ◌++◌, map, length, drop, refl, sym, ap, ◌∙◌, subst}
+use Rattle.std.proofs.Common.{arith, inl, inr, length-append, ◌⊎◌}
 use Rattle.std.proofs.lemmas.Bool.{and_parts, and_from, false≢true, true≢false, eq-eqb, ne_eqb, eqb-true, eqb-false, cases_Bool}
 use Rattle.nd_base.specs.declared.frame.FrameName.{FrameName}
 use Rattle.trig_window.specs.Windows.{is_trigger, is_passed, kept}
@@ -17,8 +18,10 @@ use Rattle.flow_journal.specs.Rings.{ring, ring_of}
 use Rattle.flow_journal.specs.Following.{offer, emit, look, sorted_result, result, calls_for, owed}
 use Rattle.flow_journal.specs.Histories.{is_legal}
 use Rattle.flow_journal.proofs.Steps.{same_refl, same-true, comes_here, comes_elsewhere}
-use Rattle.flow_journal.proofs.EntryCounts.{count, bit, count-cons, count-append, count-drop, emits_at, puts_at, puts_of, owed-first, owed-answered, answers-by_Emit, answers-by_SortDrop, answers-by_Tick}
-use Rattle.flow_journal.proofs.Outs.{AllOutAt, out_of, is_out_at, of_index, emits-le, none_elsewhere, result-at, flush-at, waits, count-flush, count-sorted_result, count-least_first, goes_out-at}
+use Rattle.flow_journal.proofs.EntryCounts.{count, bit, count-cons, count-append, count-drop, emits_at, puts_at, puts_of, owed-first, owed-answered}
+use Rattle.flow_journal.proofs.EntryCounts.{answers-by_Emit, answers-by_SortDrop, answers-by_Tick}
+use Rattle.flow_journal.proofs.Outs.{AllOutAt, out_of, is_out_at, of_index, emits-le, none_elsewhere, result-at, flush-at, waits, count-flush}
+use Rattle.flow_journal.proofs.Outs.{count-sorted_result, count-least_first, goes_out-at}
 use Rattle.flow_journal.proofs.Offers.{once_numbered}
 use Rattle.flow_journal.proofs.Issues.{looks, looks-le}
 use Rattle.flow_journal.proofs.RingCounts.{ring-push, kept-nothing}

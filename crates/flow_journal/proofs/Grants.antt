@@ -1,10 +1,12 @@
 -- What a grant gives away has no place.
-use Rattle.std.proofs.Common.{◌≡◌, ◌≢◌, ℕ, zero, suc, ◌+◌, Bool, true, false, not, cond, ◌||◌, eqb, leb, List, [], ◌∷◌, ◌++◌, map, refl, sym, ap, subst, ◌∙◌, Option, Some, None, inl, inr}
+use Rattle.std.proofs.Common.{◌≡◌, ◌≢◌, ℕ, zero, suc, ◌+◌, Bool, true, false, not, cond, ◌||◌, eqb, leb, List, [], ◌∷◌, ◌++◌, map, refl, sym, ap, subst}
+use Rattle.std.proofs.Common.{◌∙◌, Option, Some, None, inl, inr}
 use Rattle.std.specs.Prelude.{filter, reverse, take}
 use Rattle.std.specs.List.{find, list_all}
 use Rattle.std.proofs.lemmas.Bool.{and_parts, and_from, true≢false, eqb-true, eq-eqb, ne_eqb, or_from, or_cases, or_left, or_right, cases_Bool, cond-true}
 use Rattle.std.proofs.lemmas.List.{reverse-append}
-use Rattle.pool_ledger.specs.Grants.{Block, comes_first, placed, in_order, free_in_order, smallest_fit, largest_free, has_number, left_after, known_after, passes, given_up, new_number, Refused, Granted, fit_or_fresh, granted}
+use Rattle.pool_ledger.specs.Grants.{Block, comes_first, placed, in_order, free_in_order, smallest_fit, largest_free, has_number, left_after, known_after}
+use Rattle.pool_ledger.specs.Grants.{passes, given_up, new_number, Refused, Granted, fit_or_fresh, granted}
 use Rattle.flow_journal.specs.Setting.{Setting}
 use Rattle.flow_journal.specs.Pasts.{Past}
 use Rattle.flow_journal.specs.Accounts.{refs, is_unplaced, known, held}

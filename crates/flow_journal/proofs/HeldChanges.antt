@@ -1,11 +1,14 @@
 -- How grants and places change the known blocks and the bytes that are held.
-use Rattle.std.proofs.Common.{◌≡◌, ◌≢◌, ℕ, ◌+◌, ◌≤◌, ◌<◌, Bool, true, false, not, ◌&&◌, cond, eqb, ltb, leb, List, [], ◌∷◌, refl, sym, ap, ◌∙◌, subst, arith, Option, Some, None, inl, inr}
+use Rattle.std.proofs.Common.{◌≡◌, ◌≢◌, ℕ, ◌+◌, ◌≤◌, ◌<◌, Bool, true, false, not, ◌&&◌, cond, eqb, ltb, leb, List, [], ◌∷◌, refl, sym, ap, ◌∙◌, subst}
+use Rattle.std.proofs.Common.{arith, Option, Some, None, inl, inr}
 use Rattle.std.specs.Prelude.{filter, map}
 use Rattle.std.specs.List.{list_all}
-use Rattle.std.proofs.lemmas.Bool.{and_parts, and_from, eq-eqb, ne_eqb, eqb-true, eqb-false, cases_Bool, true≢false, false≢true, not-true, not_from_false, lt-ltb, ltb-true}
+use Rattle.std.proofs.lemmas.Bool.{and_parts, and_from, eq-eqb, ne_eqb, eqb-true, eqb-false, cases_Bool, true≢false, false≢true, not-true, not_from_false}
+use Rattle.std.proofs.lemmas.Bool.{lt-ltb, ltb-true}
 use Rattle.std.proofs.lemmas.List.Sums.{sum_by-cons}
 use Rattle.std.proofs.lemmas.List.Elements.{filter_agree}
-use Rattle.pool_ledger.specs.Grants.{Block, sizes, has_number, passes, smallest_fit, largest_free, free_in_order, left_after, given_up, new_number, Refused, Granted, fit_or_fresh, granted, known_after}
+use Rattle.pool_ledger.specs.Grants.{Block, sizes, has_number, passes, smallest_fit, largest_free, free_in_order, left_after, given_up, new_number, Refused}
+use Rattle.pool_ledger.specs.Grants.{Granted, fit_or_fresh, granted, known_after}
 use Rattle.flow_journal.specs.declared.entry.Entry.{Entry}
 use Rattle.flow_journal.specs.declared.entry.Entry.TheVariants.{Load, TakeBlock}
 use Rattle.flow_journal.specs.Setting.{Setting}

@@ -17,7 +17,8 @@ use Rattle.flow_journal.specs.Following.{offer, look, owed}
 use Rattle.flow_journal.specs.Histories.{is_legal}
 use Rattle.flow_journal.proofs.Hands.{row_of}
 use Rattle.flow_journal.proofs.Counts.{times_by, queued-by}
-use Rattle.flow_journal.proofs.EntryCounts.{count, bit, count-cons, count-append, count-let_go, emits_at, accepts_at, takes_at, takes-le, leaves_at, owed-answered, answers-by_Emit}
+use Rattle.flow_journal.proofs.EntryCounts.{count, bit, count-cons, count-append, count-let_go, emits_at, accepts_at, takes_at, takes-le, leaves_at}
+use Rattle.flow_journal.proofs.EntryCounts.{owed-answered, answers-by_Emit}
 use Rattle.flow_journal.proofs.Jobs.{puts-taken, putting_hand}
 use Rattle.flow_journal.proofs.Outs.{out_of, of_index, none_elsewhere, goes_out-at, waits, count-look}
 use Rattle.flow_journal.proofs.Offers.{is_number, none_at_driver}

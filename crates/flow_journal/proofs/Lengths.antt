@@ -1,11 +1,13 @@
 -- How long a legal log can be: each entry is of a frame, of an arrival, or the only one of its node or role.
-use Rattle.std.proofs.Common.{◌≡◌, ◌≢◌, ℕ, zero, suc, ◌+◌, ◌*◌, ◌≤◌, ◌<◌, Bool, true, false, ◌&&◌, cond, eqb, ltb, List, [], ◌∷◌, length, refl, sym, ap, ◌∙◌, subst, arith, Some, inl, inr, ◌⊎◌, length-append}
+use Rattle.std.proofs.Common.{◌≡◌, ◌≢◌, ℕ, zero, suc, ◌+◌, ◌*◌, ◌≤◌, ◌<◌, Bool, true, false, ◌&&◌, cond, eqb, ltb, List, [], ◌∷◌, length, refl, sym, ap}
+use Rattle.std.proofs.Common.{◌∙◌, subst, arith, Some, inl, inr, ◌⊎◌, length-append}
 use Rattle.std.specs.Prelude.{flat_map}
 use Rattle.std.proofs.lemmas.Bool.{and_parts, false≢true, true≢false, ne_eqb, eqb-true, eqb-false, ltb-true, ltb-false, lt-ltb, cases_Bool}
 use Rattle.std.proofs.Math.Nat.{mul_comm, mul_assoc}
 use Rattle.nd_base.specs.declared.frame.FrameName.{FrameName}
 use Rattle.flow_journal.specs.declared.entry.Entry.{Entry}
-use Rattle.flow_journal.specs.declared.entry.Entry.TheVariants.{Load, LoadRefused, Tick, Issue, Emit, Accept, Full, Take, TakeBlock, PoolDrop, Put, SortDrop, Settle, Save, Saved, Close, Leave, Reclaim}
+use Rattle.flow_journal.specs.declared.entry.Entry.TheVariants.{Load, LoadRefused, Tick, Issue, Emit, Accept, Full, Take, TakeBlock, PoolDrop, Put}
+use Rattle.flow_journal.specs.declared.entry.Entry.TheVariants.{SortDrop, Settle, Save, Saved, Close, Leave, Reclaim}
 use Rattle.flow_journal.specs.Setting.{Setting, Node, node, numbers_from, node_numbers, last_role}
 use Rattle.flow_journal.specs.Pasts.{Past, frame, comes_at}
 use Rattle.flow_journal.specs.Hands.{takes_up, let_go, hands, hand, standing, is_free}
@@ -22,7 +24,8 @@ use Rattle.flow_journal.proofs.Hands.{row_of, stood, stands-less}
 use Rattle.flow_journal.proofs.Travels.{may-Take, may-TakeBlock}
 use Rattle.flow_journal.proofs.Found.{found_up, none_counted}
 use Rattle.flow_journal.proofs.Counts.{times_by, hand-standing}
-use Rattle.flow_journal.proofs.EntryCounts.{count, bit, count-cons, count-append, count-let_go, count-let_go-le, arrives_at, arrives-le, leaves_at, takes-le, puts_at}
+use Rattle.flow_journal.proofs.EntryCounts.{count, bit, count-cons, count-append, count-let_go, count-let_go-le, arrives_at, arrives-le, leaves_at}
+use Rattle.flow_journal.proofs.EntryCounts.{takes-le, puts_at}
 use Rattle.flow_journal.proofs.Jobs.{reclaim_hand, puts-taken}
 use Rattle.flow_journal.proofs.Outs.{out_of, of_index}
 use Rattle.flow_journal.proofs.Offers.{is_number, none_arrives, none_numbered_0}

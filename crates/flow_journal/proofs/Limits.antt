@@ -1,10 +1,12 @@
 -- With a limit the known blocks are within it: what is given up makes room for the new block, and no more than is needed.
-use Rattle.std.proofs.Common.{◌≡◌, ◌≢◌, ℕ, zero, suc, ◌+◌, ◌-◌, ◌≤◌, ◌<◌, Bool, true, false, not, ◌&&◌, cond, eqb, ltb, List, [], ◌∷◌, ◌++◌, length, take, drop, refl, sym, ap, ◌∙◌, subst, arith, Option, Some, None, inl, inr, ◌⊎◌, append_assoc}
+use Rattle.std.proofs.Common.{◌≡◌, ◌≢◌, ℕ, zero, suc, ◌+◌, ◌-◌, ◌≤◌, ◌<◌, Bool, true, false, not, ◌&&◌, cond, eqb, ltb, List, [], ◌∷◌, ◌++◌, length, take}
+use Rattle.std.proofs.Common.{drop, refl, sym, ap, ◌∙◌, subst, arith, Option, Some, None, inl, inr, ◌⊎◌, append_assoc}
 use Rattle.std.specs.Prelude.{filter, reverse}
 use Rattle.std.proofs.lemmas.Bool.{and_parts, true≢false, eq-eqb, ne_eqb, ltb-true, ltb-false, lt-ltb, or_left, or_right, cases_Bool}
 use Rattle.std.proofs.lemmas.List.{reverse-append, take-append-drop}
 use Rattle.std.proofs.lemmas.List.Sums.{sum_by-cons}
-use Rattle.pool_ledger.specs.Grants.{Block, sizes, comes_first, placed, in_order, free_in_order, smallest_fit, largest_free, has_number, left_after, known_after, passes, count_to_give, given_up, Refused, Granted, fit_or_fresh, granted}
+use Rattle.pool_ledger.specs.Grants.{Block, sizes, comes_first, placed, in_order, free_in_order, smallest_fit, largest_free, has_number, left_after}
+use Rattle.pool_ledger.specs.Grants.{known_after, passes, count_to_give, given_up, Refused, Granted, fit_or_fresh, granted}
 use Rattle.flow_journal.specs.declared.entry.Entry.TheVariants.{Load, TakeBlock}
 use Rattle.flow_journal.specs.Setting.{Setting, is_maker}
 use Rattle.flow_journal.specs.Pasts.{Past, frame}

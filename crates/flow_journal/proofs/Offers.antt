@@ -11,7 +11,8 @@ use Rattle.flow_journal.specs.Turns.{offered_to}
 use Rattle.flow_journal.specs.Waiting.{waiting, least_first}
 use Rattle.flow_journal.specs.Following.{offer, look, calls_for, owed}
 use Rattle.flow_journal.specs.Histories.{is_legal}
-use Rattle.flow_journal.proofs.EntryCounts.{count, bit, count-cons, count-append, count-drop, emits_at, accepts_at, arrives_at, arrives-le, owed-answered, answers-by_Accept, answers-by_Full}
+use Rattle.flow_journal.proofs.EntryCounts.{count, bit, count-cons, count-append, count-drop, emits_at, accepts_at, arrives_at, arrives-le, owed-answered}
+use Rattle.flow_journal.proofs.EntryCounts.{answers-by_Accept, answers-by_Full}
 use Rattle.flow_journal.proofs.Dealing.{count-offered}
 use Rattle.flow_journal.proofs.Outs.{no_offers, result-at, flush-at, goes_out-at}
 

@@ -1,5 +1,6 @@
 -- A node accepts an array of each index once at most.
-use Rattle.std.proofs.Common.{◌≡◌, ◌≢◌, ℕ, zero, suc, ◌+◌, ◌≤◌, Bool, true, false, eqb, ltb, List, [], ◌∷◌, ◌++◌, length, refl, sym, ap, ◌∙◌, subst, arith, inl, inr}
+use Rattle.std.proofs.Common.{◌≡◌, ◌≢◌, ℕ, zero, suc, ◌+◌, ◌≤◌, Bool, true, false, eqb, ltb, List, [], ◌∷◌, ◌++◌, length, refl, sym, ap, ◌∙◌, subst, arith}
+use Rattle.std.proofs.Common.{inl, inr}
 use Rattle.std.specs.Prelude.{flat_map}
 use Rattle.std.specs.List.{list_any}
 use Rattle.std.proofs.lemmas.Bool.{and_parts, or_from, ne_eqb, eqb-true, eq-eqb, true≢false, or_parts, lt-ltb, cases_Bool}
@@ -14,7 +15,8 @@ use Rattle.flow_journal.specs.FirstEntries.{may_load, pool_grants}
 use Rattle.flow_journal.specs.Following.{owed}
 use Rattle.flow_journal.specs.Histories.{is_legal}
 use Rattle.flow_journal.proofs.Hands.{row_of, stands-less}
-use Rattle.flow_journal.proofs.EntryCounts.{count, bit, count-cons, count-let_go-le, emits_at, accepts_at, arrives_at, arrives-le, loads_at, owed-answered, answers-by_Accept, answers-by_Full}
+use Rattle.flow_journal.proofs.EntryCounts.{count, bit, count-cons, count-let_go-le, emits_at, accepts_at, arrives_at, arrives-le, loads_at, owed-answered}
+use Rattle.flow_journal.proofs.EntryCounts.{answers-by_Accept, answers-by_Full}
 use Rattle.flow_journal.proofs.Jobs.{puts-taken}
 use Rattle.flow_journal.proofs.Offers.{arrives-emitted}
 use Rattle.flow_journal.proofs.Issues.{takes-accepted, comes-count, accepts-count}

@@ -1,5 +1,6 @@
 -- What went out of a node without a sort list, and what must still go out of it.
-use Rattle.std.proofs.Common.{◌≡◌, ◌≢◌, ℕ, ◌+◌, ◌≤◌, Bool, true, false, ◌&&◌, cond, eqb, List, [], ◌∷◌, ◌++◌, map, length, drop, refl, sym, ap, ◌∙◌, subst, arith, inl, inr}
+use Rattle.std.proofs.Common.{◌≡◌, ◌≢◌, ℕ, ◌+◌, ◌≤◌, Bool, true, false, ◌&&◌, cond, eqb, List, [], ◌∷◌, ◌++◌, map, length, drop, refl, sym, ap, ◌∙◌, subst}
+use Rattle.std.proofs.Common.{arith, inl, inr}
 use Rattle.std.specs.Prelude.{flat_map}
 use Rattle.std.specs.List.{list_all}
 use Rattle.std.proofs.lemmas.Bool.{and_parts, true≢false, false≢true, eqb-true, eqb-false, cases_Bool}
@@ -8,7 +9,8 @@ use Rattle.nd_base.specs.declared.frame.FrameName.{FrameName}
 use Rattle.trig_window.specs.Windows.{is_trigger, is_passed, passed_items}
 use Rattle.trig_window.specs.WindowLaws.{passed_items-push}
 use Rattle.flow_journal.specs.declared.entry.Entry.{Entry}
-use Rattle.flow_journal.specs.declared.entry.Entry.TheVariants.{Load, LoadRefused, Tick, Issue, Emit, Accept, Full, Take, TakeBlock, PoolDrop, Put, SortDrop, Settle, Save, Saved, Close, Leave, Reclaim}
+use Rattle.flow_journal.specs.declared.entry.Entry.TheVariants.{Load, LoadRefused, Tick, Issue, Emit, Accept, Full, Take, TakeBlock, PoolDrop, Put}
+use Rattle.flow_journal.specs.declared.entry.Entry.TheVariants.{SortDrop, Settle, Save, Saved, Close, Leave, Reclaim}
 use Rattle.flow_journal.specs.declared.entry.Why.{Why}
 use Rattle.flow_journal.specs.declared.entry.Why.TheVariants.{Plain, Flush, Ring, Now}
 use Rattle.flow_journal.specs.Setting.{Setting, Work, Makes, Passes, Watches, Saves, node, may_sort, is_sorted, node_numbers}
@@ -26,7 +28,8 @@ use Rattle.flow_journal.specs.OutputLaws.{sort_dropped, issued, OutputLaws}
 use Rattle.flow_journal.proofs.Steps.{comes_here, comes_elsewhere}
 use Rattle.flow_journal.proofs.Hands.{row_of}
 use Rattle.flow_journal.proofs.Counts.{times_by}
-use Rattle.flow_journal.proofs.EntryCounts.{count, bit, count-cons, count-append, puts_of, owed-first, owed-answered, answers-by_Emit, answers-by_Accept, answers-by_SortDrop, answers-by_Tick}
+use Rattle.flow_journal.proofs.EntryCounts.{count, bit, count-cons, count-append, puts_of, owed-first, owed-answered, answers-by_Emit, answers-by_Accept}
+use Rattle.flow_journal.proofs.EntryCounts.{answers-by_SortDrop, answers-by_Tick}
 use Rattle.flow_journal.proofs.Outs.{out_of, waits, is_out_at, AllOutAt, flush-at, goes_out-at, result-at}
 use Rattle.flow_journal.proofs.Issues.{puts_at_node}
 use Rattle.flow_journal.proofs.Emissions.{sorted-outs, waiting-unsorted, flags-puts}

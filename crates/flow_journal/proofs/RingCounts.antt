@@ -1,11 +1,13 @@
 -- One more put at a circular node: what goes out and what is kept then is no more than what was kept, and the array.
-use Rattle.std.proofs.Common.{◌≡◌, ◌≢◌, ℕ, zero, suc, ◌+◌, ◌-◌, ◌≤◌, Bool, true, false, ◌&&◌, ◌||◌, cond, eqb, ltb, max, List, [], ◌∷◌, ◌++◌, length, drop, refl, sym, ap, ◌∙◌, subst, arith, inl, inr, length-append}
+use Rattle.std.proofs.Common.{◌≡◌, ◌≢◌, ℕ, zero, suc, ◌+◌, ◌-◌, ◌≤◌, Bool, true, false, ◌&&◌, ◌||◌, cond, eqb, ltb, max, List, [], ◌∷◌, ◌++◌, length, drop}
+use Rattle.std.proofs.Common.{refl, sym, ap, ◌∙◌, subst, arith, inl, inr, length-append}
 use Rattle.std.specs.List.{list_any}
 use Rattle.std.proofs.lemmas.Bool.{ne_eqb, lt-ltb, le-ltb, or_from, or_right, cases_Bool, cases_lt}
 use Rattle.std.proofs.lemmas.List.{drop-append-le, drop_all}
 use Rattle.nd_base.specs.declared.frame.FrameName.{FrameName}
 use Rattle.trig_window.specs.Windows.{triggers, is_trigger, end_of_last, is_passed, is_complete, kept}
-use Rattle.trig_window.specs.WindowLaws.{AllBelow, triggers-below, end_from-push, triggers-quiet, triggers-complete, triggers-inside, triggers-fired, passed_now}
+use Rattle.trig_window.specs.WindowLaws.{AllBelow, triggers-below, end_from-push, triggers-quiet, triggers-complete, triggers-inside, triggers-fired}
+use Rattle.trig_window.specs.WindowLaws.{passed_now}
 use Rattle.flow_journal.proofs.EntryCounts.{count, bit, count-cons, count-append}
 
 count-drop-le : (q : FrameName → Bool) (i j : ℕ) (xs : List FrameName) → i ≤ j → count q (drop j xs) ≤ count q (drop i xs)

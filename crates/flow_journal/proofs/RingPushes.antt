@@ -1,10 +1,12 @@
 -- The ring of a circular node after a put.
-use Rattle.std.proofs.Common.{◌≡◌, ℕ, ◌-◌, ◌<◌, ◌≤◌, Bool, true, false, cond, ltb, List, [], ◌∷◌, ◌++◌, ◌||◌, map, length, drop, max, refl, sym, ap, ◌∙◌, subst, inl, inr, arith}
+use Rattle.std.proofs.Common.{◌≡◌, ℕ, ◌-◌, ◌<◌, ◌≤◌, Bool, true, false, cond, ltb, List, [], ◌∷◌, ◌++◌, ◌||◌, map, length, drop, max, refl, sym, ap, ◌∙◌}
+use Rattle.std.proofs.Common.{subst, inl, inr, arith}
 use Rattle.std.proofs.lemmas.Bool.{cases_Bool, cases_lt, true≢false, ltb-true, ltb-false}
 use Rattle.std.proofs.lemmas.List.{length-map, map-append, drop-map, length_push}
 use Rattle.nd_base.specs.declared.frame.FrameName.{FrameName}
 use Rattle.trig_window.specs.Windows.{triggers, is_trigger, end_of_last, is_passed, is_complete, kept}
-use Rattle.trig_window.specs.WindowLaws.{triggers-inside, triggers-complete, triggers-fired, triggers-quiet, passed_now, grown-is_trigger, same-is_passed, kept-inside, kept-complete, kept-push}
+use Rattle.trig_window.specs.WindowLaws.{triggers-inside, triggers-complete, triggers-fired, triggers-quiet, passed_now, grown-is_trigger, same-is_passed}
+use Rattle.trig_window.specs.WindowLaws.{kept-inside, kept-complete, kept-push}
 use Rattle.trig_window.specs.Watch.{Watch}
 use Rattle.trig_window.specs.Watching.{IsAfter}
 use Rattle.trig_window.specs.declared.window.Passed.{Passed}

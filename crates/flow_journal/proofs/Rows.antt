@@ -1,8 +1,10 @@
 -- The table of legal moves, row by row, as facts.
-use Rattle.std.proofs.Common.{◌≡◌, ◌≢◌, ℕ, ◌≤◌, ◌⊎◌, ◌↔◌, Bool, true, false, not, ◌&&◌, ◌||◌, eqb, ltb, leb, List, ◌∷◌, length, refl, sym, ap, ◌∙◌, subst, Option, Some, None, inl, inr, cond}
+use Rattle.std.proofs.Common.{◌≡◌, ◌≢◌, ℕ, ◌≤◌, ◌⊎◌, ◌↔◌, Bool, true, false, not, ◌&&◌, ◌||◌, eqb, ltb, leb, List, ◌∷◌, length, refl, sym, ap, ◌∙◌, subst}
+use Rattle.std.proofs.Common.{Option, Some, None, inl, inr, cond}
 use Rattle.std.specs.Prelude.{is_none}
 use Rattle.std.specs.List.{list_any, list_all}
-use Rattle.std.proofs.lemmas.Bool.{and_parts, and_from, false≢true, true≢false, eq-eqb, ne_eqb, eqb-true, cases_Bool, not-true, not_from_false, ltb-true, lt-ltb, leb-true, le-leb}
+use Rattle.std.proofs.lemmas.Bool.{and_parts, and_from, false≢true, true≢false, eq-eqb, ne_eqb, eqb-true, cases_Bool, not-true, not_from_false, ltb-true}
+use Rattle.std.proofs.lemmas.Bool.{lt-ltb, leb-true, le-leb}
 use Rattle.std.proofs.lemmas.List.{nil_from_length}
 use Rattle.nd_base.specs.declared.frame.FrameName.{FrameName}
 use Rattle.pool_ledger.specs.Grants.{Answer, Granted, Refused, granted}
@@ -16,8 +18,10 @@ use Rattle.flow_journal.specs.Offered.{next_index}
 use Rattle.flow_journal.specs.Queued.{queued, has_room}
 use Rattle.flow_journal.specs.Unsaved.{unsaved, standing_saves, is_file, is_due, group_of}
 use Rattle.flow_journal.specs.Accounts.{is_unplaced, known, held, grant}
-use Rattle.flow_journal.specs.FirstEntries.{first, acts, has_loaded, may_load, is_next, may_take, both, is_granted, is_refused, regrown_fits, pool_refuses, pool_grants, is_load_of, is_result_of, is_piece_of, may_settle, may_save, may_close}
-use Rattle.flow_journal.specs.RowFacts.{IsFirstOf, Acts, LoadFacts, GrantFacts, RefusalFacts, TakeFacts, HasLoaded, HasResult, HasPiece, SettleFacts, PieceFacts, SaveFacts, CloseFacts, ReclaimFacts, AreZeros}
+use Rattle.flow_journal.specs.FirstEntries.{first, acts, has_loaded, may_load, is_next, may_take, both, is_granted, is_refused, regrown_fits, pool_refuses}
+use Rattle.flow_journal.specs.FirstEntries.{pool_grants, is_load_of, is_result_of, is_piece_of, may_settle, may_save, may_close}
+use Rattle.flow_journal.specs.RowFacts.{IsFirstOf, Acts, LoadFacts, GrantFacts, RefusalFacts, TakeFacts, HasLoaded, HasResult, HasPiece, SettleFacts}
+use Rattle.flow_journal.specs.RowFacts.{PieceFacts, SaveFacts, CloseFacts, ReclaimFacts, AreZeros}
 use Rattle.flow_journal.specs.RowLaws.{begins, TestLaws, RowLaws}
 use Rattle.flow_journal.proofs.Steps.{same_refl, same-true, next_is}
 use Rattle.flow_journal.proofs.Found.{found_up, some_hand, none_counted, none_any}

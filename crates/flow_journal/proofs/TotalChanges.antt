@@ -3,7 +3,8 @@ use Rattle.std.proofs.Common.{◌≡◌, ◌≢◌, ℕ, ◌+◌, Bool, true, fa
 use Rattle.std.proofs.lemmas.Bool.{and_parts, and_from, eq-eqb, ne_eqb, eqb-true, cases_Bool, true≢false, false≢true}
 use Rattle.nd_base.specs.declared.frame.FrameName.{FrameName}
 use Rattle.flow_journal.specs.declared.entry.Entry.{Entry}
-use Rattle.flow_journal.specs.declared.entry.Entry.TheVariants.{Load, Issue, Emit, Accept, Take, TakeBlock, PoolDrop, Put, SortDrop, Settle, Save, Saved, Reclaim}
+use Rattle.flow_journal.specs.declared.entry.Entry.TheVariants.{Load, Issue, Emit, Accept, Take, TakeBlock, PoolDrop, Put, SortDrop, Settle, Save, Saved}
+use Rattle.flow_journal.specs.declared.entry.Entry.TheVariants.{Reclaim}
 use Rattle.flow_journal.specs.declared.entry.Why.{Why}
 use Rattle.flow_journal.specs.Setting.{Setting, node_numbers, is_sorted}
 use Rattle.flow_journal.specs.Pasts.{Past, frame, same}

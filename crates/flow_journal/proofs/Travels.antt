@@ -1,11 +1,13 @@
 -- Arrays only move. Where no place has an array that passes a test, and nothing that is owed does, none has after one more entry,
 -- unless a grant makes one.
-use Rattle.std.proofs.Common.{◌≡◌, ℕ, ◌+◌, ◌≤◌, Bool, true, false, ◌&&◌, ◌||◌, cond, eqb, List, [], ◌∷◌, ◌++◌, map, length, drop, refl, sym, ap, ◌∙◌, subst, arith, Option, Some, None, inl, inr}
+use Rattle.std.proofs.Common.{◌≡◌, ℕ, ◌+◌, ◌≤◌, Bool, true, false, ◌&&◌, ◌||◌, cond, eqb, List, [], ◌∷◌, ◌++◌, map, length, drop, refl, sym, ap, ◌∙◌, subst}
+use Rattle.std.proofs.Common.{arith, Option, Some, None, inl, inr}
 use Rattle.std.proofs.lemmas.Bool.{and_parts, false≢true, eqb-true, eqb-false, cases_Bool, or_parts}
 use Rattle.nd_base.specs.declared.frame.FrameName.{FrameName}
 use Rattle.trig_window.specs.Windows.{is_trigger, is_passed}
 use Rattle.flow_journal.specs.declared.entry.Entry.{Entry}
-use Rattle.flow_journal.specs.declared.entry.Entry.TheVariants.{Load, Tick, Issue, Emit, Accept, Take, TakeBlock, PoolDrop, Put, SortDrop, Settle, Save, Saved, Reclaim}
+use Rattle.flow_journal.specs.declared.entry.Entry.TheVariants.{Load, Tick, Issue, Emit, Accept, Take, TakeBlock, PoolDrop, Put, SortDrop, Settle, Save}
+use Rattle.flow_journal.specs.declared.entry.Entry.TheVariants.{Saved, Reclaim}
 use Rattle.flow_journal.specs.declared.entry.Why.{Why}
 use Rattle.flow_journal.specs.declared.entry.Why.TheVariants.{Plain, Ring, Now}
 use Rattle.flow_journal.specs.Setting.{Setting, Work, Makes, Passes, Watches, Saves, node, is_sorted, is_maker, node_numbers}
@@ -23,9 +25,11 @@ use Rattle.flow_journal.specs.Following.{offer, emit, look, sorted_result, resul
 use Rattle.flow_journal.specs.Histories.{is_legal}
 use Rattle.flow_journal.proofs.Steps.{same-true, next_is}
 use Rattle.flow_journal.proofs.Hands.{row_of}
-use Rattle.flow_journal.proofs.EntryCounts.{count, bit, count-cons, count-append, count-drop, count-let_go, count-let_go-le, owed-answered, answers-by_Emit, answers-by_Accept}
+use Rattle.flow_journal.proofs.EntryCounts.{count, bit, count-cons, count-append, count-drop, count-let_go, count-let_go-le, owed-answered, answers-by_Emit}
+use Rattle.flow_journal.proofs.EntryCounts.{answers-by_Accept}
 use Rattle.flow_journal.proofs.Jobs.{reclaim_hand}
-use Rattle.flow_journal.proofs.Outs.{AllOutAt, out_of, is_out_at, goes_out-at, flush-at, sorted_result-at, waits, count-look, count-flush, count-least_first, count-sorted_result}
+use Rattle.flow_journal.proofs.Outs.{AllOutAt, out_of, is_out_at, goes_out-at, flush-at, sorted_result-at, waits, count-look, count-flush}
+use Rattle.flow_journal.proofs.Outs.{count-least_first, count-sorted_result}
 use Rattle.flow_journal.proofs.Issues.{looks}
 use Rattle.flow_journal.proofs.RingCounts.{ring-push, kept-nothing}
 use Rattle.flow_journal.proofs.Emissions.{removed-le, waiting-put, flags-puts}

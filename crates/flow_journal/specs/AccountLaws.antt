@@ -3,7 +3,8 @@ use Rattle.std.specs.Prelude.{◌≡◌, ◌≢◌, ℕ, ◌+◌, ◌==◌, ◌�
 use Rattle.nd_base.specs.declared.frame.FrameName.{FrameName}
 use Rattle.pool_ledger.specs.Grants.{Block, sizes, Granted, known_after}
 use Rattle.flow_journal.specs.declared.entry.Entry.{Entry}
-use Rattle.flow_journal.specs.declared.entry.Entry.TheVariants.{Load, LoadRefused, Tick, Issue, Emit, Accept, Full, Take, TakeBlock, PoolDrop, Put, SortDrop, Settle, Save, Saved, Close, Leave, Reclaim}
+use Rattle.flow_journal.specs.declared.entry.Entry.TheVariants.{Load, LoadRefused, Tick, Issue, Emit, Accept, Full, Take, TakeBlock, PoolDrop, Put}
+use Rattle.flow_journal.specs.declared.entry.Entry.TheVariants.{SortDrop, Settle, Save, Saved, Close, Leave, Reclaim}
 use Rattle.flow_journal.specs.declared.entry.Why.{Why}
 use Rattle.flow_journal.specs.Setting.{Setting, Watches, node, may_sort, is_sorted}
 use Rattle.flow_journal.specs.Pasts.{Past, frame, same}

@@ -1,6 +1,7 @@
 -- How a line is read: loosely at first, by the word at its front, its numbers and its last letter. It counts only where the entry that
 -- these make is spelled as the line is.
-use Rattle.std.specs.Prelude.{ℕ, ◌+◌, ◌-◌, ◌*◌, ◌==◌, ◌^◌, min, Bool, nat_eq, List, [], ◌∷◌, ◌++◌, length, find, Option, Some, None, codes, slice_get, slice_index, unwrap_or, if◌then◌else◌}
+use Rattle.std.specs.Prelude.{ℕ, ◌+◌, ◌-◌, ◌*◌, ◌==◌, ◌^◌, min, Bool, nat_eq, List, [], ◌∷◌, ◌++◌, length, find, Option, Some, None, codes, slice_get}
+use Rattle.std.specs.Prelude.{slice_index, unwrap_or, if◌then◌else◌}
 use Rattle.std.specs.List.{starts_with}
 use Rattle.std.specs.Option.{option_to_list}
 use Rattle.std.specs.Char.{is_ascii_digit}

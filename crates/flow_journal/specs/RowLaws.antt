@@ -3,14 +3,16 @@ use Rattle.std.specs.Prelude.{◌≡◌, ℕ, ◌<◌, ◌≤◌, ◌↔◌, Boo
 use Rattle.std.specs.List.{list_any}
 use Rattle.nd_base.specs.declared.frame.FrameName.{FrameName}
 use Rattle.flow_journal.specs.declared.entry.Entry.{Entry}
-use Rattle.flow_journal.specs.declared.entry.Entry.TheVariants.{Load, LoadRefused, Tick, Issue, Emit, Accept, Full, Take, TakeBlock, PoolDrop, Put, SortDrop, Settle, Save, Saved, Close, Leave, Reclaim}
+use Rattle.flow_journal.specs.declared.entry.Entry.TheVariants.{Load, LoadRefused, Tick, Issue, Emit, Accept, Full, Take, TakeBlock, PoolDrop, Put}
+use Rattle.flow_journal.specs.declared.entry.Entry.TheVariants.{SortDrop, Settle, Save, Saved, Close, Leave, Reclaim}
 use Rattle.flow_journal.specs.Setting.{Setting, node, last_role, is_maker}
 use Rattle.flow_journal.specs.Pasts.{Past, frame}
 use Rattle.flow_journal.specs.Hands.{hands, is_loaded, is_piece}
 use Rattle.flow_journal.specs.Ended.{has_left}
 use Rattle.flow_journal.specs.Queued.{queued, has_room}
 use Rattle.flow_journal.specs.FirstEntries.{first, acts, has_loaded, may_load, may_take, may_settle, may_save, may_close, pool_grants, pool_refuses, fires_at}
-use Rattle.flow_journal.specs.RowFacts.{Acts, LoadFacts, GrantFacts, AreZeros, RefusalFacts, TakeFacts, HasLoaded, HasResult, HasPiece, SettleFacts, PieceFacts, SaveFacts, CloseFacts, ReclaimFacts}
+use Rattle.flow_journal.specs.RowFacts.{Acts, LoadFacts, GrantFacts, AreZeros, RefusalFacts, TakeFacts, HasLoaded, HasResult, HasPiece, SettleFacts}
+use Rattle.flow_journal.specs.RowFacts.{PieceFacts, SaveFacts, CloseFacts, ReclaimFacts}
 
 -- the entry stands in the table
 abbrev pub begins : Entry → Bool

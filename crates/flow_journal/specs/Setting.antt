@@ -1,5 +1,6 @@
 -- What a run is given: its graph, and what it needs of the stack. The driver is node 0, and the nodes are 1, 2, ..
-use Rattle.std.specs.Prelude.{ℕ, zero, suc, ◌+◌, ◌==◌, Bool, true, false, ◌&&◌, nat_lt, nat_le, List, [], ◌∷◌, length, sum_by, filter, ℤ, pos, ◌-ℤ◌, slice_index_or}
+use Rattle.std.specs.Prelude.{ℕ, zero, suc, ◌+◌, ◌==◌, Bool, true, false, ◌&&◌, nat_lt, nat_le, List, [], ◌∷◌, length, sum_by, filter, ℤ, pos, ◌-ℤ◌}
+use Rattle.std.specs.Prelude.{slice_index_or}
 
 pub data Work : Type 0 where
   -- makes an array of its own of each one

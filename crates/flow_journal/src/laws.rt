@@ -1,7 +1,10 @@
 //! What holds of every legal history. Each function is a law: it does nothing, and its contract says what holds.
 
 ghost use Rattle.flow_journal.specs.EntryLaws.{BreakLaws, ClockLaws, HandLaws, JobLaws, OfferLaws, PutLaws, QueueLaws, RingLaws, RoleLaws, SaveLaws};
-ghost use Rattle.flow_journal.specs.HistoryLaws.{MovesKeepHistories, FrontsAreLegal, FrontsAreHistories, HistoriesAreMoves, OneHandARole, LastHandARole, ReclaimsTheHand, OneBlockLoaded, OnePieceANode, SettledAreIdle, QueuesInCounts, AcceptsOnce, EmitsOnce, PlacesAreKnown, LoadsAreUnplaced, TakesAreUnplaced, RunsLoadUnplaced, RunsTakeUnplaced, RunsPlacesAreKnown};
+ghost use Rattle.flow_journal.specs.HistoryLaws.{MovesKeepHistories, FrontsAreLegal, FrontsAreHistories, HistoriesAreMoves, OneHandARole, LastHandARole};
+ghost use Rattle.flow_journal.specs.HistoryLaws.{ReclaimsTheHand, OneBlockLoaded, OnePieceANode, SettledAreIdle, QueuesInCounts, AcceptsOnce, EmitsOnce};
+ghost use Rattle.flow_journal.specs.HistoryLaws.{PlacesAreKnown, LoadsAreUnplaced, TakesAreUnplaced, RunsLoadUnplaced, RunsTakeUnplaced};
+ghost use Rattle.flow_journal.specs.HistoryLaws.{RunsPlacesAreKnown};
 ghost use Rattle.flow_journal.specs.IndexLaws.{IndexLaws};
 ghost use Rattle.flow_journal.specs.LengthLaws.{LengthLaws};
 ghost use Rattle.flow_journal.specs.LimitLaws.{LimitLaws};

@@ -2,7 +2,8 @@
 
 ghost use Rattle.std.specs.Prelude.{◌≡◌, true, Some};
 ghost use Rattle.std.specs.Fmt.{WritesOnOk};
-ghost use Rattle.flow_journal.specs.Spelling.{flag, why_word, grant_words, group_words, spaced, spelling, tells_of_array, tells_of_frame, tells_of_take, tells_of_work};
+ghost use Rattle.flow_journal.specs.Spelling.{flag, why_word, grant_words, group_words, spaced, spelling, tells_of_array, tells_of_frame, tells_of_take};
+ghost use Rattle.flow_journal.specs.Spelling.{tells_of_work};
 
 use crate::{Entry, Why};
 use std::fmt;

@@ -6,7 +6,8 @@ use Rattle.std.proofs.lemmas.Bool.{and_parts, and_from, cases_Bool}
 use Rattle.std.proofs.lemmas.List.{append_assoc, append_cancel_left}
 use Rattle.nd_base.specs.Parts.{Parts}
 use Rattle.flow_journal.specs.declared.entry.Entry.{Entry}
-use Rattle.flow_journal.specs.declared.entry.Entry.TheVariants.{Load, LoadRefused, Issue, Take, TakeBlock, PoolDrop, Put, Settle, Save, Saved, Close, Leave, Reclaim}
+use Rattle.flow_journal.specs.declared.entry.Entry.TheVariants.{Load, LoadRefused, Issue, Take, TakeBlock, PoolDrop, Put, Settle, Save, Saved, Close, Leave}
+use Rattle.flow_journal.specs.declared.entry.Entry.TheVariants.{Reclaim}
 use Rattle.flow_journal.specs.Setting.{Setting}
 use Rattle.flow_journal.specs.Hands.{takes_up, hand}
 use Rattle.flow_journal.specs.Histories.{is_legal}

@@ -15,7 +15,8 @@ use Rattle.board_rules.specs.InHand.{is_load_of, is_job_on, is_piece_on, granted
 use Rattle.board_rules.specs.Feeding.{MayIssue}
 use Rattle.board_rules.specs.Working.{IsResult, MayPut}
 use Rattle.board_rules.specs.Saving.{MaySaved}
-use Rattle.board_rules.specs.Runs.{Frames, Call, Loads, Issues, Takes, Puts, Settles, Saves as SavesOne, Saveds, Closes, Leaves, Asks, May, Gives, caller, saver}
+use Rattle.board_rules.specs.Runs.{Frames, Call, Loads, Issues, Takes, Puts, Settles, Saves as SavesOne, Saveds, Closes, Leaves, Asks, May, Gives, caller}
+use Rattle.board_rules.specs.Runs.{saver}
 use Rattle.board_rules.specs.RunLaws.{IsAddedBy, saves_as}
 use Rattle.board_rules.proofs.Moves.{moves-tell}
 use Rattle.board_rules.proofs.Callers.{calls-add}

@@ -1,6 +1,6 @@
 //! A board that roles share under the turn lock.
 
-ghost use Rattle.std.specs.Prelude.{◌≡◌, ℕ, ◌<◌, ◌≤◌, ◌+◌, true, [], reverse, All, Any, Some, slice_get, map, length, vec_len, IfOk};
+ghost use Rattle.std.specs.Prelude.{◌≡◌, ℕ, ◌<◌, ◌≤◌, true, [], reverse, All, Any, Some, slice_get, map, length, vec_len, IfOk};
 ghost use Rattle.flow_journal.specs.Setting.{last_role};
 ghost use Rattle.flow_journal.specs.Histories.{is_history};
 ghost use Rattle.board_rules.specs.States.{past};
@@ -11,7 +11,7 @@ ghost use Rattle.flow_roles.specs.Lasts.{last_given};
 ghost use Rattle.flow_roles.specs.declared.last.Last.{Last};
 ghost use Rattle.flow_roles.specs.Passes.{Called, only_drain_saves};
 ghost use Rattle.flow_roles.specs.Operations.{frames_of, role_of, MayPlay, Replies, Lends};
-ghost use Rattle.flow_roles.specs.TurnPasses.{HasOneRole, role_in, moves_in, known_by, IsPassOf, IsFreshOf, IsWithin, HasMade};
+ghost use Rattle.flow_roles.specs.TurnPasses.{role_in, moves_in, known_by, IsPassOf, IsFreshOf, IsWithin, HasMade};
 
 use crate::{
     Desk, DeskOp, DeskReply, Last, Played, after_close, after_issue, after_load, after_progress,

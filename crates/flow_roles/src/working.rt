@@ -1,6 +1,6 @@
 //! The workers.
 
-ghost use Rattle.std.specs.Prelude.{◌≡◌, ◌<◌, ◌≤◌, length, Some, IsTrue, true};
+ghost use Rattle.std.specs.Prelude.{◌≡◌, ◌<◌, ◌≤◌, length, IsTrue, true};
 ghost use Rattle.std.specs.List.{list_all};
 ghost use Rattle.nd_base.specs.GraphRules.{IsGraph};
 ghost use Rattle.chain_plain.specs.Plans.{plan_of};

@@ -1,5 +1,6 @@
 -- From the ends of all roles to the board that comes back.
-use Rattle.std.proofs.Common.{◌≡◌, ℕ, zero, suc, ◌+◌, ◌<◌, ◌≤◌, Bool, true, List, [], ◌∷◌, ◌++◌, map, length, refl, sym, ap, ◌∙◌, subst, arith, Option, Some, None}
+use Rattle.std.proofs.Common.{◌≡◌, ℕ, zero, suc, ◌+◌, ◌<◌, ◌≤◌, Bool, true, List, [], ◌∷◌, ◌++◌, map, length, refl, sym, ap, ◌∙◌, subst, arith, Option}
+use Rattle.std.proofs.Common.{Some, None}
 use Rattle.std.specs.Prelude.{slice_get, All, IfOk, Result, Ok, Err}
 use Rattle.std.specs.List.{list_all}
 use Rattle.std.proofs.lemmas.List.{length-append, length-map}
@@ -124,7 +125,8 @@ module _ {O P : Type 0} (ours : P → Type 0) (knows : P → Pass) (s : Setting)
               subst (λ (q : Pass). HasMade b q) i.2 (made-at k i.0 i.1),
               (
                 i.0.want,
-                subst (λ (l : Left Sealed (List ℕ) O). IsRoleEnd s k v p l i.0.want) left_is (subst (λ (q : Pass). IsRoleEnd s k v q i.0.left i.0.want) i.2 end),
+                subst (λ (l : Left Sealed (List ℕ) O). IsRoleEnd s k v p l i.0.want) left_is
+                    (subst (λ (q : Pass). IsRoleEnd s k v q i.0.left i.0.want) i.2 end),
               ),
             )
 

@@ -63,7 +63,8 @@ fn save_unsaved<R: Run, B: BoardCalls<Frame<R>>, K: Shelf>(
     requires kept { IsKeptStack R.stack }
     requires left { (prefix : List ℕ) × ((before : Option Files)
         × SaverLeaves R.graph R.stack prefix before left (B.shown board.old) files.old fault.old (K.held shelf.old)) }
-    ensures saving { OnOk result ((prefix : List ℕ) (before : Option Files) → SaverLeaves R.graph R.stack prefix before left (B.shown board.old) files.old fault.old (K.held shelf.old)
+    ensures saving { OnOk result ((prefix : List ℕ) (before : Option Files)
+        → SaverLeaves R.graph R.stack prefix before left (B.shown board.old) files.old fault.old (K.held shelf.old)
         → IsSavingAlone R.graph R.stack prefix before (B.shown board.new) files.new fault.new (K.held shelf.new)) }
     ensures moves { RestMoves (run_setting R.graph R.stack) (B.shown board.old) (B.shown board.new) }
     ensures cause { CountsStep fault.old fault.new (K.faults shelf.old) (K.faults shelf.new) (K.held shelf.old) (K.held shelf.new) }
@@ -74,8 +75,8 @@ fn save_unsaved<R: Run, B: BoardCalls<Frame<R>>, K: Shelf>(
     }
 }
 
-/// What is left of a run once all roles have ended: the piece that the role that saves left, all that the drain does, with the clock's next answer, what is then
-/// to be saved, and the end of the files.
+/// What is left of a run once all roles have ended: the piece that the role that saves left, all that the drain does, with the
+/// clock's next answer, what is then to be saved, and the end of the files.
 ///
 /// # Errors
 ///

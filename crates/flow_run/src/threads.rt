@@ -1,18 +1,12 @@
 //! The roles of a run, each in its thread.
 
-ghost use Rattle.std.specs.Prelude.{◌≡◌, ◌<◌, ◌≤◌, ◌+◌, ℕ, List, Option, Some, None, [], true, false, length, vec_len, IsTrue};
-ghost use Rattle.std.specs.Option.{option_map};
-ghost use Rattle.std.specs.List.{list_all};
+ghost use Rattle.std.specs.Prelude.{◌≡◌, ◌<◌, ◌+◌, Option, Some, length, vec_len};
 ghost use Rattle.nd_base.specs.GraphRules.{IsGraph};
 ghost use Rattle.nd_stack.specs.KeptStacks.{IsKeptStack};
 ghost use Rattle.chain_plain.specs.Plans.{plan_of};
-ghost use Rattle.flow_journal.specs.Setting.{last_role, is_node};
+ghost use Rattle.flow_journal.specs.Setting.{last_role};
 ghost use Rattle.board_rules.specs.RunMeasures.{run_setting};
-ghost use Rattle.flow_roles.specs.Passes.{Pass};
-ghost use Rattle.flow_roles.specs.RoleMoves.{IsFresh};
-ghost use Rattle.flow_roles.specs.FeederTicks.{FeedsByTheClock};
 ghost use Rattle.flow_roles.specs.TurnPasses.{known_by, IsPassOf, IsFreshOf};
-ghost use Rattle.graph_files.specs.OpenFiles.{file_nodes};
 ghost use Rattle.flow_saver.specs.Saver.{CountsSo};
 ghost use Rattle.flow_run.specs.SaverEnds.{SaverBegins, SaverEnds};
 ghost use Rattle.flow_roles.specs.Workers as roles;
@@ -145,7 +139,8 @@ fn work_taken<
     requires graph { IsGraph R.graph }
     requires stack { stack.now ≡ R.stack }
     requires many { vec_len workers.old ≡ length (roles.workers (run_setting R.graph R.stack)) }
-    requires ready { AreReady (λ p. IsPassOf desk.now.id p.inner) (λ p. known_by p.inner p.last) 1 (roles.workers (run_setting R.graph R.stack)) workers.old.items }
+    requires ready { AreReady (λ p. IsPassOf desk.now.id p.inner) (λ p. known_by p.inner p.last) 1
+        (roles.workers (run_setting R.graph R.stack)) workers.old.items }
     ensures many { vec_len result ≡ vec_len workers.old }
     ensures back { AreBack (λ p. IsPassOf desk.now.id p.inner) (λ p. known_by p.inner p.last) (run_setting R.graph R.stack) 1
         (roles.workers (run_setting R.graph R.stack)) result.items }
@@ -178,7 +173,8 @@ fn feed_and_work<
     requires stack { stack.now ≡ R.stack }
     requires feeder { IsReady (λ p. IsPassOf desk.now.id p.inner) (λ p. known_by p.inner p.last) 0 0 feeder.old }
     requires many { vec_len workers.old ≡ length (roles.workers (run_setting R.graph R.stack)) }
-    requires ready { AreReady (λ p. IsPassOf desk.now.id p.inner) (λ p. known_by p.inner p.last) 1 (roles.workers (run_setting R.graph R.stack)) workers.old.items }
+    requires ready { AreReady (λ p. IsPassOf desk.now.id p.inner) (λ p. known_by p.inner p.last) 1
+        (roles.workers (run_setting R.graph R.stack)) workers.old.items }
     ensures fed { IsBack (λ p. IsPassOf desk.now.id p.inner) (λ p. known_by p.inner p.last) (run_setting R.graph R.stack) 0 0 feeder.new }
     ensures ticks { HasFed (λ p. known_by p.inner p.last) (run_setting R.graph R.stack) (C.coming clock.old) (C.coming clock.new) feeder.new }
     ensures many { vec_len workers.new ≡ vec_len workers.old }
@@ -273,7 +269,8 @@ pub(crate) fn run_roles<
     requires begins { SaverBegins (λ p. IsFreshOf desk.now.id role p.inner p.last) R.graph R.stack begins.old }
     requires feeder { IsReady (λ p. IsPassOf desk.now.id p.inner) (λ p. known_by p.inner p.last) 0 0 feeder.old }
     requires many { vec_len workers.old ≡ length (roles.workers (run_setting R.graph R.stack)) }
-    requires ready { AreReady (λ p. IsPassOf desk.now.id p.inner) (λ p. known_by p.inner p.last) 1 (roles.workers (run_setting R.graph R.stack)) workers.old.items }
+    requires ready { AreReady (λ p. IsPassOf desk.now.id p.inner) (λ p. known_by p.inner p.last) 1
+        (roles.workers (run_setting R.graph R.stack)) workers.old.items }
     ensures fed { IsBack (λ p. IsPassOf desk.now.id p.inner) (λ p. known_by p.inner p.last) (run_setting R.graph R.stack) 0 0 feeder.new }
     ensures ticks { HasFed (λ p. known_by p.inner p.last) (run_setting R.graph R.stack) (C.coming clock.old) (C.coming clock.new) feeder.new }
     ensures many { vec_len workers.new ≡ vec_len workers.old }
@@ -290,7 +287,8 @@ pub(crate) fn run_roles<
             requires { (plan.now ≡ plan_of R.graph R.stack) × IsGraph R.graph × (stack.now ≡ R.stack)
                 × IsReady (λ p. IsPassOf desk.now.id p.inner) (λ p. known_by p.inner p.last) 0 0 feeder.now
                 × (vec_len workers.now ≡ length (roles.workers (run_setting R.graph R.stack)))
-                × AreReady (λ p. IsPassOf desk.now.id p.inner) (λ p. known_by p.inner p.last) 1 (roles.workers (run_setting R.graph R.stack)) workers.now.items }
+                × AreReady (λ p. IsPassOf desk.now.id p.inner) (λ p. known_by p.inner p.last) 1
+                (roles.workers (run_setting R.graph R.stack)) workers.now.items }
             ensures { IsBack (λ p. IsPassOf desk.entry.now.id p.inner) (λ p. known_by p.inner p.last) (run_setting R.graph R.stack) 0 0 feeder.exit.now
                 × HasFed (λ p. known_by p.inner p.last) (run_setting R.graph R.stack) (C.coming clock.entry.now) (C.coming clock.exit.now) feeder.exit.now
                 × (vec_len workers.exit.now ≡ vec_len workers.entry.now)
@@ -300,7 +298,8 @@ pub(crate) fn run_roles<
         &mut || -> SaveEnd<Frame<R>, TurnPass<Frame<R>, B>>
             requires { (role ≡ last_role (run_setting R.graph R.stack)) × IsGraph R.graph × (stack.now ≡ R.stack) × IsKeptStack R.stack
                 × SaverBegins (λ p. IsFreshOf desk.now.id role p.inner p.last) R.graph R.stack begins.now }
-            ensures { SaverEnds (λ p. IsPassOf desk.entry.now.id p.inner) (λ p. known_by p.inner p.last) R.graph R.stack (K.held shelf.entry.now) begins.entry.now
+            ensures { SaverEnds (λ p. IsPassOf desk.entry.now.id p.inner) (λ p. known_by p.inner p.last) R.graph R.stack
+                (K.held shelf.entry.now) begins.entry.now
                 result.pass result.left result.files result.fault (K.held shelf.exit.now)
                 × CountsSo result.fault (K.faults shelf.entry.now) (K.faults shelf.exit.now) }
         { save_at(rt, alloc, desk, role, stack, gate, watch, shelf, begins) },

@@ -1,5 +1,6 @@
 -- How the files go from the role that saves to the last role on a board that it has alone, and on through the drain.
-use Rattle.std.proofs.Common.{◌≡◌, ◌≢◌, ℕ, suc, ◌+◌, ◌/◌, ◌^◌, ◌<◌, Bool, true, false, List, [], ◌∷◌, ◌++◌, length, refl, sym, ap, subst, ◌∙◌, Option, Some, None, inl, inr}
+use Rattle.std.proofs.Common.{◌≡◌, ◌≢◌, ℕ, suc, ◌+◌, ◌/◌, ◌^◌, ◌<◌, Bool, true, false, List, [], ◌∷◌, ◌++◌, length, refl, sym, ap, subst, ◌∙◌, Option, Some}
+use Rattle.std.proofs.Common.{None, inl, inr}
 use Rattle.std.specs.Prelude.{is_none, if◌then◌else◌}
 use Rattle.std.specs.List.{list_all}
 use Rattle.std.proofs.lemmas.Bool.{and_parts, and_from, cases_Bool, false≢true, eqb-true, ne_eqb}
@@ -10,7 +11,8 @@ use Rattle.nd_base.specs.declared.graph.Graph.{Graph}
 use Rattle.edge_traits.specs.Files.{Files}
 use Rattle.frame_store.specs.Sealed.{Sealed}
 use Rattle.flow_journal.specs.declared.entry.Entry.{Entry}
-use Rattle.flow_journal.specs.declared.entry.Entry.TheVariants.{Load, LoadRefused, Issue, Take, TakeBlock, PoolDrop, Put, Settle, Save, Saved, Close, Leave, Reclaim}
+use Rattle.flow_journal.specs.declared.entry.Entry.TheVariants.{Load, LoadRefused, Issue, Take, TakeBlock, PoolDrop, Put, Settle, Save, Saved, Close, Leave}
+use Rattle.flow_journal.specs.declared.entry.Entry.TheVariants.{Reclaim}
 use Rattle.flow_journal.specs.Setting.{Setting, last_role}
 use Rattle.flow_journal.specs.Pasts.{Past}
 use Rattle.flow_journal.specs.Hands.{hand, is_free}

@@ -7,11 +7,11 @@ use Rattle.nd_base.specs.declared.graph.Graph.{Graph}
 use Rattle.nd_base.specs.declared.graph.Kind.TheVariants.{File}
 use Rattle.nd_base.specs.declared.graph.NodeRule.{NodeRule}
 use Rattle.nd_base.specs.GraphRules.{rule_at}
-use Rattle.edge_traits.specs.Files.{Files, HasFile, file_at, overwritten}
+use Rattle.edge_traits.specs.Files.{Files, HasFile, file_at}
 use Rattle.cdf_write.specs.Layout.{layout}
 use Rattle.file_out.specs.declared.fault.SaveFault.{SaveFault}
 use Rattle.file_out.specs.Saving.{IsSaveCause}
-use Rattle.file_out.specs.Streams.{begun_file, count_place}
+use Rattle.file_out.specs.Streams.{begun_file}
 use Rattle.chain_plain.specs.OneThread.{listed}
 use Rattle.flow_journal.specs.Pasts.{Past}
 use Rattle.flow_journal.specs.Unsaved.{standing_saves}

@@ -37,9 +37,11 @@ pub fn end_files<R: Run, B: BoardCalls<Frame<R>>, K: Shelf>(
     requires finished { is_finished (run_setting R.graph R.stack) (past (B.shown board.now)) ≡ true }
     requires saving { (prefix : List ℕ) × ((before : Option Files)
         × IsSavingAlone R.graph R.stack prefix before (B.shown board.now) files fault (K.held shelf.old)) }
-    ensures ok { OnOk result ((prefix : List ℕ) (before : Option Files) → IsSavingAlone R.graph R.stack prefix before (B.shown board.now) files fault (K.held shelf.old)
+    ensures ok { OnOk result ((prefix : List ℕ) (before : Option Files)
+        → IsSavingAlone R.graph R.stack prefix before (B.shown board.now) files fault (K.held shelf.old)
         → HoldsGroupsOf R.graph R.stack prefix (past (B.shown board.now)) before (K.held shelf.new)) }
-    ensures err { OnErr result ((prefix : List ℕ) (before : Option Files) → IsSavingAlone R.graph R.stack prefix before (B.shown board.now) files fault (K.held shelf.old)
+    ensures err { OnErr result ((prefix : List ℕ) (before : Option Files)
+        → IsSavingAlone R.graph R.stack prefix before (B.shown board.now) files fault (K.held shelf.old)
         → IsTornHistory R.graph R.stack prefix (past (B.shown board.now)) before (K.held shelf.new)) }
     ensures failed { IfErr result (λ fault. fault ≡ faults.Failed) }
     ensures cause { CountsEnd fault result (K.faults shelf.old) (K.faults shelf.new) (K.held shelf.old) (K.held shelf.new) }

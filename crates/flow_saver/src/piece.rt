@@ -8,8 +8,6 @@ ghost use Rattle.nd_stack.specs.KeptStacks.{IsKeptStack};
 ghost use Rattle.file_out.specs.Saving.{IsSaveCause};
 ghost use Rattle.graph_files.specs.NodeFiles.{NodeFile, first_count, IsPlaceAfter};
 ghost use Rattle.graph_files.specs.OpenFiles.{IsReopened, AllWritten, AllStops, with_array};
-ghost use Rattle.board_rules.specs.RunMeasures.{run_setting};
-ghost use Rattle.flow_journal.specs.Setting.{last_role};
 ghost use Rattle.flow_roles.specs.Passes.{Pass};
 ghost use Rattle.flow_saver.specs.Pieces.{IsDuePiece, content_of};
 ghost use Rattle.flow_saver.specs.Saver.{Start, HasUnsaved, IsToGiveBack, CountsStep};
@@ -65,11 +63,14 @@ pub fn write_piece<R: Run, K: Shelf>(
     requires at { at < length files.old }
     requires due { (x : NodeFile) → slice_get files.old at ≡ Some x → IsDuePiece R.graph R.stack x piece.now.name group place of (K.held shelf.old) }
     ensures nodes { IsReopened files.old at of files.new }
-    ensures ok { OnOk result ((before : Option Files) (written : ℕ → List Array) (x : NodeFile) (a : Array) → slice_get files.old at ≡ Some x → content_of R.graph R.stack piece.now.name ≡ Some a
+    ensures ok { OnOk result ((before : Option Files) (written : ℕ → List Array) (x : NodeFile) (a : Array) → slice_get files.old at ≡ Some x
+        → content_of R.graph R.stack piece.now.name ≡ Some a
         → length (written x.node) + 1 < 2 ^ 64 → IsPlaceAfter x.count (written x.node) group place → AllWritten before files.old written (K.held shelf.old)
         → AllWritten before files.new (with_array written x.node a) (K.held shelf.new)) }
-    ensures ended { OnOk result ((x : NodeFile) → slice_get files.old at ≡ Some x → place + 1 ≡ x.count → (y : NodeFile) → slice_get files.new at ≡ Some y → y.current ≡ None) }
-    ensures err { IfErr result (λ fault. (before : Option Files) (written : ℕ → List Array) (x : NodeFile) (a : Array) → slice_get files.old at ≡ Some x → content_of R.graph R.stack piece.now.name ≡ Some a
+    ensures ended { OnOk result ((x : NodeFile) → slice_get files.old at ≡ Some x → place + 1 ≡ x.count → (y : NodeFile) → slice_get files.new at ≡ Some y
+        → y.current ≡ None) }
+    ensures err { IfErr result (λ fault. (before : Option Files) (written : ℕ → List Array) (x : NodeFile) (a : Array) → slice_get files.old at ≡ Some x
+        → content_of R.graph R.stack piece.now.name ≡ Some a
         → IsPlaceAfter x.count (written x.node) group place → AllWritten before files.old written (K.held shelf.old)
         → AllStops fault before x files.new written group (first_count x.late of) a (K.held shelf.old) (K.held shelf.new)) }
     ensures cause { IsSaveCause result (K.faults shelf.old) (K.faults shelf.new) }
@@ -97,9 +98,11 @@ pub(crate) fn write_due<R: Run, K: Shelf>(
     requires kept { IsKeptStack R.stack }
     requires unsaved { (start : Start) × ((role : ℕ) × ((pass : Pass)
         × HasUnsaved R.graph R.stack start role pass files.old fault.old (K.held shelf.old) due.now)) }
-    ensures ok { OnOk result ((start : Start) (role : ℕ) (pass : Pass) → HasUnsaved R.graph R.stack start role pass files.old fault.old (K.held shelf.old) due.now
+    ensures ok { OnOk result ((start : Start) (role : ℕ) (pass : Pass)
+        → HasUnsaved R.graph R.stack start role pass files.old fault.old (K.held shelf.old) due.now
         → IsToGiveBack R.graph R.stack start role pass files.new fault.new (K.held shelf.new) due.now.piece) }
-    ensures err { OnErr result ((start : Start) (role : ℕ) (pass : Pass) → HasUnsaved R.graph R.stack start role pass files.old fault.old (K.held shelf.old) due.now
+    ensures err { OnErr result ((start : Start) (role : ℕ) (pass : Pass)
+        → HasUnsaved R.graph R.stack start role pass files.old fault.old (K.held shelf.old) due.now
         → HasUnsaved R.graph R.stack start role pass files.new fault.new (K.held shelf.new) due.now) }
     ensures count { length files.new ≡ length files.old }
     ensures cause { CountsStep fault.old fault.new (K.faults shelf.old) (K.faults shelf.new) (K.held shelf.old) (K.held shelf.new) }

@@ -70,9 +70,11 @@ fn save_next<R: Run, B: BoardCalls<Frame<R>>, K: Shelf>(
     requires drained { IsDrained (run_setting R.graph R.stack) (past (B.shown board.old)) }
     requires saving { (prefix : List ℕ) × ((before : Option Files)
         × IsSavingAlone R.graph R.stack prefix before (B.shown board.old) files.old fault.old (K.held shelf.old)) }
-    ensures leaves { (prefix : List ℕ) (before : Option Files) → IsSavingAlone R.graph R.stack prefix before (B.shown board.old) files.old fault.old (K.held shelf.old)
+    ensures leaves { (prefix : List ℕ) (before : Option Files)
+        → IsSavingAlone R.graph R.stack prefix before (B.shown board.old) files.old fault.old (K.held shelf.old)
         → StepLeavesAlone R.graph R.stack prefix before result (B.shown board.new) files.new fault.new (K.held shelf.new) }
-    ensures rests { (x : NodeFile) → slice_get files.old at ≡ Some x → StepRests (run_setting R.graph R.stack) x.node result (B.shown board.old) (B.shown board.new) }
+    ensures rests { (x : NodeFile) → slice_get files.old at ≡ Some x
+        → StepRests (run_setting R.graph R.stack) x.node result (B.shown board.old) (B.shown board.new) }
     ensures moves { RestMoves (run_setting R.graph R.stack) (B.shown board.old) (B.shown board.new) }
     ensures legal { is_history (run_setting R.graph R.stack) (past (B.shown board.new)) ≡ true }
     ensures nodes { map closed files.new ≡ map closed files.old }
@@ -124,10 +126,12 @@ fn save_all<R: Run, B: BoardCalls<Frame<R>>, K: Shelf>(
     requires drained { IsDrained (run_setting R.graph R.stack) (past (B.shown board.old)) }
     requires saving { (prefix : List ℕ) × ((before : Option Files)
         × IsSavingAlone R.graph R.stack prefix before (B.shown board.old) files.old fault.old (K.held shelf.old)) }
-    ensures saving { OnOk result ((prefix : List ℕ) (before : Option Files) → IsSavingAlone R.graph R.stack prefix before (B.shown board.old) files.old fault.old (K.held shelf.old)
+    ensures saving { OnOk result ((prefix : List ℕ) (before : Option Files)
+        → IsSavingAlone R.graph R.stack prefix before (B.shown board.old) files.old fault.old (K.held shelf.old)
         → IsSavingAlone R.graph R.stack prefix before (B.shown board.new) files.new fault.new (K.held shelf.new)) }
     ensures drained { OnOk result (IsDrained (run_setting R.graph R.stack) (past (B.shown board.new))) }
-    ensures empty { OnOk result ((x : NodeFile) → slice_get files.old at ≡ Some x → unsaved (run_setting R.graph R.stack) x.node (past (B.shown board.new)) ≡ []) }
+    ensures empty { OnOk result ((x : NodeFile) → slice_get files.old at ≡ Some x
+        → unsaved (run_setting R.graph R.stack) x.node (past (B.shown board.new)) ≡ []) }
     ensures others { OnOk result ((x : NodeFile) → slice_get files.old at ≡ Some x → (w : ℕ) → w ≢ x.node
         → unsaved (run_setting R.graph R.stack) w (past (B.shown board.new)) ≡ unsaved (run_setting R.graph R.stack) w (past (B.shown board.old))) }
     ensures moves { RestMoves (run_setting R.graph R.stack) (B.shown board.old) (B.shown board.new) }
@@ -168,7 +172,8 @@ pub fn save_rest<R: Run, B: BoardCalls<Frame<R>>, K: Shelf>(
     requires saving { (prefix : List ℕ) × ((before : Option Files)
         × IsSavingAlone R.graph R.stack prefix before (B.shown board.old) files.old fault.old (K.held shelf.old)) }
     ensures finished { OnOk result (is_finished (run_setting R.graph R.stack) (past (B.shown board.new)) ≡ true) }
-    ensures saving { OnOk result ((prefix : List ℕ) (before : Option Files) → IsSavingAlone R.graph R.stack prefix before (B.shown board.old) files.old fault.old (K.held shelf.old)
+    ensures saving { OnOk result ((prefix : List ℕ) (before : Option Files)
+        → IsSavingAlone R.graph R.stack prefix before (B.shown board.old) files.old fault.old (K.held shelf.old)
         → IsSavingAlone R.graph R.stack prefix before (B.shown board.new) files.new fault.new (K.held shelf.new)) }
     ensures moves { RestMoves (run_setting R.graph R.stack) (B.shown board.old) (B.shown board.new) }
     ensures legal { is_history (run_setting R.graph R.stack) (past (B.shown board.new)) ≡ true }
@@ -202,7 +207,8 @@ pub fn save_left<R: Run, B: BoardCalls<Frame<R>>, K: Shelf>(
     requires kept { IsKeptStack R.stack }
     requires unsaved { (prefix : List ℕ) × ((before : Option Files)
         × HasUnsavedAlone R.graph R.stack prefix before (B.shown board.old) files.old fault.old (K.held shelf.old) due) }
-    ensures saving { OnOk result ((prefix : List ℕ) (before : Option Files) → HasUnsavedAlone R.graph R.stack prefix before (B.shown board.old) files.old fault.old (K.held shelf.old) due
+    ensures saving { OnOk result ((prefix : List ℕ) (before : Option Files)
+        → HasUnsavedAlone R.graph R.stack prefix before (B.shown board.old) files.old fault.old (K.held shelf.old) due
         → IsSavingAlone R.graph R.stack prefix before (B.shown board.new) files.new fault.new (K.held shelf.new)) }
     ensures moves { RestMoves (run_setting R.graph R.stack) (B.shown board.old) (B.shown board.new) }
     ensures legal { is_history (run_setting R.graph R.stack) (past (B.shown board.new)) ≡ true }

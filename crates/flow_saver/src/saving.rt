@@ -14,7 +14,8 @@ ghost use Rattle.board_rules.specs.RunMeasures.{run_setting};
 ghost use Rattle.flow_roles.specs.RoleMoves.{saver_logs, IsFresh};
 ghost use Rattle.graph_files.specs.OpenFiles.{closed, file_nodes};
 ghost use Rattle.flow_saver.specs.GivenBack.{given_back};
-ghost use Rattle.flow_saver.specs.Saver.{saver_ends, piece_of, IsPieceOfHand, AreSaved, CountsSo, Start, IsSaving, IsToGiveBack, StepLeaves, RoleLeaves, CountsStep};
+ghost use Rattle.flow_saver.specs.Saver.{saver_ends, piece_of, IsPieceOfHand, AreSaved, CountsSo, Start, IsSaving, IsToGiveBack, StepLeaves, RoleLeaves};
+ghost use Rattle.flow_saver.specs.Saver.{CountsStep};
 
 use crate::DuePiece;
 use crate::piece::write_due;
@@ -227,9 +228,11 @@ pub fn save_role<R: Run, D: Desk<Frame<R>>, K: Shelf, N: Watch, G: Gate, W: Wait
     ensures wants { result.want ≡ is_some result.left }
     ensures nodes { map closed result.files ≡ files }
     ensures history { result.want ≡ false → (v : ℕ) → standing_saves v (past (D.knows result.pass).seen) ≡ given_back v (past (D.knows result.pass).made) }
-    ensures saved { AreSaved R.graph R.stack (K.held shelf.old) (past (D.knows result.pass).made) (past (D.knows result.pass).seen) result.files result.fault (K.held shelf.new) }
+    ensures saved { AreSaved R.graph R.stack (K.held shelf.old) (past (D.knows result.pass).made) (past (D.knows result.pass).seen) result.files result.fault
+        (K.held shelf.new) }
     ensures leaves { (prefix : List ℕ) → files ≡ file_nodes R.graph R.stack prefix
-        → RoleLeaves R.graph R.stack (record { prefix = prefix; made = []; held = K.held shelf.old }) role result.left (D.knows result.pass) result.files result.fault (K.held shelf.new) }
+        → RoleLeaves R.graph R.stack (record { prefix = prefix; made = []; held = K.held shelf.old }) role result.left
+        (D.knows result.pass) result.files result.fault (K.held shelf.new) }
     ensures fault { CountsSo result.fault (K.faults shelf.old) (K.faults shelf.new) }
 {
     let mut pass = pass;

@@ -1,5 +1,6 @@
 -- The nodes as the definitions see them.
-use Rattle.std.proofs.Common.{◌≡◌, ◌+◌, ◌-◌, ◌<◌, ◌&&◌, ℕ, suc, List, [], ◌∷◌, Bool, true, false, Option, Some, None, Result, Ok, Err, ◌++◌, append_assoc, codes, length, map, take, get_or, cond, refl, ap, sym, ◌∙◌, arith}
+use Rattle.std.proofs.Common.{◌≡◌, ◌+◌, ◌-◌, ◌<◌, ◌&&◌, ℕ, suc, List, [], ◌∷◌, Bool, true, false, Option, Some, None, Result, Ok, Err, ◌++◌, append_assoc}
+use Rattle.std.proofs.Common.{codes, length, take, get_or, cond, refl, ap, sym, ◌∙◌, arith}
 use Rattle.std.specs.List.{list_any, position_from}
 use Rattle.std.specs.Option.{option_map, option_map_or}
 use Rattle.std.specs.Str.{bytes_eq}
@@ -12,7 +13,8 @@ use Rattle.graph_conf.specs.declared.fault.GraphFault.{GraphFault}
 use Rattle.graph_conf.specs.declared.fault.GraphFault.TheVariants.{UnknownInput, DoubleName, Cycle}
 use Rattle.graph_conf.specs.Answers.{◌>>=◌}
 use Rattle.graph_conf.specs.Nodes.{node_of}
-use Rattle.graph_conf.specs.Graphs.{is_double, first_place, has_name, nodes_from, input_number, input_numbers, known_input, source_of, input_of, refused_node, is_circular, few_threads, with_inputs, linked}
+use Rattle.graph_conf.specs.Graphs.{is_double, first_place, has_name, nodes_from, input_number, input_numbers, known_input, source_of, input_of}
+use Rattle.graph_conf.specs.Graphs.{refused_node, is_circular, few_threads, with_inputs, linked}
 
 pub is_double-at : (ns : List NamedNode) (k : ℕ) (d : NamedNode) → k < length ns →
     is_double ns k ≡ list_any (λ n. bytes_eq n.rule.name (get_or ns k d).rule.name) (take k ns)

@@ -1,5 +1,6 @@
 -- The keys that a table may have.
-use Rattle.std.proofs.Common.{◌≡◌, ◌||◌, ℕ, List, [], ◌∷◌, Bool, true, false, Bor, Option, Some, None, Global, String, Less, Greater, map, cond, string_bytes, nat_cmp, inl, inr, refl, ap, ◌∙◌}
+use Rattle.std.proofs.Common.{◌≡◌, ◌||◌, ℕ, List, [], ◌∷◌, Bool, true, false, Bor, Option, Some, None, Global, String, Less, Greater, map, cond}
+use Rattle.std.proofs.Common.{string_bytes, nat_cmp, inl, inr, refl, ap, ◌∙◌}
 use Rattle.std.specs.Prelude.{IfSome}
 use Rattle.std.specs.Ordering.{is_lt, ordering_reverse}
 use Rattle.std.specs.Cmp.Lexicographic.{slice_cmp}

@@ -1,5 +1,6 @@
 -- The makers of a plan by their numbers, and what a node's maker makes.
-use Rattle.std.proofs.Common.{◌≡◌, ◌+◌, ◌-◌, ◌*◌, ◌^◌, ◌<◌, ◌≤◌, ◌==◌, ℕ, zero, suc, List, [], ◌∷◌, Bool, true, false, Option, Some, None, length, map, cond, inl, inr, refl, ap, sym, ◌∙◌, subst, arith}
+use Rattle.std.proofs.Common.{◌≡◌, ◌+◌, ◌-◌, ◌*◌, ◌^◌, ◌<◌, ◌≤◌, ◌==◌, ℕ, zero, suc, List, [], ◌∷◌, Bool, true, false, Option, Some, None, length, map}
+use Rattle.std.proofs.Common.{cond, inl, inr, refl, ap, sym, ◌∙◌, subst, arith}
 use Rattle.std.specs.Prelude.{find, filter, nat_lt}
 use Rattle.std.specs.List.{AllByRecursion, list_any, range_with_len, slice_get}
 use Rattle.std.specs.Option.{option_map, option_map_or}
@@ -13,10 +14,10 @@ use Rattle.nd_base.specs.declared.array.Dim.{Dim}
 use Rattle.nd_base.specs.declared.array.SampleType.{SampleType}
 use Rattle.cdf_write.specs.Writable.{IsWritable}
 use Rattle.cdf_write.specs.WritableLaws.{shape_for-IsWritable}
-use Rattle.nd_base.specs.GraphRules.{makes_arrays, IsGraph, rule_at, input_of}
+use Rattle.nd_base.specs.GraphRules.{makes_arrays, IsGraph, rule_at}
 use Rattle.nd_base.specs.declared.graph.Graph.{Graph}
 use Rattle.nd_base.specs.declared.graph.NodeRule.{NodeRule}
-use Rattle.chain_plain.specs.Nodes.{is_region, regions, maker_within, maker_at}
+use Rattle.chain_plain.specs.Nodes.{is_region, regions, maker_at}
 use Rattle.chain_plain.specs.PassingLaws.{rule_within, out_of-maker, IsMaker}
 use Rattle.chain_plain.specs.ContentLaws.{IsArrayShape, plans-sound, maker_at-makes}
 use Rattle.graph_conf.specs.Loads.{kept_by, kept_from, file_bytes, file_bytes_at, most_bytes, most_bytes_at, first_too_long}

@@ -1,7 +1,8 @@
 -- Faults that are handed on.
 use Rattle.std.proofs.Common.{◌≡◌, Result, Err}
 use Rattle.graph_conf.specs.declared.fault.GraphFault.{GraphFault}
-use Rattle.graph_conf.specs.declared.fault.GraphFault.TheVariants.{Text, UnknownKey, KeyType, Range, Missing, UnknownKind, Threads, Calc, DoubleName, UnknownInput, Cycle, OutOfMemory}
+use Rattle.graph_conf.specs.declared.fault.GraphFault.TheVariants.{Text, UnknownKey, KeyType, Range, Missing, UnknownKind, Threads, Calc, DoubleName}
+use Rattle.graph_conf.specs.declared.fault.GraphFault.TheVariants.{UnknownInput, Cycle, OutOfMemory}
 use Rattle.graph_conf.specs.Answers.{Refuses}
 
 -- a fault of a part is one of the whole, where the whole has each fault of the part

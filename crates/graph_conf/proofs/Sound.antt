@@ -1,5 +1,6 @@
 -- That what was read is a graph.
-use Rattle.std.proofs.Common.{◌≡◌, ◌≢◌, ◌+◌, ◌<◌, ◌≤◌, ◌&&◌, ◌==◌, not, ℕ, zero, suc, List, [], ◌∷◌, Bool, true, false, Option, Some, None, Result, Ok, Err, codes, length, map, take, get_or, cond, inl, inr, refl, ap, sym, ◌∙◌, subst, arith}
+use Rattle.std.proofs.Common.{◌≡◌, ◌≢◌, ◌+◌, ◌<◌, ◌≤◌, ◌&&◌, ◌==◌, not, ℕ, zero, suc, List, [], ◌∷◌, Bool, true, false, Option, Some, None, Result, Ok, Err}
+use Rattle.std.proofs.Common.{codes, length, map, take, get_or, cond, inl, inr, refl, ap, sym, ◌∙◌, subst, arith}
 use Rattle.std.specs.Prelude.{All, AllPairs, IsTrue, unwrap_or}
 use Rattle.std.specs.List.{AllByRecursion, position_from, slice_get}
 use Rattle.std.specs.Option.{option_map_or}
@@ -18,7 +19,8 @@ use Rattle.graph_conf.specs.declared.fault.GraphFault.TheVariants.{DoubleName, C
 use Rattle.graph_conf.specs.declared.node.NamedNode.{NamedNode}
 use Rattle.graph_conf.specs.Answers.{◌>>=◌}
 use Rattle.graph_conf.specs.Links.{AreLinked}
-use Rattle.graph_conf.specs.Graphs.{first_place, refused_node, is_double, has_name, input_number, input_numbers, known_input, input_of, source_of, is_circular, thread_count, with_inputs}
+use Rattle.graph_conf.specs.Graphs.{first_place, refused_node, is_double, has_name, input_number, input_numbers, known_input, input_of, source_of}
+use Rattle.graph_conf.specs.Graphs.{is_circular, thread_count, with_inputs}
 use Rattle.graph_conf.proofs.Joined.{is_double-at, length-with_inputs}
 
 -- EACH NODE

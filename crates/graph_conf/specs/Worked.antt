@@ -7,7 +7,8 @@ use Rattle.trig_window.specs.declared.expression.CalcFault.TheVariants.{Unexpect
 use Rattle.trig_window.specs.Expressions.{expression_of, sign_in, parts, chain}
 use Rattle.trig_window.specs.Symbols.{tokens_from, symbol_at}
 use Rattle.toml.proofs.OnLiterals.{toml_on_literals}
-use Rattle.graph_conf.specs.declared.fault.GraphFault.TheVariants.{Text, UnknownKey, KeyType, Range, Missing, UnknownKind, Threads, Calc, DoubleName, UnknownInput, Cycle}
+use Rattle.graph_conf.specs.declared.fault.GraphFault.TheVariants.{Text, UnknownKey, KeyType, Range, Missing, UnknownKind, Threads, Calc, DoubleName}
+use Rattle.graph_conf.specs.declared.fault.GraphFault.TheVariants.{UnknownInput, Cycle}
 use Rattle.nd_base.specs.declared.graph.Graph.{Graph}
 use Rattle.nd_base.specs.declared.graph.Kind.TheVariants.{Roi, Stats, File}
 use Rattle.graph_conf.specs.Nodes.{node_of, roi_rule, stats_rule, circular_rule, file_rule}
@@ -162,28 +163,30 @@ unfolding toml_on_literals graph_of run_table node_key linked node_of roi_rule s
 eleven_sizes = refl
 
 -- regions may be listed before the nodes that feed them
-region_of_a_region : of_text (codes "[run]\nfeed = 'wait'\npool = 64\n[[node]]\nname = 'r'\nkind = 'roi'\ninput = 'q'\nbin = [2, 2]\ntype = 'UInt16'\n[[node]]\nname = 'q'\nkind = 'roi'\ninput = 'driver'\n") ≡ Ok (record {
-  wait = true;
-  limit = 64;
-  nodes =
-      record {
-        name = codes "r";
-        kind = Roi (record { min = []; size = []; bin = pos 2 ∷ pos 2 ∷ []; reverse = []; auto = []; scale = 1; out = Some UInt16 });
-        input = 2;
-        queue = 20;
-        threads = 1;
-        sort = 0;
-        sort_time = 100;
-      }
-      ∷ record {
-        name = codes "q";
-        kind = Roi (record { min = []; size = []; bin = []; reverse = []; auto = []; scale = 1; out = None });
-        input = 0;
-        queue = 20;
-        threads = 1;
-        sort = 0;
-        sort_time = 100;
-      } ∷ [];
-})
+region_of_a_region : of_text
+    (codes
+    "[run]\nfeed = 'wait'\npool = 64\n[[node]]\nname = 'r'\nkind = 'roi'\ninput = 'q'\nbin = [2, 2]\ntype = 'UInt16'\n[[node]]\nname = 'q'\nkind = 'roi'\ninput = 'driver'\n") ≡ Ok (record {
+      wait = true;
+      limit = 64;
+      nodes =
+          record {
+            name = codes "r";
+            kind = Roi (record { min = []; size = []; bin = pos 2 ∷ pos 2 ∷ []; reverse = []; auto = []; scale = 1; out = Some UInt16 });
+            input = 2;
+            queue = 20;
+            threads = 1;
+            sort = 0;
+            sort_time = 100;
+          }
+          ∷ record {
+            name = codes "q";
+            kind = Roi (record { min = []; size = []; bin = []; reverse = []; auto = []; scale = 1; out = None });
+            input = 0;
+            queue = 20;
+            threads = 1;
+            sort = 0;
+            sort_time = 100;
+          } ∷ [];
+    })
 unfolding toml_on_literals graph_of run_table node_key linked node_of roi_rule stats_rule circular_rule file_rule
 region_of_a_region = refl

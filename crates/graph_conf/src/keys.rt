@@ -1,10 +1,11 @@
 //! What the keys of a table hold.
-ghost use Rattle.std.specs.Prelude.{◌≡◌, ◌≤ℤ◌, ◌≤◌, ◌<◌, ◌^◌, List, ℕ, length, map, negsuc, pos, All, IfOk};
-ghost use Rattle.std.specs.Option.{option_map, option_copied};
-ghost use Rattle.toml.specs.Data.{as_integer, as_bool, as_table, get_member};
+ghost use Rattle.std.specs.Prelude.{◌≡◌, ◌≤ℤ◌, ◌≤◌, ◌<◌, ◌^◌, length, map, negsuc, pos, IfOk};
+ghost use Rattle.std.specs.Option.{option_map};
+ghost use Rattle.toml.specs.Data.{as_integer, as_bool, get_member};
 ghost use Rattle.toml.specs.View.{view, array_view, table_view};
 ghost use Rattle.graph_conf.specs.Answers.{Gives};
-ghost use Rattle.graph_conf.specs.Keys.{present, formed, number, count, truth, text_in, all_of, list_in, at_most, each_within, dimension_numbers, dimension_truths, numbers, truths, first_unknown, only_keys};
+ghost use Rattle.graph_conf.specs.Keys.{present, number, count, truth, text_in, all_of, list_in, at_most, each_within, numbers, truths, first_unknown};
+ghost use Rattle.graph_conf.specs.Keys.{only_keys};
 ghost use Rattle.graph_conf.specs.declared.fault.GraphFault.TheVariants as fault;
 
 use crate::GraphFault;

@@ -1,12 +1,13 @@
 //! The nodes of a graph together: names, inputs, cycles and threads.
-ghost use Rattle.std.specs.Prelude.{◌≡◌, ◌≤◌, ◌<◌, ◌^◌, ◌&&◌, length, map, All, IfSome, IfOk};
+ghost use Rattle.std.specs.Prelude.{◌≡◌, ◌≤◌, ◌<◌, ◌^◌, ◌&&◌, length, All, IfSome, IfOk};
 ghost use Rattle.std.specs.List.{list_any, position_from};
 ghost use Rattle.std.specs.Str.{bytes_eq};
 ghost use Rattle.nd_base.specs.GraphRules.{IsNode, may_feed};
 ghost use Rattle.graph_conf.specs.Answers.{Gives};
 ghost use Rattle.graph_conf.specs.declared.fault.GraphFault.TheVariants.{DoubleName, Cycle};
 ghost use Rattle.graph_conf.specs.Links.{AreLinked};
-ghost use Rattle.graph_conf.specs.Graphs.{first_place, refused_node, is_double, input_number, input_numbers, input_of, source_of, is_circular, few_threads, thread_count, linked, with_inputs};
+ghost use Rattle.graph_conf.specs.Graphs.{first_place, refused_node, is_double, input_number, input_numbers, input_of, is_circular, few_threads};
+ghost use Rattle.graph_conf.specs.Graphs.{thread_count, linked, with_inputs};
 
 use crate::GraphFault;
 use crate::keys::out_of_range;

@@ -1,9 +1,9 @@
 //! A node's table.
-ghost use Rattle.std.specs.Prelude.{◌≡◌, ◌≤◌, pos, false, IsTrue, IfOk};
-ghost use Rattle.toml.specs.View.{view, table_view};
+ghost use Rattle.std.specs.Prelude.{◌≡◌, ◌≤◌, false, IsTrue, IfOk};
+ghost use Rattle.toml.specs.View.{table_view};
 ghost use Rattle.nd_base.specs.GraphRules.{IsNode, IsBetween, is_node_name};
 ghost use Rattle.graph_conf.specs.Answers.{Gives};
-ghost use Rattle.graph_conf.specs.Nodes.{is_parallel, name_key, kind_key, input_key, queue_key, threads_key, sort_key, sort_time_key, node_of};
+ghost use Rattle.graph_conf.specs.Nodes.{is_parallel, name_key, kind_key, input_key, threads_key, sort_key, sort_time_key, node_of};
 
 use crate::GraphFault;
 use crate::keys::{count, key_type, name_of, only_keys, present, text_in};

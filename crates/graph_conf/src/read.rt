@@ -1,12 +1,12 @@
 //! The graph of a text.
-ghost use Rattle.std.specs.Prelude.{◌≡◌, ◌≤◌, [], ◌∷◌, length, map, codes, Option, Some, None, All, IfOk};
+ghost use Rattle.std.specs.Prelude.{◌≡◌, ◌≤◌, length, map, Option, Some, None, All, IfOk};
 ghost use Rattle.std.specs.Option.{option_map};
 ghost use Rattle.toml.specs.Data.{as_table};
 ghost use Rattle.toml.specs.View.{view, array_view, table_view};
 ghost use Rattle.nd_base.specs.GraphRules.{IsNode, IsGraph};
 ghost use Rattle.graph_conf.specs.Answers.{Gives};
 ghost use Rattle.graph_conf.specs.Keys.{all_of};
-ghost use Rattle.graph_conf.specs.Graphs.{feeds, feed_key, run_table, run_key, nodes_from, node_tables, node_key, graph_of, graph_or_text, graph_of_bytes};
+ghost use Rattle.graph_conf.specs.Graphs.{feed_key, run_table, run_key, nodes_from, node_tables, node_key, graph_of, graph_of_bytes};
 
 use crate::GraphFault;
 use crate::keys::{count, key_type, only_keys, out_of_range, text_in, value_at};

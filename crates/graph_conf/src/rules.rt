@@ -1,11 +1,12 @@
 //! The rule of a node, by its kind.
-ghost use Rattle.std.specs.Prelude.{◌≡◌, ◌≤ℤ◌, codes, negsuc, pos, IfOk};
+ghost use Rattle.std.specs.Prelude.{◌≡◌, codes, pos, IfOk};
 ghost use Rattle.toml.specs.View.{view, table_view};
 ghost use Rattle.nd_base.specs.GraphRules.{IsRoi, IsStats, IsCircular, IsFile, IsKind, IsSampleBound};
 ghost use Rattle.nd_base.specs.GraphRules as graph_rules;
 ghost use Rattle.graph_conf.specs.Answers.{Gives};
 ghost use Rattle.graph_conf.specs.Keys.{word_in};
-ghost use Rattle.graph_conf.specs.Nodes.{is_parallel, sample_types, type_key, sample_bound, attribute_key, mode_key, form_key, roi_rule, stats_rule, circular_rule, file_rule, kind_rule};
+ghost use Rattle.graph_conf.specs.Nodes.{is_parallel, sample_types, type_key, sample_bound, attribute_key, mode_key, form_key, roi_rule, stats_rule};
+ghost use Rattle.graph_conf.specs.Nodes.{circular_rule, file_rule, kind_rule};
 
 use crate::GraphFault;
 use crate::keys::{

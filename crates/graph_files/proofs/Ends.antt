@@ -1,5 +1,6 @@
 -- What an end at one node does to the files of all, and what ends at all nodes come to.
-use Rattle.std.proofs.Common.{◌≡◌, ◌≢◌, ℕ, zero, suc, ◌+◌, ◌/◌, ◌^◌, ◌<◌, ◌≤◌, List, [], ◌∷◌, length, map, set, Option, None, Some, Result, Ok, Err, inl, inr, refl, sym, ap, subst, ◌∙◌, arith}
+use Rattle.std.proofs.Common.{◌≡◌, ◌≢◌, ℕ, zero, suc, ◌+◌, ◌/◌, ◌^◌, ◌<◌, ◌≤◌, List, [], ◌∷◌, length, map, set, Option, None, Some, Result, Ok, Err, inl}
+use Rattle.std.proofs.Common.{inr, refl, sym, ap, subst, ◌∙◌, arith}
 use Rattle.std.specs.Prelude.{slice_get, IsSome, OnErr}
 use Rattle.std.proofs.lemmas.Bool.{cases_lt}
 use Rattle.nd_base.specs.Array.{Array}

@@ -1,5 +1,6 @@
 -- What a write and an end make of the files of a node.
-use Rattle.std.proofs.Common.{◌≡◌, ℕ, ◌+◌, ◌/◌, ◌%◌, ◌^◌, ◌<◌, ◌≤◌, Bool, true, false, ltb, List, [], ◌∷◌, ◌++◌, length, Option, None, Some, Result, Ok, Err, inl, inr, OnOk, IfErr, refl, sym, ap, subst, ◌∙◌, arith}
+use Rattle.std.proofs.Common.{◌≡◌, ℕ, ◌+◌, ◌/◌, ◌%◌, ◌^◌, ◌<◌, ◌≤◌, Bool, true, false, ltb, List, [], ◌∷◌, ◌++◌, length, Option, None, Some, Result, Ok}
+use Rattle.std.proofs.Common.{Err, inl, inr, OnOk, IfErr, refl, sym, ap, subst, ◌∙◌, arith}
 use Rattle.std.specs.List.{flat_map}
 use Rattle.std.proofs.lemmas.Bool.{ltb-true, ltb-false}
 use Rattle.std.proofs.Math.Nat.{mod-lt, div-le_self}
@@ -15,8 +16,10 @@ use Rattle.file_out.specs.Saving.{BeginStops}
 use Rattle.file_out.specs.Streams.{Stream, HasRows, MayCount, begun_file}
 use Rattle.graph_files.specs.Groups.{group_of, whole_file, HasBytes, file_of}
 use Rattle.graph_files.specs.GroupLaws.{length-group}
-use Rattle.graph_files.specs.NodeFiles.{NodeFile, IsChangedAt, Wrote, IsTorn, Untouched, Front, Miscounted, IsPlaceAfter, AreWritten, AreWrittenBut, AreEnded, HasNumrecs, IsHeldBack, WriteStops, EndStops, EndTorn, RowGoes, RowStops, name_of, stream_of}
-use Rattle.graph_files.specs.NodeFileLaws.{open-is, open-has, none-is, empty, written-begun, written-more, written-whole, written-but, open-but, none-open, cases_eq, changed-then}
+use Rattle.graph_files.specs.NodeFiles.{NodeFile, IsChangedAt, Wrote, IsTorn, Untouched, Front, Miscounted, IsPlaceAfter, AreWritten, AreWrittenBut}
+use Rattle.graph_files.specs.NodeFiles.{AreEnded, HasNumrecs, IsHeldBack, WriteStops, EndStops, EndTorn, RowGoes, RowStops, name_of, stream_of}
+use Rattle.graph_files.specs.NodeFileLaws.{open-is, open-has, none-is, empty, written-begun, written-more, written-whole, written-but, open-but, none-open}
+use Rattle.graph_files.specs.NodeFileLaws.{cases_eq, changed-then}
 use Rattle.graph_files.proofs.Torn.{torn-begin, torn-count, changed-begin}
 
 pub either : {T : Type 0} {P C : Type 0} {Q : SaveFault → Type 0} (r : Result T SaveFault) → OnOk r P → IfErr r Q → (P → C)

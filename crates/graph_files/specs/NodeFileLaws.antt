@@ -1,5 +1,6 @@
 -- LAWS of the files of a node: what a write under one name does to all of them.
-use Rattle.std.proofs.Common.{◌≡◌, ◌≢◌, ℕ, ◌+◌, ◌/◌, ◌%◌, ◌^◌, ◌<◌, true, false, eqb, List, [], ◌∷◌, ◌++◌, length, Option, None, Some, ◌⊎◌, inl, inr, refl, sym, ap, subst, ◌∙◌, arith}
+use Rattle.std.proofs.Common.{◌≡◌, ◌≢◌, ℕ, ◌+◌, ◌/◌, ◌%◌, ◌^◌, ◌<◌, true, false, eqb, List, [], ◌∷◌, ◌++◌, length, Option, None, Some, ◌⊎◌, inl, inr, refl}
+use Rattle.std.proofs.Common.{sym, ap, subst, ◌∙◌, arith}
 use Rattle.std.specs.Prelude.{codes, is_some, if◌then◌else◌}
 use Rattle.std.proofs.lemmas.Bool.{cases_lt, ne_eqb, eq-eqb}
 use Rattle.std.proofs.lemmas.List.{append_cancel_left, append_cancel_right}
@@ -12,7 +13,8 @@ use Rattle.file_out.specs.Streams.{Stream, HasRows, begun_file}
 use Rattle.graph_files.specs.Groups.{group_of, whole_file, file_of, HasBytes}
 use Rattle.graph_files.specs.GroupLaws.{group-is, place-is, place-more, place-next, length-group, group-more, group-other, group-later}
 use Rattle.graph_files.specs.NameLaws.{numbers-differ}
-use Rattle.graph_files.specs.NodeFiles.{NodeFile, IsChangedAt, Same, Wrote, name_of, stream_of, open_at, group_file, IsOpenAfter, IsPlaceAfter, AreWritten, AreWrittenBut}
+use Rattle.graph_files.specs.NodeFiles.{NodeFile, IsChangedAt, Same, Wrote, name_of, stream_of, open_at, group_file, IsOpenAfter, IsPlaceAfter, AreWritten}
+use Rattle.graph_files.specs.NodeFiles.{AreWrittenBut}
 use Rattle.graph_files.specs.OutFiles.{group_number}
 
 -- WRITES UNDER ONE NAME

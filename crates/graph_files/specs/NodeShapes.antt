@@ -1,5 +1,6 @@
 -- The shape of a node's files, and how long they are.
-use Rattle.std.proofs.Common.{ℕ, ◌*◌, ◌≤◌, length, arith, ◌≡◌, zero, suc, ◌+◌, ◌<◌, min, Bool, true, false, List, Option, None, Some, inl, inr, if◌then◌else◌, refl, ap, sym, subst, ◌∙◌}
+use Rattle.std.proofs.Common.{ℕ, ◌*◌, ◌≤◌, length, arith, ◌≡◌, zero, suc, ◌+◌, ◌<◌, min, Bool, true, false, List, Option, None, Some, inl, inr}
+use Rattle.std.proofs.Common.{if◌then◌else◌, refl, ap, sym, subst, ◌∙◌}
 use Rattle.std.proofs.lemmas.Nat.{mul-le}
 use Rattle.nd_base.specs.Array.{StackValue}
 use Rattle.nd_base.specs.Forms.{longest_of}

@@ -1,5 +1,6 @@
 -- LAWS of the files of all nodes: what a write at one of them does to all.
-use Rattle.std.proofs.Common.{◌≡◌, ◌≢◌, ◌⊎◌, ℕ, zero, suc, ◌+◌, ◌*◌, ◌/◌, ◌^◌, ◌<◌, ◌≤◌, List, [], ◌∷◌, ◌++◌, length, take, set, get_or, Option, None, Some, inl, inr, refl, sym, ap, subst, ◌∙◌, arith}
+use Rattle.std.proofs.Common.{◌≡◌, ◌≢◌, ◌⊎◌, ℕ, zero, suc, ◌+◌, ◌*◌, ◌/◌, ◌^◌, ◌<◌, ◌≤◌, List, [], ◌∷◌, ◌++◌, length, take, set, get_or, Option, None, Some}
+use Rattle.std.proofs.Common.{inl, inr, refl, sym, ap, subst, ◌∙◌, arith}
 use Rattle.std.specs.Prelude.{slice_get, IsSome, AllPairs, codes, if◌then◌else◌}
 use Rattle.std.proofs.lemmas.Option.{get_or_from_slice_get, slice_get_within}
 use Rattle.nd_base.specs.Array.{StackValue}
@@ -22,7 +23,8 @@ use Rattle.file_out.specs.declared.fault.SaveFault.TheVariants.{Failed, OutOfMem
 use Rattle.file_out.specs.Streams.{Stream}
 use Rattle.graph_files.specs.Groups.{group_of, whole_file, file_of, HasBytes}
 use Rattle.graph_files.specs.GroupLaws.{group-is, group-more, group-other}
-use Rattle.graph_files.specs.NodeFiles.{NodeFile, node_file, IsChangedAt, IsPlaceAfter, AreWritten, AreWrittenBut, IsHeldBack, WriteStops, name_of, open_at, group_file}
+use Rattle.graph_files.specs.NodeFiles.{NodeFile, node_file, IsChangedAt, IsPlaceAfter, AreWritten, AreWrittenBut, IsHeldBack, WriteStops, name_of, open_at}
+use Rattle.graph_files.specs.NodeFiles.{group_file}
 use Rattle.graph_files.specs.NodeFileLaws.{cases_eq, open-elsewhere, open-here, changed-HasBytes, changed-file_at, changed-told, whole-some}
 use Rattle.graph_files.specs.OpenFiles.{kind_node, nodes_from, file_nodes, AreApart, IsElsewhere, AllWritten, AllWrittenBut, AllStops, with_array}
 

@@ -1,5 +1,6 @@
 -- The files of all file nodes of a graph while they are written.
-use Rattle.std.specs.Prelude.{◌≡◌, ◌≢◌, ◌⊎◌, ℕ, ◌+◌, ◌<◌, ◌^◌, ◌==◌, List, [], ◌∷◌, ◌++◌, length, slice_get, slice_set, Option, None, Some, IsSome, is_some, if◌then◌else◌}
+use Rattle.std.specs.Prelude.{◌≡◌, ◌≢◌, ◌⊎◌, ℕ, ◌+◌, ◌<◌, ◌^◌, ◌==◌, List, [], ◌∷◌, ◌++◌, length, slice_get, slice_set, Option, None, Some, IsSome, is_some}
+use Rattle.std.specs.Prelude.{if◌then◌else◌}
 use Rattle.nd_base.specs.Array.{Array, StackValue}
 use Rattle.nd_base.specs.declared.array.Head.{Head}
 use Rattle.nd_base.specs.declared.graph.Graph.{Graph}

@@ -1,6 +1,7 @@
 //! The files of a file node, which get its arrays one after the other.
 
-ghost use Rattle.std.specs.Prelude.{◌≡◌, ◌≢◌, ◌+◌, ◌<◌, ◌≤◌, ◌^◌, ◌/◌, ◌++◌, ◌∷◌, [], ℕ, List, None, Some, nat_lt, min, codes, length, string_bytes, IfOk, IfErr, OnOk, OnErr};
+ghost use Rattle.std.specs.Prelude.{◌≡◌, ◌≢◌, ◌+◌, ◌<◌, ◌≤◌, ◌^◌, ◌/◌, ◌++◌, ◌∷◌, [], ℕ, List, None, Some, nat_lt, min, codes, length, string_bytes, IfOk};
+ghost use Rattle.std.specs.Prelude.{IfErr, OnOk, OnErr};
 ghost use Rattle.std.specs.Option.{ForSome};
 ghost use Rattle.nd_base.specs.Array.{Array};
 ghost use Rattle.nd_base.specs.Forms.{longest_of};
@@ -16,7 +17,8 @@ ghost use Rattle.file_out.specs.Saving.{BeginStops, IsSaveCause};
 ghost use Rattle.file_out.specs.declared.fault.SaveFault.TheVariants as faults;
 ghost use Rattle.graph_files.specs.OutFiles.{form_at, file_shape, group_number, is_stream};
 ghost use Rattle.graph_files.specs.Groups.{group_of};
-ghost use Rattle.graph_files.specs.NodeFiles.{node_file, name_of, first_count, stream_of, IsPlaceAfter, AreWritten, AreEnded, IsFilled, IsSized, HasNumrecs, IsChangedAt, WriteStops, EndStops, RowGoes, RowStops};
+ghost use Rattle.graph_files.specs.NodeFiles.{node_file, name_of, first_count, stream_of, IsPlaceAfter, AreWritten, AreEnded, IsFilled, IsSized};
+ghost use Rattle.graph_files.specs.NodeFiles.{HasNumrecs, IsChangedAt, WriteStops, EndStops, RowGoes, RowStops};
 
 use crate::shapes::file_shape;
 use edge_traits::Shelf;
@@ -45,7 +47,15 @@ impl Model for NodeFiles {
 
     ghost view = { λ x. record { node = x.node; stem = x.stem; shape = x.shape; late = x.late; count = x.count; room = x.room; current = x.current } };
 
-    ghost invariant = { λ x. IsNodeFile (record { node = x.node; stem = x.stem; shape = x.shape; late = x.late; count = x.count; room = x.room; current = x.current }) };
+    ghost invariant = { λ x. IsNodeFile (record {
+      node = x.node;
+      stem = x.stem;
+      shape = x.shape;
+      late = x.late;
+      count = x.count;
+      room = x.room;
+      current = x.current;
+    }) };
 }
 
 /// Whether the number of records is put in at the end.
@@ -91,7 +101,8 @@ impl NodeFiles {
         requires plan { plan.now ≡ plan_of plan.now.graph stack.now }
         requires kept { IsKeptStack stack.now }
         requires rule { IsFile rule.now }
-        requires within { length_of (file_shape plan.now.graph stack.now node) (min rule.now.count (length stack.now.arrays)) ≤ longest_of (form_at plan.now.graph.nodes node) }
+        requires within { length_of (file_shape plan.now.graph stack.now node) (min rule.now.count (length stack.now.arrays))
+            ≤ longest_of (form_at plan.now.graph.nodes node) }
         ensures { IfOk result (λ x. x ≡ node_file plan.now.graph stack.now prefix.now node rule.now name.now) }
     {
         let stem = format!(in alloc; "{prefix}{name}_")?;
@@ -132,9 +143,11 @@ impl NodeFiles {
         requires room { 1 ≤ self.now.room }
         requires of { ForSome (first_count self.now.late of) (λ n. n ≤ self.now.room) }
         ensures value { IfOk result (λ f. f ≡ stream_of self.now group 0 (first_count self.now.late of)) }
-        ensures ok { OnOk result (K.held shelf.new ≡ with_file (K.held shelf.old) (name_of self.now group) (header self.now.shape (first_count self.now.late of))) }
+        ensures ok { OnOk result
+            (K.held shelf.new ≡ with_file (K.held shelf.old) (name_of self.now group) (header self.now.shape (first_count self.now.late of))) }
         ensures rows { IfOk result (λ f. HasRows (K.held shelf.new) f []) }
-        ensures err { IfErr result (λ fault. BeginStops fault (K.held shelf.old) (name_of self.now group) (header self.now.shape (first_count self.now.late of)) (K.held shelf.new)) }
+        ensures err { IfErr result (λ fault. BeginStops fault (K.held shelf.old) (name_of self.now group)
+            (header self.now.shape (first_count self.now.late of)) (K.held shelf.new)) }
         ensures cause { IsSaveCause result (K.faults shelf.old) (K.faults shelf.new) }
     {
         let name = group_name(alloc, self.stem.text(), group)?;
@@ -166,8 +179,10 @@ impl NodeFiles {
         requires row { IsRow file.shape head.now samples.now }
         ensures node { self.new ≡ record self.old { current = self.new.current } }
         ensures ok { OnOk result ((arrays : List Array) → HasRows (K.held shelf.old) file arrays
-            → RowGoes (nat_lt (place + 1) self.old.count) file (arrays ++ array_of head.now file.shape.kind file.shape.dims samples.now ∷ []) self.new.current (K.held shelf.new)) }
-        ensures err { IfErr result (λ fault. RowStops fault file (array_of head.now file.shape.kind file.shape.dims samples.now) self.new.current (K.held shelf.old) (K.held shelf.new)) }
+            → RowGoes (nat_lt (place + 1) self.old.count) file
+            (arrays ++ array_of head.now file.shape.kind file.shape.dims samples.now ∷ []) self.new.current (K.held shelf.new)) }
+        ensures err { IfErr result (λ fault. RowStops fault file (array_of head.now file.shape.kind file.shape.dims samples.now) self.new.current
+            (K.held shelf.old) (K.held shelf.new)) }
         ensures changed { IsChangedAt (K.held shelf.old) file.name (K.held shelf.new) }
         ensures cause { IsSaveCause result (K.faults shelf.old) (K.faults shelf.new) }
     {
@@ -218,8 +233,10 @@ impl NodeFiles {
         ensures ok { OnOk result ((arrays : List Array) → IsPlaceAfter self.old.count arrays group place → AreWritten self.old arrays (K.held shelf.old)
             → AreWritten self.new (arrays ++ array_of head.now self.old.shape.kind self.old.shape.dims samples.now ∷ []) (K.held shelf.new)) }
         ensures ended { OnOk result (place + 1 ≡ self.old.count → self.new.current ≡ None) }
-        ensures err { IfErr result (λ fault. (arrays : List Array) → IsPlaceAfter self.old.count arrays group place → AreWritten self.old arrays (K.held shelf.old)
-            → WriteStops fault self.old arrays group (first_count self.old.late of) (array_of head.now self.old.shape.kind self.old.shape.dims samples.now) self.new (K.held shelf.old) (K.held shelf.new)) }
+        ensures err { IfErr result (λ fault. (arrays : List Array) → IsPlaceAfter self.old.count arrays group place
+            → AreWritten self.old arrays (K.held shelf.old)
+            → WriteStops fault self.old arrays group (first_count self.old.late of)
+            (array_of head.now self.old.shape.kind self.old.shape.dims samples.now) self.new (K.held shelf.old) (K.held shelf.new)) }
         ensures changed { IsChangedAt (K.held shelf.old) (name_of self.old group) (K.held shelf.new) }
         ensures cause { IsSaveCause result (K.faults shelf.old) (K.faults shelf.new) }
     {
@@ -242,10 +259,12 @@ impl NodeFiles {
         requires written { (arrays : List Array) × AreWritten self.old arrays (K.held shelf.old) }
         requires filled { IsFilled self.old.current }
         ensures node { self.new ≡ record self.old { current = None } }
-        ensures ok { OnOk result ((arrays : List Array) → length arrays < 2 ^ 64 → AreWritten self.old arrays (K.held shelf.old) → AreEnded self.old arrays (K.held shelf.new)) }
+        ensures ok { OnOk result ((arrays : List Array) → length arrays < 2 ^ 64 → AreWritten self.old arrays (K.held shelf.old)
+            → AreEnded self.old arrays (K.held shelf.new)) }
         ensures err { OnErr result ((arrays : List Array) → length arrays < 2 ^ 64 → AreWritten self.old arrays (K.held shelf.old)
             → EndStops self.old arrays (K.held shelf.old) (K.held shelf.new)) }
-        ensures changed { (arrays : List Array) → AreWritten self.old arrays (K.held shelf.old) → IsChangedAt (K.held shelf.old) (name_of self.old (length arrays / self.old.count)) (K.held shelf.new) }
+        ensures changed { (arrays : List Array) → AreWritten self.old arrays (K.held shelf.old)
+            → IsChangedAt (K.held shelf.old) (name_of self.old (length arrays / self.old.count)) (K.held shelf.new) }
         ensures still { self.old.current ≡ None → K.held shelf.new ≡ K.held shelf.old }
         ensures some { 1 ≤ self.old.count }
         ensures failed { IfErr result (λ fault. fault ≡ faults.Failed) }

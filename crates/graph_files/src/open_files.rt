@@ -117,10 +117,12 @@ impl OpenFiles {
         ensures ok { OnOk result ((before : Option Files) (written : ℕ → List Array) (x : NodeFile) → slice_get self.old at ≡ Some x
             → length (written x.node) + 1 < 2 ^ 64 → IsPlaceAfter x.count (written x.node) group place → AllWritten before self.old written (K.held shelf.old)
             → AllWritten before self.new (with_array written x.node (array_of head.now x.shape.kind x.shape.dims samples.now)) (K.held shelf.new)) }
-        ensures ended { OnOk result ((x : NodeFile) → slice_get self.old at ≡ Some x → place + 1 ≡ x.count → (y : NodeFile) → slice_get self.new at ≡ Some y → y.current ≡ None) }
+        ensures ended { OnOk result ((x : NodeFile) → slice_get self.old at ≡ Some x → place + 1 ≡ x.count → (y : NodeFile) → slice_get self.new at ≡ Some y
+            → y.current ≡ None) }
         ensures err { IfErr result (λ fault. (before : Option Files) (written : ℕ → List Array) (x : NodeFile) → slice_get self.old at ≡ Some x
             → IsPlaceAfter x.count (written x.node) group place → AllWritten before self.old written (K.held shelf.old)
-            → AllStops fault before x self.new written group (first_count x.late of) (array_of head.now x.shape.kind x.shape.dims samples.now) (K.held shelf.old) (K.held shelf.new)) }
+            → AllStops fault before x self.new written group (first_count x.late of) (array_of head.now x.shape.kind x.shape.dims samples.now)
+            (K.held shelf.old) (K.held shelf.new)) }
         ensures cause { IsSaveCause result (K.faults shelf.old) (K.faults shelf.new) }
     {
         self.nodes[at].write(alloc, shelf, group, place, of, head, samples)
@@ -132,11 +134,14 @@ impl OpenFiles {
         requires written { (x : NodeFile) → slice_get self.old at ≡ Some x → (arrays : List Array) × AreWritten x arrays (K.held shelf.old) }
         requires filled { (x : NodeFile) → slice_get self.old at ≡ Some x → IsFilled x.current }
         ensures nodes { (x : NodeFile) → slice_get self.old at ≡ Some x → self.new ≡ slice_set self.old at (closed x) }
-        ensures ok { OnOk result ((before : Option Files) (written : ℕ → List Array) (x : NodeFile) → slice_get self.old at ≡ Some x → AreWritten x (written x.node) (K.held shelf.old)
+        ensures ok { OnOk result ((before : Option Files) (written : ℕ → List Array) (x : NodeFile) → slice_get self.old at ≡ Some x
+            → AreWritten x (written x.node) (K.held shelf.old)
             → AllStand before self.old written (K.held shelf.old) → AllStand before self.new written (K.held shelf.new)) }
-        ensures err { OnErr result ((before : Option Files) (written : ℕ → List Array) (x : NodeFile) → slice_get self.old at ≡ Some x → AreWritten x (written x.node) (K.held shelf.old)
+        ensures err { OnErr result ((before : Option Files) (written : ℕ → List Array) (x : NodeFile) → slice_get self.old at ≡ Some x
+            → AreWritten x (written x.node) (K.held shelf.old)
             → AllStand before self.old written (K.held shelf.old) → OneEndStops before x self.new written (K.held shelf.old) (K.held shelf.new)) }
-        ensures others { (before : Option Files) (written : ℕ → List Array) (x : NodeFile) → slice_get self.old at ≡ Some x → AreWritten x (written x.node) (K.held shelf.old)
+        ensures others { (before : Option Files) (written : ℕ → List Array) (x : NodeFile) → slice_get self.old at ≡ Some x
+            → AreWritten x (written x.node) (K.held shelf.old)
             → AllStand before self.old written (K.held shelf.old) → AreOthersAsBefore self.old at written (K.held shelf.old) (K.held shelf.new) }
         ensures failed { IfErr result (λ fault. fault ≡ faults.Failed) }
         ensures cause { IsSaveCause result (K.faults shelf.old) (K.faults shelf.new) }

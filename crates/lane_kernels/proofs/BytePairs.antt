@@ -19,7 +19,8 @@ byte : (input : List ℕ) (place i : ℕ) → i < 16 → get_or (take 16 (drop p
 byte input place i h = get_or-take 16 (drop place input) i 0 h ∙ get_or-drop place input i 0
 
 -- the sum of two of the 16 bytes from a place on is that of a run of two samples
-pub pair_run : (input : List ℕ) (place k : ℕ) → place + 16 ≤ length input → k < 8 → pos (pair (take 16 (drop place input)) k) ≡ run UInt8 input 2 (place + k * 2)
+pub pair_run : (input : List ℕ) (place k : ℕ) → place + 16 ≤ length input → k < 8
+    → pos (pair (take 16 (drop place input)) k) ≡ run UInt8 input 2 (place + k * 2)
 pair_run input place k room h =
     let at : (i p : ℕ) → i < 16 → place + i ≡ p → get_or (take 16 (drop place input)) i 0 ≡ from_be_bytes w8 (take 1 (drop (p * 1) input)) =
     λ i p below e. byte input place i below ∙ ap (λ n. get_or input n 0) e ∙ sym (stored_byte input p (omega arith)) in

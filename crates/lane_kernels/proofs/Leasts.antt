@@ -22,7 +22,8 @@ least_by_last v [] w = refl
 least_by_last v (u ∷ us) w = ap (int_min v) (least_by_last u us w) ∙ min_assoc v (least_with u us) w
 
 -- the least with one sample more
-pub least-more : (v : ℤ) (kind : SampleType) (k : ℕ) (bytes : List ℕ) → least_with v (numbers kind (k + 1) bytes) ≡ int_min (least_with v (numbers kind k bytes)) (stored kind bytes k)
+pub least-more : (v : ℤ) (kind : SampleType) (k : ℕ) (bytes : List ℕ)
+    → least_with v (numbers kind (k + 1) bytes) ≡ int_min (least_with v (numbers kind k bytes)) (stored kind bytes k)
 least-more v kind k bytes =
     ap (λ n. least_with v (numbers kind n bytes)) (let e : k + 1 ≡ suc k = omega arith in e) ∙ ap (least_with v) (numbers-more kind k bytes)
     ∙ least_by_last v (numbers kind k bytes) (stored kind bytes k)
@@ -38,7 +39,8 @@ least_again v [] = min_same v
 least_again v (w ∷ vs) = min_self v (least_with w vs)
 
 -- a list begins with its first sample
-pub least_all : (kind : SampleType) (n : ℕ) (bytes : List ℕ) (v : ℤ) → 0 < n → v ≡ least_with (stored kind bytes 0) (numbers kind n bytes) → Some v ≡ least (numbers kind n bytes)
+pub least_all : (kind : SampleType) (n : ℕ) (bytes : List ℕ) (v : ℤ) → 0 < n → v ≡ least_with (stored kind bytes 0) (numbers kind n bytes)
+    → Some v ≡ least (numbers kind n bytes)
 least_all kind zero bytes v h e = absurd (omega arith)
 least_all kind (suc n) bytes v h e =
     let first = number kind (take (width kind) bytes) in
@@ -55,7 +57,8 @@ greatest_by_last v [] w = refl
 greatest_by_last v (u ∷ us) w = ap (int_max v) (greatest_by_last u us w) ∙ max_assoc v (greatest_with u us) w
 
 -- the greatest with one sample more
-pub greatest-more : (v : ℤ) (kind : SampleType) (k : ℕ) (bytes : List ℕ) → greatest_with v (numbers kind (k + 1) bytes) ≡ int_max (greatest_with v (numbers kind k bytes)) (stored kind bytes k)
+pub greatest-more : (v : ℤ) (kind : SampleType) (k : ℕ) (bytes : List ℕ)
+    → greatest_with v (numbers kind (k + 1) bytes) ≡ int_max (greatest_with v (numbers kind k bytes)) (stored kind bytes k)
 greatest-more v kind k bytes =
     ap (λ n. greatest_with v (numbers kind n bytes)) (let e : k + 1 ≡ suc k = omega arith in e) ∙ ap (greatest_with v) (numbers-more kind k bytes)
     ∙ greatest_by_last v (numbers kind k bytes) (stored kind bytes k)
@@ -71,8 +74,10 @@ greatest_again v [] = max_same v
 greatest_again v (w ∷ vs) = max_self v (greatest_with w vs)
 
 -- a list begins with its first sample
-pub greatest_all : (kind : SampleType) (n : ℕ) (bytes : List ℕ) (v : ℤ) → 0 < n → v ≡ greatest_with (stored kind bytes 0) (numbers kind n bytes) → Some v ≡ greatest (numbers kind n bytes)
+pub greatest_all : (kind : SampleType) (n : ℕ) (bytes : List ℕ) (v : ℤ) → 0 < n → v ≡ greatest_with (stored kind bytes 0) (numbers kind n bytes)
+    → Some v ≡ greatest (numbers kind n bytes)
 greatest_all kind zero bytes v h e = absurd (omega arith)
 greatest_all kind (suc n) bytes v h e =
     let first = number kind (take (width kind) bytes) in
-    ap Some (e ∙ ap (λ f. greatest_with f (numbers kind (suc n) bytes)) (stored-first kind bytes) ∙ greatest_again first (numbers kind n (drop (width kind) bytes)))
+    ap Some (e ∙ ap (λ f. greatest_with f (numbers kind (suc n) bytes)) (stored-first kind bytes)
+    ∙ greatest_again first (numbers kind n (drop (width kind) bytes)))

@@ -21,10 +21,12 @@ narrow UInt16 v h few = omega (arith, ints, h)
 narrow Int32 v h few = absurd (omega arith)
 narrow UInt32 v h few = absurd (omega arith)
 
-pub narrow_stored : (kind : SampleType) (bytes : List ℕ) (p : ℕ) → ((i : ℕ) → Fits w8 (get_or bytes i 0)) → width kind ≤ 2 → unsigned_abs (stored kind bytes p) ≤ 65535
+pub narrow_stored : (kind : SampleType) (bytes : List ℕ) (p : ℕ) → ((i : ℕ) → Fits w8 (get_or bytes i 0)) → width kind ≤ 2
+    → unsigned_abs (stored kind bytes p) ≤ 65535
 narrow_stored kind bytes p fit few =
     let small = All-from_get_or (λ b. b < 256) bytes 0 (λ i _. (fit i).fits) in
-    narrow kind (stored kind bytes p) (number-IsSample kind (take (width kind) (drop (p * width kind) bytes)) (All-take (λ b. b < 256) (width kind) (drop (p * width kind) bytes) (All-drop (λ b. b < 256) (p * width kind) bytes small))) few
+    narrow kind (stored kind bytes p) (number-IsSample kind (take (width kind) (drop (p * width kind) bytes))
+    (All-take (λ b. b < 256) (width kind) (drop (p * width kind) bytes) (All-drop (λ b. b < 256) (p * width kind) bytes small))) few
 
 byte : (kind : SampleType) (v : ℤ) → IsSample kind v → width kind ≡ 1 → unsigned_abs v ≤ 255
 byte Int8 v h few = omega (arith, ints, h)
@@ -34,10 +36,12 @@ byte UInt16 v h few = absurd (omega arith)
 byte Int32 v h few = absurd (omega arith)
 byte UInt32 v h few = absurd (omega arith)
 
-pub byte_stored : (kind : SampleType) (bytes : List ℕ) (p : ℕ) → ((i : ℕ) → Fits w8 (get_or bytes i 0)) → width kind ≡ 1 → unsigned_abs (stored kind bytes p) ≤ 255
+pub byte_stored : (kind : SampleType) (bytes : List ℕ) (p : ℕ) → ((i : ℕ) → Fits w8 (get_or bytes i 0)) → width kind ≡ 1
+    → unsigned_abs (stored kind bytes p) ≤ 255
 byte_stored kind bytes p fit one =
     let small = All-from_get_or (λ b. b < 256) bytes 0 (λ i _. (fit i).fits) in
-    byte kind (stored kind bytes p) (number-IsSample kind (take (width kind) (drop (p * width kind) bytes)) (All-take (λ b. b < 256) (width kind) (drop (p * width kind) bytes) (All-drop (λ b. b < 256) (p * width kind) bytes small))) one
+    byte kind (stored kind bytes p) (number-IsSample kind (take (width kind) (drop (p * width kind) bytes))
+    (All-take (λ b. b < 256) (width kind) (drop (p * width kind) bytes) (All-drop (λ b. b < 256) (p * width kind) bytes small))) one
 
 -- the sum of the samples before a place and of a run from there on
 pub total-run : (kind : SampleType) (k m : ℕ) (bytes : List ℕ) → total (numbers kind (k + m) bytes) ≡ total (numbers kind k bytes) +ℤ run kind bytes m k
@@ -55,13 +59,16 @@ pub block_fits : (a v : ℤ) (k m : ℕ) → unsigned_abs a ≤ k * 65535 → un
 block_fits a v k m h small few = fits_signed_from_abs w64 (a +ℤ v) (let s = block_most a v k m h small in omega (arith, s))
 
 -- the squares of the samples before a place and of a run from there on
-pub squares-run : (kind : SampleType) (k m : ℕ) (bytes : List ℕ) → squares (numbers kind (k + m) bytes) ≡ squares (numbers kind k bytes) + square_run kind bytes m k
-squares-run kind k zero bytes = ap (λ n. squares (numbers kind n bytes)) (let e : k + 0 ≡ k = omega arith in e) ∙ (let e : squares (numbers kind k bytes) ≡ squares (numbers kind k bytes) + 0 = omega arith in e)
+pub squares-run : (kind : SampleType) (k m : ℕ) (bytes : List ℕ)
+    → squares (numbers kind (k + m) bytes) ≡ squares (numbers kind k bytes) + square_run kind bytes m k
+squares-run kind k zero bytes = ap (λ n. squares (numbers kind n bytes)) (let e : k + 0 ≡ k = omega arith in e)
+    ∙ (let e : squares (numbers kind k bytes) ≡ squares (numbers kind k bytes) + 0 = omega arith in e)
 squares-run kind k (suc m) bytes =
     let v = unsigned_abs (stored kind bytes (k + m)) in
     let more = ap (λ n. squares (numbers kind n bytes)) (let e : k + suc m ≡ k + m + 1 = omega arith in e) ∙ squares-more kind (k + m) bytes in
     let before = squares-run kind k m bytes in
     omega (arith, more, before)
 
-pub square_run-more : (kind : SampleType) (n p : ℕ) (bytes : List ℕ) → square_run kind bytes (n + 1) p ≡ square_run kind bytes n p + unsigned_abs (stored kind bytes (p + n)) * unsigned_abs (stored kind bytes (p + n))
+pub square_run-more : (kind : SampleType) (n p : ℕ) (bytes : List ℕ)
+    → square_run kind bytes (n + 1) p ≡ square_run kind bytes n p + unsigned_abs (stored kind bytes (p + n)) * unsigned_abs (stored kind bytes (p + n))
 square_run-more kind n p bytes = rw add-one

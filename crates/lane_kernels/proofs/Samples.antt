@@ -1,5 +1,6 @@
 -- One sample more.
-use Rattle.std.proofs.Common.{◌≡◌, ℕ, zero, suc, ◌+◌, ◌*◌, ◌/◌, ◌<◌, ◌≤◌, ◌^◌, List, [], ◌∷◌, ◌++◌, take, drop, ap, sym, ◌∙◌, arith, ℤ, pos, negsuc, ◌+ℤ◌, add_comm}
+use Rattle.std.proofs.Common.{◌≡◌, ℕ, zero, suc, ◌+◌, ◌*◌, ◌/◌, ◌<◌, ◌≤◌, ◌^◌, List, [], ◌∷◌, ◌++◌, take, drop, ap, sym, ◌∙◌, arith, ℤ, pos, negsuc, ◌+ℤ◌}
+use Rattle.std.proofs.Common.{add_comm}
 use Rattle.std.specs.Prelude.{unsigned_abs}
 use Rattle.std.proofs.Math.IntN.{+ℤ_assoc, +ℤ_idl, +ℤ_idr}
 use Rattle.std.proofs.Math.Nat.{suc-mul, zero-mul, mul-le-mul_right, div-mul-le_self}
@@ -17,7 +18,8 @@ numbers-more kind (suc k) bytes =
     let w = width kind in
     ap (λ rest. number kind (take w bytes) ∷ rest)
     (numbers-more kind k (drop w bytes)
-    ∙ ap (λ rest. numbers kind k (drop w bytes) ++ number kind (take w rest) ∷ []) (drop-drop (k * w) w bytes ∙ ap (λ m. drop m bytes) (sym (suc-mul k w ∙ add_comm (k * w) w))))
+    ∙ ap (λ rest. numbers kind k (drop w bytes) ++ number kind (take w rest) ∷ []) (drop-drop (k * w) w bytes
+    ∙ ap (λ m. drop m bytes) (sym (suc-mul k w ∙ add_comm (k * w) w))))
 
 pub total-append : (us vs : List ℤ) → total (us ++ vs) ≡ total us +ℤ total vs
 total-append [] vs = sym (+ℤ_idl (total vs))
@@ -34,11 +36,13 @@ total-more kind k bytes =
     ap (λ n. total (numbers kind n bytes)) (let e : k + 1 ≡ suc k = omega arith in e) ∙ ap total (numbers-more kind k bytes)
     ∙ total-append (numbers kind k bytes) (v ∷ []) ∙ ap (λ n. total (numbers kind k bytes) +ℤ n) (+ℤ_idr v)
 
-pub squares-more : (kind : SampleType) (k : ℕ) (bytes : List ℕ) → squares (numbers kind (k + 1) bytes) ≡ squares (numbers kind k bytes) + unsigned_abs (stored kind bytes k) * unsigned_abs (stored kind bytes k)
+pub squares-more : (kind : SampleType) (k : ℕ) (bytes : List ℕ)
+    → squares (numbers kind (k + 1) bytes) ≡ squares (numbers kind k bytes) + unsigned_abs (stored kind bytes k) * unsigned_abs (stored kind bytes k)
 squares-more kind k bytes =
     let v = stored kind bytes k in
     ap (λ n. squares (numbers kind n bytes)) (let e : k + 1 ≡ suc k = omega arith in e) ∙ ap squares (numbers-more kind k bytes)
-    ∙ squares-append (numbers kind k bytes) (v ∷ []) ∙ ap (λ n. squares (numbers kind k bytes) + n) (let e : unsigned_abs v * unsigned_abs v + 0 ≡ unsigned_abs v * unsigned_abs v = omega arith in e)
+    ∙ squares-append (numbers kind k bytes) (v ∷ [])
+    ∙ ap (λ n. squares (numbers kind k bytes) + n) (let e : unsigned_abs v * unsigned_abs v + 0 ≡ unsigned_abs v * unsigned_abs v = omega arith in e)
 
 pub abs-add : (a b : ℤ) → unsigned_abs (a +ℤ b) ≤ unsigned_abs a + unsigned_abs b
 abs-add (pos a) (pos b) = omega (arith, ints)
@@ -55,14 +59,16 @@ bytes_within k n w h =
     omega (arith, a, b, c)
 
 -- the number that was read at place k
-pub same_number : (kind : SampleType) (w k : ℕ) (v : ℤ) (bytes : List ℕ) → w ≡ width kind → v ≡ number kind (take (width kind) (drop (k * w) bytes)) → v ≡ stored kind bytes k
+pub same_number : (kind : SampleType) (w k : ℕ) (v : ℤ) (bytes : List ℕ) → w ≡ width kind → v ≡ number kind (take (width kind) (drop (k * w) bytes))
+    → v ≡ stored kind bytes k
 same_number kind w k v bytes e f = f ∙ ap (λ n. number kind (take (width kind) (drop (k * n) bytes))) e
 
 -- a sum of so few samples in 64 bits
 pub sum_bound : (a v : ℤ) (k : ℕ) → unsigned_abs a ≤ k * 4294967296 → unsigned_abs v < 2 ^ 32 → unsigned_abs (a +ℤ v) ≤ (k + 1) * 4294967296
 sum_bound a v k h small = let s = abs-add a v in omega (arith, s)
 
-pub sum_stored : (a v : ℤ) (k : ℕ) → unsigned_abs a ≤ k * 4294967296 → unsigned_abs v < 2 ^ 32 → k < 67108864 → to_z w64 (of_z w64 (a +ℤ to_z w64 (of_z w64 v))) ≡ a +ℤ v
+pub sum_stored : (a v : ℤ) (k : ℕ) → unsigned_abs a ≤ k * 4294967296 → unsigned_abs v < 2 ^ 32 → k < 67108864
+    → to_z w64 (of_z w64 (a +ℤ to_z w64 (of_z w64 v))) ≡ a +ℤ v
 sum_stored a v k h small few =
     let fv : FitsSigned w64 v = fits_signed_from_abs w64 v (omega arith) in
     let fs : FitsSigned w64 (a +ℤ v) = fits_signed_from_abs w64 (a +ℤ v) (let s = sum_bound a v k h small in omega (arith, s)) in

@@ -53,7 +53,8 @@ wraps-none x fits = sym (int_wrap_fits w64 (x +ℤ pos 0) (rw (add_zero x) fits)
 pub wraps-more : (start before value : ℤ) → int_wrap w64 (int_wrap w64 (start +ℤ before) +ℤ value) ≡ int_wrap w64 (start +ℤ (before +ℤ value))
 wraps-more start before value = int_wrap-add_left w64 (start +ℤ before) value ∙ ap (int_wrap w64) (omega (arith, ints))
 
-pub sums_more : (value : ℕ → ℤ) (j : ℕ) (start before after v : ℤ) → before ≡ int_wrap w64 (start +ℤ sum_below j value) → after ≡ int_wrap w64 (before +ℤ v) → v ≡ value j → after ≡ int_wrap w64 (start +ℤ sum_below (j + 1) value)
+pub sums_more : (value : ℕ → ℤ) (j : ℕ) (start before after v : ℤ) → before ≡ int_wrap w64 (start +ℤ sum_below j value)
+    → after ≡ int_wrap w64 (before +ℤ v) → v ≡ value j → after ≡ int_wrap w64 (start +ℤ sum_below (j + 1) value)
 sums_more value j start before after v b a e =
     a ∙ ap (λ z. int_wrap w64 (z +ℤ v)) b ∙ wraps-more start (sum_below j value) v ∙ ap (λ z. int_wrap w64 (start +ℤ (sum_below j value +ℤ z))) e
     ∙ ap (λ z. int_wrap w64 (start +ℤ z)) (sym (sum_below-more j value))

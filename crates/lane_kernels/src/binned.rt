@@ -30,7 +30,8 @@ fn sum_run(kind: SampleType, input: &[u8], bin: usize, place: usize) -> i64
 #[tactic(auto, using(crate::proofs::Wraps::wrapping))]
 fn add_each(kind: SampleType, input: &[u8], bin: usize, place: usize, sums: &mut [i64])
     requires { place + length sums.old * bin ≤ length input.now / width kind }
-    ensures { (k : ℕ) → k < length sums.new → slice_index_or sums.new k (pos 0) ≡ int_wrap w64 (slice_index_or sums.old k (pos 0) +ℤ run kind input.now bin (place + k * bin)) }
+    ensures { (k : ℕ) → k < length sums.new
+        → slice_index_or sums.new k (pos 0) ≡ int_wrap w64 (slice_index_or sums.old k (pos 0) +ℤ run kind input.now bin (place + k * bin)) }
 {
     let mut at = place;
     for sum in sums.iter_mut() {
@@ -58,7 +59,8 @@ fn low_run(kind: SampleType, input: &[u8], bin: usize, place: usize) -> i32
 #[tactic(auto, using(crate::proofs::Wraps::wrapping))]
 fn add_low_each(kind: SampleType, line: &[u8], bin: usize, sums: &mut [i32])
     requires { length sums.old * bin ≤ length line.now / width kind }
-    ensures { (k : ℕ) → k < length sums.new → slice_index_or sums.new k (pos 0) ≡ int_wrap w32 (slice_index_or sums.old k (pos 0) +ℤ run kind line.now bin (k * bin)) }
+    ensures { (k : ℕ) → k < length sums.new
+        → slice_index_or sums.new k (pos 0) ≡ int_wrap w32 (slice_index_or sums.old k (pos 0) +ℤ run kind line.now bin (k * bin)) }
 {
     let mut at = 0;
     for sum in sums.iter_mut() {
@@ -86,7 +88,8 @@ fn add_lanes(input: &[u8], place: usize, sums: &mut [i64])
     requires room { place + 16 ≤ length input.now }
     requires lanes { length sums.old ≡ 8 }
     requires fit { (k : ℕ) → k < length sums.old → FitsSigned w64 (slice_index_or sums.old k (pos 0)) }
-    ensures { (k : ℕ) → k < length sums.new → slice_index_or sums.new k (pos 0) ≡ int_wrap w64 (slice_index_or sums.old k (pos 0) +ℤ run UInt8 input.now 2 (place + k * 2)) }
+    ensures { (k : ℕ) → k < length sums.new
+        → slice_index_or sums.new k (pos 0) ≡ int_wrap w64 (slice_index_or sums.old k (pos 0) +ℤ run UInt8 input.now 2 (place + k * 2)) }
 {
     let more = pair_sums(u8x16::from_slice(&input[place..]));
     (i64x8::from_slice(sums) + more).copy_to_slice(sums);
@@ -96,7 +99,8 @@ fn add_lanes(input: &[u8], place: usize, sums: &mut [i64])
 fn add_byte_pairs(input: &[u8], place: usize, sums: &mut [i64])
     requires within { place + length sums.old * 2 ≤ length input.now }
     requires fit { (k : ℕ) → k < length sums.old → FitsSigned w64 (slice_index_or sums.old k (pos 0)) }
-    ensures { (k : ℕ) → k < length sums.new → slice_index_or sums.new k (pos 0) ≡ int_wrap w64 (slice_index_or sums.old k (pos 0) +ℤ run UInt8 input.now 2 (place + k * 2)) }
+    ensures { (k : ℕ) → k < length sums.new
+        → slice_index_or sums.new k (pos 0) ≡ int_wrap w64 (slice_index_or sums.old k (pos 0) +ℤ run UInt8 input.now 2 (place + k * 2)) }
 {
     let mut done = 0;
     while sums.len() - done >= LANES {
@@ -117,7 +121,8 @@ fn add_byte_pairs(input: &[u8], place: usize, sums: &mut [i64])
 #[inline(always)]
 pub(crate) fn add_runs(kind: SampleType, line: &[u8], bin: usize, sums: &mut [i64])
     requires within { length sums.old * bin ≤ length line.now / width kind }
-    ensures { (k : ℕ) → k < length sums.new → slice_index_or sums.new k (pos 0) ≡ int_wrap w64 (slice_index_or sums.old k (pos 0) +ℤ run kind line.now bin (k * bin)) }
+    ensures { (k : ℕ) → k < length sums.new
+        → slice_index_or sums.new k (pos 0) ≡ int_wrap w64 (slice_index_or sums.old k (pos 0) +ℤ run kind line.now bin (k * bin)) }
 {
     match bin {
         1 => add_each(kind, line, 1, 0, sums),
@@ -133,7 +138,8 @@ pub(crate) fn add_runs(kind: SampleType, line: &[u8], bin: usize, sums: &mut [i6
 #[inline(always)]
 pub(crate) fn add_low_runs(kind: SampleType, line: &[u8], bin: usize, sums: &mut [i32])
     requires { length sums.old * bin ≤ length line.now / width kind }
-    ensures { (k : ℕ) → k < length sums.new → slice_index_or sums.new k (pos 0) ≡ int_wrap w32 (slice_index_or sums.old k (pos 0) +ℤ run kind line.now bin (k * bin)) }
+    ensures { (k : ℕ) → k < length sums.new
+        → slice_index_or sums.new k (pos 0) ≡ int_wrap w32 (slice_index_or sums.old k (pos 0) +ℤ run kind line.now bin (k * bin)) }
 {
     match bin {
         1 => add_low_each(kind, line, 1, sums),
@@ -149,7 +155,8 @@ pub(crate) fn add_low_runs(kind: SampleType, line: &[u8], bin: usize, sums: &mut
 pub(crate) fn add_bytes(line: &[u8], bin: usize, sums: &mut [i64])
     requires within { length sums.old * bin ≤ length line.now }
     requires fit { (k : ℕ) → k < length sums.old → FitsSigned w64 (slice_index_or sums.old k (pos 0)) }
-    ensures { (k : ℕ) → k < length sums.new → slice_index_or sums.new k (pos 0) ≡ int_wrap w64 (slice_index_or sums.old k (pos 0) +ℤ run UInt8 line.now bin (k * bin)) }
+    ensures { (k : ℕ) → k < length sums.new
+        → slice_index_or sums.new k (pos 0) ≡ int_wrap w64 (slice_index_or sums.old k (pos 0) +ℤ run UInt8 line.now bin (k * bin)) }
 {
     match bin {
         2 => add_byte_pairs(line, 0, sums),

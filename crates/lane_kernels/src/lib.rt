@@ -99,7 +99,8 @@ pub fn first_place(kind: SampleType, samples: &[u8], value: i64) -> usize
 pub fn add_binned(kind: SampleType, line: &[u8], bin: u32, sums: &mut [i64])
     requires within { length sums.old * bin ≤ length line.now / width kind }
     requires fit { (k : ℕ) → k < length sums.old → FitsSigned w64 (slice_index_or sums.old k (pos 0)) }
-    ensures { (k : ℕ) → k < length sums.new → slice_index_or sums.new k (pos 0) ≡ int_wrap w64 (slice_index_or sums.old k (pos 0) +ℤ run kind line.now bin (k * bin)) }
+    ensures { (k : ℕ) → k < length sums.new
+        → slice_index_or sums.new k (pos 0) ≡ int_wrap w64 (slice_index_or sums.old k (pos 0) +ℤ run kind line.now bin (k * bin)) }
 {
     let bin = bin as usize;
     match kind {
@@ -115,7 +116,8 @@ pub fn add_binned(kind: SampleType, line: &[u8], bin: u32, sums: &mut [i64])
 /// The same with sums of 32 bits: what leaves them is lost.
 pub fn add_binned_low(kind: SampleType, line: &[u8], bin: u32, sums: &mut [i32])
     requires { length sums.old * bin ≤ length line.now / width kind }
-    ensures { (k : ℕ) → k < length sums.new → slice_index_or sums.new k (pos 0) ≡ int_wrap w32 (slice_index_or sums.old k (pos 0) +ℤ run kind line.now bin (k * bin)) }
+    ensures { (k : ℕ) → k < length sums.new
+        → slice_index_or sums.new k (pos 0) ≡ int_wrap w32 (slice_index_or sums.old k (pos 0) +ℤ run kind line.now bin (k * bin)) }
 {
     let bin = bin as usize;
     match kind {

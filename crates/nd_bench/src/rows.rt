@@ -11,7 +11,19 @@ use std::alloc::Global;
 
 /// The shape of frames without attributes.
 pub(crate) fn plain_shape(alloc: Global) -> Option<FileShape>
-    ensures { IfSome result (λ shape. shape ≡ record { form = Classic; kind = UInt8; dims = record { size = 1024; offset = pos 0; binning = pos 1; reverse = false } ∷ record { size = 1024; offset = pos 0; binning = pos 1; reverse = false } ∷ []; attrs = []; width = 256; extras = [] }) }
+    ensures { IfSome result (λ shape. shape ≡ record {
+      form = Classic;
+      kind = UInt8;
+      dims = record { size = 1024; offset = pos 0; binning = pos 1; reverse = false } ∷ record {
+        size = 1024;
+        offset = pos 0;
+        binning = pos 1;
+        reverse = false;
+      } ∷ [];
+      attrs = [];
+      width = 256;
+      extras = [];
+    }) }
 {
     Some(FileShape {
         form: Form::Classic,
@@ -30,7 +42,19 @@ pub(crate) fn plain_row(
     frame: u32,
     samples: &[u8],
 ) -> Option<Vec<u8>>
-    requires shape { shape.now ≡ record { form = Classic; kind = UInt8; dims = record { size = 1024; offset = pos 0; binning = pos 1; reverse = false } ∷ record { size = 1024; offset = pos 0; binning = pos 1; reverse = false } ∷ []; attrs = []; width = 256; extras = [] } }
+    requires shape { shape.now ≡ record {
+      form = Classic;
+      kind = UInt8;
+      dims = record { size = 1024; offset = pos 0; binning = pos 1; reverse = false } ∷ record {
+        size = 1024;
+        offset = pos 0;
+        binning = pos 1;
+        reverse = false;
+      } ∷ [];
+      attrs = [];
+      width = 256;
+      extras = [];
+    } }
     requires samples { length samples.now ≡ SAMPLES }
 {
     let head = Head {

@@ -13,7 +13,19 @@ use std::alloc::Global;
 
 /// The header of a file of so many frames, with room for their rows.
 fn header(alloc: Global, shape: &FileShape, frames: u32) -> Option<Vec<u8>>
-    requires shape { shape.now ≡ record { form = Classic; kind = UInt8; dims = record { size = 1024; offset = pos 0; binning = pos 1; reverse = false } ∷ record { size = 1024; offset = pos 0; binning = pos 1; reverse = false } ∷ []; attrs = []; width = 256; extras = [] } }
+    requires shape { shape.now ≡ record {
+      form = Classic;
+      kind = UInt8;
+      dims = record { size = 1024; offset = pos 0; binning = pos 1; reverse = false } ∷ record {
+        size = 1024;
+        offset = pos 0;
+        binning = pos 1;
+        reverse = false;
+      } ∷ [];
+      attrs = [];
+      width = 256;
+      extras = [];
+    } }
     requires some { 1 ≤ frames }
 {
     let room = u64::from(frames);

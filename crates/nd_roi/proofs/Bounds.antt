@@ -1,5 +1,6 @@
 -- Sums of so few samples fit 64 bits.
-use Rattle.std.proofs.Common.{◌≡◌, ℕ, zero, suc, ◌+◌, ◌*◌, ◌^◌, ◌<◌, ◌≤◌, ℤ, pos, negsuc, ◌≤ℤ◌, List, [], ◌∷◌, take, drop, get_or, length, inl, inr, FitsSigned, sym, arith}
+use Rattle.std.proofs.Common.{◌≡◌, ℕ, zero, suc, ◌+◌, ◌*◌, ◌^◌, ◌<◌, ◌≤◌, ℤ, pos, negsuc, ◌≤ℤ◌, List, [], ◌∷◌, take, drop, get_or, length, inl, inr}
+use Rattle.std.proofs.Common.{FitsSigned, sym, arith}
 use Rattle.std.proofs.Math.IntN.{neg_ℤ}
 use Rattle.std.proofs.Math.Nat.{suc-mul, mul_assoc, one-mul}
 use Rattle.std.specs.Int.{w8, w16, w32, w64, from_be_bytes, cast_signed}
@@ -25,11 +26,13 @@ Bounded-sum_below (suc n) b value each =
     let e = suc-mul n b in
     record { low = omega (arith, ints, before, here, e); high = omega (arith, ints, before, here, e) }
 
-pub Bounded-lines_total : (axes : List Axis) (b : ℕ) (value : ℕ → ℤ) (base : ℕ) → ((p : ℕ) → Bounded b (value p)) → Bounded (bins_of axes * b) (lines_total axes value base)
+pub Bounded-lines_total : (axes : List Axis) (b : ℕ) (value : ℕ → ℤ) (base : ℕ) → ((p : ℕ) → Bounded b (value p))
+    → Bounded (bins_of axes * b) (lines_total axes value base)
 Bounded-lines_total [] b value base each = rw (one-mul b) (each base)
 Bounded-lines_total (a ∷ axes) b value base each =
     rw (mul_assoc a.cut.bin (bins_of axes) b)
-    (Bounded-sum_below a.cut.bin (bins_of axes * b) (λ j. lines_total axes value (base + j * a.stride)) (λ j. Bounded-lines_total axes b value (base + j * a.stride) each))
+    (Bounded-sum_below a.cut.bin (bins_of axes * b) (λ j. lines_total axes value (base + j * a.stride))
+    (λ j. Bounded-lines_total axes b value (base + j * a.stride) each))
 
 -- 2 ^ 58 is far below the end
 fits_from_bound : (b : ℕ) (v : ℤ) → b ≤ 2 ^ 58 → Bounded b v → FitsSigned w64 v
@@ -37,7 +40,10 @@ fits_from_bound b (pos n) h bound = let g = bound.high in fits_signed_from_abs w
 fits_from_bound b (negsuc n) h bound = let g = bound.low in fits_signed_from_abs w64 (negsuc n) (omega (arith, ints))
 
 pub get_or_take_small : (w i : ℕ) (xs : List ℕ) → ((i : ℕ) → get_or xs i 0 < 256) → get_or (take w xs) i 0 < 256
-get_or_take_small w i xs fit = elim (cases_lt i w) [ inl h ↦ rw get_or-take (fit i) | inr h ↦ let short : length (take w xs) ≤ i = simp length-take (omega arith) in rw (get_or_past (take w xs) i 0 short) (omega arith) ]
+get_or_take_small w i xs fit = elim (cases_lt i w) [
+  | inl h ↦ rw get_or-take (fit i)
+  | inr h ↦ let short : length (take w xs) ≤ i = simp length-take (omega arith) in rw (get_or_past (take w xs) i 0 short) (omega arith)
+]
 
 module _ (bytes : List ℕ) (fit : (i : ℕ) → get_or bytes i 0 < 256) where
   -- a number of few bytes
@@ -77,8 +83,10 @@ module _ (bytes : List ℕ) (fit : (i : ℕ) → get_or bytes i 0 < 256) where
   Bounded-stored UInt32 p = Bounded-unsigned_32 (take 4 (drop (p * 4) bytes)) (part 4 (p * 4))
 
   -- the sum of at most 67,108,864 samples
-  pub total_fits : (kind : SampleType) (bin : ℕ) (axes : List Axis) (base : ℕ) → bins_of axes * bin ≤ most_samples → FitsSigned w64 (lines_total axes (run kind bytes bin) base)
+  pub total_fits : (kind : SampleType) (bin : ℕ) (axes : List Axis) (base : ℕ) → bins_of axes * bin ≤ most_samples
+      → FitsSigned w64 (lines_total axes (run kind bytes bin) base)
   total_fits kind bin axes base few =
-      let b = Bounded-lines_total axes (bin * 2 ^ 32) (run kind bytes bin) base (λ p. Bounded-sum_below bin (2 ^ 32) (λ j. stored kind bytes (p + j)) (λ j. Bounded-stored kind (p + j))) in
+      let b = Bounded-lines_total axes (bin * 2 ^ 32) (run kind bytes bin) base
+      (λ p. Bounded-sum_below bin (2 ^ 32) (λ j. stored kind bytes (p + j)) (λ j. Bounded-stored kind (p + j))) in
       let e : bins_of axes * (bin * 2 ^ 32) ≡ bins_of axes * bin * 2 ^ 32 = sym (mul_assoc (bins_of axes) bin (2 ^ 32)) in
       fits_from_bound (bins_of axes * (bin * 2 ^ 32)) (lines_total axes (run kind bytes bin) base) (omega (arith, e)) b

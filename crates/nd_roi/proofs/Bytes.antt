@@ -1,5 +1,6 @@
 -- Samples written as bytes.
-use Rattle.std.proofs.Common.{◌≡◌, ℕ, zero, suc, ◌+◌, ◌%◌, ◌<◌, ◌≤◌, ℤ, pos, negsuc, List, [], ◌∷◌, ◌++◌, length, get_or, take, set, of_z, to_z, FitsSigned, refl, ap, sym, ◌∙◌, arith, append_assoc}
+use Rattle.std.proofs.Common.{◌≡◌, ℕ, zero, suc, ◌+◌, ◌%◌, ◌<◌, ◌≤◌, ℤ, pos, negsuc, List, [], ◌∷◌, ◌++◌, length, get_or, take, set, of_z, to_z, FitsSigned}
+use Rattle.std.proofs.Common.{refl, ap, sym, ◌∙◌, arith, append_assoc}
 use Rattle.std.specs.Int.{w16, w32, int_wrap, to_le_bytes, to_be_bytes, swap_bytes}
 use Rattle.std.proofs.lemmas.Int.{ints, of_z-to_z, SFits-int_wrap}
 use Rattle.std.specs.List.{flat_map}
@@ -12,8 +13,10 @@ use Rattle.nd_roi.specs.Region.{low_bits}
 use Rattle.nd_roi.specs.Walk.{bytes_of}
 
 -- one more
-pub flat_map-more : {X Y : Type 0} (f : X → List Y) (xs : List X) (k : ℕ) (d : X) → k < length xs → flat_map f (take (k + 1) xs) ≡ flat_map f (take k xs) ++ f (get_or xs k d)
-flat_map-more f xs k d h = ap (flat_map f) (take_more xs k d h) ∙ flat_map-append f (take k xs) (get_or xs k d ∷ []) ∙ ap (λ ys. flat_map f (take k xs) ++ ys) (append-nil (f (get_or xs k d)))
+pub flat_map-more : {X Y : Type 0} (f : X → List Y) (xs : List X) (k : ℕ) (d : X) → k < length xs
+    → flat_map f (take (k + 1) xs) ≡ flat_map f (take k xs) ++ f (get_or xs k d)
+flat_map-more f xs k d h = ap (flat_map f) (take_more xs k d h) ∙ flat_map-append f (take k xs) (get_or xs k d ∷ [])
+    ∙ ap (λ ys. flat_map f (take k xs) ++ ys) (append-nil (f (get_or xs k d)))
 
 -- two bytes more
 pub take-two : (xs : List ℕ) (n high low : ℕ) → n + 2 ≤ length xs → take (n + 2) (set (set xs n high) (n + 1) low) ≡ take n xs ++ (high ∷ low ∷ [])
@@ -26,7 +29,8 @@ take-two xs n high low h =
     ap (λ m. take m (set ys (n + 1) low)) s ∙ e ∙ ap (λ zs. zs ++ (low ∷ [])) f ∙ append_assoc (take n xs) (high ∷ []) (low ∷ [])
 
 -- four bytes more
-pub take-four : (xs : List ℕ) (n a b c d : ℕ) → n + 4 ≤ length xs → take (n + 4) (set (set (set (set xs n a) (n + 1) b) (n + 2) c) (n + 3) d) ≡ take n xs ++ (a ∷ b ∷ c ∷ d ∷ [])
+pub take-four : (xs : List ℕ) (n a b c d : ℕ) → n + 4 ≤ length xs
+    → take (n + 4) (set (set (set (set xs n a) (n + 1) b) (n + 2) c) (n + 3) d) ≡ take n xs ++ (a ∷ b ∷ c ∷ d ∷ [])
 take-four xs n a b c d h =
     let ys : List ℕ = set (set xs n a) (n + 1) b in
     let long : (n + 2) + 2 ≤ length ys = simp length-set (omega arith) in

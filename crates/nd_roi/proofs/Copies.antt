@@ -1,5 +1,6 @@
 -- Regions whose samples are those that they cover.
-use Rattle.std.proofs.Common.{◌≡◌, ℕ, zero, suc, ◌+◌, ◌-◌, ◌*◌, ◌<◌, ◌≤◌, ℤ, pos, negsuc, FitsSigned, List, [], ◌∷◌, ◌++◌, length, take, drop, get_or, false, refl, ap, sym, ◌∙◌, arith}
+use Rattle.std.proofs.Common.{◌≡◌, ℕ, zero, suc, ◌+◌, ◌-◌, ◌*◌, ◌<◌, ◌≤◌, ℤ, pos, negsuc, FitsSigned, List, [], ◌∷◌, ◌++◌, length, take, drop, get_or}
+use Rattle.std.proofs.Common.{false, refl, ap, sym, ◌∙◌, arith}
 use Rattle.std.specs.Prelude.{if◌then◌else◌}
 use Rattle.std.specs.Int.{w8, w16, w32, cast_signed, cast_unsigned, from_be_bytes}
 use Rattle.std.specs.Int.RustNames.{int_div}
@@ -87,26 +88,31 @@ one_byte (x ∷ y ∷ xs) e = absurd (omega arith)
 bytes_of-number : (kind : SampleType) (xs : List ℕ) → length xs ≡ width kind → ((i : ℕ) → get_or xs i 0 < 256) → bytes_of kind (number kind xs) ≡ xs
 bytes_of-number Int8 xs long each = ap (λ n. n ∷ []) (low_8 (from_be_bytes w8 xs) (below_8 xs each)) ∙ one_byte xs long
 bytes_of-number UInt8 xs long each = ap (λ n. n ∷ []) (low_u8 (from_be_bytes w8 xs) (below_8 xs each)) ∙ one_byte xs long
-bytes_of-number Int16 xs long each = be_bytes_2 xs (low_bits 16 (cast_signed w16 (from_be_bytes w16 xs))) long each (low_16 (from_be_bytes w16 xs) (below_16 xs each))
+bytes_of-number Int16 xs long each =
+    be_bytes_2 xs (low_bits 16 (cast_signed w16 (from_be_bytes w16 xs))) long each (low_16 (from_be_bytes w16 xs) (below_16 xs each))
 bytes_of-number UInt16 xs long each = be_bytes_2 xs (low_bits 16 (pos (from_be_bytes w16 xs))) long each (low_u16 (from_be_bytes w16 xs) (below_16 xs each))
-bytes_of-number Int32 xs long each = be_bytes_4 xs (low_bits 32 (cast_signed w32 (from_be_bytes w32 xs))) long each (low_32 (from_be_bytes w32 xs) (below_32 xs each))
+bytes_of-number Int32 xs long each =
+    be_bytes_4 xs (low_bits 32 (cast_signed w32 (from_be_bytes w32 xs))) long each (low_32 (from_be_bytes w32 xs) (below_32 xs each))
 bytes_of-number UInt32 xs long each = be_bytes_4 xs (low_bits 32 (pos (from_be_bytes w32 xs))) long each (low_u32 (from_be_bytes w32 xs) (below_32 xs each))
 
-stored_bytes : (kind : SampleType) (bytes : List ℕ) (p : ℕ) → ((i : ℕ) → get_or bytes i 0 < 256) → p * width kind + width kind ≤ length bytes → bytes_of kind (stored kind bytes p) ≡ take (width kind) (drop (p * width kind) bytes)
+stored_bytes : (kind : SampleType) (bytes : List ℕ) (p : ℕ) → ((i : ℕ) → get_or bytes i 0 < 256) → p * width kind + width kind ≤ length bytes
+    → bytes_of kind (stored kind bytes p) ≡ take (width kind) (drop (p * width kind) bytes)
 stored_bytes kind bytes p fit within =
     let all = length-drop (p * width kind) bytes in
     bytes_of-number kind (take (width kind) (drop (p * width kind) bytes)) (length-take-le (width kind) (drop (p * width kind) bytes) (omega (arith, all)))
     (λ i. get_or_take_small (width kind) i (drop (p * width kind) bytes) (λ k. rw (get_or-drop (p * width kind) bytes k 0) (fit (p * width kind + k))))
 
 -- the bytes of so many samples
-samples_bytes : (kind : SampleType) (bytes : List ℕ) (q k n : ℕ) → ((i : ℕ) → get_or bytes i 0 < 256) → (q + k + n) * width kind ≤ length bytes → flat_map (λ out. bytes_of kind (stored kind bytes (q + out))) (range_with_len k n) ≡ take (n * width kind) (drop ((q + k) * width kind) bytes)
+samples_bytes : (kind : SampleType) (bytes : List ℕ) (q k n : ℕ) → ((i : ℕ) → get_or bytes i 0 < 256) → (q + k + n) * width kind ≤ length bytes
+    → flat_map (λ out. bytes_of kind (stored kind bytes (q + out))) (range_with_len k n) ≡ take (n * width kind) (drop ((q + k) * width kind) bytes)
 samples_bytes kind bytes q k zero fit within = ap (λ m. take m (drop ((q + k) * width kind) bytes)) (sym (zero-mul (width kind)))
 samples_bytes kind bytes q k (suc n) fit within =
     let w = width kind in
     let rest = flat_map (λ out. bytes_of kind (stored kind bytes (q + out))) (range_with_len (k + 1) n) in
     let next : suc (q + k) ≡ q + (k + 1) = omega arith in
     let step = suc-mul (q + k) w in
-    let some : (q + k) * w + w ≤ length bytes = (let e : suc (q + k) ≤ q + k + suc n = omega arith in let m = mul-le-mul_right w e in omega (arith, m, step, within)) in
+    let some : (q + k) * w + w ≤ length bytes =
+    (let e : suc (q + k) ≤ q + k + suc n = omega arith in let m = mul-le-mul_right w e in omega (arith, m, step, within)) in
     let far : (q + (k + 1) + n) * w ≤ length bytes = (let e : q + (k + 1) + n ≡ q + k + suc n = omega arith in rw e within) in
     ap (λ b. b ++ rest) (stored_bytes kind bytes (q + k) fit some)
     ∙ ap (λ b. take w (drop ((q + k) * w) bytes) ++ b) (samples_bytes kind bytes q (k + 1) n fit far
@@ -116,9 +122,11 @@ samples_bytes kind bytes q k (suc n) fit within =
 
 forward : (c : Cut) (out : ℕ) → c.bin ≡ 1 → c.reverse ≡ false → first_covered c out ≡ c.min + out
 forward c out bin ahead =
-    ap (λ r. c.min + (if r then c.size - 1 - out else out) * c.bin) ahead ∙ ap (λ b. c.min + out * b) bin ∙ (let e : c.min + out * 1 ≡ c.min + out = omega arith in e)
+    ap (λ r. c.min + (if r then c.size - 1 - out else out) * c.bin) ahead ∙ ap (λ b. c.min + out * b) bin
+    ∙ (let e : c.min + out * 1 ≡ c.min + out = omega arith in e)
 
-total_single : (kind : SampleType) (bytes : List ℕ) (line : Cut) (slower : List Axis) (base out : ℕ) → line.bin ≡ 1 → line.reverse ≡ false → bins_of slower ≡ 1 → line_total kind bytes line slower base out ≡ stored kind bytes (base + line.min + out)
+total_single : (kind : SampleType) (bytes : List ℕ) (line : Cut) (slower : List Axis) (base out : ℕ) → line.bin ≡ 1 → line.reverse ≡ false
+    → bins_of slower ≡ 1 → line_total kind bytes line slower base out ≡ stored kind bytes (base + line.min + out)
 total_single kind bytes line slower base out bin ahead single =
     let p = base + first_covered line out in
     lines_single slower (run kind bytes line.bin) p single
@@ -127,14 +135,17 @@ total_single kind bytes line slower base out bin ahead single =
     ∙ ap (stored kind bytes) (let f = forward line out bin ahead in let e : p + 0 ≡ base + line.min + out = omega (arith, f) in e)
 
 -- a line of a region whose samples are those that they cover
-pub copied_line : (kind out_kind : SampleType) (bytes : List ℕ) (line : Cut) (slower : List Axis) (scale base n : ℕ) → ((i : ℕ) → get_or bytes i 0 < 256) → line.bin ≡ 1 → line.reverse ≡ false → bins_of slower ≡ 1 → scale ≡ 1 → out_kind ≡ kind
-    → (base + line.min + n) * width kind ≤ length bytes → line_bytes kind bytes line slower scale out_kind base 0 n ≡ take (n * width kind) (drop ((base + line.min) * width kind) bytes)
+pub copied_line : (kind out_kind : SampleType) (bytes : List ℕ) (line : Cut) (slower : List Axis) (scale base n : ℕ) → ((i : ℕ) → get_or bytes i 0 < 256)
+    → line.bin ≡ 1 → line.reverse ≡ false → bins_of slower ≡ 1 → scale ≡ 1 → out_kind ≡ kind
+    → (base + line.min + n) * width kind ≤ length bytes
+    → line_bytes kind bytes line slower scale out_kind base 0 n ≡ take (n * width kind) (drop ((base + line.min) * width kind) bytes)
 copied_line kind out_kind bytes line slower scale base n fit bin ahead single one same within =
     let q = base + line.min in
     let e : q + 0 ≡ q = omega arith in
     ap (λ s. line_bytes kind bytes line slower s out_kind base 0 n) one
     ∙ ap (λ k. line_bytes kind bytes line slower 1 k base 0 n) same
     ∙ flat_map-cong (λ out. bytes_of kind (int_div (line_total kind bytes line slower base out) (pos 1))) (λ out. bytes_of kind (stored kind bytes (q + out)))
-    (range_with_len 0 n) (λ out. ap (bytes_of kind) (int_div-one (line_total kind bytes line slower base out) ∙ total_single kind bytes line slower base out bin ahead single))
+    (range_with_len 0 n) (λ out. ap (bytes_of kind) (int_div-one (line_total kind bytes line slower base out)
+    ∙ total_single kind bytes line slower base out bin ahead single))
     ∙ samples_bytes kind bytes q 0 n fit (rw e within)
     ∙ ap (λ m. take (n * width kind) (drop (m * width kind) bytes)) e

@@ -49,7 +49,8 @@ bin_most : (c : Cut) (n : ℕ) → IsWithin c n → c.bin ≤ n
 bin_most c n w = let h = w.end in let g = mul-le-mul_right c.bin w.size in omega (arith, g)
 
 -- the bins cover no more lines than there are
-pub bins_most : (rule : RoiRule) (k stride : ℕ) (dims : List Dim) → list_all (λ d. nat_lt 0 d.size) dims ≡ true → bins_of (reverse (axes_from rule k stride dims)) ≤ sample_count dims
+pub bins_most : (rule : RoiRule) (k stride : ℕ) (dims : List Dim) → list_all (λ d. nat_lt 0 d.size) dims ≡ true
+    → bins_of (reverse (axes_from rule k stride dims)) ≤ sample_count dims
 bins_most rule k stride [] h = omega arith
 bins_most rule k stride (dim ∷ dims) h =
     let parts = and_parts (nat_lt 0 dim.size) (list_all (λ d. nat_lt 0 d.size) dims) h in
@@ -68,7 +69,8 @@ for_lines-append [] ys n = refl
 for_lines-append (x ∷ xs) ys n = ap (λ m. x.cut.size * m) (for_lines-append xs ys n)
 
 -- as many lines as the output's dimensions say
-pub for_lines-count : (rule : RoiRule) (k stride : ℕ) (dims : List Dim) (n : ℕ) → for_lines (reverse (axes_from rule k stride dims)) n ≡ n * sample_count (dims_from rule k dims)
+pub for_lines-count : (rule : RoiRule) (k stride : ℕ) (dims : List Dim) (n : ℕ)
+    → for_lines (reverse (axes_from rule k stride dims)) n ≡ n * sample_count (dims_from rule k dims)
 for_lines-count rule k stride [] n = omega arith
 for_lines-count rule k stride (dim ∷ dims) n =
     let c = cut rule k dim.size in
@@ -87,12 +89,14 @@ few_of a b c h e = omega arith
 
 -- the whole walk lies within the array
 pub walk_within : (rule : RoiRule) (dim : Dim) (dims : List Dim) → list_all (λ d. nat_lt 0 d.size) (dim ∷ dims) ≡ true →
-    sum_by first_reach (axes_from rule 1 dim.size dims) + ((cut rule 0 dim.size).min + (cut rule 0 dim.size).size * (cut rule 0 dim.size).bin) + sum_by bin_reach (axes_from rule 1 dim.size dims) ≤ sample_count (dim ∷ dims)
+    sum_by first_reach (axes_from rule 1 dim.size dims) + ((cut rule 0 dim.size).min + (cut rule 0 dim.size).size * (cut rule 0 dim.size).bin)
+    + sum_by bin_reach (axes_from rule 1 dim.size dims) ≤ sample_count (dim ∷ dims)
 walk_within rule dim dims h =
     let parts = and_parts (nat_lt 0 dim.size) (list_all (λ d. nat_lt 0 d.size) dims) h in
     let rest = reach_within rule 1 dim.size dims parts.1 in
     let here = (cut-IsWithin rule 0 dim.size (ltb-true 0 dim.size parts.0)).end in
-    within_of (sum_by first_reach (axes_from rule 1 dim.size dims)) (sum_by bin_reach (axes_from rule 1 dim.size dims)) ((cut rule 0 dim.size).min + (cut rule 0 dim.size).size * (cut rule 0 dim.size).bin) dim.size (dim.size * sample_count dims) rest here
+    within_of (sum_by first_reach (axes_from rule 1 dim.size dims)) (sum_by bin_reach (axes_from rule 1 dim.size dims))
+    ((cut rule 0 dim.size).min + (cut rule 0 dim.size).size * (cut rule 0 dim.size).bin) dim.size (dim.size * sample_count dims) rest here
 
 -- a bin covers no more samples than there are
 pub walk_few : (rule : RoiRule) (dim : Dim) (dims : List Dim) → list_all (λ d. nat_lt 0 d.size) (dim ∷ dims) ≡ true →
@@ -103,10 +107,12 @@ walk_few rule dim dims h =
     let here = bin_most (cut rule 0 dim.size) dim.size (cut-IsWithin rule 0 dim.size (ltb-true 0 dim.size parts.0)) in
     let wide = mul-le-mul rest here in
     let turn = mul_comm (sample_count dims) dim.size in
-    few_of (bins_of (reverse (axes_from rule 1 dim.size dims)) * (cut rule 0 dim.size).bin) (sample_count dims * dim.size) (dim.size * sample_count dims) wide turn
+    few_of (bins_of (reverse (axes_from rule 1 dim.size dims)) * (cut rule 0 dim.size).bin) (sample_count dims * dim.size)
+    (dim.size * sample_count dims) wide turn
 
 -- the output has room for the whole walk
-pub walk_room : (rule : RoiRule) (dim : Dim) (dims : List Dim) (w : ℕ) → for_lines (reverse (axes_from rule 1 dim.size dims)) ((cut rule 0 dim.size).size * w) ≡ sample_count (region_dims rule (dim ∷ dims)) * w
+pub walk_room : (rule : RoiRule) (dim : Dim) (dims : List Dim) (w : ℕ)
+    → for_lines (reverse (axes_from rule 1 dim.size dims)) ((cut rule 0 dim.size).size * w) ≡ sample_count (region_dims rule (dim ∷ dims)) * w
 walk_room rule dim dims w =
     let size = (cut rule 0 dim.size).size in
     let count = sample_count (dims_from rule 1 dims) in

@@ -1,5 +1,6 @@
 -- Sums that were gathered, and their samples as bytes.
-use Rattle.std.proofs.Common.{◌≡◌, ℕ, ◌+◌, ◌-◌, ◌*◌, ◌<◌, true, false, ℤ, pos, negsuc, ◌+ℤ◌, List, length, get_or, map, reverse, FitsSigned, refl, ap, sym, ◌∙◌, arith}
+use Rattle.std.proofs.Common.{◌≡◌, ℕ, ◌+◌, ◌-◌, ◌*◌, ◌<◌, true, false, ℤ, pos, negsuc, ◌+ℤ◌, List, length, get_or, map, reverse, FitsSigned, refl, ap, sym}
+use Rattle.std.proofs.Common.{◌∙◌, arith}
 use Rattle.std.specs.Int.{w32, w64, int_wrap}
 use Rattle.std.specs.Int.RustNames.{int_div, int_rem, unsigned_abs}
 use Rattle.std.specs.List.{range_with_len, flat_map}
@@ -31,12 +32,14 @@ first_covered-reversed c out h = rw h refl
 pub bin_place : (base min bin first k m covered : ℕ) → first + k ≡ m → covered ≡ min + m * bin → base + min + first * bin + k * bin ≡ base + covered
 bin_place base min bin first k m covered e f = let g : (first + k) * bin ≡ m * bin = ap (λ x. x * bin) e in omega (arith, f, g)
 
-pub in_order : (f : ℕ → ℤ) (from n : ℕ) (ys : List ℤ) → length ys ≡ n → ((k : ℕ) → k < n → get_or ys k (pos 0) ≡ f (from + k)) → ys ≡ map f (range_with_len from n)
+pub in_order : (f : ℕ → ℤ) (from n : ℕ) (ys : List ℤ) → length ys ≡ n → ((k : ℕ) → k < n → get_or ys k (pos 0) ≡ f (from + k))
+    → ys ≡ map f (range_with_len from n)
 in_order f from n ys long each =
     ext_get_or (pos 0) ys (map f (range_with_len from n)) (long ∙ sym (length-map-range_with_len f from n))
     (λ i h. let below : i < n = omega arith in each i below ∙ sym (get_or-map-range_with_len f from n i (from + i) (pos 0) below refl))
 
-pub in_reverse : (f : ℕ → ℤ) (from n : ℕ) (ys : List ℤ) → length ys ≡ n → ((k : ℕ) → k < n → get_or ys (n - 1 - k) (pos 0) ≡ f (from + k)) → reverse ys ≡ map f (range_with_len from n)
+pub in_reverse : (f : ℕ → ℤ) (from n : ℕ) (ys : List ℤ) → length ys ≡ n → ((k : ℕ) → k < n → get_or ys (n - 1 - k) (pos 0) ≡ f (from + k))
+    → reverse ys ≡ map f (range_with_len from n)
 in_reverse f from n ys long each =
     in_order f from n (reverse ys) (length-reverse ys ∙ long)
     (λ k h. let below : k < length ys = omega arith in get_or-reverse ys k (pos 0) below ∙ ap (λ m. get_or ys (m - 1 - k) (pos 0)) long ∙ each k h)
@@ -52,9 +55,12 @@ int_div-one z =
     omega (arith, ints, q, r)
 
 -- the bytes of what is left of the quotients in 32 bits
-pub low_bytes : (kind : SampleType) (quotient : ℕ → ℤ) (outs : List ℕ) → flat_map (bytes_of kind) (map (λ out. int_wrap w32 (quotient out)) outs) ≡ flat_map (λ out. bytes_of kind (quotient out)) outs
-low_bytes kind quotient outs = flat_map-map (bytes_of kind) (λ out. int_wrap w32 (quotient out)) outs ∙ flat_map-cong _ _ outs (λ out. bytes_of-low kind (quotient out))
+pub low_bytes : (kind : SampleType) (quotient : ℕ → ℤ) (outs : List ℕ)
+    → flat_map (bytes_of kind) (map (λ out. int_wrap w32 (quotient out)) outs) ≡ flat_map (λ out. bytes_of kind (quotient out)) outs
+low_bytes kind quotient outs = flat_map-map (bytes_of kind) (λ out. int_wrap w32 (quotient out)) outs
+    ∙ flat_map-cong _ _ outs (λ out. bytes_of-low kind (quotient out))
 
 -- a sum divided by 1 is the sum
-pub undivided : (kind : SampleType) (total : ℕ → ℤ) (scale : ℕ) (outs : List ℕ) → scale ≡ 1 → flat_map (λ out. bytes_of kind (total out)) outs ≡ flat_map (λ out. bytes_of kind (int_div (total out) (pos scale))) outs
+pub undivided : (kind : SampleType) (total : ℕ → ℤ) (scale : ℕ) (outs : List ℕ) → scale ≡ 1
+    → flat_map (λ out. bytes_of kind (total out)) outs ≡ flat_map (λ out. bytes_of kind (int_div (total out) (pos scale))) outs
 undivided kind total scale outs one = rw one (simp int_div-one)

@@ -18,7 +18,8 @@ use Rattle.nd_roi.specs.Walk.{concat_below, line_bytes, line_total, bytes_of}
 use Rattle.nd_base.specs.PlaceLaws.{range-split}
 
 -- the stride of the next dimension is at most the number of samples
-pub stride_most : (dims : List Dim) (k stride most : ℕ) (d : Dim) → list_all (λ d. nat_lt 0 d.size) dims ≡ true → k < length dims → stride * sample_count (drop k dims) ≤ most → stride * (get_or dims k d).size ≤ most
+pub stride_most : (dims : List Dim) (k stride most : ℕ) (d : Dim) → list_all (λ d. nat_lt 0 d.size) dims ≡ true → k < length dims
+    → stride * sample_count (drop k dims) ≤ most → stride * (get_or dims k d).size ≤ most
 stride_most [] k stride most d h below few = absurd (omega arith)
 stride_most (x ∷ dims) zero stride most d h below few =
     let parts = and_parts (nat_lt 0 x.size) (list_all (λ d. nat_lt 0 d.size) dims) h in
@@ -30,10 +31,12 @@ stride_most (x ∷ dims) (suc k) stride most d h below few =
 
 -- more output indices of a line
 pub line_bytes-more : (kind : SampleType) (bytes : List ℕ) (line : Cut) (slower : List Axis) (scale : ℕ) (out_kind : SampleType) (base m n : ℕ) →
-    line_bytes kind bytes line slower scale out_kind base 0 (m + n) ≡ line_bytes kind bytes line slower scale out_kind base 0 m ++ line_bytes kind bytes line slower scale out_kind base m n
+    line_bytes kind bytes line slower scale out_kind base 0 (m + n) ≡ line_bytes kind bytes line slower scale out_kind base 0 m
+    ++ line_bytes kind bytes line slower scale out_kind base m n
 line_bytes-more kind bytes line slower scale out_kind base m n =
     let one : ℕ → List ℕ = λ out. bytes_of out_kind (int_div (line_total kind bytes line slower base out) (pos scale)) in
-    let split : range_with_len 0 (m + n) ≡ range_with_len 0 m ++ range_with_len m n = range-split 0 m n ∙ ap (λ k. range_with_len 0 m ++ range_with_len k n) (omega arith) in
+    let split : range_with_len 0 (m + n) ≡ range_with_len 0 m ++ range_with_len m n = range-split 0 m n
+    ∙ ap (λ k. range_with_len 0 m ++ range_with_len k n) (omega arith) in
     ap (flat_map one) split ∙ flat_map-append one (range_with_len 0 m) (range_with_len m n)
 
 below_last : (out n : ℕ) → out < n → out ≤ n - 1

@@ -67,7 +67,8 @@ flat_map-range f zero = refl
 flat_map-range f (suc n) =
     let e : suc n ≡ n + 1 = omega arith in
     ap (λ k. flat_map f (range_with_len 0 k)) e ∙ ap (flat_map f) (range-split 0 n 1) ∙ flat_map-append f (range_with_len 0 n) ((0 + n) ∷ [])
-    ∙ ap (λ z. z ++ (f (0 + n) ++ [])) (flat_map-range f n) ∙ ap (λ z. concat_below n f ++ z) (append-nil (f (0 + n))) ∙ ap (λ k. concat_below n f ++ f k) (omega arith)
+    ∙ ap (λ z. z ++ (f (0 + n) ++ [])) (flat_map-range f n) ∙ ap (λ z. concat_below n f ++ z) (append-nil (f (0 + n)))
+    ∙ ap (λ k. concat_below n f ++ f k) (omega arith)
 
 reverse-cons : {X : Type 0} (x : X) (xs ys : List X) → reverse (x ∷ xs) ++ ys ≡ reverse xs ++ (x ∷ ys)
 reverse-cons x xs ys = ap (λ z. z ++ ys) (reverse-append (x ∷ []) xs) ∙ append_assoc (reverse xs) (x ∷ []) ys
@@ -97,9 +98,11 @@ total_is rule k t (dim ∷ dims) acc value base (out ∷ index) long =
     ∙ sum_below-cong c.bin (λ j. H ((from + j) ∷ rest)) (λ j. lines_total acc value ((base + t * from) + (t * n) * place sizes rest + j * t))
     (λ j. ap (lines_total acc value) (grind arith)) in
     sum_over-flat_map H (λ rest. map (λ x. x ∷ rest) (covered_by c out)) (covered cs index)
-    ∙ sum_over-cong (λ rest. sum_over H (map (λ x. x ∷ rest) (covered_by c out))) (λ rest. lines_total (a ∷ acc) value ((base + t * from) + (t * n) * place sizes rest)) (covered cs index) inner
+    ∙ sum_over-cong (λ rest. sum_over H (map (λ x. x ∷ rest) (covered_by c out)))
+    (λ rest. lines_total (a ∷ acc) value ((base + t * from) + (t * n) * place sizes rest)) (covered cs index) inner
     ∙ total_is rule (suc k) (t * n) dims (a ∷ acc) value (base + t * from) index (omega arith)
-    ∙ ap (λ axes. lines_total axes value ((base + t * from) + (t * n) * place sizes (starts cs index))) (sym (reverse-cons a (axes_from rule (suc k) (t * n) dims) acc))
+    ∙ ap (λ axes. lines_total axes value ((base + t * from) + (t * n) * place sizes (starts cs index)))
+    (sym (reverse-cons a (axes_from rule (suc k) (t * n) dims) acc))
     ∙ ap (lines_total (reverse (a ∷ axes_from rule (suc k) (t * n) dims) ++ acc) value) (grind arith)
 
 -- the output in the order of its indices is that of the walk
@@ -123,13 +126,16 @@ lines_are {X = X} rule k t (dim ∷ dims) acc line base =
     ∙ lines_are rule (suc k) (t * n) dims (a ∷ acc) line base
     ∙ sym (
     flat_map-flat_map H (λ rest. map (λ x. x ∷ rest) (range_with_len 0 c.size)) outs
-    ∙ flat_map-cong (λ rest. flat_map H (map (λ x. x ∷ rest) (range_with_len 0 c.size))) (λ rest. lines (a ∷ acc) line (base + (t * n) * place sizes (starts cs rest))) outs inner)
+    ∙ flat_map-cong (λ rest. flat_map H (map (λ x. x ∷ rest) (range_with_len 0 c.size)))
+    (λ rest. lines (a ∷ acc) line (base + (t * n) * place sizes (starts cs rest))) outs inner)
 
 -- all of a product have as many numbers as it has lists
-pub product-cong : {X : Type 0} (choices : List (List ℕ)) (f g : List ℕ → List X) → ((index : List ℕ) → length index ≡ length choices → f index ≡ g index) → flat_map f (product_of choices) ≡ flat_map g (product_of choices)
+pub product-cong : {X : Type 0} (choices : List (List ℕ)) (f g : List ℕ → List X) → ((index : List ℕ) → length index ≡ length choices → f index ≡ g index)
+    → flat_map f (product_of choices) ≡ flat_map g (product_of choices)
 product-cong [] f g each = ap (λ z. z ++ []) (each [] refl)
 product-cong (xs ∷ choices) f g each =
     flat_map-flat_map f (λ rest. map (λ x. x ∷ rest) xs) (product_of choices)
     ∙ product-cong choices (λ rest. flat_map f (map (λ x. x ∷ rest) xs)) (λ rest. flat_map g (map (λ x. x ∷ rest) xs))
-    (λ rest long. flat_map-map f (λ x. x ∷ rest) xs ∙ flat_map-cong (λ x. f (x ∷ rest)) (λ x. g (x ∷ rest)) xs (λ x. each (x ∷ rest) (ap suc long)) ∙ sym (flat_map-map g (λ x. x ∷ rest) xs))
+    (λ rest long. flat_map-map f (λ x. x ∷ rest) xs ∙ flat_map-cong (λ x. f (x ∷ rest)) (λ x. g (x ∷ rest)) xs (λ x. each (x ∷ rest) (ap suc long))
+    ∙ sym (flat_map-map g (λ x. x ∷ rest) xs))
     ∙ sym (flat_map-flat_map g (λ rest. map (λ x. x ∷ rest) xs) (product_of choices))

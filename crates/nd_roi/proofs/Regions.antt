@@ -1,5 +1,6 @@
 -- What the walk writes is the region.
-use Rattle.std.proofs.Common.{◌≡◌, ℕ, zero, suc, ◌+◌, ◌*◌, ◌/◌, ℤ, pos, List, [], ◌∷◌, ◌++◌, length, map, reverse, take, drop, get_or, refl, ap, sym, ◌∙◌, arith}
+use Rattle.std.proofs.Common.{◌≡◌, ℕ, zero, suc, ◌+◌, ◌*◌, ◌/◌, ℤ, pos, List, [], ◌∷◌, ◌++◌, length, map, reverse, take, drop, get_or, refl, ap, sym, ◌∙◌}
+use Rattle.std.proofs.Common.{arith}
 use Rattle.std.specs.Int.{w16, w32, cast_signed}
 use Rattle.std.specs.Int.RustNames.{int_div}
 use Rattle.std.specs.List.{range_with_len, flat_map}
@@ -22,7 +23,8 @@ use Rattle.nd_base.specs.Places.{place, indices, sizes_of}
 use Rattle.nd_roi.specs.RegionLaws.{low_bits-below_16, low_bits-below_32}
 use Rattle.nd_roi.specs.Region.{first_covered, covered_by, covered, sum_over, low_bits, reduced, out_type, sample_at, scaled, region_samples}
 use Rattle.nd_roi.specs.Walk.{stored, run, lines_total, lines, axes_from, bytes_of, line_bytes}
-use Rattle.nd_roi.proofs.Places.{starts, total_is, lines_are, product-cong, sum_over-flat_map, sum_over-map, sum_over-cong, sum_over-range, sum_below-cong, flat_map-cong, flat_map-flat_map}
+use Rattle.nd_roi.proofs.Places.{starts, total_is, lines_are, product-cong, sum_over-flat_map, sum_over-map, sum_over-cong, sum_over-range, sum_below-cong}
+use Rattle.nd_roi.proofs.Places.{flat_map-cong, flat_map-flat_map}
 use Rattle.nd_roi.specs.CutLaws.{length-dims_from}
 
 -- bytes as samples
@@ -50,18 +52,21 @@ length-written kind value (x ∷ xs) =
     length-append (bytes_of kind (value x)) written ∙ ap (λ n. n + length written) (length-bytes_of kind (value x))
     ∙ ap (λ n. width kind + n) (length-written kind value xs) ∙ (let e = suc-mul (length xs) (width kind) in omega (arith, e))
 
-numbers-written : {X : Type 0} (kind : SampleType) (value : X → ℤ) (xs : List X) → numbers kind (length xs) (flat_map (λ x. bytes_of kind (value x)) xs) ≡ map (λ x. reduced kind (value x)) xs
+numbers-written : {X : Type 0} (kind : SampleType) (value : X → ℤ) (xs : List X)
+    → numbers kind (length xs) (flat_map (λ x. bytes_of kind (value x)) xs) ≡ map (λ x. reduced kind (value x)) xs
 numbers-written kind value [] = refl
 numbers-written kind value (x ∷ xs) =
     let written = flat_map (λ x. bytes_of kind (value x)) xs in
     let long = length-bytes_of kind (value x) in
-    ap (λ bytes. number kind bytes ∷ numbers kind (length xs) (drop (width kind) (bytes_of kind (value x) ++ written))) (take_at (bytes_of kind (value x)) written (width kind) long)
+    ap (λ bytes. number kind bytes ∷ numbers kind (length xs) (drop (width kind) (bytes_of kind (value x) ++ written)))
+    (take_at (bytes_of kind (value x)) written (width kind) long)
     ∙ ap (λ bytes. number kind (bytes_of kind (value x)) ∷ numbers kind (length xs) bytes) (drop_at (bytes_of kind (value x)) written (width kind) long)
     ∙ ap (λ z. z ∷ numbers kind (length xs) written) (number-bytes_of kind (value x))
     ∙ ap (λ zs. reduced kind (value x) ∷ zs) (numbers-written kind value xs)
 
 -- what was written is read back
-pub samples-written : {X : Type 0} (kind : SampleType) (value : X → ℤ) (xs : List X) → samples_of kind (flat_map (λ x. bytes_of kind (value x)) xs) ≡ map (λ x. reduced kind (value x)) xs
+pub samples-written : {X : Type 0} (kind : SampleType) (value : X → ℤ) (xs : List X)
+    → samples_of kind (flat_map (λ x. bytes_of kind (value x)) xs) ≡ map (λ x. reduced kind (value x)) xs
 samples-written kind value xs =
     let written = flat_map (λ x. bytes_of kind (value x)) xs in
     ap (λ n. numbers kind (n / width kind) written) (length-written kind value xs)
@@ -96,17 +101,20 @@ get_or-numbers kind (suc n) (suc p) bytes h =
 
 pub sample_is : (kind : SampleType) (n p : ℕ) (bytes : List ℕ) → length bytes ≡ n * width kind → get_or (samples_of kind bytes) p (pos 0) ≡ stored kind bytes p
 sample_is kind n p bytes h =
-    ap (λ m. get_or (numbers kind (m / width kind) bytes) p (pos 0)) h ∙ ap (λ m. get_or (numbers kind m bytes) p (pos 0)) (mul-div_cancel n (width-positive kind))
+    ap (λ m. get_or (numbers kind (m / width kind) bytes) p (pos 0)) h
+    ∙ ap (λ m. get_or (numbers kind m bytes) p (pos 0)) (mul-div_cancel n (width-positive kind))
     ∙ get_or-numbers kind n p bytes h
 
 -- what the walk writes, all in all
 abbrev pub walked : SampleType → List ℕ → Cut → List Axis → ℕ → SampleType → List ℕ
 walked kind bytes line axes scale out_kind = lines (reverse axes) (λ at. line_bytes kind bytes line (reverse axes) scale out_kind at 0 line.size) 0
 
-module _ (rule : RoiRule) (kind : SampleType) (dim : Dim) (dims : List Dim) (bytes : List ℕ) (whole : length bytes ≡ sample_count (dim ∷ dims) * width kind) where
+module _ (rule : RoiRule) (kind : SampleType) (dim : Dim) (dims : List Dim) (bytes : List ℕ)
+    (whole : length bytes ≡ sample_count (dim ∷ dims) * width kind) where
   -- the walk's sum for an index of the output is that over the indices that it covers
   value_is : (index : List ℕ) → length index ≡ length (dim ∷ dims) →
-      lines_total (reverse (axes_from rule 1 dim.size dims)) (run kind bytes (cut rule 0 dim.size).bin) (place (sizes_of (dim ∷ dims)) (starts (cuts rule (dim ∷ dims)) index))
+      lines_total (reverse (axes_from rule 1 dim.size dims)) (run kind bytes (cut rule 0 dim.size).bin)
+      (place (sizes_of (dim ∷ dims)) (starts (cuts rule (dim ∷ dims)) index))
       ≡ sum_over (sample_at (sizes_of (dim ∷ dims)) (samples_of kind bytes)) (covered (cuts rule (dim ∷ dims)) index)
   value_is [] long = absurd (omega arith)
   value_is (out ∷ index) long =
@@ -130,8 +138,11 @@ module _ (rule : RoiRule) (kind : SampleType) (dim : Dim) (dims : List Dim) (byt
 
   -- the bytes in the order of the output's indices
   pub lines_by_index : (out_kind : SampleType) →
-      lines (reverse (axes_from rule 1 dim.size dims)) (λ at. line_bytes kind bytes (cut rule 0 dim.size) (reverse (axes_from rule 1 dim.size dims)) rule.scale out_kind at 0 (cut rule 0 dim.size).size) 0
-      ≡ flat_map (λ index. bytes_of out_kind (int_div (lines_total (reverse (axes_from rule 1 dim.size dims)) (run kind bytes (cut rule 0 dim.size).bin) (place (sizes_of (dim ∷ dims)) (starts (cuts rule (dim ∷ dims)) index))) (pos rule.scale))) (indices (sizes_of (region_dims rule (dim ∷ dims))))
+      lines (reverse (axes_from rule 1 dim.size dims)) (λ at. line_bytes kind bytes (cut rule 0 dim.size)
+      (reverse (axes_from rule 1 dim.size dims)) rule.scale out_kind at 0 (cut rule 0 dim.size).size) 0
+      ≡ flat_map (λ index. bytes_of out_kind
+      (int_div (lines_total (reverse (axes_from rule 1 dim.size dims)) (run kind bytes (cut rule 0 dim.size).bin)
+      (place (sizes_of (dim ∷ dims)) (starts (cuts rule (dim ∷ dims)) index))) (pos rule.scale))) (indices (sizes_of (region_dims rule (dim ∷ dims))))
   lines_by_index out_kind =
       let n = dim.size in
       let c : Cut = cut rule 0 n in
@@ -148,7 +159,8 @@ module _ (rule : RoiRule) (kind : SampleType) (dim : Dim) (dims : List Dim) (byt
       flat_map-flat_map H (λ rest. map (λ x. x ∷ rest) (range_with_len 0 c.size)) outs
       ∙ flat_map-cong (λ rest. flat_map H (map (λ x. x ∷ rest) (range_with_len 0 c.size))) (λ rest. line (0 + n * place sizes (starts cs rest))) outs
       (λ rest. flat_map-map H (λ x. x ∷ rest) (range_with_len 0 c.size)
-      ∙ flat_map-cong (λ x. H (x ∷ rest)) (λ x. bytes_of out_kind (int_div (total (0 + n * place sizes (starts cs rest) + first_covered c x)) (pos rule.scale))) (range_with_len 0 c.size)
+      ∙ flat_map-cong (λ x. H (x ∷ rest))
+      (λ x. bytes_of out_kind (int_div (total (0 + n * place sizes (starts cs rest) + first_covered c x)) (pos rule.scale))) (range_with_len 0 c.size)
       (λ x. ap (λ at. bytes_of out_kind (int_div (total at) (pos rule.scale))) (omega arith))))
 
   -- the walk writes the region
@@ -158,11 +170,15 @@ module _ (rule : RoiRule) (kind : SampleType) (dim : Dim) (dims : List Dim) (byt
   region_is =
       let out_kind = out_type rule kind in
       let all = indices (sizes_of (region_dims rule (dim ∷ dims))) in
-      let value : List ℕ → ℤ = λ index. int_div (lines_total (reverse (axes_from rule 1 dim.size dims)) (run kind bytes (cut rule 0 dim.size).bin) (place (sizes_of (dim ∷ dims)) (starts (cuts rule (dim ∷ dims)) index))) (pos rule.scale) in
-      let wanted : List ℕ → ℤ = λ index. scaled rule kind (sum_over (sample_at (sizes_of (dim ∷ dims)) (samples_of kind bytes)) (covered (cuts rule (dim ∷ dims)) index)) in
+      let value : List ℕ → ℤ =
+      λ index. int_div (lines_total (reverse (axes_from rule 1 dim.size dims)) (run kind bytes (cut rule 0 dim.size).bin)
+      (place (sizes_of (dim ∷ dims)) (starts (cuts rule (dim ∷ dims)) index))) (pos rule.scale) in
+      let wanted : List ℕ → ℤ =
+      λ index. scaled rule kind (sum_over (sample_at (sizes_of (dim ∷ dims)) (samples_of kind bytes)) (covered (cuts rule (dim ∷ dims)) index)) in
       let choices = map (λ n. range_with_len 0 n) (sizes_of (region_dims rule (dim ∷ dims))) in
       let many : length choices ≡ length (dim ∷ dims) =
-      length-map (sizes_of (region_dims rule (dim ∷ dims))) (λ n. range_with_len 0 n) ∙ length-map (region_dims rule (dim ∷ dims)) (λ d. d.size) ∙ length-dims_from rule 0 (dim ∷ dims) in
+      length-map (sizes_of (region_dims rule (dim ∷ dims))) (λ n. range_with_len 0 n) ∙ length-map (region_dims rule (dim ∷ dims)) (λ d. d.size)
+      ∙ length-dims_from rule 0 (dim ∷ dims) in
       ap (samples_of out_kind) (lines_by_index out_kind)
       ∙ samples-written out_kind value all
       ∙ sym (flat_map_single (λ index. reduced out_kind (value index)) all)

@@ -39,7 +39,8 @@ wraps-none w x fits = sym (int_wrap_fits w (x +ℤ pos 0) (rw (add_zero x) fits)
 pub wraps-more : (w : Width) (start before value : ℤ) → int_wrap w (int_wrap w (start +ℤ before) +ℤ value) ≡ int_wrap w (start +ℤ (before +ℤ value))
 wraps-more w start before value = int_wrap-add_left w (start +ℤ before) value ∙ ap (int_wrap w) (omega (arith, ints))
 
-pub sums_more : (w : Width) (value : ℕ → ℤ) (j : ℕ) (start before after v : ℤ) → before ≡ int_wrap w (start +ℤ sum_below j value) → after ≡ int_wrap w (before +ℤ v) → v ≡ value j → after ≡ int_wrap w (start +ℤ sum_below (j + 1) value)
+pub sums_more : (w : Width) (value : ℕ → ℤ) (j : ℕ) (start before after v : ℤ) → before ≡ int_wrap w (start +ℤ sum_below j value)
+    → after ≡ int_wrap w (before +ℤ v) → v ≡ value j → after ≡ int_wrap w (start +ℤ sum_below (j + 1) value)
 sums_more w value j start before after v b a e =
     a ∙ ap (λ z. int_wrap w (z +ℤ v)) b ∙ wraps-more w start (sum_below j value) v ∙ ap (λ z. int_wrap w (start +ℤ (sum_below j value +ℤ z))) e
     ∙ ap (λ z. int_wrap w (start +ℤ z)) (sym (sum_below-more j value))

@@ -1,5 +1,6 @@
 -- What a region rule cuts out of each dimension, and the dimensions of its output.
-use Rattle.std.specs.Prelude.{ℕ, suc, ◌-◌, ◌/◌, min, max, nat_le, ℤ, pos, negsuc, ◌+ℤ◌, ◌*ℤ◌, Bool, false, not, List, [], ◌∷◌, length, slice_index_or, if◌then◌else◌}
+use Rattle.std.specs.Prelude.{ℕ, suc, ◌-◌, ◌/◌, min, max, nat_le, ℤ, pos, negsuc, ◌+ℤ◌, ◌*ℤ◌, Bool, false, not, List, [], ◌∷◌, length, slice_index_or}
+use Rattle.std.specs.Prelude.{if◌then◌else◌}
 use Rattle.std.specs.Int.{int_max, int_min}
 use Rattle.nd_base.specs.declared.array.Dim.{Dim}
 use Rattle.nd_base.specs.declared.graph.RoiRule.{RoiRule}

@@ -1,5 +1,6 @@
 -- Laws of cuts: what is cut out lies within the dimension, and a region has the dimensions of an array.
-use Rattle.std.specs.Prelude.{◌≡◌, ℕ, suc, ◌+◌, ◌-◌, ◌*◌, ◌/◌, ◌<◌, ◌≤◌, nat_lt, nat_le, not, ◌&&◌, ◌==◌, Bool, true, false, ℤ, pos, negsuc, List, [], ◌∷◌, length, slice_index_or, if◌then◌else◌, IsTrue, refl}
+use Rattle.std.specs.Prelude.{◌≡◌, ℕ, suc, ◌+◌, ◌-◌, ◌*◌, ◌/◌, ◌<◌, ◌≤◌, nat_lt, nat_le, not, ◌&&◌, ◌==◌, Bool, true, false, ℤ, pos, negsuc, List, [], ◌∷◌}
+use Rattle.std.specs.Prelude.{length, slice_index_or, if◌then◌else◌, IsTrue, refl}
 use Rattle.std.specs.List.{list_all}
 use Rattle.std.proofs.Common.{ap, ◌∙◌, arith}
 use Rattle.std.proofs.Math.Nat.{div-mul-le_self, mul-le-mul, mul-le-mul_left}
@@ -64,7 +65,8 @@ pub length-dims_from : (rule : RoiRule) (k : ℕ) (dims : List Dim) → length (
 length-dims_from rule k [] = refl
 length-dims_from rule k (dim ∷ dims) = ap suc (length-dims_from rule (suc k) dims)
 
-dims_from-none_empty : (rule : RoiRule) (k : ℕ) (dims : List Dim) → list_all (λ d. nat_lt 0 d.size) dims ≡ true → list_all (λ d. nat_lt 0 d.size) (dims_from rule k dims) ≡ true
+dims_from-none_empty : (rule : RoiRule) (k : ℕ) (dims : List Dim) → list_all (λ d. nat_lt 0 d.size) dims ≡ true
+    → list_all (λ d. nat_lt 0 d.size) (dims_from rule k dims) ≡ true
 dims_from-none_empty rule k [] h = refl
 dims_from-none_empty rule k (dim ∷ dims) h =
     let parts = and_parts (nat_lt 0 dim.size) (list_all (λ d. nat_lt 0 d.size) dims) h in
@@ -72,7 +74,8 @@ dims_from-none_empty rule k (dim ∷ dims) h =
     let some : nat_lt 0 (cut rule k dim.size).size ≡ true = lt-ltb 0 (cut rule k dim.size).size w.size in
     ap (λ b. b && list_all (λ (d : Dim). nat_lt 0 d.size) (dims_from rule (suc k) dims)) some ∙ dims_from-none_empty rule (suc k) dims parts.1
 
-dims_from-count : (rule : RoiRule) (k : ℕ) (dims : List Dim) → list_all (λ d. nat_lt 0 d.size) dims ≡ true → sample_count (dims_from rule k dims) ≤ sample_count dims
+dims_from-count : (rule : RoiRule) (k : ℕ) (dims : List Dim) → list_all (λ d. nat_lt 0 d.size) dims ≡ true
+    → sample_count (dims_from rule k dims) ≤ sample_count dims
 dims_from-count rule k [] h = omega arith
 dims_from-count rule k (dim ∷ dims) h =
     let parts = and_parts (nat_lt 0 dim.size) (list_all (λ d. nat_lt 0 d.size) dims) h in

@@ -15,10 +15,12 @@ use Rattle.nd_roi.specs.Cut.{cuts, region_dims}
 use Rattle.nd_roi.specs.Region.{low_bits, reduced, sum_over, sample_at, covered, scaled, region_samples}
 
 -- a region has as many samples as its dimensions say
-pub length-region_samples : (rule : RoiRule) (kind : SampleType) (dims : List Dim) (samples : List ℤ) → length (region_samples rule kind dims samples) ≡ sample_count (region_dims rule dims)
+pub length-region_samples : (rule : RoiRule) (kind : SampleType) (dims : List Dim) (samples : List ℤ)
+    → length (region_samples rule kind dims samples) ≡ sample_count (region_dims rule dims)
 length-region_samples rule kind dims samples =
     let all = indices (sizes_of (region_dims rule dims)) in
-    length-map all (λ index. scaled rule kind (sum_over (sample_at (sizes_of dims) samples) (covered (cuts rule dims) index))) ∙ length-indices (sizes_of (region_dims rule dims))
+    length-map all (λ index. scaled rule kind (sum_over (sample_at (sizes_of dims) samples) (covered (cuts rule dims) index)))
+    ∙ length-indices (sizes_of (region_dims rule dims))
 
 -- what is left in so many bits is below 2 to their number
 pub low_bits-below_8 : (z : ℤ) → low_bits 8 z < 2 ^ 8

@@ -34,7 +34,12 @@ remainder_left_out = refl
 remainder_left_out_reversed : of_eight (cut_out (pos 1 ∷ []) (pos 5 ∷ []) (pos 2 ∷ []) (true ∷ [])) ≡ pos 9 ∷ pos 5 ∷ []
 remainder_left_out_reversed = refl
 
-binned_dimension : region_dims (cut_out (pos 1 ∷ []) (pos 5 ∷ []) (pos 2 ∷ []) []) (plain 8 ∷ []) ≡ record { size = 2; offset = pos 1; binning = pos 2; reverse = false } ∷ []
+binned_dimension : region_dims (cut_out (pos 1 ∷ []) (pos 5 ∷ []) (pos 2 ∷ []) []) (plain 8 ∷ []) ≡ record {
+  size = 2;
+  offset = pos 1;
+  binning = pos 2;
+  reverse = false;
+} ∷ []
 binned_dimension = refl
 
 abbrev of_four : RoiRule → List ℤ
@@ -46,7 +51,8 @@ sum_is_reduced = refl
 sum_is_scaled_first : of_four (record (cut_out [] [] (pos 2 ∷ pos 2 ∷ []) []) { scale = 4 }) ≡ pos 65535 ∷ []
 sum_is_scaled_first = refl
 
-divides_toward_zero : region_samples (record (cut_out [] [] [] []) { scale = 2; out = Some Int8 }) Int16 (plain 3 ∷ []) (negsuc 2 ∷ pos 3 ∷ pos 300 ∷ []) ≡ negsuc 0 ∷ pos 1 ∷ negsuc 105 ∷ []
+divides_toward_zero : region_samples (record (cut_out [] [] [] []) { scale = 2; out = Some Int8 }) Int16 (plain 3 ∷ []) (negsuc 2 ∷ pos 3 ∷ pos 300 ∷ [])
+    ≡ negsuc 0 ∷ pos 1 ∷ negsuc 105 ∷ []
 divides_toward_zero = refl
 
 first_number_is_fastest : indices (2 ∷ 3 ∷ []) ≡ (0 ∷ 0 ∷ []) ∷ (1 ∷ 0 ∷ []) ∷ (0 ∷ 1 ∷ []) ∷ (1 ∷ 1 ∷ []) ∷ (0 ∷ 2 ∷ []) ∷ (1 ∷ 2 ∷ []) ∷ []

@@ -16,7 +16,8 @@ use nd_base::SampleType;
 pub(crate) fn add_line(kind: SampleType, input: &[u8], bin: u32, place: usize, sums: &mut [i64])
     requires within { place + length sums.old * bin ≤ length input.now / width kind }
     requires fit { (k : ℕ) → k < length sums.old → FitsSigned w64 (slice_index_or sums.old k (pos 0)) }
-    ensures { (k : ℕ) → k < length sums.new → slice_index_or sums.new k (pos 0) ≡ int_wrap w64 (slice_index_or sums.old k (pos 0) +ℤ run kind input.now bin (place + k * bin)) }
+    ensures { (k : ℕ) → k < length sums.new
+        → slice_index_or sums.new k (pos 0) ≡ int_wrap w64 (slice_index_or sums.old k (pos 0) +ℤ run kind input.now bin (place + k * bin)) }
 {
     let from = place * kind.width();
     add_binned(kind, &input[from..], bin, sums);
@@ -25,7 +26,8 @@ pub(crate) fn add_line(kind: SampleType, input: &[u8], bin: u32, place: usize, s
 /// Adds `bin` samples to each sum of 32 bits, those from `place` on to the first.
 pub(crate) fn add_low_line(kind: SampleType, input: &[u8], bin: u32, place: usize, sums: &mut [i32])
     requires { place + length sums.old * bin ≤ length input.now / width kind }
-    ensures { (k : ℕ) → k < length sums.new → slice_index_or sums.new k (pos 0) ≡ int_wrap w32 (slice_index_or sums.old k (pos 0) +ℤ run kind input.now bin (place + k * bin)) }
+    ensures { (k : ℕ) → k < length sums.new
+        → slice_index_or sums.new k (pos 0) ≡ int_wrap w32 (slice_index_or sums.old k (pos 0) +ℤ run kind input.now bin (place + k * bin)) }
 {
     let from = place * kind.width();
     add_binned_low(kind, &input[from..], bin, sums);

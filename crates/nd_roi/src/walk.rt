@@ -1,6 +1,7 @@
 //! The walk over the places of a region.
 
-ghost use Rattle.std.specs.Prelude.{◌≡◌, ℕ, ◌+◌, ◌*◌, ◌-◌, ◌/◌, ◌<◌, ◌≤◌, ◌++◌, length, take, drop, map, pos, ◌+ℤ◌, slice_index_or, reverse, sum_by, true, false, FitsSigned};
+ghost use Rattle.std.specs.Prelude.{◌≡◌, ℕ, ◌+◌, ◌*◌, ◌-◌, ◌/◌, ◌<◌, ◌≤◌, ◌++◌, length, take, drop, map, pos, ◌+ℤ◌, slice_index_or, reverse, sum_by, true};
+ghost use Rattle.std.specs.Prelude.{false, FitsSigned};
 ghost use Rattle.std.specs.List.{range_with_len};
 ghost use Rattle.std.specs.Int.{w32, w64, int_wrap};
 ghost use Rattle.std.specs.Int.RustNames.{int_div};
@@ -50,7 +51,8 @@ pub(crate) fn add_lines(
 )
     requires within { base + length sums.old * bin + sum_by bin_reach slower.now ≤ length input.now / width kind }
     requires fit { (k : ℕ) → k < length sums.old → FitsSigned w64 (slice_index_or sums.old k (pos 0)) }
-    ensures { (k : ℕ) → k < length sums.new → slice_index_or sums.new k (pos 0) ≡ int_wrap w64 (slice_index_or sums.old k (pos 0) +ℤ lines_total (reverse slower.now) (run kind input.now bin) (base + k * bin)) }
+    ensures { (k : ℕ) → k < length sums.new → slice_index_or sums.new k (pos 0)
+        ≡ int_wrap w64 (slice_index_or sums.old k (pos 0) +ℤ lines_total (reverse slower.now) (run kind input.now bin) (base + k * bin)) }
 {
     match slower.split_last() {
         None => add_line(kind, input, bin, base, sums),
@@ -74,7 +76,8 @@ pub(crate) fn add_low_lines(
 )
     requires within { base + length sums.old * bin + sum_by bin_reach slower.now ≤ length input.now / width kind }
     requires fit { (k : ℕ) → k < length sums.old → FitsSigned w32 (slice_index_or sums.old k (pos 0)) }
-    ensures { (k : ℕ) → k < length sums.new → slice_index_or sums.new k (pos 0) ≡ int_wrap w32 (slice_index_or sums.old k (pos 0) +ℤ lines_total (reverse slower.now) (run kind input.now bin) (base + k * bin)) }
+    ensures { (k : ℕ) → k < length sums.new → slice_index_or sums.new k (pos 0)
+        ≡ int_wrap w32 (slice_index_or sums.old k (pos 0) +ℤ lines_total (reverse slower.now) (run kind input.now bin) (base + k * bin)) }
 {
     match slower.split_last() {
         None => add_low_line(kind, input, bin, base, sums),
@@ -104,9 +107,11 @@ fn first_bin(line: Cut, done: usize, count: usize) -> usize
 /// `base` is the place of the first line that the bin covers.
 fn gather(job: &Job, input: &[u8], base: usize, done: usize, sums: &mut [i64])
     requires range { done + length sums.old ≤ job.now.line.size }
-    requires within { base + (job.now.line.min + job.now.line.size * job.now.line.bin) + sum_by bin_reach job.now.slower.now ≤ length input.now / width job.now.kind }
+    requires within { base + (job.now.line.min + job.now.line.size * job.now.line.bin)
+        + sum_by bin_reach job.now.slower.now ≤ length input.now / width job.now.kind }
     requires few { bins_of (reverse job.now.slower.now) * job.now.line.bin ≤ most_samples }
-    ensures { sums.new ≡ map (λ out. line_total job.now.kind input.now job.now.line (reverse job.now.slower.now) base out) (range_with_len done (length sums.old)) }
+    ensures { sums.new ≡ map (λ out. line_total job.now.kind input.now job.now.line (reverse job.now.slower.now) base out)
+        (range_with_len done (length sums.old)) }
 {
     let line = job.line;
     let first = first_bin(line, done, sums.len());
@@ -129,8 +134,10 @@ fn gather(job: &Job, input: &[u8], base: usize, done: usize, sums: &mut [i64])
 /// `base` is the place of the first line that the bin covers.
 fn gather_low(job: &Job, input: &[u8], base: usize, done: usize, sums: &mut [i32])
     requires range { done + length sums.old ≤ job.now.line.size }
-    requires within { base + (job.now.line.min + job.now.line.size * job.now.line.bin) + sum_by bin_reach job.now.slower.now ≤ length input.now / width job.now.kind }
-    ensures { sums.new ≡ map (λ out. int_wrap w32 (line_total job.now.kind input.now job.now.line (reverse job.now.slower.now) base out)) (range_with_len done (length sums.old)) }
+    requires within { base + (job.now.line.min + job.now.line.size * job.now.line.bin)
+        + sum_by bin_reach job.now.slower.now ≤ length input.now / width job.now.kind }
+    ensures { sums.new ≡ map (λ out. int_wrap w32 (line_total job.now.kind input.now job.now.line (reverse job.now.slower.now) base out))
+        (range_with_len done (length sums.old)) }
 {
     let line = job.line;
     let first = first_bin(line, done, sums.len());
@@ -153,10 +160,13 @@ fn gather_low(job: &Job, input: &[u8], base: usize, done: usize, sums: &mut [i32
 fn gather_divided(job: &Job, input: &[u8], base: usize, done: usize, quotients: &mut [i32])
     requires chunk { length quotients.old ≤ CHUNK }
     requires range { done + length quotients.old ≤ job.now.line.size }
-    requires within { base + (job.now.line.min + job.now.line.size * job.now.line.bin) + sum_by bin_reach job.now.slower.now ≤ length input.now / width job.now.kind }
+    requires within { base + (job.now.line.min + job.now.line.size * job.now.line.bin)
+        + sum_by bin_reach job.now.slower.now ≤ length input.now / width job.now.kind }
     requires few { bins_of (reverse job.now.slower.now) * job.now.line.bin ≤ most_samples }
     requires scale { 0 < job.now.scale }
-    ensures { quotients.new ≡ map (λ out. int_wrap w32 (int_div (line_total job.now.kind input.now job.now.line (reverse job.now.slower.now) base out) (pos job.now.scale))) (range_with_len done (length quotients.old)) }
+    ensures { quotients.new ≡ map
+        (λ out. int_wrap w32 (int_div (line_total job.now.kind input.now job.now.line (reverse job.now.slower.now) base out) (pos job.now.scale)))
+        (range_with_len done (length quotients.old)) }
 {
     let mut sums = [0i64; CHUNK];
     let sums = &mut sums[..quotients.len()];
@@ -170,7 +180,8 @@ fn fill_chunk(job: &Job, input: &[u8], base: usize, done: usize, sums: &mut [i32
     requires chunk { length sums.old ≤ CHUNK }
     requires range { done + length sums.old ≤ job.now.line.size }
     requires room { length out.old ≡ length sums.old * width job.now.out_kind }
-    requires within { base + (job.now.line.min + job.now.line.size * job.now.line.bin) + sum_by bin_reach job.now.slower.now ≤ length input.now / width job.now.kind }
+    requires within { base + (job.now.line.min + job.now.line.size * job.now.line.bin)
+        + sum_by bin_reach job.now.slower.now ≤ length input.now / width job.now.kind }
     requires few { bins_of (reverse job.now.slower.now) * job.now.line.bin ≤ most_samples }
     requires scale { 0 < job.now.scale }
     ensures { out.new ≡ line_bytes job.now.kind input.now job.now.line (reverse job.now.slower.now) job.now.scale job.now.out_kind base done (length sums.old) }
@@ -229,11 +240,13 @@ fn fill_line(
 ) -> usize
     requires chunk { length sums.old ≡ CHUNK }
     requires room { at + job.now.line.size * width job.now.out_kind ≤ length out.old }
-    requires within { base + (job.now.line.min + job.now.line.size * job.now.line.bin) + sum_by bin_reach job.now.slower.now ≤ length input.now / width job.now.kind }
+    requires within { base + (job.now.line.min + job.now.line.size * job.now.line.bin)
+        + sum_by bin_reach job.now.slower.now ≤ length input.now / width job.now.kind }
     requires few { bins_of (reverse job.now.slower.now) * job.now.line.bin ≤ most_samples }
     requires scale { 0 < job.now.scale }
     ensures next { result ≡ at + job.now.line.size * width job.now.out_kind }
-    ensures written { take result out.new ≡ take at out.old ++ line_bytes job.now.kind input.now job.now.line (reverse job.now.slower.now) job.now.scale job.now.out_kind base 0 job.now.line.size }
+    ensures written { take result out.new ≡ take at out.old
+        ++ line_bytes job.now.kind input.now job.now.line (reverse job.now.slower.now) job.now.scale job.now.out_kind base 0 job.now.line.size }
 {
     let width = job.out_kind.width();
     let size = job.line.size as usize;
@@ -279,11 +292,13 @@ pub(crate) fn fill_lines(
 ) -> usize
     requires chunk { length sums.old ≡ CHUNK }
     requires room { at + for_lines (reverse slower.now) (job.now.line.size * width job.now.out_kind) ≤ length out.old }
-    requires within { base + sum_by first_reach slower.now + (job.now.line.min + job.now.line.size * job.now.line.bin) + sum_by bin_reach job.now.slower.now ≤ length input.now / width job.now.kind }
+    requires within { base + sum_by first_reach slower.now + (job.now.line.min + job.now.line.size * job.now.line.bin)
+        + sum_by bin_reach job.now.slower.now ≤ length input.now / width job.now.kind }
     requires few { bins_of (reverse job.now.slower.now) * job.now.line.bin ≤ most_samples }
     requires scale { 0 < job.now.scale }
     ensures next { result ≡ at + for_lines (reverse slower.now) (job.now.line.size * width job.now.out_kind) }
-    ensures written { take result out.new ≡ take at out.old ++ lines (reverse slower.now) (λ at. line_bytes job.now.kind input.now job.now.line (reverse job.now.slower.now) job.now.scale job.now.out_kind at 0 job.now.line.size) base }
+    ensures written { take result out.new ≡ take at out.old ++ lines (reverse slower.now)
+        (λ at. line_bytes job.now.kind input.now job.now.line (reverse job.now.slower.now) job.now.scale job.now.out_kind at 0 job.now.line.size) base }
 {
     match slower.split_last() {
         None => fill_line(job, input, base, at, sums, out),

@@ -1,5 +1,6 @@
 -- Bins of a histogram, and products.
-use Rattle.std.proofs.Common.{◌≡◌, ◌≢◌, ℕ, zero, suc, ◌+◌, ◌-◌, ◌*◌, ◌/◌, ◌<◌, ◌≤◌, ◌^◌, sym, subst, arith, ℤ, pos, negsuc, ◌-ℤ◌, ◌*ℤ◌, ◌≤ℤ◌, ◌<ℤ◌, w64, FitsSigned}
+use Rattle.std.proofs.Common.{◌≡◌, ◌≢◌, ℕ, zero, suc, ◌+◌, ◌-◌, ◌*◌, ◌/◌, ◌<◌, ◌≤◌, ◌^◌, sym, subst, arith, ℤ, pos, negsuc, ◌-ℤ◌, ◌*ℤ◌, ◌≤ℤ◌, ◌<ℤ◌, w64}
+use Rattle.std.proofs.Common.{FitsSigned}
 use Rattle.std.proofs.Common.{List, [], ◌∷◌, ◌++◌, length, ap, ◌∙◌, inl, inr, length-append}
 use Rattle.std.specs.Prelude.{unsigned_abs}
 use Rattle.std.proofs.lemmas.Bool.{cases_lt}
@@ -67,7 +68,8 @@ bin_of_range rule v stats some from to =
     (within_range rule.hist_lo v rule.hist_hi from to) (range_positive rule.hist_lo rule.hist_hi (stats.ordered some)) (omega (arith, some))
 
 -- one bin more in the list
-pub bins_push : (rule : StatsRule) (bins : List ℕ) (b : ℕ) → AreBins rule bins → (let range = unsigned_abs (rule.hist_hi -ℤ rule.hist_lo) in b ≡ (2 * length bins * (rule.hist_size - 1) + range) / (2 * range)) → AreBins rule (bins ++ b ∷ [])
+pub bins_push : (rule : StatsRule) (bins : List ℕ) (b : ℕ) → AreBins rule bins → (let range = unsigned_abs (rule.hist_hi -ℤ rule.hist_lo) in
+    b ≡ (2 * length bins * (rule.hist_size - 1) + range) / (2 * range)) → AreBins rule (bins ++ b ∷ [])
 bins_push rule bins b are e = λ k h.
     let long = length-append bins (b ∷ []) in
     elim (cases_lt k (length bins)) [
@@ -91,5 +93,6 @@ pub mark_small : (b r a m range : ℕ) → b * (2 * range) + r ≡ 2 * a * m + r
 mark_small b r a m range e h some few =
     elim (cases_lt b 2047) [
       | inl below ↦ omega (arith, below)
-      | inr over ↦ absurd (let p : 2047 * range ≤ b * range = mul-le-mul_right range over in let q : a * m ≤ (range + 1) * 1023 = mul-le-mul h few in omega (arith, p, q, e, some))
+      | inr over ↦ absurd (let p : 2047 * range ≤ b * range = mul-le-mul_right range over in let q : a * m ≤ (range + 1) * 1023 = mul-le-mul h few in
+          omega (arith, p, q, e, some))
     ]

@@ -1,5 +1,6 @@
 -- Bounds of sums.
-use Rattle.std.proofs.Common.{ℕ, zero, suc, ◌*◌, ◌<◌, ◌≤◌, ◌^◌, Bool, true, false, cond, List, [], ◌∷◌, ◌++◌, length, filter, arith, ℤ, pos, ◌*ℤ◌, nat_lt, sum_by}
+use Rattle.std.proofs.Common.{ℕ, zero, suc, ◌*◌, ◌<◌, ◌≤◌, ◌^◌, Bool, true, false, cond, List, [], ◌∷◌, ◌++◌, length, filter, arith, ℤ, pos, ◌*ℤ◌, nat_lt}
+use Rattle.std.proofs.Common.{sum_by}
 use Rattle.std.specs.List.{list_all}
 use Rattle.std.specs.Prelude.{unsigned_abs}
 use Rattle.std.proofs.Math.Nat.{mul-le-mul, mul-le-mul_left, mul-le-mul_right, suc-mul}
@@ -17,7 +18,8 @@ use Rattle.nd_stats.specs.Tallies.{AreSmall, HasRoom}
 use Rattle.nd_stats.proofs.Sums.{abs-add, count-le}
 use Rattle.nd_stats.proofs.Places.{AreSizes}
 
-pub sum-bound : (f : Sample → ℤ) (b : ℕ) → ((s : Sample) → IsSmall s.value → unsigned_abs (f s) ≤ b) → (xs : List Sample) → AreSmall xs → unsigned_abs (sum_of f xs) ≤ length xs * b
+pub sum-bound : (f : Sample → ℤ) (b : ℕ) → ((s : Sample) → IsSmall s.value → unsigned_abs (f s) ≤ b) → (xs : List Sample) → AreSmall xs
+    → unsigned_abs (sum_of f xs) ≤ length xs * b
 sum-bound f b each [] small = omega arith
 sum-bound f b each (s ∷ xs) small =
     let here = each s small.0 in
@@ -38,7 +40,8 @@ pub AreSmall-more : (xs : List Sample) (s : Sample) → AreSmall xs → IsSmall 
 AreSmall-more [] s small h = (h, tt)
 AreSmall-more (t ∷ xs) s small h = (small.0, AreSmall-more xs s small.1 h)
 
-pub sum_where-bound : (p : Sample → Bool) (f : Sample → ℤ) (b : ℕ) → ((s : Sample) → IsSmall s.value → unsigned_abs (f s) ≤ b) → (xs : List Sample) → AreSmall xs → unsigned_abs (sum_of f (filter p xs)) ≤ length xs * b
+pub sum_where-bound : (p : Sample → Bool) (f : Sample → ℤ) (b : ℕ) → ((s : Sample) → IsSmall s.value → unsigned_abs (f s) ≤ b) → (xs : List Sample)
+    → AreSmall xs → unsigned_abs (sum_of f (filter p xs)) ≤ length xs * b
 sum_where-bound p f b each xs small =
     let some = sum-bound f b each (filter p xs) (AreSmall-filter p xs small) in
     let fewer = mul-le-mul_right b (count-le p xs) in
@@ -54,13 +57,15 @@ value_room xs small few = let b = sum-bound (λ s. s.value) 4294967296 value-bou
 pub where_room : (p : Sample → Bool) (xs : List Sample) → AreSmall xs → length xs ≤ 67108864 → HasRoom (sum_of (λ s. s.value) (filter p xs))
 where_room p xs small few = let b = sum_where-bound p (λ s. s.value) 4294967296 value-bound xs small in omega (arith, b, few)
 
-pub moment-each : (dims : List Dim) (k : ℕ) → ((p : ℕ) → index_in dims k p ≤ 67108864) → (s : Sample) → IsSmall s.value → unsigned_abs (pos (index_in dims k s.place) *ℤ s.value) ≤ 288230376151711744
+pub moment-each : (dims : List Dim) (k : ℕ) → ((p : ℕ) → index_in dims k p ≤ 67108864) → (s : Sample) → IsSmall s.value
+    → unsigned_abs (pos (index_in dims k s.place) *ℤ s.value) ≤ 288230376151711744
 moment-each dims k within s h =
     let e = unsigned_abs-mul (pos (index_in dims k s.place)) s.value in
     let m : index_in dims k s.place * unsigned_abs s.value ≤ 67108864 * 4294967296 = mul-le-mul (within s.place) (value-bound s h) in
     rw e (omega (arith, m))
 
-pub moment_room : (dims : List Dim) (k : ℕ) (p : Sample → Bool) → ((q : ℕ) → index_in dims k q ≤ 67108864) → (xs : List Sample) → AreSmall xs → length xs ≤ 67108864 → unsigned_abs (sum_of (λ s. pos (index_in dims k s.place) *ℤ s.value) (filter p xs)) < 2 ^ 100
+pub moment_room : (dims : List Dim) (k : ℕ) (p : Sample → Bool) → ((q : ℕ) → index_in dims k q ≤ 67108864) → (xs : List Sample) → AreSmall xs
+    → length xs ≤ 67108864 → unsigned_abs (sum_of (λ s. pos (index_in dims k s.place) *ℤ s.value) (filter p xs)) < 2 ^ 100
 moment_room dims k p within xs small few =
     let b = sum_where-bound p (λ s. pos (index_in dims k s.place) *ℤ s.value) 288230376151711744 (moment-each dims k within) xs small in
     omega (arith, b, few)

@@ -1,5 +1,6 @@
 -- The first places of the least and the greatest sample.
-use Rattle.std.proofs.Common.{◌≡◌, ◌≢◌, ℕ, zero, suc, ◌+◌, ◌*◌, ◌<◌, ◌≤◌, List, [], ◌∷◌, ◌++◌, length, take, drop, get_or, refl, ap, sym, ◌∙◌, arith, ℤ, pos, Bool, true, false, Some}
+use Rattle.std.proofs.Common.{◌≡◌, ◌≢◌, ℕ, zero, suc, ◌+◌, ◌*◌, ◌<◌, ◌≤◌, List, [], ◌∷◌, ◌++◌, length, take, drop, get_or, refl, ap, sym, ◌∙◌, arith, ℤ}
+use Rattle.std.proofs.Common.{pos, Bool, true, false, Some}
 use Rattle.std.specs.Prelude.{int_lt, if◌then◌else◌}
 use Rattle.std.specs.Int.{int_min, int_max}
 use Rattle.std.proofs.Math.Nat.{zero-mul, suc-mul}
@@ -23,7 +24,8 @@ get_or-numbers kind (suc n) zero bytes h = ap (λ m. number kind (take (width ki
 get_or-numbers kind (suc n) (suc k) bytes h =
     let w = width kind in
     get_or-numbers kind n k (drop w bytes) (omega arith)
-    ∙ ap (λ rest. number kind (take w rest)) (drop-drop (k * w) w bytes ∙ ap (λ m. drop m bytes) (let e : k * w + w ≡ suc k * w = (let s = suc-mul k w in omega arith) in let f : w + k * w ≡ suc k * w = omega arith in f))
+    ∙ ap (λ rest. number kind (take w rest)) (drop-drop (k * w) w bytes
+    ∙ ap (λ m. drop m bytes) (let e : k * w + w ≡ suc k * w = (let s = suc-mul k w in omega arith) in let f : w + k * w ≡ suc k * w = omega arith in f))
 
 is_min : (v w : ℤ) → (if int_lt w v then w else v) ≡ int_min v w
 is_min v w = grind (arith, ints)
@@ -49,7 +51,8 @@ least_further false s l n ne h = absurd (ne refl)
 
 -- the first value that is the least has its place
 pub least_place : (p : ℕ) (v : ℤ) (vs : List ℤ) (i : ℕ) → (i < suc (length vs) → get_or (v ∷ vs) i (pos 0) ≡ (least_from (one p v) (placed (p + 1) vs)).value)
-    → ((j : ℕ) → j < i → get_or (v ∷ vs) j (pos 0) ≢ (least_from (one p v) (placed (p + 1) vs)).value) → (least_from (one p v) (placed (p + 1) vs)).place ≡ p + i
+    → ((j : ℕ) → j < i → get_or (v ∷ vs) j (pos 0) ≢ (least_from (one p v) (placed (p + 1) vs)).value)
+    → (least_from (one p v) (placed (p + 1) vs)).place ≡ p + i
 least_place p v [] zero is first = omega arith
 least_place p v [] (suc i) is first = absurd (first 0 (omega arith) refl)
 least_place p v (w ∷ vs) zero is first =
@@ -88,8 +91,10 @@ greatest_further true s l n ne h = h refl
 greatest_further false s l n ne h = absurd (ne refl)
 
 -- the first value that is the greatest has its place
-pub greatest_place : (p : ℕ) (v : ℤ) (vs : List ℤ) (i : ℕ) → (i < suc (length vs) → get_or (v ∷ vs) i (pos 0) ≡ (greatest_from (one p v) (placed (p + 1) vs)).value)
-    → ((j : ℕ) → j < i → get_or (v ∷ vs) j (pos 0) ≢ (greatest_from (one p v) (placed (p + 1) vs)).value) → (greatest_from (one p v) (placed (p + 1) vs)).place ≡ p + i
+pub greatest_place : (p : ℕ) (v : ℤ) (vs : List ℤ) (i : ℕ)
+    → (i < suc (length vs) → get_or (v ∷ vs) i (pos 0) ≡ (greatest_from (one p v) (placed (p + 1) vs)).value)
+    → ((j : ℕ) → j < i → get_or (v ∷ vs) j (pos 0) ≢ (greatest_from (one p v) (placed (p + 1) vs)).value)
+    → (greatest_from (one p v) (placed (p + 1) vs)).place ≡ p + i
 greatest_place p v [] zero is first = omega arith
 greatest_place p v [] (suc i) is first = absurd (first 0 (omega arith) refl)
 greatest_place p v (w ∷ vs) zero is first =
@@ -106,7 +111,8 @@ greatest_place p v (w ∷ vs) (suc i) is first =
     greatest_place (p + 1) w vs i (λ k. is (omega arith) ∙ same) (λ j k f. first (suc j) (omega arith) (f ∙ sym same)) ∙ e)
 
 -- the least of a block
-pub least_block : (kind : SampleType) (p n : ℕ) (bytes : List ℕ) (v : ℤ) → 0 < n → Some v ≡ plain_least (numbers kind n bytes) → v ≡ (least (placed p (numbers kind n bytes))).value
+pub least_block : (kind : SampleType) (p n : ℕ) (bytes : List ℕ) (v : ℤ) → 0 < n → Some v ≡ plain_least (numbers kind n bytes)
+    → v ≡ (least (placed p (numbers kind n bytes))).value
 least_block kind p zero bytes v h e = absurd (omega arith)
 least_block kind p (suc n) bytes v h e =
     let first = number kind (take (width kind) bytes) in
@@ -115,7 +121,8 @@ least_block kind p (suc n) bytes v h e =
     same ∙ sym (least_value p first vs)
 
 -- and its place
-pub least_block_place : (kind : SampleType) (p n i : ℕ) (bytes : List ℕ) (v : ℤ) → 0 < n → v ≡ (least (placed p (numbers kind n bytes))).value → (i < n → stored kind bytes i ≡ v) → ((k : ℕ) → k < i → stored kind bytes k ≢ v) → i ≤ n → p + i ≡ (least (placed p (numbers kind n bytes))).place
+pub least_block_place : (kind : SampleType) (p n i : ℕ) (bytes : List ℕ) (v : ℤ) → 0 < n → v ≡ (least (placed p (numbers kind n bytes))).value
+    → (i < n → stored kind bytes i ≡ v) → ((k : ℕ) → k < i → stored kind bytes k ≢ v) → i ≤ n → p + i ≡ (least (placed p (numbers kind n bytes))).place
 least_block_place kind p zero i bytes v h e here first within = absurd (omega arith)
 least_block_place kind p (suc n) i bytes v h e here first within =
     let v0 = number kind (take (width kind) bytes) in
@@ -125,7 +132,8 @@ least_block_place kind p (suc n) i bytes v h e here first within =
     (λ j k f. first j k (sym (get_or-numbers kind (suc n) j bytes (omega arith)) ∙ f ∙ sym e)))
 
 -- the greatest of a block
-pub greatest_block : (kind : SampleType) (p n : ℕ) (bytes : List ℕ) (v : ℤ) → 0 < n → Some v ≡ plain_greatest (numbers kind n bytes) → v ≡ (greatest (placed p (numbers kind n bytes))).value
+pub greatest_block : (kind : SampleType) (p n : ℕ) (bytes : List ℕ) (v : ℤ) → 0 < n → Some v ≡ plain_greatest (numbers kind n bytes)
+    → v ≡ (greatest (placed p (numbers kind n bytes))).value
 greatest_block kind p zero bytes v h e = absurd (omega arith)
 greatest_block kind p (suc n) bytes v h e =
     let first = number kind (take (width kind) bytes) in
@@ -134,7 +142,8 @@ greatest_block kind p (suc n) bytes v h e =
     same ∙ sym (greatest_value p first vs)
 
 -- and its place
-pub greatest_block_place : (kind : SampleType) (p n i : ℕ) (bytes : List ℕ) (v : ℤ) → 0 < n → v ≡ (greatest (placed p (numbers kind n bytes))).value → (i < n → stored kind bytes i ≡ v) → ((k : ℕ) → k < i → stored kind bytes k ≢ v) → i ≤ n → p + i ≡ (greatest (placed p (numbers kind n bytes))).place
+pub greatest_block_place : (kind : SampleType) (p n i : ℕ) (bytes : List ℕ) (v : ℤ) → 0 < n → v ≡ (greatest (placed p (numbers kind n bytes))).value
+    → (i < n → stored kind bytes i ≡ v) → ((k : ℕ) → k < i → stored kind bytes k ≢ v) → i ≤ n → p + i ≡ (greatest (placed p (numbers kind n bytes))).place
 greatest_block_place kind p zero i bytes v h e here first within = absurd (omega arith)
 greatest_block_place kind p (suc n) i bytes v h e here first within =
     let v0 = number kind (take (width kind) bytes) in
@@ -161,8 +170,10 @@ test_right v w l b h e = ap (λ z. int_lt w z) (sym e) ∙ h
 -- the extremes with those of a block
 pub extremes_block : (first : Sample) (xs : List Sample) (p n : ℕ) (kind : SampleType) (bytes : List ℕ) (e f : Extremes) → 0 < n → AreExtremes first xs e
     → (let ys = placed p (numbers kind n bytes) in
-    (f.min ≡ (if int_lt (least ys).value e.min then (least ys).value else e.min)) → (f.min_at ≡ (if int_lt (least ys).value e.min then (least ys).place else e.min_at))
-    → (f.max ≡ (if int_lt e.max (greatest ys).value then (greatest ys).value else e.max)) → (f.max_at ≡ (if int_lt e.max (greatest ys).value then (greatest ys).place else e.max_at))
+    (f.min ≡ (if int_lt (least ys).value e.min then (least ys).value else e.min))
+    → (f.min_at ≡ (if int_lt (least ys).value e.min then (least ys).place else e.min_at))
+    → (f.max ≡ (if int_lt e.max (greatest ys).value then (greatest ys).value else e.max))
+    → (f.max_at ≡ (if int_lt e.max (greatest ys).value then (greatest ys).place else e.max_at))
     → AreExtremes first (xs ++ ys) f)
 extremes_block first xs p zero kind bytes e f some are a b c d = absurd (omega arith)
 extremes_block first xs p (suc n) kind bytes e f some are a b c d =
@@ -176,7 +187,9 @@ extremes_block first xs p (suc n) kind bytes e f some are a b c d =
     let hi = greatest-both first xs u ys in
     record {
       min = a ∙ ap (λ m. if int_lt l.value m then l.value else m) are.min ∙ lo.0;
-      min_at = b ∙ ap (λ m. if int_lt l.value m then l.place else e.min_at) are.min ∙ ap (λ q. if int_lt l.value low.value then l.place else q) are.min_at ∙ lo.1;
+      min_at = b ∙ ap (λ m. if int_lt l.value m then l.place else e.min_at) are.min ∙ ap (λ q. if int_lt l.value low.value then l.place else q) are.min_at
+          ∙ lo.1;
       max = c ∙ ap (λ m. if int_lt m g.value then g.value else m) are.max ∙ hi.0;
-      max_at = d ∙ ap (λ m. if int_lt m g.value then g.place else e.max_at) are.max ∙ ap (λ q. if int_lt high.value g.value then g.place else q) are.max_at ∙ hi.1;
+      max_at = d ∙ ap (λ m. if int_lt m g.value then g.place else e.max_at) are.max ∙ ap (λ q. if int_lt high.value g.value then g.place else q) are.max_at
+          ∙ hi.1;
     }

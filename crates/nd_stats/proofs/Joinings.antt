@@ -20,7 +20,8 @@ over_join t xs k at vs a b c here one two e f g =
     let back : k + 0 ≡ at = omega (arith, here) in
     record {
       count = e ∙ ap (λ n. n + b.count) one.count ∙ ap (λ n. count_where p xs + n) (two.count ∙ count_moved t 0 at vs) ∙ sym (count-append p xs (placed at vs));
-      sum = f ∙ ap (λ z. z +ℤ b.sum) one.sum ∙ ap (λ z. value_where p xs +ℤ z) (two.sum ∙ value_moved t 0 at vs) ∙ sym (sum_where-append p (λ s. s.value) xs (placed at vs));
+      sum = f ∙ ap (λ z. z +ℤ b.sum) one.sum ∙ ap (λ z. value_where p xs +ℤ z) (two.sum ∙ value_moved t 0 at vs)
+          ∙ sym (sum_where-append p (λ s. s.value) xs (placed at vs));
       weighted = g ∙ ap (λ z. z +ℤ (b.weighted +ℤ (pos k *ℤ b.sum))) one.weighted
           ∙ ap (λ z. weighted t xs +ℤ (z +ℤ (pos k *ℤ b.sum))) two.weighted ∙ ap (λ z. weighted t xs +ℤ (weighted t (placed 0 vs) +ℤ (pos k *ℤ z))) two.sum
           ∙ ap (λ z. weighted t xs +ℤ z) (sym (weighted_moved t k 0 vs) ∙ ap (λ n. weighted t (placed n vs)) back)
@@ -34,7 +35,8 @@ part_count kind m n e = ap (λ k. k / width kind) e ∙ mul-div_cancel m (width-
 pub sums_most : (a b c : ℤ) (k m : ℕ) → c ≡ a +ℤ b → unsigned_abs a ≤ k * 4294967296 → unsigned_abs b ≤ m * 4294967296 → unsigned_abs c ≤ (k + m) * 4294967296
 sums_most a b c k m e h l = let s = abs-add a b in rw e (omega (arith, s))
 
-pub weighted_most : (a b d c : ℤ) (k m : ℕ) → c ≡ a +ℤ (b +ℤ (pos k *ℤ d)) → k ≤ 8192 → unsigned_abs a ≤ k * 70368744177664 → unsigned_abs b ≤ m * 549755813888 → unsigned_abs d ≤ m * 4294967296 → unsigned_abs c ≤ (k + m) * 70368744177664
+pub weighted_most : (a b d c : ℤ) (k m : ℕ) → c ≡ a +ℤ (b +ℤ (pos k *ℤ d)) → k ≤ 8192 → unsigned_abs a ≤ k * 70368744177664
+    → unsigned_abs b ≤ m * 549755813888 → unsigned_abs d ≤ m * 4294967296 → unsigned_abs c ≤ (k + m) * 70368744177664
 weighted_most a b d c k m e few h l n =
     let s = abs-add a (b +ℤ (pos k *ℤ d)) in
     let t = abs-add b (pos k *ℤ d) in

@@ -27,7 +27,8 @@ get_or-summed (x ∷ xs) (y ∷ ys) zero = refl
 get_or-summed (x ∷ xs) (y ∷ ys) (suc k) = get_or-summed xs ys k
 
 -- one partner more
-pub summed-more : (xs ys : List ℤ) (k : ℕ) → k < length ys → length xs ≡ length ys → set (summed xs (take k ys)) k (get_or xs k (pos 0) +ℤ get_or ys k (pos 0)) ≡ summed xs (take (suc k) ys)
+pub summed-more : (xs ys : List ℤ) (k : ℕ) → k < length ys → length xs ≡ length ys
+    → set (summed xs (take k ys)) k (get_or xs k (pos 0) +ℤ get_or ys k (pos 0)) ≡ summed xs (take (suc k) ys)
 summed-more [] [] k h e = absurd (omega arith)
 summed-more [] (y ∷ ys) k h e = absurd (omega arith)
 summed-more (x ∷ xs) [] k h e = absurd (omega arith)
@@ -53,6 +54,8 @@ pub room_sum : (a b : ℤ) → HasRoom a → HasRoom b → to_z w64 (of_z w64 (t
 room_sum a b ha hb = stored_sum w64 a b (fits_room a ha) (fits_room b hb) (fits_rooms a b ha hb)
 
 -- a sum of two moments
-pub moment_sum : (a b : ℤ) → unsigned_abs a < 2 ^ 100 → unsigned_abs b < 2 ^ 100 → to_z w128 (of_z w128 (to_z w128 (of_z w128 a) +ℤ to_z w128 (of_z w128 b))) ≡ a +ℤ b
+pub moment_sum : (a b : ℤ) → unsigned_abs a < 2 ^ 100 → unsigned_abs b < 2 ^ 100
+    → to_z w128 (of_z w128 (to_z w128 (of_z w128 a) +ℤ to_z w128 (of_z w128 b))) ≡ a +ℤ b
 moment_sum a b ha hb =
-    stored_sum w128 a b (fits_signed_from_abs w128 a (omega arith)) (fits_signed_from_abs w128 b (omega arith)) (fits_signed_from_abs w128 (a +ℤ b) (let s = abs-add a b in omega (arith, s)))
+    stored_sum w128 a b (fits_signed_from_abs w128 a (omega arith)) (fits_signed_from_abs w128 b (omega arith))
+    (fits_signed_from_abs w128 (a +ℤ b) (let s = abs-add a b in omega (arith, s)))

@@ -1,5 +1,6 @@
 -- The measure of two pieces.
-use Rattle.std.proofs.Common.{◌≡◌, ℕ, ◌+◌, ◌<◌, ◌≤◌, List, [], ◌∷◌, ◌++◌, length, refl, ap, sym, subst, ◌∙◌, arith, ℤ, pos, ◌*ℤ◌, true, false, Bool, length-append}
+use Rattle.std.proofs.Common.{◌≡◌, ℕ, ◌+◌, ◌<◌, ◌≤◌, List, [], ◌∷◌, ◌++◌, length, refl, ap, sym, subst, ◌∙◌, arith, ℤ, pos, ◌*ℤ◌, true, false, Bool}
+use Rattle.std.proofs.Common.{length-append}
 use Rattle.std.specs.Prelude.{if◌then◌else◌}
 use Rattle.std.proofs.lemmas.List.Sums.{sum_by-append}
 use Rattle.nd_base.specs.declared.array.Dim.{Dim}
@@ -32,12 +33,14 @@ small_later : (xs ys : List Sample) → AreSmall (xs ++ ys) → AreSmall ys
 small_later [] ys small = small
 small_later (s ∷ xs) ys small = small_later xs ys small.1
 
-profile_rooms : (b : Bool) (dims : List Dim) (d n : ℕ) (xs : List Sample) → AreSmall xs → length xs ≤ 67108864 → HaveRoom (if b then table (λ k. value_where (has_index dims d k) xs) 0 n else [])
+profile_rooms : (b : Bool) (dims : List Dim) (d n : ℕ) (xs : List Sample) → AreSmall xs → length xs ≤ 67108864
+    → HaveRoom (if b then table (λ k. value_where (has_index dims d k) xs) 0 n else [])
 profile_rooms true dims d n xs small few = profile_room dims d n xs small few
 profile_rooms false dims d n xs small few = λ k h. absurd (omega arith)
 
 -- the numbers of so few samples have room for as much again
-pub rooms_of : (rule : StatsRule) (id : ℤ) (dims : List Dim) (xs : List Sample) → IsFrame rule dims → AreSmall xs → length xs ≤ 67108864 → HasRooms (measured rule id dims xs)
+pub rooms_of : (rule : StatsRule) (id : ℤ) (dims : List Dim) (xs : List Sample) → IsFrame rule dims → AreSmall xs → length xs ≤ 67108864
+    → HasRooms (measured rule id dims xs)
 unfolding measured
 rooms_of rule id dims xs frame small few =
     let index = λ (k p : ℕ). index_most dims k p frame.sizes frame.few in
@@ -79,7 +82,9 @@ lengths_of rule id dims xs ys = record {
   y = same_length_if rule.profiles (λ k. value_where (has_index dims 1 k) xs) (λ k. value_where (has_index dims 1 k) ys) (size_in dims 1);
 }
 
-bins-both : (rule : StatsRule) (xs ys : List Sample) (n : ℕ) → summed (table (λ k. pos (count_where (is_in_bin rule k) xs)) 0 n) (table (λ k. pos (count_where (is_in_bin rule k) ys)) 0 n) ≡ table (λ k. pos (count_where (is_in_bin rule k) (xs ++ ys))) 0 n
+bins-both : (rule : StatsRule) (xs ys : List Sample) (n : ℕ)
+    → summed (table (λ k. pos (count_where (is_in_bin rule k) xs)) 0 n) (table (λ k. pos (count_where (is_in_bin rule k) ys)) 0 n)
+    ≡ table (λ k. pos (count_where (is_in_bin rule k) (xs ++ ys))) 0 n
 bins-both rule xs ys n =
     summed-table (λ k. pos (count_where (is_in_bin rule k) xs)) (λ k. pos (count_where (is_in_bin rule k) ys)) 0 n
     ∙ table-same _ _ 0 n (λ k h. ap pos (sym (count-append (is_in_bin rule k) xs ys)))
@@ -92,7 +97,8 @@ profile-both true dims d n xs ys =
     summed-table (λ k. value_where (has_index dims d k) xs) (λ k. value_where (has_index dims d k) ys) 0 n
     ∙ table-same _ _ 0 n (λ k h. sym (sum_where-append (has_index dims d k) (λ s. s.value) xs ys))
 
-joined-some : (rule : StatsRule) (id : ℤ) (dims : List Dim) (s : Sample) (xs : List Sample) (u : Sample) (ys : List Sample) → joined (measured rule id dims (s ∷ xs)) (measured rule id dims (u ∷ ys)) ≡ measured rule id dims ((s ∷ xs) ++ (u ∷ ys))
+joined-some : (rule : StatsRule) (id : ℤ) (dims : List Dim) (s : Sample) (xs : List Sample) (u : Sample) (ys : List Sample)
+    → joined (measured rule id dims (s ∷ xs)) (measured rule id dims (u ∷ ys)) ≡ measured rule id dims ((s ∷ xs) ++ (u ∷ ys))
 unfolding measured
 joined-some rule id dims s xs u ys =
     let a = s ∷ xs in
@@ -115,7 +121,8 @@ joined-some rule id dims s xs u ys =
     let y = profile-both rule.profiles dims 1 (size_in dims 1) a b in
     cc (low.0, low.1, high.0, high.1, n, total, squares, border, border_n, over, m0, mx, my, below, above, bins, x, y)
 
-pub joined-measured : (rule : StatsRule) (id : ℤ) (dims : List Dim) (xs ys : List Sample) → 0 < length xs → 0 < length ys → joined (measured rule id dims xs) (measured rule id dims ys) ≡ measured rule id dims (xs ++ ys)
+pub joined-measured : (rule : StatsRule) (id : ℤ) (dims : List Dim) (xs ys : List Sample) → 0 < length xs → 0 < length ys
+    → joined (measured rule id dims xs) (measured rule id dims ys) ≡ measured rule id dims (xs ++ ys)
 joined-measured rule id dims [] ys some more = absurd (omega arith)
 joined-measured rule id dims (s ∷ xs) [] some more = absurd (omega arith)
 joined-measured rule id dims (s ∷ xs) (u ∷ ys) some more = joined-some rule id dims s xs u ys
@@ -131,11 +138,13 @@ can_join a b can =
     let few = are.frame.few in (
       subst HasRooms (sym are.one) (rooms_of p.rule p.id p.dims p.first are.frame (small_first p.first p.later are.small) (omega (arith, both, fits, few))),
       subst HasRooms (sym are.two) (rooms_of p.rule p.id p.dims p.later are.frame (small_later p.first p.later are.small) (omega (arith, both, fits, few))),
-      subst (λ m. HaveSameLengths m b) (sym are.one) (subst (λ m. HaveSameLengths (measured p.rule p.id p.dims p.first) m) (sym are.two) (lengths_of p.rule p.id p.dims p.first p.later)),
+      subst (λ m. HaveSameLengths m b) (sym are.one)
+          (subst (λ m. HaveSameLengths (measured p.rule p.id p.dims p.first) m) (sym are.two) (lengths_of p.rule p.id p.dims p.first p.later)),
     )
 
 -- the two in one are the measure of both pieces
 pub merged-joined : (a b both : Measure) → both ≡ joined a b → IsMerged a b both
 unfolding IsMerged
 merged-joined a b both e =
-    λ p are. e ∙ ap (λ m. joined m b) are.one ∙ ap (joined (measured p.rule p.id p.dims p.first)) are.two ∙ joined-measured p.rule p.id p.dims p.first p.later are.some are.more
+    λ p are. e ∙ ap (λ m. joined m b) are.one ∙ ap (joined (measured p.rule p.id p.dims p.first)) are.two
+    ∙ joined-measured p.rule p.id p.dims p.first p.later are.some are.more

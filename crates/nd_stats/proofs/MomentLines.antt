@@ -17,7 +17,8 @@ use Rattle.nd_stats.proofs.Bounds.{where_room, moment_room}
 use Rattle.nd_stats.proofs.Rooms.{count_room, index_most}
 
 -- with the samples of a line
-pub moments_line : (rule : StatsRule) (dims : List Dim) (xs : List Sample) (p x y : ℕ) (vs : List ℤ) (a b : Moments) (o : Over) → AreMoments rule dims xs a → IsOver rule.threshold (placed 0 vs) o
+pub moments_line : (rule : StatsRule) (dims : List Dim) (xs : List Sample) (p x y : ℕ) (vs : List ℤ) (a b : Moments) (o : Over) → AreMoments rule dims xs a
+    → IsOver rule.threshold (placed 0 vs) o
     → x ≡ index_in dims 0 p → y ≡ index_in dims 1 p → x + length vs ≤ size_in dims 0
     → b.over ≡ a.over + o.count → b.m0 ≡ a.m0 +ℤ o.sum → b.mx ≡ a.mx +ℤ (o.weighted +ℤ (pos x *ℤ o.sum)) → b.my ≡ a.my +ℤ (pos y *ℤ o.sum)
     → AreMoments rule dims (xs ++ placed p vs) b
@@ -27,10 +28,13 @@ moments_line rule dims xs p x y vs a b o are is ex ey fits e f g h =
     let back : x + 0 ≡ x = omega arith in
     record {
       over = e ∙ ap (λ n. n + o.count) are.over ∙ ap (λ n. count_where q xs + n) (is.count ∙ count_moved t 0 p vs) ∙ sym (count-append q xs (placed p vs));
-      m0 = f ∙ ap (λ z. z +ℤ o.sum) are.m0 ∙ ap (λ z. value_where q xs +ℤ z) (is.sum ∙ value_moved t 0 p vs) ∙ sym (sum_where-append q (λ s. s.value) xs (placed p vs));
+      m0 = f ∙ ap (λ z. z +ℤ o.sum) are.m0 ∙ ap (λ z. value_where q xs +ℤ z) (is.sum ∙ value_moved t 0 p vs)
+          ∙ sym (sum_where-append q (λ s. s.value) xs (placed p vs));
       mx = g ∙ ap (λ z. z +ℤ (o.weighted +ℤ (pos x *ℤ o.sum))) are.mx
-          ∙ ap (λ z. moment rule dims 0 xs +ℤ (z +ℤ (pos x *ℤ o.sum))) is.weighted ∙ ap (λ z. moment rule dims 0 xs +ℤ (weighted t (placed 0 vs) +ℤ (pos x *ℤ z))) is.sum
-          ∙ ap (λ z. moment rule dims 0 xs +ℤ z) (sym (weighted_moved t x 0 vs) ∙ ap (λ n. weighted t (placed n vs)) back ∙ sym (moment_along rule dims p x vs (sym ex) fits))
+          ∙ ap (λ z. moment rule dims 0 xs +ℤ (z +ℤ (pos x *ℤ o.sum))) is.weighted
+          ∙ ap (λ z. moment rule dims 0 xs +ℤ (weighted t (placed 0 vs) +ℤ (pos x *ℤ z))) is.sum
+          ∙ ap (λ z. moment rule dims 0 xs +ℤ z) (sym (weighted_moved t x 0 vs) ∙ ap (λ n. weighted t (placed n vs)) back
+          ∙ sym (moment_along rule dims p x vs (sym ex) fits))
           ∙ sym (sum_where-append q (λ s. pos (index_in dims 0 s.place) *ℤ s.value) xs (placed p vs));
       my = h ∙ ap (λ z. z +ℤ (pos y *ℤ o.sum)) are.my ∙ ap (λ z. moment rule dims 1 xs +ℤ (pos y *ℤ z)) (is.sum ∙ value_moved t 0 p vs)
           ∙ ap (λ z. moment rule dims 1 xs +ℤ z) (sym (moment_across rule dims p x y vs (sym ex) (sym ey) fits))
@@ -43,7 +47,8 @@ pub record MomentRooms (m : Moments) : Type 0 where
   pub mx : unsigned_abs m.mx < 2 ^ 100
   pub my : unsigned_abs m.my < 2 ^ 100
 
-pub moment_rooms : (rule : StatsRule) (dims : List Dim) (xs : List Sample) (m : Moments) → IsFrame rule dims → AreMoments rule dims xs m → AreSmall xs → length xs ≤ 67108864 → MomentRooms m
+pub moment_rooms : (rule : StatsRule) (dims : List Dim) (xs : List Sample) (m : Moments) → IsFrame rule dims → AreMoments rule dims xs m → AreSmall xs
+    → length xs ≤ 67108864 → MomentRooms m
 moment_rooms rule dims xs m frame is small few =
     let index = λ (k p : ℕ). index_most dims k p frame.sizes frame.few in
     record {

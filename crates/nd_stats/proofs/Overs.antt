@@ -1,5 +1,6 @@
 -- The samples that reach a threshold.
-use Rattle.std.proofs.Common.{◌≡◌, ℕ, ◌+◌, ◌*◌, ◌<◌, ◌≤◌, ◌^◌, List, refl, ap, sym, ◌∙◌, arith, ℤ, pos, ◌+ℤ◌, ◌*ℤ◌, Bool, true, false, not, w8, w32, w64, Fits, FitsSigned, take, drop, get_or}
+use Rattle.std.proofs.Common.{◌≡◌, ℕ, ◌+◌, ◌*◌, ◌<◌, ◌≤◌, ◌^◌, List, refl, ap, sym, ◌∙◌, arith, ℤ, pos, ◌+ℤ◌, ◌*ℤ◌, Bool, true, false, not, w8, w32, w64}
+use Rattle.std.proofs.Common.{Fits, FitsSigned, take, drop, get_or}
 use Rattle.std.specs.Prelude.{int_lt, unsigned_abs}
 use mir.Val.{bool_byte}
 use Rattle.std.proofs.lemmas.Int.{fits_signed_from_abs}
@@ -37,9 +38,11 @@ add_most a v k b h small = let s = abs-add a v in omega (arith, s)
 
 -- one sample more of a block
 pub over_step : (kind : SampleType) (t : ℤ) (bytes : List ℕ) (k : ℕ) (v kept more : ℤ) (is : Bool) (count : ℕ) (sum moment : ℤ)
-    → count ≡ count_where (reaches t) (placed 0 (numbers kind k bytes)) → sum ≡ value_where (reaches t) (placed 0 (numbers kind k bytes)) → moment ≡ weighted t (placed 0 (numbers kind k bytes))
+    → count ≡ count_where (reaches t) (placed 0 (numbers kind k bytes)) → sum ≡ value_where (reaches t) (placed 0 (numbers kind k bytes))
+    → moment ≡ weighted t (placed 0 (numbers kind k bytes))
     → v ≡ stored kind bytes k → is ≡ not (int_lt v t) → kept ≡ counted is v → more ≡ pos k *ℤ kept
-    → (let xs = placed 0 (numbers kind (k + 1) bytes) in (count + one_if is ≡ count_where (reaches t) xs) × (sum +ℤ kept ≡ value_where (reaches t) xs) × (moment +ℤ more ≡ weighted t xs))
+    → (let xs = placed 0 (numbers kind (k + 1) bytes) in
+    (count + one_if is ≡ count_where (reaches t) xs) × (sum +ℤ kept ≡ value_where (reaches t) xs) × (moment +ℤ more ≡ weighted t xs))
 over_step kind t bytes k v kept more is count sum moment c s m value test weight product =
     let xs = placed 0 (numbers kind k bytes) in
     let one : Sample = record { place = 0 + k; value = stored kind bytes k } in
@@ -47,7 +50,8 @@ over_step kind t bytes k v kept more is count sum moment c s m value test weight
     let p = reaches t in
     let same : is ≡ p one = test ∙ ap (λ z. not (int_lt z t)) value in
     let kept_is : kept ≡ counted (p one) one.value = weight ∙ ap (λ z. counted is z) value ∙ ap (λ b. counted b one.value) same in
-    let more_is : more ≡ (counted (p one) (pos (0 + k) *ℤ one.value)) = product ∙ ap (λ z. pos k *ℤ z) kept_is ∙ ap (λ n. pos n *ℤ counted (p one) one.value) (let e : k ≡ 0 + k = omega arith in e) ∙ times_counted (p one) (0 + k) one.value in (
+    let more_is : more ≡ (counted (p one) (pos (0 + k) *ℤ one.value)) = product ∙ ap (λ z. pos k *ℤ z) kept_is
+    ∙ ap (λ n. pos n *ℤ counted (p one) one.value) (let e : k ≡ 0 + k = omega arith in e) ∙ times_counted (p one) (0 + k) one.value in (
       ap (λ n. n + one_if is) c ∙ ap (λ b. count_where p xs + one_if b) same ∙ sym (count-more p xs one) ∙ ap (count_where p) all,
       ap (λ z. z +ℤ kept) s ∙ ap (λ z. value_where p xs +ℤ z) kept_is ∙ sym (sum_where-more p (λ u. u.value) xs one) ∙ ap (value_where p) all,
       ap (λ z. z +ℤ more) m ∙ ap (λ z. weighted t xs +ℤ z) more_is ∙ sym (sum_where-more p (λ u. pos u.place *ℤ u.value) xs one) ∙ ap (weighted t) all,
@@ -62,7 +66,9 @@ narrow UInt16 v h few = omega (arith, ints, h)
 narrow Int32 v h few = absurd (omega arith)
 narrow UInt32 v h few = absurd (omega arith)
 
-pub narrow_stored : (kind : SampleType) (bytes : List ℕ) (p : ℕ) → ((i : ℕ) → Fits w8 (get_or bytes i 0)) → width kind ≤ 2 → unsigned_abs (stored kind bytes p) ≤ 65535
+pub narrow_stored : (kind : SampleType) (bytes : List ℕ) (p : ℕ) → ((i : ℕ) → Fits w8 (get_or bytes i 0)) → width kind ≤ 2
+    → unsigned_abs (stored kind bytes p) ≤ 65535
 narrow_stored kind bytes p fit few =
     let small = All-from_get_or (λ b. b < 256) bytes 0 (λ i _. (fit i).fits) in
-    narrow kind (stored kind bytes p) (number-IsSample kind (take (width kind) (drop (p * width kind) bytes)) (All-take (λ b. b < 256) (width kind) (drop (p * width kind) bytes) (All-drop (λ b. b < 256) (p * width kind) bytes small))) few
+    narrow kind (stored kind bytes p) (number-IsSample kind (take (width kind) (drop (p * width kind) bytes))
+    (All-take (λ b. b < 256) (width kind) (drop (p * width kind) bytes) (All-drop (λ b. b < 256) (p * width kind) bytes small))) few

@@ -1,5 +1,6 @@
 -- The samples of a part.
-use Rattle.std.proofs.Common.{◌≡◌, ℕ, zero, suc, ◌+◌, ◌*◌, ◌/◌, ◌<◌, ◌≤◌, List, ◌∷◌, ◌++◌, length, take, drop, get_or, refl, ap, sym, ◌∙◌, arith, add_comm, Fits, w8}
+use Rattle.std.proofs.Common.{◌≡◌, ℕ, zero, suc, ◌+◌, ◌*◌, ◌/◌, ◌<◌, ◌≤◌, List, ◌∷◌, ◌++◌, length, take, drop, get_or, refl, ap, sym, ◌∙◌, arith, add_comm}
+use Rattle.std.proofs.Common.{Fits, w8}
 use Rattle.std.proofs.Math.Nat.{suc-mul, zero-mul, mul-div_cancel, mul-le-mul_right, div-mul-le_self, add-mul}
 use Rattle.std.proofs.lemmas.List.{drop-drop, drop-take, take-take}
 use Rattle.std.proofs.lemmas.List.Elements.{All-from_get_or}
@@ -9,14 +10,17 @@ use Rattle.nd_base.specs.SampleLaws.{width-positive, length-numbers}
 use Rattle.nd_stats.specs.Samples.{placed, AreSmall}
 use Rattle.nd_stats.specs.MergingLaws.{placed-append, small_placed}
 
-pub numbers-split : (kind : SampleType) (k m : ℕ) (bytes : List ℕ) → numbers kind (k + m) bytes ≡ numbers kind k bytes ++ numbers kind m (drop (k * width kind) bytes)
-numbers-split kind zero m bytes = ap (λ n. numbers kind n bytes) (let e : 0 + m ≡ m = omega arith in e) ∙ ap (λ n. numbers kind m (drop n bytes)) (sym (zero-mul (width kind)))
+pub numbers-split : (kind : SampleType) (k m : ℕ) (bytes : List ℕ)
+    → numbers kind (k + m) bytes ≡ numbers kind k bytes ++ numbers kind m (drop (k * width kind) bytes)
+numbers-split kind zero m bytes = ap (λ n. numbers kind n bytes) (let e : 0 + m ≡ m = omega arith in e)
+    ∙ ap (λ n. numbers kind m (drop n bytes)) (sym (zero-mul (width kind)))
 numbers-split kind (suc k) m bytes =
     let w = width kind in
     ap (λ n. numbers kind n bytes) (let e : suc k + m ≡ suc (k + m) = omega arith in e)
     ∙ ap (λ rest. number kind (take w bytes) ∷ rest)
     (numbers-split kind k m (drop w bytes)
-    ∙ ap (λ rest. numbers kind k (drop w bytes) ++ numbers kind m rest) (drop-drop (k * w) w bytes ∙ ap (λ n. drop n bytes) (sym (suc-mul k w ∙ add_comm (k * w) w))))
+    ∙ ap (λ rest. numbers kind k (drop w bytes) ++ numbers kind m rest) (drop-drop (k * w) w bytes
+    ∙ ap (λ n. drop n bytes) (sym (suc-mul k w ∙ add_comm (k * w) w))))
 
 pub numbers-take : (kind : SampleType) (m : ℕ) (bytes : List ℕ) → numbers kind m (take (m * width kind) bytes) ≡ numbers kind m bytes
 numbers-take kind zero bytes = refl
@@ -28,13 +32,15 @@ numbers-take kind (suc m) bytes =
     ∙ ap (λ rest. number kind (take w bytes) ∷ rest) (numbers-take kind m (drop w bytes))
 
 -- the samples of so many bytes
-pub samples_of-take : (kind : SampleType) (m n : ℕ) (bytes part : List ℕ) → n ≡ m * width kind → part ≡ take n bytes → length part ≡ m * width kind → samples_of kind part ≡ numbers kind m bytes
+pub samples_of-take : (kind : SampleType) (m n : ℕ) (bytes part : List ℕ) → n ≡ m * width kind → part ≡ take n bytes → length part ≡ m * width kind
+    → samples_of kind part ≡ numbers kind m bytes
 samples_of-take kind m n bytes part e is long =
     ap (λ k. numbers kind k part) (ap (λ l. l / width kind) long ∙ mul-div_cancel m (width-positive kind))
     ∙ ap (numbers kind m) (is ∙ ap (λ k. take k bytes) e) ∙ numbers-take kind m bytes
 
 -- a part behind the samples before it
-pub parts-more : (kind : SampleType) (from k m : ℕ) (bytes : List ℕ) → placed from (numbers kind (k + m) bytes) ≡ placed from (numbers kind k bytes) ++ placed (from + k) (numbers kind m (drop (k * width kind) bytes))
+pub parts-more : (kind : SampleType) (from k m : ℕ) (bytes : List ℕ)
+    → placed from (numbers kind (k + m) bytes) ≡ placed from (numbers kind k bytes) ++ placed (from + k) (numbers kind m (drop (k * width kind) bytes))
 parts-more kind from k m bytes =
     ap (placed from) (numbers-split kind k m bytes) ∙ placed-append from (numbers kind k bytes) (numbers kind m (drop (k * width kind) bytes))
     ∙ ap (λ n. placed from (numbers kind k bytes) ++ placed (from + n) (numbers kind m (drop (k * width kind) bytes))) (length-numbers kind k bytes)

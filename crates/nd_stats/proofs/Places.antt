@@ -1,5 +1,6 @@
 -- Places and their indices.
-use Rattle.std.proofs.Common.{◌≡◌, ℕ, zero, suc, ◌+◌, ◌*◌, ◌/◌, ◌%◌, ◌<◌, ◌||◌, List, [], ◌∷◌, length, drop, get_or, refl, ap, ◌∙◌, arith, add-one, drop-cons, pos, true, false, nat_lt}
+use Rattle.std.proofs.Common.{◌≡◌, ℕ, zero, suc, ◌+◌, ◌*◌, ◌/◌, ◌%◌, ◌<◌, ◌||◌, List, [], ◌∷◌, length, drop, get_or, refl, ap, ◌∙◌, arith, add-one}
+use Rattle.std.proofs.Common.{drop-cons, pos, true, false, nat_lt}
 use Rattle.std.specs.List.{list_all}
 use Rattle.std.proofs.lemmas.Bool.{and_parts, ltb-true}
 use Rattle.std.proofs.lemmas.Nat.{mod_below, div-mul-add, mod-mul-add, div-add-mod'}
@@ -14,12 +15,17 @@ no_dim = record { size = 0; offset = pos 0; binning = pos 0; reverse = false }
 abbrev pub AreSizes : List Dim → Type 0
 AreSizes dims = list_all (λ d. nat_lt 0 d.size) dims ≡ true
 
-pub border-step : (b : ℕ) (dims : List Dim) (i rest : ℕ) (d : Dim) → i < length dims → is_at_border b (drop i dims) rest ≡ (is_near_end b (get_or dims i d).size (rest % (get_or dims i d).size) || is_at_border b (drop (i + 1) dims) (rest / (get_or dims i d).size))
+pub border-step : (b : ℕ) (dims : List Dim) (i rest : ℕ) (d : Dim) → i < length dims
+    → is_at_border b (drop i dims) rest
+    ≡ (is_near_end b (get_or dims i d).size (rest % (get_or dims i d).size) || is_at_border b (drop (i + 1) dims) (rest / (get_or dims i d).size))
 border-step b [] i rest d h = absurd (omega arith)
 border-step b (x ∷ dims) zero rest d h = refl
-border-step b (x ∷ dims) (suc i) rest d h = border-step b dims i rest d (omega arith) ∙ ap (λ n. is_near_end b (get_or dims i d).size (rest % (get_or dims i d).size) || is_at_border b (drop n (x ∷ dims)) (rest / (get_or dims i d).size)) (let e : suc (i + 1) ≡ suc i + 1 = omega arith in e)
+border-step b (x ∷ dims) (suc i) rest d h = border-step b dims i rest d (omega arith)
+    ∙ ap (λ n. is_near_end b (get_or dims i d).size (rest % (get_or dims i d).size) || is_at_border b (drop n (x ∷ dims)) (rest / (get_or dims i d).size))
+    (let e : suc (i + 1) ≡ suc i + 1 = omega arith in e)
 
-pub sizes-step : (dims : List Dim) (i : ℕ) (d : Dim) → i < length dims → AreSizes (drop i dims) → (nat_lt 0 (get_or dims i d).size ≡ true) × AreSizes (drop (i + 1) dims)
+pub sizes-step : (dims : List Dim) (i : ℕ) (d : Dim) → i < length dims → AreSizes (drop i dims)
+    → (nat_lt 0 (get_or dims i d).size ≡ true) × AreSizes (drop (i + 1) dims)
 sizes-step dims i d h sizes =
     let parts = rw (drop-cons dims i d) at sizes in
     let both = and_parts (nat_lt 0 (get_or dims i d).size) (list_all (λ d. nat_lt 0 d.size) (drop (suc i) dims)) parts in
@@ -27,10 +33,12 @@ sizes-step dims i d h sizes =
 
 -- the next place of a line
 pub next_mod : (p w : ℕ) → p % w + 1 < w → (p + 1) % w ≡ p % w + 1
-next_mod p w h = let e : p + 1 ≡ p / w * w + (p % w + 1) = (let all = div-add-mod' p w in omega arith) in ap (λ n. n % w) e ∙ mod-mul-add (p / w) w (p % w + 1) h
+next_mod p w h = let e : p + 1 ≡ p / w * w + (p % w + 1) = (let all = div-add-mod' p w in omega arith) in
+    ap (λ n. n % w) e ∙ mod-mul-add (p / w) w (p % w + 1) h
 
 pub next_div : (p w : ℕ) → p % w + 1 < w → (p + 1) / w ≡ p / w
-next_div p w h = let e : p + 1 ≡ p / w * w + (p % w + 1) = (let all = div-add-mod' p w in omega arith) in ap (λ n. n / w) e ∙ div-mul-add (p / w) w (p % w + 1) h
+next_div p w h = let e : p + 1 ≡ p / w * w + (p % w + 1) = (let all = div-add-mod' p w in omega arith) in
+    ap (λ n. n / w) e ∙ div-mul-add (p / w) w (p % w + 1) h
 
 pub next_x : (dims : List Dim) (p : ℕ) → index_in dims 0 p + 1 < size_in dims 0 → index_in dims 0 (p + 1) ≡ index_in dims 0 p + 1
 next_x [] p h = absurd (omega arith)
@@ -40,12 +48,14 @@ pub next_y : (dims : List Dim) (p : ℕ) → index_in dims 0 p + 1 < size_in dim
 next_y [] p h = absurd (omega arith)
 next_y (d ∷ dims) p h = ap (index_in dims 0) (next_div p d.size h)
 
-pub next_row : (b : ℕ) (dims : List Dim) (p : ℕ) → index_in dims 0 p + 1 < size_in dims 0 → is_at_border b (drop 1 dims) ((p + 1) / size_in dims 0) ≡ is_at_border b (drop 1 dims) (p / size_in dims 0)
+pub next_row : (b : ℕ) (dims : List Dim) (p : ℕ) → index_in dims 0 p + 1 < size_in dims 0
+    → is_at_border b (drop 1 dims) ((p + 1) / size_in dims 0) ≡ is_at_border b (drop 1 dims) (p / size_in dims 0)
 next_row b [] p h = refl
 next_row b (d ∷ dims) p h = ap (is_at_border b dims) (next_div p d.size h)
 
 -- the border of a place by its index in dimension 0 and by its line
-pub border_split : (b : ℕ) (dims : List Dim) (p : ℕ) → 0 < length dims → is_at_border b dims p ≡ (is_near_end b (size_in dims 0) (index_in dims 0 p) || is_at_border b (drop 1 dims) (p / size_in dims 0))
+pub border_split : (b : ℕ) (dims : List Dim) (p : ℕ) → 0 < length dims
+    → is_at_border b dims p ≡ (is_near_end b (size_in dims 0) (index_in dims 0 p) || is_at_border b (drop 1 dims) (p / size_in dims 0))
 border_split b [] p h = absurd (omega arith)
 border_split b (d ∷ dims) p h = refl
 

@@ -30,7 +30,8 @@ times-sum (suc k) v w =
 times_swap : (j k : ℕ) (v : ℤ) → pos j *ℤ (pos k *ℤ v) ≡ pos k *ℤ (pos j *ℤ v)
 times_swap j zero v = ap (λ z. pos j *ℤ z) (zero-*ℤ v) ∙ *ℤ-zero (pos j) ∙ sym (zero-*ℤ (pos j *ℤ v))
 times_swap j (suc k) v =
-    ap (λ z. pos j *ℤ z) (suc_ℤ-*ℤ (pos k) v) ∙ times-sum j (pos k *ℤ v) v ∙ ap (λ z. z +ℤ (pos j *ℤ v)) (times_swap j k v) ∙ sym (suc_ℤ-*ℤ (pos k) (pos j *ℤ v))
+    ap (λ z. pos j *ℤ z) (suc_ℤ-*ℤ (pos k) v) ∙ times-sum j (pos k *ℤ v) v ∙ ap (λ z. z +ℤ (pos j *ℤ v)) (times_swap j k v)
+    ∙ sym (suc_ℤ-*ℤ (pos k) (pos j *ℤ v))
 
 -- a number in two parts, added to one in two parts
 pub parts_added : (j : ℕ) (high low a b v : ℤ) → v ≡ b +ℤ (pos j *ℤ a) → (low +ℤ b) +ℤ (pos j *ℤ (high +ℤ a)) ≡ (low +ℤ (pos j *ℤ high)) +ℤ v

@@ -26,7 +26,8 @@ reached_alike kind s t same from (suc n) bytes =
     ap (λ b. cond (not b) (one ∷ filter (reaches s) rest) (filter (reaches s) rest)) (same (take (width kind) bytes))
     ∙ ap (λ xs. cond (reaches t one) (one ∷ xs) xs) (reached_alike kind s t same (from + 1) n (drop (width kind) bytes))
 
-pub over_alike : (kind : SampleType) (s t : ℤ) → ((bytes : List ℕ) → int_lt (number kind bytes) s ≡ int_lt (number kind bytes) t) → (n : ℕ) (bytes : List ℕ) (o : Over)
+pub over_alike : (kind : SampleType) (s t : ℤ) → ((bytes : List ℕ) → int_lt (number kind bytes) s ≡ int_lt (number kind bytes) t)
+    → (n : ℕ) (bytes : List ℕ) (o : Over)
     → IsOver s (placed 0 (numbers kind n bytes)) o → IsOver t (placed 0 (numbers kind n bytes)) o
 over_alike kind s t same n bytes o is =
     let alike = reached_alike kind s t same 0 n bytes in

@@ -19,16 +19,19 @@ table_room : (f : ℕ → ℤ) (n : ℕ) → ((k : ℕ) → HasRoom (f k)) → H
 table_room f n each k h = subst HasRoom (sym (get_or-table f 0 n k (pos 0) (subst (λ m. k < m) (length-table f 0 n) h))) (each (0 + k))
 
 pub bins_room : (rule : StatsRule) (xs : List Sample) → length xs ≤ 67108864 → HaveRoom (table (λ k. pos (count_where (is_in_bin rule k) xs)) 0 rule.hist_size)
-bins_room rule xs few = table_room (λ k. pos (count_where (is_in_bin rule k) xs)) rule.hist_size (λ k. let c = count-le (is_in_bin rule k) xs in omega (arith, c, few))
+bins_room rule xs few =
+    table_room (λ k. pos (count_where (is_in_bin rule k) xs)) rule.hist_size (λ k. let c = count-le (is_in_bin rule k) xs in omega (arith, c, few))
 
-pub profile_room : (dims : List Dim) (d n : ℕ) (xs : List Sample) → AreSmall xs → length xs ≤ 67108864 → HaveRoom (table (λ k. value_where (has_index dims d k) xs) 0 n)
+pub profile_room : (dims : List Dim) (d n : ℕ) (xs : List Sample) → AreSmall xs → length xs ≤ 67108864
+    → HaveRoom (table (λ k. value_where (has_index dims d k) xs) 0 n)
 profile_room dims d n xs small few = table_room (λ k. value_where (has_index dims d k) xs) n (λ k. where_room (has_index dims d k) xs small few)
 
 pub index_most : (dims : List Dim) (k p : ℕ) → AreSizes dims → sample_count dims ≤ most_samples → index_in dims k p ≤ 67108864
 index_most dims k p sizes few = let a = index_below dims k p sizes in let b = size-most dims k sizes in omega (arith, a, b, few)
 
 -- with profiles a profile has a sum for each index
-pub profile_on : (rule : StatsRule) (dims : List Dim) (d : ℕ) (xs : List Sample) → rule.profiles ≡ true → profile rule dims d xs ≡ table (λ k. value_where (has_index dims d k) xs) 0 (size_in dims d)
+pub profile_on : (rule : StatsRule) (dims : List Dim) (d : ℕ) (xs : List Sample) → rule.profiles ≡ true
+    → profile rule dims d xs ≡ table (λ k. value_where (has_index dims d k) xs) 0 (size_in dims d)
 profile_on rule dims d xs h = rw h refl
 
 pub profile_off : (rule : StatsRule) (dims : List Dim) (d : ℕ) (xs : List Sample) → rule.profiles ≡ false → profile rule dims d xs ≡ []

@@ -1,5 +1,6 @@
 -- Sums, counts and extremes of samples, and of one sample more.
-use Rattle.std.proofs.Common.{◌≡◌, ◌+◌, ◌≤◌, Bool, true, false, cond, List, [], ◌∷◌, ◌++◌, length, filter, refl, ap, sym, ◌∙◌, arith, length-append, ℤ, pos, negsuc, ◌+ℤ◌}
+use Rattle.std.proofs.Common.{◌≡◌, ◌+◌, ◌≤◌, Bool, true, false, cond, List, [], ◌∷◌, ◌++◌, length, filter, refl, ap, sym, ◌∙◌, arith, length-append, ℤ, pos}
+use Rattle.std.proofs.Common.{negsuc, ◌+ℤ◌}
 use Rattle.std.specs.Prelude.{int_lt, unsigned_abs, if◌then◌else◌}
 use Rattle.std.proofs.Math.IntN.{+ℤ_assoc, +ℤ_idl, +ℤ_idr}
 use Rattle.std.proofs.lemmas.Int.{ints}
@@ -14,11 +15,13 @@ sum_of-last : (f : Sample → ℤ) (s : Sample) (b : Bool) → sum_of f (cond b 
 sum_of-last f s true = +ℤ_idr (f s)
 sum_of-last f s false = refl
 
-pub sum_where-append : (p : Sample → Bool) (f : Sample → ℤ) (xs ys : List Sample) → sum_of f (filter p (xs ++ ys)) ≡ sum_of f (filter p xs) +ℤ sum_of f (filter p ys)
+pub sum_where-append : (p : Sample → Bool) (f : Sample → ℤ) (xs ys : List Sample)
+    → sum_of f (filter p (xs ++ ys)) ≡ sum_of f (filter p xs) +ℤ sum_of f (filter p ys)
 sum_where-append p f xs ys = ap (sum_of f) (filter-append p xs ys) ∙ sum_of-append f (filter p xs) (filter p ys)
 
 -- one sample more
-pub sum_where-more : (p : Sample → Bool) (f : Sample → ℤ) (xs : List Sample) (s : Sample) → sum_of f (filter p (xs ++ s ∷ [])) ≡ sum_of f (filter p xs) +ℤ (if p s then f s else pos 0)
+pub sum_where-more : (p : Sample → Bool) (f : Sample → ℤ) (xs : List Sample) (s : Sample)
+    → sum_of f (filter p (xs ++ s ∷ [])) ≡ sum_of f (filter p xs) +ℤ (if p s then f s else pos 0)
 sum_where-more p f xs s =
     sum_where-append p f xs (s ∷ []) ∙ ap (λ n. sum_of f (filter p xs) +ℤ n) (sum_of-last f s (p s))
 
@@ -40,7 +43,8 @@ count-more p xs s =
 pub count-first : (p : Sample → Bool) (s : Sample) (xs : List Sample) → length (filter p (s ∷ xs)) ≡ (if p s then 1 else 0) + length (filter p xs)
 count-first p s xs = count-append p (s ∷ []) xs ∙ ap (λ n. n + length (filter p xs)) (length-last s (p s))
 
-pub sum_where-first : (p : Sample → Bool) (f : Sample → ℤ) (s : Sample) (xs : List Sample) → sum_of f (filter p (s ∷ xs)) ≡ (if p s then f s else pos 0) +ℤ sum_of f (filter p xs)
+pub sum_where-first : (p : Sample → Bool) (f : Sample → ℤ) (s : Sample) (xs : List Sample)
+    → sum_of f (filter p (s ∷ xs)) ≡ (if p s then f s else pos 0) +ℤ sum_of f (filter p xs)
 sum_where-first p f s xs = sum_where-append p f (s ∷ []) xs ∙ ap (λ n. n +ℤ sum_of f (filter p xs)) (sum_of-last f s (p s))
 
 pub count-le : (p : Sample → Bool) (xs : List Sample) → length (filter p xs) ≤ length xs
@@ -67,17 +71,20 @@ unfolding lesser
 least_lesser s [] u ys = refl
 least_lesser s (t ∷ xs) u ys = ap (λ m. lesser s m) (least_lesser t xs u ys) ∙ lesser_assoc s (least_from t xs) (least_from u ys)
 
-greatest_greater : (s : Sample) (xs : List Sample) (u : Sample) (ys : List Sample) → greatest_from s (xs ++ u ∷ ys) ≡ greater (greatest_from s xs) (greatest_from u ys)
+greatest_greater : (s : Sample) (xs : List Sample) (u : Sample) (ys : List Sample)
+    → greatest_from s (xs ++ u ∷ ys) ≡ greater (greatest_from s xs) (greatest_from u ys)
 unfolding greater
 greatest_greater s [] u ys = refl
 greatest_greater s (t ∷ xs) u ys = ap (λ m. greater s m) (greatest_greater t xs u ys) ∙ greater_assoc s (greatest_from t xs) (greatest_from u ys)
 
 -- the extremes of two lists
-pub least-append : (s : Sample) (xs : List Sample) (u : Sample) (ys : List Sample) → least_from s (xs ++ u ∷ ys) ≡ (let one = least_from s xs in let two = least_from u ys in (if int_lt two.value one.value then two else one))
+pub least-append : (s : Sample) (xs : List Sample) (u : Sample) (ys : List Sample)
+    → least_from s (xs ++ u ∷ ys) ≡ (let one = least_from s xs in let two = least_from u ys in (if int_lt two.value one.value then two else one))
 unfolding lesser
 least-append s xs u ys = least_lesser s xs u ys
 
-pub greatest-append : (s : Sample) (xs : List Sample) (u : Sample) (ys : List Sample) → greatest_from s (xs ++ u ∷ ys) ≡ (let one = greatest_from s xs in let two = greatest_from u ys in (if int_lt one.value two.value then two else one))
+pub greatest-append : (s : Sample) (xs : List Sample) (u : Sample) (ys : List Sample)
+    → greatest_from s (xs ++ u ∷ ys) ≡ (let one = greatest_from s xs in let two = greatest_from u ys in (if int_lt one.value two.value then two else one))
 unfolding greater
 greatest-append s xs u ys = greatest_greater s xs u ys
 

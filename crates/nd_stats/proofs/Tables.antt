@@ -17,7 +17,8 @@ get_or-table f k (suc n) (suc at) d h = get_or-table f (k + 1) n at d (omega ari
 
 pub table-same : (f g : ℕ → ℤ) (k n : ℕ) → ((j : ℕ) → k ≤ j → f j ≡ g j) → table f k n ≡ table g k n
 table-same f g k zero same = refl
-table-same f g k (suc n) same = ap (λ v. v ∷ table f (k + 1) n) (same k (omega arith)) ∙ ap (λ rest. g k ∷ rest) (table-same f g (k + 1) n (λ j h. same j (omega arith)))
+table-same f g k (suc n) same = ap (λ v. v ∷ table f (k + 1) n) (same k (omega arith))
+    ∙ ap (λ rest. g k ∷ rest) (table-same f g (k + 1) n (λ j h. same j (omega arith)))
 
 -- a table with one number changed
 pub set-table : (f g : ℕ → ℤ) (k n at : ℕ) (v : ℤ) → at < n → g (k + at) ≡ v → ((j : ℕ) → j ≢ k + at → f j ≡ g j) → set (table f k n) at v ≡ table g k n
@@ -35,6 +36,7 @@ slice_whole items sums len e same =
     ap (λ n. take n (sums ++ drop (length sums) items)) (sym (same ∙ e)) ∙ take-append_seam sums (drop (length sums) items)
 
 -- the same where one sum was added to
-pub slice_written : (items sums : List ℤ) (len at : ℕ) (v : ℤ) → length items ≡ len → sums ≡ added_at items at v → take len (sums ++ drop (length sums) items) ≡ added_at items at v
+pub slice_written : (items sums : List ℤ) (len at : ℕ) (v : ℤ) → length items ≡ len → sums ≡ added_at items at v
+    → take len (sums ++ drop (length sums) items) ≡ added_at items at v
 slice_written items sums len at v e h =
     slice_whole items sums len e (ap length h ∙ length-set items at (get_or items at (pos 0) +ℤ v)) ∙ h

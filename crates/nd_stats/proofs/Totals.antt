@@ -1,5 +1,6 @@
 -- Sums over values and over samples, and tests that nothing passes.
-use Rattle.std.proofs.Common.{◌≡◌, ℕ, ◌+◌, ◌/◌, ◌%◌, ◌<◌, ◌||◌, List, [], ◌∷◌, length, filter, cond, refl, ap, sym, ◌∙◌, arith, ℤ, pos, ◌+ℤ◌, Bool, false, not, ◌&&◌, ◌==◌, nat_lt, sum_by}
+use Rattle.std.proofs.Common.{◌≡◌, ℕ, ◌+◌, ◌/◌, ◌%◌, ◌<◌, ◌||◌, List, [], ◌∷◌, length, filter, cond, refl, ap, sym, ◌∙◌, arith, ℤ, pos, ◌+ℤ◌, Bool, false}
+use Rattle.std.proofs.Common.{not, ◌&&◌, ◌==◌, nat_lt, sum_by}
 use Rattle.std.specs.List.{list_all}
 use Rattle.std.proofs.lemmas.Bool.{and_parts, ltb-true}
 use Rattle.std.proofs.lemmas.Bool.Decides.{nat_tests}
@@ -26,7 +27,8 @@ total_placed p (v ∷ vs) = ap (λ z. v +ℤ z) (total_placed (p + 1) vs)
 pub squares_placed : (p : ℕ) (vs : List ℤ) → squares vs ≡ sum_by (λ s. square s.value) (placed p vs)
 squares_placed p [] = refl
 squares_placed p (v ∷ vs) =
-    ap (λ n. square v + n) (squares_placed (p + 1) vs) ∙ sym (sum_by-cons (λ (s : Sample). square s.value) (record { place = p; value = v }) (placed (p + 1) vs))
+    ap (λ n. square v + n) (squares_placed (p + 1) vs)
+    ∙ sym (sum_by-cons (λ (s : Sample). square s.value) (record { place = p; value = v }) (placed (p + 1) vs))
 
 -- a test that nothing passes
 pub filter_none : (p : Sample → Bool) → ((s : Sample) → p s ≡ false) → (xs : List Sample) → filter p xs ≡ []
@@ -41,15 +43,19 @@ pub no_border : (dims : List Dim) (p : ℕ) → AreSizes dims → is_at_border 0
 no_border [] p sizes = refl
 no_border (d ∷ dims) p sizes =
     let parts = and_parts (nat_lt 0 d.size) (list_all (λ d. nat_lt 0 d.size) dims) sizes in
-    ap (λ b. b || is_at_border 0 dims (p / d.size)) (inside d.size (p % d.size) (mod_below p d.size (ltb-true 0 d.size parts.0))) ∙ no_border dims (p / d.size) parts.1
+    ap (λ b. b || is_at_border 0 dims (p / d.size)) (inside d.size (p % d.size) (mod_below p d.size (ltb-true 0 d.size parts.0)))
+    ∙ no_border dims (p / d.size) parts.1
 
 -- without a border no sample is at it
 pub none_on_border : (rule : StatsRule) (dims : List Dim) (xs : List Sample) → IsFrame rule dims → rule.border ≡ 0 → filter (is_on_border rule dims) xs ≡ []
-none_on_border rule dims xs frame none = filter_none (is_on_border rule dims) (λ t. ap (λ b. is_at_border b dims t.place) none ∙ no_border dims t.place frame.sizes) xs
+none_on_border rule dims xs frame none =
+    filter_none (is_on_border rule dims) (λ t. ap (λ b. is_at_border b dims t.place) none ∙ no_border dims t.place frame.sizes) xs
 
 -- the sums over all samples of a piece, and over those at the border
-pub whole_sums : (rule : StatsRule) (dims : List Dim) (kind : SampleType) (from n : ℕ) (bytes : List ℕ) (e : Edge) (s : Sums) → IsEdge rule dims (placed from (numbers kind n bytes)) e
-    → s.n ≡ n → s.total ≡ total (numbers kind n bytes) → s.squares ≡ squares (numbers kind n bytes) → s.border ≡ e.sum → s.border_n ≡ e.count → AreSums rule dims (placed from (numbers kind n bytes)) s
+pub whole_sums : (rule : StatsRule) (dims : List Dim) (kind : SampleType) (from n : ℕ) (bytes : List ℕ) (e : Edge) (s : Sums)
+    → IsEdge rule dims (placed from (numbers kind n bytes)) e
+    → s.n ≡ n → s.total ≡ total (numbers kind n bytes) → s.squares ≡ squares (numbers kind n bytes) → s.border ≡ e.sum → s.border_n ≡ e.count
+    → AreSums rule dims (placed from (numbers kind n bytes)) s
 whole_sums rule dims kind from n bytes e s is f g h i j =
     record {
       n = f ∙ sym (length-piece kind from n bytes);
@@ -66,6 +72,7 @@ pub no_histogram : (rule : StatsRule) (xs : List Sample) (h : Histogram) → rul
 no_histogram rule xs h none is =
     record {
       below = is.below ∙ sym (ap length (filter_none (is_below rule) (λ s. no_bins rule _ none) xs));
-      bins = is.bins ∙ ap (table (λ k. pos (count_where (is_in_bin rule k) [])) 0) none ∙ sym (ap (table (λ k. pos (count_where (is_in_bin rule k) xs)) 0) none);
+      bins = is.bins ∙ ap (table (λ k. pos (count_where (is_in_bin rule k) [])) 0) none
+          ∙ sym (ap (table (λ k. pos (count_where (is_in_bin rule k) xs)) 0) none);
       above = is.above ∙ sym (ap length (filter_none (is_above rule) (λ s. no_bins rule _ none) xs));
     }

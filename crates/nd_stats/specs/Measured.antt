@@ -1,5 +1,6 @@
 -- The exact numbers of the samples of an array, or of a piece of it.
-use Rattle.std.specs.Prelude.{ℕ, ◌+◌, ◌-◌, ◌*◌, ◌/◌, ◌==◌, ◌&&◌, not, Bool, true, false, ℤ, pos, negsuc, ◌-ℤ◌, ◌*ℤ◌, List, [], ◌∷◌, length, filter, sum_by, int_lt, unsigned_abs, if◌then◌else◌, ◌≡◌, refl}
+use Rattle.std.specs.Prelude.{ℕ, ◌+◌, ◌-◌, ◌*◌, ◌/◌, ◌==◌, ◌&&◌, not, Bool, true, false, ℤ, pos, negsuc, ◌-ℤ◌, ◌*ℤ◌, List, [], ◌∷◌, length, filter, sum_by}
+use Rattle.std.specs.Prelude.{int_lt, unsigned_abs, if◌then◌else◌, ◌≡◌, refl}
 use Rattle.nd_base.specs.declared.array.Dim.{Dim}
 use Rattle.nd_base.specs.declared.array.SampleType.{SampleType}
 use Rattle.nd_base.specs.declared.graph.StatsRule.{StatsRule}
@@ -116,6 +117,7 @@ unfolding measured
 worked_frame = refl
 
 -- a histogram of six bins from 0 to 10
-pub worked_bins : (measured worked_rule (pos 1) worked_dims (placed 0 (pos 0 ∷ pos 10 ∷ negsuc 0 ∷ pos 11 ∷ pos 1 ∷ pos 3 ∷ []))).bins ≡ pos 1 ∷ pos 1 ∷ pos 1 ∷ pos 0 ∷ pos 0 ∷ pos 1 ∷ []
+pub worked_bins : (measured worked_rule (pos 1) worked_dims (placed 0 (pos 0 ∷ pos 10 ∷ negsuc 0 ∷ pos 11 ∷ pos 1 ∷ pos 3 ∷ []))).bins
+    ≡ pos 1 ∷ pos 1 ∷ pos 1 ∷ pos 0 ∷ pos 0 ∷ pos 1 ∷ []
 unfolding measured
 worked_bins = refl

@@ -18,8 +18,11 @@ use Rattle.nd_stats.specs.Merging.{AreRising, Pieces, AreMeasures, CanMerge, IsM
 
 pub small_placed : (kind : SampleType) (from n : ℕ) (bytes : List ℕ) → AreBytes bytes → AreSmall (placed from (numbers kind n bytes))
 small_placed kind from zero bytes small = tt
-small_placed kind from (suc n) bytes small =
-    (sample-IsSmall kind (number kind (take (width kind) bytes)) (number-IsSample kind (take (width kind) bytes) (All-take (λ b. b < 256) (width kind) bytes small)), small_placed kind (from + 1) n (drop (width kind) bytes) (All-drop (λ b. b < 256) (width kind) bytes small))
+small_placed kind from (suc n) bytes small = (
+  sample-IsSmall kind (number kind (take (width kind) bytes))
+      (number-IsSample kind (take (width kind) bytes) (All-take (λ b. b < 256) (width kind) bytes small)),
+  small_placed kind (from + 1) n (drop (width kind) bytes) (All-drop (λ b. b < 256) (width kind) bytes small),
+)
 
 small_both : (xs ys : List Sample) → AreSmall xs → AreSmall ys → AreSmall (xs ++ ys)
 small_both [] ys one two = two
@@ -62,22 +65,26 @@ pub record AreNeighbours (rule : StatsRule) (kind : SampleType) (dims : List Dim
   pub more_bytes : AreBytes b
 
 abbrev pub pieces_of : StatsRule → ℤ → SampleType → List Dim → ℕ → ℕ → List ℕ → List ℕ → Pieces
-pieces_of rule id kind dims from n a b = record { rule = rule; id = id; dims = dims; first = placed from (samples_of kind a); later = placed (from + n) (samples_of kind b) }
+pieces_of rule id kind dims from n a b =
+    record { rule = rule; id = id; dims = dims; first = placed from (samples_of kind a); later = placed (from + n) (samples_of kind b) }
 
 pub length-placed : (from : ℕ) (vs : List ℤ) → length (placed from vs) ≡ length vs
 length-placed from [] = refl
 length-placed from (v ∷ vs) = ap suc (length-placed (from + 1) vs)
 
-samples-both : (rule : StatsRule) (kind : SampleType) (dims : List Dim) (from n m : ℕ) (a b : List ℕ) → AreNeighbours rule kind dims from n m a b → samples_of kind (a ++ b) ≡ samples_of kind a ++ samples_of kind b
+samples-both : (rule : StatsRule) (kind : SampleType) (dims : List Dim) (from n m : ℕ) (a b : List ℕ) → AreNeighbours rule kind dims from n m a b
+    → samples_of kind (a ++ b) ≡ samples_of kind a ++ samples_of kind b
 samples-both rule kind dims from n m a b are =
     let w = width kind in
-    let count : length (a ++ b) / w ≡ n + m = ap (λ k. k / w) (length-append a b ∙ ap (λ k. k + length b) are.one ∙ ap (λ k. n * w + k) are.two ∙ sym (add-mul n m w)) ∙ mul-div_cancel (n + m) (width-positive kind) in
+    let count : length (a ++ b) / w ≡ n + m = ap (λ k. k / w) (length-append a b ∙ ap (λ k. k + length b) are.one ∙ ap (λ k. n * w + k) are.two
+    ∙ sym (add-mul n m w)) ∙ mul-div_cancel (n + m) (width-positive kind) in
     let one : length a / w ≡ n = ap (λ k. k / w) are.one ∙ mul-div_cancel n (width-positive kind) in
     let two : length b / w ≡ m = ap (λ k. k / w) are.two ∙ mul-div_cancel m (width-positive kind) in
     ap (λ k. numbers kind k (a ++ b)) count ∙ numbers-append kind n m a b are.one
     ∙ ap (λ k. numbers kind k a ++ numbers kind m b) (sym one) ∙ ap (λ k. samples_of kind a ++ numbers kind k b) (sym two)
 
-placed-both : (rule : StatsRule) (kind : SampleType) (dims : List Dim) (from n m : ℕ) (a b : List ℕ) → AreNeighbours rule kind dims from n m a b → placed from (samples_of kind (a ++ b)) ≡ placed from (samples_of kind a) ++ placed (from + n) (samples_of kind b)
+placed-both : (rule : StatsRule) (kind : SampleType) (dims : List Dim) (from n m : ℕ) (a b : List ℕ) → AreNeighbours rule kind dims from n m a b
+    → placed from (samples_of kind (a ++ b)) ≡ placed from (samples_of kind a) ++ placed (from + n) (samples_of kind b)
 placed-both rule kind dims from n m a b are =
     ap (placed from) (samples-both rule kind dims from n m a b are)
     ∙ placed-append from (samples_of kind a) (samples_of kind b)
@@ -95,13 +102,16 @@ are_measures rule id kind dims from n m a b are =
     let both = length-append us vs in
     let first = length-placed from us in
     let later = length-placed (from + n) vs in
-    let same : placed from (us ++ vs) ≡ placed from us ++ placed (from + n) vs = ap (placed from) (sym (samples-both rule kind dims from n m a b are)) ∙ placed-both rule kind dims from n m a b are in
+    let same : placed from (us ++ vs) ≡ placed from us ++ placed (from + n) vs = ap (placed from) (sym (samples-both rule kind dims from n m a b are))
+    ∙ placed-both rule kind dims from n m a b are in
     record {
       frame = are.frame;
       some = omega (arith, first, one, are.some);
       more = omega (arith, later, two, are.more);
-      rising = subst (AreRising (sample_count dims) 0) same (rising_placed (sample_count dims) 0 from (us ++ vs) (omega arith) (omega (arith, both, one, two, are.within)));
-      small = small_both (placed from us) (placed (from + n) vs) (small_placed kind from (length a / width kind) a are.bytes) (small_placed kind (from + n) (length b / width kind) b are.more_bytes);
+      rising = subst (AreRising (sample_count dims) 0) same
+          (rising_placed (sample_count dims) 0 from (us ++ vs) (omega arith) (omega (arith, both, one, two, are.within)));
+      small = small_both (placed from us) (placed (from + n) vs) (small_placed kind from (length a / width kind) a are.bytes)
+          (small_placed kind (from + n) (length b / width kind) b are.more_bytes);
       one = refl;
       two = refl;
     }
@@ -112,7 +122,8 @@ unfolding CanMerge
 can_merge rule id kind dims from n m a b are = (pieces_of rule id kind dims from n a b, are_measures rule id kind dims from n m a b are)
 
 -- merged they are the measure of all the bytes
-pub merged_measure : (rule : StatsRule) (id : ℤ) (kind : SampleType) (dims : List Dim) (from n m : ℕ) (a b : List ℕ) (both : Measure) → AreNeighbours rule kind dims from n m a b
+pub merged_measure : (rule : StatsRule) (id : ℤ) (kind : SampleType) (dims : List Dim) (from n m : ℕ) (a b : List ℕ) (both : Measure)
+    → AreNeighbours rule kind dims from n m a b
     → IsMerged (measure_of rule id kind dims from a) (measure_of rule id kind dims (from + n) b) both → both ≡ measure_of rule id kind dims from (a ++ b)
 unfolding IsMerged measure_of
 merged_measure rule id kind dims from n m a b both are merged =

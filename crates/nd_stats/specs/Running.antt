@@ -47,7 +47,8 @@ pub record IsHistogram (rule : StatsRule) (xs : List Sample) (h : Histogram) : T
 -- the bins of the values from the low end of the histogram's range on
 abbrev pub AreBins : StatsRule → List ℕ → Type 0
 AreBins rule bins =
-    (k : ℕ) → k < length bins → (let range = unsigned_abs (rule.hist_hi -ℤ rule.hist_lo) in slice_index_or bins k 0 ≡ (2 * k * (rule.hist_size - 1) + range) / (2 * range))
+    (k : ℕ) → k < length bins
+    → (let range = unsigned_abs (rule.hist_hi -ℤ rule.hist_lo) in slice_index_or bins k 0 ≡ (2 * k * (rule.hist_size - 1) + range) / (2 * range))
 
 -- no more bins than values of the histogram's range
 abbrev pub IsWithinRange : StatsRule → List ℕ → Type 0

@@ -19,8 +19,10 @@ const BLOCK: usize = 4096;
 fn lesser(kind: SampleType, block: &[u8], place: u32, value: i64, at: u32) -> (i64, u32)
     requires some { 0 < length block.now / width kind }
     requires few { place + length block.now / width kind ≤ most_samples }
-    ensures value { result.0 ≡ (if int_lt (least (placed place (samples_of kind block.now))).value value then (least (placed place (samples_of kind block.now))).value else value) }
-    ensures at { result.1 ≡ (if int_lt (least (placed place (samples_of kind block.now))).value value then (least (placed place (samples_of kind block.now))).place else at) }
+    ensures value { result.0
+        ≡ (if int_lt (least (placed place (samples_of kind block.now))).value value then (least (placed place (samples_of kind block.now))).value else value) }
+    ensures at { result.1 ≡ (if int_lt (least (placed place (samples_of kind block.now))).value value then
+        (least (placed place (samples_of kind block.now))).place else at) }
 {
     let Some(min) = min_bytes(kind, block) else {
         return (value, at);
@@ -36,8 +38,11 @@ fn lesser(kind: SampleType, block: &[u8], place: u32, value: i64, at: u32) -> (i
 fn greater(kind: SampleType, block: &[u8], place: u32, value: i64, at: u32) -> (i64, u32)
     requires some { 0 < length block.now / width kind }
     requires few { place + length block.now / width kind ≤ most_samples }
-    ensures value { result.0 ≡ (if int_lt value (greatest (placed place (samples_of kind block.now))).value then (greatest (placed place (samples_of kind block.now))).value else value) }
-    ensures at { result.1 ≡ (if int_lt value (greatest (placed place (samples_of kind block.now))).value then (greatest (placed place (samples_of kind block.now))).place else at) }
+    ensures value { result.0
+        ≡ (if int_lt value (greatest (placed place (samples_of kind block.now))).value then
+        (greatest (placed place (samples_of kind block.now))).value else value) }
+    ensures at { result.1 ≡ (if int_lt value (greatest (placed place (samples_of kind block.now))).value then
+        (greatest (placed place (samples_of kind block.now))).place else at) }
 {
     let Some(max) = max_bytes(kind, block) else {
         return (value, at);

@@ -67,7 +67,8 @@ pub(crate) fn list_bins(
     requires { IsStats rule.now }
     ensures bins { IfOk result (λ bins. AreBins rule.now bins.items) }
     ensures within { IfOk result (λ bins. IsWithinRange rule.now bins.items) }
-    ensures size { IfOk result (λ bins. rule.now.hist_size ≢ 0 → unsigned_abs (rule.now.hist_hi -ℤ rule.now.hist_lo) < count / 2 → length bins.items ≡ unsigned_abs (rule.now.hist_hi -ℤ rule.now.hist_lo) + 1) }
+    ensures size { IfOk result (λ bins. rule.now.hist_size ≢ 0 → unsigned_abs (rule.now.hist_hi -ℤ rule.now.hist_lo) < count / 2
+        → length bins.items ≡ unsigned_abs (rule.now.hist_hi -ℤ rule.now.hist_lo) + 1) }
 {
     let mut bins = Vec::new(alloc);
     if rule.hist_size == 0 {

@@ -105,7 +105,10 @@ fn add_all(
     requires frame { IsFrame rule.now dims.now }
     requires within { from + length samples.now / width kind ≤ sample_count dims.now }
     requires blank { IsTally rule.now dims.now record { place = from; value = number kind (take (width kind) samples.now) } [] tally }
-    ensures { IsTally rule.now dims.now record { place = from; value = number kind (take (width kind) samples.now) } (placed from (samples_of kind samples.now)) result }
+    ensures { IsTally rule.now dims.now record {
+      place = from;
+      value = number kind (take (width kind) samples.now);
+    } (placed from (samples_of kind samples.now)) result }
 {
     let width = kind.width();
     let line = first_size(dims);
@@ -131,7 +134,10 @@ pub(crate) fn add_each(
     requires frame { IsFrame rule.now dims.now }
     requires within { from + length samples.now / width kind ≤ sample_count dims.now }
     requires blank { IsTally rule.now dims.now record { place = from; value = number kind (take (width kind) samples.now) } [] tally }
-    ensures { IsTally rule.now dims.now record { place = from; value = number kind (take (width kind) samples.now) } (placed from (samples_of kind samples.now)) result }
+    ensures { IsTally rule.now dims.now record {
+      place = from;
+      value = number kind (take (width kind) samples.now);
+    } (placed from (samples_of kind samples.now)) result }
 {
     match kind {
         SampleType::Int8 => add_all(tally, rule, SampleType::Int8, dims, from, samples),
@@ -160,7 +166,10 @@ fn tally_lines(
     requires some { 0 < length samples.now / width kind }
     requires within { from + length samples.now / width kind ≤ sample_count dims.now }
     requires blank { IsTally rule.now dims.now record { place = from; value = number kind (take (width kind) samples.now) } [] blank }
-    ensures { IsTally rule.now dims.now record { place = from; value = number kind (take (width kind) samples.now) } (placed from (samples_of kind samples.now)) result }
+    ensures { IsTally rule.now dims.now record {
+      place = from;
+      value = number kind (take (width kind) samples.now);
+    } (placed from (samples_of kind samples.now)) result }
 {
     let mut tally = blank;
     let edge = edge_of(rule, kind, dims, from, samples);
@@ -201,7 +210,10 @@ fn tally_of(
     requires some { 0 < length samples.now / width kind }
     requires within { from + length samples.now / width kind ≤ sample_count dims.now }
     requires blank { IsTally rule.now dims.now record { place = from; value = number kind (take (width kind) samples.now) } [] blank }
-    ensures { IsTally rule.now dims.now record { place = from; value = number kind (take (width kind) samples.now) } (placed from (samples_of kind samples.now)) result }
+    ensures { IsTally rule.now dims.now record {
+      place = from;
+      value = number kind (take (width kind) samples.now);
+    } (placed from (samples_of kind samples.now)) result }
 {
     if first_size(dims) < LONG {
         add_each(blank, rule, kind, dims, from, samples)

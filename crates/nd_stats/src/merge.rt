@@ -3,7 +3,8 @@
 ghost use Rattle.std.specs.Prelude.{◌≡◌, length};
 ghost use Rattle.nd_stats.specs.Tallies.{HaveRoom};
 ghost use Rattle.nd_stats.specs.Merging.{CanMerge, IsMerged};
-ghost use Rattle.nd_stats.specs.Joined.{summed, with_extremes, with_sums, with_moments, with_lists, joined, HasRooms, HaveSumRooms, HaveMomentRooms, HaveListRooms, HaveSameLengths};
+ghost use Rattle.nd_stats.specs.Joined.{summed, with_extremes, with_sums, with_moments, with_lists, joined, HasRooms, HaveSumRooms, HaveMomentRooms};
+ghost use Rattle.nd_stats.specs.Joined.{HaveListRooms, HaveSameLengths};
 
 use nd_base::Measure;
 

@@ -1,6 +1,7 @@
 //! The numbers of the samples so far.
 
-ghost use Rattle.std.specs.Prelude.{◌≡◌, ◌≢◌, ◌+◌, ◌*◌, ◌<◌, ◌≤◌, ◌^◌, length, pos, ◌+ℤ◌, ◌-ℤ◌, ◌*ℤ◌, ◌-◌, ◌/◌, ◌≤ℤ◌, ◌<ℤ◌, int_lt, not, ◌&&◌, vec_len, unsigned_abs, IsTrue, if◌then◌else◌};
+ghost use Rattle.std.specs.Prelude.{◌≡◌, ◌≢◌, ◌+◌, ◌*◌, ◌<◌, ◌≤◌, ◌^◌, length, pos, ◌+ℤ◌, ◌-ℤ◌, ◌*ℤ◌, ◌-◌, ◌/◌, ◌≤ℤ◌, ◌<ℤ◌, int_lt, not, ◌&&◌, vec_len};
+ghost use Rattle.std.specs.Prelude.{unsigned_abs, IsTrue, if◌then◌else◌};
 ghost use Rattle.nd_base.specs.GraphRules.{IsStats};
 ghost use Rattle.nd_stats.specs.Measured.{bin_of, square, has_histogram};
 ghost use Rattle.nd_base.specs.Samples.{IsSmall};
@@ -243,7 +244,8 @@ impl Tally {
         requires spot { IsSpot rule.now.border dims.now spot.now }
         requires value { IsSmall value }
         requires before { (first : Sample) × ((xs : List Sample) × CanGrow rule.now dims.now first xs self.old) }
-        ensures { (first : Sample) → (xs : List Sample) → IsTally rule.now dims.now first xs self.old → IsTally rule.now dims.now first (xs ++ record { place = spot.now.place; value = value } ∷ []) self.new }
+        ensures { (first : Sample) → (xs : List Sample) → IsTally rule.now dims.now first xs self.old
+            → IsTally rule.now dims.now first (xs ++ record { place = spot.now.place; value = value } ∷ []) self.new }
     {
         let at_border = is_on_border(rule.border, dims, spot);
         let is_over = reaches(value, rule.threshold);

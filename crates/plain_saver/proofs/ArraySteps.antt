@@ -1,5 +1,6 @@
 -- What one array more at a file node does to what stands.
-use Rattle.std.proofs.Common.{◌≡◌, ◌≢◌, ◌⊎◌, inl, inr, ℕ, ◌+◌, ◌-◌, ◌*◌, ◌/◌, ◌%◌, ◌^◌, ◌<◌, ◌≤◌, true, List, [], ◌∷◌, ◌++◌, Option, None, Some, length, map, set, refl, sym, ap, subst, ◌∙◌, arith, if◌then◌else◌}
+use Rattle.std.proofs.Common.{◌≡◌, ◌≢◌, ◌⊎◌, inl, inr, ℕ, ◌+◌, ◌-◌, ◌*◌, ◌/◌, ◌%◌, ◌^◌, ◌<◌, ◌≤◌, true, List, [], ◌∷◌, ◌++◌, Option, None, Some, length}
+use Rattle.std.proofs.Common.{map, set, refl, sym, ap, subst, ◌∙◌, arith, if◌then◌else◌}
 use Rattle.std.specs.Prelude.{min, is_some, slice_get}
 use Rattle.std.proofs.Math.Nat.{add-mul, div-le_self, mod-lt}
 use Rattle.std.proofs.lemmas.Bool.{false≢true, cases_lt, eq-eqb, ne_eqb}
@@ -38,14 +39,20 @@ HasFile-same (Some m) (Some n) q bytes same told has = same ∙ has
 
 -- the next one is in the same group or begins another
 group-goes : (count gone : ℕ) → 1 ≤ count
-    → ((gone % count + 1 ≡ count) × ((gone + 1) % count ≡ 0)) ⊎ ((gone % count + 1 < count) × ((gone + 1) / count ≡ gone / count) × ((gone + 1) % count ≡ gone % count + 1))
+    → ((gone % count + 1 ≡ count) × ((gone + 1) % count ≡ 0))
+    ⊎ ((gone % count + 1 < count) × ((gone + 1) / count ≡ gone / count) × ((gone + 1) % count ≡ gone % count + 1))
 group-goes count gone some =
     let split = div-add-mod' gone count in
     let low = mod-lt gone some in
     elim (cases_lt (gone % count + 1) count) [
       | inl more ↦
           let e : gone + 1 ≡ gone / count * count + (gone % count + 1) = omega (arith, split) in
-          inr (more, ap (λ n. n / count) e ∙ div-mul-add (gone / count) count (gone % count + 1) more, ap (λ n. n % count) e ∙ mod-mul-add (gone / count) count (gone % count + 1) more)
+          inr (
+            more,
+            ap (λ n. n / count) e ∙ div-mul-add (gone / count) count (gone % count + 1) more,
+            ap (λ n. n % count) e
+                ∙ mod-mul-add (gone / count) count (gone % count + 1) more,
+          )
       | inr last ↦
           let full : gone % count + 1 ≡ count = omega (arith, last, low) in
           let next : (gone / count + 1) * count ≡ gone / count * count + 1 * count = add-mul (gone / count) 1 count in
@@ -54,7 +61,8 @@ group-goes count gone some =
     ]
 
 module _ (g : Graph) (s : StackValue) (prefix : List ℕ) (before t u : Option Files) (ps : List Pass) (xs ys : List NodeFile) (sound : IsGraph g)
-    (few : length s.arrays ≤ 65536) {ts : List (List ℕ)} (saved : IsSaved g s prefix before ps ts xs t) (at : ℕ) (x : NodeFile) (is : slice_get xs at ≡ Some x) (k : ℕ)
+    (few : length s.arrays ≤ 65536) {ts : List (List ℕ)} (saved : IsSaved g s prefix before ps ts xs t) (at : ℕ) (x : NodeFile)
+    (is : slice_get xs at ≡ Some x) (k : ℕ)
     (next : is_next ps x.node k ≡ true) (a : Array) (made : content g.nodes s.arrays (frame x.node k) ≡ Some a) where
   abbrev node : FileOf g s prefix x
   node = file-of g s prefix sound xs saved.nodes at x is
@@ -118,7 +126,8 @@ module _ (g : Graph) (s : StackValue) (prefix : List ℕ) (before t u : Option F
     numrecs-now : HasNumrecs (first_count x.late (Some (group_size x.count (length (passed g s x.node)) (pass_at now x.node).gone))) o
     numrecs-now =
         elim (group-goes x.count gone count-some) [
-          | inl last ↦ subst (HasNumrecs (first_count x.late (Some (group_size x.count (length (passed g s x.node)) (pass_at now x.node).gone)))) (sym (ended last.0)) tt
+          | inl last ↦ subst (HasNumrecs (first_count x.late (Some (group_size x.count (length (passed g s x.node)) (pass_at now x.node).gone))))
+              (sym (ended last.0)) tt
           | inr more ↦
               let same : size ≡ group_size x.count (length (passed g s x.node)) (pass_at now x.node).gone =
               ap (λ i. min x.count (length (passed g s x.node) - i * x.count)) (sym (ap (λ n. n / x.count) here-now ∙ more.1)) in

@@ -1,5 +1,6 @@
 -- What stands before a frame is written.
-use Rattle.std.proofs.Common.{◌≡◌, ◌⊎◌, inl, inr, ℕ, zero, suc, ◌+◌, ◌*◌, ◌%◌, ◌<◌, ◌≤◌, List, [], ◌∷◌, ◌++◌, Option, None, Some, length, map, take, drop, refl, sym, ap, subst, ◌∙◌, arith}
+use Rattle.std.proofs.Common.{◌≡◌, ◌⊎◌, inl, inr, ℕ, zero, suc, ◌+◌, ◌*◌, ◌%◌, ◌<◌, ◌≤◌, List, [], ◌∷◌, ◌++◌, Option, None, Some, length, map, take, drop}
+use Rattle.std.proofs.Common.{refl, sym, ap, subst, ◌∙◌, arith}
 use Rattle.std.specs.Prelude.{All, is_some, slice_get}
 use Rattle.std.proofs.lemmas.Bool.{cases_lt}
 use Rattle.std.proofs.lemmas.Nat.{mod-mul-add}
@@ -158,7 +159,8 @@ may-create prefix n r t u is (inr made) = inr (subst (λ (k : Kind). IsKindBegun
 -- NO ARRAY HAS GONE OUT
 
 module _ (g : Graph) (s : StackValue) (prefix : List ℕ) (before t : Option Files) (ps : List Pass) (passes : ArePasses g s ps)
-    (none : (v : ℕ) → (pass_at ps v).gone ≡ 0) (ts : List (List ℕ)) (size : length ts ≡ length g.nodes) (empty : All (λ text. text ≡ []) ts) (begun : AreRowsBegun g prefix before t) where
+    (none : (v : ℕ) → (pass_at ps v).gone ≡ 0) (ts : List (List ℕ)) (size : length ts ≡ length g.nodes) (empty : All (λ text. text ≡ []) ts)
+    (begun : AreRowsBegun g prefix before t) where
   written-none : (v : ℕ) → written g s ps v ≡ []
   written-none v = ap (λ (n : ℕ). arrays_out g.nodes s.arrays v (take n (passed g s v))) (none v)
 

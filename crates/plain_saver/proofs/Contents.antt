@@ -38,7 +38,8 @@ module _ (g : Graph) (s : StackValue) (stack : IsStack s) (v k : ℕ) (head : He
     made = ap (option_map (out_of region g.nodes v)) is;
     own = out_of-head g.nodes (length g.nodes) v b ∙ heads;
     samples = holds;
-    shape = out_of-shape g.nodes s.shape v b (subst (HasShape s.shape) (get_or_from_slice_get s.arrays k b b is) (stack.frames k b (slice_get_within s.arrays k b is)));
+    shape = out_of-shape g.nodes s.shape v b
+        (subst (HasShape s.shape) (get_or_from_slice_get s.arrays k b b is) (stack.frames k b (slice_get_within s.arrays k b is)));
   }
 
   pub array-out : IsContent g s (frame v k) bytes → IfSome (slice_get s.arrays k) (λ a. head_of a ≡ head) → IsArrayOut g s v k head bytes

@@ -1,5 +1,6 @@
 -- The end of a plain run's files, once every array has gone out of its node.
-use Rattle.std.proofs.Common.{◌≡◌, inl, inr, ℕ, ◌%◌, ◌<◌, ◌≤◌, Bool, true, false, List, [], ◌∷◌, ◌++◌, length, drop, refl, sym, ap, subst, ◌∙◌, arith, Option, Some, None}
+use Rattle.std.proofs.Common.{◌≡◌, inl, inr, ℕ, ◌%◌, ◌<◌, ◌≤◌, Bool, true, false, List, [], ◌∷◌, ◌++◌, length, drop, refl, sym, ap, subst, ◌∙◌, arith}
+use Rattle.std.proofs.Common.{Option, Some, None}
 use Rattle.std.specs.Prelude.{All, slice_get, IsSome, is_some}
 use Rattle.std.proofs.Common.{length-drop}
 use Rattle.std.proofs.Math.Nat.{mod-lt}
@@ -65,7 +66,8 @@ numrecs-is true n m is = let none_ : None ≡ Some m = is in absurd (cc)
 numrecs-is false n m is = same_Some m n (sym is)
 
 module _ (g : Graph) (s : StackValue) (prefix : List ℕ) (sound : IsGraph g) (kept : IsKeptStack s) (before : Option Files) (ps : List Pass)
-    (xs : List NodeFile) (t : Option Files) {ts : List (List ℕ)} (h : IsSaved g s prefix before ps ts xs t) (left : AreLeftFrom g ps xs (length s.arrays) (length s.arrays)) where
+    (xs : List NodeFile) (t : Option Files) {ts : List (List ℕ)} (h : IsSaved g s prefix before ps ts xs t)
+    (left : AreLeftFrom g ps xs (length s.arrays) (length s.arrays)) where
   abbrev W : ℕ → List Array
   W v = written g s ps v
 

@@ -1,5 +1,6 @@
 -- How one array more goes out of a node.
-use Rattle.std.proofs.Common.{◌≡◌, ◌≢◌, inl, inr, ℕ, zero, suc, ◌+◌, ◌-◌, ◌<◌, ◌≤◌, true, false, List, [], ◌∷◌, ◌++◌, Option, None, Some, length, take, get_or, set, refl, sym, ap, subst, ◌∙◌, arith}
+use Rattle.std.proofs.Common.{◌≡◌, ◌≢◌, inl, inr, ℕ, zero, suc, ◌+◌, ◌-◌, ◌<◌, ◌≤◌, true, false, List, [], ◌∷◌, ◌++◌, Option, None, Some, length, take}
+use Rattle.std.proofs.Common.{get_or, set, refl, sym, ap, subst, ◌∙◌, arith}
 use Rattle.std.specs.Prelude.{◌==◌, slice_get}
 use Rattle.std.specs.Option.{option_map_or}
 use Rattle.std.proofs.lemmas.Bool.{false≢true, eq-eqb, eqb-true}
@@ -101,5 +102,6 @@ pub length-gone : (g : Graph) (s : StackValue) (ps : List Pass) (v : ℕ) → 1 
 length-gone g s ps v some within passes =
     let below = passes.gone v some within in
     let front : length (take (pass_at ps v).gone (passed g s v)) ≡ (pass_at ps v).gone = length-take-le (pass_at ps v).gone (passed g s v) below in
-    length-arrays_out g.nodes s.arrays v (take (pass_at ps v).gone (passed g s v)) (All-take (λ (i : ℕ). i < length s.arrays) (pass_at ps v).gone (passed g s v) (passed-frames g s v))
+    length-arrays_out g.nodes s.arrays v (take (pass_at ps v).gone (passed g s v))
+    (All-take (λ (i : ℕ). i < length s.arrays) (pass_at ps v).gone (passed g s v) (passed-frames g s v))
     ∙ front

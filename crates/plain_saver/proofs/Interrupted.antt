@@ -1,5 +1,6 @@
 -- What is left of a plain run's files where a write failed.
-use Rattle.std.proofs.Common.{◌≡◌, ◌≢◌, inl, inr, ℕ, ◌/◌, ◌%◌, ◌^◌, ◌<◌, ◌≤◌, true, false, List, [], ◌∷◌, ◌++◌, length, take, drop, refl, sym, ap, subst, ◌∙◌, arith, Option, Some, None}
+use Rattle.std.proofs.Common.{◌≡◌, ◌≢◌, inl, inr, ℕ, ◌/◌, ◌%◌, ◌^◌, ◌<◌, ◌≤◌, true, false, List, [], ◌∷◌, ◌++◌, length, take, drop, refl, sym, ap, subst}
+use Rattle.std.proofs.Common.{◌∙◌, arith, Option, Some, None}
 use Rattle.std.specs.Prelude.{slice_get, IsSome, is_some}
 use Rattle.std.proofs.Common.{take-append-drop}
 use Rattle.std.proofs.lemmas.Bool.{false≢true}
@@ -37,7 +38,8 @@ use Rattle.plain_saver.proofs.FileNodes.{FileOf, file-of, group-apart_stats, gro
 use Rattle.plain_saver.proofs.Fronts.{split, length-written, written-few, next-out, group-low, group-longer, standing-has}
 use Rattle.plain_saver.proofs.StatsRows.{rows_of-append}
 use Rattle.graph_files.proofs.PlainNames.{all-in, in-all, all_out, rows_file, Rows, plain-in}
-use Rattle.plain_saver.proofs.Standing.{told-file, begun-of, standing-by, standing-then, StandsIn, stands-in, IsFilledGroup, group_record, IsNoName, interrupted-by}
+use Rattle.plain_saver.proofs.Standing.{told-file, begun-of, standing-by, standing-then, StandsIn, stands-in, IsFilledGroup, group_record, IsNoName}
+use Rattle.plain_saver.proofs.Standing.{interrupted-by}
 
 -- where nothing was touched
 pub interrupted-none : (before now : Option Files) (files : List OutFile) → now ≡ before → AreInterrupted before files now

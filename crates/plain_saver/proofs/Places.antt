@@ -1,5 +1,6 @@
 -- The rooms of nodes, and what stays where one of them is written.
-use Rattle.std.specs.Prelude.{◌≡◌, ◌≢◌, ℕ, zero, suc, ◌-◌, ◌<◌, ◌≤◌, ◌==◌, List, [], ◌∷◌, length, All, Option, Some, None, IsSomeAnd, slice_get, slice_set, refl}
+use Rattle.std.specs.Prelude.{◌≡◌, ◌≢◌, ℕ, zero, suc, ◌-◌, ◌<◌, ◌≤◌, ◌==◌, List, [], ◌∷◌, length, All, Option, Some, None, IsSomeAnd, slice_get, slice_set}
+use Rattle.std.specs.Prelude.{refl}
 use Rattle.std.proofs.Common.{inl, inr, ap, sym, subst, arith, ◌∙◌, get_or, length-set, get_or-set_same}
 use Rattle.std.proofs.lemmas.Bool.{cases_Bool, eqb-true, eqb-false}
 use Rattle.std.proofs.lemmas.Option.{slice_get_read, slice_get_within, get_or_from_slice_get}

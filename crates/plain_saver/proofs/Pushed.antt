@@ -42,7 +42,8 @@ none-more ps p none all v =
 -- the rule at a place of the graph
 pub rule-here : (nodes rules : List NodeRule) (at : ℕ) (n : NodeRule) → rules ≡ nodes → at < length rules → n ≡ get_or rules at n → slice_get nodes at ≡ Some n
 rule-here nodes rules at n same within is =
-    slice_get_read nodes (length nodes) at n refl (subst (λ (ns : List NodeRule). at < length ns) same within) (is ∙ ap (λ (ns : List NodeRule). get_or ns at n) same)
+    slice_get_read nodes (length nodes) at n refl (subst (λ (ns : List NodeRule). at < length ns) same within) (is
+    ∙ ap (λ (ns : List NodeRule). get_or ns at n) same)
 
 -- its node is the next one
 pub rule-next : (nodes : List NodeRule) (at : ℕ) (n : NodeRule) → slice_get nodes at ≡ Some n → rule_at nodes (at + 1) ≡ Some n

@@ -1,5 +1,6 @@
 -- How far the nodes have come within a frame.
-use Rattle.std.proofs.Common.{◌≡◌, ◌≢◌, inl, inr, ℕ, zero, suc, ◌+◌, ◌<◌, ◌≤◌, Bool, true, false, List, Option, None, Some, length, map, drop, refl, sym, ap, subst, ◌∙◌, arith, if◌then◌else◌}
+use Rattle.std.proofs.Common.{◌≡◌, ◌≢◌, inl, inr, ℕ, zero, suc, ◌+◌, ◌<◌, ◌≤◌, Bool, true, false, List, Option, None, Some, length, map, drop, refl, sym}
+use Rattle.std.proofs.Common.{ap, subst, ◌∙◌, arith, if◌then◌else◌}
 use Rattle.std.specs.Prelude.{All, slice_get}
 use Rattle.std.specs.Option.{option_map}
 use Rattle.std.proofs.lemmas.Bool.{cases_lt}
@@ -157,7 +158,8 @@ rows-end g ps xs at k all h = record {
 }
 
 module _ (g : Graph) (s : StackValue) (prefix : List ℕ) (before t : Option Files) (ps : List Pass) (xs : List NodeFile) (sound : IsGraph g)
-    {ts : List (List ℕ)} (saved : IsSaved g s prefix before ps ts xs t) (k at : ℕ) (n : NodeRule) (is : slice_get g.nodes at ≡ Some n) (h : RowTurns g ps xs at k) where
+    {ts : List (List ℕ)} (saved : IsSaved g s prefix before ps ts xs t) (k at : ℕ) (n : NodeRule) (is : slice_get g.nodes at ≡ Some n)
+    (h : RowTurns g ps xs at k) where
   node-inside : at + 1 ≤ length g.nodes
   node-inside = let low = slice_get_within g.nodes at n is in omega (arith, low)
 
@@ -179,7 +181,8 @@ module _ (g : Graph) (s : StackValue) (prefix : List ℕ) (before t : Option Fil
           from-other g s ps (at + 1) (omega arith) node-inside saved.passes k v (k + 1) ne (h.done v m q (omega (arith, low, ne)) rule kind_)
     ];
     left = λ v m q high rule kind_.
-        from-other g s ps (at + 1) (omega arith) node-inside saved.passes k v k (λ e. absurd (omega (arith, high, e))) (h.left v m q (omega (arith, high)) rule kind_);
+        from-other g s ps (at + 1) (omega arith) node-inside saved.passes k v k (λ e. absurd (omega (arith, high, e)))
+        (h.left v m q (omega (arith, high)) rule kind_);
   }
 
   -- any other node has no rows

@@ -1,5 +1,6 @@
 -- How the next array of a file node is written.
-use Rattle.std.proofs.Common.{◌≡◌, ℕ, zero, suc, ◌+◌, ◌-◌, ◌*◌, ◌/◌, ◌%◌, ◌^◌, ◌<◌, ◌≤◌, Bool, true, false, List, Option, None, Some, length, get_or, refl, sym, ap, subst, ◌∙◌, arith}
+use Rattle.std.proofs.Common.{◌≡◌, ℕ, zero, suc, ◌+◌, ◌-◌, ◌*◌, ◌/◌, ◌%◌, ◌^◌, ◌<◌, ◌≤◌, Bool, true, false, List, Option, None, Some, length, get_or, refl}
+use Rattle.std.proofs.Common.{sym, ap, subst, ◌∙◌, arith}
 use Rattle.std.specs.Prelude.{min, slice_get}
 use Rattle.std.proofs.Math.Nat.{mod-lt}
 use Rattle.std.proofs.lemmas.Nat.{div-add-mod'}
@@ -138,7 +139,8 @@ module _ (g : Graph) (s : StackValue) (sound : IsGraph g) (kept : IsKeptStack s)
           (subst (λ n. IsReopened xs at (Some n) ys) size-is reopened)
           (subst (λ (a : Array). AllStops fault t x ys (written g s ps) (gone / x.count) (first_count x.late (Some size)) a t now)
           (out-array g s x k head bytes kept rules.shape out)
-          (subst (λ n. AllStops fault t x ys (written g s ps) (gone / x.count) (first_count x.late (Some n)) (array_of head x.shape.kind x.shape.dims bytes) t now)
+          (subst (λ n. AllStops fault t x ys (written g s ps) (gone / x.count) (first_count x.late (Some n))
+          (array_of head x.shape.kind x.shape.dims bytes) t now)
           size-is
           (subst (λ n. AllStops fault t x ys (written g s ps) n (first_count x.late (Some of)) (array_of head x.shape.kind x.shape.dims bytes) t now)
           goes.group_is stops)))

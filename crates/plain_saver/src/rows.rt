@@ -116,7 +116,8 @@ pub(crate) fn finish_rows<K: Shelf>(
     prefix: &str,
     plan: &Plan,
 ) -> Result<(), SaveFault>
-    requires { (v : ℕ) (n : NodeRule) (r : StatsRule) → rule_at plan.now.graph.nodes v ≡ Some n → n.kind ≡ Stats r → Stands (K.held shelf.old) (stats_name prefix.now n.name) }
+    requires { (v : ℕ) (n : NodeRule) (r : StatsRule) → rule_at plan.now.graph.nodes v ≡ Some n → n.kind ≡ Stats r
+        → Stands (K.held shelf.old) (stats_name prefix.now n.name) }
     ensures still { K.held shelf.new ≡ K.held shelf.old }
     ensures cause { IsSaveCause result (K.faults shelf.old) (K.faults shelf.new) }
 {

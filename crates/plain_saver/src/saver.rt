@@ -1,6 +1,7 @@
 //! The files of a plain run while they are written, frame by frame.
 
-ghost use Rattle.std.specs.Prelude.{◌≡◌, [], ◌+◌, ◌-◌, ◌*◌, ◌/◌, ◌%◌, ◌<◌, ◌≤◌, ◌^◌, ℕ, List, Some, None, Option, length, slice_get, IfOk, IfErr, OnOk, OnErr, IfSome, IfNone, false};
+ghost use Rattle.std.specs.Prelude.{◌≡◌, [], ◌+◌, ◌-◌, ◌*◌, ◌/◌, ◌%◌, ◌<◌, ◌≤◌, ◌^◌, ℕ, List, Some, None, Option, length, slice_get, IfOk, IfErr, OnOk};
+ghost use Rattle.std.specs.Prelude.{OnErr, IfSome, IfNone, false};
 ghost use Rattle.nd_base.specs.GraphRules.{IsGraph, IsStats, rule_at};
 ghost use Rattle.nd_base.specs.declared.graph.Kind.TheVariants.{Stats};
 ghost use Rattle.edge_traits.specs.Files.{Files};
@@ -107,7 +108,8 @@ impl Saver {
         requires at { at < length self.now.files }
         requires node { (x : NodeFile) → slice_get self.now.files at ≡ Some x → IsCounted self.now.passes.items x }
         ensures none { (x : NodeFile) → slice_get self.now.files at ≡ Some x → IfNone result (is_next self.now.passes.items x.node index ≡ false) }
-        ensures some { (x : NodeFile) → slice_get self.now.files at ≡ Some x → IfSome result (λ p. IsNextPlace self.now.passes.items x index p.group p.place p.of) }
+        ensures some { (x : NodeFile) → slice_get self.now.files at ≡ Some x
+            → IfSome result (λ p. IsNextPlace self.now.passes.items x index p.group p.place p.of) }
     {
         let pass = &self.passes[self.files.node(at) as usize - 1];
         if !pass.is_next(index) {
@@ -133,13 +135,17 @@ impl Saver {
         requires frame { index < length stack.now.arrays }
         requires at { at < length self.old.files }
         requires rooms { AreRooms plan.now.graph stack.now self.old.rooms }
-        requires saved { (prefix : List ℕ) × ((before : Option Files) × IsSaved plan.now.graph stack.now prefix before self.old.passes.items self.old.texts self.old.files (K.held shelf.old)) }
+        requires saved { (prefix : List ℕ) × ((before : Option Files)
+            × IsSaved plan.now.graph stack.now prefix before self.old.passes.items self.old.texts self.old.files (K.held shelf.old)) }
         ensures rooms { AreRooms plan.now.graph stack.now self.new.rooms }
         ensures count { length self.new.files ≡ length self.old.files }
-        ensures passes { OnOk result ((x : NodeFile) → slice_get self.old.files at ≡ Some x → self.new.passes.items ≡ stepped self.old.passes.items x.node index) }
-        ensures saved { OnOk result ((prefix : List ℕ) (before : Option Files) → IsSaved plan.now.graph stack.now prefix before self.old.passes.items self.old.texts self.old.files (K.held shelf.old)
+        ensures passes { OnOk result ((x : NodeFile) → slice_get self.old.files at ≡ Some x
+            → self.new.passes.items ≡ stepped self.old.passes.items x.node index) }
+        ensures saved { OnOk result ((prefix : List ℕ) (before : Option Files)
+            → IsSaved plan.now.graph stack.now prefix before self.old.passes.items self.old.texts self.old.files (K.held shelf.old)
             → IsSaved plan.now.graph stack.now prefix before self.new.passes.items self.new.texts self.new.files (K.held shelf.new)) }
-        ensures err { OnErr result ((prefix : List ℕ) (before : Option Files) → IsSaved plan.now.graph stack.now prefix before self.old.passes.items self.old.texts self.old.files (K.held shelf.old)
+        ensures err { OnErr result ((prefix : List ℕ) (before : Option Files)
+            → IsSaved plan.now.graph stack.now prefix before self.old.passes.items self.old.texts self.old.files (K.held shelf.old)
             → AreInterrupted before (plain_files plan.now.graph stack.now prefix) (K.held shelf.new)) }
         ensures cause { IsSaveCause result (K.faults shelf.old) (K.faults shelf.new) }
     {
@@ -178,11 +184,13 @@ impl Saver {
         requires frame { index < length stack.now.arrays }
         requires rule { (n : NodeRule) × ((rule_at plan.now.graph.nodes node ≡ Some n) × (n.kind ≡ Stats rule.now)) }
         requires rooms { AreRooms plan.now.graph stack.now self.old.rooms }
-        requires saved { (prefix : List ℕ) × ((before : Option Files) × ((held : Option Files) × IsSaved plan.now.graph stack.now prefix before self.old.passes.items self.old.texts self.old.files held)) }
+        requires saved { (prefix : List ℕ) × ((before : Option Files)
+            × ((held : Option Files) × IsSaved plan.now.graph stack.now prefix before self.old.passes.items self.old.texts self.old.files held)) }
         ensures rooms { AreRooms plan.now.graph stack.now self.new.rooms }
         ensures files { self.new.files ≡ self.old.files }
         ensures passes { OnOk result (self.new.passes.items ≡ stepped self.old.passes.items node index) }
-        ensures saved { (prefix : List ℕ) (before held : Option Files) → IsSaved plan.now.graph stack.now prefix before self.old.passes.items self.old.texts self.old.files held
+        ensures saved { (prefix : List ℕ) (before held : Option Files)
+            → IsSaved plan.now.graph stack.now prefix before self.old.passes.items self.old.texts self.old.files held
             → IsSaved plan.now.graph stack.now prefix before self.new.passes.items self.new.texts self.new.files held }
     {
         if !self.passes[node as usize - 1].is_next(index) {
@@ -210,14 +218,17 @@ impl Saver {
         requires graph { IsGraph plan.now.graph }
         requires kept { IsKeptStack stack.now }
         requires rule { (n : NodeRule) × ((r : StatsRule) × ((rule_at plan.now.graph.nodes node ≡ Some n) × (n.name ≡ name.now) × (n.kind ≡ Stats r))) }
-        requires saved { (before : Option Files) × IsSaved plan.now.graph stack.now prefix.now before self.old.passes.items self.old.texts self.old.files (K.held shelf.old) }
+        requires saved { (before : Option Files)
+            × IsSaved plan.now.graph stack.now prefix.now before self.old.passes.items self.old.texts self.old.files (K.held shelf.old) }
         ensures rooms { self.new.rooms ≡ self.old.rooms }
         ensures files { self.new.files ≡ self.old.files }
         ensures passes { self.new.passes ≡ self.old.passes }
         ensures texts { OnOk result (self.new.texts ≡ with_text self.old.texts node []) }
-        ensures saved { OnOk result ((before : Option Files) → IsSaved plan.now.graph stack.now prefix.now before self.old.passes.items self.old.texts self.old.files (K.held shelf.old)
+        ensures saved { OnOk result ((before : Option Files)
+            → IsSaved plan.now.graph stack.now prefix.now before self.old.passes.items self.old.texts self.old.files (K.held shelf.old)
             → IsSaved plan.now.graph stack.now prefix.now before self.new.passes.items self.new.texts self.new.files (K.held shelf.new)) }
-        ensures err { OnErr result ((before : Option Files) → IsSaved plan.now.graph stack.now prefix.now before self.old.passes.items self.old.texts self.old.files (K.held shelf.old)
+        ensures err { OnErr result ((before : Option Files)
+            → IsSaved plan.now.graph stack.now prefix.now before self.old.passes.items self.old.texts self.old.files (K.held shelf.old)
             → AreInterrupted before (plain_files plan.now.graph stack.now prefix.now) (K.held shelf.new)) }
         ensures cause { IsSaveCause result (K.faults shelf.old) (K.faults shelf.new) }
     {
@@ -247,13 +258,16 @@ impl Saver {
         requires frame { index < length stack.now.arrays }
         requires rule { (n : NodeRule) × ((rule_at plan.now.graph.nodes node ≡ Some n) × (n.name ≡ name.now) × (n.kind ≡ Stats rule.now)) }
         requires rooms { AreRooms plan.now.graph stack.now self.old.rooms }
-        requires saved { (before : Option Files) × IsSaved plan.now.graph stack.now prefix.now before self.old.passes.items self.old.texts self.old.files (K.held shelf.old) }
+        requires saved { (before : Option Files)
+            × IsSaved plan.now.graph stack.now prefix.now before self.old.passes.items self.old.texts self.old.files (K.held shelf.old) }
         ensures rooms { AreRooms plan.now.graph stack.now self.new.rooms }
         ensures files { self.new.files ≡ self.old.files }
         ensures passes { OnOk result (self.new.passes.items ≡ stepped self.old.passes.items node index) }
-        ensures saved { OnOk result ((before : Option Files) → IsSaved plan.now.graph stack.now prefix.now before self.old.passes.items self.old.texts self.old.files (K.held shelf.old)
+        ensures saved { OnOk result ((before : Option Files)
+            → IsSaved plan.now.graph stack.now prefix.now before self.old.passes.items self.old.texts self.old.files (K.held shelf.old)
             → IsSaved plan.now.graph stack.now prefix.now before self.new.passes.items self.new.texts self.new.files (K.held shelf.new)) }
-        ensures err { OnErr result ((before : Option Files) → IsSaved plan.now.graph stack.now prefix.now before self.old.passes.items self.old.texts self.old.files (K.held shelf.old)
+        ensures err { OnErr result ((before : Option Files)
+            → IsSaved plan.now.graph stack.now prefix.now before self.old.passes.items self.old.texts self.old.files (K.held shelf.old)
             → AreInterrupted before (plain_files plan.now.graph stack.now prefix.now) (K.held shelf.new)) }
         ensures cause { IsSaveCause result (K.faults shelf.old) (K.faults shelf.new) }
     {
@@ -282,13 +296,16 @@ impl Saver {
         requires frame { index < length stack.now.arrays }
         requires rule { rule_at plan.now.graph.nodes node ≡ Some rule.now }
         requires rooms { AreRooms plan.now.graph stack.now self.old.rooms }
-        requires saved { (before : Option Files) × IsSaved plan.now.graph stack.now prefix.now before self.old.passes.items self.old.texts self.old.files (K.held shelf.old) }
+        requires saved { (before : Option Files)
+            × IsSaved plan.now.graph stack.now prefix.now before self.old.passes.items self.old.texts self.old.files (K.held shelf.old) }
         ensures rooms { AreRooms plan.now.graph stack.now self.new.rooms }
         ensures files { self.new.files ≡ self.old.files }
         ensures passes { OnOk result (self.new.passes.items ≡ stepped_rows rule.now self.old.passes.items node index) }
-        ensures saved { OnOk result ((before : Option Files) → IsSaved plan.now.graph stack.now prefix.now before self.old.passes.items self.old.texts self.old.files (K.held shelf.old)
+        ensures saved { OnOk result ((before : Option Files)
+            → IsSaved plan.now.graph stack.now prefix.now before self.old.passes.items self.old.texts self.old.files (K.held shelf.old)
             → IsSaved plan.now.graph stack.now prefix.now before self.new.passes.items self.new.texts self.new.files (K.held shelf.new)) }
-        ensures err { OnErr result ((before : Option Files) → IsSaved plan.now.graph stack.now prefix.now before self.old.passes.items self.old.texts self.old.files (K.held shelf.old)
+        ensures err { OnErr result ((before : Option Files)
+            → IsSaved plan.now.graph stack.now prefix.now before self.old.passes.items self.old.texts self.old.files (K.held shelf.old)
             → AreInterrupted before (plain_files plan.now.graph stack.now prefix.now) (K.held shelf.new)) }
         ensures cause { IsSaveCause result (K.faults shelf.old) (K.faults shelf.new) }
     {
@@ -322,13 +339,16 @@ impl Saver {
         requires kept { IsKeptStack stack.now }
         requires frame { index < length stack.now.arrays }
         requires rooms { AreRooms plan.now.graph stack.now self.old.rooms }
-        requires saved { (prefix : List ℕ) × ((before : Option Files) × IsSaved plan.now.graph stack.now prefix before self.old.passes.items self.old.texts self.old.files (K.held shelf.old)) }
+        requires saved { (prefix : List ℕ) × ((before : Option Files)
+            × IsSaved plan.now.graph stack.now prefix before self.old.passes.items self.old.texts self.old.files (K.held shelf.old)) }
         requires left { AreLeftFrom plan.now.graph self.old.passes.items self.old.files index index }
         ensures rooms { AreRooms plan.now.graph stack.now self.new.rooms }
         ensures left { OnOk result (AreLeftFrom plan.now.graph self.new.passes.items self.new.files (index + 1) index) }
-        ensures saved { OnOk result ((prefix : List ℕ) (before : Option Files) → IsSaved plan.now.graph stack.now prefix before self.old.passes.items self.old.texts self.old.files (K.held shelf.old)
+        ensures saved { OnOk result ((prefix : List ℕ) (before : Option Files)
+            → IsSaved plan.now.graph stack.now prefix before self.old.passes.items self.old.texts self.old.files (K.held shelf.old)
             → IsSaved plan.now.graph stack.now prefix before self.new.passes.items self.new.texts self.new.files (K.held shelf.new)) }
-        ensures err { OnErr result ((prefix : List ℕ) (before : Option Files) → IsSaved plan.now.graph stack.now prefix before self.old.passes.items self.old.texts self.old.files (K.held shelf.old)
+        ensures err { OnErr result ((prefix : List ℕ) (before : Option Files)
+            → IsSaved plan.now.graph stack.now prefix before self.old.passes.items self.old.texts self.old.files (K.held shelf.old)
             → AreInterrupted before (plain_files plan.now.graph stack.now prefix) (K.held shelf.new)) }
         ensures cause { IsSaveCause result (K.faults shelf.old) (K.faults shelf.new) }
     {
@@ -353,13 +373,16 @@ impl Saver {
         requires kept { IsKeptStack stack.now }
         requires frame { index < length stack.now.arrays }
         requires rooms { AreRooms plan.now.graph stack.now self.old.rooms }
-        requires saved { (before : Option Files) × IsSaved plan.now.graph stack.now prefix.now before self.old.passes.items self.old.texts self.old.files (K.held shelf.old) }
+        requires saved { (before : Option Files)
+            × IsSaved plan.now.graph stack.now prefix.now before self.old.passes.items self.old.texts self.old.files (K.held shelf.old) }
         requires left { AreLeftFrom plan.now.graph self.old.passes.items self.old.files (index + 1) index }
         ensures rooms { AreRooms plan.now.graph stack.now self.new.rooms }
         ensures left { OnOk result (AreLeftFrom plan.now.graph self.new.passes.items self.new.files (index + 1) (index + 1)) }
-        ensures saved { OnOk result ((before : Option Files) → IsSaved plan.now.graph stack.now prefix.now before self.old.passes.items self.old.texts self.old.files (K.held shelf.old)
+        ensures saved { OnOk result ((before : Option Files)
+            → IsSaved plan.now.graph stack.now prefix.now before self.old.passes.items self.old.texts self.old.files (K.held shelf.old)
             → IsSaved plan.now.graph stack.now prefix.now before self.new.passes.items self.new.texts self.new.files (K.held shelf.new)) }
-        ensures err { OnErr result ((before : Option Files) → IsSaved plan.now.graph stack.now prefix.now before self.old.passes.items self.old.texts self.old.files (K.held shelf.old)
+        ensures err { OnErr result ((before : Option Files)
+            → IsSaved plan.now.graph stack.now prefix.now before self.old.passes.items self.old.texts self.old.files (K.held shelf.old)
             → AreInterrupted before (plain_files plan.now.graph stack.now prefix.now) (K.held shelf.new)) }
         ensures cause { IsSaveCause result (K.faults shelf.old) (K.faults shelf.new) }
     {
@@ -394,13 +417,16 @@ impl Saver {
         requires graph { IsGraph plan.now.graph }
         requires kept { IsKeptStack stack.now }
         requires rule { rule_at plan.now.graph.nodes node ≡ Some rule.now }
-        requires saved { (before : Option Files) × IsSaved plan.now.graph stack.now prefix.now before self.old.passes.items self.old.texts self.old.files (K.held shelf.old) }
+        requires saved { (before : Option Files)
+            × IsSaved plan.now.graph stack.now prefix.now before self.old.passes.items self.old.texts self.old.files (K.held shelf.old) }
         ensures files { self.new.files ≡ self.old.files }
         ensures passes { self.new.passes ≡ self.old.passes }
         ensures texts { OnOk result (self.new.texts ≡ emptied rule.now self.old.texts node) }
-        ensures saved { OnOk result ((before : Option Files) → IsSaved plan.now.graph stack.now prefix.now before self.old.passes.items self.old.texts self.old.files (K.held shelf.old)
+        ensures saved { OnOk result ((before : Option Files)
+            → IsSaved plan.now.graph stack.now prefix.now before self.old.passes.items self.old.texts self.old.files (K.held shelf.old)
             → IsSaved plan.now.graph stack.now prefix.now before self.new.passes.items self.new.texts self.new.files (K.held shelf.new)) }
-        ensures err { OnErr result ((before : Option Files) → IsSaved plan.now.graph stack.now prefix.now before self.old.passes.items self.old.texts self.old.files (K.held shelf.old)
+        ensures err { OnErr result ((before : Option Files)
+            → IsSaved plan.now.graph stack.now prefix.now before self.old.passes.items self.old.texts self.old.files (K.held shelf.old)
             → AreInterrupted before (plain_files plan.now.graph stack.now prefix.now) (K.held shelf.new)) }
         ensures cause { IsSaveCause result (K.faults shelf.old) (K.faults shelf.new) }
     {
@@ -423,13 +449,16 @@ impl Saver {
     ) -> Result<(), SaveFault>
         requires graph { IsGraph plan.now.graph }
         requires kept { IsKeptStack stack.now }
-        requires saved { (before : Option Files) × IsSaved plan.now.graph stack.now prefix.now before self.old.passes.items self.old.texts self.old.files (K.held shelf.old) }
+        requires saved { (before : Option Files)
+            × IsSaved plan.now.graph stack.now prefix.now before self.old.passes.items self.old.texts self.old.files (K.held shelf.old) }
         ensures files { self.new.files ≡ self.old.files }
         ensures passes { self.new.passes ≡ self.old.passes }
         ensures empty { OnOk result (AreEmptyTo plan.now.graph self.new.texts (length plan.now.graph.nodes)) }
-        ensures saved { OnOk result ((before : Option Files) → IsSaved plan.now.graph stack.now prefix.now before self.old.passes.items self.old.texts self.old.files (K.held shelf.old)
+        ensures saved { OnOk result ((before : Option Files)
+            → IsSaved plan.now.graph stack.now prefix.now before self.old.passes.items self.old.texts self.old.files (K.held shelf.old)
             → IsSaved plan.now.graph stack.now prefix.now before self.new.passes.items self.new.texts self.new.files (K.held shelf.new)) }
-        ensures err { OnErr result ((before : Option Files) → IsSaved plan.now.graph stack.now prefix.now before self.old.passes.items self.old.texts self.old.files (K.held shelf.old)
+        ensures err { OnErr result ((before : Option Files)
+            → IsSaved plan.now.graph stack.now prefix.now before self.old.passes.items self.old.texts self.old.files (K.held shelf.old)
             → AreInterrupted before (plain_files plan.now.graph stack.now prefix.now) (K.held shelf.new)) }
         ensures cause { IsSaveCause result (K.faults shelf.old) (K.faults shelf.new) }
     {
@@ -452,12 +481,15 @@ impl Saver {
     ) -> Result<(), SaveFault>
         requires graph { IsGraph plan.now.graph }
         requires kept { IsKeptStack stack.now }
-        requires saved { (before : Option Files) × IsSaved plan.now.graph stack.now prefix.now before self.passes.items self.texts self.files (K.held shelf.old) }
+        requires saved { (before : Option Files)
+            × IsSaved plan.now.graph stack.now prefix.now before self.passes.items self.texts self.files (K.held shelf.old) }
         requires left { AreLeftFrom plan.now.graph self.passes.items self.files (length stack.now.arrays) (length stack.now.arrays) }
         requires empty { AreEmptyTo plan.now.graph self.texts (length plan.now.graph.nodes) }
-        ensures ok { OnOk result ((before : Option Files) → IsSaved plan.now.graph stack.now prefix.now before self.passes.items self.texts self.files (K.held shelf.old)
+        ensures ok { OnOk result ((before : Option Files)
+            → IsSaved plan.now.graph stack.now prefix.now before self.passes.items self.texts self.files (K.held shelf.old)
             → K.held shelf.new ≡ with_files before (plain_files plan.now.graph stack.now prefix.now)) }
-        ensures err { OnErr result ((before : Option Files) → IsSaved plan.now.graph stack.now prefix.now before self.passes.items self.texts self.files (K.held shelf.old)
+        ensures err { OnErr result ((before : Option Files)
+            → IsSaved plan.now.graph stack.now prefix.now before self.passes.items self.texts self.files (K.held shelf.old)
             → AreInterrupted before (plain_files plan.now.graph stack.now prefix.now) (K.held shelf.new)) }
         ensures cause { IsSaveCause result (K.faults shelf.old) (K.faults shelf.new) }
     {
@@ -482,11 +514,14 @@ impl Saver {
     ) -> Result<(), SaveFault>
         requires graph { IsGraph plan.now.graph }
         requires kept { IsKeptStack stack.now }
-        requires saved { (before : Option Files) × IsSaved plan.now.graph stack.now prefix.now before self.passes.items self.texts self.files (K.held shelf.old) }
+        requires saved { (before : Option Files)
+            × IsSaved plan.now.graph stack.now prefix.now before self.passes.items self.texts self.files (K.held shelf.old) }
         requires left { AreLeftFrom plan.now.graph self.passes.items self.files (length stack.now.arrays) (length stack.now.arrays) }
-        ensures ok { OnOk result ((before : Option Files) → IsSaved plan.now.graph stack.now prefix.now before self.passes.items self.texts self.files (K.held shelf.old)
+        ensures ok { OnOk result ((before : Option Files)
+            → IsSaved plan.now.graph stack.now prefix.now before self.passes.items self.texts self.files (K.held shelf.old)
             → K.held shelf.new ≡ with_files before (plain_files plan.now.graph stack.now prefix.now)) }
-        ensures err { OnErr result ((before : Option Files) → IsSaved plan.now.graph stack.now prefix.now before self.passes.items self.texts self.files (K.held shelf.old)
+        ensures err { OnErr result ((before : Option Files)
+            → IsSaved plan.now.graph stack.now prefix.now before self.passes.items self.texts self.files (K.held shelf.old)
             → AreInterrupted before (plain_files plan.now.graph stack.now prefix.now) (K.held shelf.new)) }
         ensures cause { IsSaveCause result (K.faults shelf.old) (K.faults shelf.new) }
     {

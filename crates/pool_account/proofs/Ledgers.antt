@@ -1,12 +1,14 @@
 -- What a ledger tells of its blocks, and what a change of holds leaves.
-use Rattle.std.proofs.Common.{◌≡◌, ◌≢◌, ℕ, ◌+◌, ◌≤◌, ◌<◌, Bool, true, false, cond, eqb, ltb, List, [], ◌∷◌, length, map, refl, sym, ap, ◌∙◌, subst, arith, inl, inr}
+use Rattle.std.proofs.Common.{◌≡◌, ◌≢◌, ℕ, ◌+◌, ◌≤◌, ◌<◌, Bool, true, false, cond, eqb, ltb, List, [], ◌∷◌, length, map, refl, sym, ap, ◌∙◌, subst, arith}
+use Rattle.std.proofs.Common.{inl, inr}
 use Rattle.std.specs.Prelude.{filter, take, sum_by}
 use Rattle.std.specs.List.{list_all}
 use Rattle.std.proofs.lemmas.Bool.{and_parts, and_from, eq-eqb, ne_eqb, eqb-true, eqb-false, cases_Bool, cases_eq, true≢false, ltb-true}
 use Rattle.std.proofs.lemmas.List.Sums.{sum_by-cons}
 use Rattle.pool_ledger.specs.Grants.{Block, Answer, Refused, Granted, sizes, has_number, free_in_order, left_after, known_after}
 use Rattle.pool_ledger.specs.GrantLaws.{SameBlocks, same_none, same_front, same_swap, same_trans, filter-same, left_after-same}
-use Rattle.pool_ledger.specs.Ledger.{Known, Ledger, block_of, blocks, count_of, refs, is_free, held, largest_first, with_count, with_known, without, with_refs, after}
+use Rattle.pool_ledger.specs.Ledger.{Known, Ledger, block_of, blocks, count_of, refs, is_free, held, largest_first, with_count, with_known, without}
+use Rattle.pool_ledger.specs.Ledger.{with_refs, after}
 use Rattle.pool_ledger.specs.LedgerLaws.{refs-with_refs_other}
 use Rattle.flow_journal.specs.AccountLaws.{times_among}
 use Rattle.flow_journal.proofs.EntryCounts.{count, bit, count-cons}

@@ -1,5 +1,6 @@
 -- What the slots say of the pool's ledger.
-use Rattle.std.proofs.Common.{◌≡◌, ℕ, zero, suc, ◌+◌, ◌*◌, ◌/◌, ◌%◌, ◌^◌, ◌<◌, ◌≤◌, Bool, true, eqb, ltb, List, [], ◌∷◌, length, get_or, map, sum_by, refl, ap, ◌∙◌, inl, inr, arith}
+use Rattle.std.proofs.Common.{◌≡◌, ℕ, zero, suc, ◌+◌, ◌*◌, ◌/◌, ◌%◌, ◌^◌, ◌<◌, ◌≤◌, Bool, true, eqb, ltb, List, [], ◌∷◌, length, get_or, map, sum_by, refl}
+use Rattle.std.proofs.Common.{ap, ◌∙◌, inl, inr, arith}
 use Rattle.std.specs.List.{AllByRecursion, filter}
 use Rattle.std.proofs.lemmas.Bool.{lt-ltb, le-ltb, eq-eqb, ne_eqb, eqb-true, eqb-false, cases_lt, cases_eq, cases_Bool, or_right}
 use Rattle.std.proofs.lemmas.List.Sums.{sum_by-cons}
@@ -74,7 +75,9 @@ placed-block_at k (c ∷ ks) =
     ]
 
 -- where this test is the one of each slot
-pub free_in_order-is : (i : ℕ) (ss : List Slot) (is_free : ℕ → Bool) → i + length ss ≤ 2 ^ 32 → ((j : ℕ) → j < length ss → is_free (i + j) ≡ eqb (get_or ss j empty_slot).count 0) → free_in_order is_free (map block_of (known_from i ss)) ≡ map block_at (free_from i ss)
+pub free_in_order-is : (i : ℕ) (ss : List Slot) (is_free : ℕ → Bool) → i + length ss ≤ 2 ^ 32
+    → ((j : ℕ) → j < length ss → is_free (i + j) ≡ eqb (get_or ss j empty_slot).count 0)
+    → free_in_order is_free (map block_of (known_from i ss)) ≡ map block_at (free_from i ss)
 free_in_order-is i [] is_free fits each = refl
 free_in_order-is i (s ∷ ss) is_free fits each =
     let later : (j : ℕ) → j < length ss → is_free ((i + 1) + j) ≡ eqb (get_or ss j empty_slot).count 0 =
@@ -99,7 +102,11 @@ sizes-known_from i (s ∷ ss) =
     let rest = sizes-known_from (i + 1) ss in
     elim (cases_Bool (eqb s.size 0)) [
       | inl t ↦ rw (t, sum_by-cons (λ (x : Slot). x.size) s ss, eqb-true s.size 0 t) (omega arith)
-      | inr f ↦ rw (f, sum_by-cons (λ (x : Slot). x.size) s ss, sum_by-cons (λ (b : Block). b.size) (record { number = i; size = s.size }) (map block_of (known_from (i + 1) ss))) (omega arith)
+      | inr f ↦ rw (
+        f,
+        sum_by-cons (λ (x : Slot). x.size) s ss,
+        sum_by-cons (λ (b : Block). b.size) (record { number = i; size = s.size }) (map block_of (known_from (i + 1) ss)),
+      ) (omega arith)
     ]
 
 abbrev held_of : List Known → ℕ
@@ -118,7 +125,14 @@ held-known_from i (s ∷ ss) ok =
                 rw (f, sum_by-cons held_bytes s ss, o, le-ltb 0 s.count none) (omega arith)
             | inr c ↦
                 let some : 0 < s.count = omega (arith, eqb-false s.count 0 c) in
-                rw (f, sum_by-cons held_bytes s ss, c, lt-ltb 0 s.count some, sum_by-cons (λ (k : Known). k.size) (record { number = i; size = s.size; count = s.count }) (filter (λ k. ltb 0 k.count) (known_from (i + 1) ss))) (omega arith)
+                rw (
+                  f,
+                  sum_by-cons held_bytes s ss,
+                  c,
+                  lt-ltb 0 s.count some,
+                  sum_by-cons (λ (k : Known). k.size) (record { number = i; size = s.size; count = s.count })
+                      (filter (λ k. ltb 0 k.count) (known_from (i + 1) ss)),
+                ) (omega arith)
           ]
     ]
 

@@ -1,5 +1,6 @@
 -- What a slot leaves that is granted again, given up or filled.
-use Rattle.std.proofs.Common.{◌≡◌, ◌≢◌, ℕ, ◌+◌, ◌<◌, true, not, eqb, ltb, List, [], ◌∷◌, ◌++◌, length, get_or, set, sum_by, refl, ap, sym, ◌∙◌, subst, inl, inr, arith, length-set}
+use Rattle.std.proofs.Common.{◌≡◌, ◌≢◌, ℕ, ◌+◌, ◌<◌, true, not, eqb, ltb, List, [], ◌∷◌, ◌++◌, length, get_or, set, sum_by, refl, ap, sym, ◌∙◌, subst, inl}
+use Rattle.std.proofs.Common.{inr, arith, length-set}
 use Rattle.std.proofs.lemmas.Bool.{eq-eqb, ne_eqb, eqb-true, cases_Bool, and_parts}
 use Rattle.std.proofs.lemmas.List.{length-map}
 use Rattle.std.proofs.lemmas.List.Sums.{sum_by_push}
@@ -10,7 +11,8 @@ use Rattle.pool_ledger.specs.Inside.{ledger_of, known_from, unused_from, free_fr
 use Rattle.pool_ledger.specs.declared.pools.Slot.{Slot}
 use Rattle.pool_ledger.specs.declared.pools.Pool.TheInside.{Inside}
 use Rattle.pool_ledger.proofs.Missing.{NewSlot, new_slot}
-use Rattle.pool_ledger.proofs.SlotLists.{known_from-recount, known_from-fill, known_from-push, unused_from-recount, unused_from-clear, free_from-same, free_from-close, free_from-push, length-known_from}
+use Rattle.pool_ledger.proofs.SlotLists.{known_from-recount, known_from-fill, known_from-push, unused_from-recount, unused_from-clear, free_from-same}
+use Rattle.pool_ledger.proofs.SlotLists.{free_from-close, free_from-push, length-known_from}
 use Rattle.pool_ledger.proofs.KeyLists.{length-with_key}
 use Rattle.pool_ledger.proofs.Sound.{held_shut, empty_shut, sum_by-slot, sum_by-slot_same}
 
@@ -33,7 +35,8 @@ pub record TakesFree (ss ts : List Slot) (b size : ℕ) : Type 0 where
   pub standing : sum_by size_of ts ≡ sum_by size_of ss
   pub held : sum_by held_bytes ts ≡ sum_by held_bytes ss + size
 
-pub reuse_takes : (ss : List Slot) (b : ℕ) (s : Slot) → b < length ss → s.size ≡ (get_or ss b empty_slot).size → is_open (get_or ss b empty_slot) ≡ true → s.count ≢ 0 → IsRising (free_from 0 ss) → TakesFree ss (set ss b s) b s.size
+pub reuse_takes : (ss : List Slot) (b : ℕ) (s : Slot) → b < length ss → s.size ≡ (get_or ss b empty_slot).size → is_open (get_or ss b empty_slot) ≡ true
+    → s.count ≢ 0 → IsRising (free_from 0 ss) → TakesFree ss (set ss b s) b s.size
 reuse_takes ss b s h same was now rising =
     let old = get_or ss b empty_slot in
     let some : s.size ≢ 0 = λ e. open_some old was (sym same ∙ e) in
@@ -41,7 +44,8 @@ reuse_takes ss b s h same was now rising =
     let bytes : held_bytes s ≡ s.size = rw (ne_eqb s.count 0 now) in
     record {
       long = length-set ss b s;
-      free = free_from-close 0 b b ss empty_slot s (omega arith) h was (held_shut s now) rising ∙ ap (λ n. without_key (key_of n b) (free_from 0 ss)) (sym same);
+      free = free_from-close 0 b b ss empty_slot s (omega arith) h was (held_shut s now) rising
+          ∙ ap (λ n. without_key (key_of n b) (free_from 0 ss)) (sym same);
       unused = unused_from-recount 0 b ss empty_slot s same;
       known = ap length (known_from-recount 0 b b ss empty_slot s (omega arith) h same some) ∙ length-map (known_from 0 ss) (recounted b s.count);
       standing = sum_by-slot_same size_of ss b s h same;
@@ -57,7 +61,8 @@ pub record GivesUp (ss ts : List Slot) (b size : ℕ) : Type 0 where
   pub standing : sum_by size_of ts + size ≡ sum_by size_of ss
   pub held : sum_by held_bytes ts ≡ sum_by held_bytes ss
 
-pub clear_gives : (ss : List Slot) (b size : ℕ) → b < length ss → (get_or ss b empty_slot).size ≡ size → is_open (get_or ss b empty_slot) ≡ true → IsRising (free_from 0 ss) → GivesUp ss (set ss b empty_slot) b size
+pub clear_gives : (ss : List Slot) (b size : ℕ) → b < length ss → (get_or ss b empty_slot).size ≡ size → is_open (get_or ss b empty_slot) ≡ true
+    → IsRising (free_from 0 ss) → GivesUp ss (set ss b empty_slot) b size
 clear_gives ss b size h same was rising =
     let old = get_or ss b empty_slot in
     let ts = set ss b empty_slot in
@@ -67,7 +72,8 @@ clear_gives ss b size h same was rising =
     let none : held_bytes empty_slot ≡ held_bytes old = rw (eq-eqb old.count 0 (open_free old was)) in
     record {
       long = length-set ss b empty_slot;
-      free = free_from-close 0 b b ss empty_slot empty_slot (omega arith) h was (empty_shut empty_slot refl) rising ∙ ap (λ n. without_key (key_of n b) (free_from 0 ss)) same;
+      free = free_from-close 0 b b ss empty_slot empty_slot (omega arith) h was (empty_shut empty_slot refl) rising
+          ∙ ap (λ n. without_key (key_of n b) (free_from 0 ss)) same;
       unused = unused;
       known = omega (arith, length-known_from 0 ss, length-known_from 0 ts, longer, length-set ss b empty_slot);
       standing = omega (arith, sum_by-slot size_of ss b empty_slot h, same);
@@ -90,7 +96,8 @@ length-with_known k (j ∷ ks) =
 abbrev pub one_hold : ℕ → Slot
 one_hold size = record { size = size; count = 1 }
 
-pub set_fills : (ss : List Slot) (b size : ℕ) → b < length ss → (get_or ss b empty_slot).size ≡ 0 → (get_or ss b empty_slot).count ≡ 0 → size ≢ 0 → Fills ss (set ss b (one_hold size)) b size
+pub set_fills : (ss : List Slot) (b size : ℕ) → b < length ss → (get_or ss b empty_slot).size ≡ 0 → (get_or ss b empty_slot).count ≡ 0 → size ≢ 0
+    → Fills ss (set ss b (one_hold size)) b size
 set_fills ss b size h none free some =
     let old = get_or ss b empty_slot in
     let list = known_from-fill 0 b (record { number = b; size = size; count = 1 }) ss empty_slot (one_hold size) (omega arith) h none some refl refl in
@@ -118,10 +125,12 @@ pub new_slot_at : (a : Inside) (p : Ledger) (b : ℕ) → ledger_of a ≡ p → 
 new_slot_at a p b e h = new_slot a.slots.items b (h ∙ ap (λ q. new_number (blocks q)) (sym e))
 
 -- the ledger of tables in which this number has a new block
-pub ledger-fill : (a : Inside) (p : Ledger) (ts : List Slot) (b size : ℕ) → ledger_of a ≡ p → Fills a.slots.items ts b size → record { limit = a.limit; room = a.room; known = known_from 0 ts; unnamed = a.unnamed.items } ≡ with_block b size p
+pub ledger-fill : (a : Inside) (p : Ledger) (ts : List Slot) (b size : ℕ) → ledger_of a ≡ p → Fills a.slots.items ts b size
+    → record { limit = a.limit; room = a.room; known = known_from 0 ts; unnamed = a.unnamed.items } ≡ with_block b size p
 ledger-fill a p ts b size e f =
     ap (λ ks. record { limit = a.limit; room = a.room; known = ks; unnamed = a.unnamed.items }) f.list ∙ ap (with_block b size) e
 
 -- the room that the new block needs
-pub room_left : (a : Inside) (p : Ledger) → ledger_of a ≡ p → length p.known + length p.unnamed < p.room → length (known_from 0 a.slots.items) + length a.unnamed.items < a.room
+pub room_left : (a : Inside) (p : Ledger) → ledger_of a ≡ p → length p.known + length p.unnamed < p.room
+    → length (known_from 0 a.slots.items) + length a.unnamed.items < a.room
 room_left a p e h = subst (λ (q : Ledger). length q.known + length q.unnamed < q.room) (sym e) h

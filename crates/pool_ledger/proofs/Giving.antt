@@ -1,12 +1,15 @@
 -- One block given up after another.
-use Rattle.std.proofs.Common.{◌≡◌, ℕ, zero, suc, ◌+◌, ◌-◌, ◌<◌, ◌≤◌, true, false, not, ◌||◌, eqb, leb, Option, Some, None, Ok, Err, List, [], ◌∷◌, ◌++◌, length, map, take, drop, refl, ap, sym, ◌∙◌, subst, inl, inr, arith, append_assoc, append-nil, length-drop}
+use Rattle.std.proofs.Common.{◌≡◌, ℕ, zero, suc, ◌+◌, ◌-◌, ◌<◌, ◌≤◌, true, false, not, ◌||◌, eqb, leb, Option, Some, None, Ok, Err, List, [], ◌∷◌, ◌++◌}
+use Rattle.std.proofs.Common.{length, map, take, drop, refl, ap, sym, ◌∙◌, subst, inl, inr, arith, append_assoc, append-nil, length-drop}
 use Rattle.std.specs.List.{filter}
 use Rattle.std.proofs.lemmas.Bool.{cases_Bool}
-use Rattle.pool_ledger.specs.Grants.{Block, Answer, Refused, Granted, sizes, passes, count_to_give, given_up, fit_or_fresh, fresh_grant, smallest_fit, free_in_order, has_number, left_after, new_number}
+use Rattle.pool_ledger.specs.Grants.{Block, Answer, Refused, Granted, sizes, passes, count_to_give, given_up, fit_or_fresh, fresh_grant, smallest_fit}
+use Rattle.pool_ledger.specs.Grants.{free_in_order, has_number, left_after, new_number}
 use Rattle.pool_ledger.specs.declared.grants.Grant.{Grant}
 use Rattle.pool_ledger.specs.declared.grants.Refused.{Refused as RefusedAnswer}
 use Rattle.pool_ledger.proofs.Picks.{found_block}
-use Rattle.pool_ledger.specs.Ledger.{Known, Ledger, without, without_blocks, numbers, largest_first, blocks, block_of, is_free, held, grant_for, answered, has_block}
+use Rattle.pool_ledger.specs.Ledger.{Known, Ledger, without, without_blocks, numbers, largest_first, blocks, block_of, is_free, held, grant_for, answered}
+use Rattle.pool_ledger.specs.Ledger.{has_block}
 
 -- so many of the largest free blocks are gone
 pub record GivenUp (p q : Ledger) (i : ℕ) : Type 0 where
@@ -21,7 +24,8 @@ without_none (k ∷ ks) = ap (λ xs. k ∷ xs) (without_none ks)
 pub given_up_none : (p : Ledger) → GivenUp p p 0
 given_up_none p =
     record {
-      so_far = sym (ap (λ ks. record p { known = ks; unnamed = p.unnamed ++ [] }) (without_none p.known) ∙ ap (λ us. record p { unnamed = us }) (append-nil p.unnamed));
+      so_far = sym (ap (λ ks. record p { known = ks; unnamed = p.unnamed ++ [] }) (without_none p.known)
+          ∙ ap (λ us. record p { unnamed = us }) (append-nil p.unnamed));
       rest = refl;
       room = refl;
     }
@@ -50,7 +54,8 @@ map-append (x ∷ xs) ys = ap (λ ns. x.number ∷ ns) (map-append xs ys)
 without_blocks-both : (xs ys : List Block) (p : Ledger) → without_blocks ys (without_blocks xs p) ≡ without_blocks (xs ++ ys) p
 without_blocks-both xs ys p =
     ap (λ ks. record p { known = ks; unnamed = (p.unnamed ++ numbers xs) ++ numbers ys }) (without-without xs ys p.known)
-    ∙ ap (λ us. record p { known = without (xs ++ ys) p.known; unnamed = us }) (append_assoc p.unnamed (numbers xs) (numbers ys) ∙ ap (λ ns. p.unnamed ++ ns) (sym (map-append xs ys)))
+    ∙ ap (λ us. record p { known = without (xs ++ ys) p.known; unnamed = us }) (append_assoc p.unnamed (numbers xs) (numbers ys)
+    ∙ ap (λ ns. p.unnamed ++ ns) (sym (map-append xs ys)))
 
 take-one : (i : ℕ) (bs : List Block) → take i bs ++ take 1 (drop i bs) ≡ take (suc i) bs
 take-one zero bs = refl
@@ -62,13 +67,15 @@ drop-one zero bs = refl
 drop-one (suc i) [] = refl
 drop-one (suc i) (b ∷ bs) = drop-one i bs
 
-pub given_up_more : (p q r : Ledger) (i : ℕ) → GivenUp p q i → r ≡ without_blocks (take 1 (largest_first q)) q → largest_first r ≡ drop 1 (largest_first q) → length r.known + length r.unnamed ≡ length q.known + length q.unnamed → GivenUp p r (i + 1)
+pub given_up_more : (p q r : Ledger) (i : ℕ) → GivenUp p q i → r ≡ without_blocks (take 1 (largest_first q)) q → largest_first r ≡ drop 1 (largest_first q)
+    → length r.known + length r.unnamed ≡ length q.known + length q.unnamed → GivenUp p r (i + 1)
 given_up_more p q r i g e f m =
     let one : i + 1 ≡ suc i = omega arith in
     let bs = largest_first p in
     subst (GivenUp p r) (sym one)
     (record {
-      so_far = e ∙ ap (λ xs. without_blocks (take 1 xs) q) g.rest ∙ ap (without_blocks (take 1 (drop i bs))) g.so_far ∙ without_blocks-both (take i bs) (take 1 (drop i bs)) p ∙ ap (λ xs. without_blocks xs p) (take-one i bs);
+      so_far = e ∙ ap (λ xs. without_blocks (take 1 xs) q) g.rest ∙ ap (without_blocks (take 1 (drop i bs))) g.so_far
+          ∙ without_blocks-both (take i bs) (take 1 (drop i bs)) p ∙ ap (λ xs. without_blocks xs p) (take-one i bs);
       rest = f ∙ ap (drop 1) g.rest ∙ drop-one i bs;
       room = m ∙ g.room;
     })
@@ -78,7 +85,8 @@ given_up_left p q i n g less most = rw (g.rest, length-drop) (omega arith)
 
 -- THE BLOCKS THAT ARE LEFT
 
-pub blocks-without : (gone : List Block) (ks : List Known) → map block_of (without gone ks) ≡ filter (λ (b : Block). not (has_number b.number gone)) (map block_of ks)
+pub blocks-without : (gone : List Block) (ks : List Known)
+    → map block_of (without gone ks) ≡ filter (λ (b : Block). not (has_number b.number gone)) (map block_of ks)
 blocks-without gone [] = refl
 blocks-without gone (k ∷ ks) =
     let rest = blocks-without gone ks in
@@ -98,7 +106,8 @@ pub record IsGranted (a : Answer) (g : Grant) : Type 0 where
 
 pub answered_ok : (held : ℕ) (a : Answer) (g : Grant) → Ok g ≡ answered held a → IsGranted a g
 answered_ok held Refused g e = absurd (cc)
-answered_ok held (Granted b n f k) g e = let same : g ≡ record { block = b; size = n; fresh = f; given_up = k } = cc in record { is = ap (λ (h : Grant). Granted h.block h.size h.fresh h.given_up) (sym same) }
+answered_ok held (Granted b n f k) g e = let same : g ≡ record { block = b; size = n; fresh = f; given_up = k } = cc in
+    record { is = ap (λ (h : Grant). Granted h.block h.size h.fresh h.given_up) (sym same) }
 
 pub answered_err : (held : ℕ) (a : Answer) (r : RefusedAnswer) → Err r ≡ answered held a → a ≡ Refused
 answered_err held Refused r e = refl
@@ -110,7 +119,8 @@ pub record IsFresh (p : Ledger) (n b size given : ℕ) : Type 0 where
   pub given_is : given ≤ length (largest_first p)
   pub number_is : b ≡ new_number (left_after given (is_free p) (blocks p))
 
-fit_fresh : (p : Ledger) (n b size given : ℕ) (o : Option Block) → fit_or_fresh p.limit n (is_free p) (blocks p) o ≡ Granted b size true given → IsFresh p n b size given
+fit_fresh : (p : Ledger) (n b size given : ℕ) (o : Option Block) → fit_or_fresh p.limit n (is_free p) (blocks p) o ≡ Granted b size true given
+    → IsFresh p n b size given
 fit_fresh p n b size given (Some x) e = absurd (cc)
 fit_fresh p n b size given None e =
     let k = given_up p.limit n (is_free p) (blocks p) in
@@ -118,7 +128,11 @@ fit_fresh p n b size given None e =
     let most = count_to_give-le p.limit n (sizes (blocks p)) (largest_first p) in
     let number : new_number (left_after k (is_free p) (blocks p)) ≡ b = cc in
     let bytes : n ≡ size = cc in
-    record { sized = sym bytes; given_is = subst (λ i. i ≤ length (largest_first p)) same most; number_is = sym number ∙ ap (λ i. new_number (left_after i (is_free p) (blocks p))) same }
+    record {
+      sized = sym bytes;
+      given_is = subst (λ i. i ≤ length (largest_first p)) same most;
+      number_is = sym number ∙ ap (λ i. new_number (left_after i (is_free p) (blocks p))) same;
+    }
 
 pub granted_fresh : (p : Ledger) (n b size given : ℕ) → grant_for n p ≡ Granted b size true given → IsFresh p n b size given
 granted_fresh p n b size given e =
@@ -127,7 +141,8 @@ granted_fresh p n b size given e =
       | inr f ↦ fit_fresh p n b size given (smallest_fit n (is_free p) (blocks p)) (rw f at e)
     ]
 
-fit_kept : (p : Ledger) (n b size given : ℕ) (o : Option Block) → fit_or_fresh p.limit n (is_free p) (blocks p) o ≡ Granted b size false given → o ≡ Some (record { number = b; size = size })
+fit_kept : (p : Ledger) (n b size given : ℕ) (o : Option Block) → fit_or_fresh p.limit n (is_free p) (blocks p) o ≡ Granted b size false given
+    → o ≡ Some (record { number = b; size = size })
 fit_kept p n b size given (Some x) e =
     let number : x.number ≡ b = cc in
     let bytes : x.size ≡ size = cc in
@@ -135,18 +150,22 @@ fit_kept p n b size given (Some x) e =
 fit_kept p n b size given None e = absurd (cc)
 
 -- a free block's grant
-pub granted_kept : (p : Ledger) (n b size given : ℕ) → grant_for n p ≡ Granted b size false given → has_block b size (free_in_order (is_free p) (blocks p)) ≡ true
+pub granted_kept : (p : Ledger) (n b size given : ℕ) → grant_for n p ≡ Granted b size false given
+    → has_block b size (free_in_order (is_free p) (blocks p)) ≡ true
 granted_kept p n b size given e =
     elim (cases_Bool (passes p.limit (held p + n))) [
       | inl t ↦ absurd (let r = rw t at e in cc)
-      | inr f ↦ found_block (λ (x : Block). leb n x.size) (free_in_order (is_free p) (blocks p)) (record { number = b; size = size }) (fit_kept p n b size given (smallest_fit n (is_free p) (blocks p)) (rw f at e))
+      | inr f ↦ found_block (λ (x : Block). leb n x.size) (free_in_order (is_free p) (blocks p)) (record { number = b; size = size })
+          (fit_kept p n b size given (smallest_fit n (is_free p) (blocks p)) (rw f at e))
     ]
 
 pub refused_for : (p : Ledger) (n : ℕ) → passes p.limit (held p + n) ≡ true → grant_for n p ≡ Refused
 refused_for p n t = rw t
 
-pub kept_for : (p : Ledger) (n : ℕ) (x : Block) → passes p.limit (held p + n) ≡ false → smallest_fit n (is_free p) (blocks p) ≡ Some x → grant_for n p ≡ Granted x.number x.size false 0
+pub kept_for : (p : Ledger) (n : ℕ) (x : Block) → passes p.limit (held p + n) ≡ false → smallest_fit n (is_free p) (blocks p) ≡ Some x
+    → grant_for n p ≡ Granted x.number x.size false 0
 kept_for p n x f e = rw f (ap (fit_or_fresh p.limit n (is_free p) (blocks p)) e)
 
-pub fresh_for : (p : Ledger) (n : ℕ) → passes p.limit (held p + n) ≡ false → smallest_fit n (is_free p) (blocks p) ≡ None → grant_for n p ≡ fresh_grant n (given_up p.limit n (is_free p) (blocks p)) (is_free p) (blocks p)
+pub fresh_for : (p : Ledger) (n : ℕ) → passes p.limit (held p + n) ≡ false → smallest_fit n (is_free p) (blocks p) ≡ None
+    → grant_for n p ≡ fresh_grant n (given_up p.limit n (is_free p) (blocks p)) (is_free p) (blocks p)
 fresh_for p n f e = rw f (ap (fit_or_fresh p.limit n (is_free p) (blocks p)) e)

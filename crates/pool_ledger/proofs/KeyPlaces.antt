@@ -32,7 +32,9 @@ greatest_below-none bound [] r e = refl
 greatest_below-none bound (k ∷ ks) r e =
     elim (cases_lt k bound) [
       | inl past ↦ absurd (omega (arith, count_below-past bound k ks past))
-      | inr here ↦ ap (find (λ x. ltb x bound)) (reverse-cons k ks) ∙ find-append_none (λ x. ltb x bound) (reverse ks) (k ∷ []) (greatest_below-none bound ks r.1 (none_below bound k ks here r.0)) ∙ rw (le-ltb k bound here)
+      | inr here ↦ ap (find (λ x. ltb x bound)) (reverse-cons k ks)
+          ∙ find-append_none (λ x. ltb x bound) (reverse ks) (k ∷ []) (greatest_below-none bound ks r.1 (none_below bound k ks here r.0))
+          ∙ rw (le-ltb k bound here)
     ]
 
 pub weaker : (a b : ℕ) (ks : List ℕ) → a < b → AllByRecursion (λ k. b < k) ks → AllByRecursion (λ k. a < k) ks

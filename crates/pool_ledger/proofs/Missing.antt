@@ -1,5 +1,6 @@
 -- The least number that names no block.
-use Rattle.std.proofs.Common.{◌≡◌, ◌≢◌, ℕ, zero, suc, ◌+◌, ◌<◌, ◌≤◌, Bool, true, false, not, ◌&&◌, ◌||◌, cond, eqb, List, [], ◌∷◌, length, get_or, map, min, unwrap_or, refl, ap, sym, ◌∙◌, inl, inr, arith}
+use Rattle.std.proofs.Common.{◌≡◌, ◌≢◌, ℕ, zero, suc, ◌+◌, ◌<◌, ◌≤◌, Bool, true, false, not, ◌&&◌, ◌||◌, cond, eqb, List, [], ◌∷◌, length, get_or, map, min}
+use Rattle.std.proofs.Common.{unwrap_or, refl, ap, sym, ◌∙◌, inl, inr, arith}
 use Rattle.std.specs.List.{list_any}
 use Rattle.std.proofs.lemmas.Bool.{le-leb, eq-eqb, ne_eqb, eqb-true, eqb-false, cases_lt, cases_Bool, or_cases, or_right}
 use Rattle.pool_ledger.specs.Keys.{least_from}
@@ -77,7 +78,8 @@ first_unused-cons i s ss =
     let after : (i + 1) + length ss ≡ i + suc (length ss) = omega arith in
     elim (cases_Bool (eqb s.size 0)) [ inl t ↦ rw (t, le-leb 0 i (omega arith)) | inr f ↦ rw (f, after) ]
 
-pub first_unused-least : (i : ℕ) (ss : List Slot) → (j : ℕ) × (first_unused i ss ≡ i + j) × (j ≤ length ss) × ((get_or ss j empty_slot).size ≡ 0) × ((k : ℕ) → k < j → (get_or ss k empty_slot).size ≢ 0)
+pub first_unused-least : (i : ℕ) (ss : List Slot)
+    → (j : ℕ) × (first_unused i ss ≡ i + j) × (j ≤ length ss) × ((get_or ss j empty_slot).size ≡ 0) × ((k : ℕ) → k < j → (get_or ss k empty_slot).size ≢ 0)
 first_unused-least i [] = (0, omega arith, omega arith, refl, λ k h. absurd (omega arith))
 first_unused-least i (s ∷ ss) =
     elim (cases_Bool (eqb s.size 0)) [
@@ -87,7 +89,8 @@ first_unused-least i (s ∷ ss) =
           (suc rest.0, rw (first_unused-cons i s ss, f) (omega (arith, rest.1)), omega (arith, rest.2), rest.3, each s ss rest.0 f rest.4)
     ]
   where
-    each : (s : Slot) (ss : List Slot) (j : ℕ) → eqb s.size 0 ≡ false → ((k : ℕ) → k < j → (get_or ss k empty_slot).size ≢ 0) → (k : ℕ) → k < suc j → (get_or (s ∷ ss) k empty_slot).size ≢ 0
+    each : (s : Slot) (ss : List Slot) (j : ℕ) → eqb s.size 0 ≡ false → ((k : ℕ) → k < j → (get_or ss k empty_slot).size ≢ 0) → (k : ℕ) → k < suc j
+        → (get_or (s ∷ ss) k empty_slot).size ≢ 0
     each s ss j f h zero lt = eqb-false s.size 0 f
     each s ss j f h (suc k) lt = h k (omega arith)
 
@@ -153,7 +156,8 @@ has_unused i (suc j) b (s ∷ ss) e h none =
     let rest = has_unused (i + 1) j b ss (omega arith) (omega arith) none in
     elim (cases_Bool (eqb s.size 0)) [ inl t ↦ rw t (or_right (eqb i b) (is_in (unused_from (i + 1) ss) b) rest) | inr f ↦ rw f rest ]
 
-pub full_at : (a : Inside) (p : Ledger) (b : ℕ) → ledger_of a ≡ p → b ≡ new_number (blocks p) → b ≡ length a.slots.items → length (known_from 0 a.slots.items) ≡ length a.slots.items
+pub full_at : (a : Inside) (p : Ledger) (b : ℕ) → ledger_of a ≡ p → b ≡ new_number (blocks p) → b ≡ length a.slots.items
+    → length (known_from 0 a.slots.items) ≡ length a.slots.items
 full_at a p b e h last =
     let new : b ≡ first_unused 0 a.slots.items = h ∙ ap (λ q. new_number (blocks q)) (sym e) ∙ new_number-slots a.slots.items in
     full a.slots.items (sym new ∙ last)

@@ -1,5 +1,6 @@
 -- The free blocks by their keys, from either end.
-use Rattle.std.proofs.Common.{◌≡◌, ℕ, suc, ◌+◌, ◌*◌, ◌/◌, ◌%◌, ◌^◌, ◌<◌, ◌≤◌, Bool, true, ◌&&◌, eqb, ltb, leb, List, [], ◌∷◌, ◌++◌, length, get_or, map, reverse, Some, refl, ap, sym, ◌∙◌, subst, ◌⊎◌, inl, inr, arith}
+use Rattle.std.proofs.Common.{◌≡◌, ℕ, suc, ◌+◌, ◌*◌, ◌/◌, ◌%◌, ◌^◌, ◌<◌, ◌≤◌, Bool, true, ◌&&◌, eqb, ltb, leb, List, [], ◌∷◌, ◌++◌, length, get_or, map}
+use Rattle.std.proofs.Common.{reverse, Some, refl, ap, sym, ◌∙◌, subst, ◌⊎◌, inl, inr, arith}
 use Rattle.std.specs.List.{find, list_any}
 use Rattle.std.specs.Option.{option_map}
 use Rattle.std.proofs.lemmas.Bool.{le-leb, lt-leb, eq-eqb, eqb-true, cases_lt, cases_Bool, or_cases, or_left, or_right, and_from, and_parts}
@@ -22,13 +23,15 @@ map-append f (x ∷ xs) ys = ap (λ bs. f x ∷ bs) (map-append f xs ys)
 map-reverse : (f : ℕ → Block) (xs : List ℕ) → reverse (map f xs) ≡ map f (reverse xs)
 map-reverse f [] = refl
 map-reverse f (x ∷ xs) =
-    reverse-append (f x ∷ []) (map f xs) ∙ ap (λ bs. bs ++ f x ∷ []) (map-reverse f xs) ∙ sym (map-append f (reverse xs) (x ∷ [])) ∙ ap (map f) (sym (reverse-cons x xs))
+    reverse-append (f x ∷ []) (map f xs) ∙ ap (λ bs. bs ++ f x ∷ []) (map-reverse f xs) ∙ sym (map-append f (reverse xs) (x ∷ []))
+    ∙ ap (map f) (sym (reverse-cons x xs))
 
 pub free_in_order-keys : (a : Inside) → IsSound a → free_in_order (is_free (ledger_of a)) (blocks (ledger_of a)) ≡ map block_at a.free.keys
 free_in_order-keys a s =
     let ss = a.slots.items in
     free_in_order-is 0 ss (is_free (ledger_of a)) (omega (arith, s.slots_fit, s.room_fits))
-    (λ j h. let zeroth : 0 + j ≡ j = omega arith in ap (is_free (ledger_of a)) zeroth ∙ ap (λ n. eqb n 0) (count_of-known_from 0 j j ss (sym zeroth) s.in_range))
+    (λ j h. let zeroth : 0 + j ≡ j = omega arith in ap (is_free (ledger_of a)) zeroth
+    ∙ ap (λ n. eqb n 0) (count_of-known_from 0 j j ss (sym zeroth) s.in_range))
     ∙ ap (map block_at) (sym s.free_keys)
 
 pub largest_first-keys : (a : Inside) → IsSound a → largest_first (ledger_of a) ≡ map block_at (reverse a.free.keys)
@@ -114,13 +117,15 @@ same_key m i n b hi hb e = (omega arith, omega arith)
 later : (i b n : ℕ) (s : Slot) (ss : List Slot) → (j : ℕ) × (b ≡ (i + 1) + j) × OpenSlot ss j n → (j : ℕ) × (b ≡ i + j) × OpenSlot (s ∷ ss) j n
 later i b n s ss w = (suc w.0, omega (arith, w.1), record { inside = omega (arith, w.2.inside); shown = w.2.shown; sized = w.2.sized })
 
-slot_of_key_from : (i b n : ℕ) (ss : List Slot) → i + length ss ≤ 2 ^ 32 → b < 2 ^ 32 → list_any (λ k. eqb k (key_of n b)) (free_from i ss) ≡ true → (j : ℕ) × (b ≡ i + j) × OpenSlot ss j n
+slot_of_key_from : (i b n : ℕ) (ss : List Slot) → i + length ss ≤ 2 ^ 32 → b < 2 ^ 32 → list_any (λ k. eqb k (key_of n b)) (free_from i ss) ≡ true
+    → (j : ℕ) × (b ≡ i + j) × OpenSlot ss j n
 slot_of_key_from i b n [] fits hb h = absurd (cc)
 slot_of_key_from i b n (s ∷ ss) fits hb h =
     elim (cases_Bool (is_open s)) [
       | inl o ↦
           elim (has_key-with_key (key_of n b) (key_of s.size i) (free_from (i + 1) ss) (rw o at h)) [
-            | inl same ↦ let parts = same_key s.size i n b (omega arith) hb same in (0, omega (arith, parts.1), record { inside = omega arith; shown = o; sized = parts.0 })
+            | inl same ↦ let parts = same_key s.size i n b (omega arith) hb same in
+                (0, omega (arith, parts.1), record { inside = omega arith; shown = o; sized = parts.0 })
             | inr rest ↦ later i b n s ss (slot_of_key_from (i + 1) b n ss (omega arith) hb rest)
           ]
       | inr f ↦ later i b n s ss (slot_of_key_from (i + 1) b n ss (omega arith) hb (rw f at h))
@@ -155,22 +160,27 @@ found_block p (b ∷ bs) x e =
       | inl t ↦
           let same : Some b ≡ Some x = rw t at e in
           let is : b ≡ x = cc in
-          or_left (eqb b.number x.number && eqb b.size x.size) (has_block x.number x.size bs) (and_from (eqb b.number x.number) (eqb b.size x.size) (eq-eqb b.number x.number (ap (λ (y : Block). y.number) is)) (eq-eqb b.size x.size (ap (λ (y : Block). y.size) is)))
+          or_left (eqb b.number x.number && eqb b.size x.size) (has_block x.number x.size bs)
+          (and_from (eqb b.number x.number) (eqb b.size x.size) (eq-eqb b.number x.number (ap (λ (y : Block). y.number) is))
+          (eq-eqb b.size x.size (ap (λ (y : Block). y.size) is)))
       | inr f ↦ or_right (eqb b.number x.number && eqb b.size x.size) (has_block x.number x.size bs) (found_block p bs x (rw f at e))
     ]
 
 -- the free block's key is there
-pub key_here : (a : Inside) (p : Ledger) (b n : ℕ) → ledger_of a ≡ p → IsSound a → b < 2 ^ 32 → has_block b n (free_in_order (is_free p) (blocks p)) ≡ true → has_key (key_of n b) a.free.keys ≡ true
+pub key_here : (a : Inside) (p : Ledger) (b n : ℕ) → ledger_of a ≡ p → IsSound a → b < 2 ^ 32 → has_block b n (free_in_order (is_free p) (blocks p)) ≡ true
+    → has_key (key_of n b) a.free.keys ≡ true
 key_here a p b n e s hb h =
     let mine = subst (λ q. has_block b n (free_in_order (is_free q) (blocks q)) ≡ true) (sym e) h in
     has_key-block b n a.free.keys hb (sym (ap (has_block b n) (free_in_order-keys a s)) ∙ mine)
 
-pub slot_here : (a : Inside) (p : Ledger) (b n : ℕ) → ledger_of a ≡ p → IsSound a → b < 2 ^ 32 → has_block b n (free_in_order (is_free p) (blocks p)) ≡ true → OpenSlot a.slots.items b n
+pub slot_here : (a : Inside) (p : Ledger) (b n : ℕ) → ledger_of a ≡ p → IsSound a → b < 2 ^ 32
+    → has_block b n (free_in_order (is_free p) (blocks p)) ≡ true → OpenSlot a.slots.items b n
 slot_here a p b n e s hb h =
     slot_of_key b n a.slots.items (omega (arith, s.slots_fit, s.room_fits)) hb (sym (ap (has_key (key_of n b)) s.free_keys) ∙ key_here a p b n e s hb h)
 
 -- the smallest free block that is large enough, by its key
-pub smallest_fit-keys : (a : Inside) (p : Ledger) (n : ℕ) → ledger_of a ≡ p → IsSound a → smallest_fit n (is_free p) (blocks p) ≡ option_map block_at (least_from (n * 4294967296) a.free.keys)
+pub smallest_fit-keys : (a : Inside) (p : Ledger) (n : ℕ) → ledger_of a ≡ p → IsSound a
+    → smallest_fit n (is_free p) (blocks p) ≡ option_map block_at (least_from (n * 4294967296) a.free.keys)
 smallest_fit-keys a p n e s =
     subst (λ q. smallest_fit n (is_free q) (blocks q) ≡ option_map block_at (least_from (n * 4294967296) a.free.keys)) e
     (ap (find (λ (b : Block). leb n b.size)) (free_in_order-keys a s) ∙ find-keys n a.free.keys)

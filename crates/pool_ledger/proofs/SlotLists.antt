@@ -1,5 +1,6 @@
 -- What a change of one slot makes of the lists that are read from the slots.
-use Rattle.std.proofs.Common.{◌≡◌, ◌≢◌, ℕ, zero, suc, ◌+◌, ◌^◌, ◌<◌, ◌≤◌, true, false, cond, eqb, ltb, List, [], ◌∷◌, ◌++◌, length, get_or, set, refl, ap, sym, ◌∙◌, subst, length-set, inl, inr, arith}
+use Rattle.std.proofs.Common.{◌≡◌, ◌≢◌, ℕ, zero, suc, ◌+◌, ◌^◌, ◌<◌, ◌≤◌, true, false, cond, eqb, ltb, List, [], ◌∷◌, ◌++◌, length, get_or, set, refl, ap}
+use Rattle.std.proofs.Common.{sym, ◌∙◌, subst, length-set, inl, inr, arith}
 use Rattle.std.specs.List.{AllByRecursion}
 use Rattle.std.proofs.lemmas.Bool.{lt-ltb, le-ltb, eq-eqb, ne_eqb, cases_Bool, cond_both}
 use Rattle.std.proofs.lemmas.List.{set-set, set-get_or, get_or-set_same}
@@ -20,9 +21,11 @@ with_count-above i b c [] h = refl
 with_count-above i b c (s ∷ ss) h =
     cond_both (eqb s.size 0) _ _ (λ ks. with_count b c ks ≡ ks)
     (λ _. with_count-above (i + 1) b c ss (omega arith))
-    (λ _. rw (ne_eqb i b (λ e. omega arith)) (ap (λ ks. record { number = i; size = s.size; count = s.count } ∷ ks) (with_count-above (i + 1) b c ss (omega arith))))
+    (λ _. rw (ne_eqb i b (λ e. omega arith))
+    (ap (λ ks. record { number = i; size = s.size; count = s.count } ∷ ks) (with_count-above (i + 1) b c ss (omega arith))))
 
-pub known_from-recount : (i j b : ℕ) (ss : List Slot) (d s : Slot) → b ≡ i + j → j < length ss → s.size ≡ (get_or ss j d).size → s.size ≢ 0 → known_from i (set ss j s) ≡ with_count b s.count (known_from i ss)
+pub known_from-recount : (i j b : ℕ) (ss : List Slot) (d s : Slot) → b ≡ i + j → j < length ss → s.size ≡ (get_or ss j d).size → s.size ≢ 0
+    → known_from i (set ss j s) ≡ with_count b s.count (known_from i ss)
 known_from-recount i j b [] d s e h same some = absurd (omega arith)
 known_from-recount i zero b (x ∷ ss) d s e h same some =
     rw (ne_eqb s.size 0 some, ← same, ne_eqb s.size 0 some, eq-eqb i b (omega arith))
@@ -39,11 +42,13 @@ without_above i b n [] h = refl
 without_above i b n (s ∷ ss) h =
     elim (cases_Bool (eqb s.size 0)) [
       | inl t ↦ rw t (without_above (i + 1) b n ss (omega arith))
-      | inr f ↦ rw (f, ne_eqb b i (λ q. omega arith)) (ap (λ ks. record { number = i; size = s.size; count = s.count } ∷ ks) (without_above (i + 1) b n ss (omega arith)))
+      | inr f ↦ rw (f, ne_eqb b i (λ q. omega arith))
+          (ap (λ ks. record { number = i; size = s.size; count = s.count } ∷ ks) (without_above (i + 1) b n ss (omega arith)))
     ]
 
 -- the block's slot is emptied
-pub known_from-clear : (i j b n : ℕ) (ss : List Slot) (s : Slot) → b ≡ i + j → j < length ss → s.size ≡ 0 → known_from i (set ss j s) ≡ without (record { number = b; size = n } ∷ []) (known_from i ss)
+pub known_from-clear : (i j b n : ℕ) (ss : List Slot) (s : Slot) → b ≡ i + j → j < length ss → s.size ≡ 0
+    → known_from i (set ss j s) ≡ without (record { number = b; size = n } ∷ []) (known_from i ss)
 known_from-clear i j b n [] s e h none = absurd (omega arith)
 known_from-clear i zero b n (x ∷ ss) s e h none =
     elim (cases_Bool (eqb x.size 0)) [
@@ -66,7 +71,8 @@ with_known-before i k (s ∷ ss) h =
     ]
 
 -- an empty slot gets a block
-pub known_from-fill : (i j : ℕ) (k : Known) (ss : List Slot) (d s : Slot) → k.number ≡ i + j → j < length ss → (get_or ss j d).size ≡ 0 → s.size ≢ 0 → k.size ≡ s.size → k.count ≡ s.count → known_from i (set ss j s) ≡ with_known k (known_from i ss)
+pub known_from-fill : (i j : ℕ) (k : Known) (ss : List Slot) (d s : Slot) → k.number ≡ i + j → j < length ss → (get_or ss j d).size ≡ 0 → s.size ≢ 0
+    → k.size ≡ s.size → k.count ≡ s.count → known_from i (set ss j s) ≡ with_known k (known_from i ss)
 known_from-fill i j k [] d s e h none some sz ct = absurd (omega arith)
 known_from-fill i zero k (x ∷ ss) d s e h none some sz ct =
     let here : i ≡ k.number = omega arith in
@@ -79,7 +85,8 @@ known_from-fill i (suc j) k (x ∷ ss) d s e h none some sz ct =
     ]
 
 -- one more slot, with a block
-pub known_from-push : (i : ℕ) (k : Known) (ss : List Slot) (s : Slot) → k.number ≡ i + length ss → s.size ≢ 0 → k.size ≡ s.size → k.count ≡ s.count → known_from i (ss ++ s ∷ []) ≡ with_known k (known_from i ss)
+pub known_from-push : (i : ℕ) (k : Known) (ss : List Slot) (s : Slot) → k.number ≡ i + length ss → s.size ≢ 0 → k.size ≡ s.size → k.count ≡ s.count
+    → known_from i (ss ++ s ∷ []) ≡ with_known k (known_from i ss)
 known_from-push i k [] s e some sz ct =
     let here : i ≡ k.number = omega arith in
     rw (ne_eqb s.size 0 some, here, sym sz, sym ct)
@@ -107,7 +114,8 @@ with_key-first i b (s ∷ ss) h =
     ]
 
 -- the block's slot is emptied
-pub unused_from-clear : (i j b : ℕ) (ss : List Slot) (d s : Slot) → b ≡ i + j → j < length ss → (get_or ss j d).size ≢ 0 → s.size ≡ 0 → unused_from i (set ss j s) ≡ with_key b (unused_from i ss)
+pub unused_from-clear : (i j b : ℕ) (ss : List Slot) (d s : Slot) → b ≡ i + j → j < length ss → (get_or ss j d).size ≢ 0 → s.size ≡ 0
+    → unused_from i (set ss j s) ≡ with_key b (unused_from i ss)
 unused_from-clear i j b [] d s e h some none = absurd (omega arith)
 unused_from-clear i zero b (x ∷ ss) d s e h some none =
     let here : b ≡ i = omega arith in
@@ -133,7 +141,8 @@ free_from-same i zero (x ∷ ss) d s was now = rw (was, now)
 free_from-same i (suc j) (x ∷ ss) d s was now = rw (free_from-same (i + 1) j ss d s was now)
 
 -- a block becomes free
-pub free_from-open : (i j b : ℕ) (ss : List Slot) (d s : Slot) → b ≡ i + j → j < length ss → is_open (get_or ss j d) ≡ false → is_open s ≡ true → free_from i (set ss j s) ≡ with_key (key_of s.size b) (free_from i ss)
+pub free_from-open : (i j b : ℕ) (ss : List Slot) (d s : Slot) → b ≡ i + j → j < length ss → is_open (get_or ss j d) ≡ false → is_open s ≡ true
+    → free_from i (set ss j s) ≡ with_key (key_of s.size b) (free_from i ss)
 free_from-open i j b [] d s e h was now = absurd (omega arith)
 free_from-open i zero b (x ∷ ss) d s e h was now =
     let here : i ≡ b = omega arith in rw (was, now, here)
@@ -149,7 +158,8 @@ free_from-push i [] s now = rw now
 free_from-push i (x ∷ ss) s now = rw (free_from-push (i + 1) ss s now)
 
 -- a block stops being free
-pub free_from-close : (i j b : ℕ) (ss : List Slot) (d s : Slot) → b ≡ i + j → j < length ss → is_open (get_or ss j d) ≡ true → is_open s ≡ false → IsRising (free_from i ss) → free_from i (set ss j s) ≡ without_key (key_of (get_or ss j d).size b) (free_from i ss)
+pub free_from-close : (i j b : ℕ) (ss : List Slot) (d s : Slot) → b ≡ i + j → j < length ss → is_open (get_or ss j d) ≡ true → is_open s ≡ false
+    → IsRising (free_from i ss) → free_from i (set ss j s) ≡ without_key (key_of (get_or ss j d).size b) (free_from i ss)
 free_from-close i j b ss d s e h was now rising =
     let x = get_or ss j d in
     let back : set (set ss j s) j x ≡ ss = set-set ss j s x ∙ set-get_or ss j d in
@@ -160,7 +170,8 @@ free_from-close i j b ss d s e h was now rising =
     sym (ap (without_key (key_of x.size b)) put ∙ without-with_key (key_of x.size b) (free_from i (set ss j s)) (subst IsRising put rising))
 
 -- an empty slot gets a block
-pub unused_from-fill : (i j b : ℕ) (ss : List Slot) (d s : Slot) → b ≡ i + j → j < length ss → (get_or ss j d).size ≡ 0 → s.size ≢ 0 → IsRising (unused_from i ss) → unused_from i (set ss j s) ≡ without_key b (unused_from i ss)
+pub unused_from-fill : (i j b : ℕ) (ss : List Slot) (d s : Slot) → b ≡ i + j → j < length ss → (get_or ss j d).size ≡ 0 → s.size ≢ 0
+    → IsRising (unused_from i ss) → unused_from i (set ss j s) ≡ without_key b (unused_from i ss)
 unused_from-fill i j b ss d s e h was now rising =
     let x = get_or ss j d in
     let back : set (set ss j s) j x ≡ ss = set-set ss j s x ∙ set-get_or ss j d in
@@ -195,7 +206,8 @@ length-free_from i (s ∷ ss) =
     ]
 
 -- where some block is not free
-pub length-free_from_held : (i j : ℕ) (ss : List Slot) (d : Slot) → j < length ss → (get_or ss j d).size ≢ 0 → is_open (get_or ss j d) ≡ false → length (free_from i ss) < length (known_from i ss)
+pub length-free_from_held : (i j : ℕ) (ss : List Slot) (d : Slot) → j < length ss → (get_or ss j d).size ≢ 0 → is_open (get_or ss j d) ≡ false
+    → length (free_from i ss) < length (known_from i ss)
 length-free_from_held i j [] d h some shut = absurd (omega arith)
 length-free_from_held i zero (s ∷ ss) d h some shut =
     let rest = length-free_from (i + 1) ss in rw (shut, ne_eqb s.size 0 some) (omega arith)
@@ -230,7 +242,8 @@ absent-free_from_later i b n (s ∷ ss) h fits =
       | inr c ↦ rw c rest
     ]
 
-pub absent-free_from : (i j b n : ℕ) (ss : List Slot) (d : Slot) → b ≡ i + j → i + length ss ≤ 2 ^ 32 → b < 2 ^ 32 → is_open (get_or ss j d) ≡ false → AllByRecursion (λ k. k ≢ key_of n b) (free_from i ss)
+pub absent-free_from : (i j b n : ℕ) (ss : List Slot) (d : Slot) → b ≡ i + j → i + length ss ≤ 2 ^ 32 → b < 2 ^ 32 → is_open (get_or ss j d) ≡ false
+    → AllByRecursion (λ k. k ≢ key_of n b) (free_from i ss)
 absent-free_from i j b n [] d e fits hb shut = tt
 absent-free_from i zero b n (s ∷ ss) d e fits hb shut = rw shut (absent-free_from_later (i + 1) b n ss (omega arith) (omega arith))
 absent-free_from i (suc j) b n (s ∷ ss) d e fits hb shut =
@@ -246,7 +259,8 @@ absent-unused_later i b (s ∷ ss) h =
     let rest = absent-unused_later (i + 1) b ss (omega arith) in
     elim (cases_Bool (eqb s.size 0)) [ inl t ↦ rw t ((λ q. omega arith), rest) | inr f ↦ rw f rest ]
 
-pub absent-unused_from : (i j b : ℕ) (ss : List Slot) (d : Slot) → b ≡ i + j → j < length ss → (get_or ss j d).size ≢ 0 → AllByRecursion (λ k. k ≢ b) (unused_from i ss)
+pub absent-unused_from : (i j b : ℕ) (ss : List Slot) (d : Slot) → b ≡ i + j → j < length ss → (get_or ss j d).size ≢ 0
+    → AllByRecursion (λ k. k ≢ b) (unused_from i ss)
 absent-unused_from i j b [] d e h some = tt
 absent-unused_from i zero b (s ∷ ss) d e h some = rw (ne_eqb s.size 0 some) (absent-unused_later (i + 1) b ss (omega arith))
 absent-unused_from i (suc j) b (s ∷ ss) d e h some =

@@ -1,5 +1,6 @@
 -- What a pool's tables still keep once a slot has changed.
-use Rattle.std.proofs.Common.{◌≡◌, ◌≢◌, ℕ, zero, suc, ◌+◌, ◌^◌, ◌<◌, ◌≤◌, true, false, eqb, List, [], ◌∷◌, ◌++◌, length, get_or, set, sum_by, refl, ap, sym, ◌∙◌, inl, inr, arith, length-set}
+use Rattle.std.proofs.Common.{◌≡◌, ◌≢◌, ℕ, zero, suc, ◌+◌, ◌^◌, ◌<◌, ◌≤◌, true, false, eqb, List, [], ◌∷◌, ◌++◌, length, get_or, set, sum_by, refl, ap, sym}
+use Rattle.std.proofs.Common.{◌∙◌, inl, inr, arith, length-set}
 use Rattle.std.specs.List.{AllByRecursion}
 use Rattle.std.proofs.lemmas.Bool.{eq-eqb, ne_eqb, cases_Bool}
 use Rattle.std.proofs.lemmas.List.{length-map}
@@ -70,11 +71,13 @@ empty_shut s none = rw (eq-eqb s.size 0 none)
 pub sum_by-slot : (f : Slot → ℕ) (ss : List Slot) (b : ℕ) (s : Slot) → b < length ss → sum_by f (set ss b s) + f (get_or ss b empty_slot) ≡ sum_by f ss + f s
 sum_by-slot f ss b s h = sum_by-set f ss b s empty_slot h
 
-pub sum_by-slot_same : (f : Slot → ℕ) (ss : List Slot) (b : ℕ) (s : Slot) → b < length ss → f s ≡ f (get_or ss b empty_slot) → sum_by f (set ss b s) ≡ sum_by f ss
+pub sum_by-slot_same : (f : Slot → ℕ) (ss : List Slot) (b : ℕ) (s : Slot) → b < length ss → f s ≡ f (get_or ss b empty_slot)
+    → sum_by f (set ss b s) ≡ sum_by f ss
 sum_by-slot_same f ss b s h e = omega (arith, sum_by-slot f ss b s h)
 
 -- the bytes of all blocks are far below 64 bits
-pub standing_fits : (ss : List Slot) (room : ℕ) → AllByRecursion InRange ss → length ss ≤ room → room < 2 ^ 32 → sum_by (λ (s : Slot). s.size) ss + 2 ^ 32 ≤ 2 ^ 64
+pub standing_fits : (ss : List Slot) (room : ℕ) → AllByRecursion InRange ss → length ss ≤ room → room < 2 ^ 32
+    → sum_by (λ (s : Slot). s.size) ss + 2 ^ 32 ≤ 2 ^ 64
 standing_fits ss room a h r = omega (arith, sum_by-size-le ss a)
 
 pub held_fits : (ss : List Slot) (room : ℕ) → AllByRecursion InRange ss → length ss ≤ room → room < 2 ^ 32 → sum_by held_bytes ss + 2 ^ 32 ≤ 2 ^ 64
@@ -89,7 +92,8 @@ pub record KeepsLists (ss ts : List Slot) : Type 0 where
   pub standing : sum_by (λ (s : Slot). s.size) ts ≡ sum_by (λ (s : Slot). s.size) ss
   pub held : sum_by held_bytes ts ≡ sum_by held_bytes ss
 
-pub recount_keeps : (ss : List Slot) (b : ℕ) (s : Slot) → b < length ss → s.size ≡ (get_or ss b empty_slot).size → s.size ≢ 0 → (get_or ss b empty_slot).count ≢ 0 → s.count ≢ 0 → KeepsLists ss (set ss b s)
+pub recount_keeps : (ss : List Slot) (b : ℕ) (s : Slot) → b < length ss → s.size ≡ (get_or ss b empty_slot).size → s.size ≢ 0
+    → (get_or ss b empty_slot).count ≢ 0 → s.count ≢ 0 → KeepsLists ss (set ss b s)
 recount_keeps ss b s h same some was now =
     record {
       long = length-set ss b s;
@@ -105,9 +109,11 @@ pub slot_is : (ss : List Slot) (b : ℕ) (x : Slot) → b < length ss → x ≡ 
 slot_is ss b x h e = e ∙ get_or-any ss b x empty_slot h
 
 -- the ledger of tables in which this block has so many holds
-pub ledger-recount : (a : Inside) (b : ℕ) (s : Slot) → b < length a.slots.items → s.size ≡ (get_or a.slots.items b empty_slot).size → s.size ≢ 0 → record { limit = a.limit; room = a.room; known = known_from 0 (set a.slots.items b s); unnamed = a.unnamed.items } ≡ with_refs b s.count (ledger_of a)
+pub ledger-recount : (a : Inside) (b : ℕ) (s : Slot) → b < length a.slots.items → s.size ≡ (get_or a.slots.items b empty_slot).size → s.size ≢ 0
+    → record { limit = a.limit; room = a.room; known = known_from 0 (set a.slots.items b s); unnamed = a.unnamed.items } ≡ with_refs b s.count (ledger_of a)
 ledger-recount a b s h same some =
-    ap (λ ks. record { limit = a.limit; room = a.room; known = ks; unnamed = a.unnamed.items }) (known_from-recount 0 b b a.slots.items empty_slot s (omega arith) h same some)
+    ap (λ ks. record { limit = a.limit; room = a.room; known = ks; unnamed = a.unnamed.items })
+    (known_from-recount 0 b b a.slots.items empty_slot s (omega arith) h same some)
 
 -- the slot that was read of a block with a hold
 pub record BlockSlot (ss : List Slot) (b : ℕ) (x : Slot) (count : ℕ) : Type 0 where
@@ -117,7 +123,8 @@ pub record BlockSlot (ss : List Slot) (b : ℕ) (x : Slot) (count : ℕ) : Type 
   pub some : x.size ≢ 0
   pub range : x.size < 2 ^ 32
 
-pub block_slot : (a : Inside) (p : Ledger) (b : ℕ) (x : Slot) → ledger_of a ≡ p → IsSound a → 0 < refs p b → x ≡ get_or a.slots.items b x → BlockSlot a.slots.items b x (refs p b)
+pub block_slot : (a : Inside) (p : Ledger) (b : ℕ) (x : Slot) → ledger_of a ≡ p → IsSound a → 0 < refs p b → x ≡ get_or a.slots.items b x
+    → BlockSlot a.slots.items b x (refs p b)
 block_slot a p b x e s h read =
     let k = has_hold_at a p b e s h in
     let is = slot_is a.slots.items b x k.inside read in
@@ -139,7 +146,8 @@ pub record FreesBlock (ss ts : List Slot) (b size : ℕ) : Type 0 where
   pub standing : sum_by (λ (s : Slot). s.size) ts ≡ sum_by (λ (s : Slot). s.size) ss
   pub held : sum_by held_bytes ts + size ≡ sum_by held_bytes ss
 
-pub free_frees : (ss : List Slot) (b : ℕ) (s : Slot) → b < length ss → s.size ≡ (get_or ss b empty_slot).size → s.size ≢ 0 → (get_or ss b empty_slot).count ≢ 0 → s.count ≡ 0 → FreesBlock ss (set ss b s) b s.size
+pub free_frees : (ss : List Slot) (b : ℕ) (s : Slot) → b < length ss → s.size ≡ (get_or ss b empty_slot).size → s.size ≢ 0
+    → (get_or ss b empty_slot).count ≢ 0 → s.count ≡ 0 → FreesBlock ss (set ss b s) b s.size
 free_frees ss b s h same some was now =
     let old = get_or ss b empty_slot in
     let bytes : held_bytes old ≡ s.size = rw (ne_eqb old.count 0 was) (sym same) in
@@ -154,15 +162,18 @@ free_frees ss b s h same some was now =
     }
 
 -- a held block's key isn't among the free ones, and there is room for it
-pub free_room_for : (a : Inside) (b : ℕ) → IsSound a → b < length a.slots.items → (get_or a.slots.items b empty_slot).size ≢ 0 → (get_or a.slots.items b empty_slot).count ≢ 0 → length a.free.keys < a.free.room
+pub free_room_for : (a : Inside) (b : ℕ) → IsSound a → b < length a.slots.items → (get_or a.slots.items b empty_slot).size ≢ 0
+    → (get_or a.slots.items b empty_slot).count ≢ 0 → length a.free.keys < a.free.room
 free_room_for a b s h some was =
     let less = length-free_from_held 0 b a.slots.items empty_slot h some (held_shut _ was) in
     let same = ap length s.free_keys in
     omega (arith, s.unnamed_fit, s.free_room)
 
-pub free_absent : (a : Inside) (b n : ℕ) → IsSound a → b < length a.slots.items → is_open (get_or a.slots.items b empty_slot) ≡ false → AllByRecursion (λ k. k ≢ key_of n b) a.free.keys
+pub free_absent : (a : Inside) (b n : ℕ) → IsSound a → b < length a.slots.items → is_open (get_or a.slots.items b empty_slot) ≡ false
+    → AllByRecursion (λ k. k ≢ key_of n b) a.free.keys
 free_absent a b n s h shut =
-    rw s.free_keys (absent-free_from 0 b b n a.slots.items empty_slot (omega arith) (omega (arith, s.slots_fit, s.room_fits)) (omega (arith, s.slots_fit, s.room_fits)) shut)
+    rw s.free_keys (absent-free_from 0 b b n a.slots.items empty_slot (omega arith) (omega (arith, s.slots_fit, s.room_fits))
+    (omega (arith, s.slots_fit, s.room_fits)) shut)
 
 pub get_or-past : (ss : List Slot) (i : ℕ) → length ss ≤ i → get_or ss i empty_slot ≡ empty_slot
 get_or-past [] i h = refl

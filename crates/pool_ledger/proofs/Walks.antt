@@ -1,5 +1,6 @@
 -- A walk from the greatest key down.
-use Rattle.std.proofs.Common.{◌≡◌, ℕ, zero, suc, ◌+◌, ◌-◌, ◌/◌, ◌%◌, ◌^◌, ◌<◌, ◌≤◌, Bool, true, false, not, ◌&&◌, ◌||◌, eqb, ltb, List, [], ◌∷◌, ◌++◌, length, map, min, reverse, take, drop, Some, None, refl, ap, sym, ◌∙◌, subst, inl, inr, arith}
+use Rattle.std.proofs.Common.{◌≡◌, ℕ, zero, suc, ◌+◌, ◌-◌, ◌/◌, ◌%◌, ◌^◌, ◌<◌, ◌≤◌, Bool, true, false, not, ◌&&◌, ◌||◌, eqb, ltb, List, [], ◌∷◌, ◌++◌}
+use Rattle.std.proofs.Common.{length, map, min, reverse, take, drop, Some, None, refl, ap, sym, ◌∙◌, subst, inl, inr, arith}
 use Rattle.std.specs.List.{AllByRecursion, filter, find}
 use Rattle.std.proofs.lemmas.Bool.{lt-ltb, le-ltb, eq-eqb, ne_eqb, cases_Bool}
 use Rattle.std.proofs.lemmas.List.{reverse-reverse, length-reverse}
@@ -60,7 +61,12 @@ walk_next (d ∷ ds) zero below k f w e =
     let less : d < below = w.left.0 in
     let found : Some d ≡ Some k = rw (lt-ltb d below less) at e in
     let is : d ≡ k = cc in
-    subst (Step (d ∷ ds) 0 below) is (record { less = less; rest = refl; front = refl; walk = record { at_most = omega arith; passed = (omega arith, tt); left = f.0 } })
+    subst (Step (d ∷ ds) 0 below) is (record {
+      less = less;
+      rest = refl;
+      front = refl;
+      walk = record { at_most = omega arith; passed = (omega arith, tt); left = f.0 };
+    })
 walk_next (d ∷ ds) (suc c) below k f w e =
     let more : below ≤ d = w.passed.0 in
     let inner : Walk ds c below = record { at_most = omega (arith, w.at_most); passed = w.passed.1; left = w.left } in
@@ -126,7 +132,8 @@ map-append : (f : ℕ → Block) (xs ys : List ℕ) → map f (xs ++ ys) ≡ map
 map-append f [] ys = refl
 map-append f (x ∷ xs) ys = ap (λ bs. f x ∷ bs) (map-append f xs ys)
 
-pub count_to_give-step : (limit n standing count : ℕ) (ks : List ℕ) (below k : ℕ) → Step ks count below k → passes limit (standing + n) ≡ true → count_to_give limit n standing (map block_at (drop count ks)) ≡ count_to_give limit n (standing - k / 4294967296) (map block_at (drop (suc count) ks)) + 1
+pub count_to_give-step : (limit n standing count : ℕ) (ks : List ℕ) (below k : ℕ) → Step ks count below k → passes limit (standing + n) ≡ true
+    → count_to_give limit n standing (map block_at (drop count ks)) ≡ count_to_give limit n (standing - k / 4294967296) (map block_at (drop (suc count) ks)) + 1
 count_to_give-step limit n standing count ks below k s p = ap (λ xs. count_to_give limit n standing (map block_at xs)) s.rest ∙ rw p
 
 pub count_to_give-stop : (limit n standing : ℕ) (bs : List Block) → passes limit (standing + n) ≡ false → count_to_give limit n standing bs ≡ 0
@@ -139,7 +146,8 @@ has_number-append : (k : ℕ) (xs ys : List Block) → has_number k (xs ++ ys) �
 has_number-append k [] ys = refl
 has_number-append k (x ∷ xs) ys = elim (cases_Bool (eqb x.number k)) [ inl t ↦ rw t | inr f ↦ rw f (has_number-append k xs ys) ]
 
-pub has_number-left : (k : ℕ) (gone bs : List Block) → has_number k (filter (λ (b : Block). not (has_number b.number gone)) bs) ≡ (has_number k bs && not (has_number k gone))
+pub has_number-left : (k : ℕ) (gone bs : List Block)
+    → has_number k (filter (λ (b : Block). not (has_number b.number gone)) bs) ≡ (has_number k bs && not (has_number k gone))
 has_number-left k gone [] = refl
 has_number-left k gone (b ∷ bs) =
     let rest = has_number-left k gone bs in
@@ -177,7 +185,8 @@ IsNew-start bs m w = same_test (λ k. has_number k bs) (λ k. has_number k bs &&
 
 pub IsNew-more : (bs gone : List Block) (b : Block) (m : ℕ) → IsNew bs gone m → IsNew bs (gone ++ b ∷ []) (min m b.number)
 IsNew-more bs gone b m w =
-    same_test (λ k. (has_number k bs && not (has_number k gone)) && not (eqb b.number k)) (λ k. has_number k bs && not (has_number k (gone ++ b ∷ []))) (min m b.number)
+    same_test (λ k. (has_number k bs && not (has_number k gone)) && not (eqb b.number k)) (λ k. has_number k bs && not (has_number k (gone ++ b ∷ [])))
+    (min m b.number)
     (λ k. three (has_number k bs) (has_number k gone) (eqb b.number k) ∙ ap (λ t. has_number k bs && not t) (sym (has_number-append k gone (b ∷ []))))
     (min-IsLeastFalse (λ k. has_number k bs && not (has_number k gone)) m b.number w)
   where
@@ -189,14 +198,16 @@ IsNew-more bs gone b m w =
 
 pub new_number-left : (k : ℕ) (f : ℕ → Bool) (bs : List Block) (m : ℕ) → IsNew bs (largest_free k f bs) m → new_number (left_after k f bs) ≡ m
 new_number-left k f bs m w =
-    new_number-is m (left_after k f bs) (same_test (λ j. has_number j bs && not (has_number j (largest_free k f bs))) (λ j. has_number j (left_after k f bs)) m (λ j. sym (has_number-left j (largest_free k f bs) bs)) w)
+    new_number-is m (left_after k f bs) (same_test (λ j. has_number j bs && not (has_number j (largest_free k f bs)))
+    (λ j. has_number j (left_after k f bs)) m (λ j. sym (has_number-left j (largest_free k f bs) bs)) w)
 
 -- THE LOOP OF A NEW BLOCK'S GRANT
 
 -- what is known once so many blocks are to go
 pub record Picked (a : Inside) (n standing number below count : ℕ) : Type 0 where
   pub walk : Walk (reverse a.free.keys) count below
-  pub counted : count_to_give a.limit n a.standing (map block_at (reverse a.free.keys)) ≡ count + count_to_give a.limit n standing (map block_at (drop count (reverse a.free.keys)))
+  pub counted : count_to_give a.limit n a.standing (map block_at (reverse a.free.keys))
+      ≡ count + count_to_give a.limit n standing (map block_at (drop count (reverse a.free.keys)))
   pub new : IsNew (blocks (ledger_of a)) (map block_at (take count (reverse a.free.keys))) number
   pub bounded : standing ≤ a.standing
   pub within : number ≤ length a.slots.items
@@ -204,7 +215,8 @@ pub record Picked (a : Inside) (n standing number below count : ℕ) : Type 0 wh
 pub picked_start : (a : Inside) (n number : ℕ) → IsSound a → number ≡ first_unused 0 a.slots.items → Picked a n a.standing number 18446744073709551615 0
 picked_start a n number s e =
     let ss = a.slots.items in
-    let small : AllByRecursion (λ k. k < 18446744073709551615) a.free.keys = rw s.free_keys (keys_small 0 ss s.in_range (omega (arith, s.slots_fit, s.room_fits))) in
+    let small : AllByRecursion (λ k. k < 18446744073709551615) a.free.keys =
+    rw s.free_keys (keys_small 0 ss s.in_range (omega (arith, s.slots_fit, s.room_fits))) in
     let first = first_unused-least 0 ss in
     record {
       walk = walk_start (reverse a.free.keys) 18446744073709551615 (All-reverse (λ k. k < 18446744073709551615) a.free.keys small);
@@ -218,16 +230,20 @@ pub record NextPick (a : Inside) (n standing number below count k : ℕ) : Type 
   pub picked : Picked a n (standing - k / 4294967296) (min number (k % 4294967296)) k (count + 1)
   pub less : k < below
 
-pub picked_next : (a : Inside) (n standing number below count k : ℕ) → IsSound a → IsRising a.free.keys → Picked a n standing number below count → passes a.limit (standing + n) ≡ true → greatest_below below a.free.keys ≡ Some k → NextPick a n standing number below count k
+pub picked_next : (a : Inside) (n standing number below count k : ℕ) → IsSound a → IsRising a.free.keys → Picked a n standing number below count
+    → passes a.limit (standing + n) ≡ true → greatest_below below a.free.keys ≡ Some k → NextPick a n standing number below count k
 picked_next a n standing number below count k s rising p over found =
     let ks = reverse a.free.keys in
     let step = walk_next ks count below k (IsFalling-reverse a.free.keys rising) p.walk found in
     let one : count + 1 ≡ suc count = omega arith in
     let go = count_to_give-step a.limit n standing count ks below k step over in
-    let more : map block_at (take (suc count) ks) ≡ map block_at (take count ks) ++ block_at k ∷ [] = ap (map block_at) step.front ∙ map-append block_at (take count ks) (k ∷ []) in
+    let more : map block_at (take (suc count) ks) ≡ map block_at (take count ks) ++ block_at k ∷ [] = ap (map block_at) step.front
+    ∙ map-append block_at (take count ks) (k ∷ []) in
     let known : IsNew (blocks (ledger_of a)) (map block_at (take (suc count) ks)) (min number (k % 4294967296)) =
-    subst (λ gone. IsNew (blocks (ledger_of a)) gone (min number (k % 4294967296))) (sym more) (IsNew-more (blocks (ledger_of a)) (map block_at (take count ks)) (block_at k) number p.new) in
-    let after : count_to_give a.limit n a.standing (map block_at ks) ≡ suc count + count_to_give a.limit n (standing - k / 4294967296) (map block_at (drop (suc count) ks)) = omega (arith, p.counted, go) in
+    subst (λ gone. IsNew (blocks (ledger_of a)) gone (min number (k % 4294967296))) (sym more)
+    (IsNew-more (blocks (ledger_of a)) (map block_at (take count ks)) (block_at k) number p.new) in
+    let after : count_to_give a.limit n a.standing (map block_at ks)
+    ≡ suc count + count_to_give a.limit n (standing - k / 4294967296) (map block_at (drop (suc count) ks)) = omega (arith, p.counted, go) in
     let bounded = p.bounded in
     let within = p.within in
     record {
@@ -240,27 +256,33 @@ pub record Chosen (p : Ledger) (n number count : ℕ) : Type 0 where
   pub given : given_up p.limit n (is_free p) (blocks p) ≡ count
   pub number_is : new_number (left_after count (is_free p) (blocks p)) ≡ number
 
-chosen_from : (a : Inside) (n standing number below count : ℕ) → IsSound a → Picked a n standing number below count → count_to_give a.limit n standing (map block_at (drop count (reverse a.free.keys))) ≡ 0 → Chosen (ledger_of a) n number count
+chosen_from : (a : Inside) (n standing number below count : ℕ) → IsSound a → Picked a n standing number below count
+    → count_to_give a.limit n standing (map block_at (drop count (reverse a.free.keys))) ≡ 0 → Chosen (ledger_of a) n number count
 chosen_from a n standing number below count s p none =
     let list = largest_first-keys a s in
     let bytes : sizes (blocks (ledger_of a)) ≡ a.standing = sizes-known_from 0 a.slots.items ∙ sym s.standing_is in
-    let gone : largest_free count (is_free (ledger_of a)) (blocks (ledger_of a)) ≡ map block_at (take count (reverse a.free.keys)) = ap (take count) list ∙ take-map block_at count (reverse a.free.keys) in
+    let gone : largest_free count (is_free (ledger_of a)) (blocks (ledger_of a)) ≡ map block_at (take count (reverse a.free.keys)) = ap (take count) list
+    ∙ take-map block_at count (reverse a.free.keys) in
     record {
       given = ap (λ m. count_to_give a.limit n m (largest_first (ledger_of a))) bytes ∙ ap (count_to_give a.limit n a.standing) list ∙ omega (arith, p.counted);
-      number_is = new_number-left count (is_free (ledger_of a)) (blocks (ledger_of a)) number (subst (λ bs. IsNew (blocks (ledger_of a)) bs number) (sym gone) p.new);
+      number_is = new_number-left count (is_free (ledger_of a)) (blocks (ledger_of a)) number
+          (subst (λ bs. IsNew (blocks (ledger_of a)) bs number) (sym gone) p.new);
     }
 
-pub chosen_within : (a : Inside) (p : Ledger) (n standing number below count : ℕ) → ledger_of a ≡ p → IsSound a → Picked a n standing number below count → passes a.limit (standing + n) ≡ false → Chosen p n number count
+pub chosen_within : (a : Inside) (p : Ledger) (n standing number below count : ℕ) → ledger_of a ≡ p → IsSound a → Picked a n standing number below count
+    → passes a.limit (standing + n) ≡ false → Chosen p n number count
 chosen_within a p n standing number below count e s w under =
     subst (λ q. Chosen q n number count) e (chosen_from a n standing number below count s w (count_to_give-stop a.limit n standing _ under))
 
-pub chosen_all : (a : Inside) (p : Ledger) (n standing number below count : ℕ) → ledger_of a ≡ p → IsSound a → Picked a n standing number below count → greatest_below below a.free.keys ≡ None → Chosen p n number count
+pub chosen_all : (a : Inside) (p : Ledger) (n standing number below count : ℕ) → ledger_of a ≡ p → IsSound a → Picked a n standing number below count
+    → greatest_below below a.free.keys ≡ None → Chosen p n number count
 chosen_all a p n standing number below count e s w none =
     let end = walk_end (reverse a.free.keys) count below w.walk none in
     subst (λ q. Chosen q n number count) e (chosen_from a n standing number below count s w (ap (λ xs. count_to_give a.limit n standing (map block_at xs)) end))
 
 -- a grant of a new block, as the rules say
-pub chosen_grant : (p : Ledger) (n number count : ℕ) → Chosen p n number count → new_number (left_after (given_up p.limit n (is_free p) (blocks p)) (is_free p) (blocks p)) ≡ number
+pub chosen_grant : (p : Ledger) (n number count : ℕ) → Chosen p n number count
+    → new_number (left_after (given_up p.limit n (is_free p) (blocks p)) (is_free p) (blocks p)) ≡ number
 chosen_grant p n number count h = ap (λ k. new_number (left_after k (is_free p) (blocks p))) h.given ∙ h.number_is
 
 -- how many go is no more than there are slots
@@ -284,7 +306,8 @@ largest a key s rising found =
     let start = picked_start a 0 (first_unused 0 a.slots.items) s refl in
     let step = walk_next ks 0 18446744073709551615 key (IsFalling-reverse a.free.keys rising) start.walk found in
     let there = has_key-reverse key a.free.keys (found_any (λ j. ltb j 18446744073709551615) ks key found) in
-    let mine : has_key (key_of (key / 4294967296) (key % 4294967296)) (free_from 0 a.slots.items) ≡ true = ap (λ k. has_key k (free_from 0 a.slots.items)) (key-parts key) ∙ ap (has_key key) (sym s.free_keys) ∙ there in
+    let mine : has_key (key_of (key / 4294967296) (key % 4294967296)) (free_from 0 a.slots.items) ≡ true =
+    ap (λ k. has_key k (free_from 0 a.slots.items)) (key-parts key) ∙ ap (has_key key) (sym s.free_keys) ∙ there in
     let list : largest_first (ledger_of a) ≡ block_at key ∷ map block_at (drop 1 ks) = largest_first-keys a s ∙ ap (map block_at) step.rest in
     record {
       from_above = step.rest;
@@ -293,7 +316,8 @@ largest a key s rising found =
       first = ap (take 1) list;
     }
 
-pub no_largest : (a : Inside) (p : Ledger) → ledger_of a ≡ p → IsSound a → 0 < length (largest_first p) → greatest_below 18446744073709551615 a.free.keys ≡ None → ⊥
+pub no_largest : (a : Inside) (p : Ledger) → ledger_of a ≡ p → IsSound a → 0 < length (largest_first p)
+    → greatest_below 18446744073709551615 a.free.keys ≡ None → ⊥
 no_largest a p e s some none =
     let start = picked_start a 0 (first_unused 0 a.slots.items) s refl in
     let end = walk_end (reverse a.free.keys) 0 18446744073709551615 start.walk none in
@@ -302,7 +326,8 @@ no_largest a p e s some none =
     omega arith
 
 -- without the largest the others stay in order
-pub largest_first-rest : (a b : Inside) (key : ℕ) → IsSound a → IsSound b → IsRising a.free.keys → Largest a key → b.free.keys ≡ without_key key a.free.keys → largest_first (ledger_of b) ≡ drop 1 (largest_first (ledger_of a))
+pub largest_first-rest : (a b : Inside) (key : ℕ) → IsSound a → IsSound b → IsRising a.free.keys → Largest a key
+    → b.free.keys ≡ without_key key a.free.keys → largest_first (ledger_of b) ≡ drop 1 (largest_first (ledger_of a))
 largest_first-rest a b key s t rising l e =
     largest_first-keys b t ∙ ap (λ ks. map block_at (reverse ks)) e
     ∙ ap (map block_at) (reverse-without a.free.keys (drop 1 (reverse a.free.keys)) key rising l.from_above)

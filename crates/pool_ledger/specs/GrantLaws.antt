@@ -1,10 +1,12 @@
 -- The order in which the known blocks are listed changes nothing of their order by size, and so nothing of a grant.
-use Rattle.std.specs.Prelude.{◌≡◌, ℕ, zero, suc, ◌<◌, ◌+◌, Bool, true, false, not, ◌||◌, nat_lt, nat_le, ◌==◌, max, Option, Some, None, List, [], ◌∷◌, filter, find, map, take, reverse, refl, if◌then◌else◌}
+use Rattle.std.specs.Prelude.{◌≡◌, ℕ, zero, suc, ◌<◌, ◌+◌, Bool, true, false, not, ◌||◌, nat_lt, nat_le, ◌==◌, max, Option, Some, None, List, [], ◌∷◌}
+use Rattle.std.specs.Prelude.{filter, find, map, take, reverse, refl, if◌then◌else◌}
 use Rattle.std.specs.List.{list_any}
 use Rattle.std.proofs.Common.{◌⊎◌, subst, inl, inr, ap, sym, ◌∙◌, arith}
 use Rattle.std.proofs.lemmas.Bool.{lt-ltb, le-ltb, eq-eqb, ne_eqb, cases_order, or_right, cases_Bool}
 use Rattle.std.proofs.lemmas.List.Sums.{sum_by-cons}
-use Rattle.pool_ledger.specs.Grants.{Block, Refused, Granted, sizes, comes_first, placed, in_order, free_in_order, smallest_fit, largest_free, left_after, has_number, passes, count_to_give, given_up, above, missing_from, new_number, fresh_grant, fit_or_fresh, granted}
+use Rattle.pool_ledger.specs.Grants.{Block, Refused, Granted, sizes, comes_first, placed, in_order, free_in_order, smallest_fit, largest_free, left_after}
+use Rattle.pool_ledger.specs.Grants.{has_number, passes, count_to_give, given_up, above, missing_from, new_number, fresh_grant, fit_or_fresh, granted}
 
 -- a stands before b: it is smaller, or of one size it has the lesser number
 abbrev pub StandsBefore : Block → Block → Type 0
@@ -126,7 +128,13 @@ pub sizes-same : {bs cs : List Block} → SameBlocks bs cs → sizes bs ≡ size
 sizes-same same_none = refl
 sizes-same (same_front b bs cs h) = let rest = sizes-same h in omega (arith, sum_by-cons (λ (x : Block). x.size) b bs, sum_by-cons (λ (x : Block). x.size) b cs)
 sizes-same (same_swap a b bs) =
-    omega (arith, sum_by-cons (λ (x : Block). x.size) a (b ∷ bs), sum_by-cons (λ (x : Block). x.size) b bs, sum_by-cons (λ (x : Block). x.size) b (a ∷ bs), sum_by-cons (λ (x : Block). x.size) a bs)
+    omega (
+      arith,
+      sum_by-cons (λ (x : Block). x.size) a (b ∷ bs),
+      sum_by-cons (λ (x : Block). x.size) b bs,
+      sum_by-cons (λ (x : Block). x.size) b (a ∷ bs),
+      sum_by-cons (λ (x : Block). x.size) a bs,
+    )
 sizes-same (same_trans bs cs ds h k) = sizes-same h ∙ sizes-same k
 
 abbrev numbers : List Block → List ℕ
@@ -152,7 +160,8 @@ above-same (same_trans bs cs ds h k) = above-same h ∙ above-same k
 
 missing_from-same : (steps k : ℕ) {bs cs : List Block} → SameBlocks bs cs → missing_from steps k (numbers bs) ≡ missing_from steps k (numbers cs)
 missing_from-same zero k h = refl
-missing_from-same (suc n) k {bs} {cs} h = ap (λ t. if t then missing_from n (k + 1) (numbers bs) else k) (is_in-same k h) ∙ ap (λ m. if list_any (λ j. j == k) (numbers cs) then m else k) (missing_from-same n (k + 1) h)
+missing_from-same (suc n) k {bs} {cs} h = ap (λ t. if t then missing_from n (k + 1) (numbers bs) else k) (is_in-same k h)
+    ∙ ap (λ m. if list_any (λ j. j == k) (numbers cs) then m else k) (missing_from-same n (k + 1) h)
 
 pub new_number-same : {bs cs : List Block} → SameBlocks bs cs → new_number bs ≡ new_number cs
 new_number-same {bs} {cs} h = missing_from-same (above (numbers bs)) 0 h ∙ ap (λ n. missing_from n 0 (numbers cs)) (above-same h)
@@ -164,19 +173,26 @@ left_after-same k is_free {bs} {cs} h =
     (filter-same (λ b. not (has_number b.number (largest_free k is_free bs))) h)
     (same_by _ (left_after k is_free cs) (ap (λ xs. filter (λ b. not (has_number b.number xs)) cs) gone))
 
-fit_or_fresh-same : (limit n : ℕ) (is_free : ℕ → Bool) (bs cs : List Block) (o u : Option Block) → o ≡ u → fresh_grant n (given_up limit n is_free bs) is_free bs ≡ fresh_grant n (given_up limit n is_free cs) is_free cs → fit_or_fresh limit n is_free bs o ≡ fit_or_fresh limit n is_free cs u
+fit_or_fresh-same : (limit n : ℕ) (is_free : ℕ → Bool) (bs cs : List Block) (o u : Option Block) → o ≡ u
+    → fresh_grant n (given_up limit n is_free bs) is_free bs ≡ fresh_grant n (given_up limit n is_free cs) is_free cs
+    → fit_or_fresh limit n is_free bs o ≡ fit_or_fresh limit n is_free cs u
 fit_or_fresh-same limit n is_free bs cs o u e f = fit_first o f ∙ ap (fit_or_fresh limit n is_free cs) e
   where
-    fit_first : (o : Option Block) → fresh_grant n (given_up limit n is_free bs) is_free bs ≡ fresh_grant n (given_up limit n is_free cs) is_free cs → fit_or_fresh limit n is_free bs o ≡ fit_or_fresh limit n is_free cs o
+    fit_first : (o : Option Block) → fresh_grant n (given_up limit n is_free bs) is_free bs ≡ fresh_grant n (given_up limit n is_free cs) is_free cs
+        → fit_or_fresh limit n is_free bs o ≡ fit_or_fresh limit n is_free cs o
     fit_first (Some b) f = refl
     fit_first None f = f
 
 -- a grant does not depend on the order in which the known blocks are listed
-pub granted-same : (limit n held : ℕ) (is_free : ℕ → Bool) {bs cs : List Block} → SameBlocks bs cs → granted limit n held is_free bs ≡ granted limit n held is_free cs
+pub granted-same : (limit n held : ℕ) (is_free : ℕ → Bool) {bs cs : List Block} → SameBlocks bs cs
+    → granted limit n held is_free bs ≡ granted limit n held is_free cs
 granted-same limit n held is_free {bs} {cs} h =
     let order = free_in_order-same is_free h in
     let fit : smallest_fit n is_free bs ≡ smallest_fit n is_free cs = ap (find (λ b. nat_le n b.size)) order in
-    let given : given_up limit n is_free bs ≡ given_up limit n is_free cs = ap (λ m. count_to_give limit n m (reverse (free_in_order is_free bs))) (sizes-same h) ∙ ap (λ xs. count_to_give limit n (sizes cs) (reverse xs)) order in
+    let given : given_up limit n is_free bs ≡ given_up limit n is_free cs =
+    ap (λ m. count_to_give limit n m (reverse (free_in_order is_free bs))) (sizes-same h) ∙ ap (λ xs. count_to_give limit n (sizes cs) (reverse xs)) order in
     let fresh : fresh_grant n (given_up limit n is_free bs) is_free bs ≡ fresh_grant n (given_up limit n is_free cs) is_free cs =
-    ap (λ k. fresh_grant n k is_free bs) given ∙ ap (λ m. Granted m n true (given_up limit n is_free cs)) (new_number-same (left_after-same (given_up limit n is_free cs) is_free h)) in
-    ap (λ a. if passes limit (held + n) then Refused else a) (fit_or_fresh-same limit n is_free bs cs (smallest_fit n is_free bs) (smallest_fit n is_free cs) fit fresh)
+    ap (λ k. fresh_grant n k is_free bs) given
+    ∙ ap (λ m. Granted m n true (given_up limit n is_free cs)) (new_number-same (left_after-same (given_up limit n is_free cs) is_free h)) in
+    ap (λ a. if passes limit (held + n) then Refused else a)
+    (fit_or_fresh-same limit n is_free bs cs (smallest_fit n is_free bs) (smallest_fit n is_free cs) fit fresh)

@@ -1,5 +1,6 @@
 -- Which block a request is granted, and which blocks are given up for it. A block is its number and its size in bytes.
-use Rattle.std.specs.Prelude.{ℕ, zero, suc, ◌+◌, ◌-◌, ◌==◌, Bool, true, false, ◌&&◌, ◌||◌, not, nat_lt, nat_le, max, List, [], ◌∷◌, filter, map, find, reverse, take, sum_by, Option, Some, None, if◌then◌else◌}
+use Rattle.std.specs.Prelude.{ℕ, zero, suc, ◌+◌, ◌-◌, ◌==◌, Bool, true, false, ◌&&◌, ◌||◌, not, nat_lt, nat_le, max, List, [], ◌∷◌, filter, map, find}
+use Rattle.std.specs.Prelude.{reverse, take, sum_by, Option, Some, None, if◌then◌else◌}
 use Rattle.std.specs.List.{list_any}
 
 pub record Block : Type 0 where

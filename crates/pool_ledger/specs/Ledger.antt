@@ -1,5 +1,6 @@
 -- What the pool knows: its blocks with their counts of holds, and the numbers given up that aren't named yet.
-use Rattle.std.specs.Prelude.{ℕ, ◌==◌, Bool, true, false, ◌&&◌, not, nat_lt, List, [], ◌∷◌, ◌++◌, take, reverse, filter, map, sum_by, Result, Ok, Err, if◌then◌else◌}
+use Rattle.std.specs.Prelude.{ℕ, ◌==◌, Bool, true, false, ◌&&◌, not, nat_lt, List, [], ◌∷◌, ◌++◌, take, reverse, filter, map, sum_by, Result, Ok, Err}
+use Rattle.std.specs.Prelude.{if◌then◌else◌}
 use Rattle.std.specs.List.{list_any}
 use Rattle.pool_ledger.specs.Grants.{Block, Answer, Refused, Granted, granted, free_in_order, has_number}
 use Rattle.pool_ledger.specs.declared.grants.Grant.{Grant}

@@ -4,7 +4,8 @@ use Rattle.std.proofs.Common.{inl, inr, ap, sym, ◌∙◌, arith}
 use Rattle.std.proofs.lemmas.Bool.{eqb-true, ne_eqb, cases_Bool}
 use Rattle.pool_ledger.specs.Grants.{Block, Answer, Refused, Granted, has_number, largest_free, left_after, known_after}
 use Rattle.pool_ledger.specs.GrantLaws.{SameBlocks, same_front, same_swap, same_trans, same_itself, same_by}
-use Rattle.pool_ledger.specs.Ledger.{Known, Ledger, block_of, blocks, refs, count_of, with_count, with_refs, with_known, without, is_free, answered, needs_room, after}
+use Rattle.pool_ledger.specs.Ledger.{Known, Ledger, block_of, blocks, refs, count_of, with_count, with_refs, with_known, without, is_free, answered}
+use Rattle.pool_ledger.specs.Ledger.{needs_room, after}
 use Rattle.pool_ledger.specs.declared.grants.Grant.{Grant}
 use Rattle.pool_ledger.specs.declared.grants.Refused.{Refused as RefusedAnswer}
 
@@ -50,12 +51,15 @@ blocks-with_known new [] = same_itself (block_of new ∷ [])
 blocks-with_known new (k ∷ ks) =
     elim (cases_Bool (nat_lt k.number new.number)) [
       | inl t ↦
-          rw t (same_trans (block_of new ∷ block_of k ∷ map block_of ks) (block_of k ∷ block_of new ∷ map block_of ks) (block_of k ∷ map block_of (with_known new ks))
-          (same_swap (block_of new) (block_of k) (map block_of ks)) (same_front (block_of k) (block_of new ∷ map block_of ks) (map block_of (with_known new ks)) (blocks-with_known new ks)))
+          rw t (same_trans (block_of new ∷ block_of k ∷ map block_of ks) (block_of k ∷ block_of new ∷ map block_of ks)
+          (block_of k ∷ map block_of (with_known new ks))
+          (same_swap (block_of new) (block_of k) (map block_of ks))
+          (same_front (block_of k) (block_of new ∷ map block_of ks) (map block_of (with_known new ks)) (blocks-with_known new ks)))
       | inr f ↦ rw f (same_itself (block_of new ∷ block_of k ∷ map block_of ks))
     ]
 
-blocks-without : (gone : List Block) (ks : List Known) → map block_of (without gone ks) ≡ filter (λ (b : Block). not (has_number b.number gone)) (map block_of ks)
+blocks-without : (gone : List Block) (ks : List Known)
+    → map block_of (without gone ks) ≡ filter (λ (b : Block). not (has_number b.number gone)) (map block_of ks)
 blocks-without gone [] = refl
 blocks-without gone (k ∷ ks) =
     let rest = blocks-without gone ks in
@@ -68,8 +72,12 @@ after-known p (Granted b n false given) = same_by (blocks p) (blocks (with_refs 
 after-known p (Granted b n true given) =
     let gone = largest_free given (is_free p) (blocks p) in
     let left = blocks-without gone p.known in
-    same_trans (record { number = b; size = n } ∷ left_after given (is_free p) (blocks p)) (record { number = b; size = n } ∷ map block_of (without gone p.known)) (map block_of (with_known (record { number = b; size = n; count = 1 }) (without gone p.known)))
-    (same_by (record { number = b; size = n } ∷ left_after given (is_free p) (blocks p)) (record { number = b; size = n } ∷ map block_of (without gone p.known)) (ap (λ bs. record { number = b; size = n } ∷ bs) (sym left)))
+    same_trans (record { number = b; size = n } ∷ left_after given (is_free p) (blocks p)) (record {
+      number = b;
+      size = n;
+    } ∷ map block_of (without gone p.known)) (map block_of (with_known (record { number = b; size = n; count = 1 }) (without gone p.known)))
+    (same_by (record { number = b; size = n } ∷ left_after given (is_free p) (blocks p))
+    (record { number = b; size = n } ∷ map block_of (without gone p.known)) (ap (λ bs. record { number = b; size = n } ∷ bs) (sym left)))
     (blocks-with_known (record { number = b; size = n; count = 1 }) (without gone p.known))
 
 -- an answer that is given asks for room exactly where its block is a new one

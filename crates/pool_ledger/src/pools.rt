@@ -1,7 +1,8 @@
 //! The blocks of a pool, and the holds that they have.
-ghost use Rattle.std.specs.Prelude.{◌≡◌, ◌≢◌, ℕ, ◌+◌, ◌-◌, ◌*◌, ◌/◌, ◌%◌, ◌<◌, ◌≤◌, ◌^◌, ◌↔◌, ◌∷◌, ◌++◌, [], IsTrue, IfOk, OnOk, OnErr, length, take, drop, slice_get, true};
+ghost use Rattle.std.specs.Prelude.{◌≡◌, ◌≢◌, ◌+◌, ◌-◌, ◌*◌, ◌/◌, ◌%◌, ◌<◌, ◌≤◌, ◌^◌, ◌↔◌, [], IsTrue, IfOk, OnOk, OnErr, length, take, drop, slice_get, true};
 ghost use Rattle.pool_ledger.specs.Grants.{passes, given_up, new_number, left_after, free_in_order};
-ghost use Rattle.pool_ledger.specs.Ledger.{empty_ledger, blocks, refs, is_free, held, grant_for, answered, needs_room, after, with_refs, with_block, without_blocks, largest_first, has_block};
+ghost use Rattle.pool_ledger.specs.Ledger.{empty_ledger, blocks, refs, is_free, held, grant_for, answered, needs_room, after, with_refs, with_block};
+ghost use Rattle.pool_ledger.specs.Ledger.{without_blocks, largest_first, has_block};
 
 use crate::grants::{Grant, Refused};
 use crate::key_set::KeySet;

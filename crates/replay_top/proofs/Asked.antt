@@ -1,5 +1,6 @@
 -- What the files of a command ask for, by what was read of them.
-use Rattle.std.proofs.Common.{◌≡◌, ℕ, zero, suc, ◌+◌, ◌<◌, ◌≤◌, List, Option, None, Some, Ok, Err, Bool, true, false, if◌then◌else◌, length, refl, ap, sym, subst, ◌∙◌, arith}
+use Rattle.std.proofs.Common.{◌≡◌, ℕ, zero, suc, ◌+◌, ◌<◌, ◌≤◌, List, Option, None, Some, Ok, Err, Bool, true, false, if◌then◌else◌, length, refl, ap, sym}
+use Rattle.std.proofs.Common.{subst, ◌∙◌, arith}
 use Rattle.std.specs.Prelude.{nat_le, nat_lt}
 use Rattle.std.proofs.lemmas.Bool.{le-leb}
 use Rattle.std.proofs.lemmas.Bool.Decides.{nat_tests}
@@ -25,7 +26,8 @@ use Rattle.replay_top.specs.declared.status.Status.TheVariants.{Done, StackBytes
 use Rattle.replay_top.specs.Answers.{HasGraphRefusal, HasStackRefusal, PassesLimit}
 use Rattle.replay_top.specs.Command.{Command, Copy, Plain, Info}
 use Rattle.replay_top.specs.Copy.{copy_length}
-use Rattle.replay_top.specs.Limits.{IsGraphRefused, IsStackRefused, copy_limit, IsRunAsked, graph_or_status, graph_in, stack_or_status, stack_in, with_stack, load_status, run_status, IsAskedBy, IsAsked}
+use Rattle.replay_top.specs.Limits.{IsGraphRefused, IsStackRefused, copy_limit, IsRunAsked, graph_or_status, graph_in, stack_or_status, stack_in}
+use Rattle.replay_top.specs.Limits.{with_stack, load_status, run_status, IsAskedBy, IsAsked}
 use Rattle.replay_top.specs.Reads.{IsSized}
 use Rattle.replay_top.specs.Sources.{IsGraphRead, IsStackRead, most_graph_bytes, most_stack_bytes}
 use Rattle.replay_top.specs.Stages.{GraphStops, StackStops, graph_fault_status, fault_status}

@@ -4,7 +4,8 @@ use Rattle.edge_traits.specs.Files.{Files}
 use Rattle.graph_conf.specs.declared.load.LimitFault.{LimitFault}
 use Rattle.graph_conf.specs.declared.load.LimitFault.TheVariants.{GraphBytes, StackFile, Load, Kept, FileTooLarge}
 use Rattle.replay_top.specs.declared.status.Status.{Status}
-use Rattle.replay_top.specs.declared.status.Status.TheVariants.{Done, Usage, GraphText, GraphRule, StackBytes, Limit, ReadFault, ShelfFault, OutFault, OutOfMemory}
+use Rattle.replay_top.specs.declared.status.Status.TheVariants.{Done, Usage, GraphText, GraphRule, StackBytes, Limit, ReadFault, ShelfFault, OutFault}
+use Rattle.replay_top.specs.declared.status.Status.TheVariants.{OutOfMemory}
 use Rattle.replay_top.specs.Answers.{Ends, PassesLimit}
 use Rattle.replay_top.specs.Causes.{Counts, IsCause}
 use Rattle.replay_top.specs.Claims.{IsAskedOf, NoneRose}

@@ -1,5 +1,6 @@
 -- No two files have one name.
-use Rattle.std.proofs.Common.{◌≡◌, ◌≢◌, inl, inr, ℕ, zero, suc, ◌+◌, ◌-◌, ◌*◌, ◌/◌, ◌^◌, ◌<◌, ◌≤◌, Bool, true, false, List, [], ◌∷◌, Option, None, Some, length, take, drop, get_or, refl, ap, sym, subst, ◌∙◌, arith, append_assoc}
+use Rattle.std.proofs.Common.{◌≡◌, ◌≢◌, inl, inr, ℕ, zero, suc, ◌+◌, ◌-◌, ◌*◌, ◌/◌, ◌^◌, ◌<◌, ◌≤◌, Bool, true, false, List, [], ◌∷◌, Option, None, Some}
+use Rattle.std.proofs.Common.{length, take, drop, get_or, refl, ap, sym, subst, ◌∙◌, arith, append_assoc}
 use Rattle.std.specs.Prelude.{All, codes, if◌then◌else◌}
 use Rattle.std.specs.List.{flat_map, range_with_len}
 use Rattle.std.specs.Option.{option_map_or}
@@ -89,7 +90,8 @@ one_file f = λ i j d lt within. absurd (omega (arith, lt, within))
 all-range : (P : OutFile → Type 0) (files : ℕ → List OutFile) (a n : ℕ) → ((v : ℕ) → a ≤ v → All P (files v)) → All P (flat_map files (range_with_len a n))
 all-range P files a zero each = All-nil P
 all-range P files a (suc n) each =
-    All-append P (files a) (flat_map files (range_with_len (a + 1) n)) (each a (omega arith)) (all-range P files (a + 1) n (λ v low. each v (omega (arith, low))))
+    All-append P (files a) (flat_map files (range_with_len (a + 1) n)) (each a (omega arith))
+    (all-range P files (a + 1) n (λ v low. each v (omega (arith, low))))
 
 -- and names that differ in each list, and from those of every later one, differ in all
 pairs-range : (files : ℕ → List OutFile) (a n : ℕ) → ((v : ℕ) → HaveOwnNames (files v))
@@ -163,7 +165,8 @@ module _ (g : Graph) (s : StackValue) (prefix : List ℕ) (sound : IsGraph g) (f
     named (File r) same =
         λ k d within. let h = numbered r.mode (file_shape g s v) prefix n.name 0 (result_of g s v).files (groups-few r same) k d within in OfGroup h.0 h.2 h.3
     named (Stats r) same =
-        All-cons Named (record { name = stats_name prefix n.name; bytes = flat_map row (result_of g s v).measures; late = false }) [] (OfRows refl) (All-nil Named)
+        All-cons Named (record { name = stats_name prefix n.name; bytes = flat_map row (result_of g s v).measures; late = false }) [] (OfRows refl)
+        (All-nil Named)
     named (Roi r) same = All-nil Named
     named (Circular r) same = All-nil Named
     named Scatter same = All-nil Named

@@ -2,7 +2,8 @@
 use Rattle.std.proofs.Common.{◌≡◌, ◌≢◌, Option, None, Some, refl, ap, sym, ◌⊎◌, inl, inr}
 use Rattle.flow_journal.specs.Journal.{Journal}
 use Rattle.replay_top.specs.declared.status.Status.{Status}
-use Rattle.replay_top.specs.declared.status.Status.TheVariants.{Done, Usage, GraphText, GraphRule, StackBytes, Limit, ReadFault, ShelfFault, OutFault, OutOfMemory}
+use Rattle.replay_top.specs.declared.status.Status.TheVariants.{Done, Usage, GraphText, GraphRule, StackBytes, Limit, ReadFault, ShelfFault, OutFault}
+use Rattle.replay_top.specs.declared.status.Status.TheVariants.{OutOfMemory}
 use Rattle.replay_top.specs.Causes.{Counts}
 use Rattle.replay_top.specs.Claims.{IsAskedOf, NoneRose}
 use Rattle.replay_top.specs.Limits.{load_status}

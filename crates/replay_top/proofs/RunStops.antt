@@ -18,7 +18,8 @@ use Rattle.flow_run.specs.RunFiles.{HasSavedRun}
 use Rattle.flow_run.specs.Strangers.{AreOwnMoves}
 use Rattle.flow_run.specs.Ticks.{IsFedByTheClock}
 use Rattle.replay_top.specs.declared.status.Status.{Status}
-use Rattle.replay_top.specs.declared.status.Status.TheVariants.{Done, Usage, GraphText, GraphRule, StackBytes, Limit, ReadFault, ShelfFault, OutFault, OutOfMemory}
+use Rattle.replay_top.specs.declared.status.Status.TheVariants.{Done, Usage, GraphText, GraphRule, StackBytes, Limit, ReadFault, ShelfFault, OutFault}
+use Rattle.replay_top.specs.declared.status.Status.TheVariants.{OutOfMemory}
 use Rattle.replay_top.specs.RunAnswers.{Objects, IsLogOf, RunEnds, IsRunCause, run_print}
 use Rattle.replay_top.specs.RunCommand.{RunCommand}
 use Rattle.replay_top.specs.RunFiles.{later_files, HoldsFiles, HaveGroupsBack, AtGroups, AfterGroups}

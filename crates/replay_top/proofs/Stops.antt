@@ -9,7 +9,8 @@ use Rattle.edge_traits.specs.FileLaws.{file_at-with_file, file_at-with_file_same
 use Rattle.file_out.specs.Saving.{IsBegun, Untouched, Front}
 use Rattle.graph_conf.specs.declared.load.LimitFault.TheVariants.{GraphBytes, StackFile, Load, Kept, FileTooLarge}
 use Rattle.replay_top.specs.declared.status.Status.{Status}
-use Rattle.replay_top.specs.declared.status.Status.TheVariants.{Done, Usage, GraphText, GraphRule, StackBytes, Limit, ReadFault, ShelfFault, OutFault, OutOfMemory}
+use Rattle.replay_top.specs.declared.status.Status.TheVariants.{Done, Usage, GraphText, GraphRule, StackBytes, Limit, ReadFault, ShelfFault, OutFault}
+use Rattle.replay_top.specs.declared.status.Status.TheVariants.{OutOfMemory}
 use Rattle.replay_top.specs.Answers.{Ends, HasGraph, stack_name}
 use Rattle.graph_files.specs.Interrupted.{AreInterrupted, IsStanding, Kept, Front, Whole, IsBegunAs, AsBefore, Ended}
 use Rattle.graph_files.specs.Interrupted as interrupted
@@ -25,7 +26,8 @@ module _ (held now : Option Files) (name bytes : List ℕ) where
   abbrev file : OutFile
   file = record { name = name; bytes = bytes; late = false }
 
-  standing : (front rest : List ℕ) → bytes ≡ front ++ rest → (t : Option Files) → IsStanding false bytes (file_at t name) (file_at (with_file t name front) name)
+  standing : (front rest : List ℕ) → bytes ≡ front ++ rest → (t : Option Files)
+      → IsStanding false bytes (file_at t name) (file_at (with_file t name front) name)
   standing front rest is None = Kept refl
   standing front rest is (Some m) = Front front rest is (file_at-with_file_same m name front)
 

@@ -10,7 +10,8 @@ use Rattle.graph_conf.specs.declared.fault.GraphFault.TheVariants as rule
 use Rattle.graph_conf.specs.declared.load.LimitFault.{LimitFault}
 use Rattle.graph_conf.specs.declared.load.LimitFault.TheVariants.{GraphBytes, StackFile, Load, Kept, FileTooLarge}
 use Rattle.replay_top.specs.declared.status.Status.{Status}
-use Rattle.replay_top.specs.declared.status.Status.TheVariants.{Done, Usage, GraphText, GraphRule, StackBytes, Limit, ReadFault, ShelfFault, OutFault, OutOfMemory}
+use Rattle.replay_top.specs.declared.status.Status.TheVariants.{Done, Usage, GraphText, GraphRule, StackBytes, Limit, ReadFault, ShelfFault, OutFault}
+use Rattle.replay_top.specs.declared.status.Status.TheVariants.{OutOfMemory}
 use Rattle.graph_files.specs.Interrupted.{AreInterrupted}
 use Rattle.replay_top.specs.Command.{Command, Copy, Plain, Info}
 use Rattle.replay_top.specs.Limits.{IsGraphRefused, IsStackRefused}

@@ -1,5 +1,6 @@
 -- The netCDF files of a plain run read back as their arrays.
-use Rattle.std.specs.Prelude.{◌≡◌, ℕ, suc, ◌+◌, ◌-◌, ◌*◌, ◌/◌, ◌<◌, ◌≤◌, min, ℤ, pos, negsuc, ◌+ℤ◌, ◌*ℤ◌, List, [], ◌∷◌, length, take, drop, Option, Some, None, All, FitsSigned, refl}
+use Rattle.std.specs.Prelude.{◌≡◌, ℕ, suc, ◌+◌, ◌-◌, ◌*◌, ◌/◌, ◌<◌, ◌≤◌, min, ℤ, pos, negsuc, ◌+ℤ◌, ◌*ℤ◌, List, [], ◌∷◌, length, take, drop, Option, Some}
+use Rattle.std.specs.Prelude.{None, All, FitsSigned, refl}
 use Rattle.std.specs.Int.{w32, int_min}
 use Rattle.std.specs.List.{range_with_len}
 use Rattle.std.proofs.Common.{get_or, subst, arith}

@@ -12,7 +12,8 @@ use Rattle.graph_conf.specs.declared.fault.GraphFault.TheVariants as graph
 use Rattle.graph_conf.specs.declared.load.LimitFault.{LimitFault}
 use Rattle.graph_conf.specs.declared.load.LimitFault.TheVariants.{GraphBytes, StackFile, Load, Kept, FileTooLarge}
 use Rattle.replay_top.specs.declared.status.Status.{Status}
-use Rattle.replay_top.specs.declared.status.Status.TheVariants.{Done, Usage, GraphText, GraphRule, StackBytes, Limit, ReadFault, ShelfFault, OutFault, OutOfMemory}
+use Rattle.replay_top.specs.declared.status.Status.TheVariants.{Done, Usage, GraphText, GraphRule, StackBytes, Limit, ReadFault, ShelfFault, OutFault}
+use Rattle.replay_top.specs.declared.status.Status.TheVariants.{OutOfMemory}
 
 -- what the process ends with
 abbrev pub status_number : Status → ℕ

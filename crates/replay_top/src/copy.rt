@@ -60,7 +60,8 @@ fn save_copy<K: Shelf>(
     requires within { copy_limit stack.now ≡ None }
     ensures ok { OnOk result (K.held shelf.new ≡ with_files (K.held shelf.old) (copy_files stack.now prefix.now)) }
     ensures stays { OnOk result (K.faults shelf.new ≡ K.faults shelf.old) }
-    ensures err { IfErr result (λ s. SaveStops s (K.held shelf.old) (copy_files stack.now prefix.now) (K.held shelf.new) (K.faults shelf.old) (K.faults shelf.new)) }
+    ensures err { IfErr result
+        (λ s. SaveStops s (K.held shelf.old) (copy_files stack.now prefix.now) (K.held shelf.new) (K.faults shelf.old) (K.faults shelf.new)) }
 {
     if stack.frames() == 0 {
         return Ok(());
@@ -96,7 +97,8 @@ pub(crate) fn copy<L: Library, K: Shelf, T: Sink>(
     shelf: &mut K,
     out: &mut T,
 ) -> Status
-    ensures ends { Ends result (Some (Copy name.now prefix.now)) (L.holds library.old) (K.held shelf.old) (K.held shelf.new) (T.written out.old) (T.written out.new) }
+    ensures ends { Ends result (Some (Copy name.now prefix.now)) (L.holds library.old) (K.held shelf.old) (K.held shelf.new) (T.written out.old)
+        (T.written out.new) }
     ensures cause { IsCause result (record { library = L.faults library.old; shelf = K.faults shelf.old; sink = T.faults out.old })
         (record { library = L.faults library.new; shelf = K.faults shelf.new; sink = T.faults out.new }) }
     ensures library { L.holds library.new ≡ L.holds library.old }

@@ -14,8 +14,8 @@ pub fn copy_is_plain()
     ensures limit { SameLimit }
 {}
 
-/// No two files of a command have one name, and no two of a graph's groups and rows, be they of a plain run or of one with its threads. The log's text
-/// has a name of its own but where a statistics node is named `log`.
+/// No two files of a `copy` or a `plain` have one name, and no two of a graph's groups and rows, be they of a plain run or of one with its threads. The
+/// log's text has a name of its own but where a statistics node is named `log`.
 pub fn files_have_own_names()
     ensures commands { CommandsHaveOwnNames }
     ensures groups { GroupsHaveOwnNames }

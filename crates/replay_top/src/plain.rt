@@ -39,7 +39,8 @@ fn save_plain<K: Shelf>(
     requires within { limit_fault plan.now.graph stack.now ≡ None }
     ensures ok { OnOk result (K.held shelf.new ≡ with_files (K.held shelf.old) (plain_files plan.now.graph stack.now prefix.now)) }
     ensures stays { OnOk result (K.faults shelf.new ≡ K.faults shelf.old) }
-    ensures err { IfErr result (λ s. SaveStops s (K.held shelf.old) (plain_files plan.now.graph stack.now prefix.now) (K.held shelf.new) (K.faults shelf.old) (K.faults shelf.new)) }
+    ensures err { IfErr result (λ s. SaveStops s (K.held shelf.old) (plain_files plan.now.graph stack.now prefix.now) (K.held shelf.new) (K.faults shelf.old)
+        (K.faults shelf.new)) }
 {
     match save_files(alloc, shelf, prefix, plan, stack) {
         Ok(()) => Ok(()),
@@ -58,7 +59,8 @@ fn print_plain<T: Sink>(
     requires graph { IsGraph plan.now.graph }
     ensures ok { OnOk result (T.written out.new ≡ with_written (T.written out.old) (plain_text plan.now.graph stack.now)) }
     ensures stays { OnOk result (T.faults out.new ≡ T.faults out.old) }
-    ensures err { IfErr result (λ s. PrintStops s (T.written out.old) (plain_text plan.now.graph stack.now) (T.written out.new) (T.faults out.old) (T.faults out.new)) }
+    ensures err { IfErr result
+        (λ s. PrintStops s (T.written out.old) (plain_text plan.now.graph stack.now) (T.written out.new) (T.faults out.old) (T.faults out.new)) }
 {
     match plain_text(alloc, plan, stack) {
         Ok(text) => print(out, text.as_str()),
@@ -76,7 +78,8 @@ pub(crate) fn plain<L: Library, K: Shelf, T: Sink>(
     shelf: &mut K,
     out: &mut T,
 ) -> Status
-    ensures ends { Ends result (Some (Plain graph.now name.now prefix.now)) (L.holds library.old) (K.held shelf.old) (K.held shelf.new) (T.written out.old) (T.written out.new) }
+    ensures ends { Ends result (Some (Plain graph.now name.now prefix.now)) (L.holds library.old) (K.held shelf.old) (K.held shelf.new) (T.written out.old)
+        (T.written out.new) }
     ensures cause { IsCause result (record { library = L.faults library.old; shelf = K.faults shelf.old; sink = T.faults out.old })
         (record { library = L.faults library.new; shelf = K.faults shelf.new; sink = T.faults out.new }) }
     ensures library { L.holds library.new ≡ L.holds library.old }

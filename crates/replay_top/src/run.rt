@@ -82,7 +82,8 @@ fn report_of(alloc: Global, plan: &Plan, log: &Log) -> Result<String, OutOfMemor
 fn print_report<T: Sink>(alloc: Global, out: &mut T, plan: &Plan, log: &Log) -> Result<(), Status>
     ensures ok { OnOk result (T.written out.new ≡ with_written (T.written out.old) (report_text plan.now.graph (report plan.now log.now.past))) }
     ensures stays { OnOk result (T.faults out.new ≡ T.faults out.old) }
-    ensures err { IfErr result (λ s. PrintStops s (T.written out.old) (report_text plan.now.graph (report plan.now log.now.past)) (T.written out.new) (T.faults out.old) (T.faults out.new)) }
+    ensures err { IfErr result (λ s. PrintStops s (T.written out.old) (report_text plan.now.graph (report plan.now log.now.past)) (T.written out.new)
+        (T.faults out.old) (T.faults out.new)) }
 {
     match report_of(alloc, plan, log) {
         Ok(text) => print(out, text.as_str()),
@@ -199,9 +200,12 @@ pub fn run_top<
     // Refusals: exactly where the words are no run; and else those of the plain run of the same words.
     ensures usage { (result.status ≡ Status.Usage) ↔ (run_command_of (map string_bytes words.now) ≡ None) }
     ensures no_text { result.status ≡ Status.GraphText → HasNoText (plain_run_of (run_command_of (map string_bytes words.now))) (L.holds library.old) }
-    ensures graph { (fault : GraphFault) → result.status ≡ Status.GraphRule fault → HasGraphFault (plain_run_of (run_command_of (map string_bytes words.now))) (L.holds library.old) fault }
-    ensures refused { (fault : StackFault) → result.status ≡ Status.StackBytes fault → HasStackFault (plain_run_of (run_command_of (map string_bytes words.now))) (L.holds library.old) fault }
-    ensures limit { (fault : LimitFault) → result.status ≡ Status.Limit fault → HasLimitFault (plain_run_of (run_command_of (map string_bytes words.now))) (L.holds library.old) fault }
+    ensures graph { (fault : GraphFault) → result.status ≡ Status.GraphRule fault
+        → HasGraphFault (plain_run_of (run_command_of (map string_bytes words.now))) (L.holds library.old) fault }
+    ensures refused { (fault : StackFault) → result.status ≡ Status.StackBytes fault
+        → HasStackFault (plain_run_of (run_command_of (map string_bytes words.now))) (L.holds library.old) fault }
+    ensures limit { (fault : LimitFault) → result.status ≡ Status.Limit fault
+        → HasLimitFault (plain_run_of (run_command_of (map string_bytes words.now))) (L.holds library.old) fault }
     ensures untouched { IsRefused result.status → (K.held shelf.new ≡ K.held shelf.old) × (T.written out.new ≡ T.written out.old) }
     ensures memory { result.status ≡ Status.OutOfMemory → T.written out.new ≡ T.written out.old }
     ensures library { L.holds library.new ≡ L.holds library.old }

@@ -140,8 +140,10 @@ pub(crate) fn save_later<K: Shelf>(
 ) -> Result<(), SaveFault>
     requires graph { IsGraph graph.now }
     requires measures { length measures.now ≡ length graph.now.nodes }
-    ensures ok { OnOk result (K.held shelf.new ≡ with_files (K.held shelf.old) (measured_files prefix.now graph.now.nodes measures.now ++ log_files logs prefix.now log.now.past)) }
-    ensures err { OnErr result (AreBegun (K.held shelf.old) (measured_files prefix.now graph.now.nodes measures.now ++ log_files logs prefix.now log.now.past) (K.held shelf.new)) }
+    ensures ok { OnOk result (K.held shelf.new
+        ≡ with_files (K.held shelf.old) (measured_files prefix.now graph.now.nodes measures.now ++ log_files logs prefix.now log.now.past)) }
+    ensures err { OnErr result
+        (AreBegun (K.held shelf.old) (measured_files prefix.now graph.now.nodes measures.now ++ log_files logs prefix.now log.now.past) (K.held shelf.new)) }
     ensures cause { IsSaveCause result (K.faults shelf.old) (K.faults shelf.new) }
 {
     save_rows(alloc, shelf, prefix, graph, measures)?;

@@ -1,7 +1,8 @@
 //! What a command ends with.
 
 ghost use Rattle.std.specs.Prelude.{◌≡◌, Some, IfOk, string_bytes};
-ghost use Rattle.replay_top.specs.StatusText.{status_number, status_words, stack_fault_words, limit_fault_words, cdf_fault_words, calc_fault_words, graph_fault_words};
+ghost use Rattle.replay_top.specs.StatusText.{status_number, status_words, stack_fault_words, limit_fault_words, cdf_fault_words, calc_fault_words};
+ghost use Rattle.replay_top.specs.StatusText.{graph_fault_words};
 
 use cdf_read::CdfFault;
 use graph_conf::{GraphFault, LimitFault};

@@ -4,7 +4,8 @@ ghost use Rattle.std.specs.Prelude.{◌≡◌, ◌↔◌, map, None, string_byte
 ghost use Rattle.nd_stack.specs.declared.fault.StackFault.{StackFault};
 ghost use Rattle.graph_conf.specs.declared.fault.GraphFault.{GraphFault};
 ghost use Rattle.graph_conf.specs.declared.load.LimitFault.{LimitFault};
-ghost use Rattle.replay_top.specs.Answers.{Ends, IsDone, HasNoText, HasGraphFault, HasStackFault, HasLimitFault, IsSaveBegun, IsSaveFailed, IsPrintCutShort, IsRefused};
+ghost use Rattle.replay_top.specs.Answers.{Ends, IsDone, HasNoText, HasGraphFault, HasStackFault, HasLimitFault, IsSaveBegun, IsSaveFailed};
+ghost use Rattle.replay_top.specs.Answers.{IsPrintCutShort, IsRefused};
 ghost use Rattle.replay_top.specs.Causes.{IsCause};
 ghost use Rattle.replay_top.specs.Claims.{Completes};
 ghost use Rattle.replay_top.specs.Command.{command_of};
@@ -25,7 +26,8 @@ fn run_command<L: Library, K: Shelf, T: Sink>(
     shelf: &mut K,
     out: &mut T,
 ) -> Status
-    ensures ends { Ends result (command_of (map string_bytes words.now)) (L.holds library.old) (K.held shelf.old) (K.held shelf.new) (T.written out.old) (T.written out.new) }
+    ensures ends { Ends result (command_of (map string_bytes words.now)) (L.holds library.old) (K.held shelf.old) (K.held shelf.new) (T.written out.old)
+        (T.written out.new) }
     ensures cause { IsCause result (record { library = L.faults library.old; shelf = K.faults shelf.old; sink = T.faults out.old })
         (record { library = L.faults library.new; shelf = K.faults shelf.new; sink = T.faults out.new }) }
     ensures library { L.holds library.new ≡ L.holds library.old }
@@ -63,8 +65,10 @@ pub fn tool_top<L: Library, K: Shelf, T: Sink>(
     // that fault; where a number passes its limit.
     ensures usage { (result ≡ Status.Usage) ↔ (command_of (map string_bytes words.now) ≡ None) }
     ensures no_text { result ≡ Status.GraphText → HasNoText (command_of (map string_bytes words.now)) (L.holds library.old) }
-    ensures graph { (fault : GraphFault) → result ≡ Status.GraphRule fault → HasGraphFault (command_of (map string_bytes words.now)) (L.holds library.old) fault }
-    ensures refused { (fault : StackFault) → result ≡ Status.StackBytes fault → HasStackFault (command_of (map string_bytes words.now)) (L.holds library.old) fault }
+    ensures graph { (fault : GraphFault) → result ≡ Status.GraphRule fault
+        → HasGraphFault (command_of (map string_bytes words.now)) (L.holds library.old) fault }
+    ensures refused { (fault : StackFault) → result ≡ Status.StackBytes fault
+        → HasStackFault (command_of (map string_bytes words.now)) (L.holds library.old) fault }
     ensures limit { (fault : LimitFault) → result ≡ Status.Limit fault → HasLimitFault (command_of (map string_bytes words.now)) (L.holds library.old) fault }
 
     // What a status other than Done leaves. The files that are read stay, whatever the status.

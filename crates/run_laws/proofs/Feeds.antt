@@ -1,11 +1,13 @@
 -- Where the feed waits and no hand is taken back, a child of the driver has room from a load to its offer.
-use Rattle.std.proofs.Common.{◌≡◌, ◌≢◌, ℕ, zero, suc, ◌+◌, ◌≤◌, ◌<◌, Bool, true, false, ◌&&◌, cond, eqb, ltb, leb, List, [], ◌∷◌, map, drop, length, refl, sym, ap, ◌∙◌, subst, arith, inl, inr}
+use Rattle.std.proofs.Common.{◌≡◌, ◌≢◌, ℕ, zero, suc, ◌+◌, ◌≤◌, ◌<◌, Bool, true, false, ◌&&◌, cond, eqb, ltb, leb, List, [], ◌∷◌, map, drop, length, refl}
+use Rattle.std.proofs.Common.{sym, ap, ◌∙◌, subst, arith, inl, inr}
 use Rattle.std.specs.Prelude.{filter, flat_map}
 use Rattle.std.specs.List.{list_all}
 use Rattle.std.proofs.lemmas.Bool.{and_parts, false≢true, true≢false, eq-eqb, eqb-true, eqb-false, ne_eqb, cases_Bool, ltb-true, lt-ltb, leb-true}
 use Rattle.nd_base.specs.declared.frame.FrameName.{FrameName}
 use Rattle.flow_journal.specs.declared.entry.Entry.{Entry}
-use Rattle.flow_journal.specs.declared.entry.Entry.TheVariants.{Load, LoadRefused, Tick, Issue, Emit, Accept, Full, Take, TakeBlock, PoolDrop, Put, SortDrop, Settle, Save, Saved, Close, Leave, Reclaim}
+use Rattle.flow_journal.specs.declared.entry.Entry.TheVariants.{Load, LoadRefused, Tick, Issue, Emit, Accept, Full, Take, TakeBlock, PoolDrop, Put}
+use Rattle.flow_journal.specs.declared.entry.Entry.TheVariants.{SortDrop, Settle, Save, Saved, Close, Leave, Reclaim}
 use Rattle.flow_journal.specs.Setting.{Setting, Node, node, is_node, is_sorted, numbers_from, node_numbers, children}
 use Rattle.flow_journal.specs.Turns.{offered_to}
 use Rattle.flow_journal.specs.Pasts.{Past, frame}
@@ -17,7 +19,8 @@ use Rattle.flow_journal.specs.Histories.{is_legal}
 use Rattle.flow_journal.proofs.Rows.{row_laws, test_laws}
 use Rattle.flow_journal.proofs.Hands.{row_of, takes-alone}
 use Rattle.flow_journal.proofs.Changes.{queue_laws}
-use Rattle.flow_journal.proofs.EntryCounts.{count, bit, count-cons, count-append, count-drop, count-let_go, count-let_go-le, owed-first, owed-answered, answers-by_Accept}
+use Rattle.flow_journal.proofs.EntryCounts.{count, bit, count-cons, count-append, count-drop, count-let_go, count-let_go-le, owed-first, owed-answered}
+use Rattle.flow_journal.proofs.EntryCounts.{answers-by_Accept}
 use Rattle.flow_journal.proofs.Outs.{is_out_at, AllOutAt, out_of, none_elsewhere, result-at, flush-at, goes_out-at}
 use Rattle.flow_journal.proofs.Dealing.{count-offered}
 use Rattle.flow_journal.proofs.Offers.{is_number, none_numbered_0, child_once}

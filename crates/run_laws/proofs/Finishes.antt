@@ -1,5 +1,6 @@
 -- What a finished run says of each node, and what went out of a node of one thread.
-use Rattle.std.proofs.Common.{◌≡◌, ◌≢◌, ℕ, zero, suc, ◌+◌, ◌≤◌, ◌<◌, Bool, true, false, ◌&&◌, eqb, ltb, List, [], ◌∷◌, ◌++◌, map, length, refl, sym, ap, ◌∙◌, subst, arith, inl, inr}
+use Rattle.std.proofs.Common.{◌≡◌, ◌≢◌, ℕ, zero, suc, ◌+◌, ◌≤◌, ◌<◌, Bool, true, false, ◌&&◌, eqb, ltb, List, [], ◌∷◌, ◌++◌, map, length, refl, sym, ap}
+use Rattle.std.proofs.Common.{◌∙◌, subst, arith, inl, inr}
 use Rattle.std.specs.Prelude.{nat_lt, nat_le}
 use Rattle.std.specs.List.{list_all}
 use Rattle.std.proofs.lemmas.Bool.{and_parts, and_from, false≢true, ltb-true, ltb-false, leb-true, lt-ltb, le-leb, eqb-true, eqb-false, cases_Bool}
@@ -8,7 +9,8 @@ use Rattle.nd_base.specs.declared.frame.FrameName.{FrameName}
 use Rattle.trig_window.specs.Windows.{passed_items}
 use Rattle.flow_journal.specs.declared.entry.Entry.{Entry}
 use Rattle.flow_journal.specs.declared.entry.Entry.TheVariants.{Put}
-use Rattle.flow_journal.specs.Setting.{Setting, Node, no_node, Work, Makes, Passes, Watches, Saves, node, is_node, makes, is_maker, may_sort, is_sorted, numbers_from, node_numbers}
+use Rattle.flow_journal.specs.Setting.{Setting, Node, no_node, Work, Makes, Passes, Watches, Saves, node, is_node, makes, is_maker, may_sort, is_sorted}
+use Rattle.flow_journal.specs.Setting.{numbers_from, node_numbers}
 use Rattle.flow_journal.specs.Pasts.{Past, frame}
 use Rattle.flow_journal.specs.Hands.{hands}
 use Rattle.flow_journal.specs.Ended.{is_closed, is_settled}

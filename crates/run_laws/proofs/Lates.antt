@@ -1,5 +1,6 @@
 -- What goes out late has waited for longer than the sort time.
-use Rattle.std.proofs.Common.{◌≡◌, ◌≢◌, ℕ, ◌+◌, ◌≤◌, Bool, true, false, ◌&&◌, cond, eqb, ltb, List, [], ◌∷◌, ◌++◌, map, drop, length, refl, sym, ap, ◌∙◌, subst, arith, inl, inr, ◌⊎◌, ℤ}
+use Rattle.std.proofs.Common.{◌≡◌, ◌≢◌, ℕ, ◌+◌, ◌≤◌, Bool, true, false, ◌&&◌, cond, eqb, ltb, List, [], ◌∷◌, ◌++◌, map, drop, length, refl, sym, ap, ◌∙◌}
+use Rattle.std.proofs.Common.{subst, arith, inl, inr, ◌⊎◌, ℤ}
 use Rattle.std.specs.List.{Contains}
 use Rattle.std.proofs.lemmas.Bool.{and_parts, and_from, false≢true, eq-eqb, eqb-true, eqb-false, ltb-true, cases_Bool}
 use Rattle.std.proofs.lemmas.List.Elements.{Contains-append_right, Contains-append_left}
@@ -114,7 +115,8 @@ lates-looks s P v t (u ∷ us) once =
           omega (
             arith,
             both,
-            subst (λ (x : ℕ). count (lates v t) (cond (is_sorted s x) (look s x P) []) ≤ count (overdue s v (now P) t) (waiting s v P)) (sym (eqb-true u v here))
+            subst (λ (x : ℕ). count (lates v t) (cond (is_sorted s x) (look s x P) []) ≤ count (overdue s v (now P) t) (waiting s v P))
+                (sym (eqb-true u v here))
                 (own (is_sorted s v)),
             others us none,
           )

@@ -6,7 +6,8 @@ use Rattle.std.proofs.lemmas.Bool.{and_parts, false≢true, eq-eqb, ne_eqb, case
 use Rattle.nd_base.specs.declared.frame.FrameName.{FrameName}
 use Rattle.flow_journal.proofs.LastOuts.{outs_of, no_out}
 use Rattle.flow_journal.specs.declared.entry.Entry.{Entry}
-use Rattle.flow_journal.specs.declared.entry.Entry.TheVariants.{Load, Tick, Issue, Emit, Accept, Full, Take, TakeBlock, Put, SortDrop, Settle, Save, Saved, Reclaim}
+use Rattle.flow_journal.specs.declared.entry.Entry.TheVariants.{Load, Tick, Issue, Emit, Accept, Full, Take, TakeBlock, Put, SortDrop, Settle, Save, Saved}
+use Rattle.flow_journal.specs.declared.entry.Entry.TheVariants.{Reclaim}
 use Rattle.flow_journal.specs.declared.entry.Why.TheVariants.{Plain}
 use Rattle.flow_journal.specs.Setting.{Setting, node, node_numbers}
 use Rattle.flow_journal.specs.Turns.{offered_to}
@@ -22,7 +23,8 @@ use Rattle.flow_journal.specs.Pushes.{is_nothing-true}
 use Rattle.flow_journal.proofs.Rows.{row_laws}
 use Rattle.flow_journal.proofs.Hands.{row_of, one-loaded, flat-let_go, takes-alone, hands-more, stood}
 use Rattle.flow_journal.proofs.Counts.{hand-standing}
-use Rattle.flow_journal.proofs.EntryCounts.{count, bit, count-cons, count-append, count-drop, count-let_go, loads_at, owed-first, owed-answered, answers-by_Emit, answers-by_Accept, answers-by_SortDrop, answers-by_Tick}
+use Rattle.flow_journal.proofs.EntryCounts.{count, bit, count-cons, count-append, count-drop, count-let_go, loads_at, owed-first, owed-answered}
+use Rattle.flow_journal.proofs.EntryCounts.{answers-by_Emit, answers-by_Accept, answers-by_SortDrop, answers-by_Tick}
 use Rattle.flow_journal.proofs.Found.{none_counted, found_up}
 use Rattle.flow_journal.proofs.Jobs.{reclaim_hand}
 use Rattle.flow_journal.proofs.Once.{load-once}

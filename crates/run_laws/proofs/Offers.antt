@@ -17,7 +17,8 @@ use Rattle.flow_journal.specs.Accepted.{emitted}
 use Rattle.flow_journal.specs.Following.{offer, look, calls_for, owed}
 use Rattle.flow_journal.specs.Histories.{answers, is_nothing, is_legal, is_history}
 use Rattle.flow_journal.specs.Pushes.{is_nothing-true}
-use Rattle.flow_journal.proofs.EntryCounts.{count, bit, count-cons, owed-first, owed-answered, answers-by_Emit, answers-by_Accept, answers-by_SortDrop, answers-by_Tick}
+use Rattle.flow_journal.proofs.EntryCounts.{count, bit, count-cons, owed-first, owed-answered, answers-by_Emit, answers-by_Accept, answers-by_SortDrop}
+use Rattle.flow_journal.proofs.EntryCounts.{answers-by_Tick}
 use Rattle.flow_journal.proofs.Outs.{is_out_at, AllOutAt, result-at, flush-at, goes_out-at, all-append}
 use Rattle.flow_journal.proofs.Dealing.{count-offered}
 use Rattle.flow_journal.proofs.Offers.{is_number, child_once}

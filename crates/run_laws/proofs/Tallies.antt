@@ -1,5 +1,6 @@
 -- What a node accepted is queued or in hand, was put, or the pool dropped it; and only sorted nodes drop results.
-use Rattle.std.proofs.Common.{◌≡◌, ◌≢◌, ℕ, ◌+◌, Bool, true, false, ◌&&◌, cond, eqb, ltb, List, [], ◌∷◌, ◌++◌, map, drop, length, refl, sym, ap, ◌∙◌, subst, arith, inl, inr, ℤ}
+use Rattle.std.proofs.Common.{◌≡◌, ◌≢◌, ℕ, ◌+◌, Bool, true, false, ◌&&◌, cond, eqb, ltb, List, [], ◌∷◌, ◌++◌, map, drop, length, refl, sym, ap, ◌∙◌, subst}
+use Rattle.std.proofs.Common.{arith, inl, inr, ℤ}
 use Rattle.std.specs.Prelude.{flat_map}
 use Rattle.std.specs.List.{list_all}
 use Rattle.std.proofs.lemmas.Bool.{and_parts, false≢true, eqb-true, eqb-false, cases_Bool, eq-eqb}
@@ -26,7 +27,8 @@ use Rattle.flow_journal.proofs.Rows.{row_laws}
 use Rattle.flow_journal.proofs.Hands.{row_of, takes-alone, stood}
 use Rattle.flow_journal.proofs.Found.{found_up}
 use Rattle.flow_journal.proofs.Counts.{times_by, queued-by, hand-standing}
-use Rattle.flow_journal.proofs.EntryCounts.{count, bit, count-cons, count-append, count-drop, count-let_go, takes_at, puts_at, owed-answered, answers-by_SortDrop}
+use Rattle.flow_journal.proofs.EntryCounts.{count, bit, count-cons, count-append, count-drop, count-let_go, takes_at, puts_at, owed-answered}
+use Rattle.flow_journal.proofs.EntryCounts.{answers-by_SortDrop}
 use Rattle.flow_journal.proofs.Jobs.{putting_hand, reclaim_hand}
 use Rattle.flow_journal.proofs.Outs.{of_index, is_out_at, AllOutAt, result-at}
 use Rattle.flow_journal.proofs.Issues.{comes-count}

@@ -2,7 +2,8 @@
 
 ghost use Rattle.run_laws.specs.BufferLaws.{GrantsAreUnplaced};
 ghost use Rattle.run_laws.specs.CauseLaws.{FullListsDrop, FullQueuesDrop, RefusedPoolsDrop, RefusedPoolsRefuse};
-ghost use Rattle.run_laws.specs.DropLaws.{EmissionsAreOffered, EveryFrameIsOffered, FramesAreLoadedOrRefused, LoadedFramesAreIssued, OffersAreAcceptedOrDropped};
+ghost use Rattle.run_laws.specs.DropLaws.{EmissionsAreOffered, EveryFrameIsOffered, FramesAreLoadedOrRefused, LoadedFramesAreIssued};
+ghost use Rattle.run_laws.specs.DropLaws.{OffersAreAcceptedOrDropped};
 ghost use Rattle.run_laws.specs.FeedLaws.{WaitingFeedFindsRoom};
 ghost use Rattle.run_laws.specs.OneThreadLaws.{AcceptedAreOfTheInput, EmissionsPermuteTheAccepted, FilesSaveTheAccepted, OneThreadEmitsTheAccepted};
 ghost use Rattle.run_laws.specs.OneThreadLaws.{OutputsAreOfTheNode, OutputsInOrder, OutputsInSomeOrder, WindowsEmitTheAccepted};

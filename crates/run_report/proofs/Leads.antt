@@ -1,5 +1,6 @@
 -- What the tally of a node comes to in the end stays the same as one entry more is read.
-use Rattle.std.proofs.Common.{◌≡◌, ℕ, ◌+◌, arith, Bool, true, false, cond, ◌&&◌, not, List, [], ◌∷◌, ◌++◌, refl, sym, ap, ◌∙◌, subst, length, Option, inl, inr, ℤ, zero-add}
+use Rattle.std.proofs.Common.{◌≡◌, ℕ, ◌+◌, arith, Bool, true, false, cond, ◌&&◌, not, List, [], ◌∷◌, ◌++◌, refl, sym, ap, ◌∙◌, subst, length, Option, inl}
+use Rattle.std.proofs.Common.{inr, ℤ, zero-add}
 use Rattle.std.specs.Prelude.{flat_map}
 use Rattle.std.specs.List.{count_by}
 use Rattle.std.proofs.lemmas.List.Sums.{sum_by-cons}

@@ -1,5 +1,6 @@
 -- What one entry more adds to the tallies of a log that is read from its end.
-use Rattle.std.specs.Prelude.{◌≡◌, ℕ, ◌+◌, ◌-◌, ◌<◌, ◌^◌, ◌==◌, Bool, false, ◌&&◌, not, List, ◌∷◌, length, map, ℤ, pos, Option, Some, None, slice_index_or, if◌then◌else◌}
+use Rattle.std.specs.Prelude.{◌≡◌, ℕ, ◌+◌, ◌-◌, ◌<◌, ◌^◌, ◌==◌, Bool, false, ◌&&◌, not, List, ◌∷◌, length, map, ℤ, pos, Option, Some, None, slice_index_or}
+use Rattle.std.specs.Prelude.{if◌then◌else◌}
 use Rattle.nd_base.specs.declared.graph.NodeRule.{NodeRule}
 use Rattle.flow_journal.specs.declared.entry.Entry.{Entry}
 use Rattle.flow_journal.specs.declared.entry.Entry.TheVariants.{Load, LoadRefused, Emit, Accept, Full, TakeBlock, PoolDrop, SortDrop, Save}

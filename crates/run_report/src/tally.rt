@@ -1,6 +1,6 @@
 //! What is counted of a node, where a log is read from its end.
 
-ghost use Rattle.std.specs.Prelude.{◌≡◌, ◌+◌, ◌^◌, ◌<◌};
+ghost use Rattle.std.specs.Prelude.{◌≡◌, ◌+◌, ◌<◌};
 ghost use Rattle.flow_journal.specs.RunSetting.{work_of};
 ghost use Rattle.flow_journal.specs.Unsaved.{is_file};
 ghost use Rattle.queue_sort.specs.Sorting.{keeps_step};

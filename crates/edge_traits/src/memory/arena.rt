@@ -1,9 +1,10 @@
 //! Names and bytes one after the other in storage that was reserved at the start.
 
-ghost use Rattle.std.specs.Prelude.{◌≡◌, ◌+◌, ◌<◌, ◌≤◌, ◌++◌, [], length, take, drop, is_ok, IsSome, IfSome, IfNone, None, Some, IfOk, OnOk, OnErr, vec_len, vec_capacity};
+ghost use Rattle.std.specs.Prelude.{◌≡◌, ◌+◌, ◌<◌, ◌≤◌, ◌++◌, [], length, take, drop, is_ok, IsSome, IfSome, IfNone, None, Some, IfOk, OnOk, OnErr};
+ghost use Rattle.std.specs.Prelude.{vec_len, vec_capacity};
 ghost use Rattle.std.specs.Option.{option_copied};
 ghost use Rattle.edge_traits.specs.Files.{overwritten};
-ghost use Rattle.edge_traits.specs.Memory.{find_file, set_file, bytes_of, with_bytes, takes_name, takes_bytes};
+ghost use Rattle.edge_traits.specs.Memory.{find_file, bytes_of, with_bytes, takes_name, takes_bytes};
 ghost use Rattle.edge_traits.specs.Arena.{parts, total_size, IsPlace};
 
 use crate::Failed;

@@ -1,6 +1,7 @@
 //! Libraries in memory.
 
-ghost use Rattle.std.specs.Prelude.{◌≡◌, ◌<◌, ◌≤◌, ◌-◌, ◌&&◌, ℕ, List, length, take, drop, min, map, not, is_ok, is_some, string_bytes, IfOk, OnOk, Some, if◌then◌else◌};
+ghost use Rattle.std.specs.Prelude.{◌≡◌, ◌<◌, ◌≤◌, ◌-◌, ◌&&◌, ℕ, List, length, take, drop, min, map, not, is_ok, is_some, string_bytes, IfOk, OnOk, Some};
+ghost use Rattle.std.specs.Prelude.{if◌then◌else◌};
 ghost use Rattle.edge_traits.specs.Faults.{Counts};
 ghost use Rattle.edge_traits.specs.Files.{Stands, IsTold};
 ghost use Rattle.edge_traits.specs.Memory.{told, find_file, no_calls, is_listed, counted, one_more};

@@ -1,6 +1,7 @@
 //! Objects in memory that give and take one byte a call.
 
-ghost use Rattle.std.specs.Prelude.{◌≡◌, ◌<◌, ◌≤◌, ◌+◌, ◌-◌, ◌&&◌, ℕ, List, length, take, drop, min, map, not, is_ok, is_some, nat_lt, string_bytes, IfOk, OnOk, OnErr, Some, [], ◌^◌};
+ghost use Rattle.std.specs.Prelude.{◌≡◌, ◌<◌, ◌≤◌, ◌-◌, ◌&&◌, ℕ, List, length, take, drop, min, map, not, is_ok, is_some, nat_lt, string_bytes, IfOk, OnOk};
+ghost use Rattle.std.specs.Prelude.{OnErr, Some, []};
 ghost use Rattle.edge_traits.specs.Faults.{Counts};
 ghost use Rattle.edge_traits.specs.Files.{Stands, IsTold};
 ghost use Rattle.edge_traits.specs.Written.{with_written};

@@ -152,7 +152,8 @@ impl<F: Held> Course<F> {
     /// Whether nothing is queued at the node, or as many of its jobs are in hand as it has threads.
     fn is_idle(&self, node: u32) -> bool
         requires { is_node (run_setting F.Of.graph F.Of.stack) node ≡ true }
-        ensures { result ≡ (none_left (queued node (past self.now.told)) || nat_le (node_of (run_setting F.Of.graph F.Of.stack) node).threads (jobs node (past self.now.told))) }
+        ensures { result ≡ (none_left (queued node (past self.now.told))
+            || nat_le (node_of (run_setting F.Of.graph F.Of.stack) node).threads (jobs node (past self.now.told))) }
     {
         let state = self.state(node);
         state.inbox.len() == 0 || state.jobs >= self.rules_of(node).threads

@@ -127,7 +127,10 @@ impl<F: Held> Course<F> {
         requires next { slice_get self.old.transit 0 ≡ Some name }
         requires legal { is_legal (run_setting F.Of.graph F.Of.stack)
             (past (with_all (run_setting F.Of.graph F.Of.stack) 0 1 (map (offer name) (children (run_setting F.Of.graph F.Of.stack) from)) self.old.told)) ≡ true }
-        ensures { self.new ≡ record self.old { told = with_all (run_setting F.Of.graph F.Of.stack) 0 1 (map (offer name) (children (run_setting F.Of.graph F.Of.stack) from)) self.old.told } }
+        ensures { self.new ≡ record self.old {
+          told = with_all (run_setting F.Of.graph F.Of.stack) 0 1
+              (map (offer name) (children (run_setting F.Of.graph F.Of.stack) from)) self.old.told;
+        } }
     {
         for place in 0..self.rules.children_of(from).len() {
             let child = self.rules.children_of(from)[place];
@@ -240,7 +243,10 @@ impl<F: Held> Course<F> {
         requires next { slice_get self.old.transit 0 ≡ Some name }
         requires legal { is_legal (run_setting F.Of.graph F.Of.stack)
             (past (with_all (run_setting F.Of.graph F.Of.stack) 0 1 (map (offer name) (offered_to (run_setting F.Of.graph F.Of.stack) (before_emission self.old.told) from)) self.old.told)) ≡ true }
-        ensures { self.new ≡ record self.old { told = with_all (run_setting F.Of.graph F.Of.stack) 0 1 (map (offer name) (offered_to (run_setting F.Of.graph F.Of.stack) (before_emission self.old.told) from)) self.old.told } }
+        ensures { self.new ≡ record self.old {
+          told = with_all (run_setting F.Of.graph F.Of.stack) 0 1
+              (map (offer name) (offered_to (run_setting F.Of.graph F.Of.stack) (before_emission self.old.told) from)) self.old.told;
+        } }
     {
         let Some(child) = self.next_in_turn(from) else {
             return;
@@ -313,8 +319,12 @@ impl<F: Held> Course<F> {
         requires unsorted { is_sorted (run_setting F.Of.graph F.Of.stack) from ≡ false }
         requires measured { measured ≡ run_measure F.Of.graph F.Of.stack from name }
         requires next { slice_get self.old.transit 0 ≡ Some name }
-        requires legal { is_legal (run_setting F.Of.graph F.Of.stack) (past (with_all (run_setting F.Of.graph F.Of.stack) 0 2 (emit from why name ∷ []) self.old.told)) ≡ true }
-        ensures { self.new ≡ record self.old { told = with_all (run_setting F.Of.graph F.Of.stack) 0 2 (emit from why name ∷ []) self.old.told; transit = drop 1 self.old.transit } }
+        requires legal { is_legal (run_setting F.Of.graph F.Of.stack)
+            (past (with_all (run_setting F.Of.graph F.Of.stack) 0 2 (emit from why name ∷ []) self.old.told)) ≡ true }
+        ensures { self.new ≡ record self.old {
+          told = with_all (run_setting F.Of.graph F.Of.stack) 0 2 (emit from why name ∷ []) self.old.told;
+          transit = drop 1 self.old.transit;
+        } }
     {
         if from == 0 {
             self.leave_driver(name, why);

@@ -35,7 +35,8 @@ fn take_grant(pool: &mut Pool, alloc: Global, need: u32, grant: Grant) -> Result
     requires some { need ≢ 0 }
     requires few { length pool.old.known < 4294967295 }
     requires granted { grant_for need pool.old ≡ Granted grant.block grant.size grant.fresh grant.given_up }
-    ensures taken { OnOk result (all_named pool.new ≡ record (all_named (after (all_named pool.old) (Granted grant.block grant.size grant.fresh grant.given_up))) { room = pool.new.room }) }
+    ensures taken { OnOk result (all_named pool.new
+        ≡ record (all_named (after (all_named pool.old) (Granted grant.block grant.size grant.fresh grant.given_up))) { room = pool.new.room }) }
     ensures refused { OnErr result ((pool.new ≡ pool.old) × (grant.fresh ≡ true)) }
 {
     if grant.fresh {
@@ -87,7 +88,8 @@ impl<F: Held> Course<F> {
         requires role { role ≤ last_role (run_setting F.Of.graph F.Of.stack) }
         requires history { is_history (run_setting F.Of.graph F.Of.stack) (past self.old.told) ≡ true }
         requires allowed { load_refusal {B = F.Blank} (run_setting F.Of.graph F.Of.stack) role (past self.old.told) ≡ None }
-        requires granted { granted_by (run_setting F.Of.graph F.Of.stack) (past self.old.told) ((run_setting F.Of.graph F.Of.stack).need 0) ≡ Granted grant.block grant.size grant.fresh grant.given_up }
+        requires granted { granted_by (run_setting F.Of.graph F.Of.stack) (past self.old.told) ((run_setting F.Of.graph F.Of.stack).need 0)
+            ≡ Granted grant.block grant.size grant.fresh grant.given_up }
         requires stale { (regrown && grant.fresh) ≡ false }
         ensures loaded { OnOk result (self.new ≡ record self.old {
           told = moved_at (run_setting F.Of.graph F.Of.stack) tick
@@ -112,7 +114,8 @@ impl<F: Held> Course<F> {
         requires role { role ≤ last_role (run_setting F.Of.graph F.Of.stack) }
         requires history { is_history (run_setting F.Of.graph F.Of.stack) (past self.old.told) ≡ true }
         requires allowed { load_refusal {B = F.Blank} (run_setting F.Of.graph F.Of.stack) role (past self.old.told) ≡ None }
-        requires granted { granted_by (run_setting F.Of.graph F.Of.stack) (past self.old.told) ((run_setting F.Of.graph F.Of.stack).need 0) ≡ Granted grant.block grant.size grant.fresh grant.given_up }
+        requires granted { granted_by (run_setting F.Of.graph F.Of.stack) (past self.old.told) ((run_setting F.Of.graph F.Of.stack).need 0)
+            ≡ Granted grant.block grant.size grant.fresh grant.given_up }
         requires stale { (regrown && grant.fresh) ≡ false }
         ensures loaded { OnOk result (self.new ≡ record self.old {
           told =
@@ -171,7 +174,8 @@ impl<F: Held> Course<F> {
         requires history { is_history (run_setting F.Of.graph F.Of.stack) (past self.old.told) ≡ true }
         requires allowed { take_refusal {F = F} {B = F.Blank} {O = F.Of} (run_setting F.Of.graph F.Of.stack) role node (past self.old.told) ≡ None }
         requires makes { is_maker (run_setting F.Of.graph F.Of.stack) node ≡ true }
-        requires granted { granted_by (run_setting F.Of.graph F.Of.stack) (past self.old.told) ((run_setting F.Of.graph F.Of.stack).need node) ≡ Granted grant.block grant.size grant.fresh grant.given_up }
+        requires granted { granted_by (run_setting F.Of.graph F.Of.stack) (past self.old.told) ((run_setting F.Of.graph F.Of.stack).need node)
+            ≡ Granted grant.block grant.size grant.fresh grant.given_up }
         requires stale { (regrown && grant.fresh) ≡ false }
         requires next { is_next (F.name_of part.now) (queued node (past self.old.told)) ≡ true }
         ensures taken { OnOk result (self.new ≡ record self.old {

@@ -97,7 +97,8 @@ impl<F: Held> Course<F> {
     /// The block that was granted with a role's hand.
     pub fn granted(&self, role: u32) -> Option<Block>
         requires { role ≤ last_role (run_setting F.Of.graph F.Of.stack) }
-        ensures block { MatchOption result (granted_block (hand role (past self.now.told)) ≡ []) (λ b. granted_block (hand role (past self.now.told)) ≡ b.number ∷ []) }
+        ensures block { MatchOption result (granted_block (hand role (past self.now.told)) ≡ [])
+            (λ b. granted_block (hand role (past self.now.told)) ≡ b.number ∷ []) }
         ensures size { MatchOption result (has_grant (hand role (past self.now.told)) ≡ false) (λ b. granted_size (hand role (past self.now.told)) ≡ b.size) }
         ensures some { MatchOption result (has_grant (hand role (past self.now.told)) ≡ false) (λ b. has_grant (hand role (past self.now.told)) ≡ true) }
     {

@@ -24,7 +24,8 @@ use nd_base::{FrameName, Held};
 /// Lets the least waiting one out of the list of a node where it keeps step or is late, and keeps its measure.
 fn let_out(node: &mut NodeState, now: u64, sort_time: u64) -> Option<(FrameName, Why)>
     requires ticks { All (λ w. w.tick ≤ now) node.old.list.waiting }
-    requires room { (w : Waiting Kept) (ws : List (Waiting Kept)) (m : Measure) (why : Why) → node.old.list.waiting ≡ w ∷ ws → why_due node.old.list.last now sort_time w ≡ Some why → w.item.measured ≡ Some m → vec_len node.old.measures < vec_capacity node.old.measures }
+    requires room { (w : Waiting Kept) (ws : List (Waiting Kept)) (m : Measure) (why : Why) → node.old.list.waiting ≡ w ∷ ws
+        → why_due node.old.list.last now sort_time w ≡ Some why → w.item.measured ≡ Some m → vec_len node.old.measures < vec_capacity node.old.measures }
     ensures none { result ≡ None → NothingDue now sort_time node.old × (node.new ≡ node.old) }
     ensures some { (name : FrameName) (why : Why) → result ≡ Some (name, why) → IsLetOut now sort_time node.old node.new name why }
 {
@@ -40,7 +41,9 @@ impl<F: Held> Course<F> {
         requires node { is_node (run_setting F.Of.graph F.Of.stack) node ≡ true }
         requires sorted { is_sorted (run_setting F.Of.graph F.Of.stack) node ≡ true }
         requires still { self.old.transit ≡ [] }
-        requires legal { is_legal (run_setting F.Of.graph F.Of.stack) (past (with_all (run_setting F.Of.graph F.Of.stack) 0 2 (look (run_setting F.Of.graph F.Of.stack) node (past self.old.told)) self.old.told)) ≡ true }
+        requires legal { is_legal (run_setting F.Of.graph F.Of.stack)
+            (past (with_all (run_setting F.Of.graph F.Of.stack) 0 2 (look (run_setting F.Of.graph F.Of.stack) node (past self.old.told)) self.old.told))
+            ≡ true }
         ensures still { self.new.transit ≡ [] }
         ensures none { result ≡ false → (look (run_setting F.Of.graph F.Of.stack) node (past self.old.told) ≡ []) × (self.new ≡ self.old) }
         ensures some { result ≡ true → LetsOneOut (run_setting F.Of.graph F.Of.stack) node self.old.told self.new.told }
@@ -67,8 +70,13 @@ impl<F: Held> Course<F> {
         requires node { is_node (run_setting F.Of.graph F.Of.stack) node ≡ true }
         requires sorted { is_sorted (run_setting F.Of.graph F.Of.stack) node ≡ true }
         requires still { self.old.transit ≡ [] }
-        requires legal { is_legal (run_setting F.Of.graph F.Of.stack) (past (with_all (run_setting F.Of.graph F.Of.stack) 0 2 (look (run_setting F.Of.graph F.Of.stack) node (past self.old.told)) self.old.told)) ≡ true }
-        ensures { self.new ≡ record self.old { told = with_all (run_setting F.Of.graph F.Of.stack) 0 2 (look (run_setting F.Of.graph F.Of.stack) node (past self.old.told)) self.old.told } }
+        requires legal { is_legal (run_setting F.Of.graph F.Of.stack)
+            (past (with_all (run_setting F.Of.graph F.Of.stack) 0 2 (look (run_setting F.Of.graph F.Of.stack) node (past self.old.told)) self.old.told))
+            ≡ true }
+        ensures { self.new ≡ record self.old {
+          told = with_all (run_setting F.Of.graph F.Of.stack) 0 2
+              (look (run_setting F.Of.graph F.Of.stack) node (past self.old.told)) self.old.told;
+        } }
     {
         while self.emit_due(node) {}
     }

@@ -166,7 +166,10 @@ impl<F: Held> Course<F> {
         requires hand { is_job_on node name (hand role (past self.old.told)) ≡ true }
         requires measured { measured ≡ run_measure F.Of.graph F.Of.stack node name }
         requires fired { fired ≡ fires_for (run_setting F.Of.graph F.Of.stack) node name }
-        ensures { self.new ≡ record self.old { told = moved (run_setting F.Of.graph F.Of.stack) (plain (put_of (run_setting F.Of.graph F.Of.stack) role node name fired)) self.old.told } }
+        ensures { self.new ≡ record self.old {
+          told = moved (run_setting F.Of.graph F.Of.stack)
+              (plain (put_of (run_setting F.Of.graph F.Of.stack) role node name fired)) self.old.told;
+        } }
     {
         let made = self.result_name(node, name);
         match self.put_placed(role, node, name, measured, fired) {

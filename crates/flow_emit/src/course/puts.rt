@@ -121,7 +121,8 @@ impl<F: Held> Course<F> {
         requires unsorted { is_sorted (run_setting F.Of.graph F.Of.stack) node ≡ false }
         requires still { self.old.transit ≡ [] }
         requires hand { is_job_on node name (hand role (past self.old.told)) ≡ true }
-        requires legal { is_legal (run_setting F.Of.graph F.Of.stack) (put_of (run_setting F.Of.graph F.Of.stack) role node name fired ∷ past self.old.told) ≡ true }
+        requires legal { is_legal (run_setting F.Of.graph F.Of.stack) (put_of (run_setting F.Of.graph F.Of.stack) role node name fired ∷ past self.old.told)
+            ≡ true }
         ensures { self.new ≡ record self.old {
           told = plain (put_of (run_setting F.Of.graph F.Of.stack) role node name fired) ∷ self.old.told;
           transit = job_arrays (run_setting F.Of.graph F.Of.stack) node name;
@@ -159,7 +160,10 @@ impl<F: Held> Course<F> {
         requires hand { is_job_on node name (hand role (past self.old.told)) ≡ true }
         requires measured { measured ≡ run_measure F.Of.graph F.Of.stack node name }
         requires fired { fired ≡ fires_for (run_setting F.Of.graph F.Of.stack) node name }
-        ensures { self.new ≡ record self.old { told = moved (run_setting F.Of.graph F.Of.stack) (plain (put_of (run_setting F.Of.graph F.Of.stack) role node name fired)) self.old.told } }
+        ensures { self.new ≡ record self.old {
+          told = moved (run_setting F.Of.graph F.Of.stack)
+              (plain (put_of (run_setting F.Of.graph F.Of.stack) role node name fired)) self.old.told;
+        } }
     {
         let made = self.result_name(node, name);
         self.put_plain(role, node, name, fired);
@@ -178,7 +182,10 @@ impl<F: Held> Course<F> {
         requires history { is_history (run_setting F.Of.graph F.Of.stack) (past self.old.told) ≡ true }
         requires hand { is_job_on node name (hand role (past self.old.told)) ≡ true }
         requires fired { fired ≡ fires_for (run_setting F.Of.graph F.Of.stack) node name }
-        ensures { self.new ≡ record self.old { told = moved (run_setting F.Of.graph F.Of.stack) (plain (put_of (run_setting F.Of.graph F.Of.stack) role node name fired)) self.old.told } }
+        ensures { self.new ≡ record self.old {
+          told = moved (run_setting F.Of.graph F.Of.stack)
+              (plain (put_of (run_setting F.Of.graph F.Of.stack) role node name fired)) self.old.told;
+        } }
     {
         keep_unsaved(&mut self.nodes[node as usize - 1], name);
         let_go(&mut self.roles[role as usize]);
@@ -208,7 +215,10 @@ impl<F: Held> Course<F> {
         requires hand { is_job_on node name (hand role (past self.old.told)) ≡ true }
         requires measured { measured ≡ run_measure F.Of.graph F.Of.stack node name }
         requires fired { fired ≡ fires_for (run_setting F.Of.graph F.Of.stack) node name }
-        ensures { self.new ≡ record self.old { told = moved (run_setting F.Of.graph F.Of.stack) (plain (put_of (run_setting F.Of.graph F.Of.stack) role node name fired)) self.old.told } }
+        ensures { self.new ≡ record self.old {
+          told = moved (run_setting F.Of.graph F.Of.stack)
+              (plain (put_of (run_setting F.Of.graph F.Of.stack) role node name fired)) self.old.told;
+        } }
     {
         match self.work(node) {
             NodeWork::Saves { .. } => self.put_to_save(role, node, name, fired),

@@ -42,7 +42,8 @@ fn give_up_ring(window: &mut Window<FrameName>, transit: &mut VecDeque<FrameName
 
 /// Takes the least waiting one out of the list of a node, and keeps its measure.
 fn take_least(node: &mut NodeState) -> Option<FrameName>
-    requires { (w : Waiting Kept) (ws : List (Waiting Kept)) (m : Measure) → node.old.list.waiting ≡ w ∷ ws → w.item.measured ≡ Some m → vec_len node.old.measures < vec_capacity node.old.measures }
+    requires { (w : Waiting Kept) (ws : List (Waiting Kept)) (m : Measure) → node.old.list.waiting ≡ w ∷ ws → w.item.measured ≡ Some m
+        → vec_len node.old.measures < vec_capacity node.old.measures }
     ensures none { result ≡ None → (node.old.list.waiting ≡ []) × (node.new ≡ node.old) }
     ensures some { (name : FrameName) → result ≡ Some name → IsFlushed node.old node.new name }
 {
@@ -92,7 +93,10 @@ impl<F: Held> Course<F> {
         requires kind { watches (run_setting F.Of.graph F.Of.stack) node ≡ true }
         requires unsettled { is_settled node (past self.old.told) ≡ false }
         requires legal { is_legal (run_setting F.Of.graph F.Of.stack) (Settle role node ∷ past self.old.told) ≡ true }
-        ensures { self.new ≡ record { told = plain (Settle role node) ∷ self.old.told; transit = ring (run_setting F.Of.graph F.Of.stack) node (past self.old.told) } }
+        ensures { self.new ≡ record {
+          told = plain (Settle role node) ∷ self.old.told;
+          transit = ring (run_setting F.Of.graph F.Of.stack) node (past self.old.told);
+        } }
     {
         let state = &mut self.nodes[node as usize - 1];
         give_up_ring(&mut state.window, &mut self.transit);
@@ -143,8 +147,13 @@ impl<F: Held> Course<F> {
         requires node { is_node (run_setting F.Of.graph F.Of.stack) node ≡ true }
         requires sorted { is_sorted (run_setting F.Of.graph F.Of.stack) node ≡ true }
         requires still { self.old.transit ≡ [] }
-        requires legal { is_legal (run_setting F.Of.graph F.Of.stack) (past (with_all (run_setting F.Of.graph F.Of.stack) 0 2 (flush (run_setting F.Of.graph F.Of.stack) node (past self.old.told)) self.old.told)) ≡ true }
-        ensures { self.new ≡ record self.old { told = with_all (run_setting F.Of.graph F.Of.stack) 0 2 (flush (run_setting F.Of.graph F.Of.stack) node (past self.old.told)) self.old.told } }
+        requires legal { is_legal (run_setting F.Of.graph F.Of.stack)
+            (past (with_all (run_setting F.Of.graph F.Of.stack) 0 2 (flush (run_setting F.Of.graph F.Of.stack) node (past self.old.told)) self.old.told))
+            ≡ true }
+        ensures { self.new ≡ record self.old {
+          told = with_all (run_setting F.Of.graph F.Of.stack) 0 2
+              (flush (run_setting F.Of.graph F.Of.stack) node (past self.old.told)) self.old.told;
+        } }
     {
         while self.emit_least(node) {}
     }
@@ -154,7 +163,9 @@ impl<F: Held> Course<F> {
         requires node { is_node (run_setting F.Of.graph F.Of.stack) node ≡ true }
         requires sorted { is_sorted (run_setting F.Of.graph F.Of.stack) node ≡ true }
         requires still { self.old.transit ≡ [] }
-        requires legal { is_legal (run_setting F.Of.graph F.Of.stack) (past (with_all (run_setting F.Of.graph F.Of.stack) 0 2 (flush (run_setting F.Of.graph F.Of.stack) node (past self.old.told)) self.old.told)) ≡ true }
+        requires legal { is_legal (run_setting F.Of.graph F.Of.stack)
+            (past (with_all (run_setting F.Of.graph F.Of.stack) 0 2 (flush (run_setting F.Of.graph F.Of.stack) node (past self.old.told)) self.old.told))
+            ≡ true }
         ensures still { self.new.transit ≡ [] }
         ensures none { result ≡ false → (flush (run_setting F.Of.graph F.Of.stack) node (past self.old.told) ≡ []) × (self.new ≡ self.old) }
         ensures some { result ≡ true → FlushesOne (run_setting F.Of.graph F.Of.stack) node self.old.told self.new.told }

@@ -18,8 +18,12 @@ impl<F: Held> Course<F> {
     /// The tick of a load, of which the greater of it and the one before is kept. Then each sort list is looked at.
     pub(crate) fn tick(&mut self, tick: u64)
         requires still { self.old.transit ≡ [] }
-        requires legal { is_legal (run_setting F.Of.graph F.Of.stack) (past (with_all (run_setting F.Of.graph F.Of.stack) tick 3 (Tick (now (past self.old.told)) ∷ []) self.old.told)) ≡ true }
-        ensures { self.new ≡ record self.old { told = with_all (run_setting F.Of.graph F.Of.stack) tick 3 (Tick (now (past self.old.told)) ∷ []) self.old.told } }
+        requires legal { is_legal (run_setting F.Of.graph F.Of.stack)
+            (past (with_all (run_setting F.Of.graph F.Of.stack) tick 3 (Tick (now (past self.old.told)) ∷ []) self.old.told)) ≡ true }
+        ensures { self.new ≡ record self.old {
+          told = with_all (run_setting F.Of.graph F.Of.stack) tick 3
+              (Tick (now (past self.old.told)) ∷ []) self.old.told;
+        } }
     {
         self.note_tick(tick);
         self.look_at_all();

@@ -54,7 +54,8 @@ fn watch(
     requires stands { (flags : List Bool) × (names : List FrameName) × StandsAt window.old flags names }
     requires still { transit.old.items ≡ [] }
     requires room { length window.old.ring < deque_capacity transit.old }
-    ensures watched { (flags : List Bool) (names : List FrameName) → StandsAt window.old flags names → IsWatched flags names fired name window.old window.new transit.new.items result }
+    ensures watched { (flags : List Bool) (names : List FrameName) → StandsAt window.old flags names
+        → IsWatched flags names fired name window.old window.new transit.new.items result }
     ensures room { deque_capacity transit.new ≡ deque_capacity transit.old }
 {
     match window.push(name, fired) {
@@ -107,7 +108,8 @@ impl<F: Held> Course<F> {
         requires node { is_node (run_setting F.Of.graph F.Of.stack) node ≡ true }
         requires kind { watches (run_setting F.Of.graph F.Of.stack) node ≡ true }
         requires some { 0 < length self.old.transit }
-        requires legal { is_legal (run_setting F.Of.graph F.Of.stack) (past (with_all (run_setting F.Of.graph F.Of.stack) 0 2 (ring_outs node self.old.transit) self.old.told)) ≡ true }
+        requires legal { is_legal (run_setting F.Of.graph F.Of.stack)
+            (past (with_all (run_setting F.Of.graph F.Of.stack) 0 2 (ring_outs node self.old.transit) self.old.told)) ≡ true }
         ensures { self.new ≡ record self.old {
           told = with_all (run_setting F.Of.graph F.Of.stack) 0 2 (take 1 (ring_outs node self.old.transit)) self.old.told;
           transit = drop 1 self.old.transit;
@@ -129,7 +131,8 @@ impl<F: Held> Course<F> {
     fn let_ring_out(&mut self, node: u32)
         requires node { is_node (run_setting F.Of.graph F.Of.stack) node ≡ true }
         requires kind { watches (run_setting F.Of.graph F.Of.stack) node ≡ true }
-        requires legal { is_legal (run_setting F.Of.graph F.Of.stack) (past (with_all (run_setting F.Of.graph F.Of.stack) 0 2 (ring_outs node self.old.transit) self.old.told)) ≡ true }
+        requires legal { is_legal (run_setting F.Of.graph F.Of.stack)
+            (past (with_all (run_setting F.Of.graph F.Of.stack) 0 2 (ring_outs node self.old.transit) self.old.told)) ≡ true }
         ensures { self.new ≡ record self.old {
           told = with_all (run_setting F.Of.graph F.Of.stack) 0 2 (ring_outs node self.old.transit) self.old.told;
           transit = [];
@@ -149,7 +152,10 @@ impl<F: Held> Course<F> {
         requires history { is_history (run_setting F.Of.graph F.Of.stack) (past self.old.told) ≡ true }
         requires hand { is_job_on node name (hand role (past self.old.told)) ≡ true }
         requires fired { fired ≡ fires_for (run_setting F.Of.graph F.Of.stack) node name }
-        ensures { self.new ≡ record self.old { told = moved (run_setting F.Of.graph F.Of.stack) (plain (put_of (run_setting F.Of.graph F.Of.stack) role node name fired)) self.old.told } }
+        ensures { self.new ≡ record self.old {
+          told = moved (run_setting F.Of.graph F.Of.stack)
+              (plain (put_of (run_setting F.Of.graph F.Of.stack) role node name fired)) self.old.told;
+        } }
     {
         match self.put_in_ring(role, node, name, fired) {
             Watched::Kept => {}

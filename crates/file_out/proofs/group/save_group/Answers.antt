@@ -59,8 +59,10 @@ returns-in_err-add-clause-err g c =
     let item = c.row-item.result in
     let others = group-front shape rows (i + 1) in
     let stops = (rw (c.loop-row.invariant.stream, c.list.ensures) at c.in_err-add.ensures.err) in
-    rw p.1 (IsBegun-AddStops c.in_err-add.field-0.0 _ (g.K.Shelf.held c.loop-row.shelf) _ c.args.name.now (begun_file shape (Some (length rows)) (arrays_of shape (take i rows)))
-    (row shape (row_array shape item)) others.0 _ (others.1 ∙ ap (λ bytes. bytes ++ others.0) (group-more shape rows i item c.loop-row-test.true c.row-item.is)) c.loop-row.invariant.files stops)
+    rw p.1 (IsBegun-AddStops c.in_err-add.field-0.0 _ (g.K.Shelf.held c.loop-row.shelf) _ c.args.name.now
+    (begun_file shape (Some (length rows)) (arrays_of shape (take i rows)))
+    (row shape (row_array shape item)) others.0 _ (others.1
+    ∙ ap (λ bytes. bytes ++ others.0) (group-more shape rows i item c.loop-row-test.true c.row-item.is)) c.loop-row.invariant.files stops)
 
 pub loop-row-preserved : goal.loop-row-preserved
 loop-row-preserved g c =
@@ -74,7 +76,8 @@ loop-row-preserved g c =
     record {
       files =
           added ∙ ap (λ w. with_more w name (row shape (row_array shape item))) c.loop-row.invariant.files
-          ∙ with_more-with_file (held c.args.shelf.now) name (begun_file shape (Some (length rows)) (arrays_of shape (take i rows))) (row shape (row_array shape item))
+          ∙ with_more-with_file (held c.args.shelf.now) name (begun_file shape (Some (length rows)) (arrays_of shape (take i rows)))
+          (row shape (row_array shape item))
           ∙ ap (with_file (held c.args.shelf.now) name) (sym (group-more shape rows i item c.loop-row-test.true c.row-item.is));
       stream = c.in_ok-add.ensures.counted ∙ ap (λ (f : Stream). (record f { count = f.count + 1 })) c.loop-row.invariant.stream;
       within = omega (arith, c.loop-row-test.true);
@@ -83,7 +86,8 @@ loop-row-preserved g c =
 
 pub end-requires-clause-counted : goal.end-requires-clause-counted
 end-requires-clause-counted g c =
-    rw c.loop-row.invariant.stream (λ k is. let same : length c.args.rows.now ≡ c.loop-row.row-index = omega (arith, c.loop-row.invariant.within, c.loop-row-test.false) in cc)
+    rw c.loop-row.invariant.stream (λ k is. let same : length c.args.rows.now ≡ c.loop-row.row-index =
+    omega (arith, c.loop-row.invariant.within, c.loop-row-test.false) in cc)
 
 pub end-requires-clause-stands : goal.end-requires-clause-stands
 end-requires-clause-stands g c =
@@ -97,7 +101,8 @@ returns-in_err-end-clause-err g c =
     let p = err_from_is_err_and c.from_residual-in_err-end.result c.from_residual-in_err-end.ensures.1 in
     let same = (rw c.loop-row.invariant.stream at c.in_err-end.ensures.err) in
     rw p.1 (IsBegun-whole _ _ c.args.name.now _ (same ∙ c.loop-row.invariant.files
-    ∙ ap (with_file (g.K.Shelf.held c.args.shelf.now) c.args.name.now) (group-whole c.args.shape.now c.args.rows.now c.loop-row.row-index c.loop-row-test.false)))
+    ∙ ap (with_file (g.K.Shelf.held c.args.shelf.now) c.args.name.now)
+    (group-whole c.args.shape.now c.args.rows.now c.loop-row.row-index c.loop-row-test.false)))
 
 pub returns-clause-ok : goal.returns-clause-ok
 returns-clause-ok g c =

@@ -6,7 +6,8 @@ use Rattle.flow_drain.specs.Drains.{taken_back}
 use Rattle.flow_drain.proofs.Growth.{no-move, grown, begins-on}
 use Rattle.flow_drain.proofs.TakingBack.{taken-none, back-begins}
 use Rattle.flow_drain.proofs.Rounds.{more-entries}
-use Rattle.flow_drain.proofs.Quiet.{finished-drained, drains-first, fed-moves, fed-still, round-moves, round-still, round-on, round-longer, round-same, round-drained, still-from}
+use Rattle.flow_drain.proofs.Quiet.{finished-drained, drains-first, fed-moves, fed-still, round-moves, round-still, round-on, round-longer, round-same}
+use Rattle.flow_drain.proofs.Quiet.{round-drained, still-from}
 use Rattle.flow_drain.proofs.draining.drain.Goals as goal
 
 pub returns-then-finished-clause-done : goal.returns-then-finished-clause-done

@@ -3,7 +3,8 @@ use Rattle.board_rules.specs.declared.answers.Load.TheVariants.{NotYet, OutOfMem
 use Rattle.board_rules.specs.RunMeasures.{run_setting}
 use Rattle.flow_roles.specs.Feeder.{parts_of}
 use Rattle.flow_drain.proofs.Growth.{no-move}
-use Rattle.flow_drain.proofs.Feeds.{load-same, loaded-holds, loaded-on, loaded-other, loaded-unfed, refused-idle, refused-on, refused-other, refused-unfed, waits-by, ended-idle, ended-on, ended-fed, ended-still, same-idle}
+use Rattle.flow_drain.proofs.Feeds.{load-same, loaded-holds, loaded-on, loaded-other, loaded-unfed, refused-idle, refused-on, refused-other, refused-unfed}
+use Rattle.flow_drain.proofs.Feeds.{waits-by, ended-idle, ended-on, ended-fed, ended-still, same-idle}
 use Rattle.flow_drain.proofs.working.feed_one.Goals as goal
 
 pub issue_frame-requires-clause-loaded : goal.issue_frame-requires-clause-loaded

@@ -5,7 +5,8 @@ use Rattle.board_rules.specs.RunMeasures.{run_setting}
 use Rattle.flow_journal.specs.Queued.{queued}
 use Rattle.flow_roles.specs.Feeder.{name_of, parts_of}
 use Rattle.flow_drain.proofs.Growth.{no-move, moves-on, moves-longer}
-use Rattle.flow_drain.proofs.Works.{node-sound, take-left, take-same, take-ended, take-idle, take-next, none-next, has-work, job-moves, job-longer, drop-idle, drop-moves, drop-longer, drop-next}
+use Rattle.flow_drain.proofs.Works.{node-sound, take-left, take-same, take-ended, take-idle, take-next, none-next, has-work, job-moves, job-longer}
+use Rattle.flow_drain.proofs.Works.{drop-idle, drop-moves, drop-longer, drop-next}
 use Rattle.flow_drain.proofs.working.work_once.Goals as goal
 
 pub work_on-requires-clause-job : goal.work_on-requires-clause-job

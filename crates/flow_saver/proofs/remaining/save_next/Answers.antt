@@ -13,7 +13,8 @@ use Rattle.flow_roles.specs.Feeder.{name_of, parts_of}
 use Rattle.flow_saver.specs.Saver.{back_of}
 use Rattle.flow_saver.specs.Remaining.{StepRests}
 use Rattle.flow_saver.specs.declared.saving.Step.TheVariants.{Wrote}
-use Rattle.flow_saver.proofs.Remains.{next-node, next-busy, next-still, next-nothing, next-empty, next-taken, next-legal, next-back, next-drained, next-longer, next-others, next-moves, to-give-alone, unsaved-still, back-moves}
+use Rattle.flow_saver.proofs.Remains.{next-node, next-busy, next-still, next-nothing, next-empty, next-taken, next-legal, next-back, next-drained}
+use Rattle.flow_saver.proofs.Remains.{next-longer, next-others, next-moves, to-give-alone, unsaved-still, back-moves}
 use Rattle.flow_saver.proofs.Resting.{rest-none}
 use Rattle.flow_saver.proofs.remaining.save_next.Goals as goal
 
@@ -62,10 +63,12 @@ returns-in-NotYet-clause-rests g c =
     let h = c.requires.saving in
     λ x at. (
       next-still gr stack c.requires.graph h.0 h.1.0 b mid xs c.args.fault.now held h.1.1 c.args.at c.node-node.result c.node-node.ensures c.requires.at (subst
-          (λ (r : ℕ). SaveGives {F = Sealed} name_of parts_of (run_setting gr stack) b r c.node-node.result NotYet mid) c.requires.role c.in-NotYet.ensures.gives),
+          (λ (r : ℕ). SaveGives {F = Sealed} name_of parts_of (run_setting gr stack) b r c.node-node.result NotYet mid) c.requires.role
+          c.in-NotYet.ensures.gives),
       subst (λ (v : ℕ). unsaved (run_setting gr stack) v (past mid) ≡ []) (c.node-node.ensures x at) (next-empty gr stack c.requires.graph h.0 h.1.0 b mid xs
           c.args.fault.now held h.1.1 c.args.at c.node-node.result c.node-node.ensures c.requires.at c.requires.drained (subst
-          (λ (r : ℕ). SaveGives {F = Sealed} name_of parts_of (run_setting gr stack) b r c.node-node.result NotYet mid) c.requires.role c.in-NotYet.ensures.gives)),
+          (λ (r : ℕ). SaveGives {F = Sealed} name_of parts_of (run_setting gr stack) b r c.node-node.result NotYet mid) c.requires.role
+          c.in-NotYet.ensures.gives)),
     )
 
 pub returns-in-NotYet-clause-moves : goal.returns-in-NotYet-clause-moves

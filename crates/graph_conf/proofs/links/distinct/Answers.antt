@@ -1,4 +1,4 @@
-use Rattle.std.proofs.Common.{length, map, sym, ◌∙◌}
+use Rattle.std.proofs.Common.{length, sym, ◌∙◌}
 use Rattle.graph_conf.specs.Graphs.{is_double}
 use Rattle.graph_conf.proofs.Joined.{place_past}
 use Rattle.graph_conf.proofs.links.distinct.Goals as goal

@@ -1,4 +1,4 @@
-use Rattle.std.proofs.Common.{◌≡◌, ◌-◌, length, map}
+use Rattle.std.proofs.Common.{◌≡◌, ◌-◌, length}
 use Rattle.graph_conf.specs.Graphs.{first_place, is_double}
 use Rattle.graph_conf.proofs.links.distinct.Given as goal
 

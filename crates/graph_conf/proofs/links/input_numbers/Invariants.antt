@@ -1,4 +1,4 @@
-use Rattle.std.proofs.Common.{◌≡◌, ◌+◌, length, map, drop}
+use Rattle.std.proofs.Common.{◌≡◌, ◌+◌, length, drop}
 use Rattle.graph_conf.specs.Graphs.{input_numbers}
 use Rattle.graph_conf.proofs.Joined.{in_front}
 use Rattle.graph_conf.proofs.links.input_numbers.Given as goal

@@ -1,4 +1,4 @@
-use Rattle.std.proofs.Common.{◌≡◌, ap, sym, subst, ◌∙◌}
+use Rattle.std.proofs.Common.{ap, sym, subst, ◌∙◌}
 use Rattle.nd_base.specs.GraphRules.{IsGraph}
 use Rattle.nd_base.specs.declared.graph.Graph.{Graph}
 use Rattle.chain_plain.specs.Plans.{shape_at, plan_of}

@@ -6,6 +6,7 @@ use Rattle.lane_kernels.proofs.binned.add_each.Given as goal
 abbrev pub invariant-loop-sum : goal.invariant-loop-sum
 invariant-loop-sum l = record {
   at : l.at ≡ l.place + l.sum-index * l.bin;
-  added : (k : ℕ) → k < l.sum-index → get_or l.sums k (pos 0) ≡ int_wrap w64 (get_or l.initial.sums k (pos 0) +ℤ run l.kind l.input l.bin (l.place + k * l.bin));
+  added : (k : ℕ) → k < l.sum-index
+      → get_or l.sums k (pos 0) ≡ int_wrap w64 (get_or l.initial.sums k (pos 0) +ℤ run l.kind l.input l.bin (l.place + k * l.bin));
   rest : (k : ℕ) → l.sum-index ≤ k → get_or l.sums k (pos 0) ≡ get_or l.initial.sums k (pos 0);
 }

@@ -12,7 +12,8 @@ use Rattle.lane_kernels.proofs.binned.add_lanes.Goals as goal
 -- a sum with what is added to it
 added : (f : ℕ → ℕ → ℕ) → ((a b : ℤ) → FitsSigned w64 a → FitsSigned w64 b → to_z w64 (f (of_z w64 a) (of_z w64 b)) ≡ int_wrap w64 (a +ℤ b)) →
     (sums more : List ℤ) (k : ℕ) → length sums ≡ 8 → length more ≡ 8 → k < 8 → FitsSigned w64 (get_or sums k (pos 0)) → FitsSigned w64 (get_or more k (pos 0)) →
-    get_or (put_chunk 0 sums (map (to_z w64) (zip2 f (map (of_z w64) (take 8 sums)) (map (of_z w64) more)))) k (pos 0) ≡ int_wrap w64 (get_or sums k (pos 0) +ℤ get_or more k (pos 0))
+    get_or (put_chunk 0 sums (map (to_z w64) (zip2 f (map (of_z w64) (take 8 sums)) (map (of_z w64) more)))) k (pos 0)
+    ≡ int_wrap w64 (get_or sums k (pos 0) +ℤ get_or more k (pos 0))
 added f sum sums more k eight too h fit fit2 =
     let all = take_all 8 sums (omega arith) in
     let xs = map (of_z w64) sums in
@@ -43,5 +44,6 @@ returns c = λ k h.
     let lane : get_or more k (pos 0) ≡ pos (pair bytes k) =
     ap (λ l. get_or l k (pos 0)) c.pair_sums-more.ensures ∙ get_or-map-range_with_len (λ k. pos (pair bytes k)) 0 8 k k (pos 0) below (omega arith) in
     let eight : length more ≡ 8 = ap length c.pair_sums-more.ensures in
-    added _ (λ a b f g. wrapping_add_is w64 a b f g) sums more k c.requires.lanes eight below (c.requires.fit k within) (rw lane (pair-fits input c.args.place k c.type_inv.input below))
+    added _ (λ a b f g. wrapping_add_is w64 a b f g) sums more k c.requires.lanes eight below (c.requires.fit k within)
+    (rw lane (pair-fits input c.args.place k c.type_inv.input below))
     ∙ ap (λ z. int_wrap w64 (get_or sums k (pos 0) +ℤ z)) (lane ∙ pair_run input c.args.place k c.requires.room below)

@@ -14,10 +14,20 @@ lane bytes long fit k h =
     let second = get_or_append_left bytes bytes 0 (k + 1) (omega arith) in
     let one = (Each1-get_or (Fits w8) bytes k 0 (omega arith) fit).fits in
     let two = (Each1-get_or (Fits w8) bytes (k + 1) 0 (omega arith) fit).fits in
-    let same : (get_or (bytes ++ bytes) k 0 + get_or (bytes ++ bytes) (k + 1) 0) % 65536 ≡ get_or bytes k 0 + get_or bytes (k + 1) 0 = omega (arith, first, second, one, two) in
+    let same : (get_or (bytes ++ bytes) k 0 + get_or (bytes ++ bytes) (k + 1) 0) % 65536 ≡ get_or bytes k 0 + get_or bytes (k + 1) 0 =
+    omega (arith, first, second, one, two) in
     ap (to_z w64) same ∙ to_z_pos w64 (get_or bytes k 0 + get_or bytes (k + 1) 0) (omega (arith, one, two))
 
 pub returns : goal.returns
 returns c =
     let at = lane c.args.bytes c.fits-bytes.0 c.fits-bytes.1 in
-    cc (at 0 (omega arith), at 2 (omega arith), at 4 (omega arith), at 6 (omega arith), at 8 (omega arith), at 10 (omega arith), at 12 (omega arith), at 14 (omega arith))
+    cc (
+      at 0 (omega arith),
+      at 2 (omega arith),
+      at 4 (omega arith),
+      at 6 (omega arith),
+      at 8 (omega arith),
+      at 10 (omega arith),
+      at 12 (omega arith),
+      at 14 (omega arith),
+    )

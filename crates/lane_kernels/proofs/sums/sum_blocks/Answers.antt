@@ -23,7 +23,8 @@ loop-done-preserved c =
     let is : v ≡ run kind bytes m k = same ∙ c.sum_block.ensures.value in
     let fv : FitsSigned w64 v = search rules in
     let fs : FitsSigned w64 (a +ℤ v) = block_fits a v k m c.loop-done.invariant.bound small (omega (arith, within, c.requires.few)) in
-    let stored : to_z w64 (of_z w64 (a +ℤ to_z w64 (of_z w64 v))) ≡ a +ℤ v = ap (λ z. to_z w64 (of_z w64 (a +ℤ z))) (to_z-of_z w64 v fv) ∙ to_z-of_z w64 (a +ℤ v) fs in
+    let stored : to_z w64 (of_z w64 (a +ℤ to_z w64 (of_z w64 v))) ≡ a +ℤ v = ap (λ z. to_z w64 (of_z w64 (a +ℤ z))) (to_z-of_z w64 v fv)
+    ∙ to_z-of_z w64 (a +ℤ v) fs in
     record {
       done = within;
       sum = stored ∙ ap (λ z. z +ℤ v) c.loop-done.invariant.sum ∙ ap (λ z. total (numbers kind k bytes) +ℤ z) is ∙ sym (total-run kind k m bytes);

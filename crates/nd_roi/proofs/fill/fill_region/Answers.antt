@@ -68,7 +68,8 @@ returns c =
     let axes = axes_from rule 1 first.size others in
     let end = room ((goal.at.returns c).After-unwrap_or) in
     let all : length c.fill_lines.new.out ≤ c.fill_lines.result = omega (arith, end, c.fill_lines.ensures.next) in
-    let whole : length input ≡ sample_count (first ∷ others) * width kind = c.requires.input ∙ ap (λ dims. sample_count dims * width kind) c.in-Some.ensures.cases.0 in
+    let whole : length input ≡ sample_count (first ∷ others) * width kind = c.requires.input
+    ∙ ap (λ dims. sample_count dims * width kind) c.in-Some.ensures.cases.0 in
     ap (samples_of out_kind) (
     sym (take_all c.fill_lines.result c.fill_lines.new.out all)
     ∙ c.fill_lines.ensures.written

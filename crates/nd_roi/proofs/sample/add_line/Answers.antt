@@ -17,7 +17,8 @@ add_binned-requires-clause-within c =
     let m : ℕ = length c.args.sums.now * c.args.bin in
     let same : from ≡ c.args.place * w = ap (λ n. c.args.place * n) c.width.ensures in
     let all = length-drop from input in
-    let long : length (take (length input - from) (drop from input)) ≡ length input - from = length-take-le (length input - from) (drop from input) (omega (arith, all)) in
+    let long : length (take (length input - from) (drop from input)) ≡ length input - from =
+    length-take-le (length input - from) (drop from input) (omega (arith, all)) in
     let a = mul-le-mul_right w c.requires.within in
     let b = div-mul-le_self (length input) w in
     let d = add-mul c.args.place m w in

@@ -7,4 +7,7 @@ abbrev pub decreases-add_low_lines : goal.decreases-add_low_lines
 decreases-add_low_lines l = length l.slower.now
 
 abbrev pub invariant-loop-j : goal.invariant-loop-j
-invariant-loop-j l = (k : ℕ) → k < length l.sums → get_or l.sums k (pos 0) ≡ int_wrap w32 (get_or l.initial.sums k (pos 0) +ℤ sum_below l.j (λ j. lines_total (reverse l.faster) (run l.kind l.input l.bin) (l.base + k * l.bin + j * l.axis.stride)))
+invariant-loop-j l = (k : ℕ) → k < length l.sums
+    → get_or l.sums k (pos 0)
+    ≡ int_wrap w32 (get_or l.initial.sums k (pos 0) +ℤ sum_below l.j
+    (λ j. lines_total (reverse l.faster) (run l.kind l.input l.bin) (l.base + k * l.bin + j * l.axis.stride)))

@@ -11,7 +11,8 @@ use Rattle.nd_roi.proofs.walk.+fill_lines.Goals as goal
 use Rattle.nd_roi.proofs.walk.+fill_lines.Goals.{After-first_covered}
 
 -- the axis reaches no further than its last group
-reaches : (t : ℕ) (c : After-first_covered t) → c.first_covered.result * c.in-Some.axis.now.stride + sum_by first_reach c.in-Some.faster.now ≤ sum_by first_reach c.args.slower.now
+reaches : (t : ℕ) (c : After-first_covered t)
+    → c.first_covered.result * c.in-Some.axis.now.stride + sum_by first_reach c.in-Some.faster.now ≤ sum_by first_reach c.args.slower.now
 reaches t c =
     let axis = c.in-Some.axis.now in
     let e = ap (sum_by first_reach) c.in-Some.ensures.cases.0 ∙ sum_by-append first_reach c.in-Some.faster.now (axis ∷ []) in
@@ -41,7 +42,8 @@ pub fill_lines-next-requires : goal.fill_lines-next-requires
 fill_lines-next-requires t c =
     let h = reaches t ((goal.at.fill_lines-next-requires t c).After-first_covered) in
     let bytes = for_lines (reverse c.in-Some.faster.now) (c.args.job.now.line.size * width c.args.job.now.out_kind) in
-    let whole = ap (λ axes. for_lines axes (c.args.job.now.line.size * width c.args.job.now.out_kind)) (reversed t ((goal.at.fill_lines-next-requires t c).After-first_covered)) in
+    let whole = ap (λ axes. for_lines axes (c.args.job.now.line.size * width c.args.job.now.out_kind))
+    (reversed t ((goal.at.fill_lines-next-requires t c).After-first_covered)) in
     let wide = mul-le-mul_right bytes c.loop-index-test.true in
     let step = suc-mul c.loop-index.index bytes in
     (search rules, (omega arith, (omega (arith, whole, wide, step, c.loop-index.invariant.next), (omega (arith, h), (c.requires.few, c.requires.scale)))))
@@ -58,7 +60,8 @@ loop-index-preserved t c =
       written =
           c.fill_lines-next.ensures.written
           ∙ ap (λ z. z ++ lines (reverse c.in-Some.faster.now) line (c.args.base + c.first_covered.result * axis.stride)) c.loop-index.invariant.written
-          ∙ ap (λ from. take c.args.at c.args.out.now ++ concat_below c.loop-index.index list ++ lines (reverse c.in-Some.faster.now) line (c.args.base + from * axis.stride)) c.first_covered.ensures
+          ∙ ap (λ from. take c.args.at c.args.out.now ++ concat_below c.loop-index.index list
+          ++ lines (reverse c.in-Some.faster.now) line (c.args.base + from * axis.stride)) c.first_covered.ensures
           ∙ append_assoc (take c.args.at c.args.out.now) (concat_below c.loop-index.index list) (list c.loop-index.index)
           ∙ ap (λ z. take c.args.at c.args.out.now ++ z) (sym (concat_below-more c.loop-index.index list));
     }

@@ -15,5 +15,6 @@ returns c =
     ∙ elim c.if-job-eq1.branch [
       | then-job-eq1 w ↦ ap (flat_map (bytes_of job.out_kind)) (w.sums-is ∙ w.gather_low.ensures) ∙ low_bytes job.out_kind total outs
           ∙ undivided job.out_kind total job.scale outs w.if-job-eq1.true
-      | else-job-eq1 w ↦ ap (flat_map (bytes_of job.out_kind)) (w.sums-is ∙ w.gather_divided.ensures) ∙ low_bytes job.out_kind (λ out. int_div (total out) (pos job.scale)) outs
+      | else-job-eq1 w ↦ ap (flat_map (bytes_of job.out_kind)) (w.sums-is ∙ w.gather_divided.ensures)
+          ∙ low_bytes job.out_kind (λ out. int_div (total out) (pos job.scale)) outs
     ]

@@ -7,7 +7,8 @@ abbrev pub invariant-loop-done : goal.invariant-loop-done
 invariant-loop-done l = record {
   done : l.done ≤ l.size;
   next : l.next ≡ l.at + l.done * width l.job.out_kind;
-  written : take l.next l.out ≡ take l.at l.initial.out ++ line_bytes l.job.kind l.input l.job.line (reverse l.job.slower.now) l.job.scale l.job.out_kind l.base 0 l.done;
+  written : take l.next l.out ≡ take l.at l.initial.out
+      ++ line_bytes l.job.kind l.input l.job.line (reverse l.job.slower.now) l.job.scale l.job.out_kind l.base 0 l.done;
 }
 
 abbrev pub decreases-loop-done : goal.decreases-loop-done

@@ -16,13 +16,16 @@ add_low_lines-requires-clause-within c =
     omega (arith, wide)
 
 -- each sum is that of the bin at its place
-gathered : (c : After-add_low_lines) (k m out : ℕ) → k < length c.args.sums.now → c.first_bin-first.result + k ≡ m → first_covered c.args.job.now.line out ≡ c.args.job.now.line.min + m * c.args.job.now.line.bin →
-    get_or c.add_low_lines.new.sums k (pos 0) ≡ int_wrap w32 (line_total c.args.job.now.kind c.args.input.now c.args.job.now.line (reverse c.args.job.now.slower.now) c.args.base out)
+gathered : (c : After-add_low_lines) (k m out : ℕ) → k < length c.args.sums.now → c.first_bin-first.result + k ≡ m
+    → first_covered c.args.job.now.line out ≡ c.args.job.now.line.min + m * c.args.job.now.line.bin →
+    get_or c.add_low_lines.new.sums k (pos 0)
+    ≡ int_wrap w32 (line_total c.args.job.now.kind c.args.input.now c.args.job.now.line (reverse c.args.job.now.slower.now) c.args.base out)
 gathered c k m out h e f =
     let line = c.args.job.now.line in
     let total : ℕ → ℤ = lines_total (reverse c.args.job.now.slower.now) (run c.args.job.now.kind c.args.input.now line.bin) in
     let zeros : c.fill.new.self ≡ replicate (length c.args.sums.now) (pos 0) = c.fill.ensures.after (search rules) in
-    let zero : get_or c.fill.new.self k (pos 0) ≡ pos 0 = ap (λ xs. get_or xs k (pos 0)) zeros ∙ get_or-replicate (length c.args.sums.now) k (pos 0) (pos 0) h in
+    let zero : get_or c.fill.new.self k (pos 0) ≡ pos 0 = ap (λ xs. get_or xs k (pos 0)) zeros
+    ∙ get_or-replicate (length c.args.sums.now) k (pos 0) (pos 0) h in
     let at = c.args.base + line.min + c.first_bin-first.result * line.bin + k * line.bin in
     c.add_low_lines.ensures k (omega arith)
     ∙ low_from_zero (get_or c.fill.new.self k (pos 0)) (total at) zero
@@ -32,13 +35,17 @@ pub returns-else-line : goal.returns-else-line
 returns-else-line c =
     let n = length c.args.sums.now in
     let line = c.args.job.now.line in
-    in_order (λ out. int_wrap w32 (line_total c.args.job.now.kind c.args.input.now line (reverse c.args.job.now.slower.now) c.args.base out)) c.args.done n c.add_low_lines.new.sums (omega arith)
-    (λ k h. gathered ((goal.at.returns-else-line c).After-add_low_lines) k (c.args.done + k) (c.args.done + k) h (let at = c.first_bin-first.ensures.forward c.if-line.false in omega (arith, at)) (first_covered-forward line (c.args.done + k) c.if-line.false))
+    in_order (λ out. int_wrap w32 (line_total c.args.job.now.kind c.args.input.now line (reverse c.args.job.now.slower.now) c.args.base out)) c.args.done n
+    c.add_low_lines.new.sums (omega arith)
+    (λ k h. gathered ((goal.at.returns-else-line c).After-add_low_lines) k (c.args.done + k) (c.args.done + k) h (let at =
+    c.first_bin-first.ensures.forward c.if-line.false in omega (arith, at)) (first_covered-forward line (c.args.done + k) c.if-line.false))
 
 pub returns-then-line : goal.returns-then-line
 returns-then-line c =
     let n = length c.args.sums.now in
     let line = c.args.job.now.line in
     c.reverse.ensures.after
-    ∙ in_reverse (λ out. int_wrap w32 (line_total c.args.job.now.kind c.args.input.now line (reverse c.args.job.now.slower.now) c.args.base out)) c.args.done n c.add_low_lines.new.sums (omega arith)
-    (λ k h. gathered ((goal.at.returns-then-line c).After-add_low_lines) (n - 1 - k) (line.size - 1 - (c.args.done + k)) (c.args.done + k) (omega arith) (let at = c.first_bin-first.ensures.reversed c.if-line.true in omega (arith, at)) (first_covered-reversed line (c.args.done + k) c.if-line.true))
+    ∙ in_reverse (λ out. int_wrap w32 (line_total c.args.job.now.kind c.args.input.now line (reverse c.args.job.now.slower.now) c.args.base out))
+    c.args.done n c.add_low_lines.new.sums (omega arith)
+    (λ k h. gathered ((goal.at.returns-then-line c).After-add_low_lines) (n - 1 - k) (line.size - 1 - (c.args.done + k)) (c.args.done + k) (omega arith)
+    (let at = c.first_bin-first.ensures.reversed c.if-line.true in omega (arith, at)) (first_covered-reversed line (c.args.done + k) c.if-line.true))

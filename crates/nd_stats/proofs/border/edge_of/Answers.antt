@@ -19,7 +19,8 @@ use Rattle.nd_stats.proofs.border.edge_of.Goals.{then-run, else-run}
 pub returns-then-rule-eq0 : goal.returns-then-rule-eq0
 returns-then-rule-eq0 c =
     let kind = c.args.kind in
-    let none = none_on_border c.args.rule.now c.args.dims.now (placed c.args.from (numbers kind (length c.args.samples.now / width kind) c.args.samples.now)) c.requires.frame c.if-rule-eq0.true in
+    let none = none_on_border c.args.rule.now c.args.dims.now
+    (placed c.args.from (numbers kind (length c.args.samples.now / width kind) c.args.samples.now)) c.requires.frame c.if-rule-eq0.true in
     record { count = sym (ap length none); sum = sym (ap (sum_of (λ t. t.value)) none) }
 
 pub overflow_add-edge : goal.overflow_add-edge
@@ -39,12 +40,17 @@ overflow_add-edge-then-run c =
     let m = c.min-size.result in
     let count : length bytes / c.width.result ≡ length bytes / width kind = ap (λ w. length bytes / w) c.width.ensures in
     let rooms = part_rooms (is_on_border c.args.rule.now c.args.dims.now) kind c.args.from k m bytes c.loop-done.edge.sum c.sum_bytes.result c.type_inv.samples
-    (omega (arith, count, c.min-size.ensures, c.requires.within, c.requires.frame.few)) c.loop-done.invariant.edge.sum (c.sum_bytes.ensures ∙ ap total c.part.ensures.values) in
-    rw (to_z-of_z w64 c.loop-done.edge.sum (fits_room c.loop-done.edge.sum rooms.0), to_z-of_z w64 c.sum_bytes.result (fits_room c.sum_bytes.result rooms.1)) (fits_rooms c.loop-done.edge.sum c.sum_bytes.result rooms.0 rooms.1)
+    (omega (arith, count, c.min-size.ensures, c.requires.within, c.requires.frame.few)) c.loop-done.invariant.edge.sum (c.sum_bytes.ensures
+    ∙ ap total c.part.ensures.values) in
+    rw (
+      to_z-of_z w64 c.loop-done.edge.sum (fits_room c.loop-done.edge.sum rooms.0),
+      to_z-of_z w64 c.sum_bytes.result (fits_room c.sum_bytes.result rooms.1),
+    ) (fits_rooms c.loop-done.edge.sum c.sum_bytes.result rooms.0 rooms.1)
 
 pub later_spot-spot-requires-clause-more : goal.later_spot-spot-requires-clause-more
 later_spot-spot-requires-clause-more c =
-    let count : length c.args.samples.now / c.width.result ≡ length c.args.samples.now / width c.args.kind = ap (λ w. length c.args.samples.now / w) c.width.ensures in
+    let count : length c.args.samples.now / c.width.result ≡ length c.args.samples.now / width c.args.kind =
+    ap (λ w. length c.args.samples.now / w) c.width.ensures in
     omega (arith, count, c.min-size.ensures, c.requires.within, c.requires.frame.few)
 
 pub loop-done-preserved : goal.loop-done-preserved
@@ -77,10 +83,12 @@ loop-done-preserved c =
           (elim c.if-run.branch [
             | then-run w ↦
                 let e = w.sum_bytes.ensures ∙ ap total w.part.ensures.values in
-                let rooms = part_rooms (is_on_border rule dims) kind c.args.from k m bytes c.loop-done.edge.sum w.sum_bytes.result c.type_inv.samples (omega (arith, count, c.min-size.ensures, c.requires.within, c.requires.frame.few)) c.loop-done.invariant.edge.sum e in
+                let rooms = part_rooms (is_on_border rule dims) kind c.args.from k m bytes c.loop-done.edge.sum w.sum_bytes.result c.type_inv.samples
+                (omega (arith, count, c.min-size.ensures, c.requires.within, c.requires.frame.few)) c.loop-done.invariant.edge.sum e in
                 edge_in rule dims xs p vs c.loop-done.edge c.if-run.edge c.loop-done.invariant.edge (λ j h. same j h ∙ w.if-run.true)
                 (ap (λ e. e.count) w.edge-is ∙ ap (λ n. c.loop-done.edge.count + n) (sym long))
                 (ap (λ e. e.sum) w.edge-is ∙ room_sum c.loop-done.edge.sum w.sum_bytes.result rooms.0 rooms.1 ∙ ap (λ z. c.loop-done.edge.sum +ℤ z) e)
-            | else-run w ↦ edge_out rule dims xs p vs c.loop-done.edge c.if-run.edge c.loop-done.invariant.edge (λ j h. same j h ∙ w.if-run.false) (ap (λ e. e.count) w.edge-is) (ap (λ e. e.sum) w.edge-is)
+            | else-run w ↦ edge_out rule dims xs p vs c.loop-done.edge c.if-run.edge c.loop-done.invariant.edge (λ j h. same j h
+                ∙ w.if-run.false) (ap (λ e. e.count) w.edge-is) (ap (λ e. e.sum) w.edge-is)
           ]);
     }

@@ -19,13 +19,15 @@ loop-done-preserved c =
     let some : 0 < m = omega (arith, c.min-size.ensures, c.loop-done-test.true) in
     let first : Sample = record { place = from; value = number kind (take (width kind) bytes) } in
     let before = c.loop-done.extremes in
-    let after : Extremes = record { min = c.lesser-min.result.0; min_at = c.lesser-min.result.1; max = c.greater-max.result.0; max_at = c.greater-max.result.1 } in
+    let after : Extremes =
+    record { min = c.lesser-min.result.0; min_at = c.lesser-min.result.1; max = c.greater-max.result.0; max_at = c.greater-max.result.1 } in
     let f0 : FitsSigned w64 c.lesser-min.result.0 = search rules in
     let f1 : FitsSigned w64 c.greater-max.result.0 = search rules in
     let f2 : FitsSigned w64 before.min = search rules in
     let f3 : FitsSigned w64 before.max = search rules in
     let values = c.part-block.ensures.values in
-    let is = extremes_block first (placed from (numbers kind k bytes)) (from + k) m kind (drop (k * width kind) bytes) before after some c.loop-done.invariant.extremes
+    let is = extremes_block first (placed from (numbers kind k bytes)) (from + k) m kind
+    (drop (k * width kind) bytes) before after some c.loop-done.invariant.extremes
     (rw values at (simp to_z-of_z at c.lesser-min.ensures.value)) (rw values at (simp to_z-of_z at c.lesser-min.ensures.at))
     (rw values at (simp to_z-of_z at c.greater-max.ensures.value)) (rw values at (simp to_z-of_z at c.greater-max.ensures.at)) in
     record {

@@ -20,21 +20,24 @@ pub count_one-ends-requires-clause-room : goal.count_one-ends-requires-clause-ro
 count_one-ends-requires-clause-room c =
     let xs = placed c.args.from (numbers c.args.kind c.loop-k.k c.args.samples.now) in
     let long = length-piece c.args.kind c.args.from c.loop-k.k c.args.samples.now in
-    let count : length c.args.samples.now / c.width.result ≡ length c.args.samples.now / width c.args.kind = ap (λ w. length c.args.samples.now / w) c.width.ensures in
+    let count : length c.args.samples.now / c.width.result ≡ length c.args.samples.now / width c.args.kind =
+    ap (λ w. length c.args.samples.now / w) c.width.ensures in
     subst HaveRoom (sym c.loop-k.invariant.bins) (bins_room c.args.rule.now xs (omega (arith, long, count)))
 
 pub count_one-ends-requires-clause-below : goal.count_one-ends-requires-clause-below
 count_one-ends-requires-clause-below c =
     let xs = placed c.args.from (numbers c.args.kind c.loop-k.k c.args.samples.now) in
     let long = length-piece c.args.kind c.args.from c.loop-k.k c.args.samples.now in
-    let count : length c.args.samples.now / c.width.result ≡ length c.args.samples.now / width c.args.kind = ap (λ w. length c.args.samples.now / w) c.width.ensures in
+    let count : length c.args.samples.now / c.width.result ≡ length c.args.samples.now / width c.args.kind =
+    ap (λ w. length c.args.samples.now / w) c.width.ensures in
     count_room (is_below c.args.rule.now) xs c.loop-k.ends.below c.loop-k.invariant.below (omega (arith, long, count))
 
 pub count_one-ends-requires-clause-above : goal.count_one-ends-requires-clause-above
 count_one-ends-requires-clause-above c =
     let xs = placed c.args.from (numbers c.args.kind c.loop-k.k c.args.samples.now) in
     let long = length-piece c.args.kind c.args.from c.loop-k.k c.args.samples.now in
-    let count : length c.args.samples.now / c.width.result ≡ length c.args.samples.now / width c.args.kind = ap (λ w. length c.args.samples.now / w) c.width.ensures in
+    let count : length c.args.samples.now / c.width.result ≡ length c.args.samples.now / width c.args.kind =
+    ap (λ w. length c.args.samples.now / w) c.width.ensures in
     count_room (is_above c.args.rule.now) xs c.loop-k.ends.above c.loop-k.invariant.above (omega (arith, long, count))
 
 pub loop-k-preserved : goal.loop-k-preserved
@@ -47,7 +50,10 @@ loop-k-preserved c =
     let flo : FitsSigned w64 c.args.rule.now.hist_lo = search rules in
     let fhi : FitsSigned w64 c.args.rule.now.hist_hi = search rules in
     let s : Sample = record { place = c.args.from + k; value = c.sample_at.result } in
-    let same : s ≡ sample_at kind c.args.from k bytes = ap (λ v. let u : Sample = record { place = c.args.from + k; value = v } in u) c.sample_at.ensures.value in
-    subst (λ xs. IsCounted rule xs c.count_one-ends.result c.count_one-ends.new.counts) (ap (λ u. placed c.args.from (numbers kind k bytes) ++ u ∷ []) same ∙ sym (piece-more kind c.args.from k bytes))
-    (counted_more rule (placed c.args.from (numbers kind k bytes)) s c.loop-k.ends c.count_one-ends.result c.loop-k.counts c.count_one-ends.new.counts c.requires.rule c.loop-k.invariant
+    let same : s ≡ sample_at kind c.args.from k bytes =
+    ap (λ v. let u : Sample = record { place = c.args.from + k; value = v } in u) c.sample_at.ensures.value in
+    subst (λ xs. IsCounted rule xs c.count_one-ends.result c.count_one-ends.new.counts) (ap (λ u. placed c.args.from (numbers kind k bytes) ++ u ∷ []) same
+    ∙ sym (piece-more kind c.args.from k bytes))
+    (counted_more rule (placed c.args.from (numbers kind k bytes)) s c.loop-k.ends c.count_one-ends.result c.loop-k.counts c.count_one-ends.new.counts
+    c.requires.rule c.loop-k.invariant
     (simp to_z-of_z at c.count_one-ends.ensures.below) (simp to_z-of_z at c.count_one-ends.ensures.bins) (simp to_z-of_z at c.count_one-ends.ensures.above))

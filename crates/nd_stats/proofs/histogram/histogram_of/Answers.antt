@@ -7,4 +7,5 @@ use Rattle.nd_stats.proofs.histogram.histogram_of.Goals as goal
 pub returns-then-rule-eq0 : goal.returns-then-rule-eq0
 returns-then-rule-eq0 c =
     let kind = c.args.kind in
-    no_histogram c.args.rule.now (placed c.args.from (numbers kind (length c.args.samples.now / width kind) c.args.samples.now)) c.args.blank c.if-rule-eq0.true c.requires.blank
+    no_histogram c.args.rule.now
+    (placed c.args.from (numbers kind (length c.args.samples.now / width kind) c.args.samples.now)) c.args.blank c.if-rule-eq0.true c.requires.blank

@@ -19,9 +19,11 @@ loop-preserved c =
     let next = c.next_mark-mark.result in
     let step = c.mark_of-step.result in
     let whole = 2 * parts in
-    let bin : mark.bin ≡ (2 * n * last + parts) / whole = mark_bin mark.bin mark.rest (2 * n * last + parts) whole c.loop.invariant.value c.loop.invariant.rest in
+    let bin : mark.bin ≡ (2 * n * last + parts) / whole =
+    mark_bin mark.bin mark.rest (2 * n * last + parts) whole c.loop.invariant.value c.loop.invariant.rest in
     let value : next.bin * whole + next.rest ≡ 2 * (n + 1) * last + parts =
-    mark_more (next.bin * whole + next.rest) (mark.bin * whole + mark.rest) (step.bin * whole + step.rest) n last parts c.next_mark-mark.ensures.value c.loop.invariant.value
+    mark_more (next.bin * whole + next.rest) (mark.bin * whole + mark.rest)
+    (step.bin * whole + step.rest) n last parts c.next_mark-mark.ensures.value c.loop.invariant.value
     (c.mark_of-step.ensures.value ∙ ap (λ m. 2 * m) c.from-last.ensures) in
     record {
       count = search rules;

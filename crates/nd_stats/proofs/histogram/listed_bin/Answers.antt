@@ -27,4 +27,5 @@ returns-in-Some-clause-below c =
     let fits : FitsSigned w64 c.args.value = search rules in
     let is = simp to_z-of_z at (c.above_low.ensures.distance near) in
     let from = simp to_z-of_z at (c.above_low.ensures.from near) in
-    subst (λ n. n < rule.hist_size) (sym same) (bin_of_range rule value c.requires.rule c.requires.some from (omega (arith, ints, is, inside, from, c.requires.within, c.requires.rule.ordered c.requires.some)))
+    subst (λ n. n < rule.hist_size) (sym same) (bin_of_range rule value c.requires.rule c.requires.some from
+    (omega (arith, ints, is, inside, from, c.requires.within, c.requires.rule.ordered c.requires.some)))

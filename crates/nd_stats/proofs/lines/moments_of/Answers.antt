@@ -13,40 +13,55 @@ use Rattle.nd_stats.proofs.MomentLines.{MomentRooms, moments_line, moment_rooms}
 use Rattle.nd_stats.proofs.lines.moments_of.Goals as goal
 
 pub on_line-size-requires-clause-x : goal.on_line-size-requires-clause-x
-on_line-size-requires-clause-x c = omega (arith, index_below c.args.dims.now 0 (c.args.from + c.loop-done.done) c.requires.frame.sizes, c.first_index-x.ensures, c.first_size-width.ensures)
+on_line-size-requires-clause-x c =
+    omega (arith, index_below c.args.dims.now 0 (c.args.from + c.loop-done.done) c.requires.frame.sizes, c.first_index-x.ensures, c.first_size-width.ensures)
 
 pub add_line-requires-clause-x : goal.add_line-requires-clause-x
-add_line-requires-clause-x c = omega (arith, index_most c.args.dims.now 0 (c.args.from + c.loop-done.done) c.requires.frame.sizes c.requires.frame.few, c.first_index-x.ensures)
+add_line-requires-clause-x c =
+    omega (arith, index_most c.args.dims.now 0 (c.args.from + c.loop-done.done) c.requires.frame.sizes c.requires.frame.few, c.first_index-x.ensures)
 
 pub add_line-requires-clause-y : goal.add_line-requires-clause-y
-add_line-requires-clause-y c = omega (arith, index_most c.args.dims.now 1 (c.args.from + c.loop-done.done) c.requires.frame.sizes c.requires.frame.few, c.second_index.ensures)
+add_line-requires-clause-y c =
+    omega (arith, index_most c.args.dims.now 1 (c.args.from + c.loop-done.done) c.requires.frame.sizes c.requires.frame.few, c.second_index.ensures)
 
 pub add_line-requires-clause-over : goal.add_line-requires-clause-over
 add_line-requires-clause-over c =
     let rooms : MomentRooms c.loop-done.moments =
-    moment_rooms c.args.rule.now c.args.dims.now (placed c.args.from (numbers c.args.kind c.loop-done.done c.args.samples.now)) c.loop-done.moments c.requires.frame c.loop-done.invariant.moments
-    (parts_small c.args.kind c.args.from c.loop-done.done c.args.samples.now c.type_inv.samples) (let n = length-piece c.args.kind c.args.from c.loop-done.done c.args.samples.now in omega (arith, n, c.requires.frame.few, c.requires.within, c.loop-done.invariant.done)) in
+    moment_rooms c.args.rule.now c.args.dims.now
+    (placed c.args.from (numbers c.args.kind c.loop-done.done c.args.samples.now)) c.loop-done.moments c.requires.frame c.loop-done.invariant.moments
+    (parts_small c.args.kind c.args.from c.loop-done.done c.args.samples.now c.type_inv.samples) (let n =
+    length-piece c.args.kind c.args.from c.loop-done.done c.args.samples.now in
+    omega (arith, n, c.requires.frame.few, c.requires.within, c.loop-done.invariant.done)) in
     rooms.over
 
 pub add_line-requires-clause-m0 : goal.add_line-requires-clause-m0
 add_line-requires-clause-m0 c =
     let rooms : MomentRooms c.loop-done.moments =
-    moment_rooms c.args.rule.now c.args.dims.now (placed c.args.from (numbers c.args.kind c.loop-done.done c.args.samples.now)) c.loop-done.moments c.requires.frame c.loop-done.invariant.moments
-    (parts_small c.args.kind c.args.from c.loop-done.done c.args.samples.now c.type_inv.samples) (let n = length-piece c.args.kind c.args.from c.loop-done.done c.args.samples.now in omega (arith, n, c.requires.frame.few, c.requires.within, c.loop-done.invariant.done)) in
+    moment_rooms c.args.rule.now c.args.dims.now
+    (placed c.args.from (numbers c.args.kind c.loop-done.done c.args.samples.now)) c.loop-done.moments c.requires.frame c.loop-done.invariant.moments
+    (parts_small c.args.kind c.args.from c.loop-done.done c.args.samples.now c.type_inv.samples) (let n =
+    length-piece c.args.kind c.args.from c.loop-done.done c.args.samples.now in
+    omega (arith, n, c.requires.frame.few, c.requires.within, c.loop-done.invariant.done)) in
     rooms.m0
 
 pub add_line-requires-clause-mx : goal.add_line-requires-clause-mx
 add_line-requires-clause-mx c =
     let rooms : MomentRooms c.loop-done.moments =
-    moment_rooms c.args.rule.now c.args.dims.now (placed c.args.from (numbers c.args.kind c.loop-done.done c.args.samples.now)) c.loop-done.moments c.requires.frame c.loop-done.invariant.moments
-    (parts_small c.args.kind c.args.from c.loop-done.done c.args.samples.now c.type_inv.samples) (let n = length-piece c.args.kind c.args.from c.loop-done.done c.args.samples.now in omega (arith, n, c.requires.frame.few, c.requires.within, c.loop-done.invariant.done)) in
+    moment_rooms c.args.rule.now c.args.dims.now
+    (placed c.args.from (numbers c.args.kind c.loop-done.done c.args.samples.now)) c.loop-done.moments c.requires.frame c.loop-done.invariant.moments
+    (parts_small c.args.kind c.args.from c.loop-done.done c.args.samples.now c.type_inv.samples) (let n =
+    length-piece c.args.kind c.args.from c.loop-done.done c.args.samples.now in
+    omega (arith, n, c.requires.frame.few, c.requires.within, c.loop-done.invariant.done)) in
     rooms.mx
 
 pub add_line-requires-clause-my : goal.add_line-requires-clause-my
 add_line-requires-clause-my c =
     let rooms : MomentRooms c.loop-done.moments =
-    moment_rooms c.args.rule.now c.args.dims.now (placed c.args.from (numbers c.args.kind c.loop-done.done c.args.samples.now)) c.loop-done.moments c.requires.frame c.loop-done.invariant.moments
-    (parts_small c.args.kind c.args.from c.loop-done.done c.args.samples.now c.type_inv.samples) (let n = length-piece c.args.kind c.args.from c.loop-done.done c.args.samples.now in omega (arith, n, c.requires.frame.few, c.requires.within, c.loop-done.invariant.done)) in
+    moment_rooms c.args.rule.now c.args.dims.now
+    (placed c.args.from (numbers c.args.kind c.loop-done.done c.args.samples.now)) c.loop-done.moments c.requires.frame c.loop-done.invariant.moments
+    (parts_small c.args.kind c.args.from c.loop-done.done c.args.samples.now c.type_inv.samples) (let n =
+    length-piece c.args.kind c.args.from c.loop-done.done c.args.samples.now in
+    omega (arith, n, c.requires.frame.few, c.requires.within, c.loop-done.invariant.done)) in
     rooms.my
 
 pub loop-done-preserved : goal.loop-done-preserved
@@ -61,11 +76,14 @@ loop-done-preserved c =
     let vs = numbers kind m (drop (k * width kind) bytes) in
     let long = length-numbers kind m (drop (k * width kind) bytes) in
     let count : length bytes / c.width.result ≡ length bytes / width kind = ap (λ w. length bytes / w) c.width.ensures in
-    let over : IsOver rule.threshold (placed 0 vs) c.line_over-line.result = subst (λ us. IsOver rule.threshold (placed 0 us) c.line_over-line.result) c.part.ensures.values (simp to_z-of_z at c.line_over-line.ensures.over) in
+    let over : IsOver rule.threshold (placed 0 vs) c.line_over-line.result =
+    subst (λ us. IsOver rule.threshold (placed 0 us) c.line_over-line.result) c.part.ensures.values (simp to_z-of_z at c.line_over-line.ensures.over) in
     record {
       done = omega (arith, count, c.on_line-size.ensures.left, c.loop-done-test.true);
       moments = subst (λ xs. AreMoments rule dims xs c.add_line.new.self) (sym (parts-more kind c.args.from k m bytes))
-          (moments_line rule dims (placed c.args.from (numbers kind k bytes)) (c.args.from + k) c.first_index-x.result c.second_index.result vs c.loop-done.moments c.add_line.new.self c.line_over-line.result
-          c.loop-done.invariant.moments over c.first_index-x.ensures c.second_index.ensures (omega (arith, long, c.on_line-size.ensures.line, c.first_size-width.ensures))
+          (moments_line rule dims (placed c.args.from (numbers kind k bytes))
+          (c.args.from + k) c.first_index-x.result c.second_index.result vs c.loop-done.moments c.add_line.new.self c.line_over-line.result
+          c.loop-done.invariant.moments over c.first_index-x.ensures c.second_index.ensures
+          (omega (arith, long, c.on_line-size.ensures.line, c.first_size-width.ensures))
           c.add_line.ensures.over c.add_line.ensures.m0 c.add_line.ensures.mx c.add_line.ensures.my);
     }

@@ -12,7 +12,8 @@ add-requires-clause-before c =
     let first : Sample = record { place = c.args.from; value = number kind (take (width kind) c.args.samples.now) } in
     let k = c.loop-k.k in
     let piece = length-piece kind c.args.from k c.args.samples.now in
-    let count : length c.args.samples.now / c.width-width.result ≡ length c.args.samples.now / width kind = ap (λ w. length c.args.samples.now / w) c.width-width.ensures in (
+    let count : length c.args.samples.now / c.width-width.result ≡ length c.args.samples.now / width kind =
+    ap (λ w. length c.args.samples.now / w) c.width-width.ensures in (
       first,
       (
         placed c.args.from (numbers kind k c.args.samples.now),
@@ -33,9 +34,12 @@ loop-k-preserved c =
     let k = c.loop-k.k in
     let fits : FitsSigned w64 c.number_at-value.result = search rules in
     let s : Sample = record { place = c.loop-k.spot.place; value = c.number_at-value.result } in
-    let same : s ≡ sample_at kind from k bytes = same_sample kind from k c.width-width.result c.loop-k.spot.place c.number_at-value.result bytes c.loop-k.invariant.place c.width-width.ensures c.number_at-value.ensures.value in
+    let same : s ≡ sample_at kind from k bytes =
+    same_sample kind from k c.width-width.result c.loop-k.spot.place c.number_at-value.result bytes c.loop-k.invariant.place c.width-width.ensures
+    c.number_at-value.ensures.value in
     record {
-      tally = tally-next c.args.rule.now c.args.dims.now first kind from k bytes s _ same (simp to_z-of_z at (c.add.ensures first (placed from (numbers kind k bytes)) c.loop-k.invariant.tally));
+      tally = tally-next c.args.rule.now c.args.dims.now first kind from k bytes s _ same
+          (simp to_z-of_z at (c.add.ensures first (placed from (numbers kind k bytes)) c.loop-k.invariant.tally));
       small = small-next kind from k bytes s same c.loop-k.invariant.small c.number_at-value.ensures.small;
       spot = c.next_spot-spot.ensures.spot;
       place = omega (arith, c.next_spot-spot.ensures.place, c.loop-k.invariant.place);

@@ -16,5 +16,7 @@ returns c =
     let first : Sample = record { place = from; value = number kind (take (width kind) bytes) } in
     let fits : FitsSigned w32 c.args.id = search rules in
     let some : 0 < length bytes / width kind = whole_piece (length bytes) (width kind) c.requires.whole c.requires.some in
-    measure_of_tally c.args.rule.now c.args.id c.args.dims.now first (placed from (samples_of kind bytes)) c.tally_of-tally.result c.measure_from.result c.tally_of-tally.ensures
-    (least_piece kind from (length bytes / width kind) bytes some) (greatest_piece kind from (length bytes / width kind) bytes some) (simp to_z-of_z at c.measure_from.ensures)
+    measure_of_tally c.args.rule.now c.args.id c.args.dims.now first
+    (placed from (samples_of kind bytes)) c.tally_of-tally.result c.measure_from.result c.tally_of-tally.ensures
+    (least_piece kind from (length bytes / width kind) bytes some) (greatest_piece kind from (length bytes / width kind) bytes some)
+    (simp to_z-of_z at c.measure_from.ensures)

@@ -24,11 +24,16 @@ returns-then-rule c =
     let blank = λ (d : ℕ). length-table (λ k. value_where (has_index dims d k) []) 0 (size_in dims d) in
     record {
       extremes = c.extremes_of-tally.ensures;
-      sums = whole_sums rule dims kind c.args.from n bytes c.edge_of-edge.result _ c.edge_of-edge.ensures count (to_z-of_z w64 c.sum_bytes.result ft ∙ c.sum_bytes.ensures) c.squares_bytes.ensures (to_z-of_z w64 c.edge_of-edge.result.sum fe) refl;
+      sums = whole_sums rule dims kind c.args.from n bytes c.edge_of-edge.result _ c.edge_of-edge.ensures count (to_z-of_z w64 c.sum_bytes.result ft
+          ∙ c.sum_bytes.ensures) c.squares_bytes.ensures (to_z-of_z w64 c.edge_of-edge.result.sum fe) refl;
       moments = c.moments_of-tally.ensures;
       histogram = c.histogram_of.ensures;
-      x = slice_whole c.args.blank.x.items c.add_columns.new.sums _ (sym c.args.blank.x.ok.0) (ap length c.add_columns.ensures ∙ long 0 ∙ sym (ap length (c.requires.blank.x ∙ profile_on rule dims 0 [] c.if-rule.true) ∙ blank 0)) ∙ c.add_columns.ensures ∙ sym (profile_on rule dims 0 xs c.if-rule.true);
-      y = slice_whole c.args.blank.y.items c.add_rows.new.sums _ (sym c.args.blank.y.ok.0) (ap length c.add_rows.ensures ∙ long 1 ∙ sym (ap length (c.requires.blank.y ∙ profile_on rule dims 1 [] c.if-rule.true) ∙ blank 1)) ∙ c.add_rows.ensures ∙ sym (profile_on rule dims 1 xs c.if-rule.true);
+      x = slice_whole c.args.blank.x.items c.add_columns.new.sums _ (sym c.args.blank.x.ok.0) (ap length c.add_columns.ensures ∙ long 0
+          ∙ sym (ap length (c.requires.blank.x ∙ profile_on rule dims 0 [] c.if-rule.true) ∙ blank 0)) ∙ c.add_columns.ensures
+          ∙ sym (profile_on rule dims 0 xs c.if-rule.true);
+      y = slice_whole c.args.blank.y.items c.add_rows.new.sums _ (sym c.args.blank.y.ok.0) (ap length c.add_rows.ensures ∙ long 1
+          ∙ sym (ap length (c.requires.blank.y ∙ profile_on rule dims 1 [] c.if-rule.true) ∙ blank 1)) ∙ c.add_rows.ensures
+          ∙ sym (profile_on rule dims 1 xs c.if-rule.true);
     }
 
 pub returns-else-rule : goal.returns-else-rule
@@ -44,7 +49,8 @@ returns-else-rule c =
     let count : length bytes / c.width.result ≡ n = ap (λ w. length bytes / w) c.width.ensures in
     record {
       extremes = c.extremes_of-tally.ensures;
-      sums = whole_sums rule dims kind c.args.from n bytes c.edge_of-edge.result _ c.edge_of-edge.ensures count (to_z-of_z w64 c.sum_bytes.result ft ∙ c.sum_bytes.ensures) c.squares_bytes.ensures (to_z-of_z w64 c.edge_of-edge.result.sum fe) refl;
+      sums = whole_sums rule dims kind c.args.from n bytes c.edge_of-edge.result _ c.edge_of-edge.ensures count (to_z-of_z w64 c.sum_bytes.result ft
+          ∙ c.sum_bytes.ensures) c.squares_bytes.ensures (to_z-of_z w64 c.edge_of-edge.result.sum fe) refl;
       moments = c.moments_of-tally.ensures;
       histogram = c.histogram_of.ensures;
       x = c.requires.blank.x ∙ profile_off rule dims 0 [] c.if-rule.false ∙ sym (profile_off rule dims 0 xs c.if-rule.false);

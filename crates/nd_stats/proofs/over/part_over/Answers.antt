@@ -25,8 +25,11 @@ loop-done-preserved c =
     let few : k ≤ 8192 = omega (arith, count) in
     record {
       done = omega (arith, count, c.min-size.ensures);
-      over = subst (λ xs. IsOver t xs c.join.new.self) (sym (parts-more kind 0 k m bytes)) (over_join t (placed 0 (numbers kind k bytes)) k (0 + k) vs c.loop-done.over block c.join.new.self here c.loop-done.invariant.over two c.join.ensures.count c.join.ensures.sum c.join.ensures.weighted);
+      over = subst (λ xs. IsOver t xs c.join.new.self) (sym (parts-more kind 0 k m bytes))
+          (over_join t (placed 0 (numbers kind k bytes)) k (0 + k) vs c.loop-done.over block c.join.new.self here c.loop-done.invariant.over two
+          c.join.ensures.count c.join.ensures.sum c.join.ensures.weighted);
       few = omega (arith, many, c.join.ensures.count, c.block_over-block.ensures.few, c.loop-done.invariant.few);
       sum = sums_most c.loop-done.over.sum block.sum c.join.new.self.sum k m c.join.ensures.sum c.loop-done.invariant.sum low;
-      weighted = weighted_most c.loop-done.over.weighted block.weighted block.sum c.join.new.self.weighted k m c.join.ensures.weighted few c.loop-done.invariant.weighted most low;
+      weighted = weighted_most c.loop-done.over.weighted block.weighted block.sum c.join.new.self.weighted k m c.join.ensures.weighted few
+          c.loop-done.invariant.weighted most low;
     }

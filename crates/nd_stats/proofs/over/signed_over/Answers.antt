@@ -9,25 +9,29 @@ pub overflow_add-high : goal.overflow_add-high
 overflow_add-high c =
     let more : ℤ = c.halves-high_part.result.0 in
     let fm : FitsSigned w32 more = search rules in
-    rw (to_z-of_z w32 more fm) (add_fits_32 (to_z w32 c.loop-index.high-bits) more (c.loop-index.index * 65535) 65535 c.loop-index.invariant.high c.halves-high_part.ensures.high (omega arith))
+    rw (to_z-of_z w32 more fm) (add_fits_32 (to_z w32 c.loop-index.high-bits) more
+    (c.loop-index.index * 65535) 65535 c.loop-index.invariant.high c.halves-high_part.ensures.high (omega arith))
 
 pub overflow_add-low : goal.overflow_add-low
 overflow_add-low c =
     let more : ℤ = c.halves-high_part.result.1 in
     let fm : FitsSigned w32 more = search rules in
-    rw (to_z-of_z w32 more fm) (add_fits_32 (to_z w32 c.loop-index.low-bits) more (c.loop-index.index * 65535) 65535 c.loop-index.invariant.low c.halves-high_part.ensures.low (omega arith))
+    rw (to_z-of_z w32 more fm) (add_fits_32 (to_z w32 c.loop-index.low-bits) more
+    (c.loop-index.index * 65535) 65535 c.loop-index.invariant.low c.halves-high_part.ensures.low (omega arith))
 
 pub overflow_add-high_moment : goal.overflow_add-high_moment
 overflow_add-high_moment c =
     let more : ℤ = c.near_weighted-high_moment.result in
     let fm : FitsSigned w32 more = search rules in
-    rw (to_z-of_z w32 more fm) (add_fits_32 (to_z w32 c.loop-index.high_moment-bits) more (c.loop-index.index * 8388480) 8388480 c.loop-index.invariant.high_moment c.near_weighted-high_moment.ensures.bound (omega arith))
+    rw (to_z-of_z w32 more fm) (add_fits_32 (to_z w32 c.loop-index.high_moment-bits) more
+    (c.loop-index.index * 8388480) 8388480 c.loop-index.invariant.high_moment c.near_weighted-high_moment.ensures.bound (omega arith))
 
 pub overflow_add-low_moment : goal.overflow_add-low_moment
 overflow_add-low_moment c =
     let more : ℤ = c.near_weighted-low_moment.result in
     let fm : FitsSigned w32 more = search rules in
-    rw (to_z-of_z w32 more fm) (add_fits_32 (to_z w32 c.loop-index.low_moment-bits) more (c.loop-index.index * 8388480) 8388480 c.loop-index.invariant.low_moment c.near_weighted-low_moment.ensures.bound (omega arith))
+    rw (to_z-of_z w32 more fm) (add_fits_32 (to_z w32 c.loop-index.low_moment-bits) more
+    (c.loop-index.index * 8388480) 8388480 c.loop-index.invariant.low_moment c.near_weighted-low_moment.ensures.bound (omega arith))
 
 pub loop-index-preserved : goal.loop-index-preserved
 loop-index-preserved c =
@@ -51,13 +55,16 @@ loop-index-preserved c =
     let flm : FitsSigned w32 lm = search rules in
     let fa : FitsSigned w32 (a +ℤ h) = add_fits_32 a h (k * 65535) 65535 c.loop-index.invariant.high c.halves-high_part.ensures.high (omega arith) in
     let fb : FitsSigned w32 (b +ℤ l) = add_fits_32 b l (k * 65535) 65535 c.loop-index.invariant.low c.halves-high_part.ensures.low (omega arith) in
-    let fx : FitsSigned w32 (x +ℤ hm) = add_fits_32 x hm (k * 8388480) 8388480 c.loop-index.invariant.high_moment c.near_weighted-high_moment.ensures.bound (omega arith) in
-    let fy : FitsSigned w32 (y +ℤ lm) = add_fits_32 y lm (k * 8388480) 8388480 c.loop-index.invariant.low_moment c.near_weighted-low_moment.ensures.bound (omega arith) in
+    let fx : FitsSigned w32 (x +ℤ hm) =
+    add_fits_32 x hm (k * 8388480) 8388480 c.loop-index.invariant.high_moment c.near_weighted-high_moment.ensures.bound (omega arith) in
+    let fy : FitsSigned w32 (y +ℤ lm) =
+    add_fits_32 y lm (k * 8388480) 8388480 c.loop-index.invariant.low_moment c.near_weighted-low_moment.ensures.bound (omega arith) in
     let parts : kept ≡ l +ℤ (pos 65536 *ℤ h) = simp to_z-of_z at c.halves-high_part.ensures.value in
     let high_is : hm ≡ pos k *ℤ h = simp to_z-of_z at c.near_weighted-high_moment.ensures.value in
     let low_is : lm ≡ pos k *ℤ l = simp to_z-of_z at c.near_weighted-low_moment.ensures.value in
     let moment : pos k *ℤ kept ≡ lm +ℤ (pos 65536 *ℤ hm) = rw high_is (rw low_is (parts_times 65536 k h l kept parts)) in
-    let step = over_step Int32 c.args.threshold c.args.block.now k v kept (pos k *ℤ kept) c.reaches_near-is_over.result c.loop-index.count (b +ℤ (pos 65536 *ℤ a)) (y +ℤ (pos 65536 *ℤ x))
+    let step = over_step Int32 c.args.threshold c.args.block.now k v kept (pos k *ℤ kept) c.reaches_near-is_over.result c.loop-index.count
+    (b +ℤ (pos 65536 *ℤ a)) (y +ℤ (pos 65536 *ℤ x))
     (simp to_z-of_z at c.loop-index.invariant.count) (simp to_z-of_z at c.loop-index.invariant.sum) (simp to_z-of_z at c.loop-index.invariant.moment)
     c.signed_at-value.ensures (simp to_z-of_z at c.reaches_near-is_over.ensures) (simp to_z-of_z at c.kept_if.ensures.value) refl in
     let one = c.from-count.ensures ∙ byte_is_one c.reaches_near-is_over.result in

@@ -23,7 +23,8 @@ add_each-tally-requires-clause-frame c = frame_of c.args.rule.now c.args.dims.no
 
 pub add_each-tally-requires-clause-within : goal.add_each-tally-requires-clause-within
 add_each-tally-requires-clause-within c =
-    let count : length c.args.samples.now / width c.args.kind ≡ sample_count c.args.dims.now = ap (λ n. n / width c.args.kind) c.requires.samples ∙ mul-div_cancel (sample_count c.args.dims.now) (width-positive c.args.kind) in
+    let count : length c.args.samples.now / width c.args.kind ≡ sample_count c.args.dims.now = ap (λ n. n / width c.args.kind) c.requires.samples
+    ∙ mul-div_cancel (sample_count c.args.dims.now) (width-positive c.args.kind) in
     omega (arith, count)
 
 pub returns : goal.returns
@@ -34,7 +35,9 @@ returns c =
     let dims = c.args.dims.now in
     let first : Sample = record { place = 0; value = number kind (take (width kind) bytes) } in
     let frame = frame_of c.args.rule.now dims c.requires.rule c.requires.dimensions c.requires.few in
-    let count : length bytes / width kind ≡ sample_count dims = ap (λ n. n / width kind) c.requires.samples ∙ mul-div_cancel (sample_count dims) (width-positive kind) in
+    let count : length bytes / width kind ≡ sample_count dims = ap (λ n. n / width kind) c.requires.samples
+    ∙ mul-div_cancel (sample_count dims) (width-positive kind) in
     let some : 0 < length bytes / width kind = (let p = sample_count-positive dims frame.sizes in omega (arith, count, p)) in
-    measure_of_tally c.args.rule.now (pos 1) dims first (placed 0 (samples_of kind bytes)) c.add_each-tally.result c.measure_from.result c.add_each-tally.ensures
+    measure_of_tally c.args.rule.now (pos 1) dims first
+    (placed 0 (samples_of kind bytes)) c.add_each-tally.result c.measure_from.result c.add_each-tally.ensures
     (least_piece kind 0 (length bytes / width kind) bytes some) (greatest_piece kind 0 (length bytes / width kind) bytes some) c.measure_from.ensures

@@ -42,4 +42,5 @@ loop-place-preserved g c =
 pub returns-clause-ok : goal.returns-clause-ok
 returns-clause-ok g c =
     let e : c.loop-place.place ≡ length c.args.plan.now.graph.nodes = omega (arith, ap length c.as_slice-rules.ensures) in
-    subst (AreBegunTo c.args.plan.now.graph c.args.prefix.now (g.K.Shelf.held c.args.shelf.now) (g.K.Shelf.held c.loop-place.shelf)) e c.loop-place.invariant.begun
+    subst (AreBegunTo c.args.plan.now.graph c.args.prefix.now (g.K.Shelf.held c.args.shelf.now) (g.K.Shelf.held c.loop-place.shelf)) e
+    c.loop-place.invariant.begun

@@ -20,7 +20,8 @@ measure-requires-clause-samples c =
     let g = c.args.plan.now.graph in
     let s = c.args.stack.now in
     let out = array-out g s c.made_by-maker.ensures.stack c.args.node c.args.index c.head.result.now c.args.samples.now c.requires.content c.head.ensures in
-    rw c.as_slice.ensures (out-size g s c.args.node c.args.index c.head.result.now c.args.samples.now out c.made_by-maker.result.now c.made_by-maker.ensures.shape)
+    rw c.as_slice.ensures
+    (out-size g s c.args.node c.args.index c.head.result.now c.args.samples.now out c.made_by-maker.result.now c.made_by-maker.ensures.shape)
 
 pub returns : goal.returns
 returns c =

@@ -6,7 +6,8 @@ use Rattle.edge_traits.proofs.disk.begun_file.write_front.Goals as goal
 -- a front of the rest joins what is done
 front_grows : (bytes done rest : List ℕ) (n : ℕ) → bytes ≡ done ++ rest → bytes ≡ (done ++ take n rest) ++ take (length rest - n) (drop n rest)
 front_grows bytes done rest n whole =
-    let parts : rest ≡ take n rest ++ take (length rest - n) (drop n rest) = sym (take-append-drop n rest) ∙ ap (λ xs. take n rest ++ xs) (sym (take_rest rest n)) in
+    let parts : rest ≡ take n rest ++ take (length rest - n) (drop n rest) = sym (take-append-drop n rest)
+    ∙ ap (λ xs. take n rest ++ xs) (sym (take_rest rest n)) in
     whole ∙ ap (λ xs. done ++ xs) parts ∙ sym (append_assoc done (take n rest) (take (length rest - n) (drop n rest)))
 
 pub loop-rest-preserved : goal.loop-rest-preserved

@@ -1,4 +1,4 @@
-use Rattle.std.proofs.Common.{◌≡◌, ◌≤◌}
+use Rattle.std.proofs.Common.{◌≡◌}
 use Rattle.edge_traits.proofs.gates.turns.wait_for.Given as goal
 
 abbrev pub invariant-loop-waited : goal.invariant-loop-waited

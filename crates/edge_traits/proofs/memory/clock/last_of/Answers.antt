@@ -1,4 +1,4 @@
-use Rattle.std.proofs.Common.{◌≡◌, sym, ap, ◌∙◌}
+use Rattle.std.proofs.Common.{sym, ap, ◌∙◌}
 use Rattle.std.specs.Option.{option_copied}
 use Rattle.edge_traits.proofs.Ticking.{last_tick-is}
 use Rattle.edge_traits.proofs.memory.clock.last_of.Goals as goal

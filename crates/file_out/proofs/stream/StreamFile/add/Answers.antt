@@ -36,4 +36,5 @@ returns-in_err-append-clause-others g c q other =
 pub returns-clause-others : goal.returns-clause-others
 returns-clause-others g c q other =
     let name : c.text.result.now ≡ c.args.self.now.name = c.text.ensures ∙ ap (λ (f : Stream). f.name) c.self.view_is in
-    ap (λ w. file_at w q) c.in_ok-append.ensures.ok ∙ file_at-with_more (g.K.Shelf.held c.args.shelf.now) c.text.result.now c.deref.result.now q (subst (λ n. q ≢ n) (sym name) other)
+    ap (λ w. file_at w q) c.in_ok-append.ensures.ok
+    ∙ file_at-with_more (g.K.Shelf.held c.args.shelf.now) c.text.result.now c.deref.result.now q (subst (λ n. q ≢ n) (sym name) other)

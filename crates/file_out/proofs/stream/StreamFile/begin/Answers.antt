@@ -42,7 +42,8 @@ returns-in_err-append-clause-others g c q other =
 
 pub returns-clause-others : goal.returns-clause-others
 returns-clause-others g c q other =
-    ap (λ w. file_at w q) (returns-clause-ok g c) ∙ file_at-with_file (g.K.Shelf.held c.args.shelf.now) c.args.name.now (header c.args.shape.now c.args.numrecs) q other
+    ap (λ w. file_at w q) (returns-clause-ok g c)
+    ∙ file_at-with_file (g.K.Shelf.held c.args.shelf.now) c.args.name.now (header c.args.shape.now c.args.numrecs) q other
 
 pub returns-clause-rows : goal.returns-clause-rows
 returns-clause-rows g c =

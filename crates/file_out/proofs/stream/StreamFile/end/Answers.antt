@@ -16,7 +16,8 @@ pub returns-clause-layout : goal.returns-clause-layout
 returns-clause-layout g c =
     let s = c.args.self in
     let held = g.K.Shelf.held in
-    let written : held c.finish.new.self ≡ with_count (held c.args.shelf.now) s.name s.numrecs s.count = c.in_ok-finish.ensures.files ∙ c.in_ok-put_count.ensures.ok in
+    let written : held c.finish.new.self ≡ with_count (held c.args.shelf.now) s.name s.numrecs s.count = c.in_ok-finish.ensures.files
+    ∙ c.in_ok-put_count.ensures.ok in
     λ arrays rows. rw written (HasFile-with_count (held c.args.shelf.now) s arrays c.requires.counted rows)
 
 pub returns-in_err-put_count-clause-others : goal.returns-in_err-put_count-clause-others

@@ -24,7 +24,8 @@ use Rattle.flow_emit.proofs.Coursing.{room-for, few-there}
 use Rattle.flow_emit.proofs.Finding.{node-found, role-found, node-is}
 use Rattle.flow_emit.proofs.Handed.{job-on}
 use Rattle.flow_emit.proofs.Opening.{parts}
-use Rattle.flow_emit.proofs.PlacedCourse.{Putting, kept_of, out-course, waits-course, full-course, measures-room, room-for-two, out-legal, full-legal, step-known, waits-known}
+use Rattle.flow_emit.proofs.PlacedCourse.{Putting, kept_of, out-course, waits-course, full-course, measures-room, room-for-two, out-legal, full-legal}
+use Rattle.flow_emit.proofs.PlacedCourse.{step-known, waits-known}
 use Rattle.flow_emit.proofs.Putting.{some-job, few-puts}
 use Rattle.flow_emit.proofs.PutMoves.{put-legal, result-measures}
 use Rattle.flow_emit.proofs.course.Course.put_placed.Goals as goal
@@ -335,7 +336,10 @@ returns-in-Out g c =
     let known = subst (λ (w : Coursed). keeps_step (prev s v (past w.told)) (id_at s a.index) ≡ true) c.self.view_is step in (
       known,
       rw (c.push-in-Out.ensures, c.push.ensures, c.carry.ensures.items, c.result_name-made.ensures, c.makes-makes.ensures) (ap (λ (w : Coursed).
-          record { told = plain (Emit v (result_name s v a).maker a.index Step) ∷ plain (put_of s r v a f) ∷ w.told; transit = job_arrays s v a }) c.self.view_is),
+          record {
+            told = plain (Emit v (result_name s v a).maker a.index Step) ∷ plain (put_of s r v a f) ∷ w.told;
+            transit = job_arrays s v a;
+          }) c.self.view_is),
     )
 
 pub returns-in-Waits : goal.returns-in-Waits
@@ -407,5 +411,8 @@ returns-in-Full g c =
       known,
       subst (λ (w : Coursed). length (waiting s v (past w.told)) ≡ (node s v).sort) c.self.view_is long,
       rw (c.push-in-Full.ensures, c.push.ensures, c.carry-in-Full.ensures.items, c.result_name-made.ensures, c.makes-makes.ensures) (ap (λ (w : Coursed).
-          record { told = plain (SortDrop v (result_name s v a).maker a.index) ∷ plain (put_of s r v a f) ∷ w.told; transit = job_arrays s v a }) c.self.view_is),
+          record {
+            told = plain (SortDrop v (result_name s v a).maker a.index) ∷ plain (put_of s r v a f) ∷ w.told;
+            transit = job_arrays s v a;
+          }) c.self.view_is),
     )

@@ -22,7 +22,8 @@ end_node-requires-clause-written g c =
     λ x h.
     let is = next-at c.loop-at.at c.args.self c.loop-at.files x inv.files h in (
       w.1.0 x.node,
-      next-written w.0 c.args.self w.1.0 c.loop-at.at x (g.K.Shelf.held c.args.shelf.now) (g.K.Shelf.held c.loop-at.shelf) is w.1.1 (inv.stands w.0 w.1.0 w.1.1),
+      next-written w.0 c.args.self w.1.0 c.loop-at.at x (g.K.Shelf.held c.args.shelf.now) (g.K.Shelf.held c.loop-at.shelf) is w.1.1
+          (inv.stands w.0 w.1.0 w.1.1),
     )
 
 pub end_node-requires-clause-filled : goal.end_node-requires-clause-filled

@@ -14,7 +14,8 @@ returns-in_err-begin_rows-clause-err g c =
 
 pub returns-clause-saved : goal.returns-clause-saved
 returns-clause-saved g c =
-    subst (λ (xs : List NodeFile). IsSaved c.args.plan.now.graph c.args.stack.now c.args.prefix.now (g.K.Shelf.held c.args.shelf.now) c.in_ok-passes.field-0.items
+    subst (λ (xs : List NodeFile). IsSaved c.args.plan.now.graph c.args.stack.now c.args.prefix.now
+    (g.K.Shelf.held c.args.shelf.now) c.in_ok-passes.field-0.items
     c.in_ok-new-2.field-0 xs (g.K.Shelf.held c.begin_rows.new.shelf)) (sym c.in_ok-new-3.ensures)
     (saved-none c.args.plan.now.graph c.args.stack.now c.args.prefix.now (g.K.Shelf.held c.args.shelf.now) (g.K.Shelf.held c.begin_rows.new.shelf)
     c.in_ok-passes.field-0.items c.in_ok-passes.ensures.positions c.in_ok-passes.ensures.none c.in_ok-new-2.field-0 c.in_ok-new-2.ensures.size

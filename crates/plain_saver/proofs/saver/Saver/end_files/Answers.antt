@@ -37,7 +37,8 @@ end-requires-clause-written g c =
 
 pub end-requires-clause-filled : goal.end-requires-clause-filled
 end-requires-clause-filled g c = λ k x is.
-    filled c.args.plan.now.graph c.args.stack.now c.args.prefix.now c.requires.graph c.requires.kept c.requires.saved.0 c.args.self.passes.items c.args.self.files
+    filled c.args.plan.now.graph c.args.stack.now c.args.prefix.now c.requires.graph c.requires.kept c.requires.saved.0 c.args.self.passes.items
+    c.args.self.files
     (g.K.Shelf.held c.args.shelf.now) c.requires.saved.1 c.requires.left k x is
 
 pub returns-clause-ok : goal.returns-clause-ok

@@ -107,7 +107,8 @@ returns-clause-saved g c = λ prefix before h.
     let x = i.0 in
     let n = c.node-node.ensures x i.1 in
     let out =
-    array-out graph s (IsKeptStack-IsStack s c.requires.kept) x.node c.args.index c.head.result.now c.samples.result.now (rw n at c.samples.ensures) c.head.ensures in
+    array-out graph s (IsKeptStack-IsStack s c.requires.kept) x.node c.args.index c.head.result.now c.samples.result.now
+    (rw n at c.samples.ensures) c.head.ensures in
     let at = c.in-Some.ensures.some x i.1 in
     let done =
     written-then graph s c.requires.graph c.requires.kept prefix before ps xs t h c.args.at x i.1 c.args.index c.in-Some.next.group c.in-Some.next.place

@@ -14,8 +14,10 @@ invariant-loop-at g l =
       rooms : AreRooms l.plan.graph l.stack l.self.rooms;
       count : length l.self.files ≡ length l.fn.self.files;
       turns : ArrayTurns l.plan.graph l.self.passes.items l.self.files l.at l.index;
-      some : (prefix : List ℕ) × ((before : Option Files) × IsSaved l.plan.graph l.stack prefix before l.self.passes.items l.self.texts l.self.files (held l.shelf));
-      saved : (prefix : List ℕ) (before : Option Files) → IsSaved l.plan.graph l.stack prefix before l.fn.self.passes.items l.fn.self.texts l.fn.self.files (held l.fn.shelf)
+      some : (prefix : List ℕ)
+          × ((before : Option Files) × IsSaved l.plan.graph l.stack prefix before l.self.passes.items l.self.texts l.self.files (held l.shelf));
+      saved : (prefix : List ℕ) (before : Option Files)
+          → IsSaved l.plan.graph l.stack prefix before l.fn.self.passes.items l.fn.self.texts l.fn.self.files (held l.fn.shelf)
           → IsSaved l.plan.graph l.stack prefix before l.self.passes.items l.self.texts l.self.files (held l.shelf);
       none : g.K.Shelf.faults l.shelf ≡ g.K.Shelf.faults l.fn.shelf;
     }

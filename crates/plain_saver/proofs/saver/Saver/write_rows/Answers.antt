@@ -32,7 +32,8 @@ pub loop-place-preserved : goal.loop-place-preserved
 loop-place-preserved g c =
     let graph = c.args.plan.now.graph in
     let rule = c.index-rules-place.result in
-    let here = rule-here graph.nodes c.as_slice-rules.result.now c.loop-place.place rule c.as_slice-rules.ensures c.loop-place-test.true c.index-rules-place.is in
+    let here = rule-here graph.nodes c.as_slice-rules.result.now c.loop-place.place rule c.as_slice-rules.ensures c.loop-place-test.true
+    c.index-rules-place.is in
     let inv = c.loop-place.invariant in
     let h = inv.some.1 in
     let next = c.in_ok-write_node_row.ensures.saved inv.some.0 h in

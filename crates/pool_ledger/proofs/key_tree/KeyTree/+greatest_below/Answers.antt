@@ -16,11 +16,13 @@ returns-in-Some t c =
 pub returns-in-Some-greatest_below : goal.returns-in-Some-greatest_below
 returns-in-Some-greatest_below t c =
     let f = at_Fork c.self.view_is c.self.invariant c.in-Fork.is in
-    below_low _ _ _ _ _ c.args.bound c.in-Some-greatest_below.key f (ap (greatest_below c.args.bound) (sym c.deref.ensures) ∙ sym c.greatest_below.ensures ∙ c.in_default.is)
+    below_low _ _ _ _ _ c.args.bound c.in-Some-greatest_below.key f (ap (greatest_below c.args.bound) (sym c.deref.ensures) ∙ sym c.greatest_below.ensures
+    ∙ c.in_default.is)
     (ap (greatest_below c.args.bound) (sym c.deref-in-Fork.ensures) ∙ sym c.greatest_below-in-Fork.ensures ∙ c.in-Some-greatest_below.is)
 
 pub returns-in-None : goal.returns-in-None
 returns-in-None t c =
     let f = at_Fork c.self.view_is c.self.invariant c.in-Fork.is in
-    below_all _ _ _ _ _ c.args.bound f c.if-bound-least.false (ap (greatest_below c.args.bound) (sym c.deref.ensures) ∙ sym c.greatest_below.ensures ∙ c.in_default.is)
+    below_all _ _ _ _ _ c.args.bound f c.if-bound-least.false (ap (greatest_below c.args.bound) (sym c.deref.ensures) ∙ sym c.greatest_below.ensures
+    ∙ c.in_default.is)
     (ap (greatest_below c.args.bound) (sym c.deref-in-Fork.ensures) ∙ sym c.greatest_below-in-Fork.ensures ∙ c.in-None.is)

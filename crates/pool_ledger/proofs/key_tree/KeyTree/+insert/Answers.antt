@@ -21,13 +21,15 @@ pub returns-then-greater-middle : goal.returns-then-greater-middle
 returns-then-greater-middle t c =
     let f = at_Fork c.self.view_is c.self.invariant c.in-Fork.is in
     let p = passes c.args.key c.in-Fork.least c.min.result c.max-greater.result c.max-greater.ensures c.min.ensures in
-    (put_low _ _ _ _ _ c.args.key c.min.result c.max-greater.result c.insert.new.self f c.requires.absent p c.if-greater-middle.true (c.insert.ensures ∙ ap (with_key c.max-greater.result) c.deref_mut.ensures.value)).is
+    (put_low _ _ _ _ _ c.args.key c.min.result c.max-greater.result c.insert.new.self f c.requires.absent p c.if-greater-middle.true (c.insert.ensures
+    ∙ ap (with_key c.max-greater.result) c.deref_mut.ensures.value)).is
 
 pub invariant_of-self-then-greater-middle : goal.invariant_of-self-then-greater-middle
 invariant_of-self-then-greater-middle t c =
     let f = at_Fork c.self.view_is c.self.invariant c.in-Fork.is in
     let p = passes c.args.key c.in-Fork.least c.min.result c.max-greater.result c.max-greater.ensures c.min.ensures in
-    (put_low _ _ _ _ _ c.args.key c.min.result c.max-greater.result c.insert.new.self f c.requires.absent p c.if-greater-middle.true (c.insert.ensures ∙ ap (with_key c.max-greater.result) c.deref_mut.ensures.value)).splits
+    (put_low _ _ _ _ _ c.args.key c.min.result c.max-greater.result c.insert.new.self f c.requires.absent p c.if-greater-middle.true (c.insert.ensures
+    ∙ ap (with_key c.max-greater.result) c.deref_mut.ensures.value)).splits
 
 pub insert-requires-else-greater-middle : goal.insert-requires-else-greater-middle
 insert-requires-else-greater-middle t c =
@@ -42,10 +44,12 @@ pub returns-else-greater-middle : goal.returns-else-greater-middle
 returns-else-greater-middle t c =
     let f = at_Fork c.self.view_is c.self.invariant c.in-Fork.is in
     let p = passes c.args.key c.in-Fork.least c.min.result c.max-greater.result c.max-greater.ensures c.min.ensures in
-    (put_high _ _ _ _ _ c.args.key c.min.result c.max-greater.result c.insert-else-greater-middle.new.self f c.requires.absent p c.if-greater-middle.false (c.insert-else-greater-middle.ensures ∙ ap (with_key c.max-greater.result) c.deref_mut-else-greater-middle.ensures.value)).is
+    (put_high _ _ _ _ _ c.args.key c.min.result c.max-greater.result c.insert-else-greater-middle.new.self f c.requires.absent p c.if-greater-middle.false
+    (c.insert-else-greater-middle.ensures ∙ ap (with_key c.max-greater.result) c.deref_mut-else-greater-middle.ensures.value)).is
 
 pub invariant_of-self-else-greater-middle : goal.invariant_of-self-else-greater-middle
 invariant_of-self-else-greater-middle t c =
     let f = at_Fork c.self.view_is c.self.invariant c.in-Fork.is in
     let p = passes c.args.key c.in-Fork.least c.min.result c.max-greater.result c.max-greater.ensures c.min.ensures in
-    (put_high _ _ _ _ _ c.args.key c.min.result c.max-greater.result c.insert-else-greater-middle.new.self f c.requires.absent p c.if-greater-middle.false (c.insert-else-greater-middle.ensures ∙ ap (with_key c.max-greater.result) c.deref_mut-else-greater-middle.ensures.value)).splits
+    (put_high _ _ _ _ _ c.args.key c.min.result c.max-greater.result c.insert-else-greater-middle.new.self f c.requires.absent p c.if-greater-middle.false
+    (c.insert-else-greater-middle.ensures ∙ ap (with_key c.max-greater.result) c.deref_mut-else-greater-middle.ensures.value)).splits

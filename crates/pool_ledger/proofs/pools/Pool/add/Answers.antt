@@ -96,7 +96,8 @@ invariant_of-self-2 c =
     let room = room_left c.self.inside c.args.self.now c.self.view_is c.requires.room in
     let free = (All-at ss b empty_slot s.in_range inside).1 new.none in
     let fills = set_fills ss b c.args.size inside new.none free c.requires.some in
-    let filled = unused_from-fill 0 b b ss empty_slot (one_hold c.args.size) (omega arith) inside new.none c.requires.some (subst IsRising s.unused_keys c.remove.ensures.rising) in
+    let filled = unused_from-fill 0 b b ss empty_slot (one_hold c.args.size) (omega arith) inside new.none c.requires.some
+    (subst IsRising s.unused_keys c.remove.ensures.rising) in
     record {
       slots_fit = rw length-set s.slots_fit;
       slots_room = s.slots_room;
@@ -104,7 +105,8 @@ invariant_of-self-2 c =
       in_range = All-set ss b (one_hold c.args.size) s.in_range (small, λ e. absurd (c.requires.some e));
       free_keys = s.free_keys ∙ sym fills.free;
       free_room = s.free_room;
-      unused_keys = ap (λ (k : Keys). k.keys) c.remove.ensures.taken ∙ ap (λ key. without_key key c.self.inside.unused.keys) c.from-3.ensures ∙ ap (without_key b) s.unused_keys ∙ sym filled;
+      unused_keys = ap (λ (k : Keys). k.keys) c.remove.ensures.taken ∙ ap (λ key. without_key key c.self.inside.unused.keys) c.from-3.ensures
+          ∙ ap (without_key b) s.unused_keys ∙ sym filled;
       unused_room = omega (arith, ap (λ (k : Keys). k.room) c.remove.ensures.taken, s.unused_room);
       unnamed_fit = omega (arith, fills.known);
       unnamed_room = s.unnamed_room;
@@ -121,4 +123,5 @@ returns c =
     let other : b ≢ length ss = search rules in
     let inside : b < length ss = omega (arith, new.within) in
     let free = (All-at ss b empty_slot s.in_range inside).1 new.none in
-    ledger-fill c.self.inside c.args.self.now (set ss b (one_hold c.args.size)) b c.args.size c.self.view_is (set_fills ss b c.args.size inside new.none free c.requires.some)
+    ledger-fill c.self.inside c.args.self.now (set ss b (one_hold c.args.size)) b c.args.size c.self.view_is
+    (set_fills ss b c.args.size inside new.none free c.requires.some)

@@ -27,7 +27,8 @@ add-requires-clause-number c =
     let g = c.in_ok-grant.grant in
     let is = (answered_ok (held p) (grant_for c.args.n p) g (sym c.in_ok-grant.was ∙ c.peek.ensures)).is in
     let fresh = granted_fresh p c.args.n g.block g.size g.given_up (is ∙ ap (λ f. Granted g.block g.size f g.given_up) c.if-grant.true) in
-    fresh.number_is ∙ ap new_number (sym (blocks-without (take g.given_up (largest_first p)) p.known)) ∙ ap (λ q. new_number (blocks q)) (sym c.give_up.ensures.given)
+    fresh.number_is ∙ ap new_number (sym (blocks-without (take g.given_up (largest_first p)) p.known))
+    ∙ ap (λ q. new_number (blocks q)) (sym c.give_up.ensures.given)
 
 pub reuse-requires : goal.reuse-requires
 reuse-requires c =

@@ -28,7 +28,8 @@ passes_limit-requires c =
     let small : c.args.n < 2 ^ 32 = search rules in
     omega (arith, s.standing_is, c.loop-self.invariant.bounded)
 
-next : (c : goal.After-min-number) → NextPick c.self.inside c.args.n c.loop-self.standing c.loop-self.number c.loop-self.below c.loop-self.given_up c.in-Some-greatest_below.key
+next : (c : goal.After-min-number)
+    → NextPick c.self.inside c.args.n c.loop-self.standing c.loop-self.number c.loop-self.below c.loop-self.given_up c.in-Some-greatest_below.key
 next c =
     let over : passes c.self.inside.limit (c.loop-self.standing + c.args.n) ≡ true =
     ap (λ (p : Ledger). passes p.limit (c.loop-self.standing + c.args.n)) c.self.view_is ∙ sym c.passes_limit.ensures ∙ c.loop-self-test.true in
@@ -55,8 +56,10 @@ returns c =
       | else-loop-self-test w ↦
           let under : passes c.self.inside.limit (c.loop-self.standing + c.args.n) ≡ false =
           ap (λ (q : Ledger). passes q.limit (c.loop-self.standing + c.args.n)) c.self.view_is ∙ sym c.passes_limit.ensures ∙ w.loop-self-test.false in
-          chosen_within c.self.inside p c.args.n c.loop-self.standing c.loop-self.number c.loop-self.below c.loop-self.given_up c.self.view_is c.self.invariant c.loop-self.invariant under
+          chosen_within c.self.inside p c.args.n c.loop-self.standing c.loop-self.number c.loop-self.below c.loop-self.given_up c.self.view_is
+          c.self.invariant c.loop-self.invariant under
       | then-loop-self-test+in_default w ↦
-          chosen_all c.self.inside p c.args.n c.loop-self.standing c.loop-self.number c.loop-self.below c.loop-self.given_up c.self.view_is c.self.invariant c.loop-self.invariant (sym w.greatest_below.ensures.found ∙ w.in_default.is)
+          chosen_all c.self.inside p c.args.n c.loop-self.standing c.loop-self.number c.loop-self.below c.loop-self.given_up c.self.view_is
+          c.self.invariant c.loop-self.invariant (sym w.greatest_below.ensures.found ∙ w.in_default.is)
     ] in
     rw (chosen_grant p c.args.n c.loop-self.number c.loop-self.given_up chosen, chosen.given)

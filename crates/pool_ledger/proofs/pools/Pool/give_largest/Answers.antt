@@ -11,7 +11,8 @@ use Rattle.pool_ledger.proofs.Walks.{largest, no_largest, largest_first-rest}
 use Rattle.pool_ledger.proofs.pools.Pool.give_largest.Goals as goal
 
 pub unreachable-requires : goal.unreachable-requires
-unreachable-requires c = no_largest c.self.inside c.args.self.now c.self.view_is c.self.invariant c.requires (sym c.greatest_below.ensures.found ∙ c.in_default.is)
+unreachable-requires c =
+    no_largest c.self.inside c.args.self.now c.self.view_is c.self.invariant c.requires (sym c.greatest_below.ensures.found ∙ c.in_default.is)
 
 pub remove-requires : goal.remove-requires
 remove-requires c =
@@ -21,7 +22,8 @@ pub insert-requires-clause-room : goal.insert-requires-clause-room
 insert-requires-clause-room c =
     let s = c.self.invariant in
     let l = largest c.self.inside c.in-Some.key s c.greatest_below.ensures.rising (sym c.greatest_below.ensures.found ∙ c.in-Some.is) in
-    let gives = clear_gives c.self.inside.slots.items (c.in-Some.key % 4294967296) (c.in-Some.key / 4294967296) l.slot.inside l.slot.sized l.slot.shown (subst IsRising s.free_keys c.greatest_below.ensures.rising) in
+    let gives = clear_gives c.self.inside.slots.items (c.in-Some.key % 4294967296) (c.in-Some.key / 4294967296) l.slot.inside l.slot.sized l.slot.shown
+    (subst IsRising s.free_keys c.greatest_below.ensures.rising) in
     let same = ap length s.unused_keys in
     omega (arith, gives.known, length-known_from 0 c.self.inside.slots.items, s.slots_fit, s.unused_room)
 
@@ -29,7 +31,8 @@ pub insert-requires-clause-absent : goal.insert-requires-clause-absent
 insert-requires-clause-absent c =
     let s = c.self.invariant in
     let l = largest c.self.inside c.in-Some.key s c.greatest_below.ensures.rising (sym c.greatest_below.ensures.found ∙ c.in-Some.is) in
-    rw s.unused_keys (absent-unused_from 0 (c.in-Some.key % 4294967296) (c.in-Some.key % 4294967296) c.self.inside.slots.items empty_slot (omega arith) l.slot.inside (open_some _ l.slot.shown))
+    rw s.unused_keys (absent-unused_from 0 (c.in-Some.key % 4294967296) (c.in-Some.key % 4294967296) c.self.inside.slots.items empty_slot
+    (omega arith) l.slot.inside (open_some _ l.slot.shown))
 
 pub index_mut-requires : goal.index_mut-requires
 index_mut-requires c =
@@ -40,7 +43,12 @@ index_mut-requires c =
 pub overflow_sub-self : goal.overflow_sub-self
 overflow_sub-self c =
     let l = largest c.self.inside c.in-Some.key c.self.invariant c.greatest_below.ensures.rising (sym c.greatest_below.ensures.found ∙ c.in-Some.is) in
-    omega (arith, get_or-le-sum_by size_of c.self.inside.slots.items (c.in-Some.key % 4294967296) empty_slot l.slot.inside, l.slot.sized, c.self.invariant.standing_is)
+    omega (
+      arith,
+      get_or-le-sum_by size_of c.self.inside.slots.items (c.in-Some.key % 4294967296) empty_slot l.slot.inside,
+      l.slot.sized,
+      c.self.invariant.standing_is,
+    )
 
 pub invariant_of-self : goal.invariant_of-self
 invariant_of-self c =
@@ -50,13 +58,15 @@ invariant_of-self c =
     let size = c.in-Some.key / 4294967296 in
     let l = largest c.self.inside c.in-Some.key s c.greatest_below.ensures.rising (sym c.greatest_below.ensures.found ∙ c.in-Some.is) in
     let gives = clear_gives ss b size l.slot.inside l.slot.sized l.slot.shown (subst IsRising s.free_keys c.greatest_below.ensures.rising) in
-    let longer : length c.push_back_reserved.new.self.items ≡ length c.self.inside.unnamed.items + 1 = rw (c.push_back_reserved.ensures.items, length-append) (omega arith) in
+    let longer : length c.push_back_reserved.new.self.items ≡ length c.self.inside.unnamed.items + 1 =
+    rw (c.push_back_reserved.ensures.items, length-append) (omega arith) in
     record {
       slots_fit = omega (arith, s.slots_fit, gives.long);
       slots_room = s.slots_room;
       room_fits = s.room_fits;
       in_range = All-set ss b empty_slot s.in_range (omega arith, λ e. refl);
-      free_keys = ap (λ (k : Keys). k.keys) c.remove.ensures.taken ∙ ap (without_key c.in-Some.key) s.free_keys ∙ ap (λ key. without_key key (free_from 0 ss)) (sym (key-parts c.in-Some.key)) ∙ sym gives.free;
+      free_keys = ap (λ (k : Keys). k.keys) c.remove.ensures.taken ∙ ap (without_key c.in-Some.key) s.free_keys
+          ∙ ap (λ key. without_key key (free_from 0 ss)) (sym (key-parts c.in-Some.key)) ∙ sym gives.free;
       free_room = omega (arith, ap (λ (k : Keys). k.room) c.remove.ensures.taken, s.free_room);
       unused_keys = ap (λ (k : Keys). k.keys) c.insert.ensures ∙ ap (with_key b) s.unused_keys ∙ sym gives.unused;
       unused_room = omega (arith, ap (λ (k : Keys). k.room) c.insert.ensures, s.unused_room);
@@ -82,7 +92,8 @@ pub returns-clause-rest : goal.returns-clause-rest
 returns-clause-rest c =
     let a = c.self.inside in
     let l = largest a c.in-Some.key c.self.invariant c.greatest_below.ensures.rising (sym c.greatest_below.ensures.found ∙ c.in-Some.is) in
-    largest_first-rest a _ c.in-Some.key c.self.invariant (invariant_of-self c) c.greatest_below.ensures.rising l (ap (λ (k : Keys). k.keys) c.remove.ensures.taken)
+    largest_first-rest a _ c.in-Some.key c.self.invariant (invariant_of-self c) c.greatest_below.ensures.rising l
+    (ap (λ (k : Keys). k.keys) c.remove.ensures.taken)
     ∙ ap (λ p. drop 1 (largest_first p)) c.self.view_is
 
 pub returns-clause-room : goal.returns-clause-room
@@ -90,7 +101,9 @@ returns-clause-room c =
     let s = c.self.invariant in
     let a = c.self.inside in
     let l = largest a c.in-Some.key s c.greatest_below.ensures.rising (sym c.greatest_below.ensures.found ∙ c.in-Some.is) in
-    let gives = clear_gives a.slots.items (c.in-Some.key % 4294967296) (c.in-Some.key / 4294967296) l.slot.inside l.slot.sized l.slot.shown (subst IsRising s.free_keys c.greatest_below.ensures.rising) in
-    let longer : length c.push_back_reserved.new.self.items ≡ length a.unnamed.items + 1 = rw (c.push_back_reserved.ensures.items, length-append) (omega arith) in
+    let gives = clear_gives a.slots.items (c.in-Some.key % 4294967296) (c.in-Some.key / 4294967296) l.slot.inside l.slot.sized l.slot.shown
+    (subst IsRising s.free_keys c.greatest_below.ensures.rising) in
+    let longer : length c.push_back_reserved.new.self.items ≡ length a.unnamed.items + 1 =
+    rw (c.push_back_reserved.ensures.items, length-append) (omega arith) in
     let before = ap (λ (p : Ledger). length p.known + length p.unnamed) c.self.view_is in
     omega (arith, gives.known)

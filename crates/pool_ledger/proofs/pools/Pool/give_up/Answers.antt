@@ -11,7 +11,8 @@ give_largest-requires c = given_up_left c.args.self.now c.loop.self c.loop.count
 
 pub loop-preserved : goal.loop-preserved
 loop-preserved c =
-    given_up_more c.args.self.now c.loop.self c.give_largest.new.self c.loop.counter c.loop.invariant c.give_largest.ensures.given c.give_largest.ensures.rest c.give_largest.ensures.room
+    given_up_more c.args.self.now c.loop.self c.give_largest.new.self c.loop.counter c.loop.invariant c.give_largest.ensures.given
+    c.give_largest.ensures.rest c.give_largest.ensures.room
 
 pub returns : goal.returns
 returns c =

@@ -25,14 +25,16 @@ pub returns-then-passes_limit : goal.returns-then-passes_limit
 returns-then-passes_limit c =
     let p = c.args.self.now in
     let same = held_now c.self.inside p c.self.view_is c.self.invariant in
-    let over : passes p.limit (held p + c.args.n) ≡ true = ap (λ m. passes p.limit (m + c.args.n)) (sym same) ∙ sym c.passes_limit.ensures ∙ c.if-passes_limit.true in
+    let over : passes p.limit (held p + c.args.n) ≡ true = ap (λ m. passes p.limit (m + c.args.n)) (sym same) ∙ sym c.passes_limit.ensures
+    ∙ c.if-passes_limit.true in
     rw (refused_for p c.args.n over, same)
 
 pub returns-in-Some : goal.returns-in-Some
 returns-in-Some c =
     let p = c.args.self.now in
     let same = held_now c.self.inside p c.self.view_is c.self.invariant in
-    let under : passes p.limit (held p + c.args.n) ≡ false = ap (λ m. passes p.limit (m + c.args.n)) (sym same) ∙ sym c.passes_limit.ensures ∙ c.if-passes_limit.false in
+    let under : passes p.limit (held p + c.args.n) ≡ false = ap (λ m. passes p.limit (m + c.args.n)) (sym same) ∙ sym c.passes_limit.ensures
+    ∙ c.if-passes_limit.false in
     let bound = ap (λ m. least_from (m * 4294967296) c.self.inside.free.keys) c.from.ensures in
     let key = sym bound ∙ sym c.least_from.ensures ∙ c.in-Some.is in
     let fit = smallest_fit-keys c.self.inside p c.args.n c.self.view_is c.self.invariant ∙ ap (option_map block_at) key in
@@ -42,7 +44,8 @@ pub returns : goal.returns
 returns c =
     let p = c.args.self.now in
     let same = held_now c.self.inside p c.self.view_is c.self.invariant in
-    let under : passes p.limit (held p + c.args.n) ≡ false = ap (λ m. passes p.limit (m + c.args.n)) (sym same) ∙ sym c.passes_limit.ensures ∙ c.if-passes_limit.false in
+    let under : passes p.limit (held p + c.args.n) ≡ false = ap (λ m. passes p.limit (m + c.args.n)) (sym same) ∙ sym c.passes_limit.ensures
+    ∙ c.if-passes_limit.false in
     let bound = ap (λ m. least_from (m * 4294967296) c.self.inside.free.keys) c.from.ensures in
     let key = sym bound ∙ sym c.least_from.ensures ∙ c.in_default.is in
     let fit = smallest_fit-keys c.self.inside p c.args.n c.self.view_is c.self.invariant ∙ ap (option_map block_at) key in

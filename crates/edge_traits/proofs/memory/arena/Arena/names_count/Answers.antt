@@ -4,7 +4,8 @@ use Rattle.edge_traits.proofs.Arenas.{length-parts}
 use Rattle.edge_traits.proofs.memory.arena.Arena.names_count.Goals as goal
 
 pub overflow_cast-result : goal.overflow_cast-result
-overflow_cast-result c = let len = c.self.inside.extents.ok.0 in let kept = c.self.invariant.names_kept in let fit = c.self.invariant.names_fit in search (arith, c.len.ensures)
+overflow_cast-result c = let len = c.self.inside.extents.ok.0 in let kept = c.self.invariant.names_kept in let fit = c.self.invariant.names_fit in
+    search (arith, c.len.ensures)
 
 pub returns : goal.returns
 returns c =

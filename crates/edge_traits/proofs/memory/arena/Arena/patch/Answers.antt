@@ -53,7 +53,9 @@ invariant_of-self c =
     ap (λ (v : Store). bytes_of v n) (sym c.self.view_is) ∙ ap (λ (o : Option (List ℕ)). unwrap_or o []) had in
     let inside_part : c.args.off + length c.args.bytes.now ≤ place.extent.bytes =
     patch_inside es a n place.extent place.index place.start _ filled found (ap length part) c.requires.inside in
-    let len : length c.write_over.new.storage.items ≡ length a = ap length c.write_over.ensures.items ∙ length-overwritten a (place.start + place.extent.name + c.args.off) c.args.bytes.now (omega (arith, place_ends es a n place.extent place.index place.start found)) in
+    let len : length c.write_over.new.storage.items ≡ length a = ap length c.write_over.ensures.items
+    ∙ length-overwritten a (place.start + place.extent.name + c.args.off) c.args.bytes.now
+    (omega (arith, place_ends es a n place.extent place.index place.start found)) in
     IsReserved-same es a c.write_over.new.storage.items _ _ _ _ _ len c.self.invariant c.write_over.ensures.capacity
 
 pub returns : goal.returns
@@ -70,7 +72,8 @@ returns c =
     ap (λ (v : Store). bytes_of v n) (sym c.self.view_is) ∙ ap (λ (o : Option (List ℕ)). unwrap_or o []) had in
     let inside_part : c.args.off + length c.args.bytes.now ≤ place.extent.bytes =
     patch_inside es a n place.extent place.index place.start _ filled found (ap length part) c.requires.inside in
-    let files = ap (parts es) c.write_over.ensures.items ∙ parts-patch es a n place.extent place.index place.start c.args.off c.args.bytes.now inside_part filled found in
+    let files = ap (parts es) c.write_over.ensures.items
+    ∙ parts-patch es a n place.extent place.index place.start c.args.off c.args.bytes.now inside_part filled found in
     ap (λ (fs : List NamedFile). let t : Store = record { files = fs; room = inside.room; names = inside.names } in t)
     (files ∙ ap (λ (o : Option (List ℕ)). set_file (parts es a) n (overwritten (unwrap_or o []) c.args.off c.args.bytes.now)) (sym had))
     ∙ ap (λ (v : Store). with_bytes v n (overwritten (bytes_of v n) c.args.off c.args.bytes.now)) c.self.view_is

@@ -12,11 +12,13 @@ returns-clause-known c =
 pub returns-clause-bytes : goal.returns-clause-bytes
 returns-clause-bytes c =
     let fs = c.args.self.now.files in
-    let found : IfOk c.count.result (λ k. (file : List ℕ) → find_file fs c.args.name.now ≡ Some file → take k c.match-found.buf ≡ take k (drop c.args.off file)) = search rules in
+    let found : IfOk c.count.result (λ k. (file : List ℕ) → find_file fs c.args.name.now ≡ Some file
+    → take k c.match-found.buf ≡ take k (drop c.args.off file)) = search rules in
     told_as_found fs c.args.name.now c.count.result (λ k file. take k c.match-found.buf ≡ take k (drop c.args.off file)) found
 
 pub returns-clause-end : goal.returns-clause-end
 returns-clause-end c =
     let fs = c.args.self.now.files in
-    let found : IfOk c.count.result (λ k. (file : List ℕ) → find_file fs c.args.name.now ≡ Some file → k ≡ 0 → 0 < length c.match-found.buf → length file ≤ c.args.off) = search rules in
+    let found : IfOk c.count.result (λ k. (file : List ℕ) → find_file fs c.args.name.now ≡ Some file → k ≡ 0 → 0 < length c.match-found.buf
+    → length file ≤ c.args.off) = search rules in
     told_as_found fs c.args.name.now c.count.result (λ k file. k ≡ 0 → 0 < length c.match-found.buf → length file ≤ c.args.off) found

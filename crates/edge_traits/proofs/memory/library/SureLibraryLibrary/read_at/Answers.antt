@@ -14,7 +14,8 @@ pub returns-in-Some-clause-bytes : goal.returns-in-Some-clause-bytes
 returns-in-Some-clause-bytes c =
     let fs = c.args.self.now.files in
     let there : find_file fs c.args.name.now ≡ Some c.in-Some.file.now = search rules in
-    λ file told. c.read_part.ensures.front ∙ ap (λ t. take c.read_part.result (drop c.args.off t)) (only_file fs c.args.name.now c.in-Some.file.now file there told)
+    λ file told. c.read_part.ensures.front
+    ∙ ap (λ t. take c.read_part.result (drop c.args.off t)) (only_file fs c.args.name.now c.in-Some.file.now file there told)
 
 pub returns-in-Some-clause-end : goal.returns-in-Some-clause-end
 returns-in-Some-clause-end c =

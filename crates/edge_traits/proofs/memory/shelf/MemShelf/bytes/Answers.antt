@@ -5,4 +5,5 @@ use Rattle.edge_traits.proofs.memory.shelf.MemShelf.bytes.Goals as goal
 
 pub returns-clause-held : goal.returns-clause-held
 returns-clause-held c =
-    c.bytes.ensures ∙ ap (λ (s : MemStore). find_file s.store.files c.args.name.now) c.self.view_is ∙ sym (get-files_of c.args.self.now.store.files c.args.name.now)
+    c.bytes.ensures ∙ ap (λ (s : MemStore). find_file s.store.files c.args.name.now) c.self.view_is
+    ∙ sym (get-files_of c.args.self.now.store.files c.args.name.now)

@@ -11,12 +11,14 @@ pub returns-clause-ok : goal.returns-clause-ok
 returns-clause-ok c =
     let old = c.args.self.now.store in
     let new = c.if-is_listed.self-inside.arena in
-    let stored : new ≡ (if is_ok c.count.result then with_bytes old c.args.name.now (bytes_of old c.args.name.now ++ c.args.bytes.now) else old) = search rules in
+    let stored : new ≡ (if is_ok c.count.result then with_bytes old c.args.name.now (bytes_of old c.args.name.now ++ c.args.bytes.now) else old) =
+    search rules in
     append_ok old new c.args.name.now c.args.bytes.now c.count.result stored
 
 pub returns-clause-err : goal.returns-clause-err
 returns-clause-err c =
     let old = c.args.self.now.store in
     let new = c.if-is_listed.self-inside.arena in
-    let stored : new ≡ (if is_ok c.count.result then with_bytes old c.args.name.now (bytes_of old c.args.name.now ++ c.args.bytes.now) else old) = search rules in
+    let stored : new ≡ (if is_ok c.count.result then with_bytes old c.args.name.now (bytes_of old c.args.name.now ++ c.args.bytes.now) else old) =
+    search rules in
     append_err old new c.args.name.now c.args.bytes.now c.count.result c.requires stored
