@@ -18,4 +18,5 @@ pub mod Rooms
 pub mod Steps
 pub mod Sums
 pub mod Tables
+pub mod Texts
 pub mod Totals

@@ -3,16 +3,24 @@
 ghost use Rattle.std.specs.Prelude.{◌≡◌, ◌++◌, IfOk, OnOk, string_bytes};
 ghost use Rattle.nd_stats.specs.Row.{with_commas, comma_list, counts_text, extremes_text, sums_text, moments_text, histogram_text, profiles_text, row};
 
+use itoa::{Buffer, Integer};
 use nd_base::{Measure, OutOfMemory};
 use std::alloc::{AllocError, Global};
-use std::fmt::Write;
+
+/// Appends a name and a number.
+fn push_named<N: Integer>(text: &mut String, name: &str, number: N) -> Result<(), AllocError>
+    ensures { OnOk result (string_bytes text.new ≡ string_bytes text.old ++ (name.now ++ N.text number)) }
+{
+    text.push_str(name)?;
+    text.push_str(Buffer::new().format(number))
+}
 
 /// Appends numbers with a comma before each.
 fn push_more(text: &mut String, numbers: &[i64]) -> Result<(), AllocError>
     ensures { OnOk result (string_bytes text.new ≡ string_bytes text.old ++ with_commas numbers.now) }
 {
     for number in numbers {
-        write!(text, ",{number}")?;
+        push_named(text, ",", *number)?;
     }
     Ok(())
 }
@@ -24,7 +32,7 @@ fn push_numbers(text: &mut String, numbers: &[i64]) -> Result<(), AllocError>
     match numbers {
         [] => Ok(()),
         [first, others @ ..] => {
-            write!(text, "{first}")?;
+            push_named(text, "", *first)?;
             push_more(text, others)
         }
     }
@@ -34,53 +42,38 @@ fn push_numbers(text: &mut String, numbers: &[i64]) -> Result<(), AllocError>
 fn push_counts(text: &mut String, m: &Measure) -> Result<(), AllocError>
     ensures { OnOk result (string_bytes text.new ≡ string_bytes text.old ++ counts_text m.now) }
 {
-    let Measure { id, n, .. } = m;
-    write!(text, "{id} n={n}")
+    push_named(text, "", m.id)?;
+    push_named(text, " n=", m.n)
 }
 
 /// Appends the extremes with their places.
 fn push_extremes(text: &mut String, m: &Measure) -> Result<(), AllocError>
     ensures { OnOk result (string_bytes text.new ≡ string_bytes text.old ++ extremes_text m.now) }
 {
-    let Measure {
-        min,
-        min_at,
-        max,
-        max_at,
-        ..
-    } = m;
-    write!(text, " min={min}@{min_at} max={max}@{max_at}")
+    push_named(text, " min=", m.min)?;
+    push_named(text, "@", m.min_at)?;
+    push_named(text, " max=", m.max)?;
+    push_named(text, "@", m.max_at)
 }
 
 /// Appends the sums over all samples and over the border.
 fn push_sums(text: &mut String, m: &Measure) -> Result<(), AllocError>
     ensures { OnOk result (string_bytes text.new ≡ string_bytes text.old ++ sums_text m.now) }
 {
-    let Measure {
-        total,
-        squares,
-        border,
-        border_n,
-        ..
-    } = m;
-    write!(
-        text,
-        " total={total} squares={squares} border={border}/{border_n}"
-    )
+    push_named(text, " total=", m.total)?;
+    push_named(text, " squares=", m.squares)?;
+    push_named(text, " border=", m.border)?;
+    push_named(text, "/", m.border_n)
 }
 
 /// Appends the sums over the samples that reach the threshold.
 fn push_moments(text: &mut String, m: &Measure) -> Result<(), AllocError>
     ensures { OnOk result (string_bytes text.new ≡ string_bytes text.old ++ moments_text m.now) }
 {
-    let Measure {
-        over,
-        m0,
-        mx,
-        my,
-        ..
-    } = m;
-    write!(text, " over={over} m0={m0} mx={mx} my={my}")
+    push_named(text, " over=", m.over)?;
+    push_named(text, " m0=", m.m0)?;
+    push_named(text, " mx=", m.mx)?;
+    push_named(text, " my=", m.my)
 }
 
 /// Appends the histogram, where there is one.
@@ -91,11 +84,10 @@ fn push_histogram(text: &mut String, m: &Measure) -> Result<(), AllocError>
     if bins.is_empty() {
         return Ok(());
     }
-    let below = m.below;
-    let above = m.above;
-    write!(text, " below={below} bins=")?;
+    push_named(text, " below=", m.below)?;
+    text.push_str(" bins=")?;
     push_numbers(text, bins)?;
-    write!(text, " above={above}")
+    push_named(text, " above=", m.above)
 }
 
 /// Appends the profiles, where there are some.

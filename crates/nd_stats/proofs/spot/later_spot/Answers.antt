@@ -1,5 +1,5 @@
 use Rattle.std.proofs.Common.{◌+◌, ◌<◌, sym, ◌∙◌, arith}
-use Rattle.nd_base.specs.Places.{index_in, size_in}
+use Rattle.nd_base.specs.Places.{size_in}
 use Rattle.nd_stats.proofs.Edges.{x_along, y_along, row_along}
 use Rattle.nd_stats.proofs.spot.later_spot.Goals as goal
 
