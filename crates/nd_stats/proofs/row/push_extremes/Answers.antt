@@ -14,7 +14,8 @@ returns c =
     let more-1 = codes " min=" ++ signed_decimal m.min in
     let more-2 = more-1 ++ codes "@" ++ decimal m.min_at in
     let more-3 = more-2 ++ codes " max=" ++ signed_decimal m.max in
-    let second = one_more old more-1 (string_bytes c.push_named.new.text) (string_bytes c.push_named-2.new.text) (codes "@") (decimal m.min_at) (c.in_ok-push_named.ensures ∙ ap (λ v. string_bytes c.args.text.now ++ (codes " min=" ++ signed_decimal v)) value-1)
+    let second = one_more old more-1 (string_bytes c.push_named.new.text) (string_bytes c.push_named-2.new.text) (codes "@") (decimal m.min_at)
+    (c.in_ok-push_named.ensures ∙ ap (λ v. string_bytes c.args.text.now ++ (codes " min=" ++ signed_decimal v)) value-1)
     c.in_ok-push_named-2.ensures in
     let third = one_more old more-2 (string_bytes c.push_named-2.new.text) (string_bytes c.push_named-3.new.text) (codes " max=") (signed_decimal m.max) second
     (c.in_ok-push_named-3.ensures ∙ ap (λ v. string_bytes c.push_named-2.new.text ++ (codes " max=" ++ signed_decimal v)) value-3) in

@@ -16,7 +16,8 @@ returns c =
     let more-1 = codes " over=" ++ decimal m.over in
     let more-2 = more-1 ++ codes " m0=" ++ signed_decimal m.m0 in
     let more-3 = more-2 ++ codes " mx=" ++ signed_decimal m.mx in
-    let second = one_more old more-1 (string_bytes c.push_named.new.text) (string_bytes c.push_named-2.new.text) (codes " m0=") (signed_decimal m.m0) c.in_ok-push_named.ensures
+    let second = one_more old more-1 (string_bytes c.push_named.new.text) (string_bytes c.push_named-2.new.text) (codes " m0=")
+    (signed_decimal m.m0) c.in_ok-push_named.ensures
     (c.in_ok-push_named-2.ensures ∙ ap (λ v. string_bytes c.push_named.new.text ++ (codes " m0=" ++ signed_decimal v)) value-2) in
     let third = one_more old more-2 (string_bytes c.push_named-2.new.text) (string_bytes c.push_named-3.new.text) (codes " mx=") (signed_decimal m.mx) second
     (c.in_ok-push_named-3.ensures ∙ ap (λ v. string_bytes c.push_named-2.new.text ++ (codes " mx=" ++ signed_decimal v)) value-3) in

@@ -14,9 +14,11 @@ returns c =
     let more-1 = codes " total=" ++ signed_decimal m.total in
     let more-2 = more-1 ++ codes " squares=" ++ decimal m.squares in
     let more-3 = more-2 ++ codes " border=" ++ signed_decimal m.border in
-    let second = one_more old more-1 (string_bytes c.push_named.new.text) (string_bytes c.push_named-2.new.text) (codes " squares=") (decimal m.squares) (c.in_ok-push_named.ensures ∙ ap (λ v. string_bytes c.args.text.now ++ (codes " total=" ++ signed_decimal v)) value-1)
+    let second = one_more old more-1 (string_bytes c.push_named.new.text) (string_bytes c.push_named-2.new.text) (codes " squares=") (decimal m.squares)
+    (c.in_ok-push_named.ensures ∙ ap (λ v. string_bytes c.args.text.now ++ (codes " total=" ++ signed_decimal v)) value-1)
     c.in_ok-push_named-2.ensures in
-    let third = one_more old more-2 (string_bytes c.push_named-2.new.text) (string_bytes c.push_named-3.new.text) (codes " border=") (signed_decimal m.border) second
+    let third = one_more old more-2 (string_bytes c.push_named-2.new.text) (string_bytes c.push_named-3.new.text) (codes " border=")
+    (signed_decimal m.border) second
     (c.in_ok-push_named-3.ensures ∙ ap (λ v. string_bytes c.push_named-2.new.text ++ (codes " border=" ++ signed_decimal v)) value-3) in
     on_ok_weaker c.push_named-4.result
     (λ fourth. one_more old more-3 (string_bytes c.push_named-3.new.text) (string_bytes c.push_named-4.new.text) (codes "/") (decimal m.border_n) third
