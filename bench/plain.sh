@@ -1,12 +1,14 @@
 #!/usr/bin/env bash
-# Times `nd_replay plain` on 200 frames of 1,024 by 1,024 unsigned bytes, through a region of two by two, statistics and a file,
-# against a plain C program of the same (plain.c), ten times each in turn; compares what both wrote; and prints the medians, their
-# ratio, the most memory that `plain` took, and its growth at twice and four times the frames. It is no part of the gate.
+# Times `nd_replay plain` through a region of two by two, statistics and a file against a plain C program of the same that keeps the whole
+# file in memory, too (plain.c), by processor time, seven times each in turn, at three sizes of frames of unsigned bytes, without the options
+# of statistics and with all of them; compares what both wrote; and prints the medians, their ratio, the most memory that `plain` took beside
+# the file, four frames and 64 MiB, and its growth at twice and four times the frames. It is no part of the gate.
 set -eu
 source "$(dirname "$0")/program.sh"
-gcc -O3 -o "$work/plain" "$here/bench/plain.c"
 
-cat > "$work/graph.toml" <<'GRAPH'
+# The graph, with these lines more at the statistics: write_graph LINES
+write_graph() {
+    cat << GRAPH
 [[node]]
 name = "half"
 kind = "roi"
@@ -18,6 +20,7 @@ type = "UInt16"
 name = "st"
 kind = "stats"
 input = "half"
+$1
 
 [[node]]
 name = "cap"
@@ -26,21 +29,29 @@ input = "st"
 mode = "stream"
 count = 65536
 GRAPH
+}
 
 cd "$work"
-frames=200
-make_stack $frames > stack.nc
-read -r ours c < <(alternate "$work" "$program" plain graph.toml stack.nc x_ -- ./plain stack.nc c.nc c.txt)
-cmp x_cap_000.nc c.nc
-cmp x_st.txt c.txt
-awk -v ours="$ours" -v c="$c" 'BEGIN { printf "plain %.1f ms, C %.1f ms, ratio %.2f\n", ours / 1e6, c / 1e6, ours / c }'
-
-# The most memory that is resident, in KiB.
-/usr/bin/time -f %M -o peak "$program" plain graph.toml stack.nc x_ > print
-awk -v peak="$(cat peak)" -v size="$(stat -c %s stack.nc)" \
-    'BEGIN { printf "memory %.1f MiB, stack and two frames %.1f MiB\n", peak / 1024, (size + 2 * 1048576) / 1048576 }'
-
-for times in 1 2 4; do
-    make_stack $((times * frames)) > stack.nc
-    for _ in 1 2 3; do nanoseconds "$program" plain graph.toml stack.nc x_; done | median
-done | awk 'NR == 1 { first = $1 } { printf "%s%.2f", NR == 1 ? "growth " : " : ", $1 / first } END { print "" }'
+write_graph '' > none.toml
+write_graph 'threshold = 510
+border = 2
+hist_size = 256
+hist_lo = 0
+hist_hi = 1020
+profiles = true' > all.toml
+while read -r side frames; do
+    make_stack "$frames" "$side" > stack.nc
+    gcc -O3 -march=native -pthread -D SIDE="$side" -o plain_c "$here/bench/plain.c"
+    for options in none all; do
+        ratio_of "plain $frames frames of $side x $side, options of statistics: $options" "$work" \
+            "$program" plain $options.toml stack.nc x_ -- ./plain_c stack.nc c.nc c.txt $options
+        cmp x_cap_000.nc c.nc
+        cmp x_st.txt c.txt
+    done
+    resident stack.nc $((4 * side * side + 67108864)) "$program" plain all.toml stack.nc x_
+done << 'SIZES'
+1024 200
+256 2000
+16 65536
+SIZES
+growth 200 "$program" plain none.toml stack.nc x_

@@ -22,3 +22,13 @@ make_stack() {
     printf '\0\0\0\0\0\0\0\0\0\0\0\001\0\0\0\004\0\0\0\220'
     head -c $((frames * side * side)) /dev/urandom
 }
+
+# Prints how the wall clock of a command over the file stack.nc grows with the frames of 1,024 by 1,024, medians of three: growth FRAMES COMMAND..
+growth() {
+    local frames=$1 times
+    shift
+    for times in 1 2 4; do
+        make_stack $((times * frames)) > stack.nc
+        for _ in 1 2 3; do nanoseconds "$@"; done | median
+    done | awk 'NR == 1 { first = $1 } { printf "%s%.2f", NR == 1 ? "growth " : " : ", $1 / first } END { print "" }'
+}
