@@ -26,3 +26,4 @@ pub mod Falling
 pub mod PlainRuns
 pub mod SortDrops
 pub mod Causes
+pub mod EachOffer

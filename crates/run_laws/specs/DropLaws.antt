@@ -1,11 +1,15 @@
 -- LAWS: all that came to a node was accepted for good or dropped, all that its input emitted came to it, and every frame came.
-use Rattle.std.specs.Prelude.{◌≡◌, ◌≢◌, ℕ, ◌+◌, true, false, length}
+use Rattle.std.specs.Prelude.{◌≡◌, ◌≢◌, ◌⊎◌, ℕ, ◌+◌, ◌==◌, Bool, ◌&&◌, ◌||◌, true, false, length}
+use Rattle.std.specs.List.{Contains, list_any}
+use Rattle.nd_base.specs.declared.frame.FrameName.{FrameName}
+use Rattle.flow_journal.specs.declared.entry.Entry.{Entry}
+use Rattle.flow_journal.specs.declared.entry.Entry.TheVariants.{Full}
 use Rattle.flow_journal.specs.Setting.{Setting, node, is_node}
 use Rattle.flow_journal.specs.Turns.{deals}
-use Rattle.flow_journal.specs.Pasts.{Past}
+use Rattle.flow_journal.specs.Pasts.{Past, frame, same}
 use Rattle.flow_journal.specs.Breaks.{outs}
 use Rattle.flow_journal.specs.Offered.{offered, offered_frames}
-use Rattle.flow_journal.specs.Accepted.{accepted, emitted}
+use Rattle.flow_journal.specs.Accepted.{accepted, emitted, is_dropped_by}
 use Rattle.flow_journal.specs.Histories.{is_legal, is_history}
 use Rattle.flow_journal.specs.FirstEntries.{has_loaded}
 use Rattle.flow_journal.specs.IndexLaws.{below}
@@ -17,7 +21,21 @@ abbrev pub EmissionsAreOffered : Type 0
 EmissionsAreOffered =
     (s : Setting) (P : Past) (v : ℕ) → is_node s v ≡ true → deals s (node s v).input ≡ false → is_history s P ≡ true → offered v P ≡ emitted (node s v).input P
 
--- it was accepted for good or dropped
+-- the entry tells that the array found the node's queue full
+abbrev pub is_full_for : ℕ → FrameName → Entry → Bool
+is_full_for v a (Full w m k) = (w == v) && same a (frame m k)
+is_full_for v a _ = false
+
+-- an entry drops the array at the node: it found the queue full, or was dropped once it had been accepted
+abbrev pub was_dropped : Setting → ℕ → FrameName → Past → Bool
+was_dropped s v a P = list_any (is_full_for v a) P || list_any (is_dropped_by s v a) P
+
+-- each array that came to a node was accepted for good or dropped there
+abbrev pub EachOfferIsAcceptedOrDropped : Type 0
+EachOfferIsAcceptedOrDropped =
+    (s : Setting) (P : Past) (v : ℕ) (a : FrameName) → Contains (offered v P) a → Contains (accepted s v P) a ⊎ (was_dropped s v a P ≡ true)
+
+-- and it was one of them once: as many came as were accepted for good or dropped
 abbrev pub OffersAreAcceptedOrDropped : Type 0
 OffersAreAcceptedOrDropped =
     (s : Setting) (P : Past) (v : ℕ) → v ≢ 0 → is_legal s P ≡ true

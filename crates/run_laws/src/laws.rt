@@ -3,7 +3,7 @@
 ghost use Rattle.run_laws.specs.BufferLaws.{GrantsAreUnplaced};
 ghost use Rattle.run_laws.specs.CauseLaws.{FullListsDrop, FullQueuesDrop, RefusedPoolsDrop, RefusedPoolsRefuse};
 ghost use Rattle.run_laws.specs.DropLaws.{EmissionsAreOffered, EveryFrameIsOffered, FramesAreLoadedOrRefused, LoadedFramesAreIssued};
-ghost use Rattle.run_laws.specs.DropLaws.{OffersAreAcceptedOrDropped};
+ghost use Rattle.run_laws.specs.DropLaws.{EachOfferIsAcceptedOrDropped, OffersAreAcceptedOrDropped};
 ghost use Rattle.run_laws.specs.FeedLaws.{WaitingFeedFindsRoom};
 ghost use Rattle.run_laws.specs.OneThreadLaws.{AcceptedAreOfTheInput, EmissionsPermuteTheAccepted, FilesSaveTheAccepted, OneThreadEmitsTheAccepted};
 ghost use Rattle.run_laws.specs.OneThreadLaws.{OutputsAreOfTheNode, OutputsInOrder, OutputsInSomeOrder, WindowsEmitTheAccepted};
@@ -13,6 +13,7 @@ ghost use Rattle.run_laws.specs.PlainLaws.{SmoothRunsArePlain};
 /// Every array that was offered was accepted for good or dropped, and all that a node emitted and every frame were offered.
 pub fn arrays_are_accepted_or_dropped()
     ensures offered { EmissionsAreOffered }
+    ensures each { EachOfferIsAcceptedOrDropped }
     ensures accepted_or_dropped { OffersAreAcceptedOrDropped }
     ensures loaded_or_refused { FramesAreLoadedOrRefused }
     ensures issued { LoadedFramesAreIssued }

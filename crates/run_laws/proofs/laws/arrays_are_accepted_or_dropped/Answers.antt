@@ -1,4 +1,5 @@
 use Rattle.run_laws.proofs.Driver.{frames-are, all-came}
+use Rattle.run_laws.proofs.EachOffer.{each-offer}
 use Rattle.run_laws.proofs.Loading.{driver-outs}
 use Rattle.run_laws.proofs.Offers.{comes}
 use Rattle.run_laws.proofs.Orders.{offers-are}
@@ -6,6 +7,9 @@ use Rattle.run_laws.proofs.laws.arrays_are_accepted_or_dropped.Goals as goal
 
 pub returns-clause-offered : goal.returns-clause-offered
 returns-clause-offered c = comes
+
+pub returns-clause-each : goal.returns-clause-each
+returns-clause-each c = each-offer
 
 pub returns-clause-accepted_or_dropped : goal.returns-clause-accepted_or_dropped
 returns-clause-accepted_or_dropped c = offers-are
