@@ -17,3 +17,9 @@ ReadFaultCause (TooLong n) told name limit before now =
     (limit < n) × IsSized told name n × (now ≡ before)
 ReadFaultCause Failed told name limit before now = Rose before now
 ReadFaultCause OutOfMemory told name limit before now = now ≡ before
+
+-- the reading of a file within its limit stopped: a fault of the library, or want of memory
+abbrev pub IsReadStop : ReadRefusal → (before now : ℕ) → Type 0
+IsReadStop (TooLong n) before now = ⊥
+IsReadStop Failed before now = Rose before now
+IsReadStop OutOfMemory before now = now ≡ before

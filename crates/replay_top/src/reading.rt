@@ -1,12 +1,14 @@
 //! Reading a whole file of a library.
 
-ghost use Rattle.std.specs.Prelude.{◌≡◌, ◌<◌, ◌≤◌, ◌∷◌, ℕ, List, length, take, IfOk, IfErr, OnOk};
-ghost use Rattle.edge_traits.specs.Faults.{Rose, Counts};
+ghost use Rattle.std.specs.Prelude.{◌≡◌, ◌<◌, ◌≤◌, [], ℕ, List, length, take, IfOk, IfErr, OnOk};
 ghost use Rattle.edge_traits.specs.Files.{IsTold, HasFile};
-ghost use Rattle.replay_top.specs.Reads.{ReadFaultCause};
+ghost use Rattle.replay_top.specs.Reads.{ReadFaultCause, IsReadStop};
 
 use edge_traits::{Failed, Library};
 use std::alloc::{AllocError, Global};
+
+/// How many bytes are read at a time, at most.
+const PIECE: usize = 262_144;
 
 /// Why a file wasn't read.
 #[derive(Clone, Copy, Debug, PartialEq, Eq)]
@@ -40,7 +42,7 @@ impl From<Failed> for ReadRefusal {
     }
 }
 
-/// Reads all of a file that has at most `limit` bytes.
+/// Reads all of a file that has at most `limit` bytes. Room for them is reserved at once, and each byte of it is written once.
 pub(crate) fn read_file<L: Library>(
     alloc: Global,
     library: &mut L,
@@ -57,27 +59,40 @@ pub(crate) fn read_file<L: Library>(
     if size > limit {
         return Err(ReadRefusal::TooLong { bytes: size });
     }
-    let mut bytes = vec![in alloc; 0u8; size as usize]?;
-    let count = read_into(library, name, &mut bytes)?;
-    bytes.truncate(count);
+    let mut bytes = Vec::with_capacity(alloc, size as usize)?;
+    let mut piece = vec![in alloc; 0u8; PIECE]?;
+    read_pieces(library, name, size as usize, &mut piece, &mut bytes)?;
     Ok(bytes)
 }
 
-/// Reads from the start on until the buffer is full or the file ends, and gives the number of bytes.
-fn read_into<L: Library>(library: &mut L, name: &str, buf: &mut [u8]) -> Result<usize, Failed>
-    ensures within { IfOk result (λ n. n ≤ length buf.new) }
-    ensures bytes { IfOk result (λ n. (file : List ℕ) → IsTold (L.holds library.old) name.now file → take n buf.new ≡ take n file) }
-    ensures end { IfOk result (λ n. (file : List ℕ) → IsTold (L.holds library.old) name.now file → n < length buf.new → length file ≤ n) }
+/// Reads a file from its start on, piece by piece, and appends each to the bytes, of which there are none yet, until there are
+/// `size` of them or the file ends.
+fn read_pieces<L: Library>(
+    library: &mut L,
+    name: &str,
+    size: usize,
+    piece: &mut [u8],
+    bytes: &mut Vec<u8>,
+) -> Result<(), ReadRefusal>
+    requires empty { bytes.old.items ≡ [] }
+    requires room { 0 < length piece.old }
+    ensures within { OnOk result (length bytes.new.items ≤ size) }
+    ensures bytes { OnOk result ((file : List ℕ) → IsTold (L.holds library.old) name.now file
+        → bytes.new.items ≡ take (length bytes.new.items) file) }
+    ensures end { OnOk result ((file : List ℕ) → IsTold (L.holds library.old) name.now file → length bytes.new.items < size
+        → length file ≤ length bytes.new.items) }
+    ensures stops { IfErr result (λ e. IsReadStop e (L.faults library.old) (L.faults library.new)) }
+    ensures same { OnOk result (L.faults library.new ≡ L.faults library.old) }
     ensures files { L.holds library.new ≡ L.holds library.old }
-    ensures cause { Counts (L.faults library.old) (L.faults library.new) result }
 {
-    let mut at = 0;
-    while at < buf.len() {
-        let count = library.read_at(name, at as u64, &mut buf[at..])?;
+    while bytes.len() < size {
+        let at = bytes.len();
+        let asked = piece.len().min(size - at);
+        let count = library.read_at(name, at as u64, &mut piece[..asked])?;
         if count == 0 {
             break;
         }
-        at += count;
+        bytes.extend_from_slice(&piece[..count])?;
     }
-    Ok(at)
+    Ok(())
 }
