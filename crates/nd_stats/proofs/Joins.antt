@@ -1,5 +1,5 @@
 -- The numbers of two pieces in one.
-use Rattle.std.proofs.Common.{◌≡◌, ℕ, zero, suc, ◌+◌, ◌<◌, ◌^◌, List, [], ◌∷◌, length, take, get_or, set, refl, ap, sym, arith, ℤ, pos, ◌+ℤ◌}
+use Rattle.std.proofs.Common.{◌≡◌, ℕ, zero, suc, ◌+◌, ◌<◌, ◌^◌, List, [], ◌∷◌, length, take, get_or, set, refl, ap, sym, ◌∙◌, arith, ℤ, pos, ◌+ℤ◌}
 use Rattle.std.proofs.Common.{to_z, of_z, w64, FitsSigned}
 use Rattle.std.specs.Int.{w128, Width}
 use Rattle.std.specs.Prelude.{unsigned_abs}
@@ -52,6 +52,11 @@ fits_rooms a b ha hb = fits_signed_from_abs w64 (a +ℤ b) (let s = abs-add a b 
 -- a sum of two that have room
 pub room_sum : (a b : ℤ) → HasRoom a → HasRoom b → to_z w64 (of_z w64 (to_z w64 (of_z w64 a) +ℤ to_z w64 (of_z w64 b))) ≡ a +ℤ b
 room_sum a b ha hb = stored_sum w64 a b (fits_room a ha) (fits_room b hb) (fits_rooms a b ha hb)
+
+-- a sum that is stored, and one that has room
+pub room_more : (a b : ℤ) → HasRoom a → HasRoom b → to_z w64 (of_z w64 (a +ℤ to_z w64 (of_z w64 b))) ≡ a +ℤ b
+room_more a b ha hb =
+    ap (λ z. to_z w64 (of_z w64 (a +ℤ z))) (to_z-of_z w64 b (fits_room b hb)) ∙ to_z-of_z w64 (a +ℤ b) (fits_rooms a b ha hb)
 
 -- a sum of two moments
 pub moment_sum : (a b : ℤ) → unsigned_abs a < 2 ^ 100 → unsigned_abs b < 2 ^ 100

@@ -1,5 +1,6 @@
 pub mod Alongs
 pub mod Bins
+pub mod BlockRooms
 pub mod Bounds
 pub mod Edges
 pub mod Firsts

@@ -10,7 +10,7 @@ use Rattle.nd_stats.specs.Samples.{Sample, placed}
 use Rattle.nd_stats.specs.Measured.{count_where, value_where, is_over, moment}
 use Rattle.nd_stats.specs.Tallies.{AreSmall, HasRoom}
 use Rattle.nd_stats.specs.Over.{IsOver, weighted}
-use Rattle.nd_stats.specs.Running.{IsFrame, AreMoments}
+use Rattle.nd_stats.specs.Running.{IsFrame, AreMoments, HaveMomentRooms}
 use Rattle.nd_stats.proofs.Sums.{count-append, sum_where-append}
 use Rattle.nd_stats.proofs.Alongs.{count_moved, value_moved, weighted_moved, moment_along, moment_across}
 use Rattle.nd_stats.proofs.Bounds.{where_room, moment_room}
@@ -41,14 +41,22 @@ moments_line rule dims xs p x y vs a b o are is ex ey fits e f g h =
           ∙ sym (sum_where-append q (λ s. pos (index_in dims 1 s.place) *ℤ s.value) xs (placed p vs));
     }
 
-pub record MomentRooms (m : Moments) : Type 0 where
-  pub over : m.over < 2 ^ 31
-  pub m0 : HasRoom m.m0
-  pub mx : unsigned_abs m.mx < 2 ^ 100
-  pub my : unsigned_abs m.my < 2 ^ 100
+-- with the moments of later samples
+pub moments_both : (rule : StatsRule) (dims : List Dim) (xs ys : List Sample) (a b c : Moments) → AreMoments rule dims xs a → AreMoments rule dims ys b
+    → c.over ≡ a.over + b.over → c.m0 ≡ a.m0 +ℤ b.m0 → c.mx ≡ a.mx +ℤ b.mx → c.my ≡ a.my +ℤ b.my → AreMoments rule dims (xs ++ ys) c
+moments_both rule dims xs ys a b c one two e f g h =
+    let q = is_over rule in
+    record {
+      over = e ∙ ap (λ n. n + b.over) one.over ∙ ap (λ n. count_where q xs + n) two.over ∙ sym (count-append q xs ys);
+      m0 = f ∙ ap (λ z. z +ℤ b.m0) one.m0 ∙ ap (λ z. value_where q xs +ℤ z) two.m0 ∙ sym (sum_where-append q (λ s. s.value) xs ys);
+      mx = g ∙ ap (λ z. z +ℤ b.mx) one.mx ∙ ap (λ z. moment rule dims 0 xs +ℤ z) two.mx
+          ∙ sym (sum_where-append q (λ s. pos (index_in dims 0 s.place) *ℤ s.value) xs ys);
+      my = h ∙ ap (λ z. z +ℤ b.my) one.my ∙ ap (λ z. moment rule dims 1 xs +ℤ z) two.my
+          ∙ sym (sum_where-append q (λ s. pos (index_in dims 1 s.place) *ℤ s.value) xs ys);
+    }
 
 pub moment_rooms : (rule : StatsRule) (dims : List Dim) (xs : List Sample) (m : Moments) → IsFrame rule dims → AreMoments rule dims xs m → AreSmall xs
-    → length xs ≤ 67108864 → MomentRooms m
+    → length xs ≤ 67108864 → HaveMomentRooms m
 moment_rooms rule dims xs m frame is small few =
     let index = λ (k p : ℕ). index_most dims k p frame.sizes frame.few in
     record {

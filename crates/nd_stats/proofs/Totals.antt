@@ -54,13 +54,14 @@ none_on_border rule dims xs frame none =
 -- the sums over all samples of a piece, and over those at the border
 pub whole_sums : (rule : StatsRule) (dims : List Dim) (kind : SampleType) (from n : ℕ) (bytes : List ℕ) (e : Edge) (s : Sums)
     → IsEdge rule dims (placed from (numbers kind n bytes)) e
-    → s.n ≡ n → s.total ≡ total (numbers kind n bytes) → s.squares ≡ squares (numbers kind n bytes) → s.border ≡ e.sum → s.border_n ≡ e.count
+    → s.n ≡ n → s.total ≡ sum_of (λ t. t.value) (placed from (numbers kind n bytes))
+    → s.squares ≡ sum_by (λ t. square t.value) (placed from (numbers kind n bytes)) → s.border ≡ e.sum → s.border_n ≡ e.count
     → AreSums rule dims (placed from (numbers kind n bytes)) s
 whole_sums rule dims kind from n bytes e s is f g h i j =
     record {
       n = f ∙ sym (length-piece kind from n bytes);
-      total = g ∙ total_placed from (numbers kind n bytes);
-      squares = h ∙ squares_placed from (numbers kind n bytes);
+      total = g;
+      squares = h;
       border = i ∙ is.sum;
       border_n = j ∙ is.count;
     }

@@ -1,5 +1,5 @@
 -- The numbers of the samples so far.
-use Rattle.std.specs.Prelude.{◌≡◌, ℕ, ◌+◌, ◌*◌, ◌-◌, ◌/◌, ◌<◌, ◌≤◌, ℤ, pos, ◌-ℤ◌, List, length, slice_index_or, sum_by, unsigned_abs}
+use Rattle.std.specs.Prelude.{◌≡◌, ℕ, ◌+◌, ◌*◌, ◌-◌, ◌/◌, ◌<◌, ◌≤◌, ◌^◌, ℤ, pos, ◌-ℤ◌, List, length, slice_index_or, sum_by, unsigned_abs}
 use Rattle.nd_base.specs.declared.array.Dim.{Dim}
 use Rattle.nd_base.specs.declared.graph.StatsRule.{StatsRule}
 use Rattle.nd_base.specs.Shapes.{most_samples}
@@ -9,8 +9,10 @@ use Rattle.nd_stats.specs.declared.tally.Extremes.{Extremes}
 use Rattle.nd_stats.specs.declared.tally.Sums.{Sums}
 use Rattle.nd_stats.specs.declared.tally.Moments.{Moments}
 use Rattle.nd_stats.specs.declared.tally.Histogram.{Histogram}
+use Rattle.nd_stats.specs.declared.blocks.Basics.{Basics}
 use Rattle.nd_stats.specs.declared.border.Edge.{Edge}
 use Rattle.nd_stats.specs.declared.histogram.Ends.{Ends}
+use Rattle.nd_stats.specs.Tallies.{HasRoom}
 use Rattle.nd_stats.specs.Samples.{Sample, AreSmall, sum_of, least_from, greatest_from, table}
 use Rattle.nd_stats.specs.Measured.{count_where, value_where, square, is_on_border, is_over, is_below, is_above, is_in_bin, has_index, moment, profile}
 pub use Rattle.nd_stats.specs.Frames.{IsFrame}
@@ -38,6 +40,20 @@ pub record AreMoments (rule : StatsRule) (dims : List Dim) (xs : List Sample) (m
   pub m0 : m.m0 ≡ value_where (is_over rule) xs
   pub mx : m.mx ≡ moment rule dims 0 xs
   pub my : m.my ≡ moment rule dims 1 xs
+
+-- moments that have room for as much again
+pub record HaveMomentRooms (m : Moments) : Type 0 where
+  pub over : m.over < 2 ^ 31
+  pub m0 : HasRoom m.m0
+  pub mx : unsigned_abs m.mx < 2 ^ 100
+  pub my : unsigned_abs m.my < 2 ^ 100
+
+-- the numbers that are in no list; the extremes are those of `first` and these samples
+pub record AreBasics (rule : StatsRule) (dims : List Dim) (first : Sample) (xs : List Sample) (b : Basics) : Type 0 where
+  pub extremes : AreExtremes first xs b.extremes
+  pub total : b.total ≡ sum_of (λ t. t.value) xs
+  pub squares : b.squares ≡ sum_by (λ t. square t.value) xs
+  pub moments : AreMoments rule dims xs b.moments
 
 pub record IsHistogram (rule : StatsRule) (xs : List Sample) (h : Histogram) : Type 0 where
   pub below : h.below ≡ count_where (is_below rule) xs

@@ -1,18 +1,14 @@
-//! The extremes of a piece, block by block.
+//! The extremes of samples with those of a block more.
 
-ghost use Rattle.std.specs.Prelude.{◌≡◌, ◌+◌, ◌/◌, ◌<◌, ◌≤◌, ◌++◌, List, length, take, int_lt, if◌then◌else◌};
-ghost use Rattle.nd_base.specs.Samples.{width, number, samples_of};
+ghost use Rattle.std.specs.Prelude.{◌≡◌, ◌+◌, ◌/◌, ◌<◌, ◌≤◌, ◌++◌, List, length, int_lt, if◌then◌else◌};
+ghost use Rattle.nd_base.specs.Samples.{width, samples_of};
 ghost use Rattle.nd_base.specs.Shapes.{most_samples};
-ghost use Rattle.nd_stats.specs.Samples.{placed, least, greatest};
+ghost use Rattle.nd_stats.specs.Samples.{Sample, placed, least, greatest};
 ghost use Rattle.nd_stats.specs.Running.{AreExtremes};
 
-use crate::sample::part;
 use crate::tally::Extremes;
-use lane_kernels::{first_place, max_bytes, min_bytes, sample_at};
+use lane_kernels::{first_place, max_bytes, min_bytes};
 use nd_base::SampleType;
-
-/// How many samples a block has.
-const BLOCK: usize = 4096;
 
 /// The lesser of a value and the least sample of a block, with its place. The block begins at `place`; its least sample is
 /// looked for only where it is below the value.
@@ -54,34 +50,19 @@ fn greater(kind: SampleType, block: &[u8], place: u32, value: i64, at: u32) -> (
     }
 }
 
-/// The extremes of a piece that begins at place `from`.
-pub(crate) fn extremes_of(kind: SampleType, from: u32, samples: &[u8]) -> Extremes
-    requires some { 0 < length samples.now / width kind }
-    requires few { from + length samples.now / width kind ≤ most_samples }
-    ensures { AreExtremes record { place = from; value = number kind (take (width kind) samples.now) } (placed from (samples_of kind samples.now)) result }
+/// The extremes with those of a block behind the other samples, which begins at `place`.
+pub(crate) fn with_block(extremes: &Extremes, kind: SampleType, block: &[u8], place: u32) -> Extremes
+    requires some { 0 < length block.now / width kind }
+    requires few { place + length block.now / width kind ≤ most_samples }
+    ensures { (first : Sample) → (xs : List Sample) → AreExtremes first xs extremes.now
+        → AreExtremes first (xs ++ placed place (samples_of kind block.now)) result }
 {
-    let count = samples.len() / kind.width();
-    let first = sample_at(kind, samples, 0);
-    let mut extremes = Extremes {
-        min: first,
-        min_at: from,
-        max: first,
-        max_at: from,
-    };
-    let mut done = 0;
-    while done < count {
-        let size = (count - done).min(BLOCK);
-        let place = from + done as u32;
-        let block = part(kind, samples, done, size);
-        let (min, min_at) = lesser(kind, block, place, extremes.min, extremes.min_at);
-        let (max, max_at) = greater(kind, block, place, extremes.max, extremes.max_at);
-        extremes = Extremes {
-            min,
-            min_at,
-            max,
-            max_at,
-        };
-        done += size;
+    let (min, min_at) = lesser(kind, block, place, extremes.min, extremes.min_at);
+    let (max, max_at) = greater(kind, block, place, extremes.max, extremes.max_at);
+    Extremes {
+        min,
+        min_at,
+        max,
+        max_at,
     }
-    extremes
 }

@@ -5,6 +5,7 @@
 //! says each of them over the whole list of samples. Measures of pieces are merged ([`Merge`]).
 #![tactic(auto)]
 
+mod blocks;
 mod border;
 mod extremes;
 mod histogram;

@@ -9,14 +9,12 @@ ghost use Rattle.nd_stats.specs.Samples.{table, placed};
 ghost use Rattle.nd_stats.specs.Measured.{measure_of};
 ghost use Rattle.nd_stats.specs.Running.{IsTally, IsFrame, AreBins, IsWithinRange};
 
+use crate::blocks::{Basics, basics_of};
 use crate::border::edge_of;
-use crate::extremes::extremes_of;
 use crate::histogram::{histogram_of, list_bins};
-use crate::lines::moments_of;
 use crate::profiles::{add_columns, add_rows};
 use crate::spot::{first_size, next_spot, spot_at};
 use crate::tally::{Extremes, Histogram, Moments, Sums, Tally};
-use lane_kernels::{squares_bytes, sum_bytes};
 use nd_base::{Dim, Measure, OutOfMemory, SampleType, Seq, StatsRule, number_at};
 use std::alloc::Global;
 
@@ -173,15 +171,21 @@ fn tally_lines(
 {
     let mut tally = blank;
     let edge = edge_of(rule, kind, dims, from, samples);
-    tally.extremes = extremes_of(kind, from, samples);
+    let Basics {
+        extremes,
+        total,
+        squares,
+        moments,
+    } = basics_of(rule, kind, dims, from, samples);
+    tally.extremes = extremes;
     tally.sums = Sums {
         n: (samples.len() / kind.width()) as u32,
-        total: sum_bytes(kind, samples),
-        squares: squares_bytes(kind, samples),
+        total,
+        squares,
         border: edge.sum,
         border_n: edge.count,
     };
-    tally.moments = moments_of(rule, kind, dims, from, samples);
+    tally.moments = moments;
     tally.histogram = histogram_of(tally.histogram, rule, bins, kind, from, samples);
     if rule.profiles {
         add_columns(rule, kind, dims, from, samples, &mut tally.x);

@@ -4,12 +4,12 @@ use Rattle.nd_base.specs.Samples.{width, numbers}
 use Rattle.nd_base.specs.SampleLaws.{length-numbers}
 use Rattle.nd_stats.specs.Samples.{placed}
 use Rattle.nd_stats.specs.Over.{IsOver}
-use Rattle.nd_stats.specs.Running.{AreMoments}
+use Rattle.nd_stats.specs.Running.{AreMoments, HaveMomentRooms}
 use Rattle.nd_stats.proofs.Parts.{parts-more, parts_small}
 use Rattle.nd_stats.proofs.Pieces.{length-piece}
 use Rattle.nd_stats.proofs.Places.{index_below}
 use Rattle.nd_stats.proofs.Rooms.{index_most}
-use Rattle.nd_stats.proofs.MomentLines.{MomentRooms, moments_line, moment_rooms}
+use Rattle.nd_stats.proofs.MomentLines.{moments_line, moment_rooms}
 use Rattle.nd_stats.proofs.lines.moments_of.Goals as goal
 
 pub on_line-size-requires-clause-x : goal.on_line-size-requires-clause-x
@@ -26,7 +26,7 @@ add_line-requires-clause-y c =
 
 pub add_line-requires-clause-over : goal.add_line-requires-clause-over
 add_line-requires-clause-over c =
-    let rooms : MomentRooms c.loop-done.moments =
+    let rooms : HaveMomentRooms c.loop-done.moments =
     moment_rooms c.args.rule.now c.args.dims.now
     (placed c.args.from (numbers c.args.kind c.loop-done.done c.args.samples.now)) c.loop-done.moments c.requires.frame c.loop-done.invariant.moments
     (parts_small c.args.kind c.args.from c.loop-done.done c.args.samples.now c.type_inv.samples) (let n =
@@ -36,7 +36,7 @@ add_line-requires-clause-over c =
 
 pub add_line-requires-clause-m0 : goal.add_line-requires-clause-m0
 add_line-requires-clause-m0 c =
-    let rooms : MomentRooms c.loop-done.moments =
+    let rooms : HaveMomentRooms c.loop-done.moments =
     moment_rooms c.args.rule.now c.args.dims.now
     (placed c.args.from (numbers c.args.kind c.loop-done.done c.args.samples.now)) c.loop-done.moments c.requires.frame c.loop-done.invariant.moments
     (parts_small c.args.kind c.args.from c.loop-done.done c.args.samples.now c.type_inv.samples) (let n =
@@ -46,7 +46,7 @@ add_line-requires-clause-m0 c =
 
 pub add_line-requires-clause-mx : goal.add_line-requires-clause-mx
 add_line-requires-clause-mx c =
-    let rooms : MomentRooms c.loop-done.moments =
+    let rooms : HaveMomentRooms c.loop-done.moments =
     moment_rooms c.args.rule.now c.args.dims.now
     (placed c.args.from (numbers c.args.kind c.loop-done.done c.args.samples.now)) c.loop-done.moments c.requires.frame c.loop-done.invariant.moments
     (parts_small c.args.kind c.args.from c.loop-done.done c.args.samples.now c.type_inv.samples) (let n =
@@ -56,7 +56,7 @@ add_line-requires-clause-mx c =
 
 pub add_line-requires-clause-my : goal.add_line-requires-clause-my
 add_line-requires-clause-my c =
-    let rooms : MomentRooms c.loop-done.moments =
+    let rooms : HaveMomentRooms c.loop-done.moments =
     moment_rooms c.args.rule.now c.args.dims.now
     (placed c.args.from (numbers c.args.kind c.loop-done.done c.args.samples.now)) c.loop-done.moments c.requires.frame c.loop-done.invariant.moments
     (parts_small c.args.kind c.args.from c.loop-done.done c.args.samples.now c.type_inv.samples) (let n =
