@@ -4,4 +4,5 @@ mod Leasts
 mod Narrow
 mod Samples
 mod Squares
-mod Wraps
+mod Words
+pub mod Wraps

@@ -4,11 +4,11 @@ ghost use Rattle.std.specs.Prelude.{◌≡◌, ℕ, ◌+◌, ◌*◌, ◌/◌, �
 ghost use Rattle.std.specs.Int.{w32, w64, int_wrap};
 ghost use Rattle.std.specs.List.{range_with_len};
 ghost use Rattle.nd_base.specs.Samples.{width};
-ghost use Rattle.nd_base.specs.declared.array.SampleType.TheVariants.{UInt8};
+ghost use Rattle.nd_base.specs.declared.array.SampleType.TheVariants.{UInt8, UInt16};
 ghost use Rattle.lane_kernels.specs.Plain.{run};
 
-use crate::sample::{low_word, sample_at};
-use nd_base::SampleType;
+use crate::sample::{low_word, narrow_at, sample_at};
+use nd_base::{SampleType, word_at};
 use std::simd::prelude::*;
 
 /// The sum of the `bin` samples from a place on.
@@ -40,10 +40,10 @@ fn add_each(kind: SampleType, input: &[u8], bin: usize, place: usize, sums: &mut
     }
 }
 
-/// What is left in 32 bits of the sum of the `bin` samples from a place on.
+/// What is left in 32 bits of the sum of the `bin` samples from a place on, one by one.
 #[inline(always)]
 #[tactic(auto, using(crate::proofs::Wraps::wrapping))]
-fn low_run(kind: SampleType, input: &[u8], bin: usize, place: usize) -> i32
+fn low_run_each(kind: SampleType, input: &[u8], bin: usize, place: usize) -> i32
     requires { place + bin ≤ length input.now / width kind }
     ensures { result ≡ int_wrap w32 (run kind input.now bin place) }
 {
@@ -52,6 +52,47 @@ fn low_run(kind: SampleType, input: &[u8], bin: usize, place: usize) -> i32
         sum = sum.wrapping_add(low_word(sample_at(kind, input, place + j)));
     }
     sum
+}
+
+/// The sum of two samples of 16 bits without a sign, read as one word.
+#[inline(always)]
+fn sum_of_two(input: &[u8], place: usize) -> i32
+    requires { place + 2 ≤ length input.now / width UInt16 }
+    ensures { result ≡ run UInt16 input.now 2 place }
+{
+    let word = word_at(input, place * 2);
+    (word / 0x1_0000 + word % 0x1_0000) as i32
+}
+
+/// The same of samples of 16 bits without a sign, two by two.
+#[inline(always)]
+#[tactic(auto, using(crate::proofs::Wraps::wrapping))]
+fn low_run_by_two(input: &[u8], bin: usize, place: usize) -> i32
+    requires { place + bin ≤ length input.now / width UInt16 }
+    ensures { result ≡ int_wrap w32 (run UInt16 input.now bin place) }
+{
+    let mut sum = 0i32;
+    for j in 0..bin / 2 {
+        sum = sum.wrapping_add(sum_of_two(input, place + j * 2));
+    }
+    if bin % 2 == 0 {
+        sum
+    } else {
+        let last = narrow_at(SampleType::UInt16, input, place + bin - 1);
+        sum.wrapping_add(last)
+    }
+}
+
+/// What is left in 32 bits of the sum of the `bin` samples from a place on.
+#[inline(always)]
+fn low_run(kind: SampleType, input: &[u8], bin: usize, place: usize) -> i32
+    requires { place + bin ≤ length input.now / width kind }
+    ensures { result ≡ int_wrap w32 (run kind input.now bin place) }
+{
+    match kind {
+        SampleType::UInt16 => low_run_by_two(input, bin, place),
+        _ => low_run_each(kind, input, bin, place),
+    }
 }
 
 /// Adds `bin` samples to each sum of 32 bits, those from the line's start on to the first.

@@ -114,6 +114,7 @@ pub fn add_binned(kind: SampleType, line: &[u8], bin: u32, sums: &mut [i64])
 }
 
 /// The same with sums of 32 bits: what leaves them is lost.
+#[inline(never)]
 pub fn add_binned_low(kind: SampleType, line: &[u8], bin: u32, sums: &mut [i32])
     requires { length sums.old * bin ≤ length line.now / width kind }
     ensures { (k : ℕ) → k < length sums.new

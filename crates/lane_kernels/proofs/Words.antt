@@ -1,0 +1,77 @@
+-- Two samples of 16 bits in one word.
+use Rattle.std.proofs.Common.{◌≡◌, ◌≢◌, ℕ, ◌+◌, ◌-◌, ◌*◌, ◌/◌, ◌%◌, ◌≤◌, ℤ, pos, ◌+ℤ◌, List, [], ◌∷◌, length, get_or, take, drop, Fits, FitsSigned, w8}
+use Rattle.std.proofs.Common.{to_z, of_z, ap, sym, subst, ◌∙◌, arith}
+use Rattle.std.specs.Int.{w16, w32, from_be_bytes, int_wrap}
+use Rattle.std.proofs.Math.Facts.{of_z-to_z}
+use Rattle.std.proofs.lemmas.Int.{to_z_pos, wrapping_add_is, int_wrap-add_left, SFits-int_wrap, ints}
+use Rattle.std.proofs.lemmas.List.{drop-drop, length-drop}
+use Rattle.nd_base.specs.declared.array.SampleType.{SampleType}
+use Rattle.nd_base.specs.declared.array.SampleType.TheVariants.{UInt16}
+use Rattle.lane_kernels.specs.Plain.{stored, run}
+use Rattle.lane_kernels.proofs.Narrow.{narrow_stored}
+use Rattle.lane_kernels.proofs.Wraps.{sum_below-more}
+
+word_halves : (bs : List ℕ) → 4 ≤ length bs → from_be_bytes w32 (take 4 bs) ≡ from_be_bytes w16 (take 2 bs) * 65536 + from_be_bytes w16 (take 2 (drop 2 bs))
+word_halves [] h = absurd (omega arith)
+word_halves (a ∷ []) h = absurd (omega arith)
+word_halves (a ∷ b ∷ []) h = absurd (omega arith)
+word_halves (a ∷ b ∷ c ∷ []) h = absurd (omega arith)
+word_halves (a ∷ b ∷ c ∷ d ∷ bs) h = omega arith
+
+halves_sum : (word high low : ℕ) → word ≡ high * 65536 + low → low ≤ 65535 → word / 65536 + word % 65536 ≡ high + low
+halves_sum word high low e h = omega arith
+
+-- the two numbers in the four bytes at a place
+module _ (input : List ℕ) (place : ℕ) (fit : (i : ℕ) → Fits w8 (get_or input i 0)) where
+  abbrev first : ℕ
+  first = from_be_bytes w16 (take 2 (drop (place * 2) input))
+  abbrev second : ℕ
+  second = from_be_bytes w16 (take 2 (drop ((place + 1) * 2) input))
+
+  pub two_in_word : (word : ℕ) → word ≡ from_be_bytes w32 (take 4 (drop (place * 2) input)) → place * 2 + 4 ≤ length input
+      → to_z w32 (word / 65536 + word % 65536) ≡ run UInt16 input 2 place
+  two_in_word word e within =
+      let bs = drop (place * 2) input in
+      let long = length-drop (place * 2) input in
+      let there : place * 2 + 2 ≡ (place + 1) * 2 = omega arith in
+      let next : drop 2 bs ≡ drop ((place + 1) * 2) input = drop-drop 2 (place * 2) input ∙ ap (λ n. drop n input) there in
+      let high = narrow_stored UInt16 input place fit (omega arith) in
+      let low = narrow_stored UInt16 input (place + 1) fit (omega arith) in
+      let split : word ≡ first * 65536 + second = e ∙ word_halves bs (omega arith) ∙ ap (λ l. first * 65536 + from_be_bytes w16 (take 2 l)) next in
+      let both = halves_sum word first second split low in
+      let here : place ≡ place + 0 = omega arith in
+      let sum : first + second ≡ 0 + first + second = omega arith in
+      ap (to_z w32) both ∙ to_z_pos w32 (first + second) (omega (arith, high, low)) ∙ ap pos sum
+      ∙ ap (λ p. pos (0 + from_be_bytes w16 (take 2 (drop (p * 2) input)) + second)) here
+
+regrouped : (r a b : ℤ) → r +ℤ a +ℤ b ≡ r +ℤ (pos 0 +ℤ a +ℤ b)
+regrouped r a b = omega (arith, ints)
+
+-- two samples more
+pub run-two : (kind : SampleType) (bytes : List ℕ) (j p : ℕ) → run kind bytes ((j + 1) * 2) p ≡ run kind bytes (j * 2) p +ℤ run kind bytes 2 (p + j * 2)
+run-two kind bytes j p =
+    let f : ℕ → ℤ = λ i. stored kind bytes (p + i) in
+    let more : (j + 1) * 2 ≡ j * 2 + 1 + 1 = omega arith in
+    let first : p + j * 2 ≡ p + j * 2 + 0 = omega arith in
+    let second : p + (j * 2 + 1) ≡ p + j * 2 + 1 = omega arith in
+    ap (λ n. run kind bytes n p) more ∙ sum_below-more (j * 2 + 1) f ∙ ap (λ z. z +ℤ f (j * 2 + 1)) (sum_below-more (j * 2) f)
+    ∙ ap (λ q. run kind bytes (j * 2) p +ℤ stored kind bytes q +ℤ f (j * 2 + 1)) first
+    ∙ ap (λ q. run kind bytes (j * 2) p +ℤ stored kind bytes (p + j * 2 + 0) +ℤ stored kind bytes q) second
+    ∙ regrouped (run kind bytes (j * 2) p) (stored kind bytes (p + j * 2 + 0)) (stored kind bytes (p + j * 2 + 1))
+
+-- an odd number of samples
+pub run-last : (kind : SampleType) (bytes : List ℕ) (bin p : ℕ) → bin % 2 ≢ 0
+    → run kind bytes bin p ≡ run kind bytes (bin / 2 * 2) p +ℤ stored kind bytes (p + bin - 1)
+run-last kind bytes bin p odd =
+    let before : bin ≡ bin / 2 * 2 + 1 = omega arith in
+    let last : p + bin / 2 * 2 ≡ p + bin - 1 = omega arith in
+    ap (λ n. run kind bytes n p) before ∙ sum_below-more (bin / 2 * 2) (λ j. stored kind bytes (p + j))
+    ∙ ap (λ q. run kind bytes (bin / 2 * 2) p +ℤ stored kind bytes q) last
+
+-- what is kept of a sum with more
+pub kept_more : (bits : ℕ) (before more : ℤ) → Fits w32 bits → FitsSigned w32 more → to_z w32 bits ≡ int_wrap w32 before
+    → to_z w32 ((bits + of_z w32 more) % 4294967296) ≡ int_wrap w32 (before +ℤ more)
+kept_more bits before more f g e =
+    let same = of_z-to_z f in
+    ap (λ b. to_z w32 ((b + of_z w32 more) % 4294967296)) (sym same) ∙ wrapping_add_is w32 (to_z w32 bits) more (subst (FitsSigned w32) (sym e) (SFits-int_wrap w32 before)) g
+    ∙ ap (λ z. int_wrap w32 (z +ℤ more)) e ∙ int_wrap-add_left w32 before more

@@ -1,0 +1,8 @@
+use Rattle.std.proofs.Common.{◌≡◌, ◌*◌}
+use Rattle.std.specs.Int.{w32, int_wrap}
+use Rattle.nd_base.specs.declared.array.SampleType.TheVariants.{UInt16}
+use Rattle.lane_kernels.specs.Plain.{run}
+use Rattle.lane_kernels.proofs.binned.low_run_by_two.Given as goal
+
+abbrev pub invariant-loop-j : goal.invariant-loop-j
+invariant-loop-j l = l.sum ≡ int_wrap w32 (run UInt16 l.input (l.j * 2) l.place)
