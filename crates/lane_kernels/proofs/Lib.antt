@@ -1,8 +1,9 @@
 mod Blocks
 mod BytePairs
 mod Leasts
+mod Middles
 mod Narrow
 mod Samples
 mod Squares
-mod Words
+mod Twos
 pub mod Wraps

@@ -11,6 +11,7 @@ mod binned;
 mod extremes;
 mod sample;
 mod sums;
+mod words;
 
 use nd_base::SampleType;
 pub use sample::{low_word, sample_at};
@@ -45,6 +46,19 @@ pub fn squares_bytes(kind: SampleType, samples: &[u8]) -> u128
         SampleType::UInt16 => sums::squares(SampleType::UInt16, samples),
         SampleType::Int32 => sums::squares(SampleType::Int32, samples),
         SampleType::UInt32 => sums::squares(SampleType::UInt32, samples),
+    }
+}
+
+/// The sum of the samples, and that of their squares.
+pub fn sums_bytes(kind: SampleType, samples: &[u8]) -> (i64, u128)
+    requires whole { length samples.now % width kind ≡ 0 }
+    requires few { length samples.now / width kind ≤ most_samples }
+    ensures sum { result.0 ≡ total (samples_of kind samples.now) }
+    ensures squares { result.1 ≡ squares (samples_of kind samples.now) }
+{
+    match kind {
+        SampleType::UInt16 => words::sum_and_squares(samples),
+        _ => (sum_bytes(kind, samples), squares_bytes(kind, samples)),
     }
 }
 

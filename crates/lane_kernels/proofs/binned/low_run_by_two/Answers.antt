@@ -2,7 +2,7 @@ use Rattle.std.proofs.Common.{rules, ◌*◌, ◌/◌, ◌≡◌, ◌+ℤ◌, Fi
 use Rattle.std.specs.Int.{w32, int_wrap}
 use Rattle.nd_base.specs.declared.array.SampleType.TheVariants.{UInt16}
 use Rattle.lane_kernels.specs.Plain.{run}
-use Rattle.lane_kernels.proofs.Words.{run-two, run-last, kept_more}
+use Rattle.lane_kernels.proofs.Twos.{run-two, run-last, kept_more}
 use Rattle.lane_kernels.proofs.binned.low_run_by_two.Goals as goal
 
 pub loop-j-preserved : goal.loop-j-preserved

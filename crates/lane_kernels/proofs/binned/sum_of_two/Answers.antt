@@ -1,5 +1,5 @@
 use Rattle.std.proofs.Common.{arith}
-use Rattle.lane_kernels.proofs.Words.{two_in_word}
+use Rattle.lane_kernels.proofs.Twos.{two_in_word}
 use Rattle.lane_kernels.proofs.binned.sum_of_two.Goals as goal
 
 pub returns : goal.returns

@@ -2,13 +2,14 @@
 use Rattle.std.proofs.Common.{◌≡◌, ◌≢◌, ℕ, ◌+◌, ◌-◌, ◌*◌, ◌/◌, ◌%◌, ◌≤◌, ℤ, pos, ◌+ℤ◌, List, [], ◌∷◌, length, get_or, take, drop, Fits, FitsSigned, w8}
 use Rattle.std.proofs.Common.{to_z, of_z, ap, sym, subst, ◌∙◌, arith}
 use Rattle.std.specs.Int.{w16, w32, from_be_bytes, int_wrap}
+use Rattle.std.specs.Prelude.{unsigned_abs}
 use Rattle.std.proofs.Math.Facts.{of_z-to_z}
 use Rattle.std.proofs.lemmas.Int.{to_z_pos, wrapping_add_is, int_wrap-add_left, SFits-int_wrap, ints}
 use Rattle.std.proofs.lemmas.List.{drop-drop, length-drop}
 use Rattle.nd_base.specs.declared.array.SampleType.{SampleType}
 use Rattle.nd_base.specs.declared.array.SampleType.TheVariants.{UInt16}
-use Rattle.lane_kernels.specs.Plain.{stored, run}
-use Rattle.lane_kernels.proofs.Narrow.{narrow_stored}
+use Rattle.lane_kernels.specs.Plain.{stored, run, square_run}
+use Rattle.lane_kernels.proofs.Narrow.{narrow_stored, square_run-more}
 use Rattle.lane_kernels.proofs.Wraps.{sum_below-more}
 
 word_halves : (bs : List ℕ) → 4 ≤ length bs → from_be_bytes w32 (take 4 bs) ≡ from_be_bytes w16 (take 2 bs) * 65536 + from_be_bytes w16 (take 2 (drop 2 bs))
@@ -21,6 +22,12 @@ word_halves (a ∷ b ∷ c ∷ d ∷ bs) h = omega arith
 halves_sum : (word high low : ℕ) → word ≡ high * 65536 + low → low ≤ 65535 → word / 65536 + word % 65536 ≡ high + low
 halves_sum word high low e h = omega arith
 
+high_half : (word high low : ℕ) → word ≡ high * 65536 + low → low ≤ 65535 → word / 65536 ≡ high
+high_half word high low e h = omega (arith, e, h)
+
+low_half : (word high low : ℕ) → word ≡ high * 65536 + low → low ≤ 65535 → word % 65536 ≡ low
+low_half word high low e h = omega (arith, e, h)
+
 -- the two numbers in the four bytes at a place
 module _ (input : List ℕ) (place : ℕ) (fit : (i : ℕ) → Fits w8 (get_or input i 0)) where
   abbrev first : ℕ
@@ -28,21 +35,36 @@ module _ (input : List ℕ) (place : ℕ) (fit : (i : ℕ) → Fits w8 (get_or i
   abbrev second : ℕ
   second = from_be_bytes w16 (take 2 (drop ((place + 1) * 2) input))
 
-  pub two_in_word : (word : ℕ) → word ≡ from_be_bytes w32 (take 4 (drop (place * 2) input)) → place * 2 + 4 ≤ length input
-      → to_z w32 (word / 65536 + word % 65536) ≡ run UInt16 input 2 place
-  two_in_word word e within =
-      let bs = drop (place * 2) input in
-      let long = length-drop (place * 2) input in
-      let there : place * 2 + 2 ≡ (place + 1) * 2 = omega arith in
-      let next : drop 2 bs ≡ drop ((place + 1) * 2) input = drop-drop 2 (place * 2) input ∙ ap (λ n. drop n input) there in
-      let high = narrow_stored UInt16 input place fit (omega arith) in
-      let low = narrow_stored UInt16 input (place + 1) fit (omega arith) in
-      let split : word ≡ first * 65536 + second = e ∙ word_halves bs (omega arith) ∙ ap (λ l. first * 65536 + from_be_bytes w16 (take 2 l)) next in
-      let both = halves_sum word first second split low in
-      let here : place ≡ place + 0 = omega arith in
-      let sum : first + second ≡ 0 + first + second = omega arith in
-      ap (to_z w32) both ∙ to_z_pos w32 (first + second) (omega (arith, high, low)) ∙ ap pos sum
-      ∙ ap (λ p. pos (0 + from_be_bytes w16 (take 2 (drop (p * 2) input)) + second)) here
+  module _ (word : ℕ) (e : word ≡ from_be_bytes w32 (take 4 (drop (place * 2) input))) (within : place * 2 + 4 ≤ length input) where
+    split : word ≡ first * 65536 + second
+    split =
+        let bs = drop (place * 2) input in
+        let long = length-drop (place * 2) input in
+        let there : place * 2 + 2 ≡ (place + 1) * 2 = omega arith in
+        let next : drop 2 bs ≡ drop ((place + 1) * 2) input = drop-drop 2 (place * 2) input ∙ ap (λ n. drop n input) there in
+        e ∙ word_halves bs (omega arith) ∙ ap (λ l. first * 65536 + from_be_bytes w16 (take 2 l)) next
+
+    -- each of them
+    pub parts_of_word : (word / 65536 ≡ unsigned_abs (stored UInt16 input place)) × (word % 65536 ≡ unsigned_abs (stored UInt16 input (place + 1)))
+    parts_of_word =
+        let low = narrow_stored UInt16 input (place + 1) fit (omega arith) in
+        (high_half word first second split low, low_half word first second split low)
+
+    -- their sum
+    pub two_of_word : pos (word / 65536 + word % 65536) ≡ run UInt16 input 2 place
+    two_of_word =
+        let low = narrow_stored UInt16 input (place + 1) fit (omega arith) in
+        let both = halves_sum word first second split low in
+        let here : place ≡ place + 0 = omega arith in
+        let sum : first + second ≡ 0 + first + second = omega arith in
+        ap pos (both ∙ sum) ∙ ap (λ p. pos (0 + from_be_bytes w16 (take 2 (drop (p * 2) input)) + second)) here
+
+    pub two_in_word : to_z w32 (word / 65536 + word % 65536) ≡ run UInt16 input 2 place
+    two_in_word =
+        let high = narrow_stored UInt16 input place fit (omega arith) in
+        let low = narrow_stored UInt16 input (place + 1) fit (omega arith) in
+        let both = halves_sum word first second split low in
+        to_z_pos w32 (word / 65536 + word % 65536) (omega (arith, high, low, both)) ∙ two_of_word
 
 regrouped : (r a b : ℤ) → r +ℤ a +ℤ b ≡ r +ℤ (pos 0 +ℤ a +ℤ b)
 regrouped r a b = omega (arith, ints)
@@ -58,6 +80,15 @@ run-two kind bytes j p =
     ∙ ap (λ q. run kind bytes (j * 2) p +ℤ stored kind bytes q +ℤ f (j * 2 + 1)) first
     ∙ ap (λ q. run kind bytes (j * 2) p +ℤ stored kind bytes (p + j * 2 + 0) +ℤ stored kind bytes q) second
     ∙ regrouped (run kind bytes (j * 2) p) (stored kind bytes (p + j * 2 + 0)) (stored kind bytes (p + j * 2 + 1))
+
+-- the squares of two samples more
+pub square_run-two : (kind : SampleType) (bytes : List ℕ) (j p : ℕ) → square_run kind bytes ((j + 1) * 2) p
+    ≡ square_run kind bytes (j * 2) p + unsigned_abs (stored kind bytes (p + j * 2)) * unsigned_abs (stored kind bytes (p + j * 2))
+    + unsigned_abs (stored kind bytes (p + (j * 2 + 1))) * unsigned_abs (stored kind bytes (p + (j * 2 + 1)))
+square_run-two kind bytes j p =
+    let more : (j + 1) * 2 ≡ j * 2 + 1 + 1 = omega arith in
+    let last = unsigned_abs (stored kind bytes (p + (j * 2 + 1))) in
+    ap (λ n. square_run kind bytes n p) more ∙ square_run-more kind (j * 2 + 1) p bytes ∙ ap (λ n. n + last * last) (square_run-more kind (j * 2) p bytes)
 
 -- an odd number of samples
 pub run-last : (kind : SampleType) (bytes : List ℕ) (bin p : ℕ) → bin % 2 ≢ 0
