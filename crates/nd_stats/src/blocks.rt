@@ -10,7 +10,7 @@ use crate::extremes::with_block;
 use crate::lines::moments_of;
 use crate::sample::part;
 use crate::tally::{Extremes, Moments};
-use lane_kernels::{sample_at, squares_bytes, sum_bytes};
+use lane_kernels::{sample_at, sums_bytes};
 use nd_base::{Dim, SampleType, StatsRule};
 
 /// The numbers of samples that are in none of a measure's lists.
@@ -80,8 +80,9 @@ pub(crate) fn basics_of(
         let place = from + done as u32;
         let block = part(kind, samples, done, size);
         extremes = with_block(&extremes, kind, block, place);
-        total += sum_bytes(kind, block);
-        squares += squares_bytes(kind, block);
+        let (more, more_squares) = sums_bytes(kind, block);
+        total += more;
+        squares += more_squares;
         moments.join(&moments_of(rule, kind, dims, place, block));
         done += size;
     }

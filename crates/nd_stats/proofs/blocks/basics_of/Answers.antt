@@ -22,13 +22,13 @@ overflow_add-total c =
     let at = c.loop-done.done * width kind in
     let rest = drop at c.args.samples.now in
     let a : ℤ = to_z w64 c.loop-done.total-bits in
-    let b : ℤ = c.sum_bytes-total.result in
+    let b : ℤ = c.sums_bytes-more.result.0 in
     let count : length c.args.samples.now / c.width.result ≡ length c.args.samples.now / width kind = ap (λ w. length c.args.samples.now / w) c.width.ensures in
     let ha = block_total kind c.args.from c.loop-done.done c.args.samples.now c.type_inv.samples
     (omega (arith, count, c.loop-done.invariant.done, c.requires.within, c.requires.frame.few)) a c.loop-done.invariant.total in
     let hb = block_total kind 0 c.min-size.result rest (fit_behind at c.args.samples.now c.type_inv.samples)
     (omega (arith, count, c.min-size.ensures, c.requires.within, c.requires.frame.few)) b
-    (c.sum_bytes-total.ensures ∙ ap total c.part-block.ensures.values ∙ total_placed 0 (numbers kind c.min-size.result rest)) in
+    (c.sums_bytes-more.ensures.sum ∙ ap total c.part-block.ensures.values ∙ total_placed 0 (numbers kind c.min-size.result rest)) in
     rw (to_z-of_z w64 b (fits_room b hb)) (fits_rooms a b ha hb)
 
 pub overflow_add-squares : goal.overflow_add-squares
@@ -40,8 +40,8 @@ overflow_add-squares c =
     let ha = block_squares kind c.args.from c.loop-done.done c.args.samples.now c.type_inv.samples
     (omega (arith, count, c.loop-done.invariant.done, c.requires.within, c.requires.frame.few)) c.loop-done.squares c.loop-done.invariant.squares in
     let hb = block_squares kind 0 c.min-size.result rest (fit_behind at c.args.samples.now c.type_inv.samples)
-    (omega (arith, count, c.min-size.ensures, c.requires.within, c.requires.frame.few)) c.squares_bytes-squares.result
-    (c.squares_bytes-squares.ensures ∙ ap squares c.part-block.ensures.values ∙ squares_placed 0 (numbers kind c.min-size.result rest)) in
+    (omega (arith, count, c.min-size.ensures, c.requires.within, c.requires.frame.few)) c.sums_bytes-more.result.1
+    (c.sums_bytes-more.ensures.squares ∙ ap squares c.part-block.ensures.values ∙ squares_placed 0 (numbers kind c.min-size.result rest)) in
     record { fits = omega (arith, ha, hb) }
 
 pub join-requires-clause-one : goal.join-requires-clause-one
@@ -83,20 +83,20 @@ loop-done-preserved c =
     let both : placed from (numbers kind (k + m) bytes) ≡ xs ++ ys =
     parts-more kind from k m bytes ∙ ap (λ vs. xs ++ placed (from + k) vs) (sym c.part-block.ensures.values) in
     let a : ℤ = to_z w64 c.loop-done.total-bits in
-    let b : ℤ = c.sum_bytes-total.result in
+    let b : ℤ = c.sums_bytes-more.result.0 in
     let ha = block_total kind from k bytes c.type_inv.samples (omega (arith, count, c.loop-done.invariant.done, c.requires.within, c.requires.frame.few)) a
     c.loop-done.invariant.total in
     let hb = block_total kind 0 m rest (fit_behind at bytes c.type_inv.samples) (omega (arith, count, c.min-size.ensures, c.requires.within, c.requires.frame.few)) b
-    (c.sum_bytes-total.ensures ∙ ap total c.part-block.ensures.values ∙ total_placed 0 (numbers kind m rest)) in
+    (c.sums_bytes-more.ensures.sum ∙ ap total c.part-block.ensures.values ∙ total_placed 0 (numbers kind m rest)) in
     record {
       done = omega (arith, count, c.min-size.ensures, c.loop-done-test.true);
       extremes = subst (λ zs. AreExtremes first zs c.with_block-extremes.result) (sym both) (c.with_block-extremes.ensures first xs
           c.loop-done.invariant.extremes);
       total = room_more a b ha hb ∙ ap (λ z. z +ℤ b) c.loop-done.invariant.total
-          ∙ ap (λ z. sum_of (λ t. t.value) xs +ℤ z) (c.sum_bytes-total.ensures ∙ total_placed (from + k) (samples_of kind block))
+          ∙ ap (λ z. sum_of (λ t. t.value) xs +ℤ z) (c.sums_bytes-more.ensures.sum ∙ total_placed (from + k) (samples_of kind block))
           ∙ sym (sum_of-append (λ t. t.value) xs ys) ∙ ap (sum_of (λ t. t.value)) (sym both);
-      squares = ap (λ n. n + c.squares_bytes-squares.result) c.loop-done.invariant.squares
-          ∙ ap (λ n. sum_by (λ t. square t.value) xs + n) (c.squares_bytes-squares.ensures ∙ squares_placed (from + k) (samples_of kind block))
+      squares = ap (λ n. n + c.sums_bytes-more.result.1) c.loop-done.invariant.squares
+          ∙ ap (λ n. sum_by (λ t. square t.value) xs + n) (c.sums_bytes-more.ensures.squares ∙ squares_placed (from + k) (samples_of kind block))
           ∙ sym (sum_by-append (λ (t : Sample). square t.value) xs ys) ∙ ap (sum_by (λ t. square t.value)) (sym both);
       moments = subst (λ zs. AreMoments rule dims zs c.join.new.self) (sym both)
           (moments_both rule dims xs ys c.loop-done.moments c.moments_of.result c.join.new.self c.loop-done.invariant.moments c.moments_of.ensures
