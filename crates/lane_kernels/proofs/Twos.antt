@@ -32,6 +32,7 @@ low_half word high low e h = omega (arith, e, h)
 module _ (input : List ℕ) (place : ℕ) (fit : (i : ℕ) → Fits w8 (get_or input i 0)) where
   abbrev first : ℕ
   first = from_be_bytes w16 (take 2 (drop (place * 2) input))
+
   abbrev second : ℕ
   second = from_be_bytes w16 (take 2 (drop ((place + 1) * 2) input))
 

@@ -51,7 +51,12 @@ fn greater(kind: SampleType, block: &[u8], place: u32, value: i64, at: u32) -> (
 }
 
 /// The extremes with those of a block behind the other samples, which begins at `place`.
-pub(crate) fn with_block(extremes: &Extremes, kind: SampleType, block: &[u8], place: u32) -> Extremes
+pub(crate) fn with_block(
+    extremes: &Extremes,
+    kind: SampleType,
+    block: &[u8],
+    place: u32,
+) -> Extremes
     requires some { 0 < length block.now / width kind }
     requires few { place + length block.now / width kind ≤ most_samples }
     ensures { (first : Sample) → (xs : List Sample) → AreExtremes first xs extremes.now
