@@ -1,5 +1,4 @@
-use Rattle.std.proofs.Common.{◌≡◌, ℕ, ◌+◌, ◌*◌, ◌/◌, ◌<◌, ◌≤◌, ◌^◌, ◌++◌, ℤ, ◌+ℤ◌, Fits, w64, length, take, drop, arith, ap, sym, subst, ◌∙◌, to_z, sum_by}
-use Rattle.std.specs.Int.{w128}
+use Rattle.std.proofs.Common.{◌≡◌, ℕ, ◌+◌, ◌*◌, ◌/◌, ◌++◌, ℤ, ◌+ℤ◌, w64, length, take, drop, arith, ap, sym, subst, ◌∙◌, to_z, sum_by}
 use Rattle.std.proofs.lemmas.List.Sums.{sum_by-append}
 use Rattle.std.proofs.lemmas.Int.{to_z-of_z}
 use Rattle.lane_kernels.specs.Plain.{total, squares}
