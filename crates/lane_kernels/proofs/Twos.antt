@@ -105,5 +105,6 @@ pub kept_more : (bits : ℕ) (before more : ℤ) → Fits w32 bits → FitsSigne
     → to_z w32 ((bits + of_z w32 more) % 4294967296) ≡ int_wrap w32 (before +ℤ more)
 kept_more bits before more f g e =
     let same = of_z-to_z f in
-    ap (λ b. to_z w32 ((b + of_z w32 more) % 4294967296)) (sym same) ∙ wrapping_add_is w32 (to_z w32 bits) more (subst (FitsSigned w32) (sym e) (SFits-int_wrap w32 before)) g
+    let kept : FitsSigned w32 (to_z w32 bits) = subst (FitsSigned w32) (sym e) (SFits-int_wrap w32 before) in
+    ap (λ b. to_z w32 ((b + of_z w32 more) % 4294967296)) (sym same) ∙ wrapping_add_is w32 (to_z w32 bits) more kept g
     ∙ ap (λ z. int_wrap w32 (z +ℤ more)) e ∙ int_wrap-add_left w32 before more

@@ -85,7 +85,8 @@ loop-done-preserved c =
     let b : ℤ = c.sums_bytes-more.result.0 in
     let ha = block_total kind from k bytes c.type_inv.samples (omega (arith, count, c.loop-done.invariant.done, c.requires.within, c.requires.frame.few)) a
     c.loop-done.invariant.total in
-    let hb = block_total kind 0 m rest (fit_behind at bytes c.type_inv.samples) (omega (arith, count, c.min-size.ensures, c.requires.within, c.requires.frame.few)) b
+    let hb = block_total kind 0 m rest (fit_behind at bytes c.type_inv.samples)
+    (omega (arith, count, c.min-size.ensures, c.requires.within, c.requires.frame.few)) b
     (c.sums_bytes-more.ensures.sum ∙ ap total c.part-block.ensures.values ∙ total_placed 0 (numbers kind m rest)) in
     record {
       done = omega (arith, count, c.min-size.ensures, c.loop-done-test.true);
