@@ -13,4 +13,4 @@ mod variables;
 
 pub use header::{TooLarge, header_bytes};
 pub use lengths::{file_length, length_with};
-pub use row::row_bytes;
+pub use row::{push_row, row_bytes};
