@@ -92,6 +92,27 @@ HasRows-with_more (Some m) file arrays a h = record {
       ∙ ap Some (sym (begun_file-more file.shape file.numrecs arrays a));
 }
 
+-- the rows of some arrays more
+pub begun_file-rows : (shape : FileShape) (numrecs : Option ℕ) (arrays more : List Array)
+    → begun_file shape numrecs (arrays ++ more) ≡ begun_file shape numrecs arrays ++ flat_map (row shape) more
+begun_file-rows shape numrecs arrays more =
+    ap (λ rows. header shape numrecs ++ rows) (flat_map-append (row shape) arrays more)
+    ∙ sym (append_assoc (header shape numrecs) (flat_map (row shape) arrays) (flat_map (row shape) more))
+
+-- and as many rows added
+pub HasRows-rows : (t : Option Files) (file : Stream) (arrays more : List Array) → HasRows t file arrays →
+    HasRows (with_more t file.name (flat_map (row file.shape) more)) (record file { count = file.count + length more }) (arrays ++ more)
+HasRows-rows None file arrays more h = record {
+  all = length-append arrays more ∙ ap (λ n. n + length more) h.all;
+  bytes = tt;
+}
+HasRows-rows (Some m) file arrays more h = record {
+  all = length-append arrays more ∙ ap (λ n. n + length more) h.all;
+  bytes =
+      file_at-with_more_same (Some m) file.name (flat_map (row file.shape) more) (begun_file file.shape file.numrecs arrays) h.bytes
+      ∙ ap Some (sym (begun_file-rows file.shape file.numrecs arrays more));
+}
+
 -- the number of records put in, or there from the start
 by_numrecs : (m : Option Files) (name : List ℕ) (shape : FileShape) (numrecs : Option ℕ) (arrays : List Array) → ForSome numrecs (λ n. n ≡ length arrays)
     → HasFile m name (begun_file shape numrecs arrays) →

@@ -1,12 +1,13 @@
 //! Files that are written one frame after the other.
 
 ghost use Rattle.std.specs.Prelude.{◌≡◌, ◌≢◌, ◌+◌, ◌<◌, ◌≤◌, ◌++◌, ◌∷◌, [], ℕ, List, length, string_bytes, IfOk, IfErr, OnOk, OnErr};
+ghost use Rattle.std.specs.List.{flat_map};
 ghost use Rattle.std.specs.Option.{ForSome};
 ghost use Rattle.nd_base.specs.Array.{Array};
 ghost use Rattle.nd_base.specs.Forms.{longest_of};
 ghost use Rattle.nd_base.specs.Shapes.{array_of};
 ghost use Rattle.edge_traits.specs.Faults.{Counts};
-ghost use Rattle.edge_traits.specs.Files.{file_at, with_file, with_more, HasFile, HasRange, Stands};
+ghost use Rattle.edge_traits.specs.Files.{file_at, with_file, with_more, HasFile, HasRange, MayAppend, Stands};
 ghost use Rattle.cdf_write.specs.Layout.{header, layout, row};
 ghost use Rattle.cdf_write.specs.Lengths.{length_of};
 ghost use Rattle.cdf_write.specs.Writable.{IsWritable};
@@ -163,6 +164,36 @@ impl StreamFile {
         let row = row_bytes(alloc, &self.shape, head, samples)?;
         shelf.append(self.name.text(), &row)?;
         self.count += 1;
+        Ok(())
+    }
+
+    /// Appends the rows of the next arrays, as many as `count` says, in one piece. It takes no memory.
+    ///
+    /// # Errors
+    ///
+    /// `Failed` alone, where the shelf failed: its count of faults rose, and a front of the rows was added. The stream
+    /// itself counts rows that were added whole.
+    pub fn add_rows<K: Shelf>(
+        &mut self,
+        shelf: &mut K,
+        rows: &[u8],
+        count: u32,
+    ) -> Result<(), SaveFault>
+        requires room { self.old.count + count ≤ self.old.room }
+        requires rows { (arrays : List Array) × (length arrays ≡ count) × (rows.now ≡ flat_map (row self.old.shape) arrays) }
+        requires stands { Stands (K.held shelf.old) self.old.name }
+        ensures ok { OnOk result (K.held shelf.new ≡ with_more (K.held shelf.old) self.old.name rows.now) }
+        ensures counted { OnOk result (self.new ≡ record self.old { count = self.old.count + count }) }
+        ensures rows { OnOk result ((arrays more : List Array) → length more ≡ count → rows.now ≡ flat_map (row self.old.shape) more
+            → HasRows (K.held shelf.old) self.old arrays → HasRows (K.held shelf.new) self.new (arrays ++ more)) }
+        ensures stays { OnErr result (self.new ≡ self.old) }
+        ensures failed { IfErr result (λ fault. fault ≡ faults.Failed) }
+        ensures err { OnErr result (MayAppend (K.held shelf.old) self.old.name rows.now (K.held shelf.new)) }
+        ensures others { (q : List ℕ) → q ≢ self.old.name → file_at (K.held shelf.new) q ≡ file_at (K.held shelf.old) q }
+        ensures cause { IsSaveCause result (K.faults shelf.old) (K.faults shelf.new) }
+    {
+        shelf.append(self.name.text(), rows)?;
+        self.count += count;
         Ok(())
     }
 
