@@ -1,6 +1,6 @@
 -- What an append of a part of a piece leaves.
 use Rattle.std.proofs.Common.{◌≡◌, ℕ, zero, suc, List, [], ◌∷◌, take, Option, Result, Ok, Err, OnOk, OnErr, refl, ap, ◌∙◌}
-use Rattle.edge_traits.specs.Files.{Files, with_more, Stands, MayAppend}
+use Rattle.edge_traits.specs.Files.{Files, with_more, MayAppend}
 
 -- a front of a front is a front
 take_twice : (k n : ℕ) (xs : List ℕ) → (m : ℕ) × (take k (take n xs) ≡ take m xs)

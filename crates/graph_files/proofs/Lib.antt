@@ -4,3 +4,5 @@ pub mod Writes
 pub mod Ends
 pub mod BegunBytes
 pub mod PlainNames
+pub mod PutBack
+pub mod RowsInTurn

@@ -10,6 +10,7 @@ pub mod NodeFiles
 pub mod NameLaws
 pub mod GroupLaws
 pub mod NodeFileLaws
+pub mod InTurn
 pub mod OpenFiles
 pub mod OpenFileLaws
 pub mod EndedFiles

@@ -1,14 +1,15 @@
 //! The files of a file node, which get its arrays one after the other.
 
-ghost use Rattle.std.specs.Prelude.{◌≡◌, ◌≢◌, ◌+◌, ◌<◌, ◌≤◌, ◌^◌, ◌/◌, ◌++◌, ◌∷◌, [], ℕ, List, None, Some, nat_lt, min, codes, length, string_bytes, IfOk};
+ghost use Rattle.std.specs.Prelude.{◌≡◌, ◌≢◌, ◌+◌, ◌-◌, ◌<◌, ◌≤◌, ◌^◌, ◌/◌, ◌++◌, ◌∷◌, [], ℕ, List, None, Some, nat_lt, min, codes, length, string_bytes, IfOk};
 ghost use Rattle.std.specs.Prelude.{IfErr, OnOk, OnErr};
+ghost use Rattle.std.specs.List.{flat_map};
 ghost use Rattle.std.specs.Option.{ForSome};
 ghost use Rattle.nd_base.specs.Array.{Array};
 ghost use Rattle.nd_base.specs.Forms.{longest_of};
 ghost use Rattle.nd_base.specs.Shapes.{array_of};
 ghost use Rattle.nd_base.specs.GraphRules.{IsGraph, IsFile};
 ghost use Rattle.edge_traits.specs.Files.{file_at, with_file};
-ghost use Rattle.cdf_write.specs.Layout.{header};
+ghost use Rattle.cdf_write.specs.Layout.{header, row};
 ghost use Rattle.cdf_write.specs.Lengths.{length_of};
 ghost use Rattle.nd_stack.specs.KeptStacks.{IsKeptStack};
 ghost use Rattle.chain_plain.specs.Plans.{plan_of};
@@ -17,6 +18,7 @@ ghost use Rattle.file_out.specs.Saving.{BeginStops, IsSaveCause};
 ghost use Rattle.file_out.specs.declared.fault.SaveFault.TheVariants as faults;
 ghost use Rattle.graph_files.specs.OutFiles.{form_at, file_shape, group_number, is_stream};
 ghost use Rattle.graph_files.specs.Groups.{group_of};
+ghost use Rattle.graph_files.specs.InTurn.{AreReady, GoOrStop, RowsGo, RowsStop};
 ghost use Rattle.graph_files.specs.NodeFiles.{node_file, name_of, first_count, stream_of, IsPlaceAfter, AreWritten, AreEnded, IsFilled, IsSized};
 ghost use Rattle.graph_files.specs.NodeFiles.{HasNumrecs, IsChangedAt, WriteStops, EndStops, RowGoes, RowStops};
 
@@ -132,6 +134,13 @@ impl NodeFiles {
         self.count
     }
 
+    /// The shape of the arrays.
+    pub fn shape(&self) -> &FileShape
+        ensures { result.now ≡ self.now.shape }
+    {
+        &self.shape
+    }
+
     /// Begins the file of a group.
     fn begin<K: Shelf>(
         &self,
@@ -245,6 +254,74 @@ impl NodeFiles {
             None => {
                 let file = self.begin(alloc, shelf, group, of)?;
                 self.add_row(alloc, shelf, file, place, head, samples)
+            }
+        }
+    }
+
+    /// Appends the rows of so many arrays to a group's file, and ends it with the group's last array.
+    fn put_rows<K: Shelf>(
+        &mut self,
+        shelf: &mut K,
+        file: StreamFile,
+        place: u32,
+        rows: &[u8],
+        count: u32,
+    ) -> Result<(), SaveFault>
+        requires none { self.old.current ≡ None }
+        requires some { 1 ≤ count }
+        requires room { (file.room ≡ self.old.room) × (file.count ≡ place) × (place + count ≤ self.old.room) }
+        requires numrecs { ForSome file.numrecs (λ n. (place + count - 1 < n) × (n ≤ self.old.room)) }
+        requires stands { (arrays : List Array) × HasRows (K.held shelf.old) file arrays }
+        requires rows { (arrays : List Array) × (length arrays ≡ count) × (rows.now ≡ flat_map (row file.shape) arrays) }
+        ensures node { self.new ≡ record self.old { current = self.new.current } }
+        ensures ok { OnOk result
+            (RowsGo (nat_lt (place + count) self.old.count) file count rows.now self.new.current (K.held shelf.old) (K.held shelf.new)) }
+        ensures ended { OnErr result (self.new.current ≡ None) }
+        ensures err { OnErr result (RowsStop file count rows.now (K.held shelf.old) (K.held shelf.new)) }
+        ensures failed { IfErr result (λ fault. fault ≡ faults.Failed) }
+        ensures cause { IsSaveCause result (K.faults shelf.old) (K.faults shelf.new) }
+    {
+        let mut file = file;
+        file.add_rows(shelf, rows, count)?;
+        if place + count < self.count {
+            self.current = Some(file);
+            return Ok(());
+        }
+        match file.end(shelf) {
+            Ok(_) => Ok(()),
+            Err(fault) => Err(fault),
+        }
+    }
+
+    /// Writes the rows of the next arrays in one piece: as many as `count` says, from `place` of this group on, which has `of` arrays
+    /// where that is known. The files are then as after one `write` for each of these arrays.
+    ///
+    /// # Errors
+    ///
+    /// After want of memory nothing has changed. `Failed` where the shelf failed: its count of faults rose. The files are then as they
+    /// were, but for the group's own, which isn't open any more: its name is as before, has a front of the header and the rows, or
+    /// these with any number of records where the header left it open.
+    pub fn write_rows<K: Shelf>(
+        &mut self,
+        alloc: Global,
+        shelf: &mut K,
+        group: u32,
+        place: u32,
+        of: Option<u32>,
+        rows: &[u8],
+        count: u32,
+    ) -> Result<(), SaveFault>
+        requires { AreReady self.old of group place rows.now count (K.held shelf.old) }
+        ensures node { self.new ≡ record self.old { current = self.new.current } }
+        ensures goes { (more : List Array) → length more ≡ count → rows.now ≡ flat_map (row self.old.shape) more
+            → GoOrStop result self.old of group place more self.new.current (K.held shelf.old) (K.held shelf.new) }
+        ensures cause { IsSaveCause result (K.faults shelf.old) (K.faults shelf.new) }
+    {
+        match self.current.take() {
+            Some(file) => self.put_rows(shelf, file, place, rows, count),
+            None => {
+                let file = self.begin(alloc, shelf, group, of)?;
+                self.put_rows(shelf, file, place, rows, count)
             }
         }
     }

@@ -1,15 +1,19 @@
 //! The files of all file nodes of a graph.
 
 ghost use Rattle.std.specs.Prelude.{◌≡◌, ◌+◌, ◌^◌, ◌<◌, ℕ, List, None, Some, Option, length, slice_get, slice_set, IfOk, IfErr, OnOk, OnErr};
+ghost use Rattle.std.specs.List.{flat_map};
 ghost use Rattle.nd_base.specs.Array.{Array};
 ghost use Rattle.nd_base.specs.Shapes.{array_of};
 ghost use Rattle.nd_base.specs.GraphRules.{IsGraph};
 ghost use Rattle.edge_traits.specs.Files.{Files};
+ghost use Rattle.cdf_write.specs.Layout.{row};
 ghost use Rattle.nd_stack.specs.KeptStacks.{IsKeptStack};
 ghost use Rattle.chain_plain.specs.Plans.{plan_of};
 ghost use Rattle.graph_conf.specs.Loads.{limit_fault};
 ghost use Rattle.file_out.specs.Saving.{IsSaveCause};
+ghost use Rattle.file_out.specs.Streams.{Stream};
 ghost use Rattle.file_out.specs.declared.fault.SaveFault.TheVariants as faults;
+ghost use Rattle.graph_files.specs.InTurn.{AreReady, GoOrStop};
 ghost use Rattle.graph_files.specs.NodeFiles.{NodeFile, first_count, IsPlaceAfter, AreWritten, IsFilled};
 ghost use Rattle.graph_files.specs.OpenFiles.{closed, file_nodes, IsReady, IsReopened, AllWritten, AllStops, with_array};
 ghost use Rattle.graph_files.specs.EndedFiles.{AllEnded, AllEndStops, AllStand, OneEndStops, AreOthersAsBefore};
@@ -17,7 +21,7 @@ ghost use Rattle.graph_files.specs.EndedFiles.{AllEnded, AllEndStops, AllStand, 
 use crate::NodeFiles;
 use edge_traits::Shelf;
 use file_out::SaveFault;
-use nd_base::{Head, Kind, OutOfMemory, Plan, Stack};
+use nd_base::{FileShape, Head, Kind, OutOfMemory, Plan, Stack};
 use std::alloc::Global;
 use std::marker::Model;
 
@@ -94,6 +98,14 @@ impl OpenFiles {
         self.nodes[at].group_count()
     }
 
+    /// The shape of the arrays of file node `at` of these.
+    pub fn shape(&self, at: usize) -> &FileShape
+        requires { at < length self.now }
+        ensures { (x : NodeFile) → slice_get self.now at ≡ Some x → result.now ≡ x.shape }
+    {
+        self.nodes[at].shape()
+    }
+
     /// Writes the next array of file node `at` of these: see `NodeFiles::write`.
     ///
     /// # Errors
@@ -126,6 +138,32 @@ impl OpenFiles {
         ensures cause { IsSaveCause result (K.faults shelf.old) (K.faults shelf.new) }
     {
         self.nodes[at].write(alloc, shelf, group, place, of, head, samples)
+    }
+
+    /// Writes the rows of the next arrays of file node `at` of these in one piece: see `NodeFiles::write_rows`.
+    ///
+    /// # Errors
+    ///
+    /// After want of memory nothing has changed. `Failed` where the shelf failed: its count of faults rose.
+    pub fn write_rows<K: Shelf>(
+        &mut self,
+        alloc: Global,
+        shelf: &mut K,
+        at: usize,
+        group: u32,
+        place: u32,
+        of: Option<u32>,
+        rows: &[u8],
+        count: u32,
+    ) -> Result<(), SaveFault>
+        requires at { at < length self.old }
+        requires ready { (x : NodeFile) → slice_get self.old at ≡ Some x → AreReady x of group place rows.now count (K.held shelf.old) }
+        ensures goes { (x : NodeFile) → slice_get self.old at ≡ Some x → (o : Option Stream) × ((self.new ≡ slice_set self.old at (record x { current = o }))
+            × ((more : List Array) → length more ≡ count → rows.now ≡ flat_map (row x.shape) more
+            → GoOrStop result x of group place more o (K.held shelf.old) (K.held shelf.new))) }
+        ensures cause { IsSaveCause result (K.faults shelf.old) (K.faults shelf.new) }
+    {
+        self.nodes[at].write_rows(alloc, shelf, group, place, of, rows, count)
     }
 
     /// Ends the open file of file node `at` of these, if there is one.

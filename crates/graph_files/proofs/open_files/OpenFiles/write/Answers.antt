@@ -1,12 +1,12 @@
-use Rattle.std.proofs.Common.{◌≡◌, ℕ, ◌<◌, ◌^◌, ◌++◌, ◌∷◌, [], List, Some, None, set, get_or, length, sym, ap, subst, refl, ◌∙◌, arith}
-use Rattle.std.specs.Prelude.{slice_get, Option}
+use Rattle.std.proofs.Common.{◌≡◌, ◌<◌, ◌^◌, ◌++◌, ◌∷◌, [], List, Some, None, set, get_or, length, sym, ap, subst, refl, ◌∙◌, arith}
+use Rattle.std.specs.Prelude.{slice_get}
 use Rattle.std.proofs.lemmas.Option.{slice_get_read, same_Some}
 use Rattle.std.proofs.lemmas.List.{length-append}
 use Rattle.nd_base.specs.Shapes.{array_of}
-use Rattle.file_out.specs.Streams.{Stream}
 use Rattle.graph_files.specs.NodeFiles.{NodeFile, IsPlaceAfter, HasNumrecs, AreWritten, IsChangedAt, WriteStops, first_count, name_of}
 use Rattle.graph_files.specs.OpenFiles.{AreApart, AllWritten, AllStops, with_array}
 use Rattle.graph_files.specs.OpenFileLaws.{get-set_same, apart-kept, all-more, all-stops}
+use Rattle.graph_files.proofs.PutBack.{put-back, this-node, the-node}
 use Rattle.graph_files.proofs.Writes.{on-ok, if-err}
 use Rattle.graph_files.proofs.open_files.OpenFiles.write.Goals as goal
 
@@ -62,20 +62,6 @@ invariant_of-self g c =
     let within : c.args.at < length xs = subst (λ (zs : List NodeFile). c.args.at < length zs) (sym c.self.view_is) c.requires.at in
     let at : slice_get xs c.args.at ≡ Some x = slice_get_read xs (length xs) c.args.at x refl within c.index_mut.ensures.value in
     subst (λ (y : NodeFile). AreApart (set xs c.args.at y)) (sym c.write.ensures.node) (apart-kept xs c.args.at x c.write.new.self.current at c.self.invariant)
-
-module _ (xs ys : List NodeFile) (k : ℕ) (y z x : NodeFile) (o : Option Stream) (at : slice_get xs k ≡ Some z) (is : slice_get xs k ≡ Some x)
-    (node : y ≡ record z { current = o }) (made : ys ≡ set xs k y) where
-  same_node : z ≡ x
-  same_node = same_Some z x (sym at ∙ is)
-
-  pub put-back : ys ≡ set xs k (record x { current = o })
-  put-back = made ∙ ap (set xs k) (node ∙ ap (λ (w : NodeFile). record w { current = o }) same_node)
-
-  pub this-node : y ≡ record x { current = o }
-  this-node = node ∙ ap (λ (w : NodeFile). record w { current = o }) same_node
-
-  pub the-node : z ≡ x
-  the-node = same_node
 
 pub returns-clause-nodes : goal.returns-clause-nodes
 returns-clause-nodes g c =
