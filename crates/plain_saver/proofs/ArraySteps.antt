@@ -38,7 +38,7 @@ HasFile-same (Some m) None q bytes same told has = tt
 HasFile-same (Some m) (Some n) q bytes same told has = same ∙ has
 
 -- the next one is in the same group or begins another
-group-goes : (count gone : ℕ) → 1 ≤ count
+pub group-goes : (count gone : ℕ) → 1 ≤ count
     → ((gone % count + 1 ≡ count) × ((gone + 1) % count ≡ 0))
     ⊎ ((gone % count + 1 < count) × ((gone + 1) / count ≡ gone / count) × ((gone + 1) % count ≡ gone % count + 1))
 group-goes count gone some =

@@ -17,22 +17,29 @@ use Rattle.chain_plain.specs.PassedLaws.{passed-frames}
 use Rattle.graph_files.specs.NodeFileLaws.{cases_eq}
 use Rattle.graph_files.specs.OutgoingLaws.{arrays_out-more, length-arrays_out}
 use Rattle.plain_saver.specs.declared.passes.Pass.{Pass}
-use Rattle.plain_saver.specs.Passes.{no_pass, pass_at, ArePasses, with_one_gone, is_next}
+use Rattle.plain_saver.specs.Passes.{no_pass, pass_at, ArePasses, with_gone, with_one_gone, is_next}
 use Rattle.plain_saver.specs.Saved.{written}
 
 -- what is known of other nodes stays
-pub pass_at-other : (ps : List Pass) (v w : ℕ) → 1 ≤ v → w ≢ v → pass_at (with_one_gone ps v) w ≡ pass_at ps w
-pass_at-other ps v zero some ne = refl
-pass_at-other ps v (suc k) some ne =
-    get_or-set_other ps (v - 1) k (record (pass_at ps v) { gone = (pass_at ps v).gone + 1 }) no_pass
+pub pass_at-others : (ps : List Pass) (v n w : ℕ) → 1 ≤ v → w ≢ v → pass_at (with_gone ps v n) w ≡ pass_at ps w
+pass_at-others ps v n zero some ne = refl
+pass_at-others ps v n (suc k) some ne =
+    get_or-set_other ps (v - 1) k (record (pass_at ps v) { gone = (pass_at ps v).gone + n }) no_pass
     (λ e. ne (let same : suc k ≡ v = omega (arith, e, some) in same))
 
-pub pass_at-same : (ps : List Pass) (v : ℕ) → 1 ≤ v → v ≤ length ps → pass_at (with_one_gone ps v) v ≡ record (pass_at ps v) { gone = (pass_at ps v).gone + 1 }
-pass_at-same ps zero some within = absurd (omega (arith, some))
-pass_at-same ps (suc k) some within =
+pub pass_at-gone : (ps : List Pass) (v n : ℕ) → 1 ≤ v → v ≤ length ps → pass_at (with_gone ps v n) v ≡ record (pass_at ps v) { gone = (pass_at ps v).gone + n }
+pass_at-gone ps zero n some within = absurd (omega (arith, some))
+pass_at-gone ps (suc k) n some within =
     let e : suc k - 1 ≡ k = omega arith in
-    ap (λ i. get_or (set ps i (record (pass_at ps (suc k)) { gone = (pass_at ps (suc k)).gone + 1 })) k no_pass) e
-    ∙ get_or-set_same ps k (record (pass_at ps (suc k)) { gone = (pass_at ps (suc k)).gone + 1 }) no_pass (omega (arith, within))
+    ap (λ i. get_or (set ps i (record (pass_at ps (suc k)) { gone = (pass_at ps (suc k)).gone + n })) k no_pass) e
+    ∙ get_or-set_same ps k (record (pass_at ps (suc k)) { gone = (pass_at ps (suc k)).gone + n }) no_pass (omega (arith, within))
+
+-- where one more has gone
+pub pass_at-other : (ps : List Pass) (v w : ℕ) → 1 ≤ v → w ≢ v → pass_at (with_one_gone ps v) w ≡ pass_at ps w
+pass_at-other ps v w some ne = pass_at-others ps v 1 w some ne
+
+pub pass_at-same : (ps : List Pass) (v : ℕ) → 1 ≤ v → v ≤ length ps → pass_at (with_one_gone ps v) v ≡ record (pass_at ps v) { gone = (pass_at ps v).gone + 1 }
+pass_at-same ps v some within = pass_at-gone ps v 1 some within
 
 -- the next position is this one
 pub next-is : (o : Option ℕ) (k : ℕ) → option_map_or (λ p. p == k) o false ≡ true → o ≡ Some k

@@ -1,6 +1,6 @@
 -- What is left of a plain run's files where a write of the next array at a file node stopped.
 use Rattle.std.proofs.Common.{◌≡◌, ◌≢◌, inl, inr, ℕ, ◌/◌, ◌%◌, ◌^◌, ◌<◌, true, false, List, [], ◌∷◌, ◌++◌, length, map, set, refl, sym, ap, subst, ◌∙◌}
-use Rattle.std.proofs.Common.{arith, Option, Some}
+use Rattle.std.proofs.Common.{arith, Option, None, Some}
 use Rattle.std.specs.Prelude.{slice_get, IsSome, is_some}
 use Rattle.std.proofs.Common.{length-append}
 use Rattle.std.proofs.lemmas.Option.{same_Some}
@@ -21,9 +21,10 @@ use Rattle.graph_files.specs.Groups.{group_of, HasBytes, file_of}
 use Rattle.graph_files.specs.GroupLaws.{group-more}
 use Rattle.graph_files.specs.Interrupted.{IsCountOf, IsStanding, IsBegunAs, AreInterrupted}
 use Rattle.graph_files.specs.NodeFiles.{NodeFile, HasNumrecs, IsPlaceAfter, IsTorn, first_count, group_file, name_of}
-use Rattle.graph_files.specs.NodeFileLaws.{cases_eq, groups-differ, open-elsewhere}
+use Rattle.graph_files.specs.NodeFileLaws.{cases_eq, groups-differ, open-elsewhere, written-but}
 use Rattle.graph_files.specs.OpenFiles.{closed, file_nodes, AllStops, AllWritten, AllWrittenBut, IsElsewhere, IsReopened}
-use Rattle.graph_files.specs.OpenFileLaws.{get-set_same, get-set_other}
+use Rattle.graph_files.specs.InTurn.{TurnStops}
+use Rattle.graph_files.specs.OpenFileLaws.{get-set_same, get-set_other, all-but}
 use Rattle.graph_files.specs.OutFiles.{plain_files, stats_name}
 use Rattle.graph_files.proofs.BegunBytes.{begun-torn, group-front, group-has}
 use Rattle.graph_files.proofs.Writes.{next-place}
@@ -34,7 +35,7 @@ use Rattle.plain_saver.proofs.FileNodes.{FileOf, file-of, apart, closed-set, gro
 use Rattle.plain_saver.proofs.Fronts.{length-written, written-few, next-out, group-low, group-sized, count-of, standing-has}
 use Rattle.graph_files.proofs.PlainNames.{all_out, rows_file}
 use Rattle.plain_saver.proofs.Standing.{begun-of, standing-by, standing-then, StandsIn, stands-in, IsFilledGroup, group_record, IsNoName, interrupted-by}
-use Rattle.plain_saver.proofs.Interrupted.{same-file, saved-group, saved-long, saved-row, saved-away}
+use Rattle.plain_saver.proofs.Interrupted.{same-file, saved-group, saved-long, saved-row, saved-away, saved-written, interrupted-saved}
 
 module _ (g : Graph) (s : StackValue) (prefix : List ℕ) (sound : IsGraph g) (kept : IsKeptStack s) (before : Option Files) (ps : List Pass)
     (xs : List NodeFile) (t : Option Files) {ts : List (List ℕ)} (h : IsSaved g s prefix before ps ts xs t) where
@@ -107,6 +108,13 @@ module _ (g : Graph) (s : StackValue) (prefix : List ℕ) (sound : IsGraph g) (k
     small : G < 2 ^ 64
     small = low x G here filled-here
 
+    -- another group has what it had, whatever is open
+    same-but : (o : Option Stream) (i : ℕ) → i ≢ G → group_file (record x { current = o }) (W x.node) i ≡ group_file x (W x.node) i
+    same-but o i ne =
+        let away : i ≢ length (W x.node) / x.count = λ e. ne (e ∙ group-here) in
+        ap (λ (w : Option Stream). file_of w x.shape (group_of x.count i (W x.node)))
+        (open-elsewhere (record x { current = o }) (length (W x.node)) i away ∙ sym (open-elsewhere x (length (W x.node)) i away))
+
     module _ (o : Option Stream) (now : Option Files) (but : AllWrittenBut t (set xs at (record x { current = o })) W x G now) where
       abbrev z : NodeFile
       z = record x { current = o }
@@ -134,10 +142,7 @@ module _ (g : Graph) (s : StackValue) (prefix : List ℕ) (sound : IsGraph g) (k
 
       -- one of another group
       same-group : (i : ℕ) → i ≢ G → group_file z (W x.node) i ≡ group_file x (W x.node) i
-      same-group i ne =
-          let away : i ≢ length (W x.node) / x.count = λ e. ne (e ∙ group-here) in
-          ap (λ (w : Option Stream). file_of w x.shape (group_of x.count i (W x.node)))
-          (open-elsewhere z (length (W x.node)) i away ∙ sym (open-elsewhere x (length (W x.node)) i away))
+      same-group i ne = same-but o i ne
 
       -- which has what it had
       off-group : (i : ℕ) → i ≢ G → i < 2 ^ 64 → is_some now ≡ true → file_at now (name_of x i) ≡ file_at t (name_of x i)
@@ -212,50 +217,12 @@ module _ (g : Graph) (s : StackValue) (prefix : List ℕ) (sound : IsGraph g) (k
                     (in-node i (subst (λ (w : NodeFile). IsFilledGroup g s w i) same filled))
               ]
 
-    -- want of memory, which may have begun the file
-    module _ (o : Option Stream) (now : Option Files) (numrecs : HasNumrecs (first_count x.late (Some (size x))) o)
-        (all : AllWritten t (set xs at (record x { current = o })) W now) where
-      abbrev begun : NodeFile
-      begun = record x { current = o }
-
-      abbrev begun_files : List NodeFile
-      begun_files = set xs at begun
-
-      -- all names but that of the group have what they had
-      begun-but : AllWrittenBut t begun_files W x G now
-      begun-but = record { told = all.told; each = λ j y i listed_y off. (all.each j y listed_y).each i; others = λ q ne away. all.others q away }
-
-      -- these are the files of the same nodes
-      begun-nodes : map closed begun_files ≡ file_nodes g s prefix
-      begun-nodes = closed-set xs at x begun is refl ∙ h.nodes
-
-      -- this node is among them
-      begun-still : slice_get begun_files at ≡ Some begun
-      begun-still = get-set_same xs at x begun is
-
-      -- the name of the group has what it had, or a header without a row
-      begun-group : IsStanding x.late (layout x.shape (group_of x.count G (all_out g s x.node))) (file_at before (name_of x G)) (file_at now (name_of x G))
-      begun-group =
-          standing-by x.late (layout x.shape (group_of x.count G (all_out g s x.node))) (name_of x G) before now (all.told ∙ h.told) (λ told.
-          standing-has g s prefix kept ps h.passes begun (file-of g s prefix sound begun_files begun-nodes at begun begun-still) G
-          (file_at before (name_of x G)) now told ((all.each at begun begun-still).each G) numrecs
-          (λ none. standing-then x.late (layout x.shape (group_of x.count G (all_out g s x.node))) (file_at before (name_of x G)) (file_at t (name_of x G))
-          (file_at now (name_of x G))
-          (all.others (name_of x G) (none-elsewhere g s prefix sound begun_files begun-nodes W (λ l w listed. few w) at begun begun-still G small none))
-          (saved-group g s prefix sound kept before ps xs t h at G x is filled-here))
-          (group-has begun (W x.node) here.some (all.each at begun begun-still).begun G))
-
-      -- so a front of the file stands there
-      held-back : AreInterrupted before (plain_files g s prefix) now
-      held-back = interrupted-but o now begun-but [] (stands-in [] before now (group_record g s x G) begun-group)
-
-    -- a fault of the shelf on the group's name
-    torn-name : (o : Option Stream) (now : Option Files) → AllWrittenBut t (set xs at (record x { current = o })) W x G now
-        → IsTorn (file_at t (name_of x G)) x.shape (first_count x.late (Some (size x))) (group_of x.count G (W x.node) ++ a ∷ []) (file_at now (name_of x G))
+    -- a fault of the shelf on the group's name, while the rows of these were written
+    pub interrupted-rows : (zs rest : List Array) → group_of x.count G (all_out g s x.node) ≡ (group_of x.count G (W x.node) ++ zs) ++ rest → (now : Option Files)
+        → AllWrittenBut t (set xs at (record x { current = None })) W x G now
+        → IsTorn (file_at t (name_of x G)) x.shape (first_count x.late (Some (size x))) (group_of x.count G (W x.node) ++ zs) (file_at now (name_of x G))
         → AreInterrupted before (plain_files g s prefix) now
-    torn-name o now but torn =
-        let p = piece-front in
-        let zs = group_of x.count G (W x.node) ++ a ∷ [] in
+    interrupted-rows zs rest parts now but torn =
         let full = group_of x.count G (all_out g s x.node) in
         let count : IsCountOf x.late (length full) (first_count x.late (Some (size x))) =
         subst (λ (n : ℕ). IsCountOf x.late n (first_count x.late (Some (size x))))
@@ -263,24 +230,23 @@ module _ (g : Graph) (s : StackValue) (prefix : List ℕ) (sound : IsGraph g) (k
         let was : IsBegunAs x.late (layout x.shape full) (file_at before (name_of x G)) (file_at t (name_of x G)) =
         begun-of x.late (layout x.shape full) (file_at before (name_of x G)) (file_at t (name_of x G))
         (saved-group g s prefix sound kept before ps xs t h at G x is filled-here) in
-        interrupted-but o now but (name_of x G) (
+        interrupted-but None now but (name_of x G) (
           (λ away. absurd (away refl)),
-          begun-torn x.shape zs p.0 full p.1 (file_at before (name_of x G)) x.late (first_count x.late (Some (size x))) (file_at t (name_of x G))
-              (file_at now (name_of x G)) count
+          begun-torn x.shape (group_of x.count G (W x.node) ++ zs) rest full parts (file_at before (name_of x G)) x.late
+              (first_count x.late (Some (size x))) (file_at t (name_of x G)) (file_at now (name_of x G)) count
               (λ same. subst (IsBegunAs x.late (layout x.shape full) (file_at before (name_of x G))) (sym same) was) torn,
         )
 
-    -- after either fault
-    by-fault : (fault : SaveFault) (o : Option Stream) (now : Option Files) → HasNumrecs (first_count x.late (Some (size x))) o
-        → AllStops fault t x (set xs at (record x { current = o })) W G (first_count x.late (Some (size x))) a t now
+    -- a write of the rows of the next arrays that stopped
+    pub interrupted-turns : (fault : SaveFault) (zs rest : List Array) → group_of x.count G (all_out g s x.node) ≡ (group_of x.count G (W x.node) ++ zs) ++ rest
+        → (o : Option Stream) (now : Option Files) → TurnStops fault x (Some (size x)) G (gone x.node % x.count) zs o t now
         → AreInterrupted before (plain_files g s prefix) now
-    by-fault OutOfMemory o now numrecs stops = held-back o now numrecs stops
-    by-fault Failed o now numrecs stops = torn-name o now stops.0 stops.1
-
-    -- a write of the next array at a file node that stopped
-    pub interrupted-write : (fault : SaveFault) (us : List NodeFile) (now : Option Files) → IsReopened xs at (Some (size x)) us
-        → AllStops fault t x us W G (first_count x.late (Some (size x))) a t now → AreInterrupted before (plain_files g s prefix) now
-    interrupted-write fault us now reopened stops =
-        let r = reopened x is in
-        by-fault fault r.0 now r.2
-        (subst (λ (zs : List NodeFile). AllStops fault t x zs W G (first_count x.late (Some (size x))) a t now) r.1 stops)
+    interrupted-turns OutOfMemory zs rest parts o now stops =
+        subst (AreInterrupted before (plain_files g s prefix)) (sym stops.1) (interrupted-saved g s prefix sound kept before ps xs t h)
+    interrupted-turns Failed zs rest parts o now stops =
+        let written_ = (h.groups at x is).written in
+        interrupted-rows zs rest parts now
+        (all-but xs at x None is (apart g s prefix sound xs h.nodes) G small t t now W (saved-written g s prefix sound kept before ps xs t h) stops.1
+        (written-but x (W x.node) G (gone x.node % x.count) t now place small written_ stops.1)
+        (λ i ne named. subst (λ (w : Option (List ℕ)). IsSome w) (sym (same-but None i ne)) named))
+        (stops.2 (W x.node) place written_)

@@ -1,3 +1,4 @@
+pub mod Ahead
 pub mod Begins
 pub mod Contents
 pub mod Ended
@@ -15,6 +16,7 @@ pub mod StatsRows
 pub mod Gone
 pub mod ArraySteps
 pub mod RowSteps
+pub mod TurnSteps
 pub mod Turns
 pub mod Pushed
 pub mod Writing

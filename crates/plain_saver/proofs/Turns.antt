@@ -1,9 +1,11 @@
 -- How far the nodes have come within a frame.
-use Rattle.std.proofs.Common.{◌≡◌, ◌≢◌, inl, inr, ℕ, zero, suc, ◌+◌, ◌<◌, ◌≤◌, Bool, true, false, List, Option, None, Some, length, map, drop, refl, sym}
+use Rattle.std.proofs.Common.{◌≡◌, ◌≢◌, inl, inr, ℕ, zero, suc, ◌+◌, ◌-◌, ◌<◌, ◌≤◌, Bool, true, false, List, Option, None, Some, length, map, drop, refl, sym}
 use Rattle.std.proofs.Common.{ap, subst, ◌∙◌, arith, if◌then◌else◌}
 use Rattle.std.specs.Prelude.{All, slice_get}
 use Rattle.std.specs.Option.{option_map}
 use Rattle.std.proofs.lemmas.Bool.{cases_lt}
+use Rattle.std.proofs.lemmas.List.{drop-drop}
+use Rattle.std.proofs.lemmas.List.Elements.{All-drop}
 use Rattle.std.proofs.lemmas.Option.{same_Some, slice_get-map, slice_get_within}
 use Rattle.nd_base.specs.Array.{StackValue}
 use Rattle.nd_base.specs.GraphRules.{IsGraph, rule_at}
@@ -18,10 +20,10 @@ use Rattle.graph_files.specs.NodeFiles.{NodeFile}
 use Rattle.graph_files.specs.NodeFileLaws.{cases_eq}
 use Rattle.graph_files.specs.OpenFiles.{closed}
 use Rattle.plain_saver.specs.declared.passes.Pass.{Pass}
-use Rattle.plain_saver.specs.Passes.{pass_at, ArePasses, AreFrom, with_one_gone, is_next, stepped, stepped_kind, stepped_rows}
+use Rattle.plain_saver.specs.Passes.{pass_at, ArePasses, AreFrom, with_one_gone, is_next, IsAsked, stepped, stepped_kind, stepped_rows}
 use Rattle.plain_saver.specs.Saved.{IsSaved, AreLeftFrom}
 use Rattle.plain_saver.proofs.Going.{left-next, left-skip}
-use Rattle.plain_saver.proofs.Gone.{pass_at-other, pass_at-same, next-is, next-not}
+use Rattle.plain_saver.proofs.Gone.{pass_at-other, pass_at-others, pass_at-gone, pass_at-same, next-is, next-not}
 use Rattle.plain_saver.proofs.FileNodes.{FileOf, apart, file-of}
 
 module _ (g : Graph) (s : StackValue) (ps : List Pass) (v : ℕ) (some : 1 ≤ v) (within : v ≤ length g.nodes) (passes : ArePasses g s ps) (k : ℕ) where
@@ -48,6 +50,33 @@ module _ (g : Graph) (s : StackValue) (ps : List Pass) (v : ℕ) (some : 1 ≤ v
   -- and the others have what they had
   pub from-other : (w j : ℕ) → w ≢ v → AreFrom ps w j → AreFrom (stepped ps v k) w j
   from-other w j ne from = other-by (is_next ps v k) w j ne from
+
+  asked-by : (qs : List Pass) → IsAsked ps v k qs → (b : Bool) → is_next ps v k ≡ b → AreFrom ps v k → AreFrom qs v (k + 1)
+  asked-by qs asked true next from =
+      let r = asked.next next in
+      let p = pass_at ps v in
+      let rest = left-next p.positions p.gone k rising (next-is (slice_get p.positions p.gone) k next) in
+      let same : suc p.gone + (r.0 - 1) ≡ p.gone + r.0 = omega (arith, r.1) in
+      subst (λ (ps_ : List Pass). AreFrom ps_ v (k + 1)) (sym r.2)
+      (subst (λ (q : Pass). All (λ i. k + 1 ≤ i) (drop q.gone q.positions))
+      (sym (pass_at-gone ps v r.0 some (subst (λ n. v ≤ n) (sym passes.count) within)))
+      (subst (λ (ks : List ℕ). All (λ i. k + 1 ≤ i) ks) (drop-drop (r.0 - 1) (suc p.gone) p.positions ∙ ap (λ n. drop n p.positions) same)
+      (All-drop (λ (i : ℕ). k + 1 ≤ i) (r.0 - 1) (drop (suc p.gone) p.positions) rest)))
+  asked-by qs asked false next from = subst (λ (ps_ : List Pass). AreFrom ps_ v (k + 1)) (sym (asked.not next)) (from-by false next from)
+
+  -- the same where several go at once
+  pub from-asked : (qs : List Pass) → IsAsked ps v k qs → AreFrom ps v k → AreFrom qs v (k + 1)
+  from-asked qs asked from = asked-by qs asked (is_next ps v k) refl from
+
+  others-by : (qs : List Pass) → IsAsked ps v k qs → (b : Bool) → is_next ps v k ≡ b → (w j : ℕ) → w ≢ v → AreFrom ps w j → AreFrom qs w j
+  others-by qs asked true next w j ne from =
+      let r = asked.next next in
+      subst (λ (ps_ : List Pass). AreFrom ps_ w j) (sym r.2)
+      (subst (λ (p : Pass). All (λ i. j ≤ i) (drop p.gone p.positions)) (sym (pass_at-others ps v r.0 w some ne)) from)
+  others-by qs asked false next w j ne from = subst (λ (ps_ : List Pass). AreFrom ps_ w j) (sym (asked.not next)) from
+
+  pub from-others : (qs : List Pass) → IsAsked ps v k qs → (w j : ℕ) → w ≢ v → AreFrom ps w j → AreFrom qs w j
+  from-others qs asked w j ne from = others-by qs asked (is_next ps v k) refl w j ne from
 
   -- nothing goes where this isn't the next position
   pub stepped-not : is_next ps v k ≡ false → stepped ps v k ≡ ps
@@ -101,29 +130,29 @@ arrays-end g ps xs at k all h = record {
 module _ (g : Graph) (s : StackValue) (prefix : List ℕ) (before t : Option Files) (ps : List Pass) (xs : List NodeFile) (sound : IsGraph g)
     {ts : List (List ℕ)} (saved : IsSaved g s prefix before ps ts xs t) (k : ℕ) where
   -- one file node more was asked
-  pub arrays-next : (ys : List NodeFile) (at : ℕ) (x : NodeFile) → slice_get xs at ≡ Some x → map closed ys ≡ map closed xs → ArrayTurns g ps xs at k
-      → ArrayTurns g (stepped ps x.node k) ys (at + 1) k
-  arrays-next ys at x is same h = record {
+  pub arrays-next : (qs : List Pass) (ys : List NodeFile) (at : ℕ) (x : NodeFile) → slice_get xs at ≡ Some x → IsAsked ps x.node k qs → map closed ys ≡ map closed xs → ArrayTurns g ps xs at k
+      → ArrayTurns g qs ys (at + 1) k
+  arrays-next qs ys at x is asked same h = record {
     done = λ j y low hy.
         let w = was xs ys same j y hy in
-        subst (λ (i : ℕ). AreFrom (stepped ps x.node k) i (k + 1)) (sym w.node) (elim (cases_lt j at) [
+        subst (λ (i : ℕ). AreFrom qs i (k + 1)) (sym w.node) (elim (cases_lt j at) [
           | inl below ↦
-              from-other g s ps x.node f.first f.within saved.passes k w.old.node (k + 1)
+              from-others g s ps x.node f.first f.within saved.passes k qs asked w.old.node (k + 1)
               (apart g s prefix sound xs saved.nodes j at w.old x w.is is (λ e. absurd (omega (arith, below, e)))).0 (h.done j w.old below w.is)
           | inr above ↦
               let here : j ≡ at = omega (arith, above, low) in
               let one : w.old ≡ x = same_Some w.old x (sym w.is ∙ ap (slice_get xs) here ∙ is) in
-              subst (λ (z : NodeFile). AreFrom (stepped ps x.node k) z.node (k + 1)) (sym one)
-              (from-stepped g s ps x.node f.first f.within saved.passes k (h.left at x (omega arith) is))
+              subst (λ (z : NodeFile). AreFrom qs z.node (k + 1)) (sym one)
+              (from-asked g s ps x.node f.first f.within saved.passes k qs asked (h.left at x (omega arith) is))
         ]);
     left = λ j y high hy.
         let w = was xs ys same j y hy in
-        subst (λ (i : ℕ). AreFrom (stepped ps x.node k) i k) (sym w.node)
-        (from-other g s ps x.node f.first f.within saved.passes k w.old.node k
+        subst (λ (i : ℕ). AreFrom qs i k) (sym w.node)
+        (from-others g s ps x.node f.first f.within saved.passes k qs asked w.old.node k
         (apart g s prefix sound xs saved.nodes j at w.old x w.is is (λ e. absurd (omega (arith, high, e)))).0
         (h.left j w.old (omega (arith, high)) w.is));
     rows = λ v n r rule kind.
-        from-other g s ps x.node f.first f.within saved.passes k v k (apart-kinds g s prefix x v n r f rule kind) (h.rows v n r rule kind);
+        from-others g s ps x.node f.first f.within saved.passes k qs asked v k (apart-kinds g s prefix x v n r f rule kind) (h.rows v n r rule kind);
   }
     where
       f : FileOf g s prefix x

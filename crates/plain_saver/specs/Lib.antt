@@ -1,4 +1,5 @@
 pub mod Passes
+pub mod Ahead
 pub mod Texts
 pub mod Saved
 pub mod BegunRows

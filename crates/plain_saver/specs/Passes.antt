@@ -1,5 +1,5 @@
 -- Which arrays go out of each node in a plain run, and how many of them have gone.
-use Rattle.std.specs.Prelude.{◌≡◌, ℕ, zero, suc, ◌+◌, ◌-◌, ◌≤◌, ◌==◌, Bool, false, All, List, [], drop, length, slice_get, slice_index_or, slice_set}
+use Rattle.std.specs.Prelude.{◌≡◌, ℕ, zero, suc, ◌+◌, ◌-◌, ◌≤◌, ◌==◌, Bool, true, false, All, List, [], drop, length, slice_get, slice_index_or, slice_set}
 use Rattle.std.specs.Prelude.{if◌then◌else◌}
 use Rattle.std.specs.Option.{option_map_or}
 use Rattle.nd_base.specs.Array.{StackValue}
@@ -24,9 +24,13 @@ pub record ArePasses (g : Graph) (s : StackValue) (ps : List Pass) : Type 0 wher
   pub positions : (v : ℕ) → 1 ≤ v → v ≤ length g.nodes → (pass_at ps v).positions ≡ passed g s v
   pub gone : (v : ℕ) → 1 ≤ v → v ≤ length g.nodes → (pass_at ps v).gone ≤ length (passed g s v)
 
+-- n more have gone out of node v
+abbrev pub with_gone : List Pass → (v n : ℕ) → List Pass
+with_gone ps v n = slice_set ps (v - 1) (record (pass_at ps v) { gone = (pass_at ps v).gone + n })
+
 -- one more has gone out of node v
 abbrev pub with_one_gone : List Pass → ℕ → List Pass
-with_one_gone ps v = slice_set ps (v - 1) (record (pass_at ps v) { gone = (pass_at ps v).gone + 1 })
+with_one_gone ps v = with_gone ps v 1
 
 -- position k is the next one of node v
 abbrev pub is_next : List Pass → (v k : ℕ) → Bool
@@ -36,7 +40,12 @@ is_next ps v k = option_map_or (λ p. p == k) (slice_get (pass_at ps v).position
 abbrev pub stepped : List Pass → (v k : ℕ) → List Pass
 stepped ps v k = if is_next ps v k then with_one_gone ps v else ps
 
--- the same at a statistics node, and nothing at any other
+-- position k has gone out of node v with all that go at once, where it is the next one
+pub record IsAsked (ps : List Pass) (v k : ℕ) (qs : List Pass) : Type 0 where
+  pub not : is_next ps v k ≡ false → qs ≡ ps
+  pub next : is_next ps v k ≡ true → (n : ℕ) × (1 ≤ n) × (qs ≡ with_gone ps v n)
+
+-- as `stepped` at a statistics node, and nothing at any other
 abbrev pub stepped_kind : Kind → List Pass → (v k : ℕ) → List Pass
 stepped_kind (Stats r) ps v k = stepped ps v k
 stepped_kind (Roi r) ps v k = ps

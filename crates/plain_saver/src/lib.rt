@@ -1,6 +1,7 @@
 //! The files of a plain run: a graph over a stack in one thread, frame by frame.
 #![tactic(auto)]
 
+mod gathering;
 mod passes;
 mod passing;
 mod rooms;

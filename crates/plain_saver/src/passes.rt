@@ -1,6 +1,6 @@
 //! Which arrays go out of each node, and how many of them have gone.
 
-ghost use Rattle.std.specs.Prelude.{◌≡◌, ◌==◌, ℕ, false, slice_get, IfOk};
+ghost use Rattle.std.specs.Prelude.{◌≡◌, ◌+◌, ◌<◌, ◌==◌, ℕ, Some, false, length, slice_get, IfOk};
 ghost use Rattle.std.specs.Option.{option_map_or};
 ghost use Rattle.nd_base.specs.GraphRules.{IsGraph};
 ghost use Rattle.plain_saver.specs.Passes.{ArePasses, pass_at};
@@ -25,6 +25,14 @@ impl Pass {
             Some(&position) => position == index,
             None => false,
         }
+    }
+
+    /// The position that goes out after `ahead` others.
+    pub(crate) fn after(&self, ahead: u32) -> u32
+        requires { self.now.gone + ahead < length self.now.positions }
+        ensures { slice_get self.now.positions (self.now.gone + ahead) ≡ Some result }
+    {
+        self.positions.as_slice()[self.gone as usize + ahead as usize]
     }
 }
 

@@ -12,11 +12,12 @@ ghost use Rattle.file_out.specs.Saving.{IsSaveCause};
 ghost use Rattle.graph_files.specs.Interrupted.{AreInterrupted};
 ghost use Rattle.graph_files.specs.NodeFiles.{NodeFile};
 ghost use Rattle.graph_files.specs.OutFiles.{plain_files, with_files};
-ghost use Rattle.plain_saver.specs.Passes.{is_next, pass_at, stepped, stepped_rows, with_one_gone};
+ghost use Rattle.plain_saver.specs.Passes.{IsAsked, is_next, pass_at, stepped, stepped_rows, with_gone};
 ghost use Rattle.plain_saver.specs.Rooms.{AreRooms};
 ghost use Rattle.plain_saver.specs.Saved.{IsSaved, AreLeftFrom, IsCounted, IsNextPlace, group_size};
 ghost use Rattle.plain_saver.specs.Texts.{AreEmptyTo, emptied, with_text};
 
+use crate::gathering::gather;
 use crate::passes::{Pass, passes};
 use crate::rooms::Rooms;
 use crate::rows::{begin_rows, finish_rows, row_of, rows_name};
@@ -27,14 +28,15 @@ use graph_files::OpenFiles;
 use nd_base::{Kind, NodeRule, OutOfMemory, Plan, Stack, StatsRule};
 use std::alloc::Global;
 
-/// The files of a plain run while they are written, with what has gone out of each node, the rows that are kept back, and room for the samples of one
-/// frame.
+/// The files of a plain run while they are written, with what has gone out of each node, the rows that are kept back, room for the samples of one
+/// frame, and room for rows that are written at once.
 #[derive(Drop)]
 pub(crate) struct Saver {
     rooms: Rooms,
     passes: Vec<Pass>,
     texts: Texts,
     files: OpenFiles,
+    rows: Vec<u8>,
 }
 
 /// Where an array goes in the files of a file node: the group, the place there, and how many arrays the group has in the end.
@@ -85,22 +87,23 @@ impl Saver {
             passes: passes(alloc, plan, stack)?,
             texts: Texts::new(alloc, plan)?,
             files: OpenFiles::new(alloc, prefix, plan, stack)?,
+            rows: Vec::new(alloc),
         };
         begin_rows(alloc, shelf, prefix, plan)?;
         Ok(saver)
     }
 
-    /// One array more has gone out of a node.
-    fn count_one(&mut self, node: u32)
+    /// So many arrays more have gone out of a node.
+    fn count_gone(&mut self, node: u32, more: u32)
         requires some { 1 ≤ node }
         requires node { node ≤ length self.old.passes.items }
-        requires next { (pass_at self.old.passes.items node).gone + 1 < 2 ^ 32 }
-        ensures passes { self.new.passes.items ≡ with_one_gone self.old.passes.items node }
+        requires next { (pass_at self.old.passes.items node).gone + more < 2 ^ 32 }
+        ensures passes { self.new.passes.items ≡ with_gone self.old.passes.items node more }
         ensures rooms { self.new.rooms ≡ self.old.rooms }
         ensures texts { self.new.texts ≡ self.old.texts }
         ensures files { self.new.files ≡ self.old.files }
     {
-        self.passes[node as usize - 1].gone += 1;
+        self.passes[node as usize - 1].gone += more;
     }
 
     /// Where the array of a frame goes in the files of file node `at`, if it goes out of that node.
@@ -119,7 +122,8 @@ impl Saver {
         Some(group_place(self.files.group_count(at), all, pass.gone))
     }
 
-    /// Writes the array of a frame at file node `at`, where it goes out of that node.
+    /// Writes the array of a frame at file node `at`, where it goes out of that node, and with it the next ones of its group as long as they are
+    /// small.
     fn write_array<K: Shelf>(
         &mut self,
         alloc: Global,
@@ -140,7 +144,7 @@ impl Saver {
         ensures rooms { AreRooms plan.now.graph stack.now self.new.rooms }
         ensures count { length self.new.files ≡ length self.old.files }
         ensures passes { OnOk result ((x : NodeFile) → slice_get self.old.files at ≡ Some x
-            → self.new.passes.items ≡ stepped self.old.passes.items x.node index) }
+            → IsAsked self.old.passes.items x.node index self.new.passes.items) }
         ensures saved { OnOk result ((prefix : List ℕ) (before : Option Files)
             → IsSaved plan.now.graph stack.now prefix before self.old.passes.items self.old.texts self.old.files (K.held shelf.old)
             → IsSaved plan.now.graph stack.now prefix before self.new.passes.items self.new.texts self.new.files (K.held shelf.new)) }
@@ -153,18 +157,28 @@ impl Saver {
             return Ok(());
         };
         let node = self.files.node(at);
-        self.rooms.cut(alloc, plan, stack, node, index)?;
-        self.files.write(
+        let count = gather(
+            alloc,
+            plan,
+            stack,
+            node,
+            &self.passes[node as usize - 1],
+            self.files.shape(at),
+            next.of - next.place,
+            &mut self.rooms,
+            &mut self.rows,
+        )?;
+        self.files.write_rows(
             alloc,
             shelf,
             at,
             next.group,
             next.place,
             Some(next.of),
-            stack.head(index),
-            self.rooms.samples(plan, stack, node, index),
+            self.rows.as_slice(),
+            count,
         )?;
-        self.count_one(node);
+        self.count_gone(node, count);
         Ok(())
     }
 
@@ -200,7 +214,7 @@ impl Saver {
         let samples = self.rooms.samples(plan, stack, node, index);
         let row = row_of(alloc, plan, stack, node, rule, index, samples)?;
         self.texts.add(alloc, node, row.as_bytes())?;
-        self.count_one(node);
+        self.count_gone(node, 1);
         Ok(())
     }
 
@@ -498,6 +512,7 @@ impl Saver {
             passes: _,
             texts: _,
             files,
+            rows: _,
         } = self;
         finish_rows(alloc, shelf, prefix, plan)?;
         files.end(shelf)

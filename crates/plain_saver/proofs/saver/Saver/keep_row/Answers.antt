@@ -26,13 +26,13 @@ add-requires c =
     let at = node-place c.args.plan.now.graph c.args.node r.0 r.1.0 in
     (at.0, subst (λ n. c.args.node ≤ n) (sym c.requires.saved.1.1.1.kept) at.1)
 
-pub count_one-requires-clause-node : goal.count_one-requires-clause-node
-count_one-requires-clause-node c =
+pub count_gone-requires-clause-node : goal.count_gone-requires-clause-node
+count_gone-requires-clause-node c =
     let r = c.requires.rule in
     subst (λ n. c.args.node ≤ n) (sym c.requires.saved.1.1.1.passes.count) (node-place c.args.plan.now.graph c.args.node r.0 r.1.0).1
 
-pub count_one-requires-clause-next : goal.count_one-requires-clause-next
-count_one-requires-clause-next c =
+pub count_gone-requires-clause-next : goal.count_gone-requires-clause-next
+count_gone-requires-clause-next c =
     let r = c.requires.rule in
     let at = node-place c.args.plan.now.graph c.args.node r.0 r.1.0 in
     let low = c.requires.saved.1.1.1.passes.gone c.args.node at.0 at.1 in
@@ -55,9 +55,9 @@ returns-clause-saved c = λ prefix before held h.
     let done =
     saved-row graph s prefix before held ps ts c.args.self.now.files c.requires.graph h v r.0 c.args.rule.now r.1.0 r.1.1 c.args.index next a.0 a.1
     c.as_bytes.result.now (c.as_bytes.ensures.value ∙ c.in_ok-row.ensures) in
-    let texts = c.count_one.ensures.texts ∙ c.in_ok-add.ensures.ok in
-    subst (λ (xs : List NodeFile). IsSaved graph s prefix before c.count_one.new.self.passes.items c.count_one.new.self.texts xs held)
-    (sym c.count_one.ensures.files)
-    (subst (λ (us : List (List ℕ)). IsSaved graph s prefix before c.count_one.new.self.passes.items us c.args.self.now.files held) (sym texts)
+    let texts = c.count_gone.ensures.texts ∙ c.in_ok-add.ensures.ok in
+    subst (λ (xs : List NodeFile). IsSaved graph s prefix before c.count_gone.new.self.passes.items c.count_gone.new.self.texts xs held)
+    (sym c.count_gone.ensures.files)
+    (subst (λ (us : List (List ℕ)). IsSaved graph s prefix before c.count_gone.new.self.passes.items us c.args.self.now.files held) (sym texts)
     (subst (λ (qs : List Pass). IsSaved graph s prefix before qs (with_text ts v (text_at ts v ++ c.as_bytes.result.now)) c.args.self.now.files held)
-    (sym c.count_one.ensures.passes) done))
+    (sym c.count_gone.ensures.passes) done))

@@ -34,10 +34,9 @@ loop-at-preserved g c =
       rooms = c.in_ok-write_array.ensures.rooms;
       count = c.in_ok-write_array.ensures.count ∙ inv.count;
       turns =
-          subst (λ (ps : List Pass). ArrayTurns graph ps c.write_array.new.self.files (c.loop-at.at + 1) c.args.index)
-          (sym (c.in_ok-write_array.ensures.passes i.0 i.1))
-          (arrays-next graph s inv.some.0 inv.some.1.0 (g.K.Shelf.held c.loop-at.shelf) c.loop-at.self.passes.items c.loop-at.self.files c.requires.graph h
-          c.args.index c.write_array.new.self.files c.loop-at.at i.0 i.1 (next.nodes ∙ sym h.nodes) inv.turns);
+          arrays-next graph s inv.some.0 inv.some.1.0 (g.K.Shelf.held c.loop-at.shelf) c.loop-at.self.passes.items c.loop-at.self.files c.requires.graph h
+          c.args.index c.write_array.new.self.passes.items c.write_array.new.self.files c.loop-at.at i.0 i.1 (c.in_ok-write_array.ensures.passes i.0 i.1)
+          (next.nodes ∙ sym h.nodes) inv.turns;
       some = (inv.some.0, (inv.some.1.0, next));
       saved = λ prefix before old. c.in_ok-write_array.ensures.saved prefix before (inv.saved prefix before old);
       none = c.in_ok-write_array.ensures.cause ∙ inv.none;

@@ -1,0 +1,87 @@
+//! Rows of the next arrays of a file node, gathered for one write.
+
+ghost use Rattle.std.specs.Prelude.{◌≡◌, ◌+◌, ◌<◌, ◌≤◌, length, IfOk, OnOk};
+ghost use Rattle.std.specs.List.{flat_map};
+ghost use Rattle.nd_base.specs.GraphRules.{IsGraph};
+ghost use Rattle.nd_stack.specs.KeptStacks.{IsKeptStack};
+ghost use Rattle.cdf_write.specs.Layout.{row};
+ghost use Rattle.chain_plain.specs.Plans.{plan_of};
+ghost use Rattle.chain_plain.specs.PlainRun.{passed};
+ghost use Rattle.graph_files.specs.OutFiles.{file_shape};
+ghost use Rattle.plain_saver.specs.Ahead.{arrays_from};
+ghost use Rattle.plain_saver.specs.Rooms.{AreRooms};
+
+use crate::passes::Pass;
+use crate::rooms::Rooms;
+use cdf_write::push_row;
+use nd_base::{FileShape, OutOfMemory, Plan, Stack};
+use std::alloc::Global;
+
+/// How many bytes are enough for one write.
+const ENOUGH: usize = 65_536;
+
+/// Adds the row of the array that goes out of a file node after `ahead` others.
+fn add_row(
+    alloc: Global,
+    plan: &Plan,
+    stack: &Stack,
+    node: u32,
+    pass: &Pass,
+    shape: &FileShape,
+    ahead: u32,
+    rooms: &mut Rooms,
+    rows: &mut Vec<u8>,
+) -> Result<(), OutOfMemory>
+    requires graph { IsGraph plan.now.graph }
+    requires plan { plan.now ≡ plan_of plan.now.graph stack.now }
+    requires kept { IsKeptStack stack.now }
+    requires positions { pass.now.positions ≡ passed plan.now.graph stack.now node }
+    requires shape { shape.now ≡ file_shape plan.now.graph stack.now node }
+    requires left { pass.now.gone + ahead < length pass.now.positions }
+    requires rooms { AreRooms plan.now.graph stack.now rooms.old }
+    requires rows { rows.old.items ≡ flat_map (row shape.now) (arrays_from plan.now.graph stack.now node pass.now.gone ahead) }
+    ensures rooms { AreRooms plan.now.graph stack.now rooms.new }
+    ensures rows { OnOk result (rows.new.items ≡ flat_map (row shape.now) (arrays_from plan.now.graph stack.now node pass.now.gone (ahead + 1))) }
+{
+    let index = pass.after(ahead);
+    rooms.cut(alloc, plan, stack, node, index)?;
+    let samples = rooms.samples(plan, stack, node, index);
+    push_row(rows, shape, stack.head(index), samples)
+}
+
+/// Gathers the rows of the next arrays of a file node: at most `most` of them, and no more once they are enough for one write. Answers how many.
+pub(crate) fn gather(
+    alloc: Global,
+    plan: &Plan,
+    stack: &Stack,
+    node: u32,
+    pass: &Pass,
+    shape: &FileShape,
+    most: u32,
+    rooms: &mut Rooms,
+    rows: &mut Vec<u8>,
+) -> Result<u32, OutOfMemory>
+    requires graph { IsGraph plan.now.graph }
+    requires plan { plan.now ≡ plan_of plan.now.graph stack.now }
+    requires kept { IsKeptStack stack.now }
+    requires positions { pass.now.positions ≡ passed plan.now.graph stack.now node }
+    requires shape { shape.now ≡ file_shape plan.now.graph stack.now node }
+    requires some { 1 ≤ most }
+    requires most { pass.now.gone + most ≤ length pass.now.positions }
+    requires rooms { AreRooms plan.now.graph stack.now rooms.old }
+    ensures rooms { AreRooms plan.now.graph stack.now rooms.new }
+    ensures some { IfOk result (λ n. 1 ≤ n) }
+    ensures most { IfOk result (λ n. n ≤ most) }
+    ensures rows { IfOk result (λ n. rows.new.items ≡ flat_map (row shape.now) (arrays_from plan.now.graph stack.now node pass.now.gone n)) }
+{
+    rows.clear();
+    for ahead in 0..most {
+        if rows.len() >= ENOUGH {
+            return Ok(ahead);
+        }
+        add_row(
+            alloc, plan, stack, node, pass, shape, ahead, rooms, rows,
+        )?;
+    }
+    Ok(most)
+}
