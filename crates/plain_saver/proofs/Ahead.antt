@@ -1,8 +1,8 @@
 -- The arrays that go out of a node next, from both ends.
-use Rattle.std.proofs.Common.{◌≡◌, ℕ, zero, suc, ◌+◌, ◌<◌, ◌≤◌, List, [], ◌∷◌, ◌++◌, Option, None, Some, length, take, drop, refl, sym, ap, subst, ◌∙◌}
-use Rattle.std.proofs.Common.{arith, min, length-drop, length-take, append-nil, append_assoc, take-append-drop}
+use Rattle.std.proofs.Common.{◌≡◌, ℕ, zero, suc, ◌+◌, ◌<◌, ◌≤◌, List, [], ◌∷◌, ◌++◌, Option, None, Some, length, take, drop, refl, ap, subst, ◌∙◌}
+use Rattle.std.proofs.Common.{arith, length-drop, length-take, append-nil}
 use Rattle.std.specs.List.{flat_map}
-use Rattle.std.specs.Prelude.{All, slice_get}
+use Rattle.std.specs.Prelude.{slice_get}
 use Rattle.std.specs.Option.{option_map}
 use Rattle.std.proofs.lemmas.List.{take_more}
 use Rattle.std.proofs.lemmas.List.Concat.{flat_map-append}
@@ -19,7 +19,7 @@ use Rattle.chain_plain.specs.OneThread.{arrays_out, listed}
 use Rattle.chain_plain.specs.Passing.{out_of}
 use Rattle.chain_plain.specs.PassedLaws.{passed-frames}
 use Rattle.chain_plain.specs.PlainRun.{passed}
-use Rattle.graph_files.specs.OutgoingLaws.{arrays_out-more, arrays_out-append, length-arrays_out}
+use Rattle.graph_files.specs.OutgoingLaws.{arrays_out-more, length-arrays_out}
 use Rattle.plain_saver.specs.Ahead.{arrays_from}
 
 drop-next : (xs : List ℕ) (c k : ℕ) → slice_get xs c ≡ Some k → drop c xs ≡ k ∷ drop (suc c) xs

@@ -1,5 +1,5 @@
 -- What is left of a plain run's files where a write failed.
-use Rattle.std.proofs.Common.{◌≡◌, ◌≢◌, inl, inr, ℕ, ◌/◌, ◌%◌, ◌^◌, ◌<◌, ◌≤◌, true, false, List, [], ◌∷◌, ◌++◌, length, take, drop, refl, sym, ap, subst}
+use Rattle.std.proofs.Common.{◌≡◌, ◌≢◌, inl, inr, ℕ, ◌/◌, ◌%◌, ◌^◌, ◌<◌, ◌≤◌, true, false, List, [], ◌++◌, length, take, drop, refl, sym, ap, subst}
 use Rattle.std.proofs.Common.{◌∙◌, arith, Option, Some, None}
 use Rattle.std.specs.Prelude.{slice_get, IsSome, is_some}
 use Rattle.std.proofs.Common.{take-append-drop}
@@ -17,7 +17,6 @@ use Rattle.edge_traits.specs.FileLaws.{file_at-MayAppend, file_at-with_more_same
 use Rattle.cdf_write.specs.Layout.{layout}
 use Rattle.nd_stack.specs.KeptStacks.{IsKeptStack}
 use Rattle.file_out.specs.Streams.{Stream}
-use Rattle.chain_plain.specs.OneThread.{arrays_out}
 use Rattle.graph_files.specs.Groups.{group_of, HasBytes}
 use Rattle.graph_files.specs.GroupLaws.{length-group}
 use Rattle.graph_files.specs.Interrupted as interrupted
@@ -30,12 +29,12 @@ use Rattle.graph_files.specs.OutFiles.{OutFile, plain_files, stats_name}
 use Rattle.graph_files.proofs.BegunBytes.{GroupHas, Nothing, Whole, Opened, group-has}
 use Rattle.graph_files.proofs.Writes.{next-place}
 use Rattle.plain_saver.specs.BegunRows.{AreRowsTouched}
-use Rattle.plain_saver.specs.Passes.{pass_at, is_next}
+use Rattle.plain_saver.specs.Passes.{pass_at}
 use Rattle.plain_saver.specs.Texts.{text_at}
 use Rattle.plain_saver.specs.Saved.{IsSaved, IsNoRows, written, rows_of}
 use Rattle.plain_saver.specs.declared.passes.Pass.{Pass}
 use Rattle.plain_saver.proofs.FileNodes.{FileOf, file-of, group-apart_stats, group-no_rows, none-elsewhere, one-node}
-use Rattle.plain_saver.proofs.Fronts.{split, length-written, written-few, next-out, group-low, group-longer, standing-has}
+use Rattle.plain_saver.proofs.Fronts.{split, length-written, written-few, group-low, group-longer, standing-has}
 use Rattle.plain_saver.proofs.StatsRows.{rows_of-append}
 use Rattle.graph_files.proofs.PlainNames.{all-in, in-all, all_out, rows_file, Rows, plain-in}
 use Rattle.plain_saver.proofs.Standing.{told-file, begun-of, standing-by, standing-then, StandsIn, stands-in, IsFilledGroup, group_record, IsNoName}

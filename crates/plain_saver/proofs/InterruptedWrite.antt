@@ -19,20 +19,20 @@ use Rattle.chain_plain.specs.OneThread.{arrays_out, listed}
 use Rattle.chain_plain.specs.PlainRun.{passed}
 use Rattle.graph_files.specs.Groups.{group_of, HasBytes, file_of}
 use Rattle.graph_files.specs.GroupLaws.{group-more}
-use Rattle.graph_files.specs.Interrupted.{IsCountOf, IsStanding, IsBegunAs, AreInterrupted}
-use Rattle.graph_files.specs.NodeFiles.{NodeFile, HasNumrecs, IsPlaceAfter, IsTorn, first_count, group_file, name_of}
+use Rattle.graph_files.specs.Interrupted.{IsCountOf, IsBegunAs, AreInterrupted}
+use Rattle.graph_files.specs.NodeFiles.{NodeFile, IsPlaceAfter, IsTorn, first_count, group_file, name_of}
 use Rattle.graph_files.specs.NodeFileLaws.{cases_eq, groups-differ, open-elsewhere, written-but}
-use Rattle.graph_files.specs.OpenFiles.{closed, file_nodes, AllStops, AllWritten, AllWrittenBut, IsElsewhere, IsReopened}
+use Rattle.graph_files.specs.OpenFiles.{closed, file_nodes, AllWrittenBut, IsElsewhere}
 use Rattle.graph_files.specs.InTurn.{TurnStops}
 use Rattle.graph_files.specs.OpenFileLaws.{get-set_same, get-set_other, all-but}
 use Rattle.graph_files.specs.OutFiles.{plain_files, stats_name}
-use Rattle.graph_files.proofs.BegunBytes.{begun-torn, group-front, group-has}
+use Rattle.graph_files.proofs.BegunBytes.{begun-torn, group-front}
 use Rattle.graph_files.proofs.Writes.{next-place}
 use Rattle.plain_saver.specs.Passes.{pass_at, is_next}
 use Rattle.plain_saver.specs.Saved.{IsSaved, written, rows_of, group_size}
 use Rattle.plain_saver.specs.declared.passes.Pass.{Pass}
 use Rattle.plain_saver.proofs.FileNodes.{FileOf, file-of, apart, closed-set, group-apart_stats, stats-elsewhere, none-elsewhere}
-use Rattle.plain_saver.proofs.Fronts.{length-written, written-few, next-out, group-low, group-sized, count-of, standing-has}
+use Rattle.plain_saver.proofs.Fronts.{length-written, written-few, next-out, group-low, group-sized, count-of}
 use Rattle.graph_files.proofs.PlainNames.{all_out, rows_file}
 use Rattle.plain_saver.proofs.Standing.{begun-of, standing-by, standing-then, StandsIn, stands-in, IsFilledGroup, group_record, IsNoName, interrupted-by}
 use Rattle.plain_saver.proofs.Interrupted.{same-file, saved-group, saved-long, saved-row, saved-away, saved-written, interrupted-saved}

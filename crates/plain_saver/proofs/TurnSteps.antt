@@ -1,11 +1,11 @@
 -- What several arrays more at a file node do to what stands.
-use Rattle.std.proofs.Common.{◌≡◌, inl, inr, ℕ, zero, suc, ◌+◌, ◌-◌, ◌*◌, ◌/◌, ◌%◌, ◌^◌, ◌<◌, ◌≤◌, true, List, [], ◌∷◌, ◌++◌, Option, None, Some, length}
+use Rattle.std.proofs.Common.{◌≡◌, inl, inr, ℕ, zero, suc, ◌+◌, ◌-◌, ◌*◌, ◌/◌, ◌%◌, ◌^◌, ◌<◌, ◌≤◌, true, List, [], ◌∷◌, Option, Some, length}
 use Rattle.std.proofs.Common.{set, refl, sym, ap, subst, ◌∙◌, arith}
 use Rattle.std.specs.Prelude.{◌==◌, false, min, slice_get}
 use Rattle.std.specs.Option.{option_map_or}
 use Rattle.std.proofs.Math.Nat.{div-le_self}
 use Rattle.std.proofs.lemmas.Bool.{eq-eqb}
-use Rattle.std.proofs.lemmas.List.{length-append, length-set, set-get_or}
+use Rattle.std.proofs.lemmas.List.{length-append, set-get_or}
 use Rattle.std.proofs.lemmas.Option.{same_Some}
 use Rattle.nd_base.specs.Array.{Array, StackValue}
 use Rattle.nd_base.specs.GraphRules.{IsGraph}
@@ -23,7 +23,7 @@ use Rattle.plain_saver.specs.Passes.{no_pass, pass_at, with_gone, with_one_gone,
 use Rattle.plain_saver.specs.Saved.{written, group_size, IsSaved}
 use Rattle.plain_saver.proofs.Ahead.{content-of, from-next}
 use Rattle.plain_saver.proofs.ArraySteps.{all-written, group-goes, place, saved-write}
-use Rattle.plain_saver.proofs.FileNodes.{FileOf, apart, file-of}
+use Rattle.plain_saver.proofs.FileNodes.{apart, file-of}
 use Rattle.plain_saver.proofs.Gone.{pass_at-same, length-gone}
 
 -- LISTS

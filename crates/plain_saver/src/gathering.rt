@@ -79,9 +79,7 @@ pub(crate) fn gather(
         if rows.len() >= ENOUGH {
             return Ok(ahead);
         }
-        add_row(
-            alloc, plan, stack, node, pass, shape, ahead, rooms, rows,
-        )?;
+        add_row(alloc, plan, stack, node, pass, shape, ahead, rooms, rows)?;
     }
     Ok(most)
 }

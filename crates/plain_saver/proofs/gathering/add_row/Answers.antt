@@ -1,9 +1,7 @@
 use Rattle.std.proofs.Common.{◌≡◌, ◌+◌, ◌++◌, List, ℕ, Some, sym, ap, subst, ◌∙◌}
-use Rattle.std.specs.List.{flat_map}
 use Rattle.std.specs.Prelude.{slice_get}
 use Rattle.std.proofs.lemmas.Result.{on_ok_weaker}
 use Rattle.nd_base.specs.Array.{Array}
-use Rattle.nd_base.specs.declared.attribute.FileShape.{FileShape}
 use Rattle.nd_base.specs.declared.array.Head.{Head}
 use Rattle.cdf_write.specs.Layout.{row}
 use Rattle.cdf_write.specs.Writable.{IsWritable}

@@ -16,7 +16,6 @@ use Rattle.plain_saver.specs.declared.passes.Pass.{Pass}
 use Rattle.plain_saver.specs.Ahead.{arrays_from}
 use Rattle.plain_saver.specs.Passes.{pass_at, with_gone}
 use Rattle.plain_saver.specs.Saved.{IsSaved}
-use Rattle.plain_saver.proofs.Ahead.{length-from}
 use Rattle.plain_saver.proofs.Interrupted.{interrupted-saved}
 use Rattle.plain_saver.proofs.FileNodes.{file-of}
 use Rattle.plain_saver.proofs.Writing.{pass-read, counted, one-left, all-left, next-low, next-length, ready, stopped, written-then}

@@ -1,8 +1,7 @@
-use Rattle.std.proofs.Common.{◌+◌, ◌<◌, List, length, refl, sym, subst, ◌∙◌, arith}
+use Rattle.std.proofs.Common.{◌<◌, length, refl, sym, ◌∙◌, arith}
 use Rattle.std.proofs.lemmas.Result.{err_from_is_err_and}
 use Rattle.graph_files.proofs.Ends.{item}
-use Rattle.plain_saver.specs.declared.passes.Pass.{Pass}
-use Rattle.plain_saver.proofs.Turns.{ArrayTurns, arrays-begin, arrays-end, arrays-next}
+use Rattle.plain_saver.proofs.Turns.{arrays-begin, arrays-end, arrays-next}
 use Rattle.plain_saver.proofs.saver.Saver.write_arrays.Goals as goal
 
 pub loop-at-init : goal.loop-at-init
