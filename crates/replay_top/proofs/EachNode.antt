@@ -1,5 +1,5 @@
 -- What nodes give one after the other.
-use Rattle.std.proofs.Common.{◌≡◌, ℕ, zero, suc, ◌+◌, ◌-◌, ◌<◌, ◌≤◌, List, [], ◌∷◌, ◌++◌, Some, length, get_or, ap, sym, ◌∙◌, arith}
+use Rattle.std.proofs.Common.{◌≡◌, ℕ, zero, suc, ◌+◌, ◌<◌, List, [], ◌∷◌, ◌++◌, Some, length, get_or, ap, sym, ◌∙◌, arith}
 use Rattle.std.specs.List.{flat_map, range_with_len}
 use Rattle.std.specs.Option.{option_map_or}
 use Rattle.std.proofs.lemmas.List.{append-nil}
@@ -18,16 +18,6 @@ range_more a (suc n) =
     let e : a + 1 + n ≡ a + suc n = omega arith in
     ap (λ ks. a ∷ ks) (range_more (a + 1) n ∙ ap (λ k. range_with_len (a + 1) n ++ k ∷ []) e)
 
-range_split : (a m n all : ℕ) → m + n ≡ all → range_with_len a all ≡ range_with_len a m ++ range_with_len (a + m) n
-range_split a zero n all sum =
-    let e : a ≡ a + 0 = omega arith in
-    let same : all ≡ n = omega (arith, sum) in
-    ap (range_with_len a) same ∙ ap (λ k. range_with_len k n) e
-range_split a (suc m) n zero sum = absurd (omega (arith, sum))
-range_split a (suc m) n (suc all) sum =
-    let e : a + 1 + m ≡ a + suc m = omega arith in
-    ap (λ ks. a ∷ ks) (range_split (a + 1) m n all (omega (arith, sum)) ∙ ap (λ k. range_with_len (a + 1) m ++ range_with_len k n) e)
-
 module _ {X : Type 0} (f : ℕ → List X) where
   -- what the first nodes give, and one more
   pub each_more : (place : ℕ) → flat_map f (range_with_len 1 (place + 1)) ≡ flat_map f (range_with_len 1 place) ++ f (place + 1)
@@ -36,14 +26,6 @@ module _ {X : Type 0} (f : ℕ → List X) where
       let next : place + 1 ≡ suc place = omega arith in
       ap (λ n. flat_map f (range_with_len 1 n)) next ∙ ap (flat_map f) (range_more 1 place) ∙ flat_map-append f (range_with_len 1 place) ((1 + place) ∷ [])
       ∙ ap (λ xs. flat_map f (range_with_len 1 place) ++ xs) (append-nil (f (1 + place)) ∙ ap f e)
-
-  -- the first nodes and the others
-  pub each_split : (place count : ℕ) → place ≤ count → (rest : List X) × (flat_map f (range_with_len 1 count) ≡ flat_map f (range_with_len 1 place) ++ rest)
-  each_split place count within =
-      let others = range_with_len (1 + place) (count - place) in (
-        flat_map f others,
-        ap (flat_map f) (range_split 1 place (count - place) count (omega arith)) ∙ flat_map-append f (range_with_len 1 place) others,
-      )
 
 -- the rule of the node at a place
 rule_after : (nodes : List NodeRule) (place : ℕ) (n : NodeRule) → place < length nodes → n ≡ get_or nodes place n → rule_at nodes (place + 1) ≡ Some n
