@@ -7,8 +7,6 @@ use Rattle.std.proofs.lemmas.Bool.Decides.{nat_tests}
 use Rattle.nd_base.specs.Array.{StackValue}
 use Rattle.nd_base.specs.declared.graph.Graph.{Graph}
 use Rattle.edge_traits.specs.Files.{Files, IsTold, HasFile}
-use Rattle.nd_base.specs.Forms.{longest_of}
-use Rattle.nd_base.specs.declared.form.Form.TheVariants.{Classic}
 use Rattle.nd_stack.specs.declared.fault.StackFault.{StackFault}
 use Rattle.nd_stack.specs.declared.fault.StackFault.TheVariants as refusal
 use Rattle.nd_stack.specs.Answers as stacks
@@ -25,8 +23,8 @@ use Rattle.replay_top.specs.declared.status.Status.{Status}
 use Rattle.replay_top.specs.declared.status.Status.TheVariants.{Done, StackBytes, Limit}
 use Rattle.replay_top.specs.Answers.{HasGraphRefusal, HasStackRefusal, PassesLimit}
 use Rattle.replay_top.specs.Command.{Command, Copy, Plain, Info}
-use Rattle.replay_top.specs.Copy.{copy_length}
-use Rattle.replay_top.specs.Limits.{IsGraphRefused, IsStackRefused, copy_limit, IsRunAsked, graph_or_status, graph_in, stack_or_status, stack_in}
+use Rattle.replay_top.specs.Copy.{copy_graph}
+use Rattle.replay_top.specs.Limits.{IsGraphRefused, IsStackRefused, IsRunAsked, graph_or_status, graph_in, stack_or_status, stack_in}
 use Rattle.replay_top.specs.Limits.{with_stack, load_status, run_status, IsAskedBy, IsAsked}
 use Rattle.replay_top.specs.Reads.{IsSized}
 use Rattle.replay_top.specs.Sources.{IsGraphRead, IsStackRead, most_graph_bytes, most_stack_bytes}
@@ -152,7 +150,7 @@ by_graph answer told graph stack g source asked text is = rw (graph_in-read told
 -- the command's stack is refused
 pub asked-stack : (answer : Status) (command : Command) (told : Option Files) → HasStackRefusal told command answer → IsAsked answer command told
 asked-stack answer (Copy stack prefix) told refused =
-    λ file is. sym (ap (with_stack (λ s. load_status (copy_limit s))) (stack_is answer told stack file refused.1 is))
+    λ file is. sym (ap (with_stack (λ s. load_status (limit_fault copy_graph s))) (stack_is answer told stack file refused.1 is))
 asked-stack answer (Info stack) told refused = λ file is. sym (ap (with_stack (λ s. Done)) (stack_is answer told stack file refused.1 is))
 asked-stack answer (Plain graph stack prefix) told refused =
     by_graph answer told graph stack refused.0.0 refused.0.1
@@ -161,7 +159,8 @@ asked-stack answer (Plain graph stack prefix) told refused =
 -- the command's work passes a limit, or none
 pub asked-load : (answer : Status) (command : Command) (told : Option Files) (source : Source) → IsRead told command source
     → answer ≡ load_status (limit_of command source) → IsAsked answer command told
-asked-load answer (Copy stack prefix) told source read is = by_stack _ (λ s. load_status (copy_limit s)) answer told stack source.stack (λ file. refl) read is
+asked-load answer (Copy stack prefix) told source read is =
+    by_stack _ (λ s. load_status (limit_fault copy_graph s)) answer told stack source.stack (λ file. refl) read is
 asked-load answer (Info stack) told source read is = by_stack _ (λ s. Done) answer told stack source.stack (λ file. refl) read is
 asked-load answer (Plain graph stack prefix) told source read is =
     by_graph answer told graph stack source.graph read.0
@@ -212,22 +211,3 @@ passed-run told command source fault read is run =
     (λ n e. record { source = source; read = read; passed = is ∙ ap Some (sym e) })
     (λ v n e. record { source = source; read = read; passed = is ∙ ap Some (sym e) })
     source.graph source.stack fault run refl
-
--- and of a copy it is the length of its file
-pub passed-copy : (told : Option Files) (stack prefix : List ℕ) (source : Source) (fault : LimitFault) → IsRead told (Copy stack prefix) source
-    → copy_limit source.stack ≡ Some fault → PassesLimit told (Copy stack prefix) fault
-passed-copy told stack prefix source fault read is =
-    long_by (λ f. f ≡ fault → PassesLimit told (Copy stack prefix) f)
-    (λ n e. record { source = source; read = read; passed = is ∙ ap Some (sym e) })
-    (λ n e. record { source = source; read = read; passed = is ∙ ap Some (sym e) })
-    (λ v n e. record { source = source; read = read; passed = is ∙ ap Some (sym e) })
-    (nat_lt (longest_of Classic) (copy_length source.stack)) 1 (copy_length source.stack) None fault (λ e. absurd (cc)) is refl
-
--- a copy that passes no limit is short enough
-pub copy_limit-none : (s : StackValue) → copy_limit s ≡ None → copy_length s ≤ longest_of Classic
-copy_limit-none s is = by_test (nat_lt (longest_of Classic) (copy_length s)) refl is
-  where
-    by_test : (b : Bool) → nat_lt (longest_of Classic) (copy_length s) ≡ b → (if b then Some (FileTooLarge 1 (copy_length s)) else None) ≡ None
-        → copy_length s ≤ longest_of Classic
-    by_test true e none = absurd (cc)
-    by_test false e none = grind (arith, nat_tests)

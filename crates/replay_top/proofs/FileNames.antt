@@ -1,7 +1,7 @@
 -- No two files have one name.
-use Rattle.std.proofs.Common.{◌≡◌, ◌≢◌, inl, inr, ℕ, zero, suc, ◌+◌, ◌-◌, ◌*◌, ◌/◌, ◌^◌, ◌<◌, ◌≤◌, Bool, true, false, List, [], ◌∷◌, Option, None, Some}
+use Rattle.std.proofs.Common.{◌≡◌, ◌≢◌, inl, inr, ℕ, zero, suc, ◌+◌, ◌-◌, ◌*◌, ◌/◌, ◌^◌, ◌<◌, ◌≤◌, false, List, [], ◌∷◌, Option, None, Some}
 use Rattle.std.proofs.Common.{length, take, drop, get_or, refl, ap, sym, subst, ◌∙◌, arith, append_assoc}
-use Rattle.std.specs.Prelude.{All, codes, if◌then◌else◌}
+use Rattle.std.specs.Prelude.{All, codes}
 use Rattle.std.specs.List.{flat_map, range_with_len}
 use Rattle.std.specs.Option.{option_map_or}
 use Rattle.std.proofs.Math.Nat.{div-le_self}
@@ -32,9 +32,10 @@ use Rattle.graph_files.specs.OpenFileLaws.{rules-apart}
 use Rattle.graph_files.specs.OutFiles.{OutFile, file_shape, group_files, group_name, is_stream, stats_name, kind_files, node_files, plain_files}
 use Rattle.graph_files.specs.OutgoingLaws.{length-arrays_out}
 use Rattle.replay_top.specs.Command.{Copy, Plain, Info}
-use Rattle.replay_top.specs.Copy.{copy_name, copy_file}
+use Rattle.replay_top.specs.Copy.{copy_graph}
 use Rattle.replay_top.specs.FileNames.{HaveOwnNames, CommandsHaveOwnNames, GroupsHaveOwnNames, RowsHaveOwnNames, GroupsAreNoTexts, OnlyLogsMeetTheLog}
 use Rattle.replay_top.specs.LogFiles.{log_name}
+use Rattle.replay_top.proofs.Copies.{copy_graph-IsGraph}
 
 -- NODES
 
@@ -194,12 +195,7 @@ module _ (g : Graph) (s : StackValue) (prefix : List ℕ) (sound : IsGraph g) (f
 
 -- COMMANDS
 
-copy_names : (none : Bool) (f : OutFile) → HaveOwnNames (if none then [] else f ∷ [])
-copy_names true f = no_pairs
-copy_names false f = one_file f
-
 pub command_names : CommandsHaveOwnNames
-command_names told (Copy stack prefix) source read =
-    copy_names _ (record { name = copy_name prefix; bytes = copy_file source.stack; late = false })
+command_names told (Copy stack prefix) source read = plain_names copy_graph source.stack prefix copy_graph-IsGraph read.few
 command_names told (Plain graph stack prefix) source read = plain_names source.graph source.stack prefix read.0.sound read.1.few
 command_names told (Info stack) source read = no_pairs

@@ -1,7 +1,7 @@
 pub mod Files
 pub mod FileNames
 pub mod PlainRuns
-pub mod Frames
+pub mod Copies
 pub mod Ids
 pub mod EachNode
 pub mod Asked
@@ -13,5 +13,4 @@ pub mod RunStops
 pub mod RunClaims
 pub mod RunReading
 pub mod SmoothFiles
-pub mod CopyKept
 mod Sends

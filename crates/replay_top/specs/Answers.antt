@@ -1,5 +1,5 @@
 -- What each status of a command says of the objects.
-use Rattle.std.specs.Prelude.{◌≡◌, ◌≢◌, ℕ, ◌<◌, List, Option, None, Some, ◌⊎◌}
+use Rattle.std.specs.Prelude.{◌≡◌, ◌≢◌, ℕ, ◌<◌, List, Option, None, Some, ◌⊎◌, Result, Ok, Err}
 use Rattle.nd_base.specs.declared.graph.Graph.{Graph}
 use Rattle.edge_traits.specs.Files.{Files}
 use Rattle.edge_traits.specs.Written.{with_written}
@@ -19,6 +19,11 @@ use Rattle.graph_files.specs.OutFiles.{with_files}
 use Rattle.replay_top.specs.Printed.{IsCutShort}
 use Rattle.replay_top.specs.Sources.{most_graph_bytes, most_stack_bytes, IsGraphRead}
 use Rattle.replay_top.specs.Works.{Source, work_of, limit_of, IsRead, IsWithin, IsReadBack}
+
+-- what a command that answered so ends with
+abbrev pub status_of : Result (Unit {0}) Status → Status
+status_of (Ok x) = Done
+status_of (Err status) = status
 
 -- the files were written, and the print, and nothing else
 pub record IsWorkDone (told : Option Files) (command : Command) (held now : Option Files) (before after : Option (List ℕ)) : Type 0 where

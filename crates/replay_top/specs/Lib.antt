@@ -3,7 +3,6 @@ pub mod Causes
 pub mod Claims
 pub mod Command
 pub mod Copy
-pub mod CopyLaw
 pub mod FileNames
 pub mod Info
 pub mod Limits

@@ -1,23 +1,21 @@
 -- Which status the files of a command ask for.
-use Rattle.std.specs.Prelude.{◌≡◌, ℕ, nat_le, nat_lt, List, length, Option, None, Some, Result, Ok, Err, if◌then◌else◌}
+use Rattle.std.specs.Prelude.{◌≡◌, ℕ, nat_le, List, length, Option, None, Some, Result, Ok, Err, if◌then◌else◌}
 use Rattle.nd_base.specs.Array.{StackValue}
 use Rattle.nd_base.specs.declared.graph.Graph.{Graph}
 use Rattle.edge_traits.specs.Files.{Files, IsTold, HasFile}
-use Rattle.nd_base.specs.Forms.{longest_of}
-use Rattle.nd_base.specs.declared.form.Form.TheVariants.{Classic}
 use Rattle.nd_stack.specs.declared.fault.StackFault.{StackFault}
 use Rattle.nd_stack.specs.StackRules.{stack_of}
 use Rattle.graph_conf.specs.declared.fault.GraphFault.{GraphFault}
 use Rattle.graph_conf.specs.declared.fault.GraphFault.TheVariants as graph
 use Rattle.graph_conf.specs.declared.load.LimitFault.{LimitFault}
-use Rattle.graph_conf.specs.declared.load.LimitFault.TheVariants.{GraphBytes, StackFile, FileTooLarge}
+use Rattle.graph_conf.specs.declared.load.LimitFault.TheVariants.{GraphBytes, StackFile}
 use Rattle.graph_conf.specs.Graphs.{graph_of_bytes}
 use Rattle.graph_conf.specs.Loads.{limit_fault}
 use Rattle.replay_top.specs.declared.status.Status.{Status}
 use Rattle.replay_top.specs.declared.status.Status.TheVariants as status
 use Rattle.replay_top.specs.declared.status.Status.TheVariants.{Done, GraphRule, StackBytes, Limit}
 use Rattle.replay_top.specs.Command.{Command, Copy, Plain, Info}
-use Rattle.replay_top.specs.Copy.{copy_length}
+use Rattle.replay_top.specs.Copy.{copy_graph}
 use Rattle.replay_top.specs.Sources.{most_graph_bytes, most_stack_bytes}
 
 -- the graph of a file, or the status that refuses it
@@ -53,20 +51,13 @@ abbrev pub with_stack : (StackValue → Status) → Result StackValue Status →
 with_stack next (Ok s) = next s
 with_stack next (Err refusal) = refusal
 
--- the copy's file would be too long
-abbrev pub copy_limit : StackValue → Option LimitFault
-copy_limit s = if nat_lt (longest_of Classic) (copy_length s) then Some (FileTooLarge 1 (copy_length s)) else None
-
 -- Done, where no limit is passed
 abbrev pub load_status : Option LimitFault → Status
 load_status None = Done
 load_status (Some fault) = Limit fault
 
 -- The status that a stack's file asks for, where nothing fails and memory is there: the first refusal, in the order of the
--- tests, or Done. For `copy`, for a plain run of this graph, and for `info`.
-abbrev pub copy_status : List ℕ → Status
-copy_status file = with_stack (λ s. load_status (copy_limit s)) (stack_in file)
-
+-- tests, or Done. For a plain run of this graph, and for `info`.
 abbrev pub run_status : Graph → List ℕ → Status
 run_status g file = with_stack (λ s. load_status (limit_fault g s)) (stack_in file)
 
@@ -84,6 +75,6 @@ IsRunAsked answer (Ok g) told stack = IsAskedBy (run_status g) answer told stack
 
 -- the status is the one that the command's files ask for, where they are told
 abbrev pub IsAsked : Status → Command → Option Files → Type 0
-IsAsked answer (Copy stack prefix) told = IsAskedBy copy_status answer told stack
+IsAsked answer (Copy stack prefix) told = IsAskedBy (run_status copy_graph) answer told stack
 IsAsked answer (Plain graph stack prefix) told = (file : List ℕ) → IsTold told graph file → IsRunAsked answer (graph_in file) told stack
 IsAsked answer (Info stack) told = IsAskedBy info_status answer told stack

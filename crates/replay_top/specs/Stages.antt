@@ -1,13 +1,17 @@
 -- Why each stage of a command stopped, and what it left.
-use Rattle.std.specs.Prelude.{◌≡◌, ◌≢◌, ℕ, ◌<◌, List, Option}
+use Rattle.std.specs.Prelude.{◌≡◌, ◌≢◌, ℕ, ◌<◌, List, Option, Some}
 use Rattle.nd_base.specs.Array.{StackValue}
+use Rattle.nd_base.specs.declared.graph.Graph.{Graph}
 use Rattle.edge_traits.specs.Faults.{Rose}
 use Rattle.edge_traits.specs.Files.{Files}
+use Rattle.file_out.specs.declared.fault.SaveFault.{SaveFault}
+use Rattle.file_out.specs.declared.fault.SaveFault.TheVariants as saving
 use Rattle.nd_stack.specs.declared.fault.StackFault.{StackFault}
 use Rattle.nd_stack.specs.declared.fault.StackFault.TheVariants as refusal
 use Rattle.nd_stack.specs.KeptStacks.{IsKeptStack}
 use Rattle.graph_conf.specs.declared.fault.GraphFault.{GraphFault}
 use Rattle.graph_conf.specs.declared.fault.GraphFault.TheVariants as rule
+use Rattle.graph_conf.specs.Loads.{limit_fault}
 use Rattle.graph_conf.specs.declared.load.LimitFault.TheVariants.{GraphBytes, StackFile}
 use Rattle.replay_top.specs.declared.reading.ReadRefusal.{ReadRefusal}
 use Rattle.replay_top.specs.declared.reading.ReadRefusal.TheVariants as reading
@@ -40,6 +44,11 @@ abbrev pub fault_status : StackFault → Status
 fault_status refusal.OutOfMemory = OutOfMemory
 fault_status fault = StackBytes fault
 
+-- the status of files that weren't written
+abbrev pub save_fault_status : SaveFault → Status
+save_fault_status saving.Failed = ShelfFault
+save_fault_status saving.OutOfMemory = OutOfMemory
+
 -- reading the graph
 abbrev pub GraphStops : Status → Option Files → (name : List ℕ) → (before now : ℕ) → Type 0
 GraphStops GraphText told name before now = IsGraphRefused GraphText told name × (now ≡ before)
@@ -62,6 +71,12 @@ StackStops _ told name before now = ⊥
 pub record IsLoaded (told : Option Files) (name : List ℕ) (s : StackValue) : Type 0 where
   pub source : IsStackRead told name s
   pub kept : IsKeptStack s
+
+-- making the plan, and testing its limits
+abbrev pub PlanStops : Status → Graph → StackValue → Type 0
+PlanStops (Limit fault) g s = limit_fault g s ≡ Some fault
+PlanStops OutOfMemory g s = Unit {0}
+PlanStops _ g s = ⊥
 
 -- writing the files
 abbrev pub SaveStops : Status → (held : Option Files) → List OutFile → (now : Option Files) → (before after : ℕ) → Type 0

@@ -7,9 +7,8 @@ use Rattle.nd_stack.specs.RoundTrip.{ReadsBack}
 use Rattle.graph_conf.specs.Loads.{limit_fault}
 use Rattle.graph_conf.specs.declared.load.LimitFault.{LimitFault}
 use Rattle.replay_top.specs.Command.{Command, Copy, Plain, Info}
-use Rattle.replay_top.specs.Copy.{copy_shape, copy_files}
+use Rattle.replay_top.specs.Copy.{copy_graph, copy_shape}
 use Rattle.replay_top.specs.Info.{info_text}
-use Rattle.replay_top.specs.Limits.{copy_limit}
 use Rattle.graph_files.specs.OutFiles.{OutFile, file_shape, plain_files}
 use Rattle.chain_plain.specs.PlainRun.{result_of}
 use Rattle.replay_top.specs.PlainText.{plain_text}
@@ -21,13 +20,14 @@ pub record Source : Type 0 where
   pub graph : Graph
   pub stack : StackValue
 
--- the files that a command writes, and what it prints
+-- The files that a command writes, and what it prints. A copy has the files of the plain run of its graph, which are the layout of the stack under one
+-- name (`CopiesAreOneFile`).
 pub record Work : Type 0 where
   pub files : List OutFile
   pub print : List ℕ
 
 abbrev pub work_of : Command → Source → Work
-work_of (Copy stack prefix) source = record { files = copy_files source.stack prefix; print = frames_line (length source.stack.arrays) }
+work_of (Copy stack prefix) source = record { files = plain_files copy_graph source.stack prefix; print = frames_line (length source.stack.arrays) }
 work_of (Plain graph stack prefix) source = record { files = plain_files source.graph source.stack prefix; print = plain_text source.graph source.stack }
 work_of (Info stack) source = record { files = []; print = info_text source.stack }
 
@@ -39,7 +39,7 @@ IsRead told (Info stack) source = IsStackRead told stack source.stack
 
 -- the first limit that it passes
 abbrev pub limit_of : Command → Source → Option LimitFault
-limit_of (Copy stack prefix) source = copy_limit source.stack
+limit_of (Copy stack prefix) source = limit_fault copy_graph source.stack
 limit_of (Plain graph stack prefix) source = limit_fault source.graph source.stack
 limit_of (Info stack) source = None
 

@@ -2,7 +2,7 @@
 
 ghost use Rattle.std.specs.Prelude.{◌≡◌, ◌++◌, ℕ, length, Option, Some, IfOk, OnOk, string_bytes};
 ghost use Rattle.edge_traits.specs.Files.{Files};
-ghost use Rattle.replay_top.specs.Answers.{Ends};
+ghost use Rattle.replay_top.specs.Answers.{Ends, status_of};
 ghost use Rattle.replay_top.specs.Causes.{IsCause};
 ghost use Rattle.replay_top.specs.Command.{Info};
 ghost use Rattle.replay_top.specs.Info.{type_word, attr_word, kind_line, sizes, dims_line, ids_line, attr_line, attr_lines, info_text};
@@ -134,21 +134,14 @@ pub(crate) fn info<L: Library, T: Sink>(
     name: &str,
     library: &mut L,
     out: &mut T,
-) -> Status
-    ensures ends { (held : Option Files) → Ends result (Some (Info name.now)) (L.holds library.old) held held (T.written out.old) (T.written out.new) }
-    ensures cause { (shelf : ℕ) → IsCause result (record { library = L.faults library.old; shelf = shelf; sink = T.faults out.old })
+) -> Result<(), Status>
+    ensures ends { (held : Option Files) → Ends (status_of result) (Some (Info name.now)) (L.holds library.old) held held
+        (T.written out.old) (T.written out.new) }
+    ensures cause { (shelf : ℕ) → IsCause (status_of result) (record { library = L.faults library.old; shelf = shelf; sink = T.faults out.old })
         (record { library = L.faults library.new; shelf = shelf; sink = T.faults out.new }) }
     ensures library { L.holds library.new ≡ L.holds library.old }
 {
-    let stack = match load_stack(alloc, library, name) {
-        Ok(stack) => stack,
-        Err(status) => return status,
-    };
-    let Ok(text) = info_text(alloc, &stack) else {
-        return Status::OutOfMemory;
-    };
-    match print(out, text.as_str()) {
-        Ok(()) => Status::Done,
-        Err(status) => status,
-    }
+    let stack = load_stack(alloc, library, name)?;
+    let text = info_text(alloc, &stack)?;
+    print(out, text.as_str())
 }

@@ -1,17 +1,17 @@
 //! What holds of the commands. Each function is a law: it does nothing, and its contract says what holds.
 
-ghost use Rattle.replay_top.specs.CopyLaw.{SameFiles, SameLimit};
+ghost use Rattle.replay_top.specs.Copy.{CopiesAreOneFile, CopiesHaveOneLimit};
 ghost use Rattle.replay_top.specs.FileNames.{CommandsHaveOwnNames, GroupsHaveOwnNames, RowsHaveOwnNames, GroupsAreNoTexts, OnlyLogsMeetTheLog};
 ghost use Rattle.replay_top.specs.PlainRuns.{DriverPassesOnAll, NodesPassOnTheirInputs, ResultsAreOfTheInputs, ResultsAreOfThePassed};
 ghost use Rattle.replay_top.specs.SmoothRuns.{SmoothFilesArePlain};
 
 use run_laws::smooth_runs_are_plain;
 
-/// `copy` is the plain run of a graph of one file node named `copy` on the driver, in mode capture with count 65,536: it writes
-/// the same files, and passes the same limit.
-pub fn copy_is_plain()
-    ensures files { SameFiles }
-    ensures limit { SameLimit }
+/// `copy`, which is the plain run of one file node, writes one file where its stack has a frame, and else none: `<prefix>copy_000.nc`, the layout of all
+/// the stack's arrays in form classic. The one limit that it can pass is the length of that file.
+pub fn copies_are_one_file()
+    ensures files { CopiesAreOneFile }
+    ensures limit { CopiesHaveOneLimit }
 {}
 
 /// No two files of a `copy` or a `plain` have one name, and no two of a graph's groups and rows, be they of a plain run or of one with its threads. The

@@ -14,7 +14,6 @@ mod run;
 mod run_rows;
 mod run_sources;
 mod run_words;
-mod saving;
 mod sources;
 mod status;
 mod top;
@@ -23,7 +22,7 @@ mod words;
 pub use exit::Exit;
 pub use graph_conf::LimitFault;
 pub use laws::{
-    copy_is_plain, files_have_own_names, plain_runs_go_by_inputs, smooth_runs_are_plain_files,
+    copies_are_one_file, files_have_own_names, plain_runs_go_by_inputs, smooth_runs_are_plain_files,
 };
 pub use run::run_top;
 pub use status::{Status, status_text};

@@ -1,17 +1,17 @@
 //! `plain GRAPH STACK PREFIX`: runs a graph over a stack in one thread, without drops.
 
-ghost use Rattle.std.specs.Prelude.{◌≡◌, None, Some, OnOk, IfErr};
+ghost use Rattle.std.specs.Prelude.{◌≡◌, None, Some, IfOk, OnOk, IfErr};
 ghost use Rattle.edge_traits.specs.Written.{with_written};
 ghost use Rattle.nd_base.specs.GraphRules.{IsGraph};
 ghost use Rattle.nd_stack.specs.KeptStacks.{IsKeptStack};
 ghost use Rattle.chain_plain.specs.Plans.{plan_of};
 ghost use Rattle.graph_conf.specs.Loads.{limit_fault};
-ghost use Rattle.replay_top.specs.Answers.{Ends};
+ghost use Rattle.replay_top.specs.Answers.{Ends, status_of};
 ghost use Rattle.replay_top.specs.Causes.{IsCause};
 ghost use Rattle.replay_top.specs.Command.{Plain};
 ghost use Rattle.graph_files.specs.OutFiles.{plain_files, with_files};
 ghost use Rattle.replay_top.specs.PlainText.{plain_text};
-ghost use Rattle.replay_top.specs.Stages.{SaveStops, PrintStops};
+ghost use Rattle.replay_top.specs.Stages.{PlanStops, SaveStops, PrintStops};
 
 use crate::printing::print;
 use crate::prints::plain_text;
@@ -19,14 +19,26 @@ use crate::sources::{load_graph, load_stack};
 use crate::status::Status;
 use chain_plain::plan;
 use edge_traits::{Library, Shelf, Sink};
-use file_out::SaveFault;
 use graph_conf::check_load;
-use nd_base::{Plan, Stack};
+use nd_base::{Graph, Plan, Stack};
 use plain_saver::save_files;
 use std::alloc::Global;
 
+/// The plan of a graph over a stack that passes none of its limits.
+pub(crate) fn plan_within(alloc: Global, graph: Graph, stack: &Stack) -> Result<Plan, Status>
+    requires graph { IsGraph graph }
+    requires kept { IsKeptStack stack.now }
+    ensures plan { IfOk result (λ plan. plan ≡ plan_of graph stack.now) }
+    ensures within { OnOk result (limit_fault graph stack.now ≡ None) }
+    ensures err { IfErr result (λ s. PlanStops s graph stack.now) }
+{
+    let plan = plan(alloc, graph, stack)?;
+    check_load(&plan.graph, stack, &plan)?;
+    Ok(plan)
+}
+
 /// Writes the files of all nodes.
-fn save_plain<K: Shelf>(
+pub(crate) fn save_plain<K: Shelf>(
     alloc: Global,
     shelf: &mut K,
     prefix: &str,
@@ -42,11 +54,7 @@ fn save_plain<K: Shelf>(
     ensures err { IfErr result (λ s. SaveStops s (K.held shelf.old) (plain_files plan.now.graph stack.now prefix.now) (K.held shelf.new) (K.faults shelf.old)
         (K.faults shelf.new)) }
 {
-    match save_files(alloc, shelf, prefix, plan, stack) {
-        Ok(()) => Ok(()),
-        Err(SaveFault::Failed) => Err(Status::ShelfFault),
-        Err(SaveFault::OutOfMemory) => Err(Status::OutOfMemory),
-    }
+    Ok(save_files(alloc, shelf, prefix, plan, stack)?)
 }
 
 /// Prints how many frames there are, and how many arrays went out of each node.
@@ -62,10 +70,8 @@ fn print_plain<T: Sink>(
     ensures err { IfErr result
         (λ s. PrintStops s (T.written out.old) (plain_text plan.now.graph stack.now) (T.written out.new) (T.faults out.old) (T.faults out.new)) }
 {
-    match plain_text(alloc, plan, stack) {
-        Ok(text) => print(out, text.as_str()),
-        Err(_) => Err(Status::OutOfMemory),
-    }
+    let text = plain_text(alloc, plan, stack)?;
+    print(out, text.as_str())
 }
 
 /// Runs a graph over a stack in one thread: writes the files of each node, and prints how many arrays went out of it.
@@ -77,32 +83,16 @@ pub(crate) fn plain<L: Library, K: Shelf, T: Sink>(
     library: &mut L,
     shelf: &mut K,
     out: &mut T,
-) -> Status
-    ensures ends { Ends result (Some (Plain graph.now name.now prefix.now)) (L.holds library.old) (K.held shelf.old) (K.held shelf.new) (T.written out.old)
-        (T.written out.new) }
-    ensures cause { IsCause result (record { library = L.faults library.old; shelf = K.faults shelf.old; sink = T.faults out.old })
+) -> Result<(), Status>
+    ensures ends { Ends (status_of result) (Some (Plain graph.now name.now prefix.now)) (L.holds library.old) (K.held shelf.old) (K.held shelf.new)
+        (T.written out.old) (T.written out.new) }
+    ensures cause { IsCause (status_of result) (record { library = L.faults library.old; shelf = K.faults shelf.old; sink = T.faults out.old })
         (record { library = L.faults library.new; shelf = K.faults shelf.new; sink = T.faults out.new }) }
     ensures library { L.holds library.new ≡ L.holds library.old }
 {
-    let graph = match load_graph(alloc, library, graph) {
-        Ok(graph) => graph,
-        Err(status) => return status,
-    };
-    let stack = match load_stack(alloc, library, name) {
-        Ok(stack) => stack,
-        Err(status) => return status,
-    };
-    let Ok(plan) = plan(alloc, graph, &stack) else {
-        return Status::OutOfMemory;
-    };
-    if let Err(fault) = check_load(&plan.graph, &stack, &plan) {
-        return Status::Limit(fault);
-    }
-    if let Err(status) = save_plain(alloc, shelf, prefix, &plan, &stack) {
-        return status;
-    }
-    match print_plain(alloc, out, &plan, &stack) {
-        Ok(()) => Status::Done,
-        Err(status) => status,
-    }
+    let graph = load_graph(alloc, library, graph)?;
+    let stack = load_stack(alloc, library, name)?;
+    let plan = plan_within(alloc, graph, &stack)?;
+    save_plain(alloc, shelf, prefix, &plan, &stack)?;
+    print_plain(alloc, out, &plan, &stack)
 }

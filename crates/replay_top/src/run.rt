@@ -9,7 +9,7 @@ ghost use Rattle.graph_conf.specs.declared.load.LimitFault.{LimitFault};
 ghost use Rattle.run_report.specs.Report.{report};
 ghost use Rattle.run_report.specs.Text.{report_text};
 ghost use Rattle.graph_files.specs.OutFiles.{with_files};
-ghost use Rattle.replay_top.specs.Answers.{HasNoText, HasGraphFault, HasStackFault, HasLimitFault, IsRefused};
+ghost use Rattle.replay_top.specs.Answers.{status_of, HasNoText, HasGraphFault, HasStackFault, HasLimitFault, IsRefused};
 ghost use Rattle.replay_top.specs.Claims.{Completes};
 ghost use Rattle.replay_top.specs.RunAnswers.{RunEnds, IsRunCause, OfLog, HasFinished, IsRunDone, IsRunTorn, IsRunCutShort};
 ghost use Rattle.replay_top.specs.MeasuredFiles.{measured_files};
@@ -25,9 +25,8 @@ use crate::printing::print;
 use crate::run_rows::save_later;
 use crate::run_sources::load_run;
 use crate::run_words::{RunWords, run_in};
-use crate::status::Status;
+use crate::status::{Status, status_of};
 use edge_traits::{Clock, Gate, Library, Shelf, Sink};
-use file_out::SaveFault;
 use flow_journal::Log;
 use flow_run::RunEnd;
 use flow_saver::{groups_read_back, rows_complete_the_files};
@@ -55,7 +54,7 @@ fn save_rest<K: Shelf>(
         (measured_files prefix.now plan.now.graph.nodes history.now.measures ++ log_files logs prefix.now history.now.log.past)
         (K.held shelf.new) (K.faults shelf.old) (K.faults shelf.new)) }
 {
-    match save_later(
+    Ok(save_later(
         alloc,
         shelf,
         prefix,
@@ -63,11 +62,7 @@ fn save_rest<K: Shelf>(
         &history.measures,
         &history.log,
         logs,
-    ) {
-        Ok(()) => Ok(()),
-        Err(SaveFault::Failed) => Err(Status::ShelfFault),
-        Err(SaveFault::OutOfMemory) => Err(Status::OutOfMemory),
-    }
+    )?)
 }
 
 /// The text of a log's report.
@@ -85,10 +80,8 @@ fn print_report<T: Sink>(alloc: Global, out: &mut T, plan: &Plan, log: &Log) -> 
     ensures err { IfErr result (λ s. PrintStops s (T.written out.old) (report_text plan.now.graph (report plan.now log.now.past)) (T.written out.new)
         (T.faults out.old) (T.faults out.new)) }
 {
-    match report_of(alloc, plan, log) {
-        Ok(text) => print(out, text.as_str()),
-        Err(_) => Err(Status::OutOfMemory),
-    }
+    let text = report_of(alloc, plan, log)?;
+    print(out, text.as_str())
 }
 
 /// Writes what there is to write once the groups stand, and prints the report. Where the shelf has failed it does neither.
@@ -100,25 +93,20 @@ fn finish<K: Shelf, T: Sink>(
     plan: &Plan,
     history: &RunEnd,
     logs: bool,
-) -> Status
+) -> Result<(), Status>
     requires graph { IsGraph plan.now.graph }
     requires measures { length history.now.measures ≡ length plan.now.graph.nodes }
-    ensures ends { RestEnds result history.now.fault
+    ensures ends { RestEnds (status_of result) history.now.fault
         (measured_files prefix.now plan.now.graph.nodes history.now.measures ++ log_files logs prefix.now history.now.log.past)
         (report_text plan.now.graph (report plan.now history.now.log.past))
         (K.held shelf.old) (K.held shelf.new) (T.written out.old) (T.written out.new) }
-    ensures cause { RestCause result history.now.fault (K.faults shelf.old) (K.faults shelf.new) (T.faults out.old) (T.faults out.new) }
+    ensures cause { RestCause (status_of result) history.now.fault (K.faults shelf.old) (K.faults shelf.new) (T.faults out.old) (T.faults out.new) }
 {
     if history.fault {
-        return Status::ShelfFault;
+        return Err(Status::ShelfFault);
     }
-    if let Err(status) = save_rest(alloc, shelf, prefix, plan, history, logs) {
-        return status;
-    }
-    match print_report(alloc, out, plan, &history.log) {
-        Ok(()) => Status::Done,
-        Err(status) => status,
-    }
+    save_rest(alloc, shelf, prefix, plan, history, logs)?;
+    print_report(alloc, out, plan, &history.log)
 }
 
 /// Runs what the words of a run ask for.
@@ -140,7 +128,15 @@ fn run_words<
     gate: &G,
 ) -> Exit
     ensures ends { RunEnds result.status result.log (Some (run_told words.entry))
-        (record { told = L.holds library.old; coming = C.coming clock.old; later = C.coming clock.new; held = K.held shelf.old; now = K.held shelf.new; written = T.written out.old; out = T.written out.new }) }
+        (record {
+          told = L.holds library.old;
+          coming = C.coming clock.old;
+          later = C.coming clock.new;
+          held = K.held shelf.old;
+          now = K.held shelf.new;
+          written = T.written out.old;
+          out = T.written out.new;
+        }) }
     ensures cause { IsRunCause result.status (record { library = L.faults library.old; shelf = K.faults shelf.old; sink = T.faults out.old })
         (record { library = L.faults library.new; shelf = K.faults shelf.new; sink = T.faults out.new }) }
     ensures library { L.holds library.new ≡ L.holds library.old }
@@ -154,7 +150,7 @@ fn run_words<
     let Ok(history) = run_plan(rt, alloc, &plan, &stack, words.prefix, shelf, clock, gate) else {
         return unfinished(Status::OutOfMemory);
     };
-    match finish(alloc, shelf, out, words.prefix, &plan, &history, words.logs) {
+    match status_of(finish(alloc, shelf, out, words.prefix, &plan, &history, words.logs)) {
         Status::OutOfMemory => unfinished(Status::OutOfMemory),
         status => Exit {
             status,
@@ -188,13 +184,37 @@ pub fn run_top<
     // Done and OutFault the shelf holds its files, and the sink its report, or a proper front of it; with ShelfFault each file is as it was left.
     ensures logged { HasFinished result.status ↔ IsSome result.log }
     ensures done { result.status ≡ Status.Done → OfLog (IsRunDone
-        (record { told = L.holds library.old; coming = C.coming clock.old; later = C.coming clock.new; held = K.held shelf.old; now = K.held shelf.new; written = T.written out.old; out = T.written out.new }))
+        (record {
+          told = L.holds library.old;
+          coming = C.coming clock.old;
+          later = C.coming clock.new;
+          held = K.held shelf.old;
+          now = K.held shelf.new;
+          written = T.written out.old;
+          out = T.written out.new;
+        }))
         (run_command_of (map string_bytes words.now)) result.log }
     ensures shelf_fault { result.status ≡ Status.ShelfFault → OfLog (IsRunTorn
-        (record { told = L.holds library.old; coming = C.coming clock.old; later = C.coming clock.new; held = K.held shelf.old; now = K.held shelf.new; written = T.written out.old; out = T.written out.new }))
+        (record {
+          told = L.holds library.old;
+          coming = C.coming clock.old;
+          later = C.coming clock.new;
+          held = K.held shelf.old;
+          now = K.held shelf.new;
+          written = T.written out.old;
+          out = T.written out.new;
+        }))
         (run_command_of (map string_bytes words.now)) result.log }
     ensures out_fault { result.status ≡ Status.OutFault → OfLog (IsRunCutShort
-        (record { told = L.holds library.old; coming = C.coming clock.old; later = C.coming clock.new; held = K.held shelf.old; now = K.held shelf.new; written = T.written out.old; out = T.written out.new }))
+        (record {
+          told = L.holds library.old;
+          coming = C.coming clock.old;
+          later = C.coming clock.new;
+          held = K.held shelf.old;
+          now = K.held shelf.new;
+          written = T.written out.old;
+          out = T.written out.new;
+        }))
         (run_command_of (map string_bytes words.now)) result.log }
 
     // Refusals: exactly where the words are no run; and else those of the plain run of the same words.

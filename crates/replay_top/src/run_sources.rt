@@ -4,11 +4,10 @@ ghost use Rattle.std.specs.Prelude.{◌≡◌, OnOk, IfOk, IfErr};
 ghost use Rattle.chain_plain.specs.Plans.{plan_of};
 ghost use Rattle.replay_top.specs.RunSources.{IsSourceRead, SourceStops};
 
+use crate::plain::plan_within;
 use crate::sources::{load_graph, load_stack};
 use crate::status::Status;
-use chain_plain::plan;
 use edge_traits::Library;
-use graph_conf::check_load;
 use nd_base::{Plan, Stack};
 use std::alloc::Global;
 
@@ -25,19 +24,8 @@ pub(crate) fn load_run<L: Library>(
     ensures files { L.holds library.new ≡ L.holds library.old }
     ensures err { IfErr result (λ s. SourceStops s (L.holds library.old) graph.now name.now (L.faults library.old) (L.faults library.new)) }
 {
-    let graph = match load_graph(alloc, library, graph) {
-        Ok(graph) => graph,
-        Err(status) => return Err(status),
-    };
-    let stack = match load_stack(alloc, library, name) {
-        Ok(stack) => stack,
-        Err(status) => return Err(status),
-    };
-    let Ok(plan) = plan(alloc, graph, &stack) else {
-        return Err(Status::OutOfMemory);
-    };
-    match check_load(&plan.graph, &stack, &plan) {
-        Ok(()) => Ok((plan, stack)),
-        Err(fault) => Err(Status::Limit(fault)),
-    }
+    let graph = load_graph(alloc, library, graph)?;
+    let stack = load_stack(alloc, library, name)?;
+    let plan = plan_within(alloc, graph, &stack)?;
+    Ok((plan, stack))
 }

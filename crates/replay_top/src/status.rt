@@ -3,12 +3,14 @@
 ghost use Rattle.std.specs.Prelude.{◌≡◌, Some, IfOk, string_bytes};
 ghost use Rattle.replay_top.specs.StatusText.{status_number, status_words, stack_fault_words, limit_fault_words, cdf_fault_words, calc_fault_words};
 ghost use Rattle.replay_top.specs.StatusText.{graph_fault_words};
+ghost use Rattle.replay_top.specs.Answers.{status_of};
 
 use cdf_read::CdfFault;
+use file_out::SaveFault;
 use graph_conf::{GraphFault, LimitFault};
 use nd_base::OutOfMemory;
 use nd_stack::StackFault;
-use std::alloc::Global;
+use std::alloc::{AllocError, Global};
 use std::fmt;
 use trig_window::CalcFault;
 
@@ -225,6 +227,63 @@ impl From<StackFault> for Status {
             StackFault::OutOfMemory => Status::OutOfMemory,
             fault => Status::StackBytes(fault),
         }
+    }
+}
+
+impl From<LimitFault> for Status {
+    ghost use Rattle.std.specs.Prelude.{◌≡◌};
+    ghost use Rattle.replay_top.specs.declared.status.Status.TheVariants as statuses;
+
+    ghost from_gives = { λ fault s. s ≡ statuses.Limit fault };
+
+    fn from(fault: LimitFault) -> Self {
+        Status::Limit(fault)
+    }
+}
+
+impl From<SaveFault> for Status {
+    ghost use Rattle.std.specs.Prelude.{◌≡◌};
+    ghost use Rattle.replay_top.specs.Stages.{save_fault_status};
+
+    ghost from_gives = { λ fault s. s ≡ save_fault_status fault };
+
+    fn from(fault: SaveFault) -> Self {
+        match fault {
+            SaveFault::Failed => Status::ShelfFault,
+            SaveFault::OutOfMemory => Status::OutOfMemory,
+        }
+    }
+}
+
+impl From<OutOfMemory> for Status {
+    ghost use Rattle.std.specs.Prelude.{◌≡◌};
+    ghost use Rattle.replay_top.specs.declared.status.Status.TheVariants as statuses;
+
+    ghost from_gives = { λ _ s. s ≡ statuses.OutOfMemory };
+
+    fn from(_: OutOfMemory) -> Self {
+        Status::OutOfMemory
+    }
+}
+
+impl From<AllocError> for Status {
+    ghost use Rattle.std.specs.Prelude.{◌≡◌};
+    ghost use Rattle.replay_top.specs.declared.status.Status.TheVariants as statuses;
+
+    ghost from_gives = { λ _ s. s ≡ statuses.OutOfMemory };
+
+    fn from(_: AllocError) -> Self {
+        Status::OutOfMemory
+    }
+}
+
+/// What a command that answered so ends with.
+pub(crate) fn status_of(answer: Result<(), Status>) -> Status
+    ensures { result ≡ status_of answer }
+{
+    match answer {
+        Ok(()) => Status::Done,
+        Err(status) => status,
     }
 }
 

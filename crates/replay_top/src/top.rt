@@ -4,7 +4,7 @@ ghost use Rattle.std.specs.Prelude.{◌≡◌, ◌↔◌, map, None, string_byte
 ghost use Rattle.nd_stack.specs.declared.fault.StackFault.{StackFault};
 ghost use Rattle.graph_conf.specs.declared.fault.GraphFault.{GraphFault};
 ghost use Rattle.graph_conf.specs.declared.load.LimitFault.{LimitFault};
-ghost use Rattle.replay_top.specs.Answers.{Ends, IsDone, HasNoText, HasGraphFault, HasStackFault, HasLimitFault, IsSaveBegun, IsSaveFailed};
+ghost use Rattle.replay_top.specs.Answers.{Ends, status_of, IsDone, HasNoText, HasGraphFault, HasStackFault, HasLimitFault, IsSaveBegun, IsSaveFailed};
 ghost use Rattle.replay_top.specs.Answers.{IsPrintCutShort, IsRefused};
 ghost use Rattle.replay_top.specs.Causes.{IsCause};
 ghost use Rattle.replay_top.specs.Claims.{Completes};
@@ -13,7 +13,7 @@ ghost use Rattle.replay_top.specs.Command.{command_of};
 use crate::copy::copy;
 use crate::info::info;
 use crate::plain::plain;
-use crate::status::Status;
+use crate::status::{Status, status_of};
 use crate::words::{Command, command_in};
 use edge_traits::{Library, Shelf, Sink};
 use std::alloc::Global;
@@ -25,10 +25,10 @@ fn run_command<L: Library, K: Shelf, T: Sink>(
     library: &mut L,
     shelf: &mut K,
     out: &mut T,
-) -> Status
-    ensures ends { Ends result (command_of (map string_bytes words.now)) (L.holds library.old) (K.held shelf.old) (K.held shelf.new) (T.written out.old)
-        (T.written out.new) }
-    ensures cause { IsCause result (record { library = L.faults library.old; shelf = K.faults shelf.old; sink = T.faults out.old })
+) -> Result<(), Status>
+    ensures ends { Ends (status_of result) (command_of (map string_bytes words.now)) (L.holds library.old) (K.held shelf.old) (K.held shelf.new)
+        (T.written out.old) (T.written out.new) }
+    ensures cause { IsCause (status_of result) (record { library = L.faults library.old; shelf = K.faults shelf.old; sink = T.faults out.old })
         (record { library = L.faults library.new; shelf = K.faults shelf.new; sink = T.faults out.new }) }
     ensures library { L.holds library.new ≡ L.holds library.old }
 {
@@ -42,7 +42,7 @@ fn run_command<L: Library, K: Shelf, T: Sink>(
             },
         ) => plain(alloc, graph, stack, prefix, library, shelf, out),
         Some(Command::Info { stack }) => info(alloc, stack, library, out),
-        None => Status::Usage,
+        None => Err(Status::Usage),
     }
 }
 
@@ -75,11 +75,14 @@ pub fn tool_top<L: Library, K: Shelf, T: Sink>(
     ensures library { L.holds library.new ≡ L.holds library.old }
     ensures untouched { IsRefused result → (K.held shelf.new ≡ K.held shelf.old) × (T.written out.new ≡ T.written out.old) }
     ensures shelf_fault { result ≡ Status.ShelfFault →
-        IsSaveFailed (command_of (map string_bytes words.now)) (L.holds library.old) (K.held shelf.old) (K.held shelf.new) × (T.written out.new ≡ T.written out.old) }
+        IsSaveFailed (command_of (map string_bytes words.now)) (L.holds library.old) (K.held shelf.old) (K.held shelf.new)
+        × (T.written out.new ≡ T.written out.old) }
     ensures out_fault { result ≡ Status.OutFault →
-        IsPrintCutShort (command_of (map string_bytes words.now)) (L.holds library.old) (K.held shelf.old) (K.held shelf.new) (T.written out.old) (T.written out.new) }
+        IsPrintCutShort (command_of (map string_bytes words.now)) (L.holds library.old) (K.held shelf.old) (K.held shelf.new)
+        (T.written out.old) (T.written out.new) }
     ensures memory { result ≡ Status.OutOfMemory →
-        IsSaveBegun (command_of (map string_bytes words.now)) (L.holds library.old) (K.held shelf.old) (K.held shelf.new) × (T.written out.new ≡ T.written out.old) }
+        IsSaveBegun (command_of (map string_bytes words.now)) (L.holds library.old) (K.held shelf.old) (K.held shelf.new)
+        × (T.written out.new ≡ T.written out.old) }
 
     // Faults come only where their object's count rose; where none rose, the files that were read decide.
     ensures cause { IsCause result (record { library = L.faults library.old; shelf = K.faults shelf.old; sink = T.faults out.old })
@@ -88,5 +91,5 @@ pub fn tool_top<L: Library, K: Shelf, T: Sink>(
         (record { library = L.faults library.old; shelf = K.faults shelf.old; sink = T.faults out.old })
         (record { library = L.faults library.new; shelf = K.faults shelf.new; sink = T.faults out.new }) }
 {
-    run_command(alloc, words, library, shelf, out)
+    status_of(run_command(alloc, words, library, shelf, out))
 }

@@ -1,40 +1,37 @@
-use Rattle.std.proofs.Common.{refl, sym}
-use Rattle.nd_stack.specs.KeptStacks.{IsKeptStack-ReadsBack}
-use Rattle.replay_top.specs.Copy.{copy_shape}
-use Rattle.replay_top.proofs.CopyKept.{copy-IsKeptStack}
+use Rattle.std.proofs.Common.{◌≡◌, ap, refl, ◌∙◌}
+use Rattle.std.proofs.lemmas.Result.{err_from_is_err_and}
+use Rattle.nd_base.specs.declared.plan.Plan.{Plan}
 use Rattle.replay_top.specs.Command.{Copy}
-use Rattle.replay_top.specs.CopyLaw.{copy_graph}
-use Rattle.replay_top.proofs.Asked.{passed-copy, copy_limit-none}
-use Rattle.replay_top.proofs.Stops.{Ends-save, Ends-print}
+use Rattle.replay_top.specs.Copy.{copy_graph}
+use Rattle.replay_top.specs.Works.{Source}
+use Rattle.replay_top.proofs.Copies.{copy_graph-IsGraph, copy_reads_back}
+use Rattle.replay_top.proofs.Stops.{Ends-plan, Ends-save, Ends-printed}
 use Rattle.replay_top.proofs.copy.copy.Goals as goal
 
-pub returns-in-Some-clause-ends : goal.returns-in-Some-clause-ends
-returns-in-Some-clause-ends g c = (
-  passed-copy _ c.args.name.now c.args.prefix.now (record { graph = copy_graph; stack = c.in-Ok.stack }) c.in-Some.fault c.in-Ok.ensures.ok.source
-      (sym c.in-Some.ensures),
-  refl,
-  refl,
-)
+pub plan_within-requires-clause-graph : goal.plan_within-requires-clause-graph
+plan_within-requires-clause-graph g c = rw c.in_ok-graph.ensures copy_graph-IsGraph
 
-pub returns-in-Err-save_copy-clause-ends : goal.returns-in-Err-save_copy-clause-ends
-returns-in-Err-save_copy-clause-ends g c =
-    Ends-save c.in-Err-save_copy.status (Copy c.args.name.now c.args.prefix.now) (record { graph = copy_graph; stack = c.in-Ok.stack }) _ _ _ _ _ _
-    c.in-Ok.ensures.ok.source (sym c.in_default.ensures) c.in-Err-save_copy.ensures.err
+pub returns-in_err-plan-clause-ends : goal.returns-in_err-plan-clause-ends
+returns-in_err-plan-clause-ends g c =
+    let p = err_from_is_err_and c.from_residual-in_err-plan.result c.from_residual-in_err-plan.ensures.1 in
+    let source : Source = record { graph = copy_graph; stack = c.in_ok-stack.stack } in
+    rw (p.1, p.2) (Ends-plan _ (Copy c.args.name.now c.args.prefix.now) source _ _ _ c.in_ok-stack.ensures.ok.source refl
+    (rw c.in_ok-graph.ensures at c.in_err-plan.ensures.err))
 
-pub returns-in-Ok-print_frames-clause-ends : goal.returns-in-Ok-print_frames-clause-ends
-returns-in-Ok-print_frames-clause-ends g c =
-    record {
-      source = record { graph = copy_graph; stack = c.in-Ok.stack };
-      read = c.in-Ok.ensures.ok.source;
-      within = sym c.in_default.ensures;
-      files = c.in_default-save_copy.ensures.ok;
-      back =
-          λ some. IsKeptStack-ReadsBack (record { shape = copy_shape c.in-Ok.stack; arrays = c.in-Ok.stack.arrays })
-          (copy-IsKeptStack c.in-Ok.stack c.in-Ok.ensures.ok.kept) some (copy_limit-none c.in-Ok.stack (sym c.in_default.ensures));
-      printed = (rw c.frames.ensures at c.in-Ok-print_frames.ensures.ok);
-    }
+pub returns-in_err-save_plain-clause-ends : goal.returns-in_err-save_plain-clause-ends
+returns-in_err-save_plain-clause-ends g c =
+    let p = err_from_is_err_and c.from_residual-in_err-save_plain.result c.from_residual-in_err-save_plain.ensures.1 in
+    let source : Source = record { graph = copy_graph; stack = c.in_ok-stack.stack } in
+    let same : c.in_ok-plan.plan.graph ≡ copy_graph = ap (λ (p : Plan). p.graph) c.in_ok-plan.ensures.plan ∙ c.in_ok-graph.ensures in
+    rw (p.1, p.2) (Ends-save _ (Copy c.args.name.now c.args.prefix.now) source _ _ _ _ _ _ c.in_ok-stack.ensures.ok.source
+    (rw c.in_ok-graph.ensures at c.in_ok-plan.ensures.within) (rw same at c.in_err-save_plain.ensures.err))
 
 pub returns-clause-ends : goal.returns-clause-ends
 returns-clause-ends g c =
-    Ends-print c.in-Err-print_frames.status (Copy c.args.name.now c.args.prefix.now) (record { graph = copy_graph; stack = c.in-Ok.stack }) _ _ _ _ _ _ _
-    c.in-Ok.ensures.ok.source (sym c.in_default.ensures) c.in_default-save_copy.ensures.ok (rw c.frames.ensures at c.in-Err-print_frames.ensures.err)
+    let source : Source = record { graph = copy_graph; stack = c.in_ok-stack.stack } in
+    let same : c.in_ok-plan.plan.graph ≡ copy_graph = ap (λ (p : Plan). p.graph) c.in_ok-plan.ensures.plan ∙ c.in_ok-graph.ensures in
+    let read = c.in_ok-stack.ensures.ok in
+    let within = (rw c.in_ok-graph.ensures at c.in_ok-plan.ensures.within) in
+    Ends-printed c.print_frames.result (Copy c.args.name.now c.args.prefix.now) source _ _ _ _ _ _ _ read.source within
+    (rw same at c.in_ok-save_plain.ensures.ok) (copy_reads_back source.stack read.kept read.source.few within)
+    (rw c.frames.ensures at c.print_frames.ensures.ok) (rw c.frames.ensures at c.print_frames.ensures.err)

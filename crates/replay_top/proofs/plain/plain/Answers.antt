@@ -1,67 +1,45 @@
-use Rattle.std.proofs.Common.{◌≡◌, ap, refl, None, Some}
+use Rattle.std.proofs.Common.{◌≡◌, ap, refl}
+use Rattle.std.proofs.lemmas.Result.{err_from_is_err_and}
 use Rattle.nd_base.specs.declared.plan.Plan.{Plan}
-use Rattle.graph_conf.specs.Loads.{limit_fault}
 use Rattle.replay_top.specs.Command.{Plain}
 use Rattle.replay_top.specs.ReadBack.{files_read_back}
-use Rattle.replay_top.specs.Sources.{IsGraphRead, IsStackRead}
-use Rattle.replay_top.proofs.Asked.{passed-run, fault_in, no_fault}
-use Rattle.replay_top.proofs.Stops.{Ends-save, Ends-print}
+use Rattle.replay_top.specs.Works.{Source}
+use Rattle.replay_top.proofs.Stops.{Ends-graph, Ends-stack, Ends-plan, Ends-save, Ends-printed}
 use Rattle.replay_top.proofs.plain.plain.Goals as goal
 
-pub returns-in-Err-check_load-clause-ends : goal.returns-in-Err-check_load-clause-ends
-returns-in-Err-check_load-clause-ends g c =
-    let told = g.L.Library.holds c.args.library.now in
-    let graph = c.in-Ok-plan.plan.graph in
-    let stack = c.in-Ok-load_stack.stack in
-    let same : graph ≡ c.in-Ok.graph = ap (λ (p : Plan). p.graph) c.in-Ok-plan.ensures in
-    let rules : IsGraphRead told c.args.graph.now graph = rw same c.in-Ok.ensures.ok in
-    let source : IsStackRead told c.args.name.now stack = (rw c.in-Ok.ensures.files at c.in-Ok-load_stack.ensures.ok.source) in
-    let is : limit_fault graph stack ≡ Some c.in-Err-check_load.fault =
-    fault_in (limit_fault graph stack) c.in-Err-check_load.fault c.in-Err-check_load.ensures in (
-      passed-run told (Plain c.args.graph.now c.args.name.now c.args.prefix.now)
-          (record { graph = graph; stack = stack }) c.in-Err-check_load.fault (rules, source) is is,
-      refl,
-      refl,
-    )
+pub returns-in_err-graph-clause-ends : goal.returns-in_err-graph-clause-ends
+returns-in_err-graph-clause-ends g c =
+    let p = err_from_is_err_and c.from_residual.result c.from_residual.ensures.1 in
+    rw (p.1, p.2) (Ends-graph _ _ _ c.args.graph.now c.args.name.now c.args.prefix.now _ _ _ c.in_err-graph.ensures.err)
 
-pub returns-in-Err-save_plain-clause-ends : goal.returns-in-Err-save_plain-clause-ends
-returns-in-Err-save_plain-clause-ends g c =
-    let told = g.L.Library.holds c.args.library.now in
-    let graph = c.in-Ok-plan.plan.graph in
-    let stack = c.in-Ok-load_stack.stack in
-    let same : graph ≡ c.in-Ok.graph = ap (λ (p : Plan). p.graph) c.in-Ok-plan.ensures in
-    let rules : IsGraphRead told c.args.graph.now graph = rw same c.in-Ok.ensures.ok in
-    let source : IsStackRead told c.args.name.now stack = (rw c.in-Ok.ensures.files at c.in-Ok-load_stack.ensures.ok.source) in
-    let within : limit_fault graph stack ≡ None = no_fault (limit_fault graph stack) c.in_default-check_load.field-0 c.in_default-check_load.ensures in
-    Ends-save c.in-Err-save_plain.status (Plain c.args.graph.now c.args.name.now c.args.prefix.now) (record { graph = graph; stack = stack }) _ _ _ _ _ _
-    (rules, source) within c.in-Err-save_plain.ensures.err
+pub returns-in_err-stack-clause-ends : goal.returns-in_err-stack-clause-ends
+returns-in_err-stack-clause-ends g c =
+    let p = err_from_is_err_and c.from_residual-in_err-stack.result c.from_residual-in_err-stack.ensures.1 in
+    rw (p.1, p.2) (Ends-stack _ (Plain c.args.graph.now c.args.name.now c.args.prefix.now) _ _ _ _ _ (c.in_ok-graph.graph, c.in_ok-graph.ensures.ok)
+    (rw c.in_ok-graph.ensures.files at c.in_err-stack.ensures.err))
 
-pub returns-in-Ok-print_plain-clause-ends : goal.returns-in-Ok-print_plain-clause-ends
-returns-in-Ok-print_plain-clause-ends g c =
-    let told = g.L.Library.holds c.args.library.now in
-    let graph = c.in-Ok-plan.plan.graph in
-    let stack = c.in-Ok-load_stack.stack in
-    let same : graph ≡ c.in-Ok.graph = ap (λ (p : Plan). p.graph) c.in-Ok-plan.ensures in
-    let rules : IsGraphRead told c.args.graph.now graph = rw same c.in-Ok.ensures.ok in
-    let source : IsStackRead told c.args.name.now stack = (rw c.in-Ok.ensures.files at c.in-Ok-load_stack.ensures.ok.source) in
-    let within : limit_fault graph stack ≡ None = no_fault (limit_fault graph stack) c.in_default-check_load.field-0 c.in_default-check_load.ensures in
-    record {
-      source = record { graph = graph; stack = stack };
-      read = (rules, source);
-      within = within;
-      files = c.in_default-save_plain.ensures.ok;
-      back = files_read_back graph stack (rw same c.in-Ok.ensures.ok.sound) c.in-Ok-load_stack.ensures.ok.kept within;
-      printed = c.in-Ok-print_plain.ensures.ok;
-    }
+pub returns-in_err-plan-clause-ends : goal.returns-in_err-plan-clause-ends
+returns-in_err-plan-clause-ends g c =
+    let p = err_from_is_err_and c.from_residual-in_err-plan.result c.from_residual-in_err-plan.ensures.1 in
+    let source : Source = record { graph = c.in_ok-graph.graph; stack = c.in_ok-stack.stack } in
+    rw (p.1, p.2) (Ends-plan _ (Plain c.args.graph.now c.args.name.now c.args.prefix.now) source _ _ _
+    (c.in_ok-graph.ensures.ok, (rw c.in_ok-graph.ensures.files at c.in_ok-stack.ensures.ok.source)) refl c.in_err-plan.ensures.err)
+
+pub returns-in_err-save_plain-clause-ends : goal.returns-in_err-save_plain-clause-ends
+returns-in_err-save_plain-clause-ends g c =
+    let p = err_from_is_err_and c.from_residual-in_err-save_plain.result c.from_residual-in_err-save_plain.ensures.1 in
+    let source : Source = record { graph = c.in_ok-graph.graph; stack = c.in_ok-stack.stack } in
+    let same : c.in_ok-plan.plan.graph ≡ c.in_ok-graph.graph = ap (λ (p : Plan). p.graph) c.in_ok-plan.ensures.plan in
+    rw (p.1, p.2) (Ends-save _ (Plain c.args.graph.now c.args.name.now c.args.prefix.now) source _ _ _ _ _ _
+    (c.in_ok-graph.ensures.ok, (rw c.in_ok-graph.ensures.files at c.in_ok-stack.ensures.ok.source)) c.in_ok-plan.ensures.within
+    (rw same at c.in_err-save_plain.ensures.err))
 
 pub returns-clause-ends : goal.returns-clause-ends
 returns-clause-ends g c =
-    let told = g.L.Library.holds c.args.library.now in
-    let graph = c.in-Ok-plan.plan.graph in
-    let stack = c.in-Ok-load_stack.stack in
-    let same : graph ≡ c.in-Ok.graph = ap (λ (p : Plan). p.graph) c.in-Ok-plan.ensures in
-    let rules : IsGraphRead told c.args.graph.now graph = rw same c.in-Ok.ensures.ok in
-    let source : IsStackRead told c.args.name.now stack = (rw c.in-Ok.ensures.files at c.in-Ok-load_stack.ensures.ok.source) in
-    let within : limit_fault graph stack ≡ None = no_fault (limit_fault graph stack) c.in_default-check_load.field-0 c.in_default-check_load.ensures in
-    Ends-print c.in-Err-print_plain.status (Plain c.args.graph.now c.args.name.now c.args.prefix.now) (record { graph = graph; stack = stack }) _ _ _ _ _ _ _
-    (rules, source) within c.in_default-save_plain.ensures.ok c.in-Err-print_plain.ensures.err
+    let source : Source = record { graph = c.in_ok-graph.graph; stack = c.in_ok-stack.stack } in
+    let same : c.in_ok-plan.plan.graph ≡ c.in_ok-graph.graph = ap (λ (p : Plan). p.graph) c.in_ok-plan.ensures.plan in
+    Ends-printed c.print_plain.result (Plain c.args.graph.now c.args.name.now c.args.prefix.now) source _ _ _ _ _ _ _
+    (c.in_ok-graph.ensures.ok, (rw c.in_ok-graph.ensures.files at c.in_ok-stack.ensures.ok.source)) c.in_ok-plan.ensures.within
+    (rw same at c.in_ok-save_plain.ensures.ok)
+    (files_read_back source.graph source.stack c.in_ok-graph.ensures.ok.sound c.in_ok-stack.ensures.ok.kept c.in_ok-plan.ensures.within)
+    (rw same at c.print_plain.ensures.ok) (rw same at c.print_plain.ensures.err)

@@ -1,4 +1,4 @@
-use Rattle.std.proofs.Common.{◌++◌, refl, ap}
+use Rattle.std.proofs.Common.{◌++◌, refl, ap, sym}
 use Rattle.run_report.specs.Report.{report}
 use Rattle.run_report.specs.Text.{report_text}
 use Rattle.replay_top.specs.LogFiles.{log_files}
@@ -27,12 +27,13 @@ returns g c =
     record {
       ends =
           RunEnds-rest c.rows_complete_the_files.ensures c.groups_read_back.ensures words _ graph stack history.log (g.K.Shelf.held c.run_plan.new.shelf)
-          c.in-Ok.ensures.read h.finished h.roles h.ticks c.finish.result history.fault _ _ h.files c.in_default-finish.not-OutOfMemory
+          c.in-Ok.ensures.read h.finished h.roles h.ticks c.status_of.result history.fault _ _ h.files c.in_default-status_of.not-OutOfMemory
           (ap (λ fs. fs ++ log_files words.logs words.prefix P) (measured-rows graph stack words.prefix P history.measures h.measures))
-          (ap (λ p. report_text graph (report p P)) c.in-Ok.ensures.plan) c.finish.ensures.ends;
+          (ap (λ p. report_text graph (report p P)) c.in-Ok.ensures.plan) (rw (sym c.status_of.ensures) at c.finish.ensures.ends);
       cause =
           rw c.in-Ok.ensures.stays
-          (IsRunCause-rest c.finish.result history.fault _ _ _ _ _ _ _ _
-          (g.K.Shelf.faults c.run_plan.new.shelf) _ _ _ c.finish.ensures.ends h.fault c.finish.ensures.cause);
+          (IsRunCause-rest c.status_of.result history.fault _ _ _ _ _ _ _ _
+          (g.K.Shelf.faults c.run_plan.new.shelf) _ _ _ (rw (sym c.status_of.ensures) at c.finish.ensures.ends) h.fault
+          (rw (sym c.status_of.ensures) at c.finish.ensures.cause));
       library = c.in-Ok.ensures.files;
     }

@@ -1,23 +1,15 @@
-use Rattle.std.proofs.Common.{◌≡◌, ap, ◌∙◌, Some}
-use Rattle.nd_base.specs.declared.plan.Plan.{Plan}
-use Rattle.graph_conf.specs.Loads.{limit_fault}
-use Rattle.replay_top.specs.Sources.{IsGraphRead, IsStackRead}
-use Rattle.replay_top.proofs.Asked.{fault_in}
-use Rattle.replay_top.proofs.RunReading.{SourceStops-graph, SourceStops-limit}
+use Rattle.std.proofs.Common.{◌∙◌}
+use Rattle.std.proofs.lemmas.Result.{err_from_is_err_and}
+use Rattle.replay_top.proofs.RunReading.{SourceStops-graph, SourceStops-plan}
 use Rattle.replay_top.proofs.run_sources.load_run.Goals as goal
 
-pub returns-in-Err-clause-err : goal.returns-in-Err-clause-err
-returns-in-Err-clause-err g c = SourceStops-graph c.in-Err.status _ _ c.args.name.now _ _ c.in-Err.ensures.err
+pub returns-in_err-graph-clause-err : goal.returns-in_err-graph-clause-err
+returns-in_err-graph-clause-err g c =
+    let p = err_from_is_err_and c.from_residual.result c.from_residual.ensures.1 in
+    rw (p.1, p.2) (SourceStops-graph _ _ _ c.args.name.now _ _ c.in_err-graph.ensures.err)
 
-pub returns-in-Err-check_load-clause-err : goal.returns-in-Err-check_load-clause-err
-returns-in-Err-check_load-clause-err g c =
-    let told = g.L.Library.holds c.args.library.now in
-    let graph = c.in-Ok-plan.plan.graph in
-    let stack = c.in-Ok-load_stack.stack in
-    let same : graph ≡ c.in-Ok.graph = ap (λ (p : Plan). p.graph) c.in-Ok-plan.ensures in
-    let rules : IsGraphRead told c.args.graph.now graph = rw same c.in-Ok.ensures.ok in
-    let source : IsStackRead told c.args.name.now stack = (rw c.in-Ok.ensures.files at c.in-Ok-load_stack.ensures.ok.source) in
-    let is : limit_fault graph stack ≡ Some c.in-Err-check_load.fault =
-    fault_in (limit_fault graph stack) c.in-Err-check_load.fault c.in-Err-check_load.ensures in
-    SourceStops-limit c.in-Err-check_load.fault told c.args.graph.now c.args.name.now graph stack _ _ rules source is
-    (c.in-Ok-load_stack.ensures.stays ∙ c.in-Ok.ensures.stays)
+pub returns-in_err-plan-clause-err : goal.returns-in_err-plan-clause-err
+returns-in_err-plan-clause-err g c =
+    let p = err_from_is_err_and c.from_residual-in_err-plan.result c.from_residual-in_err-plan.ensures.1 in
+    rw (p.1, p.2) (SourceStops-plan _ _ c.args.graph.now c.args.name.now c.in_ok-graph.graph c.in_ok-stack.stack _ _ c.in_ok-graph.ensures.ok
+    (rw c.in_ok-graph.ensures.files at c.in_ok-stack.ensures.ok.source) c.in_err-plan.ensures.err (c.in_ok-stack.ensures.stays ∙ c.in_ok-graph.ensures.stays))

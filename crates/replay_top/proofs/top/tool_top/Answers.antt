@@ -1,12 +1,13 @@
+use Rattle.std.proofs.Common.{sym, ◌∙◌}
 use Rattle.replay_top.proofs.Claims.{Ends-none, answered}
 use Rattle.replay_top.proofs.top.tool_top.Goals as goal
 
 pub returns-clause-usage : goal.returns-clause-usage
 returns-clause-usage g c =
     let ends = c.run_command.ensures.ends in (
-      (λ usage. (rw usage at ends).0),
-      (λ none. Ends-none c.run_command.result _ _ _ _ _ (rw none at ends)),
+      (λ usage. (rw (sym c.status_of.ensures ∙ usage) at ends).0),
+      (λ none. c.status_of.ensures ∙ Ends-none _ _ _ _ _ _ (rw none at ends)),
     )
 
 pub returns-clause-complete : goal.returns-clause-complete
-returns-clause-complete g c some none = answered c.run_command.result _ _ _ _ _ _ _ _ c.run_command.ensures.ends c.run_command.ensures.cause some none
+returns-clause-complete g c some none = rw c.status_of.ensures (answered _ _ _ _ _ _ _ _ _ c.run_command.ensures.ends c.run_command.ensures.cause some none)

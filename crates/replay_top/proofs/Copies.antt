@@ -1,47 +1,63 @@
--- `copy` is the plain run of one file node.
-use Rattle.std.specs.Prelude.{◌≡◌, ℕ, suc, ◌+◌, ◌-◌, ◌*◌, ◌/◌, ◌<◌, ◌≤◌, ◌==◌, Bool, true, false, nat_lt, min, List, [], ◌∷◌, ◌++◌, length, take, drop, map}
-use Rattle.std.specs.Prelude.{Option, Some, None, slice_get, codes, if◌then◌else◌, refl}
+-- `copy`, which is the plain run of one file node: what it writes, which limit it can pass, and that its file reads back.
+use Rattle.std.specs.Prelude.{◌≡◌, ℕ, zero, suc, ◌+◌, ◌-◌, ◌*◌, ◌/◌, ◌<◌, ◌≤◌, ◌==◌, Bool, true, false, nat_lt, min, List, [], ◌∷◌, ◌++◌, length}
+use Rattle.std.specs.Prelude.{take, drop, map, Option, Some, None, All, IsTrue, slice_get, codes, if◌then◌else◌, refl}
 use Rattle.std.specs.Fmt.{digits}
 use Rattle.std.specs.List.{flat_map, range_with_len}
 use Rattle.std.specs.Option.{option_map}
-use Rattle.std.proofs.Common.{ap, ◌∙◌, arith, zero-add, append_assoc}
+use Rattle.std.proofs.Common.{ap, subst, ◌∙◌, arith, zero-add, append_assoc}
 use Rattle.std.proofs.Math.Nat.{zero-mul, le-min, min-le_right}
 use Rattle.std.proofs.lemmas.Bool.{le-ltb}
 use Rattle.std.proofs.lemmas.Bool.Decides.{nat_tests}
 use Rattle.std.proofs.lemmas.List.{take_all, append-nil}
+use Rattle.std.proofs.lemmas.List.Elements.{All-nil, All-cons, All-head}
 use Rattle.nd_base.specs.Array.{Array, StackValue}
-use Rattle.nd_base.specs.declared.form.Form.TheVariants.{Classic}
-use Rattle.nd_base.specs.declared.graph.Graph.{Graph}
-use Rattle.nd_base.specs.declared.graph.NodeRule.{NodeRule}
-use Rattle.nd_base.specs.declared.graph.FileRule.{FileRule}
-use Rattle.nd_base.specs.declared.graph.Kind.TheVariants.{File}
 use Rattle.nd_base.specs.declared.graph.Mode.TheVariants.{Capture}
+use Rattle.nd_base.specs.declared.graph.NodeRule.{NodeRule}
+use Rattle.nd_base.specs.GraphRules.{IsGraph, IsNode, is_source, source_of}
+use Rattle.nd_stack.specs.KeptStacks.{IsKeptStack}
+use Rattle.nd_stack.specs.RoundTrip.{ReadsBack}
 use Rattle.cdf_write.specs.Lengths.{length_of}
 use Rattle.nd_roi.specs.Region.{region}
 use Rattle.chain_plain.specs.OneThread.{listed, arrays_out, groups}
 use Rattle.chain_plain.specs.Passing.{out_of}
+use Rattle.chain_plain.specs.PlainRun.{result_of}
 use Rattle.graph_conf.specs.Loads.{arrivals, kept, file_bytes_at, limit_fault}
-use Rattle.replay_top.specs.Copy.{copy_name, copy_shape, copy_file, copy_files, copy_length}
-use Rattle.replay_top.specs.Limits.{copy_limit}
-use Rattle.graph_files.specs.OutFiles.{group_name, group_number, group_files, plain_files}
+use Rattle.graph_files.specs.OutFiles.{group_name, group_number, group_files}
+use Rattle.replay_top.specs.Copy.{copy_graph, copy_node, copy_name, copy_shape, copy_file, copy_length, CopiesAreOneFile, CopiesHaveOneLimit}
+use Rattle.replay_top.specs.ReadBack.{files_read_back}
 
--- one file node named `copy` on the driver, in mode capture, with as many arrays a file as a stack has at most
-abbrev pub copy_rule : FileRule
-copy_rule = record { mode = Capture; count = 65536; form = Classic }
+-- THE GRAPH
 
-abbrev pub copy_node : NodeRule
-copy_node = record { name = codes "copy"; kind = File copy_rule; input = 0; queue = 20; threads = 1; sort = 0; sort_time = 100 }
+leads_up : (v : ℕ) → v ≤ 1 → source_of copy_graph.nodes 1 v ≡ 0
+leads_up zero within = refl
+leads_up (suc zero) within = refl
+leads_up (suc (suc k)) within = absurd (omega (arith, within))
 
-abbrev pub copy_graph : Graph
-copy_graph = record { wait = false; limit = 0; nodes = copy_node ∷ [] }
-
--- the same files, of every stack that has no more frames
-abbrev pub SameFiles : Type 0
-SameFiles = (s : StackValue) (prefix : List ℕ) → length s.arrays ≤ 65536 → plain_files copy_graph s prefix ≡ copy_files s prefix
-
--- and the same limit
-abbrev pub SameLimit : Type 0
-SameLimit = (s : StackValue) → length s.arrays ≤ 65536 → limit_fault copy_graph s ≡ copy_limit s
+pub copy_graph-IsGraph : IsGraph copy_graph
+copy_graph-IsGraph =
+    record {
+      limit = omega arith;
+      few = omega arith;
+      nodes =
+          All-cons IsNode copy_node []
+          (record {
+            name = refl;
+            kind = record { count = (omega arith, omega arith); single = λ e. absurd (cc) };
+            queue = (omega arith, omega arith);
+            threads = (omega arith, omega arith);
+            one_thread = λ e. refl;
+            sort = omega arith;
+            unsorted = λ e. refl;
+            sort_time = omega arith;
+          })
+          (All-nil IsNode);
+      names = λ i j d lt within. absurd (omega (arith, lt, within));
+      inputs =
+          All-cons (λ (n : NodeRule). IsTrue (is_source copy_graph.nodes n.input)) copy_node [] refl
+          (All-nil (λ (n : NodeRule). IsTrue (is_source copy_graph.nodes n.input)));
+      acyclic = leads_up;
+      threads = omega arith;
+    }
 
 -- THE FILES
 
@@ -80,6 +96,9 @@ group_by (a ∷ arrays) few =
     let some : (length (a ∷ arrays) == 0) ≡ false = grind (arith, nat_tests) in
     rw some (one_group 65536 (a ∷ arrays) (omega (arith, few)) few)
 
+one_result : (s : StackValue) → length s.arrays ≤ 65536 → (result_of copy_graph s 1).files ≡ (if length s.arrays == 0 then [] else s.arrays ∷ [])
+one_result s few = ap (groups 65536) (all_out s.arrays) ∙ group_by s.arrays few
+
 -- under the copy's name
 number : group_number 0 ≡ codes "000"
 unfolding digits
@@ -98,15 +117,23 @@ named : (s : StackValue) (prefix : List ℕ) (none : Bool)
 named s prefix true = refl
 named s prefix false = ap (λ name. record { name = name; bytes = copy_file s; late = false } ∷ []) (name_of prefix)
 
-pub same_files : SameFiles
-same_files s prefix few =
-    append-nil _ ∙ ap (λ list. group_files Capture (copy_shape s) prefix (codes "copy") 0 list) (ap (groups 65536) (all_out s.arrays) ∙ group_by s.arrays few)
-    ∙ named s prefix (length s.arrays == 0)
+pub one_file : CopiesAreOneFile
+one_file s prefix few =
+    append-nil _ ∙ ap (group_files Capture (copy_shape s) prefix (codes "copy") 0) (one_result s few) ∙ named s prefix (length s.arrays == 0)
+
+-- which reads back as the arrays
+pub copy_reads_back : (s : StackValue) → IsKeptStack s → length s.arrays ≤ 65536 → limit_fault copy_graph s ≡ None → 1 ≤ length s.arrays
+    → ReadsBack (copy_shape s) s.arrays
+copy_reads_back s kept few within some =
+    let filled : (length s.arrays == 0) ≡ false = grind (arith, nat_tests) in
+    let one : (result_of copy_graph s 1).files ≡ s.arrays ∷ [] = one_result s few ∙ ap (λ none. if none then [] else s.arrays ∷ []) filled in
+    All-head (ReadsBack (copy_shape s)) s.arrays []
+    (subst (All (ReadsBack (copy_shape s))) one (files_read_back copy_graph s copy_graph-IsGraph kept within 1))
 
 -- THE LIMIT
 
-pub same_limit : SameLimit
-same_limit s few =
+pub one_limit : CopiesHaveOneLimit
+one_limit s few =
     let few_arrivals : nat_lt 1048576 (arrivals copy_graph s) ≡ false = le-ltb 1048576 (length s.arrays * 1) (omega (arith, few)) in
     let nothing_kept : nat_lt 67108864 (kept copy_graph s) ≡ false = le-ltb 67108864 (length s.arrays * 0 + 0) (omega arith) in
     let all : min 65536 (length s.arrays) ≡ length s.arrays =
