@@ -104,7 +104,8 @@ Ends-print ShelfFault command source told held now before after written out read
 pub Ends-printed : (answer : Result (Unit {0}) Status) (command : Command) (source : Source) (told held now : Option Files) (before after : ℕ)
     (written out : Option (List ℕ)) → IsRead told command source → IsWithin command source → now ≡ with_files held (work_of command source).files
     → IsReadBack command source → OnOk answer (out ≡ with_written written (work_of command source).print)
-    → IfErr answer (λ s. PrintStops s written (work_of command source).print out before after) → Ends (status_of answer) (Some command) told held now written out
+    → IfErr answer (λ s. PrintStops s written (work_of command source).print out before after)
+    → Ends (status_of answer) (Some command) told held now written out
 Ends-printed (Ok x) command source told held now before after written out read within files back printed stops =
     record { source = source; read = read; within = within; files = files; back = back; printed = printed }
 Ends-printed (Err status) command source told held now before after written out read within files back printed stops =
