@@ -12,7 +12,8 @@ use Rattle.flow_journal.specs.Hands.{hand, is_free, hands, is_piece}
 use Rattle.flow_journal.proofs.Changes.{hand_laws}
 use Rattle.board_rules.specs.declared.answers.Save.{Save as save_answer}
 use Rattle.board_rules.specs.declared.answers.Save.TheVariants as save
-use Rattle.board_rules.specs.States.{BoardState, past, plain, lends, begins}
+use Rattle.board_rules.specs.States.{BoardState, past, plain, lends}
+use Rattle.flow_journal.specs.MoveLists.{begun_by}
 use Rattle.board_rules.specs.Moving.{moved_at}
 use Rattle.board_rules.specs.InHand.{is_piece_on, hand_node}
 use Rattle.board_rules.specs.Saving.{has_due, save_refusal, SaveAnswers, SaveGives, LendsPiece, MaySaved, SavedGives}
@@ -26,7 +27,7 @@ use Rattle.board_cases.specs.Hands.{is_still_save, piece_of}
 use Rattle.board_cases.specs.Seats.{HasPiece, HoldsPiece}
 use Rattle.board_cases.proofs.Staying.{piece-still}
 
-pub saver-quiet : (e : Entry) → begins e ≡ None → saver_logs e ≡ true
+pub saver-quiet : (e : Entry) → begun_by e ≡ None → saver_logs e ≡ true
 saver-quiet (Load q k b n f g x) h = cc
 saver-quiet (LoadRefused q k n z) h = cc
 saver-quiet (Issue q k) h = cc

@@ -12,7 +12,8 @@ use Rattle.flow_journal.specs.Setting.{Setting}
 use Rattle.flow_journal.specs.Pasts.{frame}
 use Rattle.flow_journal.specs.Hands.{hand}
 use Rattle.flow_journal.specs.Ended.{has_left}
-use Rattle.board_rules.specs.States.{BoardState, past, plain, lent_to, begins}
+use Rattle.board_rules.specs.States.{BoardState, past, plain, lent_to}
+use Rattle.flow_journal.specs.MoveLists.{begun_by}
 use Rattle.board_rules.specs.InHand.{is_load_of, is_job_on, is_piece_on, granted_size}
 use Rattle.board_rules.specs.Leaving.{LeaveGives}
 use Rattle.flow_roles.specs.declared.last.Last.{Last}
@@ -46,7 +47,7 @@ stays-still s gives answered logs r old new is moves c same =
     }
 
 pub stays-leave : (s : Setting) (logs : Entry → Bool) (r : ℕ) (old new : Pass) → old.role ≡ r
-    → ((e : Entry) → begins e ≡ None → logs e ≡ true) → logs (Leave r) ≡ true
+    → ((e : Entry) → begun_by e ≡ None → logs e ≡ true) → logs (Leave r) ≡ true
     → list_all logs (past old.made) ≡ true → Called s (λ x y. LeaveGives s x r y) Gone old new → Stays logs r old new
 stays-leave s logs r old new is quiet_ leaves_ moves c =
     let f = λ (x y : BoardState). LeaveGives s x r y in
@@ -134,14 +135,14 @@ module _ (s : Setting) (gives : BoardState → BoardState → Type 0) (answered 
       piece-stays r old new o (stays-still s gives answered saver_logs r old new m.0 m.1 c same) h
 
 pub frame-left : (g : Graph) (stack : StackValue) (s : Setting) (old new : Pass) (o : Option LoadedFrame)
-    → ((e : Entry) → begins e ≡ None → feeder_logs e ≡ true)
+    → ((e : Entry) → begun_by e ≡ None → feeder_logs e ≡ true)
     → Called s (λ x y. LeaveGives s x 0 y) Gone old new → HoldsFrame g stack old o → HoldsFrame g stack new o
 frame-left g stack s old new o quiet_ c h =
     let m = frame-moves g stack old o h in
     frame-stays g stack old new o (stays-leave s feeder_logs 0 old new m.0 quiet_ refl m.1 c) h
 
 pub job-left : (g : Graph) (stack : StackValue) (s : Setting) (r v : ℕ) (old new : Pass) (o : Option (Job Sealed))
-    → ((e : Entry) → begins e ≡ None → worker_logs v e ≡ true)
+    → ((e : Entry) → begun_by e ≡ None → worker_logs v e ≡ true)
     → Called s (λ x y. LeaveGives s x r y) Gone old new → HoldsJob g stack r v old o → HoldsJob g stack r v new o
 job-left g stack s r v old new o quiet_ c h =
     let m = job-moves g stack r v old o h in

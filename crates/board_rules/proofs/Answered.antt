@@ -33,7 +33,8 @@ use Rattle.board_rules.specs.declared.answers.NoReclaim.{NoReclaim}
 use Rattle.board_rules.specs.declared.answers.NoWhy.{NoWhy}
 use Rattle.board_rules.specs.States.{BoardState, past, plain, lends, loses, take_block}
 use Rattle.board_rules.specs.Moving.{moved, moved_at}
-use Rattle.board_rules.specs.InHand.{at, hand_name, hand_node, is_load_of, is_job_on, is_piece_on, result_name, IsOnePart, just}
+use Rattle.board_rules.specs.InHand.{at, hand_name, hand_node, is_load_of, is_job_on, is_piece_on, IsOnePart, just}
+use Rattle.flow_journal.specs.ResultNames.{result_name}
 use Rattle.board_rules.specs.Storage.{is_away, lost_of}
 use Rattle.board_rules.specs.Feeding.{load_refusal, LoadAnswers, IssueGives, waits_to_close, CloseGives}
 use Rattle.board_rules.specs.Working.{take_refusal, asked, TakeAnswers, PutGives, waits_to_settle, SettleGives}

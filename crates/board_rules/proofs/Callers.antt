@@ -16,9 +16,11 @@ use Rattle.board_rules.specs.declared.answers.Save.{Save as save_answer}
 use Rattle.board_rules.specs.declared.answers.Save.TheVariants as save
 use Rattle.board_rules.specs.declared.answers.Settled.TheVariants as settled
 use Rattle.board_rules.specs.declared.told.Told.{Told}
-use Rattle.board_rules.specs.States.{BoardState, past, plain, lends, loses, begins, take_block}
+use Rattle.board_rules.specs.States.{BoardState, past, plain, lends, loses, take_block}
+use Rattle.flow_journal.specs.MoveLists.{begun_by}
+use Rattle.flow_journal.specs.ResultNames.{result_name}
 use Rattle.board_rules.specs.Moving.{moved_at}
-use Rattle.board_rules.specs.InHand.{result_name, hand_node}
+use Rattle.board_rules.specs.InHand.{hand_node}
 use Rattle.board_rules.specs.Storage.{lost_of}
 use Rattle.board_rules.specs.Feeding.{LoadAnswers}
 use Rattle.board_rules.specs.Working.{TakeAnswers}
@@ -43,14 +45,14 @@ adds-nothing : (r : ℕ) (q : Option ℕ) (old new : BoardState) → new ≡ old
 unfolding Adds
 adds-nothing r q old new e = ([], e, tt, refl)
 
-adds-move : (s : Setting) (r : ℕ) (q : Option ℕ) (old new : BoardState) (tick : ℕ) (t : Told) → begins t.entry ≡ Some r → saves_as q t.entry ≡ true
+adds-move : (s : Setting) (r : ℕ) (q : Option ℕ) (old new : BoardState) (tick : ℕ) (t : Told) → begun_by t.entry ≡ Some r → saves_as q t.entry ≡ true
     → new ≡ moved_at s tick t old → Adds (Some r) q old new
 unfolding Adds
 adds-move s r q old new tick t h i e =
     let f = followers s tick t old in
     (f.more ++ t ∷ [], e ∙ (f.whole ∙ sym (append_assoc f.more (t ∷ []) old)), one-move r f.more t f.go h, saves-one q f.more t f.go i)
 
-adds-if : (s : Setting) (r : ℕ) (old new : BoardState) (b : Bool) (t : Told) → begins t.entry ≡ Some r → saves_as None t.entry ≡ true
+adds-if : (s : Setting) (r : ℕ) (old new : BoardState) (b : Bool) (t : Told) → begun_by t.entry ≡ Some r → saves_as None t.entry ≡ true
     → new ≡ (if b then old else moved_at s 0 t old) → Adds (Some r) None old new
 adds-if s r old new true t h i e = adds-nothing r None old new e
 adds-if s r old new false t h i e = adds-move s r None old new 0 t h i e

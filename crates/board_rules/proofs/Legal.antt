@@ -45,7 +45,8 @@ use Rattle.board_rules.specs.declared.answers.NoWhy.TheVariants.{NoHand, Spent}
 use Rattle.board_rules.specs.declared.told.Told.{Told}
 use Rattle.board_rules.specs.States.{BoardState, past, plain, lends, loses, take_block}
 use Rattle.board_rules.specs.Moving.{moved, moved_at}
-use Rattle.board_rules.specs.InHand.{result_name, is_load_of, is_job_on, is_piece_on, hand_node}
+use Rattle.board_rules.specs.InHand.{is_load_of, is_job_on, is_piece_on, hand_node}
+use Rattle.flow_journal.specs.ResultNames.{result_name}
 use Rattle.board_rules.specs.Storage.{lost_of}
 use Rattle.board_rules.specs.Feeding.{is_sent_away, load_refusal, LoadAnswers, IssueGives, CloseGives}
 use Rattle.board_rules.specs.Working.{IsResult, take_refusal, asked, TakeAnswers, PutGives, SettleGives}

@@ -11,7 +11,8 @@ use Rattle.flow_journal.specs.Hands.{hand}
 use Rattle.flow_journal.specs.Queued.{has_room}
 use Rattle.flow_journal.specs.Following.{calls_for}
 use Rattle.board_rules.specs.declared.told.Told.{Told}
-use Rattle.board_rules.specs.States.{BoardState, past, plain, own, lent_to, begins, is_role_of}
+use Rattle.board_rules.specs.States.{BoardState, past, plain, own, lent_to}
+use Rattle.flow_journal.specs.MoveLists.{begun_by, is_some_of}
 use Rattle.board_rules.specs.Movers.{first_some, mover, moves_by, IsMoveOf}
 use Rattle.board_rules.specs.Moving.{made_of, with_all, moved_at}
 use Rattle.board_rules.specs.RunLaws.{saves_as}
@@ -21,7 +22,7 @@ use Rattle.board_rules.proofs.Own.{own-tells}
 
 -- WHAT FOLLOWS BEGINS NO MOVE
 
-made-begins : (s : Setting) (tick n : ℕ) (P : Past) (d : Entry) → fits n d ≡ true → begins (made_of s tick P d) ≡ None
+made-begins : (s : Setting) (tick n : ℕ) (P : Past) (d : Entry) → fits n d ≡ true → begun_by (made_of s tick P d) ≡ None
 made-begins s tick n P (Tick t) h = refl
 made-begins s tick n P (Emit v m k why) h = refl
 made-begins s tick n P (Accept v m k) h =
@@ -35,7 +36,7 @@ made-begins s tick n P _ h = absurd (false≢true h)
 
 pub GoOn : BoardState → Type 0
 GoOn [] = Unit {0}
-GoOn (t ∷ b) = (begins t.entry ≡ None) × GoOn b
+GoOn (t ∷ b) = (begun_by t.entry ≡ None) × GoOn b
 
 go-append : (xs ys : BoardState) → GoOn xs → GoOn ys → GoOn (xs ++ ys)
 unfolding GoOn
@@ -68,7 +69,7 @@ followed s tick (suc n) (d ∷ ds) b h =
       go = go-append outer.more (inner.more ++ plain e ∷ []) outer.go (go-append inner.more (plain e ∷ []) inner.go here);
     }
 
-pub one-move : (r : ℕ) (more : BoardState) (t : Told) → GoOn more → begins t.entry ≡ Some r → IsMoveOf r (more ++ t ∷ [])
+pub one-move : (r : ℕ) (more : BoardState) (t : Told) → GoOn more → begun_by t.entry ≡ Some r → IsMoveOf r (more ++ t ∷ [])
 unfolding GoOn
 one-move r [] t g h = h
 one-move r (u ∷ []) t g h = (g.0, h)
@@ -83,7 +84,7 @@ moved-one s b tick t r h =
     let f = followers s tick t b in
     (f.more ++ t ∷ [], f.whole ∙ sym (append_assoc f.more (t ∷ []) b), one-move r f.more t f.go h)
 
-no-save : (o : Option ℕ) (e : Entry) → begins e ≡ None → saves_as o e ≡ true
+no-save : (o : Option ℕ) (e : Entry) → begun_by e ≡ None → saves_as o e ≡ true
 no-save (Some r) (Save q v m k g) h = cc
 no-save None (Save q v m k g) h = cc
 no-save o _ h = refl
@@ -106,21 +107,21 @@ rest-of-move q t (u ∷ added) h = h.1
 own-added : (q : ℕ) (added b : BoardState) → IsMoveOf q added → moves_by q (added ++ b) ≡ added ++ moves_by q b
 own-added q [] b h = refl
 own-added q (t ∷ added) b h =
-    let m : first_some (begins t.entry) (mover (added ++ b)) ≡ Some q = mover-added q t added b h in
+    let m : first_some (begun_by t.entry) (mover (added ++ b)) ≡ Some q = mover-added q t added b h in
     let same_ : eqb q q ≡ true = eq-eqb q q refl in
     rw (m, same_) (ap (λ (xs : BoardState). t ∷ xs) (own-added q added b (rest-of-move q t added h)))
 
 others-added : (q r : ℕ) (added b : BoardState) → r ≢ q → IsMoveOf q added → moves_by r (added ++ b) ≡ moves_by r b
 others-added q r [] b ne h = refl
 others-added q r (t ∷ added) b ne h =
-    let m : first_some (begins t.entry) (mover (added ++ b)) ≡ Some q = mover-added q t added b h in
+    let m : first_some (begun_by t.entry) (mover (added ++ b)) ≡ Some q = mover-added q t added b h in
     let other : eqb q r ≡ false = ne_eqb q r (λ e. ne (sym e)) in
     rw (m, other) (others-added q r added b ne (rest-of-move q t added h))
 
 pub moves-added : MovesAreAdded
 moves-added added b q h = (own-added q added b h, λ r ne. others-added q r added b ne h)
 
-role-first : (r : ℕ) (o m : Option ℕ) → is_role_of r o ≡ true → is_role_of r (first_some o m) ≡ true
+role-first : (r : ℕ) (o m : Option ℕ) → is_some_of r o ≡ true → is_some_of r (first_some o m) ≡ true
 role-first r (Some q) m h = h
 role-first r None m h = absurd (false≢true h)
 
@@ -128,9 +129,9 @@ role-first r None m h = absurd (false≢true h)
 own-moves : (r : ℕ) (b : BoardState) → own r (moves_by r b) ≡ own r b
 own-moves r [] = refl
 own-moves r (t ∷ b) =
-    elim (cases_Bool (is_role_of r (begins t.entry))) [
-      | inl yes_ ↦ rw (role-first r (begins t.entry) (mover b) yes_, yes_) (ap (λ (xs : BoardState). t ∷ xs) (own-moves r b))
-      | inr no_ ↦ elim (cases_Bool (is_role_of r (first_some (begins t.entry) (mover b)))) [
+    elim (cases_Bool (is_some_of r (begun_by t.entry))) [
+      | inl yes_ ↦ rw (role-first r (begun_by t.entry) (mover b) yes_, yes_) (ap (λ (xs : BoardState). t ∷ xs) (own-moves r b))
+      | inr no_ ↦ elim (cases_Bool (is_some_of r (first_some (begun_by t.entry) (mover b)))) [
         | inl goes ↦ rw (goes, no_) (own-moves r b)
         | inr other ↦ rw (other, no_) (own-moves r b)
       ]

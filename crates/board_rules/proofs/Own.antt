@@ -7,7 +7,8 @@ use Rattle.flow_journal.specs.declared.entry.Entry.TheVariants.{Load, LoadRefuse
 use Rattle.flow_journal.specs.declared.entry.Entry.TheVariants.{SortDrop, Settle, Save, Saved, Close, Leave, Reclaim}
 use Rattle.flow_journal.specs.Pasts.{Past}
 use Rattle.flow_journal.specs.Hands.{takes_up, hands, let_go}
-use Rattle.board_rules.specs.States.{BoardState, past, own, lent_to, begins, is_role_of}
+use Rattle.board_rules.specs.States.{BoardState, past, own, lent_to}
+use Rattle.flow_journal.specs.MoveLists.{begun_by, is_some_of}
 use Rattle.board_rules.specs.MoveLaws.{OwnTellsHand}
 
 abbrev first_in : Past → Option Entry
@@ -69,7 +70,7 @@ ends-own q r P Q h e =
 keeps : (r : ℕ) (d : Entry) (H I : Past) → mine r H ≡ mine r I → mine r (d ∷ H) ≡ mine r (d ∷ I)
 keeps r d H I e = ap (λ (xs : Past). if takes_up r d then d ∷ xs else xs) e
 
-own-step : (r : ℕ) (d : Entry) (P Q : Past) → is_role_of r (begins d) ≡ true → mine r (hands Q) ≡ mine r (hands P)
+own-step : (r : ℕ) (d : Entry) (P Q : Past) → is_some_of r (begun_by d) ≡ true → mine r (hands Q) ≡ mine r (hands P)
     → mine r (hands (d ∷ Q)) ≡ mine r (hands (d ∷ P))
 own-step r (Load q k b n f g x) P Q h e = keeps r (Load q k b n f g x) (let_go q (hands Q)) (let_go q (hands P)) (ends-own q r P Q h e)
 own-step r (Take q v m k) P Q h e = keeps r (Take q v m k) (let_go q (hands Q)) (let_go q (hands P)) (ends-own q r P Q h e)
@@ -90,7 +91,7 @@ own-step r _ P Q h e = absurd (false≢true h)
 other-end : (q r : ℕ) (P : Past) → eqb q r ≡ false → mine r (let_go q (hands P)) ≡ mine r (hands P)
 other-end q r P h = let-go-other q r (hands P) (λ e. true≢false (sym (eq-eqb q r e) ∙ h))
 
-other-step : (r : ℕ) (d : Entry) (P : Past) → is_role_of r (begins d) ≡ false → mine r (hands (d ∷ P)) ≡ mine r (hands P)
+other-step : (r : ℕ) (d : Entry) (P : Past) → is_some_of r (begun_by d) ≡ false → mine r (hands (d ∷ P)) ≡ mine r (hands P)
 other-step r (Load q k b n f g x) P h = rw h (other-end q r P h)
 other-step r (Take q v m k) P h = rw h (other-end q r P h)
 other-step r (TakeBlock f x q v m k b n g) P h = rw h (other-end q r P h)
@@ -113,12 +114,12 @@ other-step r (Leave q) P h = refl
 mine-own : (b : BoardState) (r : ℕ) → mine r (hands (past (own r b))) ≡ mine r (hands (past b))
 mine-own [] r = refl
 mine-own (t ∷ b) r =
-    elim (cases_Bool (is_role_of r (begins t.entry))) [
+    elim (cases_Bool (is_some_of r (begun_by t.entry))) [
       | inl yes_ ↦ rw yes_ (own-step r t.entry (past b) (past (own r b)) yes_ (mine-own b r))
       | inr no_ ↦ rw no_ (mine-own b r ∙ sym (other-step r t.entry (past b) no_))
     ]
 
-not-up : (r : ℕ) (d : Entry) → is_role_of r (begins d) ≡ false → takes_up r d ≡ false
+not-up : (r : ℕ) (d : Entry) → is_some_of r (begun_by d) ≡ false → takes_up r d ≡ false
 not-up r (Load q k b n f g x) h = h
 not-up r (Take q v m k) h = h
 not-up r (TakeBlock f x q v m k b n g) h = h
@@ -128,7 +129,7 @@ not-up r _ h = refl
 lent-own : (b : BoardState) (r : ℕ) → lent_to r (own r b) ≡ lent_to r b
 lent-own [] r = refl
 lent-own (t ∷ b) r =
-    elim (cases_Bool (is_role_of r (begins t.entry))) [
+    elim (cases_Bool (is_some_of r (begun_by t.entry))) [
       | inl yes_ ↦ elim (cases_Bool (takes_up r t.entry)) [
         | inl up ↦ rw (yes_, up) refl
         | inr other ↦ rw (yes_, other) (lent-own b r)

@@ -23,7 +23,9 @@ use Rattle.board_rules.specs.declared.answers.Take.TheVariants as take
 use Rattle.board_rules.specs.declared.answers.Save.{Save as save_answer}
 use Rattle.board_rules.specs.declared.answers.Save.TheVariants as save
 use Rattle.board_rules.specs.declared.answers.Settled.TheVariants as settled
-use Rattle.board_rules.specs.InHand.{TellParts, result_name, hand_node}
+use Rattle.board_rules.specs.InHand.{TellParts, hand_node}
+use Rattle.flow_journal.specs.ResultNames.{result_name}
+use Rattle.flow_journal.specs.EntryTests.{says_regrown}
 use Rattle.board_rules.specs.Feeding.{LoadAnswers}
 use Rattle.board_rules.specs.Working.{TakeAnswers}
 use Rattle.board_rules.specs.Saving.{SaveAnswers}
@@ -33,7 +35,7 @@ use Rattle.board_rules.specs.RunLaws.{RunsKeepStorage}
 use Rattle.board_rules.specs.declared.told.Told.{Told}
 use Rattle.board_rules.specs.States.{BoardState, past, plain, lends, loses, take_block}
 use Rattle.board_rules.specs.Moving.{made_of, with_all, moved_at}
-use Rattle.board_rules.specs.Storage.{is_away, is_among, grants, IsRegrown, lost_of, has_lost, is_some_lost, says_regrown}
+use Rattle.board_rules.specs.Storage.{is_away, is_among, grants, IsRegrown, lost_of, has_lost, is_some_lost}
 use Rattle.board_rules.proofs.Moved.{fits, all_fit, fit-first, fit-next}
 
 -- FOLLOWERS ADD NOTHING

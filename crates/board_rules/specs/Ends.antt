@@ -1,14 +1,11 @@
 -- What a board tells of its run at the end: its measures.
-use Rattle.std.specs.Prelude.{ℕ, List, [], ◌∷◌, flat_map, map, Option, Some, None}
+use Rattle.std.specs.Prelude.{ℕ, List, flat_map, map, Option}
 use Rattle.nd_base.specs.declared.frame.FrameName.{FrameName}
 use Rattle.nd_base.specs.declared.measure.Measure.{Measure}
+pub use Rattle.chain_plain.specs.OneThread.{listed}
 use Rattle.flow_journal.specs.Setting.{Setting, node_numbers}
 use Rattle.flow_journal.specs.Pasts.{Past}
 use Rattle.flow_journal.specs.Accepted.{emitted}
-
-abbrev pub listed : {X : Type 0} → Option X → List X
-listed None = []
-listed (Some x) = x ∷ []
 
 -- what a node measured of the arrays that went out of it, in the order of their emission
 abbrev pub measured_at : (ℕ → FrameName → Option Measure) → Past → ℕ → List Measure

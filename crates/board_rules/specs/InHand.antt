@@ -4,7 +4,6 @@ use Rattle.nd_base.specs.declared.frame.FrameName.{FrameName}
 use Rattle.nd_base.specs.Parts.{Parts}
 use Rattle.flow_journal.specs.declared.entry.Entry.{Entry}
 use Rattle.flow_journal.specs.declared.entry.Entry.TheVariants as entry
-use Rattle.flow_journal.specs.Setting.{Setting, is_maker}
 use Rattle.flow_journal.specs.Pasts.{frame, same}
 use Rattle.board_rules.specs.declared.answers.HandName.{HandName}
 use Rattle.board_rules.specs.declared.answers.Done.{Done}
@@ -89,10 +88,6 @@ OfSome P None = Unit {0}
 OfSome P (Some x) = P x
 
 -- WHAT A RESULT HAS TO BE, BY ITS NODE
-
--- the name of the result of a job on this array: at a maker the maker's with the same index, and else that of the array
-abbrev pub result_name : Setting → ℕ → FrameName → FrameName
-result_name s v a = if is_maker s v then frame v a.index else a
 
 -- at a maker there is an array of this name, and at no other node one
 abbrev pub IsMadeAs : {F : Type 0} → (F → FrameName) → (maker : Bool) → FrameName → Option F → Type 0

@@ -7,7 +7,8 @@ use Rattle.flow_journal.specs.Histories.{is_history}
 use Rattle.flow_journal.specs.Hands.{hand}
 use Rattle.flow_journal.specs.Moves.{onto, is_move}
 use Rattle.board_rules.specs.declared.told.Told.{Told}
-use Rattle.board_rules.specs.States.{BoardState, past, own, lent_to, begins}
+use Rattle.board_rules.specs.States.{BoardState, past, own, lent_to}
+use Rattle.flow_journal.specs.MoveLists.{begun_by}
 use Rattle.board_rules.specs.Movers.{moves_by, IsMoveOf}
 use Rattle.board_rules.specs.Moving.{moved_at}
 
@@ -27,7 +28,7 @@ OwnTellsHand = (b : BoardState) (r : ℕ) → (hand r (past (own r b)) ≡ hand 
 
 -- what a call adds is one move: the entry that begins it, and entries that begin none
 abbrev pub MovedIsOneMove : Type 0
-MovedIsOneMove = (s : Setting) (b : BoardState) (tick : ℕ) (t : Told) (r : ℕ) → begins t.entry ≡ Some r
+MovedIsOneMove = (s : Setting) (b : BoardState) (tick : ℕ) (t : Told) (r : ℕ) → begun_by t.entry ≡ Some r
     → (added : BoardState) × (moved_at s tick t b ≡ added ++ b) × IsMoveOf r added
 
 -- it comes to the moves of its role, and to those of no other

@@ -3,11 +3,11 @@ use Rattle.std.specs.Prelude.{ℕ, ◌==◌, Bool, false, List, [], ◌∷◌, O
 use Rattle.nd_base.specs.Parts.{Parts}
 use Rattle.nd_base.specs.declared.frame.FrameName.{FrameName}
 use Rattle.flow_journal.specs.declared.entry.Entry.{Entry}
-use Rattle.flow_journal.specs.declared.entry.Entry.TheVariants.{Load, LoadRefused, Issue, Take, TakeBlock, PoolDrop, Put, Settle, Save, Saved, Close, Leave}
-use Rattle.flow_journal.specs.declared.entry.Entry.TheVariants.{Reclaim}
+use Rattle.flow_journal.specs.declared.entry.Entry.TheVariants.{TakeBlock, Reclaim}
 use Rattle.board_rules.specs.declared.told.Told.{Told}
 use Rattle.flow_journal.specs.Pasts.{Past}
 use Rattle.flow_journal.specs.Hands.{takes_up}
+use Rattle.flow_journal.specs.MoveLists.{begun_by, is_some_of}
 
 -- the entries, THE NEWEST FIRST
 abbrev pub BoardState : Type 0
@@ -35,32 +35,11 @@ abbrev pub lent_to : ℕ → BoardState → Option Parts
 lent_to r [] = None
 lent_to r (t ∷ b) = if takes_up r t.entry then t.lent else lent_to r b
 
--- the role whose move the entry begins; an entry that only follows begins none
-abbrev pub begins : Entry → Option ℕ
-begins (Load r k b n f g x) = Some r
-begins (LoadRefused r k n h) = Some r
-begins (Issue r k) = Some r
-begins (Take r v m k) = Some r
-begins (TakeBlock f x r v m k b n g) = Some r
-begins (PoolDrop r v m k n h) = Some r
-begins (Put r v m k f) = Some r
-begins (Settle r v) = Some r
-begins (Save r v m k g) = Some r
-begins (Saved r v m k) = Some r
-begins (Close r) = Some r
-begins (Leave r) = Some r
-begins (Reclaim r) = Some r
-begins _ = None
-
 -- a take at a maker, with the block that was granted
 abbrev pub take_block : (r v : ℕ) → FrameName → (b n : ℕ) → (f : Bool) → (g : ℕ) → (x : Bool) → Entry
 take_block r v a b n f g x = TakeBlock f x r v a.maker a.index b n g
 
-abbrev pub is_role_of : ℕ → Option ℕ → Bool
-is_role_of r (Some q) = q == r
-is_role_of r None = false
-
 -- what a role knows by itself: the entries that begin its own moves, with what was told beside them
 abbrev pub own : ℕ → BoardState → BoardState
 own r [] = []
-own r (t ∷ b) = if is_role_of r (begins t.entry) then t ∷ own r b else own r b
+own r (t ∷ b) = if is_some_of r (begun_by t.entry) then t ∷ own r b else own r b

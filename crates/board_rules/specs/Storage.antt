@@ -8,6 +8,7 @@ use Rattle.pool_ledger.specs.Grants.{Answer, Granted, Refused}
 use Rattle.flow_journal.specs.declared.entry.Entry.{Entry}
 use Rattle.flow_journal.specs.declared.entry.Entry.TheVariants.{Load, Take, TakeBlock, Save}
 use Rattle.flow_journal.specs.Pasts.{Past, frame, same}
+use Rattle.flow_journal.specs.EntryTests.{says_regrown}
 use Rattle.flow_journal.specs.Hands.{hands}
 use Rattle.flow_journal.specs.Accounts.{block_of}
 use Rattle.board_rules.specs.declared.answers.Left.{Left}
@@ -83,11 +84,6 @@ abbrev pub parts_here : BoardState → ℕ → ℕ
 parts_here b block = 2 ^ 32 - (parts_in_hand (past b) block + parts_away block b)
 
 -- NOTHING STAYED AWAY
-
-abbrev pub says_regrown : Entry → Bool
-says_regrown (Load r k b n f g x) = x
-says_regrown (TakeBlock f x r v m k b n g) = x
-says_regrown _ = false
 
 -- no grant says that its storage was made anew
 abbrev pub is_never_regrown : Past → Bool

@@ -11,6 +11,9 @@ use Rattle.flow_journal.specs.Accepted.{emitted}
 use Rattle.flow_journal.specs.Histories.{is_history}
 use Rattle.flow_journal.specs.Finished.{is_finished}
 use Rattle.flow_journal.specs.WorkedRuns.{one_node, after}
+use Rattle.flow_journal.specs.WorkedQueues.{free_feed}
+use Rattle.flow_journal.specs.WorkedWindows.{small_pool}
+use Rattle.flow_journal.specs.WorkedBlocks.{four_bytes}
 use Rattle.board_rules.specs.declared.answers.Load.TheVariants as load
 use Rattle.board_rules.specs.declared.answers.Take.TheVariants as take
 use Rattle.board_rules.specs.declared.answers.Save.TheVariants as save
@@ -29,47 +32,41 @@ use Rattle.board_rules.specs.Leaving.{ReclaimGives, reclaim_refusal}
 use Rattle.board_rules.specs.Worked.{Sample, parts_of, part, Bytes, size_of, loaded, issued, fed, taken, put, closed, settled}
 
 -- QUEUE OF ONE: three frames are issued before any take, and the second and third are full. The third has the second one's block.
-abbrev pub queue_of_one : Setting
-queue_of_one = one_node (Passes false) 1 1 0 100 0 false (pos 1 ∷ pos 2 ∷ pos 3 ∷ [])
-
 abbrev pub two_fed : BoardState
-two_fed = fed queue_of_one 1 (fed queue_of_one 0 [])
+two_fed = fed free_feed 1 (fed free_feed 0 [])
 
 abbrev pub three_fed : BoardState
-three_fed = issued queue_of_one 2 (moved queue_of_one (plain (entry.Load 0 2 1 4 false 0 false)) two_fed)
+three_fed = issued free_feed 2 (moved free_feed (plain (entry.Load 0 2 1 4 false 0 false)) two_fed)
 
-the_third_has_the_free_block : LoadGives {F = Sample} parts_of size_of queue_of_one two_fed 0 0 (load.Loaded 2 4)
-    (moved queue_of_one (plain (entry.Load 0 2 1 4 false 0 false)) two_fed)
+the_third_has_the_free_block : LoadGives {F = Sample} parts_of size_of free_feed two_fed 0 0 (load.Loaded 2 4)
+    (moved free_feed (plain (entry.Load 0 2 1 4 false 0 false)) two_fed)
 the_third_has_the_free_block = (refl, refl, (false, (refl, λ told. refl), refl))
 
 one_is_queued : queued 1 (past three_fed) ≡ frame 0 0 ∷ []
 one_is_queued = refl
 
-three_are_a_history : is_history queue_of_one (past three_fed) ≡ true
+three_are_a_history : is_history free_feed (past three_fed) ≡ true
 three_are_a_history = refl
 
 -- POOL OF EIGHT WITH A RING: two frames stand in the ring, and the third is refused.
-abbrev pub pool_of_eight : Setting
-pool_of_eight = one_node (Watches 2 1 0) 20 1 0 100 8 false (pos 1 ∷ pos 2 ∷ pos 3 ∷ [])
-
 abbrev pub two_in_the_ring : BoardState
 two_in_the_ring =
-    put pool_of_eight 1 1 (taken pool_of_eight 1 1 (fed pool_of_eight 1 (put pool_of_eight 1 0 (taken pool_of_eight 1 0 (fed pool_of_eight 0 [])))))
+    put small_pool 1 1 (taken small_pool 1 1 (fed small_pool 1 (put small_pool 1 0 (taken small_pool 1 0 (fed small_pool 0 [])))))
 
 abbrev pub third_refused : BoardState
-third_refused = moved_at pool_of_eight 0 (plain (entry.LoadRefused 0 2 4 8)) two_in_the_ring
+third_refused = moved_at small_pool 0 (plain (entry.LoadRefused 0 2 4 8)) two_in_the_ring
 
-the_third_is_refused : LoadGives {F = Sample} parts_of size_of pool_of_eight two_in_the_ring 0 0 (load.Refused 2 8) third_refused
+the_third_is_refused : LoadGives {F = Sample} parts_of size_of small_pool two_in_the_ring 0 0 (load.Refused 2 8) third_refused
 the_third_is_refused = (refl, refl, refl)
 
 -- a ring that let its block go would have been granted
-it_cant_be_loaded : LoadGives {F = Sample} parts_of size_of pool_of_eight two_in_the_ring 0 0 (load.Loaded 2 4) third_refused → ⊥
+it_cant_be_loaded : LoadGives {F = Sample} parts_of size_of small_pool two_in_the_ring 0 0 (load.Loaded 2 4) third_refused → ⊥
 it_cant_be_loaded h = h
 
 nothing_went_out : emitted 1 (past third_refused) ≡ []
 nothing_went_out = refl
 
-and_the_ring_is_given_up : is_finished pool_of_eight (past (settled pool_of_eight 1 (closed pool_of_eight third_refused))) ≡ true
+and_the_ring_is_given_up : is_finished small_pool (past (settled small_pool 1 (closed small_pool third_refused))) ≡ true
 and_the_ring_is_given_up = refl
 
 -- SORTED: a list of size 10 and a sort time of 5, with room for three frames. They are put in the order 3, 1, 2.
@@ -125,21 +122,18 @@ what_a_full_list_logs :
 what_a_full_list_logs = refl
 
 -- LIMIT OF FOUR: the input is held while the pool is asked, so a maker's take drops it, and its block is granted again.
-abbrev pub limit_of_four : Setting
-limit_of_four = one_node Makes 20 1 0 100 4 false (pos 1 ∷ pos 2 ∷ [])
-
 abbrev pub one_fed : BoardState
-one_fed = fed limit_of_four 0 []
+one_fed = fed four_bytes 0 []
 
 abbrev pub one_dropped : BoardState
-one_dropped = moved limit_of_four (plain (entry.PoolDrop 1 1 0 0 4 4)) one_fed
+one_dropped = moved four_bytes (plain (entry.PoolDrop 1 1 0 0 4 4)) one_fed
 
-the_take_drops_it : TakeGives {F = Sample} {O = Unit {0}} (λ f. f.name) parts_of size_of limit_of_four one_fed 1 1 (take.PoolDrop 0 4) one_dropped
+the_take_drops_it : TakeGives {F = Sample} {O = Unit {0}} (λ f. f.name) parts_of size_of four_bytes one_fed 1 1 (take.PoolDrop 0 4) one_dropped
 the_take_drops_it = (refl, (frame 0 0, refl, refl, refl))
 
 its_block_is_granted_again :
-    LoadGives {F = Sample} parts_of size_of limit_of_four one_dropped 0 0 (load.Loaded 1 4)
-    (moved limit_of_four (plain (entry.Load 0 1 0 4 false 0 false)) one_dropped)
+    LoadGives {F = Sample} parts_of size_of four_bytes one_dropped 0 0 (load.Loaded 1 4)
+    (moved four_bytes (plain (entry.Load 0 1 0 4 false 0 false)) one_dropped)
 its_block_is_granted_again = (refl, refl, (false, (refl, λ told. refl), refl))
 
 -- RECLAIMED: a worker leaves with a job, whose part comes back. Then another has the same frame again.

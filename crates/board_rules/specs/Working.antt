@@ -21,7 +21,8 @@ use Rattle.board_rules.specs.declared.answers.Settled.{Settled}
 use Rattle.board_rules.specs.declared.answers.Settled.TheVariants as settled
 use Rattle.board_rules.specs.States.{BoardState, past, plain, lends, lent_to, take_block}
 use Rattle.board_rules.specs.Moving.{moved}
-use Rattle.board_rules.specs.InHand.{at, hand_name, is_job_on, result_name, granted_size, IsOnePart, IsWholeOf, IsMadeAs, OfSome, TellParts}
+use Rattle.board_rules.specs.InHand.{at, hand_name, is_job_on, granted_size, IsOnePart, IsWholeOf, IsMadeAs, OfSome, TellParts}
+use Rattle.flow_journal.specs.ResultNames.{result_name}
 use Rattle.board_rules.specs.Storage.{wants_storage, IsRegrown}
 use Rattle.board_rules.specs.Feeding.{is_sent_away}
 

@@ -23,7 +23,8 @@ use Rattle.board_rules.specs.declared.answers.Save.TheVariants as save
 use Rattle.board_rules.specs.declared.answers.Done.{Done}
 use Rattle.board_rules.specs.States.{BoardState, past, plain, lends, lent_to}
 use Rattle.board_rules.specs.Moving.{moved}
-use Rattle.board_rules.specs.InHand.{is_load_of, is_job_on, is_piece_on, has_part_of, has_grant, hand_node, granted_block, granted_size, result_name}
+use Rattle.board_rules.specs.InHand.{is_load_of, is_job_on, is_piece_on, has_part_of, has_grant, hand_node, granted_block, granted_size}
+use Rattle.flow_journal.specs.ResultNames.{result_name}
 use Rattle.board_rules.specs.InHand.{IsMadeAs, IsWholeOf}
 use Rattle.board_rules.specs.Feeding.{IssueGives}
 use Rattle.board_rules.specs.Working.{IsResult}

@@ -8,7 +8,8 @@ ghost use Rattle.flow_journal.specs.Accounts.{grant as granted_by, held as held_
 ghost use Rattle.flow_journal.specs.FirstEntries.{fires_at};
 ghost use Rattle.board_rules.specs.States.{past, plain, lent_to};
 ghost use Rattle.board_rules.specs.Moving.{moved};
-ghost use Rattle.board_rules.specs.InHand.{is_job_on, result_name, granted_size, IsMadeAs, IsWholeOf};
+ghost use Rattle.board_rules.specs.InHand.{is_job_on, granted_size, IsMadeAs, IsWholeOf};
+ghost use Rattle.flow_journal.specs.ResultNames.{result_name};
 ghost use Rattle.board_rules.specs.RunMeasures.{run_setting, run_measure};
 ghost use Rattle.board_rules.specs.Working.{take_refusal, TakeGives, LendsJob};
 ghost use Rattle.board_rules.specs.Reusing.{TakeReuses};

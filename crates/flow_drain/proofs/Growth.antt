@@ -11,7 +11,8 @@ use Rattle.flow_journal.specs.Hands.{takes_up, let_go, hands, hand}
 use Rattle.flow_journal.specs.EntryLaws.{moves_hands}
 use Rattle.flow_journal.proofs.Changes.{job_laws}
 use Rattle.board_rules.specs.declared.told.Told.{Told}
-use Rattle.board_rules.specs.States.{BoardState, past, begins}
+use Rattle.board_rules.specs.States.{BoardState, past}
+use Rattle.flow_journal.specs.MoveLists.{begun_by}
 use Rattle.board_rules.specs.Moving.{moved_at}
 use Rattle.board_rules.proofs.Moves.{followers, one-move}
 use Rattle.flow_roles.specs.TurnPasses.{BeginsWith}
@@ -74,7 +75,7 @@ one-of s tick at t old new d l is = DrainMoves.more old new t at (DrainMoves.non
 -- HANDS
 
 -- what begins no move changes no hand
-still-hands : (e : Entry) → begins e ≡ None → moves_hands e ≡ false
+still-hands : (e : Entry) → begun_by e ≡ None → moves_hands e ≡ false
 still-hands (Load q k b n f g x) h = cc
 still-hands (LoadRefused q k n z) h = cc
 still-hands (Issue q k) h = cc
@@ -95,7 +96,7 @@ hands-after [] b g = refl
 hands-after (u ∷ more) b g = job_laws.others u.entry (past (more ++ b)) (still-hands u.entry g.0) ∙ hands-after more b g.1
 
 -- the hands after a move are those after its first entry
-pub hands-moved : (s : Setting) (at r : ℕ) (t : Told) (b new : BoardState) → begins t.entry ≡ Some r → new ≡ moved_at s at t b
+pub hands-moved : (s : Setting) (at r : ℕ) (t : Told) (b new : BoardState) → begun_by t.entry ≡ Some r → new ≡ moved_at s at t b
     → hands (past new) ≡ hands (t.entry ∷ past b)
 hands-moved s at r t b new first is =
     let f = followers s at t b in

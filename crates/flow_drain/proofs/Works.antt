@@ -29,9 +29,11 @@ use Rattle.board_rules.specs.declared.answers.Done.{Done}
 use Rattle.board_rules.specs.declared.answers.NotYours.{NotYours}
 use Rattle.board_rules.specs.declared.answers.Settled.{Settled}
 use Rattle.board_rules.specs.declared.answers.Settled.TheVariants as settled
-use Rattle.board_rules.specs.States.{BoardState, past, plain, lends, lent_to, take_block, begins}
+use Rattle.board_rules.specs.States.{BoardState, past, plain, lends, lent_to, take_block}
+use Rattle.flow_journal.specs.MoveLists.{begun_by}
+use Rattle.flow_journal.specs.ResultNames.{result_name}
 use Rattle.board_rules.specs.Moving.{moved_at}
-use Rattle.board_rules.specs.InHand.{is_job_on, result_name, granted_size, IsWholeOf, OfSome}
+use Rattle.board_rules.specs.InHand.{is_job_on, granted_size, IsWholeOf, OfSome}
 use Rattle.board_rules.specs.RunMeasures.{run_setting, run_measure}
 use Rattle.board_rules.specs.Feeding.{is_sent_away}
 use Rattle.board_rules.specs.Working.{take_refusal, asked, TakeAnswers, TakeGives, LendsJob, MayPut, PutGives, waits_to_settle, SettleGives}
@@ -169,7 +171,7 @@ module _ (O : Type 0) (g : Graph) (stack : StackValue) (old mid : BoardState) (r
   legal-mid = take-legal O name_of parts_of length (run_setting g stack) old mid r v is idle refl here (take.Job w input blank) c
 
   -- the job is the only hand, by the entry that made it
-  job-held : (e : Entry) (lent : Option Parts) → begins e ≡ Some r → hands (e ∷ past old) ≡ e ∷ let_go r (hands (past old)) → takes_up r e ≡ true
+  job-held : (e : Entry) (lent : Option Parts) → begun_by e ≡ Some r → hands (e ∷ past old) ≡ e ∷ let_go r (hands (past old)) → takes_up r e ≡ true
       → mid ≡ moved_at (run_setting g stack) 0 (lends e lent) old → Holds (run_setting g stack) e mid
   job-held e lent first up taken move =
       record {

@@ -51,7 +51,7 @@ use Rattle.flow_journal.proofs.AccountChanges.{block_laws}
 use Rattle.flow_journal.proofs.Changes.{queue_laws}
 use Rattle.flow_journal.proofs.Changes as changes
 use Rattle.board_rules.specs.States.{lends}
-use Rattle.board_rules.specs.Ends.{listed as listed_one}
+use Rattle.chain_plain.specs.OneThread.{listed as listed_one}
 use Rattle.flow_emit.specs.declared.node.Kept.{Kept}
 use Rattle.flow_emit.specs.NodeStates.{list_of, listed}
 use Rattle.flow_emit.proofs.Having.{queued-block, ring-blocks, hand-block}

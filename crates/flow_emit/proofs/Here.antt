@@ -53,7 +53,7 @@ use Rattle.flow_journal.specs.Setting.{id_at}
 use Rattle.flow_journal.specs.Waiting.{not_waiting}
 use Rattle.flow_journal.proofs.Steps.{comes_here}
 use Rattle.flow_journal.proofs.Looks.{sorted_no_file}
-use Rattle.board_rules.specs.Ends.{listed as listed_one}
+use Rattle.chain_plain.specs.OneThread.{listed as listed_one}
 use Rattle.std.proofs.lemmas.Bool.{lt-ltb}
 use Rattle.std.proofs.Common.{inl, inr}
 use Rattle.flow_journal.specs.Setting.{is_role}

@@ -2,7 +2,7 @@
 use Rattle.std.proofs.Common.{◌≡◌, ◌≤◌, ◌∙◌, ◌-◌, ◌+◌, ℕ, ℤ, true, false, Bool, cond, ◌++◌, length, Result, Ok, Err, refl, ap, subst, arith}
 use Rattle.std.specs.Prelude.{vec_capacity}
 use Rattle.std.proofs.lemmas.Bool.{leb-true}
-use Rattle.board_rules.specs.Ends.{listed}
+use Rattle.chain_plain.specs.OneThread.{listed}
 use Rattle.queue_sort.specs.Sorting.{SortState, keeps_step, is_full, after_put, emitted}
 use Rattle.queue_sort.specs.PutAnswers.{put_answer}
 use Rattle.queue_sort.specs.declared.sort_lists.Placed.{Placed}

@@ -19,7 +19,7 @@ use Rattle.flow_emit.specs.declared.node.NodeState.{NodeState}
 use Rattle.flow_emit.specs.NodeStates.{IsNode, IsRing, AreNodes, listed}
 use Rattle.flow_journal.specs.Waiting.{least_first}
 use Rattle.std.specs.Prelude.{flat_map}
-use Rattle.board_rules.specs.Ends.{listed as listed_one}
+use Rattle.chain_plain.specs.OneThread.{listed as listed_one}
 use Rattle.std.proofs.Common.{set}
 use Rattle.std.proofs.lemmas.List.{length-set}
 use Rattle.flow_emit.proofs.Each.{set_each}

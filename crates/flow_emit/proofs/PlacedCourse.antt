@@ -21,7 +21,7 @@ use Rattle.flow_journal.specs.Histories.{is_legal, is_history, Owes}
 use Rattle.flow_journal.specs.Pushes.{history-owes, push-first, push-owed, answers-Emit, answers-SortDrop}
 use Rattle.flow_journal.proofs.Leasts.{least_laws}
 use Rattle.flow_journal.proofs.Looks.{look_laws}
-use Rattle.board_rules.specs.InHand.{result_name}
+use Rattle.flow_journal.specs.ResultNames.{result_name}
 use Rattle.board_rules.specs.States.{plain}
 use Rattle.flow_emit.specs.Courses.{Parts, log_of, IsCourse}
 use Rattle.flow_emit.specs.NodeStates.{IsNode, list_of, listed}

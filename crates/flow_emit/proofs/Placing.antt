@@ -23,8 +23,8 @@ use Rattle.flow_journal.specs.Histories.{is_legal}
 use Rattle.flow_journal.proofs.Changes.{put_laws as node_puts}
 use Rattle.flow_journal.proofs.Leasts.{least_laws}
 use Rattle.flow_journal.proofs.Looks.{gone-again, sorted_no_file}
-use Rattle.board_rules.specs.InHand.{result_name}
-use Rattle.board_rules.specs.Ends.{listed as listed_one}
+use Rattle.flow_journal.specs.ResultNames.{result_name}
+use Rattle.chain_plain.specs.OneThread.{listed as listed_one}
 use Rattle.board_rules.specs.States.{plain}
 use Rattle.pool_account.specs.Account.{IsAccount, all_named}
 use Rattle.pool_account.proofs.Laws.{put_laws}

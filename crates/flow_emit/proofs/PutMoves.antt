@@ -25,7 +25,7 @@ use Rattle.flow_journal.specs.Pushes.{history-owes, push-first}
 use Rattle.flow_journal.proofs.Steps.{same_refl}
 use Rattle.board_rules.specs.States.{BoardState, past, plain}
 use Rattle.board_rules.specs.Moving.{moved, with_all}
-use Rattle.board_rules.specs.InHand.{result_name}
+use Rattle.flow_journal.specs.ResultNames.{result_name}
 use Rattle.board_rules.specs.RunMeasures.{run_setting, run_measure, kind_measure}
 use Rattle.board_rules.proofs.Moved.{moved-legal}
 use Rattle.chain_plain.specs.Content.{content}

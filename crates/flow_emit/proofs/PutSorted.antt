@@ -14,7 +14,7 @@ use Rattle.flow_journal.specs.Waiting.{waiting}
 use Rattle.flow_journal.specs.Following.{offer, look}
 use Rattle.flow_journal.specs.Histories.{is_legal}
 use Rattle.flow_journal.proofs.Looks.{look_laws}
-use Rattle.board_rules.specs.InHand.{result_name}
+use Rattle.flow_journal.specs.ResultNames.{result_name}
 use Rattle.board_rules.specs.Moving.{moved, with_all}
 use Rattle.board_rules.specs.States.{BoardState, past, plain}
 use Rattle.flow_emit.specs.Courses.{Coursed}

@@ -25,7 +25,7 @@ use Rattle.flow_journal.specs.Following.{emit, result, calls_for}
 use Rattle.flow_journal.specs.Histories.{is_legal}
 use Rattle.flow_journal.proofs.Changes.{ring_laws}
 use Rattle.flow_journal.proofs.Steps.{comes_here}
-use Rattle.board_rules.specs.InHand.{result_name}
+use Rattle.flow_journal.specs.ResultNames.{result_name}
 use Rattle.board_rules.specs.States.{plain}
 use Rattle.pool_account.specs.Account.{IsAccount, SameTimes, all_named}
 use Rattle.pool_account.proofs.Carrying.{times-append}

@@ -3,7 +3,8 @@ use Rattle.std.proofs.Common.{◌≡◌, ◌≢◌, ◌≤◌, ◌<◌, ℤ, ◌
 use Rattle.std.proofs.Common.{sym, ap, subst, arith}
 use Rattle.std.specs.Prelude.{slice_get, if◌then◌else◌}
 use Rattle.trig_window.specs.Watch.{Watch}
-use Rattle.board_rules.specs.InHand.{is_job_on, result_name}
+use Rattle.board_rules.specs.InHand.{is_job_on}
+use Rattle.flow_journal.specs.ResultNames.{result_name}
 use Rattle.flow_emit.specs.Puts.{job_arrays, passes_all, saves_all}
 use Rattle.std.specs.List.{All, flat_map}
 use Rattle.std.specs.VecDeque.{deque_capacity}

@@ -44,12 +44,14 @@ use Rattle.std.proofs.lemmas.Bool.{false≢true, eqb-true}
 use Rattle.board_rules.proofs.Legal.{names_role}
 use Rattle.queue_sort.specs.Inboxes.{InboxState}
 use Rattle.told_log.specs.ToldLogs.{count_reclaims}
+use Rattle.told_log.proofs.Reclaims.{reclaims-counted}
 use Rattle.flow_journal.specs.declared.entry.Entry.TheVariants.{LoadRefused, Tick, Emit, Accept, Full, PoolDrop, SortDrop, Settle, Close, Leave}
 use Rattle.flow_journal.specs.Setting.{last_role}
 use Rattle.flow_journal.specs.Hands.{takes_up, standing}
 use Rattle.flow_journal.specs.Queued.{queued}
 use Rattle.flow_journal.specs.Unsaved.{saves, standing_saves, unsaved}
-use Rattle.flow_journal.proofs.Lengths.{is_reclaim, reclaims-few}
+use Rattle.flow_journal.proofs.Lengths.{reclaims-few}
+use Rattle.flow_journal.specs.EntryTests.{is_reclaim}
 use Rattle.flow_journal.proofs.Hands.{jobs-let_go}
 use Rattle.flow_journal.proofs.Pieces.{last_piece}
 use Rattle.flow_journal.proofs.Changes.{save_laws}
@@ -421,15 +423,10 @@ pub hand-there : (k : Parts) (w : Coursed) (r : ℕ) (x : Hand) → seen k ≡ w
 hand-there k w r x is h = subst (λ (u : Coursed). hand_of (hand r (past u.told)) ≡ x) (sym is) h
 
 -- ROOM
-reclaims-same : (P : Past) → count_reclaims P ≡ count is_reclaim P
-reclaims-same [] = refl
-reclaims-same (Reclaim r ∷ P) = ap suc (reclaims-same P)
-reclaims-same (_ ∷ P) = reclaims-same P
-
 pub few-reclaims : (measure : Measuring) (s : Setting) (k : Parts) (r : ℕ) → IsCourse measure s k → is_legal s (Reclaim r ∷ log_of k) ≡ true
     → count_reclaims (log_of k) < k.log.reclaims
 few-reclaims measure s k r i legal =
-    omega (arith, reclaims-same (log_of k), count-cons is_reclaim (Reclaim r) (log_of k), reclaims-few s (Reclaim r ∷ log_of k) legal, i.reclaims)
+    omega (arith, reclaims-counted (log_of k), count-cons is_reclaim (Reclaim r) (log_of k), reclaims-few s (Reclaim r ∷ log_of k) legal, i.reclaims)
 
 pub job-there : (measure : Measuring) (s : Setting) (k : Parts) (v r : ℕ) (e : Entry) (n : NodeState) → IsCourse measure s k → is_node s v ≡ true
     → slice_get k.nodes (v - 1) ≡ Some n → hand r (log_of k) ≡ Some e → is_job v e ≡ true → 0 < n.jobs

@@ -7,7 +7,7 @@ use Rattle.flow_journal.specs.declared.entry.Why.{Why}
 use Rattle.flow_journal.specs.declared.entry.Why.TheVariants.{Step, Late}
 use Rattle.flow_journal.specs.Setting.{Setting}
 use Rattle.flow_journal.specs.Following.{look}
-use Rattle.board_rules.specs.Ends.{listed}
+use Rattle.chain_plain.specs.OneThread.{listed}
 use Rattle.board_rules.specs.States.{past}
 use Rattle.board_rules.specs.Moving.{with_all}
 use Rattle.flow_emit.specs.Courses.{Coursed}

@@ -7,8 +7,8 @@ use Rattle.flow_journal.specs.declared.entry.Why.TheVariants.{Step}
 use Rattle.flow_journal.specs.Breaks.{prev}
 use Rattle.flow_journal.specs.Setting.{Setting, node, id_at}
 use Rattle.flow_journal.specs.Waiting.{waiting}
-use Rattle.board_rules.specs.Ends.{listed}
-use Rattle.board_rules.specs.InHand.{result_name}
+use Rattle.chain_plain.specs.OneThread.{listed}
+use Rattle.flow_journal.specs.ResultNames.{result_name}
 use Rattle.board_rules.specs.States.{past, plain}
 use Rattle.flow_emit.specs.Courses.{Coursed}
 use Rattle.flow_emit.specs.Puts.{put_of, job_arrays, inputs}

@@ -6,7 +6,7 @@ use Rattle.flow_journal.specs.declared.entry.Entry.TheVariants.{Put}
 use Rattle.flow_journal.specs.FirstEntries.{fires_at}
 use Rattle.flow_journal.specs.Setting.{Setting, Work, Makes, Passes, Watches, Saves, node, is_maker, may_sort}
 use Rattle.flow_journal.specs.Unsaved.{is_file}
-use Rattle.board_rules.specs.InHand.{result_name}
+use Rattle.flow_journal.specs.ResultNames.{result_name}
 
 -- the arrays of a job on this one: its result, and at a maker the array itself besides
 abbrev pub job_arrays : Setting → ℕ → FrameName → List FrameName

@@ -8,7 +8,7 @@ use Rattle.flow_journal.specs.Setting.{Setting}
 use Rattle.flow_journal.specs.Pasts.{Past}
 use Rattle.flow_journal.specs.Waiting.{waiting, least_first}
 use Rattle.flow_journal.specs.Following.{emit}
-use Rattle.board_rules.specs.Ends.{listed}
+use Rattle.chain_plain.specs.OneThread.{listed}
 use Rattle.board_rules.specs.States.{BoardState, past}
 use Rattle.board_rules.specs.Moving.{with_all}
 use Rattle.flow_emit.specs.Courses.{Coursed}

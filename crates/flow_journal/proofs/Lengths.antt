@@ -10,6 +10,7 @@ use Rattle.flow_journal.specs.declared.entry.Entry.TheVariants.{Load, LoadRefuse
 use Rattle.flow_journal.specs.declared.entry.Entry.TheVariants.{SortDrop, Settle, Save, Saved, Close, Leave, Reclaim}
 use Rattle.flow_journal.specs.Setting.{Setting, Node, node, numbers_from, node_numbers, last_role}
 use Rattle.flow_journal.specs.Pasts.{Past, frame, comes_at}
+use Rattle.flow_journal.specs.EntryTests.{is_reclaim}
 use Rattle.flow_journal.specs.Hands.{takes_up, let_go, hands, hand, standing, is_free}
 use Rattle.flow_journal.specs.Ended.{settles, closes, leaves, leaves_as, reclaims}
 use Rattle.flow_journal.specs.Offered.{loads, next_index, offered}
@@ -73,10 +74,6 @@ all-stand p h (Reclaim r ∷ P) =
     ] in
     omega (arith, all-stand p h P, kept, count-cons p (Reclaim r) (cond (is_free r P) (standing P) (let_go r (standing P))), count-cons p (Reclaim r) P)
 all-stand p h (e ∷ P) = omega (arith, all-stand p h P, count-cons p e (standing P), count-cons p e P)
-
-abbrev pub is_reclaim : Entry → Bool
-is_reclaim (Reclaim r) = true
-is_reclaim _ = false
 
 -- each reclaim takes one entry back
 pub stand-most : (s : Setting) (P : Past) (p : Entry → Bool) → is_legal s P ≡ true → count p P ≤ count p (standing P) + count is_reclaim P

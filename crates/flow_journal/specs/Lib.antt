@@ -1,5 +1,7 @@
 pub mod Setting
 pub mod Pasts
+pub mod EntryTests
+pub mod ResultNames
 pub mod Hands
 pub mod Ended
 pub mod Offered

@@ -22,21 +22,21 @@ abbrev pub moves : Past → List (List Entry)
 moves P = cut (reverse P)
 
 -- the role that an entry which begins a move names
-abbrev pub role_of : Entry → Option ℕ
-role_of (Load r k b n f g x) = Some r
-role_of (LoadRefused r k n h) = Some r
-role_of (Issue r k) = Some r
-role_of (Take r v m k) = Some r
-role_of (TakeBlock f x r v m k b n g) = Some r
-role_of (PoolDrop r v m k n h) = Some r
-role_of (Put r v m k f) = Some r
-role_of (Settle r v) = Some r
-role_of (Save r v m k g) = Some r
-role_of (Saved r v m k) = Some r
-role_of (Close r) = Some r
-role_of (Leave r) = Some r
-role_of (Reclaim r) = Some r
-role_of _ = None
+abbrev pub begun_by : Entry → Option ℕ
+begun_by (Load r k b n f g x) = Some r
+begun_by (LoadRefused r k n h) = Some r
+begun_by (Issue r k) = Some r
+begun_by (Take r v m k) = Some r
+begun_by (TakeBlock f x r v m k b n g) = Some r
+begun_by (PoolDrop r v m k n h) = Some r
+begun_by (Put r v m k f) = Some r
+begun_by (Settle r v) = Some r
+begun_by (Save r v m k g) = Some r
+begun_by (Saved r v m k) = Some r
+begun_by (Close r) = Some r
+begun_by (Leave r) = Some r
+begun_by (Reclaim r) = Some r
+begun_by _ = None
 
 abbrev pub is_some_of : ℕ → Option ℕ → Bool
 is_some_of r None = false
@@ -44,12 +44,12 @@ is_some_of r (Some q) = q == r
 
 -- the entry names this role
 abbrev pub names : ℕ → Entry → Bool
-names r e = is_some_of r (role_of e)
+names r e = is_some_of r (begun_by e)
 
 -- the role of a move is that of its first entry
 abbrev pub move_role : List Entry → Option ℕ
 move_role [] = None
-move_role (e ∷ es) = role_of e
+move_role (e ∷ es) = begun_by e
 
 -- the moves of a role, in order
 abbrev pub role_moves : ℕ → Past → List (List Entry)

@@ -14,7 +14,8 @@ use Rattle.flow_journal.specs.Histories.{is_legal}
 use Rattle.flow_journal.specs.EntryLaws.{lets_go}
 use Rattle.flow_journal.proofs.Changes.{hand_laws}
 use Rattle.board_rules.specs.declared.told.Told.{Told}
-use Rattle.board_rules.specs.States.{BoardState, past, lent_to, begins}
+use Rattle.board_rules.specs.States.{BoardState, past, lent_to}
+use Rattle.flow_journal.specs.MoveLists.{begun_by}
 use Rattle.board_rules.specs.Movers.{moves_by, IsMoveOf}
 use Rattle.board_rules.specs.Moving.{moved_at}
 use Rattle.board_rules.proofs.Moves.{followers, one-move, moves-added, moves-tell}
@@ -24,7 +25,7 @@ use Rattle.flow_roles.specs.Passes.{Pass, Called}
 -- WHAT FOLLOWS THE FIRST ENTRY OF A MOVE
 
 -- an entry that begins no move changes no hand
-quiet : (r : ℕ) (e : Entry) → begins e ≡ None → (takes_up r e ≡ false) × (lets_go r e ≡ false)
+quiet : (r : ℕ) (e : Entry) → begun_by e ≡ None → (takes_up r e ≡ false) × (lets_go r e ≡ false)
 quiet r (Load q k b n f g x) h = cc
 quiet r (LoadRefused q k n z) h = cc
 quiet r (Issue q k) h = cc
@@ -43,7 +44,7 @@ quiet r _ h = (refl, refl)
 -- these entries begin no move
 abbrev pub GoesAfter : BoardState → Type 0
 GoesAfter [] = Unit {0}
-GoesAfter (u ∷ more) = (begins u.entry ≡ None) × GoesAfter more
+GoesAfter (u ∷ more) = (begun_by u.entry ≡ None) × GoesAfter more
 
 -- and so it is with what comes after the first entry of a move
 pub from-move : (r : ℕ) (more : BoardState) (t : Told) → IsMoveOf r (more ++ t ∷ []) → GoesAfter more
@@ -61,7 +62,7 @@ lent-on : (r : ℕ) (more b : BoardState) → GoesAfter more → lent_to r (more
 lent-on r [] b g = refl
 lent-on r (u ∷ more) b g = rw (quiet r u.entry g.0).0 (lent-on r more b g.1)
 
-logs-on : (logs : Entry → Bool) (more b : BoardState) → ((e : Entry) → begins e ≡ None → logs e ≡ true) → GoesAfter more → list_all logs (past b) ≡ true
+logs-on : (logs : Entry → Bool) (more b : BoardState) → ((e : Entry) → begun_by e ≡ None → logs e ≡ true) → GoesAfter more → list_all logs (past b) ≡ true
     → list_all logs (past (more ++ b)) ≡ true
 logs-on logs [] b q g h = h
 logs-on logs (u ∷ more) b q g h = and_from _ _ (q u.entry g.0) (logs-on logs more b q g.1 h)
@@ -122,8 +123,8 @@ module _ (s : Setting) (gives : BoardState → BoardState → Type 0) (answered 
   unmoved h = sym exactly ∙ (ap (λ (b : BoardState). moves_by r b) h ∙ before)
 
   -- a call that made a move
-  pub moved : (logs : Entry → Bool) (tick : ℕ) (t : Told) → new.seen ≡ moved_at s tick t here → begins t.entry ≡ Some r
-      → ((e : Entry) → begins e ≡ None → logs e ≡ true) → logs t.entry ≡ true → list_all logs (past old.made) ≡ true → Moved s logs r t here old new
+  pub moved : (logs : Entry → Bool) (tick : ℕ) (t : Told) → new.seen ≡ moved_at s tick t here → begun_by t.entry ≡ Some r
+      → ((e : Entry) → begun_by e ≡ None → logs e ≡ true) → logs t.entry ≡ true → list_all logs (past old.made) ≡ true → Moved s logs r t here old new
   moved logs tick t h first quiet_ here_ rest =
       let f = followers s tick t here in
       let one = one-move r f.more t f.go first in

@@ -46,7 +46,8 @@ use Rattle.flow_journal.specs.RunSetting.{work_of, need_of, node_fires, kind_fir
 use Rattle.flow_journal.specs.Pasts.{frame}
 use Rattle.flow_journal.specs.FirstEntries.{fires_at}
 use Rattle.board_rules.specs.declared.answers.Done.{Done}
-use Rattle.board_rules.specs.InHand.{result_name, IsMadeAs, IsWholeOf, OfSome}
+use Rattle.board_rules.specs.InHand.{IsMadeAs, IsWholeOf, OfSome}
+use Rattle.flow_journal.specs.ResultNames.{result_name}
 use Rattle.board_rules.specs.RunMeasures.{run_setting, run_measure, rule_measure, kind_measure}
 use Rattle.board_rules.specs.Working.{IsResult}
 use Rattle.run_laws.proofs.Runs.{node-is}

@@ -3,7 +3,8 @@ use Rattle.std.proofs.Common.{◌≡◌, ℕ, Bool, true, false, List, [], ◌�
 use Rattle.std.specs.Prelude.{reverse}
 use Rattle.std.proofs.lemmas.List.{reverse-append, append-nil}
 use Rattle.board_rules.specs.declared.told.Told.{Told}
-use Rattle.board_rules.specs.States.{BoardState, begins, is_role_of}
+use Rattle.board_rules.specs.States.{BoardState}
+use Rattle.flow_journal.specs.MoveLists.{begun_by, is_some_of}
 use Rattle.board_rules.specs.Movers.{first_some, mover, moves_by, IsMoveOf}
 use Rattle.turn_lock.specs.Logs.{GoesOn, IsMove, is_of, put_if, moves_from, moves_of, is_of_after}
 use Rattle.flow_roles.specs.Operations.{begins_of}
@@ -26,16 +27,16 @@ moves-snoc r before (x ∷ xs) t =
     ap (λ (ys : List Told). put_if begins_of b x ys) (moves-snoc r b xs t)
     ∙ put-append b x (moves_from begins_of r b xs) (put_if begins_of (is_of begins_of (begins_of t) r (is_of_after begins_of r b xs)) t [])
 
-of-first : (o m : Option ℕ) (r : ℕ) → is_of begins_of o r (is_role_of r m) ≡ is_role_of r (first_some o m)
+of-first : (o m : Option ℕ) (r : ℕ) → is_of begins_of o r (is_some_of r m) ≡ is_some_of r (first_some o m)
 of-first (Some q) m r = refl
 of-first None m r = refl
 
-after-mover : (r : ℕ) (b : BoardState) → is_of_after begins_of r false (reverse b) ≡ is_role_of r (mover b)
+after-mover : (r : ℕ) (b : BoardState) → is_of_after begins_of r false (reverse b) ≡ is_some_of r (mover b)
 after-mover r [] = refl
 after-mover r (t ∷ b) =
     ap (λ (xs : List Told). is_of_after begins_of r false xs) (reverse-append (t ∷ []) b)
     ∙ (of-snoc r false (reverse b) t
-    ∙ (ap (λ (c : Bool). is_of begins_of (begins_of t) r c) (after-mover r b) ∙ of-first (begins t.entry) (mover b) r))
+    ∙ (ap (λ (c : Bool). is_of begins_of (begins_of t) r c) (after-mover r b) ∙ of-first (begun_by t.entry) (mover b) r))
 
 put-one : (c : Bool) (t : Told) (xs : List Told) → reverse (xs ++ put_if begins_of c t []) ≡ (if c then t ∷ reverse xs else reverse xs)
 put-one true t xs = reverse-append xs (t ∷ [])
@@ -45,12 +46,12 @@ put-one false t xs = ap reverse (append-nil xs)
 pub moves_reversed : (r : ℕ) (b : BoardState) → reverse (moves_of begins_of r (reverse b)) ≡ moves_by r b
 moves_reversed r [] = refl
 moves_reversed r (t ∷ b) =
-    let c : Bool = is_role_of r (first_some (begins t.entry) (mover b)) in
+    let c : Bool = is_some_of r (first_some (begun_by t.entry) (mover b)) in
     ap (λ (xs : List Told). reverse (moves_of begins_of r xs)) (reverse-append (t ∷ []) b)
     ∙ (ap reverse (moves-snoc r false (reverse b) t)
     ∙ (put-one (is_of begins_of (begins_of t) r (is_of_after begins_of r false (reverse b))) t (moves_of begins_of r (reverse b))
     ∙ (ap (λ (d : Bool). if d then t ∷ reverse (moves_of begins_of r (reverse b)) else reverse (moves_of begins_of r (reverse b)))
-    (ap (λ (d : Bool). is_of begins_of (begins_of t) r d) (after-mover r b) ∙ of-first (begins t.entry) (mover b) r)
+    (ap (λ (d : Bool). is_of begins_of (begins_of t) r d) (after-mover r b) ∙ of-first (begun_by t.entry) (mover b) r)
     ∙ ap (λ (xs : List Told). if c then t ∷ xs else xs) (moves_reversed r b))))
 
 -- a move, the other way round

@@ -12,7 +12,8 @@ use Rattle.flow_journal.specs.Pasts.{Past}
 use Rattle.flow_journal.specs.Hands.{hand}
 use Rattle.flow_journal.specs.Ended.{leaves_as, leaves, has_left, has_left_any}
 use Rattle.board_rules.specs.declared.answers.Left.{Left}
-use Rattle.board_rules.specs.States.{BoardState, past, plain, lent_to, begins}
+use Rattle.board_rules.specs.States.{BoardState, past, plain, lent_to}
+use Rattle.flow_journal.specs.MoveLists.{begun_by}
 use Rattle.board_rules.specs.Leaving.{LeaveGives}
 use Rattle.flow_roles.specs.declared.last.Last.{Last}
 use Rattle.flow_roles.specs.declared.last.Last.TheVariants.{Gone}
@@ -23,7 +24,7 @@ use Rattle.flow_roles.specs.declared.role_end.Round.TheVariants.{Again, End}
 use Rattle.flow_roles.specs.RoleEnds.{IsOfHand, HasEnded, HasGone}
 use Rattle.flow_roles.proofs.Calls.{here, unmoved, moved, hand-before, role-after}
 
-pub feeder-quiet : (e : Entry) → begins e ≡ None → feeder_logs e ≡ true
+pub feeder-quiet : (e : Entry) → begun_by e ≡ None → feeder_logs e ≡ true
 feeder-quiet (Take q v m k) h = cc
 feeder-quiet (TakeBlock f x q v m k b n g) h = cc
 feeder-quiet (PoolDrop q v m k n z) h = cc
@@ -34,7 +35,7 @@ feeder-quiet (Saved q v m k) h = cc
 feeder-quiet (Reclaim q) h = cc
 feeder-quiet _ h = refl
 
-pub worker-quiet : (v : ℕ) (e : Entry) → begins e ≡ None → worker_logs v e ≡ true
+pub worker-quiet : (v : ℕ) (e : Entry) → begun_by e ≡ None → worker_logs v e ≡ true
 worker-quiet v (Load q k b n f g x) h = cc
 worker-quiet v (LoadRefused q k n z) h = cc
 worker-quiet v (Issue q k) h = cc
@@ -86,7 +87,7 @@ module _ {F B O : Type 0} (name_of : F → FrameName) (parts : F → Option Part
     (bytes_of : B → ℕ) (s : Setting) (logs : Entry → Bool) (ends : Last → Past → Bool → Bool)
     (r : ℕ) (old new : Pass) (left : Left F B O) where
   -- a role that leaves has in hand what it had
-  pub leave-ends : old.role ≡ r → ((e : Entry) → begins e ≡ None → logs e ≡ true) → logs (Leave r) ≡ true
+  pub leave-ends : old.role ≡ r → ((e : Entry) → begun_by e ≡ None → logs e ≡ true) → logs (Leave r) ≡ true
       → ((P : Past) → has_left_any P ≡ true → ends Gone P true ≡ true) → list_all logs (past old.made) ≡ true
       → IsOfHand name_of parts bytes_of (lent_to r old.made) (hand r (past old.made)) left.input left.made left.blank
       → Called s (λ x y. LeaveGives s x r y) Gone old new → HasEnded name_of parts bytes_of logs ends r new left true
@@ -133,7 +134,7 @@ module _ {F B O : Type 0} (name_of : F → FrameName) (parts : F → Option Part
       }
 
   -- a role without a hand that leaves
-  pub leave-free : HasNothing logs r old → ((e : Entry) → begins e ≡ None → logs e ≡ true) → logs (Leave r) ≡ true
+  pub leave-free : HasNothing logs r old → ((e : Entry) → begun_by e ≡ None → logs e ≡ true) → logs (Leave r) ≡ true
       → ((P : Past) → has_left_any P ≡ true → ends Gone P true ≡ true) → left ≡ record { input = None; made = None; blank = None }
       → Called s (λ x y. LeaveGives s x r y) Gone old new → HasEnded name_of parts bytes_of logs ends r new left true
   leave-free n quiet_ leaves_ gone none_ c =

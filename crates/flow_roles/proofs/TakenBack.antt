@@ -6,7 +6,8 @@ use Rattle.flow_journal.specs.declared.entry.Entry.{Entry}
 use Rattle.flow_journal.specs.declared.entry.Entry.TheVariants.{Reclaim}
 use Rattle.flow_journal.specs.Pasts.{Past}
 use Rattle.flow_journal.specs.Ended.{reclaims, was_reclaimed}
-use Rattle.board_rules.specs.States.{BoardState, past, begins, is_role_of}
+use Rattle.board_rules.specs.States.{BoardState, past}
+use Rattle.flow_journal.specs.MoveLists.{begun_by, is_some_of}
 use Rattle.board_rules.specs.Movers.{first_some, mover, moves_by}
 use Rattle.flow_roles.specs.RoleMoves.{feeder_logs, worker_logs, saver_logs}
 
@@ -27,7 +28,7 @@ none-such p q [] apart h = refl
 none-such p q (e ∷ P) apart h = let a = and_parts (p e) (list_all p P) h in rw (apart e a.0) (none-such p q P apart a.1)
 
 -- the hands that are taken back are among the moves of their roles
-back-move : (r : ℕ) (e : Entry) (o : Option ℕ) → reclaims r e ≡ true → is_role_of r (first_some (begins e) o) ≡ true
+back-move : (r : ℕ) (e : Entry) (o : Option ℕ) → reclaims r e ≡ true → is_some_of r (first_some (begun_by e) o) ≡ true
 back-move r (Reclaim q) o h = h
 back-move r _ o h = absurd (false≢true h)
 
@@ -38,7 +39,7 @@ back-moves r (t ∷ b) h =
       | inl back ↦ rw (back-move r t.entry (mover b) back, back) refl
       | inr other ↦
           let later = back-moves r b (rw other at h) in
-          elim (cases_Bool (is_role_of r (first_some (begins t.entry) (mover b)))) [
+          elim (cases_Bool (is_some_of r (first_some (begun_by t.entry) (mover b)))) [
             | inl yes_ ↦ rw (yes_, other) later
             | inr no_ ↦ rw no_ later
           ]

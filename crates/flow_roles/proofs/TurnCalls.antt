@@ -18,7 +18,8 @@ use Rattle.board_rules.specs.declared.answers.NotYours.{NotYours}
 use Rattle.board_rules.specs.declared.answers.Done.{Done}
 use Rattle.board_rules.specs.declared.answers.Settled.{Settled}
 use Rattle.flow_journal.specs.declared.progress.Progress.{Progress}
-use Rattle.board_rules.specs.States.{BoardState, past, lent_to, begins}
+use Rattle.board_rules.specs.States.{BoardState, past, lent_to}
+use Rattle.flow_journal.specs.MoveLists.{begun_by}
 use Rattle.board_rules.specs.Movers.{moves_by, IsMoveOf}
 use Rattle.board_rules.specs.InHand.{granted_size, OfSome}
 use Rattle.board_rules.specs.Feeding.{HasRoom}
@@ -46,9 +47,9 @@ use Rattle.flow_roles.proofs.Reversed.{moves_reversed}
 
 abbrev GoAfter : BoardState → Type 0
 GoAfter [] = Unit {0}
-GoAfter (t ∷ b) = (begins t.entry ≡ None) × GoAfter b
+GoAfter (t ∷ b) = (begun_by t.entry ≡ None) × GoAfter b
 
-after-snoc : (b : BoardState) (t : Told) → GoAfter b → begins t.entry ≡ None → GoAfter (b ++ t ∷ [])
+after-snoc : (b : BoardState) (t : Told) → GoAfter b → begun_by t.entry ≡ None → GoAfter (b ++ t ∷ [])
 after-snoc [] t g h = (h, tt)
 after-snoc (u ∷ b) t g h = (g.0, after-snoc b t g.1 h)
 
@@ -56,7 +57,7 @@ after-reversed : (es : List Told) → GoesOn begins_of es → GoAfter (reverse e
 after-reversed [] g = tt
 after-reversed (e ∷ es) g = subst (λ (b : BoardState). GoAfter b) (sym (reverse-append (e ∷ []) es)) (after-snoc (reverse es) e (after-reversed es g.1) g.0)
 
-move-from : (r : ℕ) (b : BoardState) (t : Told) → GoAfter b → begins t.entry ≡ Some r → IsMoveOf r (b ++ t ∷ [])
+move-from : (r : ℕ) (b : BoardState) (t : Told) → GoAfter b → begun_by t.entry ≡ Some r → IsMoveOf r (b ++ t ∷ [])
 move-from r [] t g h = h
 move-from r (u ∷ []) t g h = (g.0, h)
 move-from r (u ∷ w ∷ b) t g h = (g.0, move-from r (w ∷ b) t g.1 h)

@@ -29,9 +29,11 @@ use Rattle.board_rules.specs.declared.answers.Done.{Done}
 use Rattle.board_rules.specs.declared.answers.NotYours.{NotYours}
 use Rattle.board_rules.specs.declared.answers.Settled.{Settled}
 use Rattle.board_rules.specs.declared.answers.Settled.TheVariants as settled
-use Rattle.board_rules.specs.States.{BoardState, past, plain, lends, lent_to, take_block, begins}
+use Rattle.board_rules.specs.States.{BoardState, past, plain, lends, lent_to, take_block}
+use Rattle.flow_journal.specs.MoveLists.{begun_by}
+use Rattle.flow_journal.specs.ResultNames.{result_name}
 use Rattle.board_rules.specs.Moving.{moved_at}
-use Rattle.board_rules.specs.InHand.{is_job_on, result_name, granted_size, IsWholeOf, OfSome}
+use Rattle.board_rules.specs.InHand.{is_job_on, granted_size, IsWholeOf, OfSome}
 use Rattle.board_rules.specs.RunMeasures.{run_setting, run_measure}
 use Rattle.board_rules.specs.Feeding.{is_sent_away}
 use Rattle.board_rules.specs.Working.{take_refusal, asked, TakeAnswers, TakeGives, LendsJob, MayPut, PutGives, SettleGives}
@@ -293,7 +295,7 @@ module _ {O : Type 0} (g : Graph) (stack : StackValue) (r v w : ℕ) (input : Se
       (λ x y. TakeGives {F = Sealed} {B = List ℕ} {O = O} name_of parts_of length (run_setting g stack) x r v (take.Job w input blank) y) last.Other old new)
       → LendsJob {F = Sealed} {B = List ℕ} {O = O} parts_of length (run_setting g stack) r v (take.Job w input blank) new.made
       → new.seen ≡ moved_at (run_setting g stack) 0 (lends e (parts_of input)) (c.between ++ old.seen)
-      → begins e ≡ Some r → worker_logs v e ≡ true → HasJob g stack r v input blank new
+      → begun_by e ≡ Some r → worker_logs v e ≡ true → HasJob g stack r v input blank new
   job-from blank e up job maker held c lent_ move first log =
       let f =
       λ (x y : BoardState). TakeGives {F = Sealed} {B = List ℕ} {O = O} name_of parts_of length (run_setting g stack) x r v (take.Job w input blank) y in

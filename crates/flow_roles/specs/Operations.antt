@@ -6,7 +6,8 @@ use Rattle.nd_base.specs.declared.measure.Measure.{Measure}
 use Rattle.flow_journal.specs.Setting.{Setting, last_role, is_node}
 use Rattle.flow_journal.specs.Histories.{is_history}
 use Rattle.board_rules.specs.declared.told.Told.{Told}
-use Rattle.board_rules.specs.States.{BoardState, past, begins}
+use Rattle.board_rules.specs.States.{BoardState, past}
+use Rattle.flow_journal.specs.MoveLists.{begun_by}
 use Rattle.board_rules.specs.Movers.{moves_by, IsMoveOf}
 use Rattle.board_rules.specs.Feeding.{MayIssue, HasRoom}
 use Rattle.board_rules.specs.Working.{LendsJob, IsAtNode, MayPut}
@@ -78,7 +79,7 @@ Lends fs s _ _ new = Unit {0}
 -- UNDER A LOCK, whose log has the oldest entry first
 
 abbrev pub begins_of : Told → Option ℕ
-begins_of t = begins t.entry
+begins_of t = begun_by t.entry
 
 abbrev pub MayBePlayed : {F B : Type 0} → Frames F B → Setting → (mine : List Told) → DeskOp F → Type 0
 MayBePlayed fs s mine o = MayPlay fs s (reverse mine) o

@@ -4,7 +4,8 @@ use Rattle.std.specs.List.{list_all}
 use Rattle.flow_journal.specs.declared.entry.Entry.{Entry}
 use Rattle.flow_journal.specs.declared.entry.Entry.TheVariants.{Load, LoadRefused, Issue, Take, TakeBlock, PoolDrop, Put, Settle, Save, Saved, Close, Leave}
 use Rattle.flow_journal.specs.Hands.{hand}
-use Rattle.board_rules.specs.States.{past, begins}
+use Rattle.board_rules.specs.States.{past}
+use Rattle.flow_journal.specs.MoveLists.{begun_by}
 use Rattle.flow_roles.specs.declared.last.Last.TheVariants.{Fresh}
 use Rattle.flow_roles.specs.Passes.{Pass}
 
@@ -15,7 +16,7 @@ feeder_logs (LoadRefused r k n h) = true
 feeder_logs (Issue r k) = true
 feeder_logs (Close r) = true
 feeder_logs (Leave r) = true
-feeder_logs e = is_none (begins e)
+feeder_logs e = is_none (begun_by e)
 
 -- an entry of the moves of a worker at node v
 abbrev pub worker_logs : ℕ → Entry → Bool
@@ -25,13 +26,13 @@ worker_logs v (PoolDrop r w m k n h) = w == v
 worker_logs v (Put r w m k f) = w == v
 worker_logs v (Settle r w) = w == v
 worker_logs v (Leave r) = true
-worker_logs v e = is_none (begins e)
+worker_logs v e = is_none (begun_by e)
 
 -- an entry of the moves of the role that saves
 abbrev pub saver_logs : Entry → Bool
 saver_logs (Save r v m k g) = true
 saver_logs (Saved r v m k) = true
-saver_logs e = is_none (begins e)
+saver_logs e = is_none (begun_by e)
 
 -- the pass of this role, which has made no call yet
 pub record IsFresh (r : ℕ) (p : Pass) : Type 0 where

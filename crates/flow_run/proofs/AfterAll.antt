@@ -10,7 +10,8 @@ use Rattle.flow_journal.specs.Setting.{Setting, last_role}
 use Rattle.flow_journal.specs.Pasts.{Past}
 use Rattle.flow_journal.specs.Following.{calls_for}
 use Rattle.board_rules.specs.declared.answers.Left.{Left}
-use Rattle.board_rules.specs.States.{BoardState, past, begins, is_role_of}
+use Rattle.board_rules.specs.States.{BoardState, past}
+use Rattle.flow_journal.specs.MoveLists.{begun_by, is_some_of}
 use Rattle.board_rules.specs.Moving.{with_all}
 use Rattle.flow_drain.specs.Drains.{is_load, DrainMoves, taken_back}
 use Rattle.flow_roles.specs.RoleMoves.{saver_logs}
@@ -24,7 +25,7 @@ pub record Alone (s : Setting) (e : Entry) : Type 0 where
   pub no_load : is_load e ≡ false
   pub none : (P : Past) → calls_for s P e ≡ []
 
-saves-alone : (s : Setting) (e : Entry) → is_role_of (last_role s) (begins e) ≡ true → saver_logs e ≡ true → Alone s e
+saves-alone : (s : Setting) (e : Entry) → is_some_of (last_role s) (begun_by e) ≡ true → saver_logs e ≡ true → Alone s e
 saves-alone s (Save r v m k g) ours logs = record { after = ours; no_load = refl; none = λ P. refl }
 saves-alone s (Saved r v m k) ours logs = record { after = ours; no_load = refl; none = λ P. refl }
 saves-alone s (Load r k b n f g x) ours logs = absurd (false≢true logs)
@@ -40,12 +41,12 @@ saves-alone s (Leave r) ours logs = absurd (false≢true logs)
 saves-alone s (Reclaim r) ours logs = absurd (false≢true logs)
 saves-alone s _ ours logs = absurd (false≢true ours)
 
-after-all-saves : (s : Setting) (tick : ℕ) (added b : BoardState) → list_all (λ (e : Entry). is_role_of (last_role s) (begins e)) (past added) ≡ true
+after-all-saves : (s : Setting) (tick : ℕ) (added b : BoardState) → list_all (λ (e : Entry). is_some_of (last_role s) (begun_by e)) (past added) ≡ true
     → list_all saver_logs (past added) ≡ true
     → AfterMoves s tick b (added ++ b)
 after-all-saves s tick [] b ours logs = AfterMoves.none b refl
 after-all-saves s tick (t ∷ added) b ours logs =
-    let o = and_parts (is_role_of (last_role s) (begins t.entry)) (list_all (λ (e : Entry). is_role_of (last_role s) (begins e)) (past added)) ours in
+    let o = and_parts (is_some_of (last_role s) (begun_by t.entry)) (list_all (λ (e : Entry). is_some_of (last_role s) (begun_by e)) (past added)) ours in
     let l = and_parts (saver_logs t.entry) (list_all saver_logs (past added)) logs in
     let one = saves-alone s t.entry o.0 l.0 in
     let here : BoardState = added ++ b in

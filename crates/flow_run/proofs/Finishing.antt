@@ -14,7 +14,8 @@ use Rattle.flow_journal.specs.declared.entry.Entry.TheVariants.{Save, Saved}
 use Rattle.flow_journal.specs.Setting.{Setting, last_role}
 use Rattle.flow_journal.specs.Ended.{was_reclaimed}
 use Rattle.board_rules.specs.declared.answers.Left.{Left}
-use Rattle.board_rules.specs.States.{BoardState, past, begins, is_role_of}
+use Rattle.board_rules.specs.States.{BoardState, past}
+use Rattle.flow_journal.specs.MoveLists.{begun_by, is_some_of}
 use Rattle.board_rules.specs.Movers.{moves_by}
 use Rattle.board_rules.specs.Leaving.{MayReclaim}
 use Rattle.board_rules.specs.RunMeasures.{run_setting}
@@ -39,13 +40,13 @@ use Rattle.flow_run.proofs.OwnMoves.{SavesOn, own-moves}
 use Rattle.flow_run.proofs.AfterAll.{after-all}
 
 -- the last role's saves, in other words
-rest-entry : (s : Setting) (e : Entry) → is_rest s e ≡ true → (is_role_of (last_role s) (begins e) ≡ true) × (saver_logs e ≡ true)
+rest-entry : (s : Setting) (e : Entry) → is_rest s e ≡ true → (is_some_of (last_role s) (begun_by e) ≡ true) × (saver_logs e ≡ true)
 rest-entry s (Save r v m k g) h = (h, refl)
 rest-entry s (Saved r v m k) h = (h, refl)
 rest-entry s _ h = absurd (false≢true h)
 
 rest-ours : (s : Setting) (added : BoardState) → list_all (is_rest s) (past added) ≡ true
-    → list_all (λ (e : Entry). is_role_of (last_role s) (begins e)) (past added) ≡ true
+    → list_all (λ (e : Entry). is_some_of (last_role s) (begun_by e)) (past added) ≡ true
 rest-ours s [] h = refl
 rest-ours s (t ∷ added) h =
     let a = and_parts (is_rest s t.entry) (list_all (is_rest s) (past added)) h in rw (rest-entry s t.entry a.0).0 (rest-ours s added a.1)

@@ -10,7 +10,8 @@ use Rattle.flow_journal.specs.Setting.{Setting, last_role}
 use Rattle.flow_journal.specs.Pasts.{Past}
 use Rattle.flow_journal.specs.Hands.{hand, is_free}
 use Rattle.board_rules.specs.declared.answers.Left.{Left}
-use Rattle.board_rules.specs.States.{BoardState, past, plain, loses, begins, is_role_of}
+use Rattle.board_rules.specs.States.{BoardState, past, plain, loses}
+use Rattle.flow_journal.specs.MoveLists.{begun_by, is_some_of}
 use Rattle.board_rules.specs.Movers.{first_some, mover, moves_by}
 use Rattle.board_rules.specs.Storage.{lost_of}
 use Rattle.board_rules.proofs.Moves.{moved-one, moves-added}
@@ -24,13 +25,13 @@ use Rattle.flow_run.specs.Ticks.{is_after, AfterMoves}
 
 mover-plain : (b : BoardState) → mover (map plain (past b)) ≡ mover b
 mover-plain [] = refl
-mover-plain (t ∷ b) = ap (first_some (begins t.entry)) (mover-plain b)
+mover-plain (t ∷ b) = ap (first_some (begun_by t.entry)) (mover-plain b)
 
 pub entries-are : (r : ℕ) (b : BoardState) → entries_by r (past b) ≡ past (moves_by r b)
 entries-are r [] = refl
 entries-are r (t ∷ b) =
     let same = mover-plain b in
-    elim (cases_Bool (is_role_of r (first_some (begins t.entry) (mover b)))) [
+    elim (cases_Bool (is_some_of r (first_some (begun_by t.entry) (mover b)))) [
       | inl yes_ ↦ rw (same, yes_) (ap (λ (P : Past). t.entry ∷ P) (entries-are r b))
       | inr no_ ↦ rw (same, no_) (entries-are r b)
     ]
@@ -71,16 +72,16 @@ none-append q (e ∷ P) Q h k =
 -- MOVES OF THE LAST ROLE, AND OF OTHERS
 
 -- moves of one role, one entry each
-pub single-moves : (q : ℕ) (added b : BoardState) → list_all (λ (e : Entry). is_role_of q (begins e)) (past added) ≡ true
+pub single-moves : (q : ℕ) (added b : BoardState) → list_all (λ (e : Entry). is_some_of q (begun_by e)) (past added) ≡ true
     → (moves_by q (added ++ b) ≡ added ++ moves_by q b) × ((r : ℕ) → r ≢ q → moves_by r (added ++ b) ≡ moves_by r b)
 single-moves q [] b h = (refl, λ r ne. refl)
 single-moves q (t ∷ added) b h =
-    let a = and_parts (is_role_of q (begins t.entry)) (list_all (λ (e : Entry). is_role_of q (begins e)) (past added)) h in
+    let a = and_parts (is_some_of q (begun_by t.entry)) (list_all (λ (e : Entry). is_some_of q (begun_by e)) (past added)) h in
     let rest = single-moves q added b a.1 in
-    let one = moves-added (t ∷ []) (added ++ b) q (role-is (begins t.entry) a.0) in
+    let one = moves-added (t ∷ []) (added ++ b) q (role-is (begun_by t.entry) a.0) in
     (one.0 ∙ ap (λ (c : BoardState). t ∷ c) rest.0, λ r ne. one.1 r ne ∙ rest.1 r ne)
   where
-    role-is : (o : Option ℕ) → is_role_of q o ≡ true → o ≡ Some q
+    role-is : (o : Option ℕ) → is_some_of q o ≡ true → o ≡ Some q
     role-is (Some p) is = ap (λ (x : ℕ). Some x) (eqb-true p q is)
     role-is None is = absurd (false≢true is)
 
@@ -90,7 +91,7 @@ by-role : (s : Setting) (r : ℕ) → eqb r (last_role s) ≡ true → r ≤ las
 by-role s r h = omega (arith, eqb-true r (last_role s) h)
 
 -- each begins with an entry of a role of the run
-after-role : (s : Setting) (e : Entry) → is_after s e ≡ true → (q : ℕ) × (begins e ≡ Some q) × (q ≤ last_role s)
+after-role : (s : Setting) (e : Entry) → is_after s e ≡ true → (q : ℕ) × (begun_by e ≡ Some q) × (q ≤ last_role s)
 after-role s (Load r k b n f g x) h = (r, refl, by-role s r h)
 after-role s (LoadRefused r k n z) h = (r, refl, by-role s r h)
 after-role s (Issue r k) h = (r, refl, by-role s r h)

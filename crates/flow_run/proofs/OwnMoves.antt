@@ -12,7 +12,8 @@ use Rattle.flow_journal.specs.Hands.{is_free}
 use Rattle.flow_journal.specs.Ended.{reclaims, was_reclaimed, closes, settles, is_settled, leaves, has_left_any}
 use Rattle.flow_journal.specs.Histories.{is_history}
 use Rattle.board_rules.specs.declared.answers.Left.{Left}
-use Rattle.board_rules.specs.States.{BoardState, past, begins, is_role_of}
+use Rattle.board_rules.specs.States.{BoardState, past}
+use Rattle.flow_journal.specs.MoveLists.{begun_by, is_some_of}
 use Rattle.board_rules.specs.Movers.{moves_by}
 use Rattle.board_rules.specs.RunMeasures.{run_setting}
 use Rattle.flow_roles.specs.Passes.{Pass, only_drain_saves}
@@ -36,7 +37,7 @@ use Rattle.flow_run.proofs.Joined.{role-moves, last-moves, none-back, below-last
 pub record SavesOn (s : Setting) (old new : BoardState) : Type 0 where
   pub added : BoardState
   pub whole : new ≡ added ++ old
-  pub ours : list_all (λ (e : Entry). is_role_of (last_role s) (begins e)) (past added) ≡ true
+  pub ours : list_all (λ (e : Entry). is_some_of (last_role s) (begun_by e)) (past added) ≡ true
   pub logs : list_all saver_logs (past added) ≡ true
 
 pub saves-none : (s : Setting) (b : BoardState) → SavesOn s b b

@@ -21,7 +21,8 @@ use Rattle.flow_journal.specs.Histories.{is_legal, is_history}
 use Rattle.flow_journal.specs.Unsaved.{saves}
 use Rattle.board_rules.specs.declared.answers.Left.{Left}
 use Rattle.board_rules.specs.declared.told.Told.{Told}
-use Rattle.board_rules.specs.States.{BoardState, past, begins, is_role_of, lent_to, loses}
+use Rattle.board_rules.specs.States.{BoardState, past, lent_to, loses}
+use Rattle.flow_journal.specs.MoveLists.{begun_by, is_some_of}
 use Rattle.board_rules.specs.Storage.{lost_of}
 use Rattle.board_rules.specs.Movers.{first_some, mover, moves_by}
 use Rattle.board_rules.specs.Moving.{moved, moved_at}
@@ -150,7 +151,7 @@ nothing-on a b c m n = record {
 pub nothing-first : (old new : BoardState) → new ≡ old → SavesNothing old new
 nothing-first old new is = record { more = []; is = is; none = refl }
 
-quiet : (e : Entry) → begins e ≡ None → saves_not e ≡ true
+quiet : (e : Entry) → begun_by e ≡ None → saves_not e ≡ true
 quiet (Load r k b n f g x) h = cc
 quiet (LoadRefused r k n z) h = cc
 quiet (Issue r k) h = cc
@@ -170,7 +171,7 @@ quiet-all : (more : BoardState) → GoesAfter more → list_all saves_not (past 
 quiet-all [] h = refl
 quiet-all (t ∷ more) h = and_from _ _ (quiet t.entry h.0) (quiet-all more h.1)
 
-moved-nothing : (s : Setting) (at r : ℕ) (t : Told) (b new : BoardState) → begins t.entry ≡ Some r → saves_not t.entry ≡ true
+moved-nothing : (s : Setting) (at r : ℕ) (t : Told) (b new : BoardState) → begun_by t.entry ≡ Some r → saves_not t.entry ≡ true
     → new ≡ moved_at s at t b → SavesNothing b new
 moved-nothing s at r t b new first none is =
     let f = followers s at t b in
@@ -181,7 +182,7 @@ moved-nothing s at r t b new first none is =
       none = all-append saves_not f.more (t ∷ []) (quiet-all f.more after) (and_from _ _ none refl);
     }
 
-drain-begins : (s : Setting) (e : Entry) → is_drains s e ≡ true → (begins e ≡ Some (last_role s)) × (saves_not e ≡ true)
+drain-begins : (s : Setting) (e : Entry) → is_drains s e ≡ true → (begun_by e ≡ Some (last_role s)) × (saves_not e ≡ true)
 drain-begins s (Load r k b n f g x) h = (ap Some (eqb-true r (last_role s) h), refl)
 drain-begins s (LoadRefused r k n z) h = (ap Some (eqb-true r (last_role s) h), refl)
 drain-begins s (Issue r k) h = (ap Some (eqb-true r (last_role s) h), refl)
@@ -230,7 +231,7 @@ own-more r [] b none = nothing-first (moves_by r b) (moves_by r b) refl
 own-more r (t ∷ more) b none =
     let two = and_parts (saves_not t.entry) (list_all saves_not (past more)) none in
     let rest = own-more r more b two.1 in
-    elim (cases_Bool (is_role_of r (first_some (begins t.entry) (mover (more ++ b))))) [
+    elim (cases_Bool (is_some_of r (first_some (begun_by t.entry) (mover (more ++ b))))) [
       | inl mine ↦
           rw mine (nothing-on (moves_by r b) (moves_by r (more ++ b)) (t ∷ moves_by r (more ++ b)) rest
           (record { more = t ∷ []; is = refl; none = and_from _ _ two.0 refl }))
@@ -354,7 +355,7 @@ drained-alone name_of g stack prefix before tick ends b new xs fault held moves 
 
 -- WHAT SAVES LEAVE OF THE OTHER ROLES
 
-rest-begins : (s : Setting) (e : Entry) → is_rest s e ≡ true → (begins e ≡ Some (last_role s)) × ((r : ℕ) → reclaims r e ≡ false)
+rest-begins : (s : Setting) (e : Entry) → is_rest s e ≡ true → (begun_by e ≡ Some (last_role s)) × ((r : ℕ) → reclaims r e ≡ false)
 rest-begins s (Save r v m k g) h = (ap Some (eqb-true r (last_role s) h), λ q. refl)
 rest-begins s (Saved r v m k) h = (ap Some (eqb-true r (last_role s) h), λ q. refl)
 rest-begins s _ h = absurd (false≢true h)
@@ -363,8 +364,8 @@ others-more : (s : Setting) (r : ℕ) (added b : BoardState) → r ≢ last_role
 others-more s r [] b apart h = refl
 others-more s r (t ∷ added) b apart h =
     let two = and_parts (is_rest s t.entry) (list_all (is_rest s) (past added)) h in
-    let not_mine : is_role_of r (first_some (begins t.entry) (mover (added ++ b))) ≡ false =
-    ap (λ (o : Option ℕ). is_role_of r (first_some o (mover (added ++ b)))) (rest-begins s t.entry two.0).0 ∙ ne_eqb (last_role s) r (λ e. apart (sym e)) in
+    let not_mine : is_some_of r (first_some (begun_by t.entry) (mover (added ++ b))) ≡ false =
+    ap (λ (o : Option ℕ). is_some_of r (first_some o (mover (added ++ b)))) (rest-begins s t.entry two.0).0 ∙ ne_eqb (last_role s) r (λ e. apart (sym e)) in
     rw not_mine (others-more s r added b apart two.1)
 
 -- the moves of every other role

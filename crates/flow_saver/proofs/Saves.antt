@@ -17,7 +17,8 @@ use Rattle.flow_journal.proofs.Pieces.{saves-let_go}
 use Rattle.flow_journal.proofs.Jobs.{reclaim_hand}
 use Rattle.flow_journal.proofs.Rows.{row_laws}
 use Rattle.board_rules.specs.declared.told.Told.{Told}
-use Rattle.board_rules.specs.States.{BoardState, past, begins, is_role_of}
+use Rattle.board_rules.specs.States.{BoardState, past}
+use Rattle.flow_journal.specs.MoveLists.{begun_by, is_some_of}
 use Rattle.board_rules.specs.Movers.{first_some, mover, moves_by}
 use Rattle.flow_roles.specs.Passes.{saved_by_drain, only_drain_saves}
 use Rattle.flow_saver.specs.GivenBack.{given_back}
@@ -86,7 +87,7 @@ saves-then v (Save r w m k g) P Q same = ap (comes_at v w (frame m k)) same
 saves-then v _ P Q same = same
 
 saves-skip : (s : Setting) (v : ℕ) (e : Entry) (o : Option ℕ) (P : Past) → saved_by_drain s e ≡ true
-    → is_role_of (last_role s) (first_some (begins e) o) ≡ false → saves v (e ∷ P) ≡ saves v P
+    → is_some_of (last_role s) (first_some (begun_by e) o) ≡ false → saves v (e ∷ P) ≡ saves v P
 saves-skip s v (Save r w m k g) o P drain not_mine = absurd (false≢true (sym not_mine ∙ drain))
 saves-skip s v _ o P drain not_mine = refl
 
@@ -95,7 +96,7 @@ saves-mine s v [] d = refl
 saves-mine s v (t ∷ b) d =
     let parts = and_parts (saved_by_drain s t.entry) (only_drain_saves s (past b)) d in
     let before = saves-mine s v b parts.1 in
-    elim (cases_Bool (is_role_of (last_role s) (first_some (begins t.entry) (mover b)))) [
+    elim (cases_Bool (is_some_of (last_role s) (first_some (begun_by t.entry) (mover b)))) [
       | inl mine ↦ rw mine (saves-then v t.entry (past b) (past (moves_by (last_role s) b)) before)
       | inr other ↦ rw other (saves-skip s v t.entry (mover b) (past b) parts.0 other ∙ before)
     ]
@@ -107,7 +108,7 @@ given-then v (Saved r w m k) P Q same = ap (comes_at v w (frame m k)) same
 given-then v _ P Q same = same
 
 given-skip : (s : Setting) (v : ℕ) (e : Entry) (o : Option ℕ) (P : Past) → is_legal s (e ∷ P) ≡ true → only_drain_saves s P ≡ true
-    → is_role_of (last_role s) (first_some (begins e) o) ≡ false → given_back v (e ∷ P) ≡ given_back v P
+    → is_some_of (last_role s) (first_some (begun_by e) o) ≡ false → given_back v (e ∷ P) ≡ given_back v P
 given-skip s v (Saved r w m k) o P h d not_mine =
     let piece = (row_laws.saved s P r w m k).0 (row_of s (Saved r w m k) P (λ d. refl) h) in
     let taken = hand-standing s P r (Save r w m k piece.0) (and_parts (is_legal s P) _ h).0 piece.1 in
@@ -122,7 +123,7 @@ given-mine s v [] h d = refl
 given-mine s v (t ∷ b) h d =
     let drained = (and_parts (saved_by_drain s t.entry) (only_drain_saves s (past b)) d).1 in
     let before = given-mine s v b (and_parts (is_legal s (past b)) _ h).0 drained in
-    elim (cases_Bool (is_role_of (last_role s) (first_some (begins t.entry) (mover b)))) [
+    elim (cases_Bool (is_some_of (last_role s) (first_some (begun_by t.entry) (mover b)))) [
       | inl mine ↦ rw mine (given-then v t.entry (past b) (past (moves_by (last_role s) b)) before)
       | inr other ↦ rw other (given-skip s v t.entry (mover b) (past b) h drained other ∙ before)
     ]
@@ -145,7 +146,7 @@ given-at s [] h d (e ∷ later) front is = absurd (cc)
 given-at s (t ∷ b) h d (e ∷ later) front is =
     let legal = (and_parts (is_legal s (past b)) _ h).0 in
     let drained = (and_parts (saved_by_drain s t.entry) (only_drain_saves s (past b)) d).1 in
-    elim (cases_Bool (is_role_of (last_role s) (first_some (begins t.entry) (mover b)))) [
+    elim (cases_Bool (is_some_of (last_role s) (first_some (begun_by t.entry) (mover b)))) [
       | inl mine ↦
           let all : t.entry ∷ past (moves_by (last_role s) b) ≡ e ∷ (later ++ front) = rw mine at is in
           let tail : past (moves_by (last_role s) b) ≡ later ++ front = cc in

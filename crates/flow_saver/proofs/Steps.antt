@@ -23,7 +23,8 @@ use Rattle.flow_journal.specs.Unsaved.{saves, standing_saves}
 use Rattle.flow_journal.proofs.Changes.{hand_laws}
 use Rattle.board_rules.specs.declared.told.Told.{Told}
 use Rattle.board_rules.specs.declared.answers.Save.TheVariants.{Piece}
-use Rattle.board_rules.specs.States.{BoardState, past, lends, lent_to, begins, is_role_of}
+use Rattle.board_rules.specs.States.{BoardState, past, lends, lent_to}
+use Rattle.flow_journal.specs.MoveLists.{begun_by, is_some_of}
 use Rattle.board_rules.specs.Movers.{first_some, mover, moves_by}
 use Rattle.board_rules.specs.Moving.{moved_at}
 use Rattle.board_rules.specs.RunMeasures.{run_setting}
@@ -46,7 +47,7 @@ use Rattle.flow_saver.proofs.Sizes.{first-more, begun-more}
 
 module _ (s : Setting) (gives : BoardState → BoardState → Type 0)
     (answered : Last) (p q : Pass) (r : ℕ) (is : p.role ≡ r) (c : Called s gives answered p q) (t : Told)
-    (first : begins t.entry ≡ Some r) (logged : q.seen ≡ t ∷ (c.between ++ p.seen)) where
+    (first : begun_by t.entry ≡ Some r) (logged : q.seen ≡ t ∷ (c.between ++ p.seen)) where
   pub one-entry : q.made ≡ t ∷ p.made
   one-entry =
       let added : c.added ≡ t ∷ [] = append_cancel_right c.added (t ∷ []) (c.between ++ p.seen) (sym c.seen ∙ logged) in
@@ -54,8 +55,8 @@ module _ (s : Setting) (gives : BoardState → BoardState → Type 0)
 
   pub mine-before : moves_by r (c.between ++ p.seen) ≡ p.made
   mine-before =
-      let here : is_role_of r (first_some (begins t.entry) (mover (c.between ++ p.seen))) ≡ true =
-      ap (λ (o : Option ℕ). is_role_of r (first_some o (mover (c.between ++ p.seen)))) first ∙ eq-eqb r r refl in
+      let here : is_some_of r (first_some (begun_by t.entry) (mover (c.between ++ p.seen))) ≡ true =
+      ap (λ (o : Option ℕ). is_some_of r (first_some o (mover (c.between ++ p.seen)))) first ∙ eq-eqb r r refl in
       let both : t ∷ moves_by r (c.between ++ p.seen) ≡ t ∷ p.made =
       sym (ap (λ (b : BoardState). moves_by r b) logged ∙ rw here refl) ∙ (subst (λ (k : ℕ). moves_by k q.seen ≡ q.made) is c.exact ∙ one-entry) in
       cc
@@ -148,7 +149,7 @@ all-true (e ∷ P) = all-true P
 
 pub any-moved : (s : Setting) (gives : BoardState → BoardState → Type 0) (answered : Last) (p q : Pass) (r : ℕ) → p.role ≡ r
     → (c : Called s gives answered p q) (t : Told)
-    → begins t.entry ≡ Some r → q.seen ≡ moved_at s 0 t (c.between ++ p.seen) → Moved s (λ (e : Entry). true) r t (c.between ++ p.seen) p q
+    → begun_by t.entry ≡ Some r → q.seen ≡ moved_at s 0 t (c.between ++ p.seen) → Moved s (λ (e : Entry). true) r t (c.between ++ p.seen) p q
 any-moved s gives answered p q r is c t first logged =
     moved s gives answered p q r is c (λ (e : Entry). true) 0 t logged first (λ e h. refl) refl (all-true (past p.made))
 

@@ -15,7 +15,8 @@ use Rattle.flow_journal.proofs.Travels.{clear-more}
 use Rattle.flow_journal.proofs.Making.{is_frame, no_frame}
 use Rattle.board_rules.specs.States.{BoardState, past, plain, lent_to}
 use Rattle.board_rules.specs.Moving.{moved}
-use Rattle.board_rules.specs.InHand.{is_job_on, result_name, granted_block, granted_size, IsWholeOf, IsMadeAs}
+use Rattle.board_rules.specs.InHand.{is_job_on, granted_block, granted_size, IsWholeOf, IsMadeAs}
+use Rattle.flow_journal.specs.ResultNames.{result_name}
 use Rattle.board_rules.specs.Storage.{is_among}
 use Rattle.board_rules.proofs.Makers.{hand-suits}
 use Rattle.frame_table.specs.Kept.{Kept, Frame, kept_at, with_kept, united}

@@ -17,7 +17,8 @@ use Rattle.flow_journal.proofs.Hands.{row_of, one-hand}
 use Rattle.flow_journal.proofs.Found.{none_counted, none_any}
 use Rattle.flow_journal.proofs.Buckets.{AreBuckets, one_in_buckets}
 use Rattle.flow_journal.proofs.Travels.{may-Take, may-TakeBlock, holds, bit-none}
-use Rattle.flow_journal.proofs.Lengths.{is_reclaim, reclaims-few}
+use Rattle.flow_journal.proofs.Lengths.{reclaims-few}
+use Rattle.flow_journal.specs.EntryTests.{is_reclaim}
 use Rattle.board_rules.specs.States.{BoardState, past}
 use Rattle.board_rules.specs.Storage.{is_among, grants, is_away, has_part, parts_in_hand, parts_away}
 use Rattle.kept_blocks.specs.Keeping.{LoseFew, most_lost}

@@ -12,7 +12,8 @@ use Rattle.flow_journal.specs.Histories.{is_legal}
 use Rattle.board_rules.specs.declared.answers.Left.{Left}
 use Rattle.board_rules.specs.States.{BoardState, past, plain, lends, loses, lent_to}
 use Rattle.board_rules.specs.Moving.{moved, moved_at}
-use Rattle.board_rules.specs.InHand.{is_load_of, is_job_on, is_piece_on, result_name, granted_block, granted_size, IsWholeOf, IsMadeAs}
+use Rattle.board_rules.specs.InHand.{is_load_of, is_job_on, is_piece_on, granted_block, granted_size, IsWholeOf, IsMadeAs}
+use Rattle.flow_journal.specs.ResultNames.{result_name}
 use Rattle.board_rules.specs.Storage.{lost_of}
 use Rattle.board_rules.specs.Leaving.{reclaim_refusal, MayReclaim}
 use Rattle.frame_table.specs.Kept.{Kept, Frame, Storage, kept_at, with_kept, IsPartOf, less_one, united}

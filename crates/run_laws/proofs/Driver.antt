@@ -14,7 +14,8 @@ use Rattle.flow_journal.specs.IndexLaws.{below}
 use Rattle.flow_journal.specs.Finished.{none_left, is_done}
 use Rattle.flow_journal.proofs.EntryCounts.{count, bit, count-cons}
 use Rattle.flow_journal.proofs.Indices.{index_laws}
-use Rattle.run_laws.specs.Drops.{is_refused_load, load_index, loaded_frames}
+use Rattle.run_laws.specs.Drops.{load_index, loaded_frames}
+use Rattle.flow_journal.specs.EntryTests.{is_refused_load}
 use Rattle.run_laws.specs.Results.{IsFinishedRun}
 
 hand_no_refusal : (r : ℕ) (e : Entry) → takes_up r e ≡ true → is_refused_load e ≡ false

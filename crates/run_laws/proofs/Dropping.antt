@@ -10,7 +10,7 @@ use Rattle.flow_journal.specs.Pasts.{Past, frame, same}
 use Rattle.flow_journal.specs.Accepted.{is_dropped_by}
 use Rattle.flow_journal.proofs.EntryCounts.{count, bit, count-cons, count-append}
 use Rattle.flow_journal.proofs.Outs.{of_index}
-use Rattle.run_laws.specs.Drops.{is_sort_drop}
+use Rattle.flow_journal.specs.EntryTests.{is_sort_drop}
 use Rattle.run_laws.proofs.Tallies.{pool_drops_at}
 
 pub drop-away : (b : Bool) (T D : FrameName → Bool) (xs : List FrameName) → b ≡ false → filter (λ a. not ((b && T a) || D a)) xs ≡ filter (λ a. not (D a)) xs

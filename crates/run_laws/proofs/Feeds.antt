@@ -26,7 +26,8 @@ use Rattle.flow_journal.proofs.Dealing.{count-offered}
 use Rattle.flow_journal.proofs.Offers.{is_number, none_numbered_0, child_once}
 use Rattle.flow_journal.proofs.Issues.{looks-none, puts_at_node, settles_node}
 use Rattle.flow_journal.proofs.Emissions.{owed-Emit_out, no_outs_in_offers}
-use Rattle.run_laws.specs.Drops.{is_full, has_reclaim}
+use Rattle.run_laws.specs.Drops.{has_reclaim}
+use Rattle.flow_journal.specs.EntryTests.{is_full}
 use Rattle.run_laws.proofs.Fulls.{is_any_full, less-owed, no_full_owed, full-answers, head-no_full}
 
 -- an offer to the node

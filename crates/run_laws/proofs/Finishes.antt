@@ -30,7 +30,8 @@ use Rattle.flow_journal.proofs.Rows.{row_laws}
 use Rattle.flow_journal.proofs.Hands.{row_of}
 use Rattle.flow_journal.proofs.Outputs.{output_laws}
 use Rattle.flow_journal.proofs.Changes.{save_laws}
-use Rattle.run_laws.specs.Results.{IsFinishedRun, result_name}
+use Rattle.run_laws.specs.Results.{IsFinishedRun}
+use Rattle.flow_journal.specs.ResultNames.{result_name}
 use Rattle.run_laws.proofs.Jobs.{jobs_at}
 use Rattle.run_laws.proofs.Lines.{line}
 

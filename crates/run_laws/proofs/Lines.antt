@@ -24,8 +24,8 @@ use Rattle.flow_journal.proofs.EntryCounts.{count, bit, count-cons, count-let_go
 use Rattle.flow_journal.proofs.Jobs.{reclaim_hand}
 use Rattle.flow_journal.proofs.Issues.{accepts-count}
 use Rattle.flow_journal.proofs.Once.{accepts-once, accepts_once-law}
-use Rattle.run_laws.specs.Drops.{is_sort_drop}
-use Rattle.run_laws.specs.Results.{result_name}
+use Rattle.flow_journal.specs.EntryTests.{is_sort_drop}
+use Rattle.flow_journal.specs.ResultNames.{result_name}
 use Rattle.run_laws.proofs.Tallies.{pool_drops_at, accepts-all, no_sort_drops}
 use Rattle.run_laws.proofs.Jobs.{jobs_at, no_job, no_jobs, other_goes, one_goes, hands-fit, found-fits}
 use Rattle.run_laws.proofs.Dropping.{drop-away, drop-here, one-out, count-filter-le, same-le, undropped}

@@ -44,7 +44,8 @@ use Rattle.flow_journal.proofs.EntryCounts.{count, count-cons}
 use Rattle.flow_journal.proofs.Jobs.{reclaim_hand}
 use Rattle.flow_journal.proofs.Once.{emits_once-law}
 use Rattle.flow_journal.proofs.Outs.{of_index}
-use Rattle.run_laws.specs.Drops.{is_refused_load, load_index, drops, has_drop}
+use Rattle.run_laws.specs.Drops.{load_index, drops, has_drop}
+use Rattle.flow_journal.specs.EntryTests.{is_refused_load}
 use Rattle.run_laws.specs.Results.{IsFinishedRun, put_out, indices, contents, outcome}
 use Rattle.run_laws.specs.PlainLaws.{IsSmooth, ArePlain, HasNoDealer, HasDistinctIds}
 use Rattle.run_laws.proofs.Driver.{refusals-stand, all-came}

@@ -26,7 +26,8 @@ use Rattle.flow_journal.specs.Pasts.{Past, frame}
 use Rattle.flow_journal.specs.Unsaved.{standing_saves, is_file}
 use Rattle.flow_journal.specs.Accepted.{accepted, emitted}
 use Rattle.flow_journal.specs.RunSetting.{setting_of, node_of, work_of, kind_fires, node_fires}
-use Rattle.run_laws.specs.Results.{IsFinishedRun, put_out, result_name, indices}
+use Rattle.run_laws.specs.Results.{IsFinishedRun, put_out, indices}
+use Rattle.flow_journal.specs.ResultNames.{result_name}
 use Rattle.run_laws.proofs.Finishes.{saves-are, emits-are, windows-are}
 use Rattle.run_laws.proofs.Orders.{emits-permute}
 

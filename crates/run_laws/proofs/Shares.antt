@@ -23,7 +23,7 @@ use Rattle.flow_journal.proofs.Outs.{of_index, waits}
 use Rattle.flow_journal.proofs.Issues.{accepts-count}
 use Rattle.flow_journal.proofs.Once.{accepts-once, accepts_once-law}
 use Rattle.flow_journal.proofs.Emissions.{sorted-outs, puts-of_index, drop-waits}
-use Rattle.run_laws.specs.Drops.{is_sort_drop}
+use Rattle.flow_journal.specs.EntryTests.{is_sort_drop}
 use Rattle.run_laws.proofs.Tallies.{pool_drops_at, accepts-all, no_sort_drops}
 use Rattle.run_laws.proofs.Dropping.{drop-away, drop-here, none-goes, count-filter-le, same-le}
 use Rattle.run_laws.proofs.Sorted.{sort_drops_at, sort-le, outs-split, puts-accepted, waits-le}

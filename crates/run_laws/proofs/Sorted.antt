@@ -19,7 +19,7 @@ use Rattle.flow_journal.proofs.EntryCounts.{count, bit, count-cons, count-append
 use Rattle.flow_journal.proofs.Jobs.{reclaim_hand}
 use Rattle.flow_journal.proofs.Outs.{out_of, of_index, waits}
 use Rattle.flow_journal.proofs.Emissions.{puts-of_index, sorted-outs}
-use Rattle.run_laws.specs.Drops.{is_sort_drop}
+use Rattle.flow_journal.specs.EntryTests.{is_sort_drop}
 use Rattle.run_laws.proofs.Tallies.{no_sort_drops}
 use Rattle.run_laws.proofs.Jobs.{hands-fit, found-fits}
 

@@ -32,7 +32,7 @@ use Rattle.flow_journal.proofs.EntryCounts.{answers-by_SortDrop}
 use Rattle.flow_journal.proofs.Jobs.{putting_hand, reclaim_hand}
 use Rattle.flow_journal.proofs.Outs.{of_index, is_out_at, AllOutAt, result-at}
 use Rattle.flow_journal.proofs.Issues.{comes-count}
-use Rattle.run_laws.specs.Drops.{is_sort_drop}
+use Rattle.flow_journal.specs.EntryTests.{is_sort_drop}
 
 -- the entry is a drop of the pool at v, of index k
 abbrev pub pool_drops_at : ℕ → ℕ → Entry → Bool

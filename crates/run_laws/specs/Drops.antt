@@ -1,26 +1,11 @@
 -- The drops of a history, as counts of its entries.
-use Rattle.std.specs.Prelude.{ℕ, ◌==◌, Bool, true, false, List, [], ◌∷◌, length, filter, flat_map}
+use Rattle.std.specs.Prelude.{ℕ, Bool, true, false, List, [], ◌∷◌, length, filter, flat_map}
 use Rattle.std.specs.List.{list_any}
 use Rattle.flow_journal.specs.declared.entry.Entry.{Entry}
-use Rattle.flow_journal.specs.declared.entry.Entry.TheVariants.{Load, LoadRefused, Full, PoolDrop, SortDrop, Reclaim}
+use Rattle.flow_journal.specs.declared.entry.Entry.TheVariants.{Load, LoadRefused, Full, PoolDrop, SortDrop}
 use Rattle.flow_journal.specs.Pasts.{Past}
+use Rattle.flow_journal.specs.EntryTests.{is_full, is_pool_drop, is_sort_drop, is_refused_load, is_reclaim}
 use Rattle.flow_journal.specs.Hands.{standing}
-
-abbrev pub is_full : ℕ → Entry → Bool
-is_full v (Full w m k) = w == v
-is_full v _ = false
-
-abbrev pub is_pool_drop : ℕ → Entry → Bool
-is_pool_drop v (PoolDrop r w m k n h) = w == v
-is_pool_drop v _ = false
-
-abbrev pub is_sort_drop : ℕ → Entry → Bool
-is_sort_drop v (SortDrop w m k) = w == v
-is_sort_drop v _ = false
-
-abbrev pub is_refused_load : Entry → Bool
-is_refused_load (LoadRefused r k n h) = true
-is_refused_load _ = false
 
 -- how many arrays found the node's queue full
 abbrev pub fulls : ℕ → Past → ℕ
@@ -58,10 +43,6 @@ drops _ = false
 -- something was dropped
 abbrev pub has_drop : Past → Bool
 has_drop P = list_any drops P
-
-abbrev pub is_reclaim : Entry → Bool
-is_reclaim (Reclaim r) = true
-is_reclaim _ = false
 
 -- a hand was taken back
 abbrev pub has_reclaim : Past → Bool

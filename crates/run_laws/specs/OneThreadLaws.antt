@@ -16,7 +16,8 @@ use Rattle.flow_journal.specs.Unsaved.{standing_saves, is_file}
 use Rattle.flow_journal.specs.Accepted.{accepted, emitted}
 use Rattle.flow_journal.specs.Histories.{is_history}
 use Rattle.flow_journal.specs.RunSetting.{setting_of}
-use Rattle.run_laws.specs.Results.{IsFinishedRun, put_out, result_name, indices, AreInOrder, AreInSomeOrder}
+use Rattle.run_laws.specs.Results.{IsFinishedRun, put_out, indices, AreInOrder, AreInSomeOrder}
+use Rattle.flow_journal.specs.ResultNames.{result_name}
 
 -- a file node saved what it accepted for good, in this order
 abbrev pub FilesSaveTheAccepted : Type 0

@@ -8,8 +8,8 @@ use Rattle.nd_base.specs.declared.graph.NodeRule.{NodeRule}
 use Rattle.nd_base.specs.GraphRules.{rule_at}
 use Rattle.chain_plain.specs.Content.{content}
 use Rattle.chain_plain.specs.OneThread.{listed, outputs, OneThread, measures_of, files_of, one_thread}
-use Rattle.flow_journal.specs.Setting.{Setting, node, is_maker}
-use Rattle.flow_journal.specs.Pasts.{Past, frame}
+use Rattle.flow_journal.specs.Setting.{Setting, node}
+use Rattle.flow_journal.specs.Pasts.{Past}
 use Rattle.flow_journal.specs.Unsaved.{standing_saves, is_file}
 use Rattle.flow_journal.specs.Accepted.{emitted}
 use Rattle.flow_journal.specs.Histories.{is_history}
@@ -23,10 +23,6 @@ pub record IsFinishedRun (s : Setting) (P : Past) : Type 0 where
 -- what went out: at a file node what was saved, and at another what it emitted
 abbrev pub put_out : Setting → ℕ → Past → List FrameName
 put_out s v P = if is_file (node s v).work then standing_saves v P else emitted v P
-
--- the name of what the node makes of an array: a maker's own, and else that of the array
-abbrev pub result_name : Setting → ℕ → FrameName → FrameName
-result_name s v a = if is_maker s v then frame v a.index else a
 
 abbrev pub indices : List FrameName → List ℕ
 indices xs = map (λ a. a.index) xs

@@ -26,10 +26,11 @@ use Rattle.flow_journal.specs.Histories.{is_history}
 use Rattle.flow_journal.specs.Finished.{is_finished}
 use Rattle.flow_journal.specs.RunSetting.{setting_of}
 use Rattle.flow_journal.specs.WorkedRuns.{after, loaded, issued_in_vain, fed, taken, put}
+use Rattle.flow_journal.specs.WorkedSorting.{three_taken}
 use Rattle.run_laws.specs.Drops.{has_drop}
 use Rattle.run_laws.specs.PlainLaws.{IsSmooth}
 use Rattle.run_laws.specs.Results.{put_out, indices, contents, outcome}
-use Rattle.run_laws.specs.WorkedOutputs.{all_taken, out, mixed, out_twice}
+use Rattle.run_laws.specs.WorkedOutputs.{out, mixed, out_twice}
 
 -- an empty array of this id, with one attribute
 abbrev gated : ℤ → ℤ → Array
@@ -215,7 +216,7 @@ abbrev five_five_six : StackValue
 five_five_six = stack_of (gated (pos 5) (pos 0) ∷ gated (pos 5) (pos 0) ∷ gated (pos 6) (pos 0) ∷ [])
 
 abbrev second_first : List Entry
-second_first = all_taken ++ put 2 1 ++ out 1 ++ put 1 0 ++ out 0 ++ put 3 2 ++ out 2 ++ (Close 0 ∷ Settle 1 1 ∷ [])
+second_first = three_taken ++ put 2 1 ++ out 1 ++ put 1 0 ++ out 0 ++ put 3 2 ++ out 2 ++ (Close 0 ∷ Settle 1 1 ∷ [])
 
 second_first_is_a_run : (is_history (run_of wide_graph five_five_six) (after second_first) ≡ true)
     × (is_finished (run_of wide_graph five_five_six) (after second_first) ≡ true)

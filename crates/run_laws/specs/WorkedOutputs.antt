@@ -14,10 +14,11 @@ use Rattle.flow_journal.specs.Histories.{is_history}
 use Rattle.flow_journal.specs.Finished.{is_finished}
 use Rattle.flow_journal.specs.WorkedRuns.{one_node, after, fed, taken, put}
 use Rattle.flow_journal.specs.WorkedSaves.{one_file, eleven_entries}
-use Rattle.flow_journal.specs.WorkedSorting.{one_two_three}
+use Rattle.flow_journal.specs.WorkedSorting.{one_two_three, three_taken}
 use Rattle.flow_journal.specs.WorkedBlocks.{twelve_bytes, one_given_up}
 use Rattle.flow_journal.specs.WorkedWindows.{two_and_three, first_window, both_windows, small_pool, two_in_the_ring, third_refused, worked, goes}
-use Rattle.run_laws.specs.Results.{result_name, indices}
+use Rattle.run_laws.specs.Results.{indices}
+use Rattle.flow_journal.specs.ResultNames.{result_name}
 
 -- FILES
 
@@ -98,12 +99,9 @@ four_threads = one_node (Passes false) 20 4 0 100 0 false one_two_three
 abbrev pub out : ℕ → List Entry
 out k = Emit 1 0 k Plain ∷ []
 
--- taken in their order, and put so that these go out
-abbrev pub all_taken : List Entry
-all_taken = flat_map fed (0 ∷ 1 ∷ 2 ∷ []) ++ taken 1 0 ++ taken 2 1 ++ taken 3 2
-
+-- put so that these go out
 abbrev pub mixed : List Entry
-mixed = all_taken ++ put 3 2 ++ out 2 ++ put 1 0 ++ out 0 ++ put 2 1 ++ out 1 ++ (Close 0 ∷ Settle 1 1 ∷ [])
+mixed = three_taken ++ put 3 2 ++ out 2 ++ put 1 0 ++ out 0 ++ put 2 1 ++ out 1 ++ (Close 0 ∷ Settle 1 1 ∷ [])
 
 mixed_is_a_history : is_history four_threads (after mixed) ≡ true
 mixed_is_a_history = refl
@@ -119,7 +117,7 @@ and_emitted_in_another = refl
 
 -- one array goes out in place of another
 abbrev pub out_twice : List Entry
-out_twice = all_taken ++ put 3 2 ++ out 2 ++ put 1 0 ++ out 2 ++ put 2 1 ++ out 1 ++ (Close 0 ∷ Settle 1 1 ∷ [])
+out_twice = three_taken ++ put 3 2 ++ out 2 ++ put 1 0 ++ out 2 ++ put 2 1 ++ out 1 ++ (Close 0 ∷ Settle 1 1 ∷ [])
 
 out_twice_is_illegal : is_history four_threads (after out_twice) ≡ false
 out_twice_is_illegal = refl

@@ -14,7 +14,8 @@ use Rattle.flow_journal.specs.Breaks.{out_at, prev_of, breaks_of}
 use Rattle.run_report.specs.declared.counts.NodeCount.{NodeCount}
 use Rattle.run_report.specs.declared.tally.NodeTally.{NodeTally}
 use Rattle.run_report.specs.Backwards.{Roles, is_taken_back}
-use Rattle.run_report.specs.Report.{is_offer, is_full, is_pool_drop, is_sort_drop, node_count}
+use Rattle.run_report.specs.Report.{is_offer, node_count}
+use Rattle.flow_journal.specs.EntryTests.{is_full, is_pool_drop, is_sort_drop}
 use Rattle.run_report.specs.Tallies.{break_after, with_out, more, finished, node_at, is_node_at}
 
 pub count-one : (p : Entry → Bool) (e : Entry) (P : Past) → count_by p (e ∷ P) ≡ cond (p e) 1 0 + count_by p P

@@ -15,7 +15,8 @@ use Rattle.flow_journal.specs.Hands.{takes_up, let_go, is_free, is_loaded, stand
 use Rattle.flow_journal.specs.Offered.{loads, offered}
 use Rattle.flow_journal.specs.Breaks.{outs, breaks_of}
 use Rattle.run_report.specs.Laws.{CountsAreOfRuns, OffersAreCounted, FramesAreCounted}
-use Rattle.run_report.specs.Report.{is_offer, is_refusal, node_count, plan_setting}
+use Rattle.run_report.specs.Report.{is_offer, node_count, plan_setting}
+use Rattle.flow_journal.specs.EntryTests.{is_refused_load}
 use Rattle.run_report.proofs.Leads.{count-one, count-yes, count-no}
 
 -- breaks go by the ids alone
@@ -47,52 +48,52 @@ counts-offers (Full w m k ∷ P) v = count-one (is_offer v) (Full w m k) P ∙ m
 counts-offers (e ∷ P) v = count-no (is_offer v) e P refl ∙ counts-offers P v
 
 -- no refusal is taken back
-no_refusal : (r : ℕ) (e : Entry) → takes_up r e ≡ true → is_refusal e ≡ false
+no_refusal : (r : ℕ) (e : Entry) → takes_up r e ≡ true → is_refused_load e ≡ false
 no_refusal r (LoadRefused q k n h) up = absurd (false≢true up)
 no_refusal r _ up = refl
 
-kept : (r : ℕ) (X : Past) → count_by is_refusal (let_go r X) ≡ count_by is_refusal X
+kept : (r : ℕ) (X : Past) → count_by is_refused_load (let_go r X) ≡ count_by is_refused_load X
 kept r [] = refl
 kept r (e ∷ X) =
     elim (cases_Bool (takes_up r e)) [
       | inl up ↦
-          ap (λ (b : Bool). count_by is_refusal (cond b X (e ∷ let_go r X))) up
-          ∙ sym (count-no is_refusal e X (no_refusal r e up))
+          ap (λ (b : Bool). count_by is_refused_load (cond b X (e ∷ let_go r X))) up
+          ∙ sym (count-no is_refused_load e X (no_refusal r e up))
       | inr other ↦
-          ap (λ (b : Bool). count_by is_refusal (cond b X (e ∷ let_go r X))) other
-          ∙ count-one is_refusal e (let_go r X)
-          ∙ ap (λ (n : ℕ). cond (is_refusal e) 1 0 + n) (kept r X)
-          ∙ sym (count-one is_refusal e X)
+          ap (λ (b : Bool). count_by is_refused_load (cond b X (e ∷ let_go r X))) other
+          ∙ count-one is_refused_load e (let_go r X)
+          ∙ ap (λ (n : ℕ). cond (is_refused_load e) 1 0 + n) (kept r X)
+          ∙ sym (count-one is_refused_load e X)
     ]
 
-stands-refused : (P : Past) → count_by is_refusal (standing P) ≡ count_by is_refusal P
+stands-refused : (P : Past) → count_by is_refused_load (standing P) ≡ count_by is_refused_load P
 stands-refused [] = refl
 stands-refused (Reclaim r ∷ P) =
-    count-no is_refusal (Reclaim r) (cond (is_free r P) (standing P) (let_go r (standing P))) refl
-    ∙ elim (is_free r P) as (λ b. count_by is_refusal (cond b (standing P) (let_go r (standing P))) ≡ count_by is_refusal P) [
+    count-no is_refused_load (Reclaim r) (cond (is_free r P) (standing P) (let_go r (standing P))) refl
+    ∙ elim (is_free r P) as (λ b. count_by is_refused_load (cond b (standing P) (let_go r (standing P))) ≡ count_by is_refused_load P) [
       | true ↦ stands-refused P
       | false ↦ kept r (standing P) ∙ stands-refused P
     ]
-    ∙ sym (count-no is_refusal (Reclaim r) P refl)
+    ∙ sym (count-no is_refused_load (Reclaim r) P refl)
 stands-refused (e ∷ P) =
-    count-one is_refusal e (standing P) ∙ ap (λ (n : ℕ). cond (is_refusal e) 1 0 + n) (stands-refused P) ∙ sym (count-one is_refusal e P)
+    count-one is_refused_load e (standing P) ∙ ap (λ (n : ℕ). cond (is_refused_load e) 1 0 + n) (stands-refused P) ∙ sym (count-one is_refused_load e P)
 
 -- the loads and the refusals among some entries
-both : (X : Past) → count_by is_loaded X + count_by is_refusal X ≡ length (flat_map loads X)
+both : (X : Past) → count_by is_loaded X + count_by is_refused_load X ≡ length (flat_map loads X)
 both [] = refl
 both (Load r k b n f g x ∷ X) =
     let l = count-yes is_loaded (Load r k b n f g x) X refl in
-    let o = count-no is_refusal (Load r k b n f g x) X refl in
+    let o = count-no is_refused_load (Load r k b n f g x) X refl in
     let h = both X in
     omega (arith, l, o, h)
 both (LoadRefused r k n d ∷ X) =
     let l = count-no is_loaded (LoadRefused r k n d) X refl in
-    let o = count-yes is_refusal (LoadRefused r k n d) X refl in
+    let o = count-yes is_refused_load (LoadRefused r k n d) X refl in
     let h = both X in
     omega (arith, l, o, h)
 both (e ∷ X) =
-    ap (λ (n : ℕ). n + count_by is_refusal (e ∷ X)) (count-no is_loaded e X refl)
-    ∙ ap (λ (n : ℕ). count_by is_loaded X + n) (count-no is_refusal e X refl)
+    ap (λ (n : ℕ). n + count_by is_refused_load (e ∷ X)) (count-no is_loaded e X refl)
+    ∙ ap (λ (n : ℕ). count_by is_loaded X + n) (count-no is_refused_load e X refl)
     ∙ both X
 
 pub counts-frames : FramesAreCounted

@@ -21,7 +21,8 @@ use Rattle.run_report.specs.declared.counting.Tally.{Tally}
 use Rattle.run_report.specs.declared.feed.FeedTally.{FeedTally}
 use Rattle.run_report.specs.declared.tally.NodeTally.{NodeTally}
 use Rattle.run_report.specs.Backwards.{has_role, is_taken_back, before, rest}
-use Rattle.run_report.specs.Report.{loaded, is_offer, is_full, is_pool_drop, is_sort_drop, is_refusal, is_regrown, node_count, plan_setting}
+use Rattle.run_report.specs.Report.{loaded, is_offer, node_count, plan_setting}
+use Rattle.flow_journal.specs.EntryTests.{is_full, is_pool_drop, is_sort_drop, is_refused_load, says_regrown}
 use Rattle.run_report.specs.Tallies.{HasRoom, HasRoomForLoads, IsOneMore, fresh, fresh_nodes, finished, more_loads, one_if, at, stands_before}
 use Rattle.run_report.specs.Tallied.{IsTallied}
 use Rattle.run_report.proofs.Standing.{rest-same, rest-standing}
@@ -30,8 +31,8 @@ use Rattle.run_report.proofs.Leads.{Leads, leads-more, leads-end, count-one, cou
 -- what was tallied, and what is left of the log, comes to the report
 pub record Reads (p : Plan) (past P : Past) (t : Tally) : Type 0 where
   pub loads : t.feed.loaded + count_by is_loaded (rest (has_role t.reclaims) P) ≡ loaded past
-  pub refusals : t.feed.refused + count_by is_refusal P ≡ count_by is_refusal past
-  pub grants : t.feed.regrown + count_by is_regrown P ≡ count_by is_regrown past
+  pub refusals : t.feed.refused + count_by is_refused_load P ≡ count_by is_refused_load past
+  pub grants : t.feed.regrown + count_by says_regrown P ≡ count_by says_regrown past
   pub as_many : length t.nodes.items ≡ length p.graph.nodes + 1
   pub nodes : (v : ℕ) → v < length t.nodes.items
       → Leads (plan_setting p) v (node_count (plan_setting p) past v) (at t.nodes.items v) (rest (has_role t.reclaims) P) P
@@ -54,19 +55,19 @@ more-loaded true (Load r k c n f g x) t S o h =
 more-loaded false (Load r k c n f g x) t S o h = ap (λ (i : ℕ). i + count_by is_loaded S) (add-zero t.loaded) ∙ h
 more-loaded b e t S o h = ap (λ (i : ℕ). t.loaded + i) (sym (count-kept is_loaded b e S refl)) ∙ h
 
-more-refused : (b : Bool) (e : Entry) (t : FeedTally) (P : Past) (o : ℕ) → t.refused + count_by is_refusal (e ∷ P) ≡ o
-    → (more_loads b e t).refused + count_by is_refusal P ≡ o
+more-refused : (b : Bool) (e : Entry) (t : FeedTally) (P : Past) (o : ℕ) → t.refused + count_by is_refused_load (e ∷ P) ≡ o
+    → (more_loads b e t).refused + count_by is_refused_load P ≡ o
 more-refused b (LoadRefused r k n d) t P o h =
-    moved t.refused 1 (count_by is_refusal P) o (ap (λ (i : ℕ). t.refused + i) (sym (count-yes is_refusal (LoadRefused r k n d) P refl)) ∙ h)
-more-refused b e t P o h = ap (λ (i : ℕ). t.refused + i) (sym (count-no is_refusal e P refl)) ∙ h
+    moved t.refused 1 (count_by is_refused_load P) o (ap (λ (i : ℕ). t.refused + i) (sym (count-yes is_refused_load (LoadRefused r k n d) P refl)) ∙ h)
+more-refused b e t P o h = ap (λ (i : ℕ). t.refused + i) (sym (count-no is_refused_load e P refl)) ∙ h
 
-more-regrown : (b : Bool) (e : Entry) (t : FeedTally) (P : Past) (o : ℕ) → t.regrown + count_by is_regrown (e ∷ P) ≡ o
-    → (more_loads b e t).regrown + count_by is_regrown P ≡ o
+more-regrown : (b : Bool) (e : Entry) (t : FeedTally) (P : Past) (o : ℕ) → t.regrown + count_by says_regrown (e ∷ P) ≡ o
+    → (more_loads b e t).regrown + count_by says_regrown P ≡ o
 more-regrown b (Load r k c n f g x) t P o h =
-    moved t.regrown (one_if x) (count_by is_regrown P) o (ap (λ (i : ℕ). t.regrown + i) (sym (count-one is_regrown (Load r k c n f g x) P)) ∙ h)
+    moved t.regrown (one_if x) (count_by says_regrown P) o (ap (λ (i : ℕ). t.regrown + i) (sym (count-one says_regrown (Load r k c n f g x) P)) ∙ h)
 more-regrown b (TakeBlock f x r v m k c n g) t P o h =
-    moved t.regrown (one_if x) (count_by is_regrown P) o (ap (λ (i : ℕ). t.regrown + i) (sym (count-one is_regrown (TakeBlock f x r v m k c n g) P)) ∙ h)
-more-regrown b e t P o h = ap (λ (i : ℕ). t.regrown + i) (sym (count-no is_regrown e P refl)) ∙ h
+    moved t.regrown (one_if x) (count_by says_regrown P) o (ap (λ (i : ℕ). t.regrown + i) (sym (count-one says_regrown (TakeBlock f x r v m k c n g) P)) ∙ h)
+more-regrown b e t P o h = ap (λ (i : ℕ). t.regrown + i) (sym (count-no says_regrown e P refl)) ∙ h
 
 -- what is left before an entry is read
 turned : (p : Plan) (P : Past) (e : Entry) (old new : Tally) → IsOneMore p.ids e old new
@@ -87,8 +88,8 @@ reads-more p past P e old new r m =
       loads =
           ap (λ (f : FeedTally). f.loaded + count_by is_loaded X) m.feed
           ∙ more-loaded b e old.feed X (loaded past) (ap (λ (S : Past). old.feed.loaded + count_by is_loaded S) (sym turn) ∙ r.loads);
-      refusals = ap (λ (f : FeedTally). f.refused + count_by is_refusal P) m.feed ∙ more-refused b e old.feed P (count_by is_refusal past) r.refusals;
-      grants = ap (λ (f : FeedTally). f.regrown + count_by is_regrown P) m.feed ∙ more-regrown b e old.feed P (count_by is_regrown past) r.grants;
+      refusals = ap (λ (f : FeedTally). f.refused + count_by is_refused_load P) m.feed ∙ more-refused b e old.feed P (count_by is_refused_load past) r.refusals;
+      grants = ap (λ (f : FeedTally). f.regrown + count_by says_regrown P) m.feed ∙ more-regrown b e old.feed P (count_by says_regrown past) r.grants;
       as_many = m.as_many ∙ r.as_many;
       nodes =
           λ (v : ℕ) (within : v < length new.nodes.items).
@@ -128,8 +129,8 @@ reads-fresh p past t none feed nodes =
     let stands : standing past ≡ rest (has_role t.reclaims) past = sym (rest-standing past (has_role t.reclaims) none) in
     record {
       loads = ap (λ (f : FeedTally). f.loaded + count_by is_loaded (rest (has_role t.reclaims) past)) feed ∙ zero-add _ ∙ ap (count_by is_loaded) (sym stands);
-      refusals = ap (λ (f : FeedTally). f.refused + count_by is_refusal past) feed ∙ zero-add _;
-      grants = ap (λ (f : FeedTally). f.regrown + count_by is_regrown past) feed ∙ zero-add _;
+      refusals = ap (λ (f : FeedTally). f.refused + count_by is_refused_load past) feed ∙ zero-add _;
+      grants = ap (λ (f : FeedTally). f.regrown + count_by says_regrown past) feed ∙ zero-add _;
       as_many = ap length nodes ∙ ap (λ (i : ℕ). suc i) (length-map p.graph.nodes (λ (n : NodeRule). fresh (is_file (work_of n.kind)))) ∙ omega arith;
       nodes =
           λ (v : ℕ) (_ : v < length t.nodes.items).
@@ -221,8 +222,8 @@ pub reads-room_for_loads : (p : Plan) (past P : Past) (t : Tally) → length pas
 reads-room_for_loads p past P t few r =
     let o = count_by-le-length is_loaded (standing past) in
     let y = standing-le past in
-    let f = count_by-le-length is_refusal past in
-    let g = count_by-le-length is_regrown past in
+    let f = count_by-le-length is_refused_load past in
+    let g = count_by-le-length says_regrown past in
     record {
       loaded = omega (arith, r.loads, o, y, few);
       refused = omega (arith, r.refusals, f, few);

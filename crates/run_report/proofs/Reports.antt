@@ -10,7 +10,8 @@ use Rattle.run_report.specs.declared.counts.Counters.{Counters}
 use Rattle.run_report.specs.declared.counts.NodeCount.{NodeCount}
 use Rattle.run_report.specs.declared.counting.Tally.{Tally}
 use Rattle.run_report.specs.declared.tally.NodeTally.{NodeTally}
-use Rattle.run_report.specs.Report.{loaded, is_refusal, is_regrown, node_count, plan_setting, report}
+use Rattle.run_report.specs.Report.{loaded, node_count, plan_setting, report}
+use Rattle.flow_journal.specs.EntryTests.{is_refused_load, says_regrown}
 use Rattle.run_report.specs.Tallies.{finished}
 use Rattle.run_report.specs.Tallied.{IsTallied}
 
@@ -58,6 +59,6 @@ report-made p P t ids last driver d counts h same_ids same_last at_driver at_nod
     ap (λ (i : List ℤ). counters_of (length i) t.feed.loaded t.feed.refused driver.breaks t.feed.regrown counts) same_ids
     ∙ ap (λ (i : ℕ). counters_of (length p.ids) i t.feed.refused driver.breaks t.feed.regrown counts) h.loaded
     ∙ ap (λ (i : ℕ). counters_of (length p.ids) (loaded P) i driver.breaks t.feed.regrown counts) h.refused
-    ∙ ap (λ (i : NodeCount). counters_of (length p.ids) (loaded P) (count_by is_refusal P) i.breaks t.feed.regrown counts) first
-    ∙ ap (λ (i : ℕ). counters_of (length p.ids) (loaded P) (count_by is_refusal P) (breaks s 0 P) i counts) h.regrown
-    ∙ ap (counters_of (length p.ids) (loaded P) (count_by is_refusal P) (breaks s 0 P) (count_by is_regrown P)) others
+    ∙ ap (λ (i : NodeCount). counters_of (length p.ids) (loaded P) (count_by is_refused_load P) i.breaks t.feed.regrown counts) first
+    ∙ ap (λ (i : ℕ). counters_of (length p.ids) (loaded P) (count_by is_refused_load P) (breaks s 0 P) i counts) h.regrown
+    ∙ ap (counters_of (length p.ids) (loaded P) (count_by is_refused_load P) (breaks s 0 P) (count_by says_regrown P)) others

@@ -6,7 +6,8 @@ use Rattle.nd_base.specs.declared.plan.Plan.{Plan}
 use Rattle.flow_journal.specs.RunSetting.{setting_of}
 use Rattle.flow_journal.specs.Pasts.{Past}
 use Rattle.flow_journal.specs.Offered.{offered, offered_frames}
-use Rattle.run_report.specs.Report.{is_offer, loaded, is_refusal, node_count, plan_setting}
+use Rattle.run_report.specs.Report.{is_offer, loaded, node_count, plan_setting}
+use Rattle.flow_journal.specs.EntryTests.{is_refused_load}
 
 -- where the plan has the ids of a stack's arrays, a report counts what a run of that graph over that stack counts
 abbrev pub CountsAreOfRuns : Type 0
@@ -20,4 +21,4 @@ OffersAreCounted = (P : Past) (v : ℕ) → count_by (is_offer v) P ≡ length (
 
 -- and at the driver the frames that were offered and not taken back
 abbrev pub FramesAreCounted : Type 0
-FramesAreCounted = (P : Past) → loaded P + count_by is_refusal P ≡ length (offered_frames P)
+FramesAreCounted = (P : Past) → loaded P + count_by is_refused_load P ≡ length (offered_frames P)

@@ -7,7 +7,8 @@ use Rattle.flow_journal.specs.declared.entry.Why.TheVariants.{Plain}
 use Rattle.flow_journal.specs.Setting.{Setting, Saves}
 use Rattle.flow_journal.specs.Breaks.{breaks}
 use Rattle.flow_journal.specs.WorkedRuns.{one_node, after}
-use Rattle.run_report.specs.Report.{loaded, is_refusal, is_regrown, node_count}
+use Rattle.run_report.specs.Report.{loaded, node_count}
+use Rattle.flow_journal.specs.EntryTests.{is_refused_load, says_regrown}
 
 -- a file node over frames with the ids 7 and 9
 abbrev one_file : Setting
@@ -20,10 +21,10 @@ loaded_twice = Load 0 0 0 4 true 0 false ∷ Reclaim 0 ∷ Load 0 1 0 4 false 0 
 one_loaded : loaded (after loaded_twice) ≡ 1
 one_loaded = refl
 
-one_refused : count_by is_refusal (after loaded_twice) ≡ 1
+one_refused : count_by is_refused_load (after loaded_twice) ≡ 1
 one_refused = refl
 
-one_regrown : count_by is_regrown (after loaded_twice) ≡ 1
+one_regrown : count_by says_regrown (after loaded_twice) ≡ 1
 one_regrown = refl
 
 one_break : breaks one_file 0 (after loaded_twice) ≡ 1

@@ -6,7 +6,8 @@ use Rattle.nd_base.specs.Parts.{Parts}
 use Rattle.flow_journal.specs.declared.entry.Entry.{Entry}
 use Rattle.flow_journal.specs.Pasts.{Past}
 use Rattle.board_rules.specs.States.{BoardState, past, plain, lends}
-use Rattle.told_log.specs.ToldLogs.{gives_part, is_reclaim, is_plain}
+use Rattle.told_log.specs.ToldLogs.{gives_part, is_plain}
+use Rattle.flow_journal.specs.EntryTests.{is_reclaim}
 use Rattle.told_log.specs.Inside.{told_with}
 
 pub past-told_with : (P : Past) (parts : List (Option Parts)) (lost : List (List ℕ)) → past (told_with P parts lost) ≡ P

@@ -3,7 +3,8 @@ use Rattle.std.specs.Prelude.{ℕ, List, [], ◌∷◌, drop, slice_index_or, Op
 use Rattle.nd_base.specs.Parts.{Parts}
 use Rattle.flow_journal.specs.Pasts.{Past}
 use Rattle.board_rules.specs.States.{BoardState, plain, lends}
-use Rattle.told_log.specs.ToldLogs.{gives_part, is_reclaim}
+use Rattle.told_log.specs.ToldLogs.{gives_part}
+use Rattle.flow_journal.specs.EntryTests.{is_reclaim}
 
 -- Each entry that gives a part has the next of these parts beside it, and each Reclaim the next of these lists of blocks. All have the newest
 -- first.

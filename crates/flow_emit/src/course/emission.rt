@@ -4,7 +4,7 @@ ghost use Rattle.std.specs.Prelude.{◌≡◌, ◌<◌, ◌≤◌, ◌%◌, ◌=
 ghost use Rattle.std.specs.List.{All, position};
 ghost use Rattle.nd_base.specs.declared.frame.FrameName.{FrameName};
 ghost use Rattle.nd_base.specs.declared.measure.Measure.{Measure};
-ghost use Rattle.board_rules.specs.Ends.{listed};
+ghost use Rattle.chain_plain.specs.OneThread.{listed};
 ghost use Rattle.flow_journal.specs.declared.entry.Entry.TheVariants.{Accept, Emit, Full};
 ghost use Rattle.flow_journal.specs.Setting.{is_node, is_sorted, children, node};
 ghost use Rattle.flow_journal.specs.Queued.{has_room, queued};

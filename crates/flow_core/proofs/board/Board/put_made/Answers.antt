@@ -6,7 +6,8 @@ use Rattle.board_rules.specs.States.{BoardState, past, plain, lent_to}
 use Rattle.board_rules.specs.Moving.{moved}
 use Rattle.flow_journal.specs.Hands.{hand}
 use Rattle.flow_journal.specs.Setting.{is_maker}
-use Rattle.board_rules.specs.InHand.{is_job_on, has_grant, granted_size, result_name, IsWholeOf}
+use Rattle.board_rules.specs.InHand.{is_job_on, has_grant, granted_size, IsWholeOf}
+use Rattle.flow_journal.specs.ResultNames.{result_name}
 use Rattle.frame_table.specs.Kept.{Kept, Frame, kept_at, with_kept, united}
 use Rattle.flow_emit.specs.Puts.{put_of}
 use Rattle.kept_blocks.proofs.Looks.{look_laws}

@@ -15,7 +15,7 @@ use Rattle.flow_emit.proofs.Reading.{read-at, place-of}
 use Rattle.flow_journal.specs.declared.entry.Entry.{Entry}
 use Rattle.flow_journal.specs.Setting.{id_at}
 use Rattle.flow_journal.specs.Waiting.{waiting}
-use Rattle.board_rules.specs.Ends.{listed}
+use Rattle.chain_plain.specs.OneThread.{listed}
 use Rattle.told_log.specs.ToldLogs.{ToldState}
 use Rattle.flow_emit.specs.NodeStates.{list_of}
 use Rattle.flow_emit.specs.Emissions.{LetsOneOut, before_emission}

@@ -11,7 +11,7 @@ use Rattle.flow_journal.specs.Turns.{offered_to}
 use Rattle.flow_journal.specs.Waiting.{waiting}
 use Rattle.flow_journal.specs.Following.{offer, emit}
 use Rattle.flow_journal.specs.Histories.{is_legal}
-use Rattle.board_rules.specs.Ends.{listed}
+use Rattle.chain_plain.specs.OneThread.{listed}
 use Rattle.board_rules.specs.RunMeasures.{run_setting, run_measure}
 use Rattle.board_rules.specs.States.{BoardState, past, plain}
 use Rattle.board_rules.specs.Moving.{with_all}

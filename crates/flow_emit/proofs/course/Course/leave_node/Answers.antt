@@ -8,7 +8,7 @@ use Rattle.flow_emit.specs.Courses.{Coursed, IsCourse, log_of}
 use Rattle.flow_emit.proofs.Opening.{parts}
 use Rattle.flow_emit.proofs.Coursing.{room-for}
 use Rattle.flow_emit.proofs.Reading.{read-at, place-of}
-use Rattle.board_rules.specs.Ends.{listed}
+use Rattle.chain_plain.specs.OneThread.{listed}
 use Rattle.flow_emit.proofs.Coursing.{emitted_at_once_at, room-to-measure, node-is}
 use Rattle.flow_emit.proofs.course.Course.leave_node.Goals as goal
 

@@ -1,7 +1,7 @@
 use Rattle.std.proofs.Common.{◌≡◌, ◌∙◌, ◌∷◌, [], true, false, ap, sym, refl, subst, drop, List}
 use Rattle.std.proofs.lemmas.Bool.{and_parts}
 use Rattle.nd_base.specs.declared.frame.FrameName.{FrameName}
-use Rattle.board_rules.specs.InHand.{result_name}
+use Rattle.flow_journal.specs.ResultNames.{result_name}
 use Rattle.board_rules.specs.Moving.{moved, with_all}
 use Rattle.board_rules.specs.RunMeasures.{run_setting, run_measure}
 use Rattle.board_rules.specs.States.{BoardState, past, plain}

@@ -1,7 +1,8 @@
 use Rattle.std.proofs.Common.{◌≡◌, ◌∙◌, ◌-◌, ◌∷◌, true, ap, sym, refl, subst, length, arith}
 use Rattle.nd_base.specs.declared.frame.FrameName.{FrameName}
 use Rattle.trig_window.specs.Watching.{StandsAt}
-use Rattle.board_rules.specs.InHand.{is_job_on, result_name}
+use Rattle.board_rules.specs.InHand.{is_job_on}
+use Rattle.flow_journal.specs.ResultNames.{result_name}
 use Rattle.board_rules.specs.RunMeasures.{run_setting, run_measure}
 use Rattle.board_rules.specs.States.{past, plain}
 use Rattle.told_log.specs.ToldLogs.{ToldState}

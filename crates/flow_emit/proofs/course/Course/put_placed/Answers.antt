@@ -1,7 +1,8 @@
 use Rattle.std.proofs.Common.{◌≡◌, ◌∙◌, ◌∷◌, ◌<◌, true, false, ap, sym, refl, subst, ℤ, length, arith, w64, to_z, of_z}
 use Rattle.std.proofs.lemmas.Int.{to_z-of_z}
 use Rattle.nd_base.specs.declared.frame.FrameName.{FrameName}
-use Rattle.board_rules.specs.InHand.{is_job_on, result_name}
+use Rattle.board_rules.specs.InHand.{is_job_on}
+use Rattle.flow_journal.specs.ResultNames.{result_name}
 use Rattle.board_rules.specs.RunMeasures.{run_setting, run_measure}
 use Rattle.board_rules.specs.States.{past, plain}
 use Rattle.flow_journal.specs.declared.entry.Entry.TheVariants.{Emit, SortDrop}

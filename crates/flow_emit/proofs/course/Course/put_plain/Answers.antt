@@ -4,7 +4,8 @@ use Rattle.flow_journal.specs.Hands.{hand}
 use Rattle.flow_journal.specs.Histories.{is_legal}
 use Rattle.flow_journal.specs.declared.entry.Entry.TheVariants.{Put}
 use Rattle.board_rules.specs.States.{past}
-use Rattle.board_rules.specs.InHand.{is_job_on, result_name}
+use Rattle.board_rules.specs.InHand.{is_job_on}
+use Rattle.flow_journal.specs.ResultNames.{result_name}
 use Rattle.flow_emit.specs.Courses.{Coursed, log_of}
 use Rattle.flow_emit.proofs.Coursing.{room-for}
 use Rattle.flow_emit.proofs.Finding.{node-found, role-found}

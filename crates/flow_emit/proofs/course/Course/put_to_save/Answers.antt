@@ -1,6 +1,7 @@
 use Rattle.std.proofs.Common.{◌≡◌, ◌∙◌, ◌-◌, ◌∷◌, true, ap, sym, refl, subst}
 use Rattle.nd_base.specs.declared.frame.FrameName.{FrameName}
-use Rattle.board_rules.specs.InHand.{is_job_on, result_name}
+use Rattle.board_rules.specs.InHand.{is_job_on}
+use Rattle.flow_journal.specs.ResultNames.{result_name}
 use Rattle.board_rules.specs.RunMeasures.{run_setting, run_measure}
 use Rattle.board_rules.specs.States.{BoardState, past, plain}
 use Rattle.board_rules.specs.Moving.{moved}
