@@ -55,7 +55,17 @@ impl<F: Held> Model for Course<F> {
     ghost view = { λ c. record { told = c.log.told; transit = c.transit.items } };
 
     ghost invariant = { λ c. IsCourse (run_measure F.Of.graph F.Of.stack) (run_setting F.Of.graph F.Of.stack)
-        (record { log = c.log; rules = c.rules; nodes = c.nodes.items; roles = c.roles.items; pool = c.pool; blocks = c.blocks.items; facts = c.facts; transit = c.transit.items; room = deque_capacity c.transit }) };
+        (record {
+          log = c.log;
+          rules = c.rules;
+          nodes = c.nodes.items;
+          roles = c.roles.items;
+          pool = c.pool;
+          blocks = c.blocks.items;
+          facts = c.facts;
+          transit = c.transit.items;
+          room = deque_capacity c.transit;
+        }) };
 }
 
 /// The block of a frame, where these are the blocks of so many frames for each maker.

@@ -126,7 +126,8 @@ impl<F: Held> Course<F> {
         requires node { from ≤ length (run_setting F.Of.graph F.Of.stack).nodes }
         requires next { slice_get self.old.transit 0 ≡ Some name }
         requires legal { is_legal (run_setting F.Of.graph F.Of.stack)
-            (past (with_all (run_setting F.Of.graph F.Of.stack) 0 1 (map (offer name) (children (run_setting F.Of.graph F.Of.stack) from)) self.old.told)) ≡ true }
+            (past (with_all (run_setting F.Of.graph F.Of.stack) 0 1
+            (map (offer name) (children (run_setting F.Of.graph F.Of.stack) from)) self.old.told)) ≡ true }
         ensures { self.new ≡ record self.old {
           told = with_all (run_setting F.Of.graph F.Of.stack) 0 1
               (map (offer name) (children (run_setting F.Of.graph F.Of.stack) from)) self.old.told;
@@ -242,7 +243,8 @@ impl<F: Held> Course<F> {
         requires node { is_node (run_setting F.Of.graph F.Of.stack) from ≡ true }
         requires next { slice_get self.old.transit 0 ≡ Some name }
         requires legal { is_legal (run_setting F.Of.graph F.Of.stack)
-            (past (with_all (run_setting F.Of.graph F.Of.stack) 0 1 (map (offer name) (offered_to (run_setting F.Of.graph F.Of.stack) (before_emission self.old.told) from)) self.old.told)) ≡ true }
+            (past (with_all (run_setting F.Of.graph F.Of.stack) 0 1
+            (map (offer name) (offered_to (run_setting F.Of.graph F.Of.stack) (before_emission self.old.told) from)) self.old.told)) ≡ true }
         ensures { self.new ≡ record self.old {
           told = with_all (run_setting F.Of.graph F.Of.stack) 0 1
               (map (offer name) (offered_to (run_setting F.Of.graph F.Of.stack) (before_emission self.old.told) from)) self.old.told;
@@ -266,9 +268,11 @@ impl<F: Held> Course<F> {
         requires node { from ≤ length (run_setting F.Of.graph F.Of.stack).nodes }
         requires next { slice_get self.old.transit 0 ≡ Some name }
         requires legal { is_legal (run_setting F.Of.graph F.Of.stack)
-            (past (with_all (run_setting F.Of.graph F.Of.stack) 0 1 (map (offer name) (offered_to (run_setting F.Of.graph F.Of.stack) (before_emission self.old.told) from)) self.old.told)) ≡ true }
+            (past (with_all (run_setting F.Of.graph F.Of.stack) 0 1
+            (map (offer name) (offered_to (run_setting F.Of.graph F.Of.stack) (before_emission self.old.told) from)) self.old.told)) ≡ true }
         ensures { self.new ≡ record self.old {
-          told = with_all (run_setting F.Of.graph F.Of.stack) 0 1 (map (offer name) (offered_to (run_setting F.Of.graph F.Of.stack) (before_emission self.old.told) from)) self.old.told;
+          told = with_all (run_setting F.Of.graph F.Of.stack) 0 1
+              (map (offer name) (offered_to (run_setting F.Of.graph F.Of.stack) (before_emission self.old.told) from)) self.old.told;
           transit = drop 1 self.old.transit;
         } }
     {

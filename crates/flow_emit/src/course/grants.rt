@@ -180,7 +180,8 @@ impl<F: Held> Course<F> {
         requires next { is_next (F.name_of part.now) (queued node (past self.old.told)) ≡ true }
         ensures taken { OnOk result (self.new ≡ record self.old {
           told = moved (run_setting F.Of.graph F.Of.stack)
-              (lends (TakeBlock grant.fresh regrown role node (F.name_of part.now).maker (F.name_of part.now).index grant.block grant.size grant.given_up) (F.parts part.now)) self.old.told;
+              (lends (TakeBlock grant.fresh regrown role node (F.name_of part.now).maker (F.name_of part.now).index
+              grant.block grant.size grant.given_up) (F.parts part.now)) self.old.told;
         }) }
         ensures refused { OnErr result ((self.new ≡ self.old) × (grant.fresh ≡ true)) }
     {

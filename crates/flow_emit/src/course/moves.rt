@@ -97,7 +97,8 @@ impl<F: Held> Course<F> {
         ensures next { is_next result (queued node (past self.old.told)) ≡ true }
         ensures told { self.new ≡ record self.old {
           told = moved (run_setting F.Of.graph F.Of.stack)
-              (plain (PoolDrop role node result.maker result.index ((run_setting F.Of.graph F.Of.stack).need node) (held (run_setting F.Of.graph F.Of.stack) (past self.old.told)))) self.old.told;
+              (plain (PoolDrop role node result.maker result.index ((run_setting F.Of.graph F.Of.stack).need node)
+              (held (run_setting F.Of.graph F.Of.stack) (past self.old.told)))) self.old.told;
         } }
     {
         let name = self.note_drop(role, node);
@@ -118,7 +119,8 @@ impl<F: Held> Course<F> {
         ensures told { self.new ≡ record {
           transit = result ∷ [];
           told =
-              plain (PoolDrop role node result.maker result.index ((run_setting F.Of.graph F.Of.stack).need node) (held (run_setting F.Of.graph F.Of.stack) (past self.old.told))) ∷ self.old.told;
+              plain (PoolDrop role node result.maker result.index ((run_setting F.Of.graph F.Of.stack).need node)
+              (held (run_setting F.Of.graph F.Of.stack) (past self.old.told))) ∷ self.old.told;
         } }
     {
         let place = node as usize - 1;
@@ -262,7 +264,8 @@ impl<F: Held> Course<F> {
         requires refused { grant (run_setting F.Of.graph F.Of.stack) (past self.old.told) ((run_setting F.Of.graph F.Of.stack).need 0) ≡ Refused }
         ensures { self.new ≡ record self.old {
           told = moved_at (run_setting F.Of.graph F.Of.stack) tick
-              (plain (LoadRefused role (next_index (past self.old.told)) ((run_setting F.Of.graph F.Of.stack).need 0) (held (run_setting F.Of.graph F.Of.stack) (past self.old.told)))) self.old.told;
+              (plain (LoadRefused role (next_index (past self.old.told)) ((run_setting F.Of.graph F.Of.stack).need 0)
+              (held (run_setting F.Of.graph F.Of.stack) (past self.old.told)))) self.old.told;
         } }
     {
         self.note_refusal(role);
@@ -278,7 +281,8 @@ impl<F: Held> Course<F> {
         requires refused { grant (run_setting F.Of.graph F.Of.stack) (past self.old.told) ((run_setting F.Of.graph F.Of.stack).need 0) ≡ Refused }
         ensures { self.new ≡ record self.old {
           told =
-              plain (LoadRefused role (next_index (past self.old.told)) ((run_setting F.Of.graph F.Of.stack).need 0) (held (run_setting F.Of.graph F.Of.stack) (past self.old.told))) ∷ self.old.told;
+              plain (LoadRefused role (next_index (past self.old.told)) ((run_setting F.Of.graph F.Of.stack).need 0)
+              (held (run_setting F.Of.graph F.Of.stack) (past self.old.told))) ∷ self.old.told;
         } }
     {
         let index = self.facts.offered;
