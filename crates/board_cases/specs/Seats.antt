@@ -4,7 +4,6 @@ use Rattle.std.specs.List.{list_all}
 use Rattle.nd_base.specs.Array.{StackValue}
 use Rattle.nd_base.specs.declared.graph.Graph.{Graph}
 use Rattle.frame_store.specs.Sealed.{Sealed}
-use Rattle.flow_journal.specs.declared.entry.Entry.TheVariants as entry
 use Rattle.flow_journal.specs.Setting.{is_node, last_role}
 use Rattle.flow_journal.specs.Hands.{hand}
 use Rattle.board_rules.specs.InHand.{is_piece_on}

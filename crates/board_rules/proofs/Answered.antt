@@ -1,14 +1,13 @@
 -- At every board each call has an answer.
 use Rattle.std.proofs.Common.{◌≡◌, ℕ, Bool, true, false, not, ◌&&◌, List, [], ◌∷◌, length, refl, sym, subst, Option, Some, None, Ok, Err, Result, inl, inr}
 use Rattle.std.proofs.Common.{if◌then◌else◌}
-use Rattle.std.proofs.lemmas.Bool.{and_from, true≢false, cases_Bool, eq-eqb}
+use Rattle.std.proofs.lemmas.Bool.{true≢false, cases_Bool}
 use Rattle.nd_base.specs.Parts.{Parts}
 use Rattle.nd_base.specs.declared.frame.FrameName.{FrameName}
 use Rattle.pool_ledger.specs.Grants.{Answer, Granted}
 use Rattle.pool_ledger.specs.Grants as pool
 use Rattle.flow_journal.specs.declared.entry.Entry.TheVariants.{Load, LoadRefused, Issue, Take, PoolDrop, Put, Settle, Save, Saved, Close, Leave}
 use Rattle.flow_journal.specs.Setting.{Setting, node}
-use Rattle.flow_journal.specs.Pasts.{same}
 use Rattle.flow_journal.specs.Hands.{hand}
 use Rattle.flow_journal.specs.Ended.{is_closed, is_settled, has_left}
 use Rattle.flow_journal.specs.Offered.{next_index}
@@ -41,16 +40,14 @@ use Rattle.board_rules.specs.Working.{take_refusal, asked, TakeAnswers, PutGives
 use Rattle.board_rules.specs.Saving.{save_refusal, place_of, group_size, SaveAnswers, SavedGives}
 use Rattle.board_rules.specs.Leaving.{reclaim_refusal, ReclaimGives}
 use Rattle.flow_journal.specs.Notes.{progress_of}
+use Rattle.flow_journal.proofs.Steps.{same_refl}
 use Rattle.board_rules.specs.AnswerLaws.{AnswersExist}
 use Rattle.board_rules.proofs.Legal.{may_take, may_save}
-
-same-self : (a : FrameName) → same a a ≡ true
-same-self a = and_from _ _ (eq-eqb a.maker a.maker refl) (eq-eqb a.index a.index refl)
 
 -- the first of these
 first-there : (xs : List FrameName) → none_left xs ≡ false → (a : FrameName) × (is_next a xs ≡ true)
 first-there [] h = absurd (true≢false h)
-first-there (x ∷ xs) h = (x, same-self x)
+first-there (x ∷ xs) h = (x, same_refl x)
 
 never-both : (f a : Bool) → ((not f && a) && f) ≡ false
 never-both true a = refl

@@ -1,7 +1,6 @@
 -- By its contract each call leads from a legal history to a legal history.
-use Rattle.std.proofs.Common.{◌≡◌, ◌≢◌, ◌⊎◌, ℕ, ◌<◌, ◌≤◌, Bool, true, false, not, ◌&&◌, ◌||◌, cond, List, [], ◌∷◌, length, refl, sym, ap, ◌∙◌, subst}
+use Rattle.std.proofs.Common.{◌≡◌, ◌≢◌, ◌⊎◌, ℕ, ◌<◌, ◌≤◌, Bool, true, false, not, ◌&&◌, ◌||◌, cond, [], ◌∷◌, length, refl, sym, ap, ◌∙◌, subst}
 use Rattle.std.proofs.Common.{subst₂, eqb, ltb, leb, arith, Option, Some, None, Result, Ok, Err, inl, inr, if◌then◌else◌}
-use Rattle.std.specs.Prelude.{is_none}
 use Rattle.std.specs.List.{list_all, list_any}
 use Rattle.std.proofs.lemmas.Bool.{and_parts, and_from, false≢true, true≢false, eqb-true, eq-eqb, cases_Bool, or_parts, not-true, not-false, not_from_false}
 use Rattle.std.proofs.lemmas.Bool.{ne_eqb, leb-false, leb-true, ltb-true, ltb-false}
@@ -13,7 +12,7 @@ use Rattle.pool_ledger.specs.Grants as pool
 use Rattle.flow_journal.specs.declared.entry.Entry.{Entry}
 use Rattle.flow_journal.specs.declared.entry.Entry.TheVariants.{Load, LoadRefused, Issue, Take, TakeBlock, PoolDrop, Put, Settle, Save, Saved, Close, Leave}
 use Rattle.flow_journal.specs.Setting.{Setting, Work, Makes, Passes, Watches, Saves, node, children, last_role, is_node, is_maker}
-use Rattle.flow_journal.specs.Pasts.{Past, frame, same, without}
+use Rattle.flow_journal.specs.Pasts.{Past, frame, same}
 use Rattle.flow_journal.specs.Hands.{takes_up, hand, hands, is_free, jobs, is_piece}
 use Rattle.flow_journal.specs.Ended.{is_closed, is_settled, has_ended, has_left_any, has_left, was_reclaimed}
 use Rattle.flow_journal.specs.Offered.{next_index}
@@ -23,11 +22,11 @@ use Rattle.flow_journal.specs.Accounts.{held, grant}
 use Rattle.flow_journal.specs.FirstEntries.{first, has_loaded, is_next}
 use Rattle.flow_journal.specs.Finished.{none_left}
 use Rattle.flow_journal.specs.Histories.{is_history, is_legal}
-use Rattle.flow_journal.specs.RowFacts.{IsFirstOf, Acts, LoadFacts, TakeFacts, HasLoaded, HasJob, HasResult, SettleFacts, PieceFacts, SaveFacts, CloseFacts}
+use Rattle.flow_journal.specs.RowFacts.{Acts, LoadFacts, TakeFacts, HasLoaded, HasJob, HasResult, SettleFacts, PieceFacts, SaveFacts, CloseFacts}
 use Rattle.flow_journal.specs.RowFacts.{ReclaimFacts}
-use Rattle.flow_journal.proofs.Rows.{row_laws}
-use Rattle.flow_journal.proofs.Found.{found_up}
-use Rattle.flow_journal.proofs.Steps.{same-true, next_is}
+use Rattle.flow_journal.proofs.Rows.{row_laws, next-first_of, none_is}
+use Rattle.flow_journal.proofs.Found.{found_up, some_hand, none_left-nil}
+use Rattle.flow_journal.proofs.Steps.{same-true}
 use Rattle.board_rules.specs.declared.answers.Load.{Load as load_answer}
 use Rattle.board_rules.specs.declared.answers.Load.TheVariants as load
 use Rattle.board_rules.specs.declared.answers.Take.{Take as take_answer}
@@ -64,10 +63,6 @@ no_why = None
 abbrev none_of : (B : Type 0) → Option (load_answer B)
 none_of B = None
 
-none-is : {X : Type 0} (o : Option X) → is_none o ≡ true → o ≡ None
-none-is None h = refl
-none-is (Some x) h = absurd (false≢true h)
-
 and_right : (x y : Bool) → x ≡ true → (x && y) ≡ false → y ≡ false
 and_right x y h e = rw h at e
 
@@ -101,7 +96,7 @@ acts-from : (s : Setting) (r : ℕ) (P : Past) → r ≤ last_role s → is_sent
 acts-from s r P role stays free =
     record {
       role = role;
-      free = none-is (hand r P) free;
+      free = none_is (hand r P) free;
       stays = λ ne. elim (cases_Bool (has_left_any P)) [
         | inl left ↦
             absurd (true≢false
@@ -150,13 +145,6 @@ may_take {F} {B} {O} s r v P h =
     (none_left (queued v P) || leb (node s v).threads (jobs v P)) h in
     let q = or_parts (none_left (queued v P)) (leb (node s v).threads (jobs v P)) p.3 in
     record { stays = p.0; free = not-false (is_free r P) p.1; unsettled = p.2; some = q.0; idle = q.1 }
-
-first_of : (a : FrameName) (xs : List FrameName) → is_next a xs ≡ true → IsFirstOf a xs
-first_of a xs h = (without a xs, next_is a xs h)
-
-none_is : {X : Type 0} (xs : List X) → none_left xs ≡ true → xs ≡ []
-none_is [] h = refl
-none_is (x ∷ xs) h = absurd (false≢true h)
 
 -- where nothing stands against a save
 pub record MaySave (s : Setting) (r v : ℕ) (P : Past) : Type 0 where
@@ -310,7 +298,7 @@ settle-by s old new r v settled.Done h role here c =
             known = leb-true v (length s.nodes) p.1;
             unsettled = unsettled;
             input = not-false _ o.0;
-            empty = none_is (queued v P) (not-false _ o.1);
+            empty = none_left-nil (queued v P) (not-false _ o.1);
             idle = omega (arith, idle);
           } in
           by-move s old new 0 (plain (Settle r v)) h ((row_laws.settle s P r v).1 (role, facts)) (c.1 ∙ rw unsettled refl)
@@ -323,7 +311,7 @@ take-facts {F} {B} {O} s r v a P role none next =
     record {
       acts = acts-from s r P role m.stays m.free;
       unsettled = m.unsettled;
-      front = first_of a (queued v P) next;
+      front = next-first_of a (queued v P) next;
       room = leb-false (node s v).threads (jobs v P) m.idle;
     }
 
@@ -376,8 +364,8 @@ save-by {F} name_of parts s old new r v None (save.Piece input group place of) h
     let a = name_of input in
     let m = may_save {F = F} s r v P is in
     let piece : PieceFacts s v a P =
-    record { file = due-file (node s v).work v P m.due; front = first_of a (unsaved s v P) c.0; due = m.due; none = m.alone } in
-    let facts : SaveFacts s r v a group P = record { role = role; free = none-is (hand r P) m.free; piece = piece; group = c.2 } in
+    record { file = due-file (node s v).work v P m.due; front = next-first_of a (unsaved s v P) c.0; due = m.due; none = m.alone } in
+    let facts : SaveFacts s r v a group P = record { role = role; free = none_is (hand r P) m.free; piece = piece; group = c.2 } in
     by-move s old new 0 (lends (Save r v a.maker a.index group) (parts input)) h ((row_laws.save s P r v a.maker a.index group).1 facts) c.5
 save-by name_of parts s old new r v None save.OutOfMemory h role is c = same-board s old new c.1 h
 save-by name_of parts s old new r v None _ h role is c = absurd c
@@ -391,10 +379,6 @@ saved-by name_of s old new r f (Ok _) h c =
     ((row_laws.saved s P r (hand_node (hand r P)) a.maker a.index).1 (piece_in r a (hand r P) (names_role r P) c.0)) c.1
 saved-by name_of s old new r f (Err e) h c = same-board s old new c.2 h
 
-held-by : (o : Option Entry) → is_none o ≡ false → (e : Entry) × (o ≡ Some e)
-held-by None h = absurd (true≢false h)
-held-by (Some e) h = (e, refl)
-
 pub reclaim-by : {F B O E : Type 0} (name_of : F
     → FrameName) (s : Setting) (old new : BoardState) (r : ℕ) (left : Left F B O) (a : Result E (NoReclaim F B O)) → is_history s (past old) ≡ true
     → ReclaimGives name_of s old r left a new → is_history s (past new) ≡ true
@@ -402,7 +386,7 @@ reclaim-by name_of s old new r left (Ok _) h c =
     let P = past old in
     let p = may_reclaim_by (is_free r P) (was_reclaimed r P || eqb r (last_role s)) c.0 in
     let q = or_parts (was_reclaimed r P) (eqb r (last_role s)) p.1 in
-    let facts : ReclaimFacts s r P = record { holds = held-by (hand r P) p.0; worker = eqb-ne r (last_role s) q.1; once = q.0 } in
+    let facts : ReclaimFacts s r P = record { holds = some_hand (hand r P) p.0; worker = eqb-ne r (last_role s) q.1; once = q.0 } in
     by-move s old new 0 (loses r (lost_of name_of P (hand r P) left)) h ((row_laws.reclaim s P r).1 facts) c.1
 reclaim-by name_of s old new r left (Err e) h c = same-board s old new c.2 h
 

@@ -10,3 +10,4 @@ pub mod Moves
 pub mod Callers
 pub mod Answered
 pub mod OneLog
+pub mod Pasts

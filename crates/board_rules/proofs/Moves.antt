@@ -34,7 +34,7 @@ made-begins s tick n P (Full v m k) h = refl
 made-begins s tick n P (SortDrop v m k) h = refl
 made-begins s tick n P _ h = absurd (false≢true h)
 
-pub GoOn : BoardState → Type 0
+abbrev pub GoOn : BoardState → Type 0
 GoOn [] = Unit {0}
 GoOn (t ∷ b) = (begun_by t.entry ≡ None) × GoOn b
 

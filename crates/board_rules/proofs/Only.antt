@@ -19,6 +19,7 @@ use Rattle.flow_journal.specs.Following.{calls_for, offer, emit, owed, result}
 use Rattle.flow_journal.specs.Histories.{is_such, why_number, answers, next, is_nothing, Owes}
 use Rattle.flow_journal.specs.Moves.{onto, follow}
 use Rattle.flow_journal.specs.Pushes.{history-owes, push-first, push-owed}
+use Rattle.flow_journal.specs.EntryTests.{is_tick}
 use Rattle.board_rules.specs.declared.told.Told.{Told}
 use Rattle.board_rules.specs.States.{BoardState, past, plain}
 use Rattle.board_rules.specs.Moving.{made_of, with_all, moved_at}
@@ -26,10 +27,6 @@ use Rattle.board_rules.specs.MoveLaws.{MovedIsTheOnly}
 use Rattle.board_rules.proofs.Moved.{fits, all_fit, none-fit, fit-map, fit-first, fit-next, fit-result}
 
 -- WHAT ANSWERS A CALL IS WHAT IS MADE
-
-abbrev is_tick : Entry → Bool
-is_tick (Tick t) = true
-is_tick _ = false
 
 abbrev no_ticks : List Entry → Bool
 no_ticks [] = true

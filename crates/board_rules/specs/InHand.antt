@@ -1,5 +1,5 @@
 -- What a role has in hand, by the log, and what may come back of it.
-use Rattle.std.specs.Prelude.{◌≡◌, ◌^◌, IsSome, ℕ, ◌==◌, Bool, true, false, ◌&&◌, List, [], ◌∷◌, Option, Some, None, if◌then◌else◌}
+use Rattle.std.specs.Prelude.{◌≡◌, ◌^◌, IsSome, ℕ, ◌==◌, Bool, true, false, ◌&&◌, List, [], ◌∷◌, Option, Some, None}
 use Rattle.nd_base.specs.declared.frame.FrameName.{FrameName}
 use Rattle.nd_base.specs.Parts.{Parts}
 use Rattle.flow_journal.specs.declared.entry.Entry.{Entry}

@@ -2,7 +2,7 @@
 use Rattle.std.specs.Prelude.{◌≡◌, ◌==◌, ◌^◌, true, false, [], ◌∷◌, ◌++◌, Some, None, Ok, Err, pos, refl, if◌then◌else◌}
 use Rattle.flow_journal.specs.declared.entry.Entry.TheVariants as entry
 use Rattle.flow_journal.specs.declared.entry.Why.TheVariants.{Step}
-use Rattle.flow_journal.specs.Setting.{Setting, Makes, Passes, Watches, Saves}
+use Rattle.flow_journal.specs.Setting.{Setting, Makes, Passes, Saves}
 use Rattle.flow_journal.specs.Pasts.{frame}
 use Rattle.flow_journal.specs.Queued.{queued}
 use Rattle.flow_journal.specs.Breaks.{breaks}

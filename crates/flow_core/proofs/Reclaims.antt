@@ -28,9 +28,9 @@ use Rattle.frame_table.specs.Kept.{Kept, kept_at, with_kept, united, MayGiveBack
 use Rattle.flow_emit.specs.Courses.{Coursed}
 use Rattle.kept_blocks.specs.Keeping.{HoldsBlocks}
 use Rattle.kept_blocks.specs.MoveLaws.{MoveLaws, MayTakeBack, taken_back, with_grant, with_input}
+use Rattle.kept_blocks.proofs.Holding.{same-length}
 use Rattle.flow_core.specs.Boards.{IsBoard, lost_block}
 use Rattle.flow_core.proofs.Boarding.{board-moved, legal-of}
-use Rattle.flow_core.proofs.Places.{kept-length}
 
 -- HANDS
 abbrev pub IsLoad : ℕ → Option Entry → Type 0
@@ -83,7 +83,7 @@ pub input-length : {F : Type 0} (name_of : F → FrameName) (parts : F → Optio
 input-length name_of parts a c None t = refl
 input-length name_of parts a c (Some f) t = by (same (name_of f) a) where
   by : (b : Bool) → length (cond b (with_kept t c (united (kept_at t c) (parts f))) t) ≡ length t
-  by true = kept-length t c (united (kept_at t c) (parts f))
+  by true = same-length t c (united (kept_at t c) (parts f))
   by false = refl
 
 -- what comes back of the hand's array may be given back

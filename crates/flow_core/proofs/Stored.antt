@@ -11,8 +11,9 @@ use Rattle.board_rules.specs.Reusing.{IsReused}
 use Rattle.frame_table.specs.Kept.{Kept, Empty, with_kept, with_room}
 use Rattle.kept_blocks.specs.Keeping.{HoldsBlocks}
 use Rattle.kept_blocks.specs.GrantLaws.{GrantLaws, IsGranted}
+use Rattle.kept_blocks.proofs.Holding.{same-length}
 use Rattle.flow_core.specs.Boards.{IsRemade, IsSameStorage, IsNotStored, with_storage}
-use Rattle.flow_core.proofs.Places.{room-there, kept-length, kept-again}
+use Rattle.flow_core.proofs.Places.{room-there, kept-again}
 
 -- the same grant, with a place more
 pub roomy : {F : Type 0} (parts : F → Option Parts) (laws : GrantLaws parts) (s : Setting) (told : BoardState) (t : List Kept) (need b z : ℕ) (f : Bool) (g : ℕ)
@@ -62,7 +63,7 @@ not-stored-holds parts laws s told t new need b z false g i (inr away) =
 -- its place is there, and once it is emptied nothing else has changed
 pub storage-there : (b : ℕ) (f : Bool) (t : List Kept) → b ≤ length t → b < length (with_storage b f t)
 storage-there b true t le = room-there t b le
-storage-there b false t le = omega (arith, room-there t b le, kept-length (with_room t b) b Empty)
+storage-there b false t le = omega (arith, room-there t b le, same-length (with_room t b) b Empty)
 
 pub emptied : (b : ℕ) (f : Bool) (t : List Kept) → with_kept (with_storage b f t) b Empty ≡ with_kept (with_room t b) b Empty
 emptied b true t = refl

@@ -32,10 +32,11 @@ use Rattle.kept_blocks.specs.Keeping.{HoldsBlocks}
 use Rattle.kept_blocks.specs.GrantLaws.{GrantLaws, IsGranted}
 use Rattle.kept_blocks.specs.LookLaws.{LookLaws, IsWithin}
 use Rattle.kept_blocks.specs.MoveLaws.{MoveLaws}
+use Rattle.kept_blocks.proofs.Holding.{at-other, same-length}
 use Rattle.flow_core.specs.Boards.{IsBoard, IsRemade, IsSameStorage, IsNotStored, with_storage}
 use Rattle.flow_core.proofs.Answered.{enough}
 use Rattle.flow_core.proofs.Boarding.{board-moved, legal-of}
-use Rattle.flow_core.proofs.Places.{room-there, kept-other, kept-length}
+use Rattle.flow_core.proofs.Places.{room-there}
 use Rattle.flow_core.proofs.Stored.{roomy, emptied, storage-reused}
 use Rattle.flow_core.proofs.Lent.{LendsAt}
 
@@ -148,7 +149,7 @@ apart-from parts laws s told t v need b z f g a c i = laws.apart s told t need b
 beside-same : {F : Type 0} (parts : F → Option Parts) (laws : GrantLaws parts) (t : List Kept) (b c : ℕ) → c < length t → c ≢ b
     → kept_at (with_room (lent_out t c) b) b ≡ kept_at (with_room t b) b
 beside-same parts laws t b c lt ne =
-    laws.room_keeps (lent_out t c) b b ∙ (kept-other t c b (less_one (kept_at t c)) (λ is. ne (sym is)) ∙ sym (laws.room_keeps t b b))
+    laws.room_keeps (lent_out t c) b b ∙ (at-other t c b (less_one (kept_at t c)) (λ is. ne (sym is)) ∙ sym (laws.room_keeps t b b))
 
 lent-regrown : {F : Type 0} (parts : F → Option Parts) (laws : GrantLaws parts) (s : Setting) (told : BoardState) (t : List Kept) (v need b z : ℕ) (f : Bool)
     (g : ℕ) (x : Bool) (a : FrameName) (c : ℕ) → LendsBeside parts s told t v need b z f g a c → IsRemade z b f (lent_out t c) x → IsRegrown parts told b f x
@@ -318,7 +319,7 @@ pub not-stored-lent-wants : {F : Type 0} (parts : F → Option Parts) (laws : Gr
     → TellParts parts → IsTrue (wants_storage told (Granted b z f g))
 not-stored-lent-wants parts laws s told t now_ v need b z true g a c i r tell = refl
 not-stored-lent-wants parts laws s told t now_ v need b z false g a c i (inl next) tell =
-    absurd (omega (arith, laws.old s told t need b z g i.granted, next.0, kept-length t c (less_one (kept_at t c))))
+    absurd (omega (arith, laws.old s told t need b z g i.granted, next.0, same-length t c (less_one (kept_at t c))))
 not-stored-lent-wants parts laws s told t now_ v need b z false g a c i (inr away) tell =
     laws.wants s told (with_room t b) need b z g (roomy parts laws s told t need b z false g i.granted) tell
     (subst (λ (k : Kept). IsAway (at_home z k)) (beside-same parts laws t b c i.lends.place (apart-from parts laws s told t v need b z false g a c i)) away.0)
@@ -343,7 +344,7 @@ back-again parts look s told t now_ a c q l part back =
     let again = look.lent_and_back L c a q back.place may within mine in
     subst (λ (u : List Kept). (c < length u) × MayGiveBack (kept_at u c) q × HoldsBlocks parts s told (with_kept u c (united (kept_at u c) q)))
     (sym back.lent) (
-      omega (arith, back.place, kept-length L c (less_one (kept_at L c))),
+      omega (arith, back.place, same-length L c (less_one (kept_at L c))),
       again.0,
       subst (λ (u : List Kept). HoldsBlocks parts s told u) (sym again.1) back.holds,
     )

@@ -15,7 +15,7 @@ use Rattle.flow_journal.proofs.Settled.{settled-idle}
 use Rattle.flow_roles.specs.Passes.{saved_by_drain, only_drain_saves}
 use Rattle.flow_drain.specs.Drains.{IsDrained}
 use Rattle.flow_drain.proofs.Closed.{all-offered}
-use Rattle.flow_drain.proofs.Roles.{of_run, hands-of-run}
+use Rattle.flow_journal.proofs.HandRoles.{of_run, hands-of-run}
 use Rattle.flow_drain.proofs.Quiet.{drained-by}
 
 -- THE HANDS ARE ENTRIES OF THE LOG

@@ -1,8 +1,9 @@
 -- What has ended.
 use Rattle.flow_drain.specs.EndLaws.{EndLaws}
 use Rattle.flow_drain.proofs.Closed.{all-offered, input-ended}
-use Rattle.flow_drain.proofs.Roles.{role-of-hand}
-use Rattle.flow_drain.proofs.Emptied.{queue-empty, list-empty}
+use Rattle.flow_journal.proofs.HandRoles.{role-of-hand}
+use Rattle.flow_journal.proofs.Flushed.{list-empty}
+use Rattle.flow_drain.proofs.Emptied.{queue-empty}
 use Rattle.flow_drain.proofs.AllEnded.{all-ended-drained}
 
 pub end_laws : EndLaws

@@ -1,5 +1,5 @@
 -- A board only grows, and what moves leave of the hands.
-use Rattle.std.proofs.Common.{◌≡◌, ℕ, suc, ◌<◌, ◌≤◌, true, false, [], ◌∷◌, ◌++◌, length, refl, sym, ap, ◌∙◌, subst, arith, Some, None}
+use Rattle.std.proofs.Common.{◌≡◌, ℕ, ◌<◌, ◌≤◌, true, false, [], ◌∷◌, ◌++◌, length, refl, sym, ap, ◌∙◌, subst, arith, Some, None}
 use Rattle.std.specs.Prelude.{find}
 use Rattle.std.proofs.lemmas.List.{append_assoc, length-append}
 use Rattle.flow_journal.specs.declared.entry.Entry.{Entry}
@@ -14,20 +14,13 @@ use Rattle.board_rules.specs.declared.told.Told.{Told}
 use Rattle.board_rules.specs.States.{BoardState, past}
 use Rattle.flow_journal.specs.MoveLists.{begun_by}
 use Rattle.board_rules.specs.Moving.{moved_at}
-use Rattle.board_rules.proofs.Moves.{followers, one-move}
+use Rattle.board_rules.proofs.Moves.{followers, one-move, GoOn}
+use Rattle.board_rules.proofs.Pasts.{past-append}
 use Rattle.flow_roles.specs.TurnPasses.{BeginsWith}
-use Rattle.flow_roles.proofs.Calls.{GoesAfter, from-move}
+use Rattle.flow_roles.proofs.Calls.{from-move}
 use Rattle.flow_drain.specs.Drains.{is_drains, is_load, DrainMoves}
 
 -- LENGTHS
-
-pub past-append : (xs ys : BoardState) → past (xs ++ ys) ≡ past xs ++ past ys
-past-append [] ys = refl
-past-append (x ∷ xs) ys = ap (λ (P : Past). x.entry ∷ P) (past-append xs ys)
-
-pub past-length : (b : BoardState) → length (past b) ≡ length b
-past-length [] = refl
-past-length (t ∷ b) = ap suc (past-length b)
 
 pub longer : (s : Setting) (at : ℕ) (t : Told) (b new : BoardState) → new ≡ moved_at s at t b → length (past b) < length (past new)
 longer s at t b new is =
@@ -91,7 +84,7 @@ still-hands (Leave q) h = cc
 still-hands (Reclaim q) h = cc
 still-hands _ h = refl
 
-hands-after : (more b : BoardState) → GoesAfter more → hands (past (more ++ b)) ≡ hands (past b)
+hands-after : (more b : BoardState) → GoOn more → hands (past (more ++ b)) ≡ hands (past b)
 hands-after [] b g = refl
 hands-after (u ∷ more) b g = job_laws.others u.entry (past (more ++ b)) (still-hands u.entry g.0) ∙ hands-after more b g.1
 

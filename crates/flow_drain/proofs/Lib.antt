@@ -1,5 +1,4 @@
 pub mod Closed
-pub mod Roles
 pub mod Emptied
 pub mod EndLaws
 pub mod Growth

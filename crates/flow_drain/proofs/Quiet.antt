@@ -32,7 +32,8 @@ use Rattle.board_rules.specs.declared.answers.Left.{Left}
 use Rattle.flow_drain.specs.Drains.{DrainMoves, IsDrained, taken_back}
 use Rattle.flow_drain.proofs.TakingBack.{taken-none}
 use Rattle.flow_drain.specs.DrainSteps.{IsIdle, IsFed, Waits, IsQuiet}
-use Rattle.flow_drain.proofs.Emptied.{queue-empty, list-empty}
+use Rattle.flow_journal.proofs.Flushed.{list-empty}
+use Rattle.flow_drain.proofs.Emptied.{queue-empty}
 use Rattle.flow_drain.proofs.Growth.{squeezed, moves-on, moves-same, moves-longer, no-move}
 use Rattle.flow_drain.proofs.Works.{node-sound}
 use Rattle.flow_drain.proofs.Rounds.{node-above}
@@ -51,7 +52,7 @@ all-numbers p from (n ∷ ns) h v low high =
           all-numbers p (from + 1) ns a.1 v (omega (arith, low, ne)) (omega (arith, high))
     ]
 
-numbers-all : (p : ℕ → Bool) (from : ℕ) (ns : List Node) → ((v : ℕ) → from ≤ v → v < from + length ns → p v ≡ true) → list_all p (numbers_from from ns) ≡ true
+pub numbers-all : (p : ℕ → Bool) (from : ℕ) (ns : List Node) → ((v : ℕ) → from ≤ v → v < from + length ns → p v ≡ true) → list_all p (numbers_from from ns) ≡ true
 numbers-all p from [] h = refl
 numbers-all p from (n ∷ ns) h =
     and_from _ _ (h from (omega arith) (omega arith)) (numbers-all p (from + 1) ns (λ v low high. h v (omega (arith, low)) (omega (arith, high))))

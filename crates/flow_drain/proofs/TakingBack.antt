@@ -33,7 +33,7 @@ use Rattle.flow_drain.specs.DrainSteps.{IsIdle}
 use Rattle.flow_roles.specs.TurnPasses.{BeginsWith}
 use Rattle.flow_drain.proofs.Growth.{begins-on}
 use Rattle.flow_drain.proofs.Feeds.{free-of}
-use Rattle.flow_drain.proofs.Roles.{role-of-hand, no-hands}
+use Rattle.flow_journal.proofs.HandRoles.{role-of-hand, no-hands}
 
 -- THE ROLES ARE FEW
 

@@ -32,6 +32,7 @@ use Rattle.board_rules.specs.declared.answers.Settled.TheVariants as settled
 use Rattle.board_rules.specs.States.{BoardState, past, plain, lends, lent_to, take_block}
 use Rattle.flow_journal.specs.MoveLists.{begun_by}
 use Rattle.flow_journal.specs.ResultNames.{result_name}
+use Rattle.flow_journal.proofs.Found.{none_left-nil}
 use Rattle.board_rules.specs.Moving.{moved_at}
 use Rattle.board_rules.specs.InHand.{is_job_on, granted_size, IsWholeOf, OfSome}
 use Rattle.board_rules.specs.RunMeasures.{run_setting, run_measure}
@@ -50,10 +51,6 @@ use Rattle.flow_drain.specs.DrainSteps.{IsIdle, Holds, HasWork}
 use Rattle.flow_drain.proofs.Emptied.{queue-empty}
 use Rattle.flow_drain.proofs.Growth.{longer, no-move, one-of, hands-moved, hand-one, let-one}
 use Rattle.flow_drain.proofs.Feeds.{never-away, free-of, other-board}
-
-none-is : {X : Type 0} (xs : List X) → none_left xs ≡ true → xs ≡ []
-none-is [] h = refl
-none-is (x ∷ xs) h = absurd (false≢true h)
 
 -- each node has a thread, and its queue a place
 pub record IsSound (n : Node) : Type 0 where
@@ -115,7 +112,7 @@ module _ {F B : Type 0} (O : Type 0) (name_of_ : F → FrameName) (parts : F →
       ] in
       let either = idle-by (take_refusal s r v (past old)) (asked s v (past old)) refl c in
       elim (cases_Bool (none_left (queued v (past old)))) [
-        | inl none ↦ none-is (queued v (past old)) none
+        | inl none ↦ none_left-nil (queued v (past old)) none
         | inr some ↦ absurd (false≢true (sym (rw (some, busy) refl) ∙ either))
       ]
 

@@ -1,5 +1,5 @@
 -- What stands against a call, as code reads it of a node and its rules.
-use Rattle.std.proofs.Common.{◌≡◌, ◌≤◌, ◌<◌, ◌∙◌, ◌-◌, ℕ, ◌+◌, ◌%◌, true, false, Bool, ◌&&◌, ◌||◌, not, List, [], ◌∷◌, Option, Some, None, length, filter}
+use Rattle.std.proofs.Common.{◌≡◌, ◌≤◌, ◌<◌, ◌∙◌, ℕ, ◌+◌, ◌%◌, true, false, Bool, ◌&&◌, ◌||◌, not, List, [], ◌∷◌, Option, Some, None, length, filter}
 use Rattle.std.proofs.Common.{refl, sym, ap, subst, eqb, leb, ltb, arith, inl, inr}
 use Rattle.std.specs.Prelude.{slice_get}
 use Rattle.std.specs.List.{list_any}

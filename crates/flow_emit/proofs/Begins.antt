@@ -1,5 +1,5 @@
 -- Which moves are legal where nothing stands against their calls.
-use Rattle.std.proofs.Common.{◌≡◌, ◌≤◌, ◌∷◌, ◌++◌, ◌∙◌, ℕ, true, false, Bool, ◌&&◌, [], refl, sym, ap, subst, Some, None, Ok}
+use Rattle.std.proofs.Common.{◌≡◌, ◌≤◌, ◌∷◌, ◌∙◌, ℕ, true, false, Bool, ◌&&◌, refl, sym, ap, subst, Some, None, Ok}
 use Rattle.std.proofs.lemmas.Bool.{and_parts, false≢true}
 use Rattle.nd_base.specs.declared.frame.FrameName.{FrameName}
 use Rattle.pool_ledger.specs.Grants.{Granted}
@@ -35,11 +35,8 @@ use Rattle.board_rules.specs.Leaving.{reclaim_refusal}
 use Rattle.board_rules.proofs.Legal.{close-by, leave-by, take-by, save-by, saved-by, load-by, may_load, may_take as may_take_facts, reclaim-by}
 use Rattle.board_rules.proofs.Moved.{moved-legal, fit-first}
 use Rattle.board_rules.proofs.Moves.{followed}
+use Rattle.board_rules.proofs.Pasts.{past-append}
 use Rattle.flow_emit.specs.Courses.{Coursed, Parts, log_of}
-
-past-append : (more b : BoardState) → past (more ++ b) ≡ past more ++ past b
-past-append [] b = refl
-past-append (t ∷ more) b = ap (λ (P : Past). t.entry ∷ P) (past-append more b)
 
 -- the first entry of a move that is legal as a whole
 pub begun : (s : Setting) (b : BoardState) (tick : ℕ) (t : Told) → is_history s (past (moved_at s tick t b)) ≡ true → is_legal s (t.entry ∷ past b) ≡ true

@@ -10,7 +10,7 @@ use Rattle.pool_ledger.specs.Ledger.{with_refs}
 use Rattle.pool_ledger.specs.Ledger as ledger
 use Rattle.flow_journal.specs.Setting.{Setting}
 use Rattle.flow_journal.specs.Accounts.{block_of}
-use Rattle.board_rules.specs.States.{BoardState, past, plain}
+use Rattle.board_rules.specs.States.{plain}
 use Rattle.pool_account.specs.Account.{IsAccount, all_named}
 use Rattle.pool_account.proofs.Laws.{tell_laws, hold_laws, array_laws}
 use Rattle.flow_emit.specs.declared.rules.Rules.{Rules}
@@ -35,7 +35,7 @@ use Rattle.queue_sort.specs.Inboxes.{with_last, without_front}
 use Rattle.flow_emit.specs.RunRules.{AreRules, as_node}
 use Rattle.flow_emit.specs.declared.hand.Hand.TheVariants.{Free, Job, Piece}
 use Rattle.flow_emit.specs.NodeStates.{IsNode, HasRoomToMeasure, HasRoomToSave}
-use Rattle.flow_emit.specs.Having.{HasBlock}
+use Rattle.flow_journal.specs.Having.{HasBlock}
 use Rattle.std.specs.Prelude.{vec_capacity}
 use Rattle.std.proofs.lemmas.List.Elements.{All-cons, All-nil}
 use Rattle.std.proofs.lemmas.List.{append-nil}
@@ -51,6 +51,7 @@ use Rattle.flow_journal.proofs.AccountChanges.{block_laws}
 use Rattle.flow_journal.proofs.Changes.{queue_laws}
 use Rattle.flow_journal.proofs.Changes as changes
 use Rattle.board_rules.specs.States.{lends}
+use Rattle.board_rules.proofs.Pasts.{past-length}
 use Rattle.chain_plain.specs.OneThread.{listed as listed_one}
 use Rattle.flow_emit.specs.declared.node.Kept.{Kept}
 use Rattle.flow_emit.specs.NodeStates.{list_of, listed}
@@ -123,9 +124,6 @@ pub apart-more : {a b : ℕ} → a ≢ b → suc a ≢ suc b
 apart-more ne e = ne (omega (arith, e))
 
 -- ROOM
-pub past-length : (b : BoardState) → length (past b) ≡ length b
-past-length [] = refl
-past-length (t ∷ b) = ap suc (past-length b)
 
 pub room-for : (measure : Measuring) (s : Setting) (k : Parts) (e : Entry) → IsCourse measure s k
     → is_legal s (e ∷ log_of k) ≡ true → length k.log.told < k.log.room

@@ -21,7 +21,6 @@ use Rattle.flow_journal.specs.Unsaved.{unsaved}
 use Rattle.flow_journal.specs.Finished.{none_left, is_done}
 use Rattle.flow_journal.specs.Histories.{is_legal, is_history}
 use Rattle.board_rules.specs.Ends.{measured, measured_at}
-use Rattle.board_rules.specs.States.{BoardState, past}
 use Rattle.flow_journal.specs.declared.progress.Progress.{Progress}
 use Rattle.flow_journal.proofs.Lengths.{length_laws}
 use Rattle.flow_emit.specs.declared.facts.Facts.{Facts}
@@ -32,8 +31,8 @@ use Rattle.flow_emit.specs.declared.hand.RoleState.{RoleState}
 use Rattle.flow_emit.specs.Endings.{is_over, has_free_hand}
 use Rattle.flow_emit.specs.NodeStates.{AreNodes, IsNode}
 use Rattle.flow_emit.specs.RoleStates.{AreRoles, role_of}
-use Rattle.flow_emit.proofs.Flushed.{list-empty}
-use Rattle.flow_emit.proofs.HandRoles.{role-of-hand, no-hands}
+use Rattle.flow_journal.proofs.Flushed.{list-empty}
+use Rattle.flow_journal.proofs.HandRoles.{role-of-hand, no-hands}
 use Rattle.flow_emit.proofs.HandWords.{free-is}
 
 -- LISTS
@@ -147,10 +146,6 @@ nodes-measured measure s P ns are =
 -- PROGRESS
 abbrev pub progress_with : ℕ → Facts → Bool → Progress
 progress_with n f b = record { entries = n; offered = f.came; dropped = f.dropped; saved = f.saved; left = f.left; done = b }
-
-pub past-length : (b : BoardState) → length (past b) ≡ length b
-past-length [] = refl
-past-length (t ∷ b) = ap suc (past-length b)
 
 -- no log is too long
 pub log-fits : (s : Setting) (ru : Rules) (P : Past) → AreRules ru s → is_legal s P ≡ true → length P < 2 ^ 32

@@ -15,17 +15,14 @@ use Rattle.flow_journal.specs.Notes.{how_many, offers, drops, saves}
 use Rattle.flow_journal.specs.Histories.{is_legal}
 use Rattle.flow_journal.proofs.Indices.{index_laws}
 use Rattle.flow_journal.proofs.Hands.{unloaded-let_go, same_loaded-let_go, hands-OneLoaded, takes-alone}
-use Rattle.flow_journal.proofs.EntryCounts.{bit, count-cons}
+use Rattle.flow_journal.proofs.EntryCounts.{count-cons}
+use Rattle.flow_journal.proofs.Once.{bit-le}
 use Rattle.flow_emit.specs.Facts.{facts_of}
-
-bit-few : (b : Bool) → bit b ≤ 1
-bit-few true = omega arith
-bit-few false = omega arith
 
 -- how many entries pass a test: no more than there are
 pub few-of : (p : Entry → Bool) (P : Past) → how_many p P ≤ length P
 few-of p [] = omega arith
-few-of p (e ∷ P) = omega (arith, count-cons p e P, few-of p P, bit-few (p e))
+few-of p (e ∷ P) = omega (arith, count-cons p e P, few-of p P, bit-le (p e))
 
 one-more : (n : ℕ) → suc n ≡ n + 1
 one-more n = omega arith

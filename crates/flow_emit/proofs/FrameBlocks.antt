@@ -17,7 +17,7 @@ use Rattle.std.specs.List.{flat_map}
 use Rattle.std.specs.Prelude.{if◌then◌else◌}
 use Rattle.std.proofs.Common.{length-append}
 use Rattle.std.proofs.lemmas.List.{append-nil}
-use Rattle.flow_journal.proofs.FrameBlocks.{grant-once, block-granted}
+use Rattle.flow_journal.proofs.FrameBlocks.{grant-once, block-granted, none_long}
 use Rattle.flow_journal.proofs.Hands.{stood}
 use Rattle.flow_emit.specs.FrameBlocks.{place_of, AreBlocks}
 
@@ -63,11 +63,6 @@ blocks-granted s P Q bs a b are within maker is others =
           let ne : place_of s c ≢ place_of s a = λ e. true≢false (sym (ap (λ x. same x a) (one-place s c a was.0 within e) ∙ same_refl a) ∙ other) in
           (was.0, get_or-set_other bs (place_of s a) (place_of s c) b 0 ne ∙ was.1)
 
--- A RECLAIM takes blocks away, and gives none.
-nothing-of : (bs : List ℕ) → length bs ≤ 0 → bs ≡ []
-nothing-of [] h = refl
-nothing-of (b ∷ bs) h = absurd (omega (arith, h))
-
 fewer-flat : (f : Entry → List ℕ) (r : ℕ) (es : List Entry) (b : ℕ) → length (flat_map f es) ≤ 1 → flat_map f (let_go r es) ≡ b ∷ [] → flat_map f es ≡ b ∷ []
 fewer-flat f r [] b few is = is
 fewer-flat f r (e ∷ es) b few is = by (takes_up r e) (f e) refl refl (fewer-flat f r es b) where
@@ -75,7 +70,7 @@ fewer-flat f r (e ∷ es) b few is = by (takes_up r e) (f e) refl refl (fewer-fl
       → (length (flat_map f es) ≤ 1 → flat_map f (let_go r es) ≡ b ∷ [] → flat_map f es ≡ b ∷ []) → f e ++ flat_map f es ≡ b ∷ []
   by true xs up one more =
       let rest : flat_map f es ≡ b ∷ [] = sym (ap (λ (t : Bool). flat_map f (if t then es else e ∷ let_go r es)) up) ∙ is in
-      let none : f e ≡ [] = nothing-of (f e) (omega (arith, few, length-append (f e) (flat_map f es), ap length rest)) in
+      let none : f e ≡ [] = none_long (f e) (omega (arith, few, length-append (f e) (flat_map f es), ap length rest)) in
       ap (λ xs. xs ++ flat_map f es) none ∙ rest
   by false [] up one more =
       let rest : flat_map f (let_go r es) ≡ b ∷ [] =
@@ -86,8 +81,8 @@ fewer-flat f r (e ∷ es) b few is = by (takes_up r e) (f e) refl refl (fewer-fl
       sym (ap (λ xs. xs ++ flat_map f (let_go r es)) one) ∙ (sym (ap (λ (t : Bool). flat_map f (if t then es else e ∷ let_go r es)) up) ∙ is) in
       let first : x ≡ b = cc in
       let tail : xs ++ flat_map f (let_go r es) ≡ [] = cc in
-      let none : xs ≡ [] = nothing-of xs (omega (arith, ap length tail, length-append xs (flat_map f (let_go r es)))) in
-      let gone : flat_map f es ≡ [] = nothing-of (flat_map f es) (omega (arith, few, length-append (f e) (flat_map f es), ap length one)) in
+      let none : xs ≡ [] = none_long xs (omega (arith, ap length tail, length-append xs (flat_map f (let_go r es)))) in
+      let gone : flat_map f es ≡ [] = none_long (flat_map f es) (omega (arith, few, length-append (f e) (flat_map f es), ap length one)) in
       ap (λ ys. ys ++ flat_map f es) one ∙ (ap (λ ys. (x ∷ xs) ++ ys) gone ∙ (append-nil (x ∷ xs) ∙ (ap (λ ys. x ∷ ys) none ∙ ap (λ y. y ∷ []) first)))
 
 pub blocks-reclaimed : (s : Setting) (P : Past) (r : ℕ) (e : Entry) (bs : List ℕ) → AreBlocks s P bs → is_legal s P ≡ true → is_legal s (Reclaim r ∷ P) ≡ true

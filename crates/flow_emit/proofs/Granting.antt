@@ -19,7 +19,7 @@ use Rattle.flow_emit.specs.declared.node.NodeState.{NodeState}
 use Rattle.flow_emit.specs.declared.hand.RoleState.{RoleState}
 use Rattle.flow_emit.specs.declared.hand.Hand.TheVariants.{Loaded, Job}
 use Rattle.flow_emit.specs.declared.facts.Facts.{Facts}
-use Rattle.flow_emit.specs.Having.{HasBlock}
+use Rattle.flow_journal.specs.Having.{HasBlock}
 use Rattle.flow_emit.specs.FrameBlocks.{place_of}
 use Rattle.flow_emit.specs.Courses.{Parts, log_of, IsCourse}
 use Rattle.flow_emit.proofs.Roles.{IsOf, role-up}

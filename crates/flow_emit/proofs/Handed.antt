@@ -16,7 +16,7 @@ use Rattle.flow_journal.proofs.AccountChanges.{block_laws}
 use Rattle.flow_journal.proofs.Steps.{same-true}
 use Rattle.board_rules.specs.InHand.{is_job_on}
 use Rattle.board_rules.proofs.Makers.{hand-suits}
-use Rattle.flow_emit.specs.Having.{HasBlock}
+use Rattle.flow_journal.specs.Having.{HasBlock}
 use Rattle.flow_emit.specs.Puts.{job_arrays}
 use Rattle.flow_emit.proofs.Having.{hand-block}
 

@@ -1,8 +1,6 @@
 pub mod Each
 pub mod Roles
 pub mod HandWords
-pub mod Flushed
-pub mod HandRoles
 pub mod Ending
 pub mod Nodes
 pub mod Elsewhere

@@ -17,8 +17,10 @@ use Rattle.flow_journal.specs.Histories.{is_legal, wanted}
 use Rattle.flow_journal.specs.Following.{offer, emit, calls_for}
 use Rattle.flow_journal.specs.Turns.{deals, has_just_emitted, offered_to}
 use Rattle.flow_journal.proofs.Histories.{legal-front}
+use Rattle.flow_journal.proofs.Lengths.{numbers-length}
 use Rattle.board_rules.specs.States.{BoardState, past, plain}
 use Rattle.board_rules.specs.Moving.{with_all, made_of}
+use Rattle.board_rules.proofs.Pasts.{past-append}
 use Rattle.flow_emit.specs.Courses.{Coursed}
 use Rattle.flow_emit.specs.Emissions.{OffersMade}
 use Rattle.flow_emit.proofs.Depth.{offers-first}
@@ -37,10 +39,6 @@ grown s t (suc n) (d ∷ ds) b =
           ∙ (ap (λ (xs : BoardState). outer.0 ++ xs) (inner.1 ∙ sym (append_assoc inner.0 (plain e ∷ []) b))
           ∙ sym (append_assoc outer.0 (inner.0 ++ plain e ∷ []) b)),
     )
-
-past-append : (xs ys : BoardState) → past (xs ++ ys) ≡ past xs ++ past ys
-past-append [] ys = refl
-past-append (x ∷ xs) ys = ap (λ P. x.entry ∷ P) (past-append xs ys)
 
 -- so what there was is legal where all is
 pub legal-before : (s : Setting) (t n : ℕ) (ds : List Entry) (b : BoardState) → is_legal s (past (with_all s t n ds b)) ≡ true → is_legal s (past b) ≡ true
@@ -128,14 +126,10 @@ pub emission-legal : (s : Setting) (v : ℕ) (why : Why) (a : FrameName) (b : Bo
     → is_legal s (Emit v a.maker a.index why ∷ past b) ≡ true
 emission-legal s v why a b h = legal-before s 0 1 (map (offer a) (offered_to s (past b) v)) (plain (Emit v a.maker a.index why) ∷ b) h
 
-numbers-many : (v : ℕ) (ns : List Node) → length (numbers_from v ns) ≡ length ns
-numbers-many v [] = refl
-numbers-many v (n ∷ ns) = ap suc (numbers-many (v + 1) ns)
-
 -- no more children than nodes
 pub few-children : (s : Setting) (v : ℕ) → length (children s v) ≤ length s.nodes
 few-children s v =
-    omega (arith, length-filter_both (λ c. (node s c).input == v) (λ c. not ((node s c).input == v)) (λ c. refl) (node_numbers s), numbers-many 1 s.nodes)
+    omega (arith, length-filter_both (λ c. (node s c).input == v) (λ c. not ((node s c).input == v)) (λ c. refl) (node_numbers s), numbers-length 1 s.nodes)
 
 pub node-number : (s : Setting) (v : ℕ) → is_node s v ≡ true → v ≤ length s.nodes
 node-number s v h = leb-true v (length s.nodes) (and_parts (ltb 0 v) (leb v (length s.nodes)) h).1

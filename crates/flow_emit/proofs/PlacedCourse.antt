@@ -23,6 +23,7 @@ use Rattle.flow_journal.proofs.Leasts.{least_laws}
 use Rattle.flow_journal.proofs.Looks.{look_laws}
 use Rattle.flow_journal.specs.ResultNames.{result_name}
 use Rattle.board_rules.specs.States.{plain}
+use Rattle.board_rules.proofs.Pasts.{past-length}
 use Rattle.flow_emit.specs.Courses.{Parts, log_of, IsCourse}
 use Rattle.flow_emit.specs.NodeStates.{IsNode, list_of, listed}
 use Rattle.flow_emit.specs.Placing.{IsListed}
@@ -33,7 +34,7 @@ use Rattle.flow_emit.specs.declared.hand.RoleState.{RoleState}
 use Rattle.flow_emit.specs.declared.node.Kept.{Kept}
 use Rattle.flow_emit.specs.declared.node.NodeState.{NodeState}
 use Rattle.flow_emit.proofs.Bounds.{emits-short}
-use Rattle.flow_emit.proofs.Coursing.{Measuring, past-length, listed-some}
+use Rattle.flow_emit.proofs.Coursing.{Measuring, listed-some}
 use Rattle.flow_journal.proofs.Lengths.{length_laws}
 use Rattle.flow_emit.proofs.Finding.{node-is}
 use Rattle.flow_emit.proofs.Handed.{JobOn}

@@ -29,7 +29,7 @@ use Rattle.board_rules.specs.States.{plain}
 use Rattle.pool_account.specs.Account.{IsAccount, all_named}
 use Rattle.pool_account.proofs.Laws.{put_laws}
 use Rattle.flow_emit.specs.Courses.{Parts, log_of, IsCourse}
-use Rattle.flow_emit.specs.Having.{HasBlock}
+use Rattle.flow_journal.specs.Having.{HasBlock}
 use Rattle.flow_emit.specs.NodeStates.{IsNode, IsRing, HasRoomToMeasure, list_of, listed}
 use Rattle.flow_emit.specs.Puts.{put_of, inputs, job_arrays}
 use Rattle.flow_emit.specs.declared.hand.Hand.TheVariants.{Free}

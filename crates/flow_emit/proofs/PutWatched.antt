@@ -31,7 +31,7 @@ use Rattle.pool_account.specs.Account.{IsAccount, SameTimes, all_named}
 use Rattle.pool_account.proofs.Carrying.{times-append}
 use Rattle.pool_account.proofs.Laws.{put_laws}
 use Rattle.flow_emit.specs.Courses.{Parts, log_of, IsCourse}
-use Rattle.flow_emit.specs.Having.{HasBlock}
+use Rattle.flow_journal.specs.Having.{HasBlock}
 use Rattle.flow_emit.specs.NodeStates.{IsRing}
 use Rattle.flow_emit.specs.Puts.{put_of, job_arrays, watches}
 use Rattle.flow_emit.specs.Watched.{IsWatched, ComesOut, IsOnItsWay, ring_outs}

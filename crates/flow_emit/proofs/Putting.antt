@@ -29,7 +29,7 @@ use Rattle.flow_emit.specs.declared.hand.Hand.TheVariants.{Free}
 use Rattle.flow_emit.specs.declared.hand.RoleState.{RoleState}
 use Rattle.flow_emit.specs.declared.node.NodeState.{NodeState}
 use Rattle.flow_emit.specs.Courses.{Parts, log_of, IsCourse}
-use Rattle.flow_emit.specs.Having.{HasBlock}
+use Rattle.flow_journal.specs.Having.{HasBlock}
 use Rattle.flow_emit.specs.NodeStates.{IsNode, IsRing, list_of, HasRoomToSave}
 use Rattle.flow_emit.proofs.Coursing.{Measuring, apart-more, put-of, none-listed}
 use Rattle.flow_emit.proofs.Elsewhere.{same-put}
@@ -39,6 +39,7 @@ use Rattle.flow_emit.proofs.Handed.{HasJob, HasArrays, job-on}
 use Rattle.flow_emit.proofs.Bounds.{puts-short}
 use Rattle.flow_emit.proofs.Finding.{node-is}
 use Rattle.flow_journal.proofs.Changes.{job_laws, save_laws, put_laws as node_puts}
+use Rattle.flow_journal.proofs.Looks.{sorts_no_file}
 use Rattle.flow_emit.proofs.Here.{here-put}
 use Rattle.flow_emit.proofs.Nodes.{nodes-set}
 use Rattle.flow_emit.proofs.Roles.{role-down}
@@ -121,11 +122,6 @@ few-arrays s v a = split (is_maker s v) where
   split false = omega arith
 
 -- A NODE WITHOUT A SORT LIST THAT MAKES OR PASSES ARRAYS ON
-no-file : (w : Work) → may_sort w ≡ true → is_file w ≡ false
-no-file Makes h = refl
-no-file (Passes d) h = refl
-no-file (Watches pre post preset) h = refl
-no-file (Saves whole n) h = absurd (false≢true h)
 
 no-ring : (s : Setting) (v : ℕ) (P : Past) (w : Work) (x : Watch FrameName) → may_sort w ≡ true → IsRing s v P w x
 no-ring s v P Makes x h = tt
@@ -140,7 +136,7 @@ none-unsaved s v P h = rw h refl
 keeps-none : (measure : Measuring) (s : Setting) (v : ℕ) (P Q : Past) (n : NodeState) → passes_all s v ≡ true → is_sorted s v ≡ false
     → IsNode measure s v P n → Keeps measure s v P Q n
 keeps-none measure s v P Q n goes plain_one i =
-    let none = no-file (node s v).work goes in
+    let none = sorts_no_file (node s v).work goes in
     record {
       size = i.list_size;
       last = i.last;

@@ -28,7 +28,7 @@ use Rattle.flow_emit.specs.declared.node.NodeState.{NodeState}
 use Rattle.flow_emit.specs.declared.hand.RoleState.{RoleState}
 use Rattle.flow_emit.specs.declared.hand.Hand.TheVariants.{Free}
 use Rattle.flow_emit.specs.declared.facts.Facts.{Facts}
-use Rattle.flow_emit.specs.Having.{HasBlock}
+use Rattle.flow_journal.specs.Having.{HasBlock}
 use Rattle.flow_emit.specs.RoleStates.{AreRoles}
 use Rattle.flow_emit.specs.Courses.{Parts, log_of, IsCourse}
 use Rattle.flow_emit.proofs.Roles.{role-changed}

@@ -24,7 +24,7 @@ use Rattle.flow_emit.specs.declared.rules.NodeWork.TheVariants as work
 use Rattle.flow_emit.specs.declared.node.NodeState.{NodeState}
 use Rattle.flow_emit.specs.RunRules.{as_work}
 use Rattle.flow_emit.specs.NodeStates.{IsNode, IsRing}
-use Rattle.flow_emit.specs.Having.{HasBlock}
+use Rattle.flow_journal.specs.Having.{HasBlock}
 use Rattle.flow_emit.specs.Courses.{Parts, log_of, IsCourse}
 use Rattle.flow_emit.specs.Puts.{is_watching, watches}
 use Rattle.flow_emit.proofs.Coursing.{Measuring, apart-more}

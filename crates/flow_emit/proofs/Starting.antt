@@ -19,7 +19,7 @@ use Rattle.flow_emit.specs.declared.rules.Rules.{Rules}
 use Rattle.flow_emit.specs.Courses.{IsCourse}
 use Rattle.flow_emit.specs.Facts.{facts_of}
 use Rattle.flow_emit.specs.FrameBlocks.{AreBlocks}
-use Rattle.flow_emit.specs.Having.{HasBlock}
+use Rattle.flow_journal.specs.Having.{HasBlock}
 use Rattle.flow_emit.specs.NodeStates.{AreNodes}
 use Rattle.flow_emit.specs.RoleStates.{AreRoles}
 use Rattle.flow_emit.specs.RunRules.{AreRules, as_node}

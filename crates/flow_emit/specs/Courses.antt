@@ -21,7 +21,7 @@ use Rattle.flow_emit.specs.NodeStates.{AreNodes}
 use Rattle.flow_emit.specs.RoleStates.{AreRoles}
 use Rattle.flow_emit.specs.Facts.{facts_of}
 use Rattle.flow_emit.specs.FrameBlocks.{AreBlocks}
-use Rattle.flow_emit.specs.Having.{HasBlock}
+use Rattle.flow_journal.specs.Having.{HasBlock}
 
 -- the log, with what was told beside it, and the arrays that are on their way from one place to another, the next one first
 pub record Coursed : Type 0 where

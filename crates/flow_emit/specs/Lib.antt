@@ -1,4 +1,3 @@
-pub mod Having
 pub mod RunRules
 pub mod NodeStates
 pub mod RoleStates

@@ -39,7 +39,8 @@ pub record AreNodeRules (s : Setting) (ns : List NodeRules) : Type 0 where
 
 -- a node keeps within the ranges of its keys
 abbrev pub IsWithin : ℕ → NodeRules → Type 0
-IsWithin nodes n = (n.input ≤ nodes) × (1 ≤ n.queue) × (n.queue ≤ 65535) × (1 ≤ n.threads) × (n.threads ≤ 16) × (n.sort ≤ 65535) × (n.sort_time ≤ 2147483647)
+IsWithin nodes n =
+    (n.input ≤ nodes) × (1 ≤ n.queue) × (n.queue ≤ 65535) × (1 ≤ n.threads) × (n.threads ≤ 16) × (n.sort ≤ 65535) × (n.sort_time ≤ 2147483647)
 
 abbrev pub IsWorkWithin : NodeWork → Type 0
 IsWorkWithin (work.Watches pre post preset) = (pre ≤ 4096) × (1 ≤ post)

@@ -23,7 +23,7 @@ use Rattle.flow_journal.specs.Breaks.{prev_of, outs, prev, breaks_of, breaks}
 use Rattle.flow_journal.specs.FirstEntries.{first, may_take, pool_grants, pool_refuses}
 use Rattle.flow_journal.specs.Histories.{is_legal}
 use Rattle.flow_journal.specs.EntryLaws.{moves_queues, QueueLaws, lets_go, HandLaws, offers, offers_frames, OfferLaws, is_put, moves_lists, PutLaws}
-use Rattle.flow_journal.specs.EntryLaws.{moves_rings, RingLaws, moves_saves, changes_saves, SaveLaws, moves_hands, JobLaws, lets_out, ticks, ClockLaws}
+use Rattle.flow_journal.specs.EntryLaws.{moves_rings, RingLaws, moves_saves, changes_saves, SaveLaws, moves_hands, JobLaws, lets_out, ClockLaws}
 use Rattle.flow_journal.specs.EntryLaws.{BreakLaws, RoleLaws}
 use Rattle.flow_journal.proofs.Steps.{comes_here, comes_elsewhere, queued-Accept, queued-Reclaim}
 use Rattle.flow_journal.proofs.EntryCounts.{count, bit, count-cons, count-let_go}
@@ -36,6 +36,7 @@ use Rattle.flow_journal.proofs.LastOuts.{outs-let_go, last_out, outs_of, off}
 use Rattle.flow_journal.proofs.Settled.{put-unsettled}
 use Rattle.flow_journal.proofs.Hands.{find-none, find-let_go, free-let_go, hands-Apart, hands-first, stood}
 use Rattle.flow_journal.proofs.Rows.{taken_front}
+use Rattle.flow_journal.specs.EntryTests.{is_tick}
 
 queue_others : (v : ℕ) (e : Entry) (P : Past) → moves_queues e ≡ false → queued v (e ∷ P) ≡ queued v P
 queue_others v (Accept w m k) P h = absurd (true≢false h)
@@ -45,7 +46,7 @@ queue_others v (PoolDrop r w m k n z) P h = absurd (true≢false h)
 queue_others v (Reclaim r) P h = absurd (true≢false h)
 queue_others v _ P h = refl
 
-no_job : (v : ℕ) (e : Entry) → is_job v e ≡ false → job_array v (Some e) ≡ []
+pub no_job : (v : ℕ) (e : Entry) → is_job v e ≡ false → job_array v (Some e) ≡ []
 no_job v (Take r w m k) h = rw h refl
 no_job v (TakeBlock f x r w m k b n g) h = rw h refl
 no_job v _ h = refl
@@ -262,7 +263,7 @@ prev_others s v (Save r w m k g) P h = absurd (true≢false h)
 prev_others s v (Reclaim r) P h = absurd (true≢false h)
 prev_others s v _ P h = refl
 
-now_others : (e : Entry) (P : Past) → ticks e ≡ false → now (e ∷ P) ≡ now P
+now_others : (e : Entry) (P : Past) → is_tick e ≡ false → now (e ∷ P) ≡ now P
 now_others (Tick t) P h = absurd (true≢false h)
 now_others _ P h = refl
 

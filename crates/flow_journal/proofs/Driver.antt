@@ -21,7 +21,8 @@ use Rattle.flow_journal.proofs.Jobs.{issued_hand, reclaim_hand}
 use Rattle.flow_journal.proofs.Outs.{out_of, of_index, emits-le, none_elsewhere, result-at, flush-at}
 use Rattle.flow_journal.proofs.Offers.{none_numbered_0}
 use Rattle.flow_journal.proofs.Issues.{looks-none, puts_at_node, settles_node}
-use Rattle.flow_journal.proofs.Emissions.{is_tick, no_ticks, no_ticks_in_offers, looks-ticks, owed-Emit_out, owed-SortDrop_out, no_outs_in_offers}
+use Rattle.flow_journal.proofs.Emissions.{no_ticks, no_ticks_in_offers, looks-ticks, owed-Emit_out, owed-SortDrop_out, no_outs_in_offers}
+use Rattle.flow_journal.specs.EntryTests.{is_tick}
 
 -- the entry issues frame k
 abbrev pub issues_at : ℕ → Entry → Bool

@@ -25,12 +25,9 @@ use Rattle.flow_journal.proofs.Outs.{count-sorted_result, count-least_first, goe
 use Rattle.flow_journal.proofs.Offers.{once_numbered}
 use Rattle.flow_journal.proofs.Issues.{looks, looks-le}
 use Rattle.flow_journal.proofs.RingCounts.{ring-push, kept-nothing}
+use Rattle.flow_journal.specs.EntryTests.{is_tick}
 
 -- TICKS STAND ALONE
-
-abbrev pub is_tick : Entry → Bool
-is_tick (Tick t) = true
-is_tick _ = false
 
 out_no_tick : (v : ℕ) (e : Entry) → is_out_at v e ≡ true → is_tick e ≡ false
 out_no_tick v (Emit w m i why) h = refl

@@ -2,8 +2,9 @@
 use Rattle.std.proofs.Common.{◌≡◌, Bool, true, false, List, [], ◌∷◌, refl, subst, ap, arith, Option, Some, None, inl, inr}
 use Rattle.std.specs.Prelude.{is_none}
 use Rattle.std.specs.List.{list_any, find}
-use Rattle.std.proofs.lemmas.Bool.{true≢false, cases_Bool, or_parts, or_from}
+use Rattle.std.proofs.lemmas.Bool.{true≢false, false≢true, cases_Bool, or_parts, or_from}
 use Rattle.flow_journal.specs.declared.entry.Entry.{Entry}
+use Rattle.flow_journal.specs.Finished.{none_left}
 use Rattle.flow_journal.proofs.EntryCounts.{bit, count, count-cons}
 
 -- what is found passes the test
@@ -30,3 +31,7 @@ none_any p (x ∷ xs) h =
       | inl here ↦ absurd (omega (arith, count-cons p x xs, ap bit here, h))
       | inr away ↦ or_from (p x) (list_any p xs) away (none_any p xs (omega (arith, count-cons p x xs, h)))
     ]
+
+pub none_left-nil : {X : Type 0} (xs : List X) → none_left xs ≡ true → xs ≡ []
+none_left-nil [] h = refl
+none_left-nil (x ∷ xs) h = absurd (false≢true h)

@@ -127,7 +127,7 @@ first_of-few (b ∷ c ∷ bs) h = absurd (omega (arith, h))
 pub block-granted : (s : Setting) (P : Past) (a : FrameName) → is_legal s P ≡ true → block_of P a ≡ grants_of a (standing P)
 block-granted s P a h = first_of-few (grants_of a (standing P)) (grant-once s P a h)
 
-none_long : (bs : List ℕ) → length bs ≤ 0 → bs ≡ []
+pub none_long : (bs : List ℕ) → length bs ≤ 0 → bs ≡ []
 none_long [] h = refl
 none_long (b ∷ bs) h = absurd (omega (arith, h))
 

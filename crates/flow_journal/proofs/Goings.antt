@@ -25,9 +25,10 @@ use Rattle.flow_journal.specs.RowLaws.{begins}
 use Rattle.flow_journal.specs.MoveLaws.{LogsGoOn, MoveLaws}
 use Rattle.flow_journal.proofs.EntryCounts.{count, bit, count-cons, count-append}
 use Rattle.flow_journal.proofs.Outs.{AllOutAt, is_out_at, all-append, goes_out-at, result-at, flush-at}
-use Rattle.flow_journal.proofs.Emissions.{is_tick, TickAlone, tick_alone, no_ticks_in_offers, looks-ticks}
+use Rattle.flow_journal.proofs.Emissions.{TickAlone, tick_alone, no_ticks_in_offers, looks-ticks}
 use Rattle.flow_journal.proofs.Histories.{legal-first}
 use Rattle.flow_journal.proofs.Cuts.{answer-follows, whole, one_way, cut-history, own_hand}
+use Rattle.flow_journal.specs.EntryTests.{is_tick}
 
 -- WHAT IS CALLED FOR
 

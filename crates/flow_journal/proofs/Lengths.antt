@@ -10,7 +10,7 @@ use Rattle.flow_journal.specs.declared.entry.Entry.TheVariants.{Load, LoadRefuse
 use Rattle.flow_journal.specs.declared.entry.Entry.TheVariants.{SortDrop, Settle, Save, Saved, Close, Leave, Reclaim}
 use Rattle.flow_journal.specs.Setting.{Setting, Node, node, numbers_from, node_numbers, last_role}
 use Rattle.flow_journal.specs.Pasts.{Past, frame, comes_at}
-use Rattle.flow_journal.specs.EntryTests.{is_reclaim}
+use Rattle.flow_journal.specs.EntryTests.{is_reclaim, is_tick}
 use Rattle.flow_journal.specs.Hands.{takes_up, let_go, hands, hand, standing, is_free}
 use Rattle.flow_journal.specs.Ended.{settles, closes, leaves, leaves_as, reclaims}
 use Rattle.flow_journal.specs.Offered.{loads, next_index, offered}
@@ -31,7 +31,7 @@ use Rattle.flow_journal.proofs.Jobs.{reclaim_hand, puts-taken}
 use Rattle.flow_journal.proofs.Outs.{out_of, of_index}
 use Rattle.flow_journal.proofs.Offers.{is_number, none_arrives, none_numbered_0}
 use Rattle.flow_journal.proofs.Issues.{comes-count, leaves-accepted}
-use Rattle.flow_journal.proofs.Emissions.{is_tick, outs-puts, puts-of_index}
+use Rattle.flow_journal.proofs.Emissions.{outs-puts, puts-of_index}
 use Rattle.flow_journal.proofs.Driver.{issues_at, issues-loads, outs-issued, is_offer, ticks-offers}
 use Rattle.flow_journal.proofs.Once.{load-few, arrives-few}
 use Rattle.flow_journal.proofs.Pieces.{rest_of, saves-front}
@@ -534,7 +534,7 @@ leaves-few : (s : Setting) (P : Past) → is_legal s P ≡ true → count leaves
 leaves-few s P h = one_in_buckets leaves role_of (λ r e. leaves_as r e) leave-buckets (suc (last_role s)) P (λ r. leaves-once s P r h)
 
 -- only roles have hands
-role-idle : (s : Setting) (P : Past) (r : ℕ) → last_role s < r → is_legal s P ≡ true → count (takes_up r) (hands P) ≡ 0
+pub role-idle : (s : Setting) (P : Past) (r : ℕ) → last_role s < r → is_legal s P ≡ true → count (takes_up r) (hands P) ≡ 0
 role-idle s [] r high h = refl
 role-idle s (Load q k b n f g x ∷ P) r high h =
     let facts = load-facts s q k P (and_parts (may_load s q k P) (pool_grants s 0 b n f g x P) (row_of s (Load q k b n f g x) P (λ d. refl) h)).0 in
@@ -728,3 +728,8 @@ length_laws = record {
   entries = log-short;
   within_limits = λ s P nodes roles h. omega (arith, log-short s P h, nodes, roles);
 }
+
+-- as many numbers as nodes
+pub numbers-length : (v : ℕ) (ns : List Node) → length (numbers_from v ns) ≡ length ns
+numbers-length v [] = refl
+numbers-length v (n ∷ ns) = ap suc (numbers-length (v + 1) ns)

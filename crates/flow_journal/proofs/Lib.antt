@@ -47,3 +47,6 @@ pub mod Buckets
 pub mod Lengths
 pub mod Cuts
 pub mod Goings
+pub mod HandRoles
+pub mod Flushed
+pub mod Blockless

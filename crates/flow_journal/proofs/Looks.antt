@@ -40,7 +40,7 @@ goes-none : (s : Setting) (v : ℕ) (before : ℤ) (tick : ℕ) (w : Waiting) (w
     → ltb (w.tick + (node s v).sort_time) tick ≡ false → goes_out s v before tick (w ∷ ws) ≡ []
 goes-none s v before tick w ws h g = rw (h, g) refl
 
-sorts_no_file : (w : Work) → may_sort w ≡ true → is_file w ≡ false
+pub sorts_no_file : (w : Work) → may_sort w ≡ true → is_file w ≡ false
 sorts_no_file Makes h = refl
 sorts_no_file (Passes d) h = refl
 sorts_no_file (Watches pre post preset) h = refl

@@ -48,7 +48,7 @@ none_passes : (xs : List FrameName) → count no_frame xs ≡ 0
 none_passes [] = refl
 none_passes (x ∷ xs) = none_passes xs
 
-one_fails : (t : FrameName → Bool) (a : FrameName) → t a ≡ false → count t (a ∷ []) ≡ 0
+pub one_fails : (t : FrameName → Bool) (a : FrameName) → t a ≡ false → count t (a ∷ []) ≡ 0
 one_fails t a h = omega (arith, count-cons t a [], ap bit h)
 
 no_issue : (a : FrameName) (r i : ℕ) (P : Past) → let_out a (Issue r i ∷ P) ≡ 0 → is_frame a (frame 0 i) ≡ false

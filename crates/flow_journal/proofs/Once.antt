@@ -68,7 +68,7 @@ not_loaded k (Load r i b n f g x ∷ P) h =
 not_loaded k (LoadRefused r i n z ∷ P) h = not_loaded k P (among-append k (i ∷ []) (flat_map loads P) h).1
 not_loaded k (_ ∷ P) h = not_loaded k P h
 
-bit-le : (b : Bool) → bit b ≤ 1
+pub bit-le : (b : Bool) → bit b ≤ 1
 bit-le true = omega arith
 bit-le false = omega arith
 
@@ -139,7 +139,7 @@ accepts-once s P c k h = omega (arith, arrives-le c k P, arrives-few s P c k h, 
 pub emits-few : (s : Setting) (P : Past) (v k : ℕ) → is_legal s P ≡ true → count (emits_at v k) P ≤ bit (ltb k (length s.ids))
 emits-few s P v k h = emits-bounded s P v k h (λ (u : ℕ). arrives-few s P u k h)
 
-emitted-count : (v k : ℕ) (P : Past) → times_by (of_index k) (emitted v P) ≡ count (emits_at v k) P
+pub emitted-count : (v k : ℕ) (P : Past) → times_by (of_index k) (emitted v P) ≡ count (emits_at v k) P
 emitted-count v k [] = refl
 emitted-count v k (Emit w m i why ∷ P) = comes-count v w m i k (emitted v P) ∙ omega (arith, emitted-count v k P, count-cons (emits_at v k) (Emit w m i why) P)
 emitted-count v k (_ ∷ P) = emitted-count v k P

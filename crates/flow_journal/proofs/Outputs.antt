@@ -344,7 +344,7 @@ none_emitted v (Emit w m k why ∷ P) h =
 none_emitted v (SortDrop w m k ∷ P) h = none_emitted v P (omega (arith, h, count-cons (out_of v any_array) (SortDrop w m k) P))
 none_emitted v (_ ∷ P) h = none_emitted v P h
 
-times-comes : (v w : ℕ) (t : FrameName → Bool) (a : FrameName) (xs : List FrameName) → times_by t (comes_at v w a xs) ≡ times_by t xs + bit (eqb w v && t a)
+pub times-comes : (v w : ℕ) (t : FrameName → Bool) (a : FrameName) (xs : List FrameName) → times_by t (comes_at v w a xs) ≡ times_by t xs + bit (eqb w v && t a)
 times-comes v w t a xs =
     elim (cases_Bool (eqb w v)) [
       | inl here ↦ rw here (count-append t xs (a ∷ []) ∙ omega (arith, count-cons t a []))

@@ -37,6 +37,7 @@ use Rattle.flow_journal.proofs.Travels.{bit-none, holds, carries, Clear, clear-s
 use Rattle.flow_journal.proofs.FrameBlocks.{grants_of, grant-once, first_of-few, has, any-append, any-flat, hands-blocks}
 use Rattle.flow_journal.proofs.Grants.{grants-unplaced, granted-is, granted-known, stays-known}
 use Rattle.flow_journal.proofs.Found.{none_counted, none_any}
+use Rattle.flow_journal.proofs.Making.{one_fails}
 
 -- ONE TEST FOR ANOTHER
 
@@ -148,13 +149,13 @@ arrays-count t s P v =
       map-count t (waiting s v P),
     )
 
-at_some : (t : FrameName → Bool) (s : Setting) (P : Past) (v : ℕ) → list_any t (arrays_at s P v) ≡ false → AtNode t s P v
+pub at_some : (t : FrameName → Bool) (s : Setting) (P : Past) (v : ℕ) → list_any t (arrays_at s P v) ≡ false → AtNode t s P v
 at_some t s P v h =
     let none = none_counted t (arrays_at s P v) h in
     let split = arrays-count t s P v in
     record { queue = omega (arith, none, split); list = omega (arith, none, split); kept = omega (arith, none, split); file = omega (arith, none, split) }
 
-any_at : (p : ℕ → Bool) (v : ℕ) (us : List ℕ) → list_any p us ≡ false → list_any (is_number v) us ≡ true → p v ≡ false
+pub any_at : (p : ℕ → Bool) (v : ℕ) (us : List ℕ) → list_any p us ≡ false → list_any (is_number v) us ≡ true → p v ≡ false
 any_at p v [] h i = absurd (false≢true i)
 any_at p v (u ∷ us) h i =
     let q = or_parts (p u) (list_any p us) h in
@@ -267,9 +268,6 @@ granted-made s m b n f g x P made pooled h =
     (first_of (cond c (b ∷ []) [] ++ grants_of made (standing P))) ≡ false) (sym (same_refl made))
     (or_from _ false (ap not (granted-known s.limit (s.need m) (held s P) b n f g (is_unplaced s P) (known s P) (granted-is s m b n f g x P pooled h))) refl)
 
-count-one : (t : FrameName → Bool) (a : FrameName) → t a ≡ false → count t (a ∷ []) ≡ 0
-count-one t a h = omega (arith, count-cons t a [], ap bit h)
-
 any-let_go : (q : ℕ → Bool) (a : FrameName) (r : ℕ) (es : List Entry) → list_any q (grants_of a es) ≡ false → list_any q (grants_of a (let_go r es)) ≡ false
 any-let_go q a r [] h = refl
 any-let_go q a r (e ∷ es) h =
@@ -306,7 +304,7 @@ none_lost s (Load r k b n f g x ∷ P) pooled h =
     let before : Clear t s P =
     clear-third (is_lost s P) (has (is_unplaced s P) P) t s P (λ a lost unplaced. granted-third s 0 b n f g x P (frame 0 k) a pooled grants lost unplaced)
     (none_lost s P pooled legal) (from_places s (is_unplaced s P) P legal (places-placed s P)) (ap (count (carries t)) (owed-first s e P (λ d. refl) h)) in
-    clear-more t s e P h (count-one t (frame 0 k) (granted-made s 0 b n f g x P (frame 0 k) pooled grants)) before
+    clear-more t s e P h (one_fails t (frame 0 k) (granted-made s 0 b n f g x P (frame 0 k) pooled grants)) before
 none_lost s (TakeBlock f x r v m k b n g ∷ P) pooled h =
     let legal : is_legal s P ≡ true = (and_parts _ _ h).0 in
     let e : Entry = TakeBlock f x r v m k b n g in
@@ -316,7 +314,7 @@ none_lost s (TakeBlock f x r v m k b n g ∷ P) pooled h =
     let before : Clear t s P =
     clear-third (is_lost s P) (has (is_unplaced s P) P) t s P (λ a lost unplaced. granted-third s v b n f g x P (frame v k) a pooled grants lost unplaced)
     (none_lost s P pooled legal) (from_places s (is_unplaced s P) P legal (places-placed s P)) (ap (count (carries t)) (owed-first s e P (λ d. refl) h)) in
-    clear-more t s e P h (count-one t (frame v k) (granted-made s v b n f g x P (frame v k) pooled grants)) before
+    clear-more t s e P h (one_fails t (frame v k) (granted-made s v b n f g x P (frame v k) pooled grants)) before
 none_lost s (Reclaim r ∷ P) pooled h =
     let legal : is_legal s P ≡ true = (and_parts _ _ h).0 in
     let c = none_lost s P pooled legal in

@@ -28,7 +28,7 @@ use Rattle.flow_journal.proofs.Found.{found_up, some_hand, none_counted, none_an
 
 -- HANDS
 
-none_is : {X : Type 0} (o : Option X) → is_none o ≡ true → o ≡ None
+pub none_is : {X : Type 0} (o : Option X) → is_none o ≡ true → o ≡ None
 none_is None h = refl
 none_is (Some x) h = absurd (false≢true h)
 
@@ -41,7 +41,7 @@ hand-up r e P h = found_up (takes_up r) e (hands P) h
 
 -- TESTS
 
-next-first_of : (a : FrameName) (xs : List FrameName) → is_next a xs ≡ true → IsFirstOf a xs
+pub next-first_of : (a : FrameName) (xs : List FrameName) → is_next a xs ≡ true → IsFirstOf a xs
 next-first_of a xs h = (without a xs, next_is a xs h)
 
 pub first_of-next : (a : FrameName) (xs : List FrameName) → IsFirstOf a xs → is_next a xs ≡ true

@@ -19,6 +19,7 @@ use Rattle.queue_sort.specs.Sorting.{keeps_step}
 use Rattle.flow_journal.specs.Breaks.{outs, prev, breaks}
 use Rattle.flow_journal.specs.FirstEntries.{first}
 use Rattle.flow_journal.specs.Histories.{is_legal}
+use Rattle.flow_journal.specs.EntryTests.{is_tick}
 
 abbrev pub moves_queues : Entry → Bool
 moves_queues (Accept w m k) = true
@@ -191,10 +192,6 @@ lets_out (Save r v m k g) = true
 lets_out (Reclaim r) = true
 lets_out _ = false
 
-abbrev pub ticks : Entry → Bool
-ticks (Tick t) = true
-ticks _ = false
-
 -- An emission and a save set the previous id of their node, a Tick sets now, and a Close and a Settle end. A piece that is reclaimed
 -- isn't out any more.
 pub record ClockLaws : Type 0 where
@@ -207,7 +204,7 @@ pub record ClockLaws : Type 0 where
       → prev s v (Reclaim r ∷ P) ≡ prev s v P
   pub prev_others : (s : Setting) (v : ℕ) (e : Entry) (P : Past) → lets_out e ≡ false → prev s v (e ∷ P) ≡ prev s v P
   pub tick : (t : ℕ) (P : Past) → now (Tick t ∷ P) ≡ t
-  pub now_others : (e : Entry) (P : Past) → ticks e ≡ false → now (e ∷ P) ≡ now P
+  pub now_others : (e : Entry) (P : Past) → is_tick e ≡ false → now (e ∷ P) ≡ now P
   pub close : (r : ℕ) (P : Past) → is_closed (Close r ∷ P) ≡ true
   pub settle : (r v : ℕ) (P : Past) → is_settled v (Settle r v ∷ P) ≡ true
   pub closed_others : (e : Entry) (P : Past) → closes e ≡ false → is_closed (e ∷ P) ≡ is_closed P

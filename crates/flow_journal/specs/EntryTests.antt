@@ -1,7 +1,7 @@
--- Tests of a single entry, by its kind and its node, for counts of drops, refusals, storage that was made again and hands that were taken back.
+-- Tests of a single entry, by its kind and its node: of drops, refusals, storage that was made again, hands that were taken back, and ticks.
 use Rattle.std.specs.Prelude.{ℕ, ◌==◌, Bool, true, false}
 use Rattle.flow_journal.specs.declared.entry.Entry.{Entry}
-use Rattle.flow_journal.specs.declared.entry.Entry.TheVariants.{Load, LoadRefused, Full, TakeBlock, PoolDrop, SortDrop, Reclaim}
+use Rattle.flow_journal.specs.declared.entry.Entry.TheVariants.{Load, LoadRefused, Tick, Full, TakeBlock, PoolDrop, SortDrop, Reclaim}
 
 -- the node's queue was full
 abbrev pub is_full : ℕ → Entry → Bool
@@ -33,3 +33,7 @@ says_regrown _ = false
 abbrev pub is_reclaim : Entry → Bool
 is_reclaim (Reclaim r) = true
 is_reclaim _ = false
+
+abbrev pub is_tick : Entry → Bool
+is_tick (Tick t) = true
+is_tick _ = false

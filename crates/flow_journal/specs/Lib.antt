@@ -13,6 +13,7 @@ pub mod Rings
 pub mod Unsaved
 pub mod Breaks
 pub mod Accounts
+pub mod Having
 pub mod FirstEntries
 pub mod Following
 pub mod Histories

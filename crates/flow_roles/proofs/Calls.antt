@@ -18,7 +18,7 @@ use Rattle.board_rules.specs.States.{BoardState, past, lent_to}
 use Rattle.flow_journal.specs.MoveLists.{begun_by}
 use Rattle.board_rules.specs.Movers.{moves_by, IsMoveOf}
 use Rattle.board_rules.specs.Moving.{moved_at}
-use Rattle.board_rules.proofs.Moves.{followers, one-move, moves-added, moves-tell}
+use Rattle.board_rules.proofs.Moves.{followers, one-move, moves-added, moves-tell, GoOn}
 use Rattle.flow_roles.specs.declared.last.Last.{Last}
 use Rattle.flow_roles.specs.Passes.{Pass, Called}
 
@@ -41,28 +41,23 @@ quiet r (Leave q) h = cc
 quiet r (Reclaim q) h = cc
 quiet r _ h = (refl, refl)
 
--- these entries begin no move
-abbrev pub GoesAfter : BoardState → Type 0
-GoesAfter [] = Unit {0}
-GoesAfter (u ∷ more) = (begun_by u.entry ≡ None) × GoesAfter more
-
 -- and so it is with what comes after the first entry of a move
-pub from-move : (r : ℕ) (more : BoardState) (t : Told) → IsMoveOf r (more ++ t ∷ []) → GoesAfter more
+pub from-move : (r : ℕ) (more : BoardState) (t : Told) → IsMoveOf r (more ++ t ∷ []) → GoOn more
 from-move r [] t h = tt
 from-move r (u ∷ []) t h = (h.0, tt)
 from-move r (u ∷ w ∷ more) t h = (h.0, from-move r (w ∷ more) t h.1)
 
-hand-on : (r : ℕ) (more b : BoardState) → GoesAfter more → hand r (past (more ++ b)) ≡ hand r (past b)
+hand-on : (r : ℕ) (more b : BoardState) → GoOn more → hand r (past (more ++ b)) ≡ hand r (past b)
 hand-on r [] b g = refl
 hand-on r (u ∷ more) b g =
     let q = quiet r u.entry g.0 in
     hand_laws.others r u.entry (past (more ++ b)) q.0 q.1 ∙ hand-on r more b g.1
 
-lent-on : (r : ℕ) (more b : BoardState) → GoesAfter more → lent_to r (more ++ b) ≡ lent_to r b
+lent-on : (r : ℕ) (more b : BoardState) → GoOn more → lent_to r (more ++ b) ≡ lent_to r b
 lent-on r [] b g = refl
 lent-on r (u ∷ more) b g = rw (quiet r u.entry g.0).0 (lent-on r more b g.1)
 
-logs-on : (logs : Entry → Bool) (more b : BoardState) → ((e : Entry) → begun_by e ≡ None → logs e ≡ true) → GoesAfter more → list_all logs (past b) ≡ true
+logs-on : (logs : Entry → Bool) (more b : BoardState) → ((e : Entry) → begun_by e ≡ None → logs e ≡ true) → GoOn more → list_all logs (past b) ≡ true
     → list_all logs (past (more ++ b)) ≡ true
 logs-on logs [] b q g h = h
 logs-on logs (u ∷ more) b q g h = and_from _ _ (q u.entry g.0) (logs-on logs more b q g.1 h)

@@ -26,7 +26,7 @@ use Rattle.board_rules.specs.Feeding.{HasRoom}
 use Rattle.board_rules.specs.Working.{LendsJob}
 use Rattle.board_rules.specs.Saving.{LendsPiece}
 use Rattle.board_rules.specs.Runs.{Frames, Call}
-use Rattle.board_rules.proofs.Moves.{moves-tell}
+use Rattle.board_rules.proofs.Moves.{moves-tell, GoOn}
 use Rattle.turn_lock.specs.declared.rule.Moves.{Moves}
 use Rattle.turn_lock.specs.Logs.{GoesOn, IsMove, moves_of}
 use Rattle.turn_lock.specs.Rule.{AreExact}
@@ -45,19 +45,15 @@ use Rattle.flow_roles.proofs.Reversed.{moves_reversed}
 
 -- A MOVE, THE OTHER WAY ROUND
 
-abbrev GoAfter : BoardState → Type 0
-GoAfter [] = Unit {0}
-GoAfter (t ∷ b) = (begun_by t.entry ≡ None) × GoAfter b
-
-after-snoc : (b : BoardState) (t : Told) → GoAfter b → begun_by t.entry ≡ None → GoAfter (b ++ t ∷ [])
+after-snoc : (b : BoardState) (t : Told) → GoOn b → begun_by t.entry ≡ None → GoOn (b ++ t ∷ [])
 after-snoc [] t g h = (h, tt)
 after-snoc (u ∷ b) t g h = (g.0, after-snoc b t g.1 h)
 
-after-reversed : (es : List Told) → GoesOn begins_of es → GoAfter (reverse es)
+after-reversed : (es : List Told) → GoesOn begins_of es → GoOn (reverse es)
 after-reversed [] g = tt
-after-reversed (e ∷ es) g = subst (λ (b : BoardState). GoAfter b) (sym (reverse-append (e ∷ []) es)) (after-snoc (reverse es) e (after-reversed es g.1) g.0)
+after-reversed (e ∷ es) g = subst (λ (b : BoardState). GoOn b) (sym (reverse-append (e ∷ []) es)) (after-snoc (reverse es) e (after-reversed es g.1) g.0)
 
-move-from : (r : ℕ) (b : BoardState) (t : Told) → GoAfter b → begun_by t.entry ≡ Some r → IsMoveOf r (b ++ t ∷ [])
+move-from : (r : ℕ) (b : BoardState) (t : Told) → GoOn b → begun_by t.entry ≡ Some r → IsMoveOf r (b ++ t ∷ [])
 move-from r [] t g h = h
 move-from r (u ∷ []) t g h = (g.0, h)
 move-from r (u ∷ w ∷ b) t g h = (g.0, move-from r (w ∷ b) t g.1 h)

@@ -93,7 +93,8 @@ module _ {P : Type 0} (inner : P → PassFacts Told) (lock : TableId) (all : Lis
         ours = split.0;
         count = one-role (inner p).made split.1.1;
         each =
-            All-cons (λ q. IsWithin (inner q) (inner p)) p [] (([], sym (append-nil (inner p).seen)), λ log a. a) (All-nil (λ q. IsWithin (inner q) (inner p)));
+            All-cons (λ q. IsWithin (inner q) (inner p)) p [] (([], sym (append-nil (inner p).seen)), λ log a. a)
+            (All-nil (λ q. IsWithin (inner q) (inner p)));
         seen = inl refl;
       }
 

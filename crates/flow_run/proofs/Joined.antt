@@ -12,10 +12,10 @@ use Rattle.board_rules.specs.declared.answers.Left.{Left}
 use Rattle.board_rules.specs.States.{BoardState, past}
 use Rattle.board_rules.specs.Movers.{moves_by}
 use Rattle.board_rules.specs.Leaving.{MayReclaim}
+use Rattle.board_rules.proofs.Pasts.{past-append}
 use Rattle.flow_roles.specs.Passes.{Pass}
 use Rattle.flow_roles.specs.TurnPasses.{HasMade}
 use Rattle.flow_roles.specs.Feeder.{name_of, parts_of}
-use Rattle.flow_drain.proofs.Growth.{past-append}
 use Rattle.flow_roles.specs.RoleMoves.{saver_logs}
 use Rattle.flow_roles.specs.Workers.{workers, posts}
 use Rattle.flow_run.specs.Seats.{post_logs}

@@ -1,5 +1,5 @@
 -- Where no role has left, the roles have done the work.
-use Rattle.std.proofs.Common.{◌≡◌, ◌≢◌, ℕ, zero, suc, ◌+◌, ◌<◌, Bool, true, false, List, [], ◌++◌, refl, sym, ap, ◌∙◌, subst, arith, Some}
+use Rattle.std.proofs.Common.{◌≡◌, ◌≢◌, ℕ, zero, suc, ◌<◌, Bool, true, false, List, [], ◌++◌, refl, sym, ap, ◌∙◌, subst, arith, Some}
 use Rattle.std.specs.Prelude.{slice_get}
 use Rattle.std.specs.List.{list_all, list_any}
 use Rattle.nd_base.specs.Array.{StackValue}
@@ -16,11 +16,11 @@ use Rattle.board_rules.specs.States.{BoardState, past}
 use Rattle.flow_journal.specs.MoveLists.{begun_by, is_some_of}
 use Rattle.board_rules.specs.Movers.{moves_by}
 use Rattle.board_rules.specs.RunMeasures.{run_setting}
+use Rattle.board_rules.proofs.Pasts.{past-append}
 use Rattle.flow_roles.specs.Passes.{Pass, only_drain_saves}
 use Rattle.flow_roles.specs.RoleMoves.{feeder_logs, worker_logs, saver_logs}
 use Rattle.flow_roles.specs.TurnPasses.{BeginsWith}
 use Rattle.flow_drain.specs.Drains.{IsDrained}
-use Rattle.flow_drain.proofs.Growth.{past-append}
 use Rattle.flow_drain.proofs.Rounds.{node-above}
 use Rattle.flow_drain.proofs.AllEnded.{all-ended-drained}
 use Rattle.flow_roles.specs.Workers.{workers}

@@ -33,6 +33,7 @@ use Rattle.flow_journal.specs.Finished.{none_left, is_done, is_finished}
 use Rattle.flow_journal.specs.Histories.{is_legal}
 use Rattle.flow_journal.specs.Unsaved.{unsaved, standing_saves, is_file}
 use Rattle.flow_journal.proofs.Dues.{due_laws}
+use Rattle.flow_journal.proofs.Found.{none_left-nil}
 use Rattle.board_rules.specs.States.{BoardState, past}
 use Rattle.board_rules.specs.Movers.{moves_by}
 use Rattle.board_rules.specs.RunMeasures.{run_setting}
@@ -134,10 +135,6 @@ all-numbers p from (n ∷ ns) h v low high =
       | inr here ↦ let same : from ≡ v = omega (arith, low, here) in subst (λ (w : ℕ). p w ≡ true) same a.0
     ]
 
-none-is : {X : Type 0} (xs : List X) → none_left xs ≡ true → xs ≡ []
-none-is [] h = refl
-none-is (x ∷ xs) h = absurd (false≢true h)
-
 last-none : {X : Type 0} (xs ys : List X) → xs ++ ys ≡ [] → ys ≡ []
 last-none [] ys h = h
 last-none (x ∷ xs) ys h = cc
@@ -147,7 +144,7 @@ all-saved s P v h here =
     let a = and_parts (is_closed P && eqb (next_index P) (length s.ids) && none_left (hands P)) (list_all (is_done s P) (node_numbers s)) h in
     let n = node-above s v here in
     let d = and_parts (is_settled v P) (none_left (arrays_at s P v)) (all-numbers (is_done s P) 1 s.nodes a.1 v (omega (arith, n.0)) (omega (arith, n.1))) in
-    last-none (queued v P ++ map (λ (w : Waiting). w.array) (waiting s v P) ++ ring s v P) (unsaved s v P) (none-is (arrays_at s P v) d.1)
+    last-none (queued v P ++ map (λ (w : Waiting). w.array) (waiting s v P) ++ ring s v P) (unsaved s v P) (none_left-nil (arrays_at s P v) d.1)
 
 module _ (g : Graph) (stack : StackValue) (sound : IsGraph g) (prefix : List ℕ) (before : Option Files) (b : BoardState) (xs : List NodeFile)
     (fault : Bool) (held : Option Files)

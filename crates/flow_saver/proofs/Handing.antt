@@ -27,10 +27,11 @@ use Rattle.board_rules.specs.Storage.{lost_of}
 use Rattle.board_rules.specs.Movers.{first_some, mover, moves_by}
 use Rattle.board_rules.specs.Moving.{moved, moved_at}
 use Rattle.board_rules.specs.RunMeasures.{run_setting}
-use Rattle.board_rules.proofs.Moves.{followers, one-move, moves-tell}
+use Rattle.board_rules.proofs.Moves.{followers, one-move, moves-tell, GoOn}
+use Rattle.board_rules.proofs.Pasts.{past-append}
 use Rattle.flow_roles.specs.Passes.{Pass, saved_by_drain, only_drain_saves}
 use Rattle.flow_roles.specs.TurnPasses.{HasMade}
-use Rattle.flow_roles.proofs.Calls.{GoesAfter, from-move}
+use Rattle.flow_roles.proofs.Calls.{from-move}
 use Rattle.flow_drain.specs.Drains.{DrainMoves, is_drains, taken, taken_back}
 use Rattle.run_laws.specs.Results.{contents}
 use Rattle.graph_files.specs.NodeFiles.{NodeFile, IsPlaceAfter, first_count}
@@ -137,7 +138,7 @@ pub record SavesNothing (old new : BoardState) : Type 0 where
   pub is : new ≡ more ++ old
   pub none : list_all saves_not (past more) ≡ true
 
-all-append : (p : Entry → Bool) (xs ys : BoardState) → list_all p (past xs) ≡ true → list_all p (past ys) ≡ true → list_all p (past (xs ++ ys)) ≡ true
+pub all-append : (p : Entry → Bool) (xs ys : BoardState) → list_all p (past xs) ≡ true → list_all p (past ys) ≡ true → list_all p (past (xs ++ ys)) ≡ true
 all-append p [] ys h k = k
 all-append p (x ∷ xs) ys h k = let two = and_parts (p x.entry) (list_all p (past xs)) h in and_from _ _ two.0 (all-append p xs ys two.1 k)
 
@@ -167,7 +168,7 @@ quiet (Leave r) h = cc
 quiet (Reclaim r) h = cc
 quiet _ h = refl
 
-quiet-all : (more : BoardState) → GoesAfter more → list_all saves_not (past more) ≡ true
+quiet-all : (more : BoardState) → GoOn more → list_all saves_not (past more) ≡ true
 quiet-all [] h = refl
 quiet-all (t ∷ more) h = and_from _ _ (quiet t.entry h.0) (quiet-all more h.1)
 
@@ -251,10 +252,6 @@ given-still v (t ∷ more) o none =
     one (Save r w m k g) P h = absurd (false≢true h)
     one (Saved r w m k) P h = absurd (false≢true h)
     one _ P h = (refl, refl)
-
-past-append : (xs ys : BoardState) → past (xs ++ ys) ≡ past xs ++ past ys
-past-append [] ys = refl
-past-append (x ∷ xs) ys = ap (λ (P : Past). x.entry ∷ P) (past-append xs ys)
 
 module _ (g : Graph) (stack : StackValue) (before : Option Files)
     (more o : BoardState) (none : list_all saves_not (past more) ≡ true) (seen : Past) (xs : List NodeFile) (held : Option Files) where

@@ -2,14 +2,13 @@
 use Rattle.std.proofs.Common.{◌≡◌, ◌≢◌, ℕ, ◌+◌, ◌*◌, ◌/◌, ◌<◌, ◌≤◌, Bool, true, false, not, ◌&&◌, ◌||◌, leb, List, [], ◌∷◌, ◌++◌, length, map, refl, sym}
 use Rattle.std.proofs.Common.{ap, ◌∙◌, arith, inl, inr, Some, None}
 use Rattle.std.specs.Prelude.{find, is_none, if◌then◌else◌}
-use Rattle.std.specs.List.{list_all, list_any}
-use Rattle.std.proofs.lemmas.Bool.{and_parts, and_from, cases_Bool, false≢true, true≢false, eq-eqb, ne_eqb, lt-ltb, le-leb}
+use Rattle.std.specs.List.{list_any}
+use Rattle.std.proofs.lemmas.Bool.{and_from, cases_Bool, false≢true, true≢false, eq-eqb, ne_eqb, lt-ltb, le-leb}
 use Rattle.std.proofs.lemmas.List.{append_assoc}
 use Rattle.nd_base.specs.declared.frame.FrameName.{FrameName}
 use Rattle.frame_store.specs.Sealed.{Sealed}
-use Rattle.flow_journal.specs.declared.entry.Entry.{Entry}
 use Rattle.flow_journal.specs.declared.entry.Entry.TheVariants as entry
-use Rattle.flow_journal.specs.Setting.{Setting, Work, Makes, Passes, Watches, Saves, Node, node, is_node, last_role, numbers_from}
+use Rattle.flow_journal.specs.Setting.{Setting, Work, Makes, Passes, Watches, Saves, node, is_node, last_role}
 use Rattle.flow_journal.specs.Pasts.{Past, frame, minus}
 use Rattle.flow_journal.specs.Hands.{hands, let_go, is_free, is_piece, standing, takes_up}
 use Rattle.flow_journal.specs.Ended.{is_settled}
@@ -22,14 +21,16 @@ use Rattle.flow_journal.specs.Accounts.{arrays_at}
 use Rattle.flow_journal.specs.Finished.{none_left, is_done, is_finished}
 use Rattle.flow_journal.specs.Histories.{is_history}
 use Rattle.flow_journal.specs.Unsaved.{unsaved, saves, standing_saves, is_file, is_due}
+use Rattle.flow_journal.proofs.Found.{none_left-nil}
 use Rattle.board_rules.specs.declared.answers.Save.TheVariants.{Busy, NotYet}
 use Rattle.board_rules.specs.declared.told.Told.{Told}
 use Rattle.board_rules.specs.States.{BoardState, past}
 use Rattle.board_rules.specs.Saving.{has_due, SaveAnswers, SaveGives}
 use Rattle.flow_roles.specs.Feeder.{name_of, parts_of}
 use Rattle.flow_drain.specs.Drains.{IsDrained}
-use Rattle.flow_drain.proofs.Quiet.{drained-by}
+use Rattle.flow_drain.proofs.Quiet.{drained-by, numbers-all}
 use Rattle.flow_saver.specs.Remaining.{RestMoves, is_rest}
+use Rattle.flow_saver.proofs.Handing.{all-append}
 
 -- THE TWO ENTRIES
 
@@ -53,10 +54,6 @@ others-after s r v m k g w P apart =
     else []) (ne_eqb v w (λ e. apart (sym e)))
 
 -- NOTHING IS DUE
-
-none-is : {X : Type 0} (xs : List X) → none_left xs ≡ true → xs ≡ []
-none-is [] h = refl
-none-is (x ∷ xs) h = absurd (false≢true h)
 
 settled-due : (a b c : Bool) → b ≡ true → (not a || b || c) ≡ true
 settled-due true true c h = refl
@@ -100,7 +97,7 @@ module _ (s : Setting) (b new : BoardState) (v : ℕ) (drained : IsDrained s (pa
         | inr other ↦ none-unsaved other
         | inl file ↦
             empty-by (not (is_free (last_role s) (past b))) (not (has_due s v (past b)) || list_any (is_piece v) (hands (past b))) free-now
-            (λ early. none-is (unsaved s v (past b))
+            (λ early. none_left-nil (unsaved s v (past b))
             (early-none (none_left (unsaved s v (past b))) (is_due (node s v).work v (past b)) (list_any (is_piece v) (hands (past b)))
             (due-when (node s v).work v (past b) file (drained.settled v number)) no-pieces early)) c
       ]
@@ -110,10 +107,6 @@ module _ (s : Setting) (b new : BoardState) (v : ℕ) (drained : IsDrained s (pa
 pub rest-none : (s : Setting) (old new : BoardState) → new ≡ old → RestMoves s old new
 rest-none s old new is = ([], is, refl)
 
-all-append : (p : Entry → Bool) (xs ys : BoardState) → list_all p (past xs) ≡ true → list_all p (past ys) ≡ true → list_all p (past (xs ++ ys)) ≡ true
-all-append p [] ys h k = k
-all-append p (x ∷ xs) ys h k = let two = and_parts (p x.entry) (list_all p (past xs)) h in and_from _ _ two.0 (all-append p xs ys two.1 k)
-
 pub rest-on : (s : Setting) (a b c : BoardState) → RestMoves s a b → RestMoves s b c → RestMoves s a c
 rest-on s a b c m n =
     (n.0 ++ m.0, n.1 ∙ ap (λ (x : BoardState). n.0 ++ x) m.1 ∙ sym (append_assoc n.0 m.0 a), all-append (is_rest s) n.0 m.0 n.2 m.2)
@@ -122,11 +115,6 @@ pub rest-one : (s : Setting) (t : Told) (old new : BoardState) → is_rest s t.e
 rest-one s t old new is made = (t ∷ [], made, and_from _ _ is refl)
 
 -- FINISHED
-
-numbers-all : (p : ℕ → Bool) (from : ℕ) (ns : List Node) → ((v : ℕ) → from ≤ v → v < from + length ns → p v ≡ true) → list_all p (numbers_from from ns) ≡ true
-numbers-all p from [] h = refl
-numbers-all p from (n ∷ ns) h =
-    and_from _ _ (h from (omega arith) (omega arith)) (numbers-all p (from + 1) ns (λ v low high. h v (omega (arith, low)) (omega (arith, high))))
 
 none-both : {X : Type 0} (xs ys : List X) → xs ≡ [] → ys ≡ [] → xs ++ ys ≡ []
 none-both xs ys hx hy = ap (λ zs. zs ++ ys) hx ∙ hy

@@ -29,6 +29,7 @@ use Rattle.flow_journal.specs.Finished.{is_finished}
 use Rattle.board_rules.specs.States.{BoardState, past}
 use Rattle.board_rules.specs.Movers.{moves_by}
 use Rattle.board_rules.specs.RunMeasures.{run_setting}
+use Rattle.board_rules.proofs.Pasts.{past-append}
 use Rattle.flow_journal.specs.Unsaved.{standing_saves}
 use Rattle.run_laws.specs.Results.{contents}
 use Rattle.graph_files.specs.Groups.{group_of, whole_file, file_of, HasBytes}
@@ -39,7 +40,6 @@ use Rattle.graph_files.specs.OpenFiles.{closed, file_nodes, IsElsewhere}
 use Rattle.graph_files.specs.OpenFileLaws.{file_nodes-apart, far-none}
 use Rattle.graph_files.specs.OutFiles.{file_shape, group_name, is_stream}
 use Rattle.graph_files.proofs.Writes.{small-group, next-place}
-use Rattle.flow_drain.proofs.Growth.{past-append}
 use Rattle.flow_saver.specs.GivenBack.{given_back, written_by}
 use Rattle.flow_saver.specs.HistoryFiles.{kind_group}
 use Rattle.graph_files.specs.Interrupted.{IsCountOf, StandsAsCount, IsBegunAs, AsBefore, IsBegunAt}

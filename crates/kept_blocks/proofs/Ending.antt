@@ -32,8 +32,9 @@ use Rattle.kept_blocks.proofs.Tied.{is_array_of, tied}
 use Rattle.kept_blocks.proofs.Placing.{placed-on, hand-used}
 use Rattle.kept_blocks.proofs.Rest.{none-more}
 use Rattle.kept_blocks.proofs.Shares.{few-parts, same-parts}
-use Rattle.kept_blocks.proofs.Holding.{IsKeptIn, Holds, legal-of, keeps}
+use Rattle.kept_blocks.proofs.Holding.{IsKeptIn, Holds, legal-of, keeps, frame-stays}
 use Rattle.kept_blocks.proofs.Lending.{among-one}
+use Rattle.kept_blocks.proofs.Looks.{part-equal}
 
 some-same : {X : Type 0} {x y : X} → Some x ≡ Some y → x ≡ y
 some-same h = cc
@@ -153,9 +154,6 @@ more-here : (p : Option Parts) (n m : ℕ) → 1 ≤ m → m ≤ 300 → OfSome 
 more-here None n m some few here = tt
 more-here (Some p) n m some few here = (here.0, omega (arith, here.1, few, some))
 
-part-is : (k : Kept) (a c : FrameName) (p q : Option Parts) → k ≡ Frame c p → IsPartOf k a q → q ≡ one_part p
-part-is k a c p q is part = let here : IsPartOf (Frame c p) a q = subst (λ (x : Kept). IsPartOf x a q) is part in here.1
-
 -- the frame once a part came back
 more-frame : {F : Type 0} (parts : F → Option Parts) (B new : BoardState) (b n : ℕ) (a : FrameName) (q : Option Parts) (k : Kept)
     → parts_in_hand (past B) b + parts_away b B ≤ 300
@@ -165,7 +163,7 @@ more-frame parts B new b n a q k few less gone part f =
     let p = f.its_parts in
     let m = parts_in_hand (past B) b + parts_away b B in
     let sum : m - 1 ≡ parts_in_hand (past new) b + parts_away b new = omega (arith, less, gone) in
-    let own : q ≡ one_part p = part-is k a a p q f.is part in
+    let own : q ≡ one_part p = part-equal k a a p q f.is part in
     record {
       its_parts = together p (one_part p);
       is = ap (λ (x : Kept). united x q) f.is ∙ ap (λ (o : Option Parts). Frame a (together p o)) own;
@@ -174,15 +172,6 @@ more-frame parts B new b n a q k few less gone part f =
           subst (λ (i : ℕ). OfSome (λ z. (z.size ≡ n) × (z.here ≡ 2 ^ 32 - i)) (together p (one_part p))) sum
           (more-here p n m (omega (arith, less)) few f.here);
     }
-
-same-frame : {F : Type 0} (parts : F → Option Parts) (B new : BoardState) (b n : ℕ) (a : FrameName) (k : Kept) → parts_here new b ≡ parts_here B b
-    → IsFrameOn parts B b a n k → IsFrameOn parts new b a n k
-same-frame parts B new b n a k here f = record {
-  its_parts = f.its_parts;
-  is = f.is;
-  tells = f.tells;
-  here = subst (λ (i : ℕ). OfSome (λ p. (p.size ≡ n) × (p.here ≡ i)) f.its_parts) (sym here) f.here;
-}
 
 -- what is granted with a hand is in the making
 pub granted-making : (s : Setting) (P : Past) (r b : ℕ) (d : Entry) → s.pooled ≡ true → is_legal s P ≡ true → hand r P ≡ Some d
@@ -236,7 +225,7 @@ stayed-away parts s B w r c n a d e L k run l has one_lost made f =
     let less : parts_in_hand P c ≡ 1 + parts_in_hand (e ∷ P) c = fewer-parts s P w r d e l c ∙ ap (λ (y : Bool). bit y + parts_in_hand (e ∷ P) c) has in
     let sum : parts_in_hand (e ∷ P) c + parts_away c new ≡ parts_in_hand P c + parts_away c B = omega (arith, more_gone, less) in
     subst (λ (g : LastGrant). IsKeptIn parts s new c g k) (sym (l.same_grant c (part-apart s P r c n a d run.pooled legal l.held made) ∙ made))
-    (inl (same-frame parts B new c n a k (ap (λ (i : ℕ). 2 ^ 32 - i) sum) f))
+    (inl (frame-stays parts B new c n a k (ap (λ (i : ℕ). 2 ^ 32 - i) sum) f))
 
 -- WHAT ROLES WERE LENT
 

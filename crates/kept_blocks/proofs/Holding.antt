@@ -20,7 +20,7 @@ use Rattle.flow_journal.specs.Histories.{is_legal}
 use Rattle.flow_journal.specs.Pushes.{history-owes}
 use Rattle.flow_journal.proofs.EntryCounts.{count}
 use Rattle.flow_journal.proofs.Found.{none_counted, none_any}
-use Rattle.flow_journal.proofs.Places.{arrays-count}
+use Rattle.flow_journal.proofs.Places.{arrays-count, at_some}
 use Rattle.flow_journal.proofs.Travels.{ClearBy, Clear, holds, carries}
 use Rattle.flow_journal.proofs.Making.{is_frame, no_frame}
 use Rattle.board_rules.specs.States.{BoardState, past, lent_to}
@@ -29,7 +29,6 @@ use Rattle.board_rules.specs.Storage.{is_away, has_part, parts_in_hand, parts_aw
 use Rattle.frame_table.specs.Kept.{Kept, Empty, kept_at, with_kept, MayLend, IsPartOf, IsUntold}
 use Rattle.board_rules.specs.LastGrants.{LastGrant, Never, InMaking, Made, TakenBack, last_grant}
 use Rattle.kept_blocks.specs.Keeping.{has_array, IsNowhere, IsFrameOn, IsHome, IsKeptBy, LoseFew, HoldsBlocks, IsRunOf}
-use Rattle.kept_blocks.proofs.Unplaced.{at_some}
 use Rattle.kept_blocks.proofs.Granted.{alone-from}
 use Rattle.kept_blocks.proofs.Placing.{Placed, placed}
 use Rattle.kept_blocks.proofs.Rest.{Rest}

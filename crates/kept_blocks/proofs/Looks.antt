@@ -61,7 +61,8 @@ lendable parts s B t a run hb used =
     lendable-from parts s B t a run h (stands parts s B t a run.pooled (legal-of s B run) h used)
 
 -- what is lent and given back
-back-kept : (k : Kept) (a : FrameName) (q : Option Parts) → MayLend k → IsWithin k → IsPartOf k a q → MayGiveBack (less_one k) q × (united (less_one k) q ≡ k)
+back-kept : (k : Kept) (a : FrameName) (q : Option Parts) → MayLend k → IsWithin k → IsPartOf k a q
+    → MayGiveBack (less_one k) q × (united (less_one k) q ≡ k)
 back-kept Empty a q may within part = absurd may
 back-kept (Storage n u) a q may within part = absurd may
 back-kept (Frame c None) a q may within part =
@@ -109,7 +110,7 @@ part-counts P r b a (Some e) held has on =
     part-of (Save q v m k g) has = among (frame m k) has
     part-of _ has = absurd (false≢true has)
 
-part-equal : (k : Kept) (a c : FrameName) (p q : Option Parts) → k ≡ Frame c p → IsPartOf k a q → q ≡ one_part p
+pub part-equal : (k : Kept) (a c : FrameName) (p q : Option Parts) → k ≡ Frame c p → IsPartOf k a q → q ≡ one_part p
 part-equal k a c p q is part = let here : IsPartOf (Frame c p) a q = subst (λ (x : Kept). IsPartOf x a q) is part in here.1
 
 pub lent-of : {F : Type 0} (parts : F → Option Parts) (s : Setting) (B : BoardState) (t : List Kept) (r : ℕ) (a : FrameName) → IsRunOf s B

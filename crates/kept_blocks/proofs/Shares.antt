@@ -1,78 +1,28 @@
 -- How many parts of a block are in hands and away: few, against all of them.
-use Rattle.std.proofs.Common.{◌≡◌, ◌≢◌, ◌⊎◌, ℕ, suc, ◌+◌, ◌*◌, ◌≤◌, ◌<◌, Bool, true, false, ◌||◌, eqb, ltb, List, [], ◌∷◌, length, refl, ap, arith, inl, inr}
-use Rattle.std.proofs.lemmas.Bool.{and_parts, ne_eqb, cases_Bool, or_parts, or_from, ltb-false}
+use Rattle.std.proofs.Common.{◌≡◌, ◌⊎◌, ℕ, suc, ◌+◌, ◌*◌, ◌≤◌, Bool, true, false, ◌||◌, eqb, ltb, List, [], ◌∷◌, length, refl, ap, arith, inl, inr}
+use Rattle.std.proofs.lemmas.Bool.{cases_Bool, or_parts, or_from, ltb-false}
 use Rattle.nd_base.specs.declared.frame.FrameName.{FrameName}
 use Rattle.flow_journal.specs.declared.entry.Entry.{Entry}
-use Rattle.flow_journal.specs.declared.entry.Entry.TheVariants.{Load, Issue, Take, TakeBlock, Put, Save, Saved, Reclaim}
+use Rattle.flow_journal.specs.declared.entry.Entry.TheVariants.{Load, Take, TakeBlock, Save, Reclaim}
 use Rattle.flow_journal.specs.Setting.{Setting, last_role}
 use Rattle.flow_journal.specs.Pasts.{Past, frame}
-use Rattle.flow_journal.specs.Hands.{takes_up, let_go, hands}
+use Rattle.flow_journal.specs.Hands.{takes_up, hands}
 use Rattle.flow_journal.specs.Accounts.{block_of}
 use Rattle.flow_journal.specs.LengthLaws.{threads}
-use Rattle.flow_journal.specs.FirstEntries.{may_load, pool_grants}
 use Rattle.flow_journal.specs.Histories.{is_legal}
-use Rattle.flow_journal.proofs.EntryCounts.{count, bit, count-cons, count-let_go-le}
-use Rattle.flow_journal.proofs.Rows.{row_laws, load-facts, take-facts}
-use Rattle.flow_journal.proofs.Hands.{row_of, one-hand}
+use Rattle.flow_journal.proofs.EntryCounts.{count, bit, count-cons}
+use Rattle.flow_journal.proofs.Hands.{one-hand}
 use Rattle.flow_journal.proofs.Found.{none_counted, none_any}
 use Rattle.flow_journal.proofs.Buckets.{AreBuckets, one_in_buckets}
-use Rattle.flow_journal.proofs.Travels.{may-Take, may-TakeBlock, holds, bit-none}
-use Rattle.flow_journal.proofs.Lengths.{reclaims-few}
+use Rattle.flow_journal.proofs.Travels.{holds, bit-none}
+use Rattle.flow_journal.proofs.Lengths.{reclaims-few, role-idle}
 use Rattle.flow_journal.specs.EntryTests.{is_reclaim}
+use Rattle.flow_journal.proofs.Once.{bit-le}
 use Rattle.board_rules.specs.States.{BoardState, past}
 use Rattle.board_rules.specs.Storage.{is_among, grants, is_away, has_part, parts_in_hand, parts_away}
 use Rattle.kept_blocks.specs.Keeping.{LoseFew, most_lost}
 
 -- ROLES
-
--- only roles have hands
-role-idle : (s : Setting) (P : Past) (r : ℕ) → last_role s < r → is_legal s P ≡ true → count (takes_up r) (hands P) ≡ 0
-role-idle s [] r high h = refl
-role-idle s (Load q k b n f g x ∷ P) r high h =
-    let facts = load-facts s q k P (and_parts (may_load s q k P) (pool_grants s 0 b n f g x P) (row_of s (Load q k b n f g x) P (λ d. refl) h)).0 in
-    let ne : q ≢ r = λ e. absurd (omega (arith, facts.acts.role, high, e)) in
-    omega (
-      arith,
-      role-idle s P r high (and_parts _ _ h).0,
-      count-cons (takes_up r) (Load q k b n f g x) (let_go q (hands P)),
-      count-let_go-le (takes_up r) q (hands P),
-      ap bit (ne_eqb q r ne),
-    )
-role-idle s (Take q v m k ∷ P) r high h =
-    let facts = take-facts s q v (frame m k) P (may-Take s q v m k P h) in
-    let ne : q ≢ r = λ e. absurd (omega (arith, facts.acts.role, high, e)) in
-    omega (
-      arith,
-      role-idle s P r high (and_parts _ _ h).0,
-      count-cons (takes_up r) (Take q v m k) (let_go q (hands P)),
-      count-let_go-le (takes_up r) q (hands P),
-      ap bit (ne_eqb q r ne),
-    )
-role-idle s (TakeBlock f x q v m k b n g ∷ P) r high h =
-    let facts = take-facts s q v (frame m k) P (may-TakeBlock s q v m k b n f g x P h) in
-    let ne : q ≢ r = λ e. absurd (omega (arith, facts.acts.role, high, e)) in
-    omega (
-      arith,
-      role-idle s P r high (and_parts _ _ h).0,
-      count-cons (takes_up r) (TakeBlock f x q v m k b n g) (let_go q (hands P)),
-      count-let_go-le (takes_up r) q (hands P),
-      ap bit (ne_eqb q r ne),
-    )
-role-idle s (Save q v m k g ∷ P) r high h =
-    let facts = (row_laws.save s P q v m k g).0 (row_of s (Save q v m k g) P (λ d. refl) h) in
-    let ne : q ≢ r = λ e. absurd (omega (arith, facts.role, high, e)) in
-    omega (
-      arith,
-      role-idle s P r high (and_parts _ _ h).0,
-      count-cons (takes_up r) (Save q v m k g) (let_go q (hands P)),
-      count-let_go-le (takes_up r) q (hands P),
-      ap bit (ne_eqb q r ne),
-    )
-role-idle s (Issue q k ∷ P) r high h = omega (arith, role-idle s P r high (and_parts _ _ h).0, count-let_go-le (takes_up r) q (hands P))
-role-idle s (Put q v m k f ∷ P) r high h = omega (arith, role-idle s P r high (and_parts _ _ h).0, count-let_go-le (takes_up r) q (hands P))
-role-idle s (Saved q v m k ∷ P) r high h = omega (arith, role-idle s P r high (and_parts _ _ h).0, count-let_go-le (takes_up r) q (hands P))
-role-idle s (Reclaim q ∷ P) r high h = omega (arith, role-idle s P r high (and_parts _ _ h).0, count-let_go-le (takes_up r) q (hands P))
-role-idle s (_ ∷ P) r high h = role-idle s P r high (and_parts _ _ h).0
 
 -- the entry gives a hand
 abbrev gives : Entry → Bool
@@ -102,10 +52,6 @@ few-hands s P h = one_in_buckets gives giver takes_up give-buckets (suc (last_ro
     one : (r : ℕ) → ((ltb r (suc (last_role s)) ≡ true) ⊎ (ltb r (suc (last_role s)) ≡ false)) → count (takes_up r) (hands P) ≤ bit (ltb r (suc (last_role s)))
     one r (inl low) = omega (arith, one-hand P r, ap bit low)
     one r (inr high) = let over : suc (last_role s) ≤ r = ltb-false r (suc (last_role s)) high in omega (arith, role-idle s P r (omega (arith, over)) h)
-
-bit-le : (b : Bool) → bit b ≤ 1
-bit-le true = omega arith
-bit-le false = omega arith
 
 part-gives : (P : Past) (b : ℕ) (e : Entry) → bit (has_part P b e) ≤ bit (gives e)
 part-gives P b (Load r k c n f g x) = omega arith

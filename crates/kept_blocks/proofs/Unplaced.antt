@@ -1,8 +1,8 @@
 -- A frame on a block without a place is nowhere, and what a place has is on a known block.
-use Rattle.std.proofs.Common.{◌≡◌, ℕ, Bool, true, false, ◌||◌, eqb, List, [], ◌∷◌, refl, sym, ap, ◌∙◌, arith, inl, inr}
+use Rattle.std.proofs.Common.{◌≡◌, ℕ, Bool, true, false, ◌||◌, List, [], ◌∷◌, refl, sym, ap, ◌∙◌, arith, inl, inr}
 use Rattle.std.specs.Prelude.{flat_map}
 use Rattle.std.specs.List.{list_any}
-use Rattle.std.proofs.lemmas.Bool.{false≢true, true≢false, eq-eqb, eqb-true, cases_Bool, or_parts, or_cases, or_from}
+use Rattle.std.proofs.lemmas.Bool.{true≢false, eq-eqb, cases_Bool, or_parts, or_from}
 use Rattle.nd_base.specs.declared.frame.FrameName.{FrameName}
 use Rattle.flow_journal.specs.declared.entry.Entry.{Entry}
 use Rattle.flow_journal.specs.declared.entry.Entry.TheVariants.{Load, Emit, Accept, Take, TakeBlock, SortDrop, Save}
@@ -24,7 +24,7 @@ use Rattle.flow_journal.proofs.Travels.{bit-none, holds, carries, Clear}
 use Rattle.flow_journal.proofs.Making.{is_frame}
 use Rattle.flow_journal.proofs.FrameBlocks.{has, any-append, any-flat, hands-blocks}
 use Rattle.flow_journal.proofs.Found.{none_counted, none_any}
-use Rattle.flow_journal.proofs.Places.{is_numbered, AtNode, at_none, arrays-count}
+use Rattle.flow_journal.proofs.Places.{is_numbered, AtNode, at_none, at_some, any_at}
 
 -- what fails the first test fails the second
 fewer : {X : Type 0} (t w : X → Bool) → ((x : X) → t x ≡ false → w x ≡ false) → (xs : List X) → count t xs ≡ 0 → count w xs ≡ 0
@@ -59,21 +59,6 @@ clear-fewer t w s P only c = record {
 }
 
 -- NO PLACE
-
-pub at_some : (t : FrameName → Bool) (s : Setting) (P : Past) (v : ℕ) → list_any t (arrays_at s P v) ≡ false → AtNode t s P v
-at_some t s P v h =
-    let none = none_counted t (arrays_at s P v) h in
-    let split = arrays-count t s P v in
-    record { queue = omega (arith, none, split); list = omega (arith, none, split); kept = omega (arith, none, split); file = omega (arith, none, split) }
-
-any_at : (p : ℕ → Bool) (v : ℕ) (us : List ℕ) → list_any p us ≡ false → list_any (is_number v) us ≡ true → p v ≡ false
-any_at p v [] h i = absurd (false≢true i)
-any_at p v (u ∷ us) h i =
-    let q = or_parts (p u) (list_any p us) h in
-    elim (or_cases (eqb u v) (list_any (is_number v) us) i) [
-      | inl here ↦ ap p (sym (eqb-true u v here)) ∙ q.0
-      | inr there ↦ any_at p v us q.1 there
-    ]
 
 -- where no place has a block that passes, and nothing is owed, no place has an array whose block does
 pub from-places : (s : Setting) (q : ℕ → Bool) (P : Past) → is_legal s P ≡ true → owed s P ≡ [] → list_any q (places s P) ≡ false → Clear (has q P) s P

@@ -32,12 +32,9 @@ use Rattle.flow_journal.proofs.Outputs.{output_laws}
 use Rattle.flow_journal.proofs.Changes.{save_laws}
 use Rattle.run_laws.specs.Results.{IsFinishedRun}
 use Rattle.flow_journal.specs.ResultNames.{result_name}
+use Rattle.flow_journal.proofs.Found.{none_left-nil}
 use Rattle.run_laws.proofs.Jobs.{jobs_at}
 use Rattle.run_laws.proofs.Lines.{line}
-
-pub none_left-nil : {X : Type 0} (xs : List X) → none_left xs ≡ true → xs ≡ []
-none_left-nil [] h = refl
-none_left-nil (x ∷ xs) h = absurd (false≢true h)
 
 append-none : {X : Type 0} (xs ys : List X) → xs ++ ys ≡ [] → (xs ≡ []) × (ys ≡ [])
 append-none [] ys h = (refl, h)

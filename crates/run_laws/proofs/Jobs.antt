@@ -14,15 +14,11 @@ use Rattle.flow_journal.specs.Histories.{is_legal}
 use Rattle.flow_journal.proofs.Rows.{row_laws}
 use Rattle.flow_journal.proofs.Hands.{row_of}
 use Rattle.flow_journal.proofs.EntryCounts.{count, bit, count-cons, count-let_go}
+use Rattle.flow_journal.proofs.Changes.{no_job}
 
 -- the arrays of the jobs of the node that are in these hands
 abbrev pub jobs_at : ℕ → List Entry → List FrameName
 jobs_at v hs = flat_map (λ e. job_array v (Some e)) hs
-
-pub no_job : (v : ℕ) (e : Entry) → is_job v e ≡ false → job_array v (Some e) ≡ []
-no_job v (Take r w m k) h = rw h refl
-no_job v (TakeBlock f x r w m k b n g) h = rw h refl
-no_job v _ h = refl
 
 pub no_jobs : (v : ℕ) (hs : List Entry) → count (is_job v) hs ≡ 0 → jobs_at v hs ≡ []
 no_jobs v [] h = refl

@@ -51,7 +51,7 @@ lates-le v t (Emit w m i why ∷ ds) = omega (arith, lates-le v t ds, count-cons
 lates-le v t (SortDrop w m i ∷ ds) = omega (arith, lates-le v t ds, count-cons (out_of v t) (SortDrop w m i) ds)
 lates-le v t (_ ∷ ds) = lates-le v t ds
 
-and-true : (b : Bool) → (b && true) ≡ b
+pub and-true : (b : Bool) → (b && true) ≡ b
 and-true true = refl
 and-true false = refl
 

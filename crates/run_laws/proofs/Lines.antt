@@ -19,7 +19,7 @@ use Rattle.flow_journal.specs.Histories.{is_legal}
 use Rattle.flow_journal.proofs.Steps.{comes_here, comes_elsewhere, same_refl}
 use Rattle.flow_journal.proofs.Rows.{row_laws}
 use Rattle.flow_journal.proofs.Hands.{row_of, hands-more}
-use Rattle.flow_journal.proofs.Changes.{queue_laws}
+use Rattle.flow_journal.proofs.Changes.{queue_laws, no_job}
 use Rattle.flow_journal.proofs.EntryCounts.{count, bit, count-cons, count-let_go-le, accepts_at}
 use Rattle.flow_journal.proofs.Jobs.{reclaim_hand}
 use Rattle.flow_journal.proofs.Issues.{accepts-count}
@@ -27,7 +27,7 @@ use Rattle.flow_journal.proofs.Once.{accepts-once, accepts_once-law}
 use Rattle.flow_journal.specs.EntryTests.{is_sort_drop}
 use Rattle.flow_journal.specs.ResultNames.{result_name}
 use Rattle.run_laws.proofs.Tallies.{pool_drops_at, accepts-all, no_sort_drops}
-use Rattle.run_laws.proofs.Jobs.{jobs_at, no_job, no_jobs, other_goes, one_goes, hands-fit, found-fits}
+use Rattle.run_laws.proofs.Jobs.{jobs_at, no_jobs, other_goes, one_goes, hands-fit, found-fits}
 use Rattle.run_laws.proofs.Dropping.{drop-away, drop-here, one-out, count-filter-le, same-le, undropped}
 
 pub record Line (s : Setting) (v : ℕ) (P : Past) : Type 0 where

@@ -8,7 +8,7 @@ use Rattle.flow_journal.specs.declared.entry.Entry.TheVariants.{Tick, Issue, Emi
 use Rattle.flow_journal.specs.declared.entry.Why.TheVariants.{Plain}
 use Rattle.flow_journal.specs.Setting.{Setting, Watches, node, is_maker, may_sort, is_sorted, node_numbers}
 use Rattle.flow_journal.specs.Turns.{offered_to}
-use Rattle.flow_journal.specs.Pasts.{Past, frame, comes_at}
+use Rattle.flow_journal.specs.Pasts.{Past, frame}
 use Rattle.flow_journal.specs.Hands.{hands}
 use Rattle.flow_journal.specs.Puts.{puts, firings}
 use Rattle.flow_journal.specs.Waiting.{waiting, least_first}
@@ -17,7 +17,7 @@ use Rattle.flow_journal.specs.Following.{offer, calls_for, owed}
 use Rattle.flow_journal.specs.Histories.{is_legal, is_history}
 use Rattle.flow_journal.proofs.Rows.{row_laws}
 use Rattle.flow_journal.proofs.Hands.{row_of}
-use Rattle.flow_journal.proofs.Outputs.{output_laws}
+use Rattle.flow_journal.proofs.Outputs.{output_laws, times-comes}
 use Rattle.flow_journal.proofs.Counts.{times_by}
 use Rattle.flow_journal.proofs.EntryCounts.{count, bit, count-cons, count-append, count-drop, owed-answered, answers-by_Accept, puts_of}
 use Rattle.flow_journal.proofs.Outs.{out_of, none_elsewhere, result-at, flush-at}
@@ -40,27 +40,21 @@ accepts_of c t _ = false
 
 -- LISTS AND ENTRIES
 
-comes-all : (v w : ℕ) (t : FrameName → Bool) (a : FrameName) (xs : List FrameName) → times_by t (comes_at v w a xs) ≡ times_by t xs + bit (eqb w v && t a)
-comes-all v w t a xs =
-    elim (cases_Bool (eqb w v)) [
-      | inl here ↦ rw here (count-append t xs (a ∷ []) ∙ omega (arith, count-cons t a []))
-      | inr away ↦ rw away (omega arith)
-    ]
-
 pub emitted-of : (v : ℕ) (t : FrameName → Bool) (P : Past) → times_by t (emitted v P) ≡ count (emits_of v t) P
 emitted-of v t [] = refl
-emitted-of v t (Emit w m i why ∷ P) = comes-all v w t (frame m i) (emitted v P) ∙ omega (arith, emitted-of v t P, count-cons (emits_of v t) (Emit w m i why) P)
+emitted-of v t (Emit w m i why ∷ P) =
+    times-comes v w t (frame m i) (emitted v P) ∙ omega (arith, emitted-of v t P, count-cons (emits_of v t) (Emit w m i why) P)
 emitted-of v t (_ ∷ P) = emitted-of v t P
 
 pub accepts-list : (v : ℕ) (t : FrameName → Bool) (P : Past) → times_by t (accepts v P) ≡ count (accepts_of v t) P
 accepts-list v t [] = refl
 accepts-list v t (Accept w m i ∷ P) =
-    comes-all v w t (frame m i) (accepts v P) ∙ omega (arith, accepts-list v t P, count-cons (accepts_of v t) (Accept w m i) P)
+    times-comes v w t (frame m i) (accepts v P) ∙ omega (arith, accepts-list v t P, count-cons (accepts_of v t) (Accept w m i) P)
 accepts-list v t (_ ∷ P) = accepts-list v t P
 
 puts-list : (v : ℕ) (t : FrameName → Bool) (P : Past) → times_by t (puts v P) ≡ count (puts_of v t) P
 puts-list v t [] = refl
-puts-list v t (Put r w m i f ∷ P) = comes-all v w t (frame m i) (puts v P) ∙ omega (arith, puts-list v t P, count-cons (puts_of v t) (Put r w m i f) P)
+puts-list v t (Put r w m i f ∷ P) = times-comes v w t (frame m i) (puts v P) ∙ omega (arith, puts-list v t P, count-cons (puts_of v t) (Put r w m i f) P)
 puts-list v t (_ ∷ P) = puts-list v t P
 
 -- ACCEPTS

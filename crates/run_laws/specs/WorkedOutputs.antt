@@ -1,5 +1,5 @@
 -- What went out, on worked logs; and on logs that are illegal in one entry or not finished, at which the laws fail.
-use Rattle.std.specs.Prelude.{◌≡◌, ℕ, ◌==◌, true, false, List, [], ◌∷◌, ◌++◌, refl, take, flat_map, map, length, filter}
+use Rattle.std.specs.Prelude.{◌≡◌, ℕ, ◌==◌, true, false, List, [], ◌∷◌, ◌++◌, refl, take, map, length, filter}
 use Rattle.nd_base.specs.declared.frame.FrameName.{FrameName}
 use Rattle.trig_window.specs.Windows.{passed_items}
 use Rattle.flow_journal.specs.declared.entry.Entry.{Entry}

@@ -23,6 +23,7 @@ use Rattle.run_report.specs.declared.tally.NodeTally.{NodeTally}
 use Rattle.run_report.specs.Backwards.{has_role, is_taken_back, before, rest}
 use Rattle.run_report.specs.Report.{loaded, is_offer, node_count, plan_setting}
 use Rattle.flow_journal.specs.EntryTests.{is_full, is_pool_drop, is_sort_drop, is_refused_load, says_regrown}
+use Rattle.flow_journal.proofs.Lengths.{numbers-length}
 use Rattle.run_report.specs.Tallies.{HasRoom, HasRoomForLoads, IsOneMore, fresh, fresh_nodes, finished, more_loads, one_if, at, stands_before}
 use Rattle.run_report.specs.Tallied.{IsTallied}
 use Rattle.run_report.proofs.Standing.{rest-same, rest-standing}
@@ -138,11 +139,6 @@ reads-fresh p past t none feed nodes =
           subst (λ (S : Past). Leads s v (node_count s past v) (at t.nodes.items v) S past) stands
           (subst (λ (i : NodeTally). Leads s v (node_count s past v) i (standing past) past) is (leads-fresh s v past));
     }
-
--- the numbers of the nodes
-numbers-length : (v : ℕ) (ns : List Node) → length (numbers_from v ns) ≡ length ns
-numbers-length v [] = refl
-numbers-length v (n ∷ ns) = ap suc (numbers-length (v + 1) ns)
 
 numbers-at : (v i : ℕ) (ns : List Node) → i < length ns → get_or (numbers_from v ns) i 0 ≡ v + i
 numbers-at v i [] h = absurd (omega arith)

@@ -11,9 +11,9 @@ use Rattle.flow_journal.specs.ResultNames.{result_name}
 use Rattle.frame_table.specs.Kept.{Kept, Frame, kept_at, with_kept, united}
 use Rattle.flow_emit.specs.Puts.{put_of}
 use Rattle.kept_blocks.proofs.Looks.{look_laws}
+use Rattle.kept_blocks.proofs.Holding.{same-length}
 use Rattle.flow_core.proofs.Laws.{move_laws}
 use Rattle.flow_core.proofs.Lent.{lent-named, may-back}
-use Rattle.flow_core.proofs.Places.{kept-length}
 use Rattle.flow_core.proofs.Handing.{Brings, job-shares, job-granted, made-maker, put_made-board}
 use Rattle.flow_core.proofs.Boarding.{legal-of}
 use Rattle.flow_core.proofs.board.Board.put_made.Goals as goal
@@ -89,7 +89,7 @@ keep-requires g c =
     let b = c.in-Some.granted.number in
     let place = ((look_laws parts_).in_making s w.told t r b c.self.invariant.run c.self.invariant.holds c.in-Some.ensures.block).place in
     subst (λ (n : ℕ). b < n)
-    (sym (ap (length {A = Kept}) c.give_back.ensures ∙ kept-length t c.block-block.result (united (kept_at t c.block-block.result) (parts_ f)))) place
+    (sym (ap (length {A = Kept}) c.give_back.ensures ∙ same-length t c.block-block.result (united (kept_at t c.block-block.result) (parts_ f)))) place
 
 pub invariant_of-self : goal.invariant_of-self
 invariant_of-self g c =

@@ -17,10 +17,10 @@ use Rattle.frame_table.specs.Kept.{Kept, Empty, kept_at, with_kept, IsPartOf, le
 use Rattle.kept_blocks.specs.Keeping.{HoldsBlocks}
 use Rattle.kept_blocks.specs.GrantLaws.{IsGranted}
 use Rattle.kept_blocks.proofs.Looks.{look_laws}
+use Rattle.kept_blocks.proofs.Holding.{same-length}
 use Rattle.flow_core.specs.Boards.{IsRemade, IsSameStorage, IsNotStored, with_storage}
 use Rattle.flow_core.proofs.Laws.{grant_laws}
 use Rattle.flow_core.proofs.Boarding.{board-same}
-use Rattle.flow_core.proofs.Places.{kept-length}
 use Rattle.flow_core.proofs.Stored.{storage-there}
 use Rattle.flow_core.proofs.Lent.{Tells, LendsAt, lends-at, lent-name}
 use Rattle.flow_core.proofs.Takes.{LendsBeside, Makes, BackTo, lent_out, made, made-gives, made-board, made-lends, made-reuses, made-no_memory}
@@ -150,7 +150,7 @@ storage_for-requires g c =
     let named : name_of input ≡ a = lent-name parts_ w.told t a b (name_of input) (parts_ input) l c.in-Ok.ensures.part in
     let part : IsPartOf (kept_at t b) a (parts_ input) = subst (λ (x : FrameName). IsPartOf (kept_at t b) x (parts_ input)) named c.in-Ok.ensures.part in
     subst (λ (u : List Kept). gr.block ≤ length u) (sym c.in-Ok.ensures.rest)
-    (omega (arith, (grant_laws parts_).next s w.told t (s.need v) gr.block gr.size gr.fresh gr.given_up i, kept-length t b (less_one (kept_at t b))))
+    (omega (arith, (grant_laws parts_).next s w.told t (s.need v) gr.block gr.size gr.fresh gr.given_up i, same-length t b (less_one (kept_at t b))))
 
 pub give_back-requires-clause-frame : goal.give_back-requires-clause-frame
 give_back-requires-clause-frame g c =
@@ -420,7 +420,7 @@ forget-requires g c =
     c.in-Ok-storage_for.ensures.place ∙ ap (λ (u : List Kept). with_storage gr.block gr.fresh u) c.in-Ok.ensures.rest in
     subst (λ (u : List Kept). gr.block < length u) (sym place)
     (storage-there gr.block gr.fresh (lent_out t b)
-    (omega (arith, (grant_laws parts_).next s w.told t (s.need v) gr.block gr.size gr.fresh gr.given_up i, kept-length t b (less_one (kept_at t b)))))
+    (omega (arith, (grant_laws parts_).next s w.told t (s.need v) gr.block gr.size gr.fresh gr.given_up i, same-length t b (less_one (kept_at t b)))))
 
 pub invariant_of-self-2 : goal.invariant_of-self-2
 invariant_of-self-2 g c =

@@ -32,7 +32,7 @@ use Rattle.flow_emit.specs.declared.node.Kept.{Kept}
 use Rattle.flow_emit.proofs.Reading.{rule-of}
 use Rattle.flow_emit.proofs.Coursing.{node-is, room-to-measure, emitted_from_list_at}
 use Rattle.flow_emit.proofs.Having.{waiting-block}
-use Rattle.flow_emit.specs.Having.{HasBlock}
+use Rattle.flow_journal.specs.Having.{HasBlock}
 use Rattle.flow_emit.proofs.Looking.{list-ticks, due-looks, stays-looks, first-legal, first-waits, list-left, fewer-wait, look-offers, waits-offers}
 use Rattle.flow_emit.proofs.course.Course.emit_due.Goals as goal
 

@@ -18,7 +18,7 @@ use Rattle.board_rules.specs.Moving.{with_all}
 use Rattle.flow_emit.specs.declared.node.Kept.{Kept}
 use Rattle.flow_emit.specs.Courses.{Coursed, IsCourse, log_of}
 use Rattle.flow_emit.specs.Emissions.{before_emission}
-use Rattle.flow_emit.specs.Having.{HasBlock}
+use Rattle.flow_journal.specs.Having.{HasBlock}
 use Rattle.flow_emit.specs.NodeStates.{list_of}
 use Rattle.flow_emit.specs.Settling.{flush, FlushesOne}
 use Rattle.flow_emit.proofs.Opening.{parts}

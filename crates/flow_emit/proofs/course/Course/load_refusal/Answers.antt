@@ -1,4 +1,4 @@
-use Rattle.std.proofs.Common.{◌∙◌, ◌-◌, arith}
+use Rattle.std.proofs.Common.{◌∙◌, arith}
 use Rattle.board_rules.specs.RunMeasures.{run_setting}
 use Rattle.flow_emit.proofs.Offering.{child-node}
 use Rattle.flow_emit.proofs.course.Course.load_refusal.Goals as goal

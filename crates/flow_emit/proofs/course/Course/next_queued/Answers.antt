@@ -1,4 +1,4 @@
-use Rattle.std.proofs.Common.{◌∙◌, ◌-◌, List, length, sym, ap, subst, arith}
+use Rattle.std.proofs.Common.{◌∙◌, List, length, sym, ap, subst, arith}
 use Rattle.std.specs.Prelude.{slice_get}
 use Rattle.nd_base.specs.declared.frame.FrameName.{FrameName}
 use Rattle.board_rules.specs.RunMeasures.{run_setting, run_measure}

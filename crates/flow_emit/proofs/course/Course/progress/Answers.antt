@@ -1,12 +1,13 @@
-use Rattle.std.proofs.Common.{◌≡◌, ◌∙◌, ◌-◌, length, sym, ap, arith}
+use Rattle.std.proofs.Common.{◌≡◌, ◌∙◌, length, sym, ap, arith}
 use Rattle.board_rules.specs.RunMeasures.{run_setting, run_measure}
 use Rattle.board_rules.specs.States.{past}
+use Rattle.board_rules.proofs.Pasts.{past-length}
 use Rattle.flow_emit.specs.Courses.{IsCourse, Coursed}
 use Rattle.flow_emit.proofs.Opening.{parts}
 use Rattle.flow_emit.specs.Courses.{log_of}
 use Rattle.flow_emit.specs.Facts.{facts_of}
 use Rattle.flow_emit.specs.declared.facts.Facts.{Facts}
-use Rattle.flow_emit.proofs.Ending.{past-length, log-fits, progress_with}
+use Rattle.flow_emit.proofs.Ending.{log-fits, progress_with}
 use Rattle.flow_emit.proofs.course.Course.progress.Goals as goal
 
 pub overflow_cast-result : goal.overflow_cast-result

@@ -1,7 +1,6 @@
 use Rattle.std.proofs.Common.{◌-◌, length, sym, ap, subst, arith}
 use Rattle.std.proofs.lemmas.List.{length-map}
 use Rattle.board_rules.specs.RunMeasures.{run_setting}
-use Rattle.flow_journal.specs.Setting.{node}
 use Rattle.flow_emit.specs.declared.rules.NodeRules.{NodeRules}
 use Rattle.flow_emit.specs.RunRules.{as_node}
 use Rattle.std.proofs.lemmas.Option.{slice_get_within, get_or_from_slice_get}

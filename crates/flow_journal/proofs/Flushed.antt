@@ -1,4 +1,4 @@
--- In a history nothing waits at a settled node: what waits there is owed. The lemmas stand in flow_drain too, above this crate.
+-- In a history nothing waits at a settled node: what waits there is owed.
 use Rattle.std.proofs.Common.{◌≡◌, ◌≢◌, ℕ, ◌≤◌, Bool, true, false, ◌&&◌, eqb, List, [], ◌∷◌, map, drop, refl, sym, ap, ◌∙◌, subst, arith, inl, inr}
 use Rattle.std.proofs.lemmas.Bool.{and_parts, and_from, false≢true, true≢false, eqb-true, eq-eqb, cases_Bool}
 use Rattle.nd_base.specs.declared.frame.FrameName.{FrameName}
@@ -20,6 +20,7 @@ use Rattle.flow_journal.proofs.Settled.{put-unsettled}
 use Rattle.flow_journal.proofs.Outs.{out_of, waits, count-flush, count-least_first}
 use Rattle.flow_journal.proofs.Issues.{settles_node}
 use Rattle.flow_journal.proofs.Emissions.{removed, owed-waits, owed-Emit_out, owed-SortDrop_out}
+use Rattle.flow_journal.specs.Pushes.{is_nothing-true}
 
 -- WHAT WAITS AT A SETTLED NODE IS OWED
 
@@ -40,7 +41,7 @@ full-head s P w m k v t (Accept c n j) h = refl
 full-head s P w m k v t (Full c n j) h = refl
 full-head s P w m k v t _ h = absurd (false≢true h)
 
-waits-owed : (s : Setting) (P : Past) (v : ℕ) (t : FrameName → Bool) → v ≢ 0 → is_sorted s v ≡ true → is_legal s P ≡ true → is_settled v P ≡ true
+pub waits-owed : (s : Setting) (P : Past) (v : ℕ) (t : FrameName → Bool) → v ≢ 0 → is_sorted s v ≡ true → is_legal s P ≡ true → is_settled v P ≡ true
     → count (waits t) (waiting s v P) ≤ count (out_of v t) (owed s P)
 waits-owed s [] v t nz sorted h c = absurd (false≢true c)
 waits-owed s (Settle r w ∷ P) v t nz sorted h c =
@@ -148,10 +149,6 @@ none-waiting : (ws : List Waiting) → count (waits (λ a. true)) ws ≡ 0 → w
 none-waiting [] h = refl
 none-waiting (w ∷ ws) h = absurd (omega (arith, h, count-cons (waits (λ a. true)) w ws))
 
-nothing-owed : (ds : List Entry) → is_nothing ds ≡ true → ds ≡ []
-nothing-owed [] h = refl
-nothing-owed (d ∷ ds) h = absurd (false≢true h)
-
 -- a settled node isn't the driver
 settled-node : (s : Setting) (P : Past) (v : ℕ) → is_legal s P ≡ true → is_settled v P ≡ true → v ≢ 0
 settled-node s [] v h c e = false≢true c
@@ -168,6 +165,6 @@ list-empty s P v h c =
     elim (cases_Bool (is_sorted s v)) [
       | inl sorted ↦
           let most = waits-owed s P v (λ a. true) (settled-node s P v p.0 c) sorted p.0 c in
-          none-waiting (waiting s v P) (omega (arith, most, ap (count (out_of v (λ a. true))) (nothing-owed (owed s P) p.1)))
+          none-waiting (waiting s v P) (omega (arith, most, ap (count (out_of v (λ a. true))) (is_nothing-true (owed s P) p.1)))
       | inr plain ↦ put_laws.unsorted s v P plain
     ]
