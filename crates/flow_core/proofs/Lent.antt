@@ -10,7 +10,7 @@ use Rattle.board_rules.specs.InHand.{has_part_of}
 use Rattle.frame_table.specs.Kept.{Kept, Frame, kept_at, IsPartOf, MayGiveBack, MayLend, IsUntold}
 use Rattle.flow_emit.specs.Courses.{Coursed}
 use Rattle.board_rules.specs.InHand.{TellParts}
-use Rattle.kept_blocks.specs.LookLaws.{LookLaws, IsLendable, IsWithin}
+use Rattle.kept_blocks.specs.LookLaws.{LookLaws, IsLendable, IsWithinBlock}
 use Rattle.flow_core.specs.Boards.{IsBoard}
 
 -- the course tells this of the array's block
@@ -36,7 +36,7 @@ pub record LendsAt {F : Type 0} (parts : F → Option Parts) (told : BoardState)
   pub its_parts : Option Parts
   pub frame : kept_at t c ≡ Frame a its_parts
   pub may : MayLend (kept_at t c)
-  pub within : IsWithin (kept_at t c)
+  pub within : IsWithinBlock (kept_at t c)
   pub tells : TellParts parts → IsUntold (kept_at t c) → ⊥
 
 pub lends-at : {F : Type 0} (parts : F → Option Parts) (told : BoardState) (t : List Kept) (a : FrameName) (c : ℕ) → IsLendable parts (past told) t a

@@ -30,7 +30,7 @@ use Rattle.frame_table.specs.Kept.{MayGiveBack, less_one, united}
 use Rattle.flow_emit.specs.Courses.{Coursed}
 use Rattle.kept_blocks.specs.Keeping.{HoldsBlocks}
 use Rattle.kept_blocks.specs.GrantLaws.{GrantLaws, IsGranted}
-use Rattle.kept_blocks.specs.LookLaws.{LookLaws, IsWithin}
+use Rattle.kept_blocks.specs.LookLaws.{LookLaws, IsWithinBlock}
 use Rattle.kept_blocks.specs.MoveLaws.{MoveLaws}
 use Rattle.kept_blocks.proofs.Holding.{at-other, same-length}
 use Rattle.flow_core.specs.Boards.{IsBoard, IsRemade, IsSameStorage, IsNotStored, with_storage}
@@ -339,7 +339,7 @@ pub back-again : {F : Type 0} (parts : F → Option Parts) (look : LookLaws part
 back-again parts look s told t now_ a c q l part back =
     let L = back.left in
     let may : MayLend (kept_at L c) = subst MayLend (sym back.same_) l.may in
-    let within = subst IsWithin (sym back.same_) l.within in
+    let within = subst IsWithinBlock (sym back.same_) l.within in
     let mine : IsPartOf (kept_at L c) a q = subst (λ (k : Kept). IsPartOf k a q) (sym back.same_) part in
     let again = look.lent_and_back L c a q back.place may within mine in
     subst (λ (u : List Kept). (c < length u) × MayGiveBack (kept_at u c) q × HoldsBlocks parts s told (with_kept u c (united (kept_at u c) q)))

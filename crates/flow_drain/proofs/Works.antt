@@ -42,7 +42,7 @@ use Rattle.board_rules.proofs.Legal.{take-by, put-by, settle-by}
 use Rattle.run_laws.proofs.Runs.{node-is}
 use Rattle.flow_roles.specs.RoleEnds.{IsOfHand}
 use Rattle.flow_roles.specs.Feeder.{name_of, parts_of}
-use Rattle.flow_roles.specs.Worker.{IsDone}
+use Rattle.flow_roles.specs.Worker.{IsJobDone}
 use Rattle.flow_roles.proofs.Named.{node-rule, hand-named}
 use Rattle.flow_roles.proofs.WorkerCalls.{take-still, Says, said-by, take-says, take-taken, WithBlock, Alone, same-self, room-of, granted-by, lent-by}
 use Rattle.flow_roles.proofs.WorkerCalls as worker
@@ -53,15 +53,15 @@ use Rattle.flow_drain.proofs.Growth.{longer, no-move, one-of, hands-moved, hand-
 use Rattle.flow_drain.proofs.Feeds.{never-away, free-of, other-board}
 
 -- each node has a thread, and its queue a place
-pub record IsSound (n : Node) : Type 0 where
+pub record IsSoundNode (n : Node) : Type 0 where
   pub thread : 1 ≤ n.threads
   pub place : 1 ≤ n.queue
 
-pub node-sound : (g : Graph) (stack : StackValue) (v : ℕ) → IsGraph g → is_node (run_setting g stack) v ≡ true → IsSound (node (run_setting g stack) v)
+pub node-sound : (g : Graph) (stack : StackValue) (v : ℕ) → IsGraph g → is_node (run_setting g stack) v ≡ true → IsSoundNode (node (run_setting g stack) v)
 node-sound g stack v sound here =
     let n = node-rule g stack v here in
     let r = (stands g v n.0 sound (sym n.1)).sound in
-    subst (λ (x : Node). IsSound x) (sym (node-is g (makers_of g.nodes stack.shape) stack.arrays v n.0 n.1))
+    subst (λ (x : Node). IsSoundNode x) (sym (node-is g (makers_of g.nodes stack.shape) stack.arrays v n.0 n.1))
     (record { thread = r.threads.0; place = r.queue.0 })
 
 no-jobs : (v : ℕ) (P : Past) → hands P ≡ [] → jobs v P ≡ 0
@@ -103,7 +103,7 @@ module _ {F B : Type 0} (O : Type 0) (name_of_ : F → FrameName) (parts : F →
   idle-by None (Some pool.Refused) told c = absurd c
   idle-by None None told c = absurd c
 
-  pub take-idle : IsSound (node s v) → TakeGives {F = F} {B = B} {O = O} name_of_ parts bytes_of s old r v take.Idle new → queued v (past old) ≡ []
+  pub take-idle : IsSoundNode (node s v) → TakeGives {F = F} {B = B} {O = O} name_of_ parts bytes_of s old r v take.Idle new → queued v (past old) ≡ []
   take-idle sound c =
       let busy : leb (node s v).threads (jobs v (past old)) ≡ false =
       elim (cases_Bool (leb (node s v).threads (jobs v (past old)))) [
@@ -259,7 +259,7 @@ module _ (O : Type 0) (g : Graph) (stack : StackValue) (old mid : BoardState) (r
 -- PUT
 
 module _ (g : Graph) (stack : StackValue) (old : BoardState) (r v : ℕ) (is : r ≡ last_role (run_setting g stack)) (input : Sealed) (blank : Option (List ℕ))
-    (job : HasWork g stack v input blank old) (done : Done Sealed) (d : IsDone g stack v input blank done) where
+    (job : HasWork g stack v input blank old) (done : Done Sealed) (d : IsJobDone g stack v input blank done) where
   job-up : takes_up r job.hand ≡ true
   job-up = subst (λ (i : ℕ). takes_up i job.hand ≡ true) (sym is) job.holds.drain
 

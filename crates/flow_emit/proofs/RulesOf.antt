@@ -33,7 +33,7 @@ use Rattle.flow_emit.specs.declared.rules.NodeRules.{NodeRules}
 use Rattle.flow_emit.specs.declared.rules.NodeWork.{NodeWork}
 use Rattle.flow_emit.specs.declared.rules.NodeWork.TheVariants as work
 use Rattle.flow_emit.specs.declared.rules.Rules.{Rules}
-use Rattle.flow_emit.specs.RunRules.{AreRules, AreNodeRules, IsRule, IsWithin, IsWorkWithin, as_node, as_work, children_of, need_of}
+use Rattle.flow_emit.specs.RunRules.{AreRules, AreNodeRules, IsRule, IsNodeWithin, IsWorkWithin, as_node, as_work, children_of, need_of}
 
 -- MAKERS
 -- one maker further
@@ -261,7 +261,7 @@ as-rule g t ns i d n are lt =
     (rule-at (run_setting g t) ns i d are lt).node ∙ get_or-map node_of g.nodes i n no_node (omega (arith, lt, are.all, length-map g.nodes node_of))
 
 within-as : (g : Graph) (x : NodeRules) (n : NodeRule) (k : ℕ) → k ≡ length g.nodes → as_node x ≡ node_of n → IsNode n
-    → IsTrue (is_source g.nodes n.input) → IsWithin k x
+    → IsTrue (is_source g.nodes n.input) → IsNodeWithin k x
 within-as g x n k many e is fed-by = (
   omega (arith, many, ap (λ (y : Node). y.input) e, source-within g.nodes n.input fed-by),
   omega (arith, ap (λ (y : Node). y.queue) e, is.queue.0),

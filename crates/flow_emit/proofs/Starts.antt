@@ -26,7 +26,7 @@ use Rattle.flow_emit.specs.declared.node.NodeState.{NodeState}
 use Rattle.flow_emit.specs.declared.rules.NodeRules.{NodeRules}
 use Rattle.flow_emit.specs.declared.rules.Rules.{Rules}
 use Rattle.flow_emit.specs.NodeStates.{IsNode, IsRing}
-use Rattle.flow_emit.specs.RunRules.{AreRules, IsWithin, IsWorkWithin, as_node, as_work}
+use Rattle.flow_emit.specs.RunRules.{AreRules, IsNodeWithin, IsWorkWithin, as_node, as_work}
 use Rattle.flow_emit.specs.Starts.{Starts, may_measure}
 use Rattle.flow_emit.proofs.RulesOf.{push-each}
 
@@ -121,8 +121,8 @@ run-starts g t r i n frames first are h is many before =
 
 -- a rule at its place is within its bounds
 pub item-within : (r : Rules) (s : Setting) (i : ℕ) (n : NodeRules) (ns : List NodeRules) → AreRules r s → i < length ns → ns ≡ r.nodes → n ≡ get_or ns i n
-    → IsWithin (length r.nodes) n × IsWorkWithin n.work
+    → IsNodeWithin (length r.nodes) n × IsWorkWithin n.work
 item-within r s i n ns are h same is =
     let there : get_or r.nodes i n ≡ n = ap (λ xs. get_or xs i n) (sym same) ∙ sym is in
     let lt : i < length r.nodes = omega (arith, h, ap length same) in
-    (subst (λ x. IsWithin (length r.nodes) x) there (are.within i n lt), subst (λ (x : NodeRules). IsWorkWithin x.work) there (are.works i n lt))
+    (subst (λ x. IsNodeWithin (length r.nodes) x) there (are.within i n lt), subst (λ (x : NodeRules). IsWorkWithin x.work) there (are.works i n lt))

@@ -38,8 +38,8 @@ pub record AreNodeRules (s : Setting) (ns : List NodeRules) : Type 0 where
   pub each : (i : ℕ) (n : NodeRules) → slice_get ns i ≡ Some n → IsRule s (suc i) n
 
 -- a node keeps within the ranges of its keys
-abbrev pub IsWithin : ℕ → NodeRules → Type 0
-IsWithin nodes n =
+abbrev pub IsNodeWithin : ℕ → NodeRules → Type 0
+IsNodeWithin nodes n =
     (n.input ≤ nodes) × (1 ≤ n.queue) × (n.queue ≤ 65535) × (1 ≤ n.threads) × (n.threads ≤ 16) × (n.sort ≤ 65535) × (n.sort_time ≤ 2147483647)
 
 abbrev pub IsWorkWithin : NodeWork → Type 0
@@ -60,5 +60,5 @@ pub record AreRules (r : Rules) (s : Setting) : Type 0 where
   pub few_frames : length r.ids ≤ 65536
   pub few_nodes : length r.nodes ≤ 32
   pub few_threads : sum_by (λ (n : Node). n.threads) s.nodes ≤ 64
-  pub within : All (IsWithin (length r.nodes)) r.nodes
+  pub within : All (IsNodeWithin (length r.nodes)) r.nodes
   pub works : All (λ (n : NodeRules). IsWorkWithin n.work) r.nodes

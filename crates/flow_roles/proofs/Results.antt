@@ -52,7 +52,7 @@ use Rattle.board_rules.specs.RunMeasures.{run_setting, run_measure, rule_measure
 use Rattle.board_rules.specs.Working.{IsResult}
 use Rattle.run_laws.proofs.Runs.{node-is}
 use Rattle.flow_roles.specs.Feeder.{name_of}
-use Rattle.flow_roles.specs.Worker.{ComesTo, FitsNode, IsDone}
+use Rattle.flow_roles.specs.Worker.{ComesTo, FitsNode, IsJobDone}
 use Rattle.flow_roles.proofs.Named.{node-rule}
 
 -- THE DRIVER'S FRAMES
@@ -324,6 +324,6 @@ frame-fits now size room is fits = omega (arith, is, fits)
 pub passed-on : (g : Graph) (stack : StackValue) (v : ℕ) (input : Sealed) (blank : Option (List ℕ)) (b : Bool) (done : Done Sealed)
     → done ≡ record { node = v; input = input; made = None; measured = None; fired = b }
     → IsResult name_of (run_measure g stack) (run_setting g stack) (record { node = v; input = input; made = None; measured = None; fired = b })
-    → IsDone g stack v input blank done
+    → IsJobDone g stack v input blank done
 passed-on g stack v input blank b done is r =
-    subst (λ (d : Done Sealed). IsDone g stack v input blank d) (sym is) (record { node = refl; given = refl; result = r; whole = tt })
+    subst (λ (d : Done Sealed). IsJobDone g stack v input blank d) (sym is) (record { node = refl; given = refl; result = r; whole = tt })

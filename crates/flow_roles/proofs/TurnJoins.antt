@@ -19,7 +19,7 @@ use Rattle.board_rules.specs.Movers.{moves_by}
 use Rattle.flow_roles.specs.declared.last.Last.{Last}
 use Rattle.flow_roles.specs.declared.last.Last.TheVariants.{Fresh}
 use Rattle.flow_roles.specs.Operations.{begins_of}
-use Rattle.flow_roles.specs.TurnPasses.{HasOneRole, role_in, known_by, IsPassOf, IsFreshOf, IsWithin, HasMade}
+use Rattle.flow_roles.specs.TurnPasses.{HasOneRole, role_in, known_by, IsPassOf, IsFreshOf, IsPassWithin, HasMade}
 use Rattle.flow_roles.proofs.TurnCalls.{exact-one, moves-back}
 
 -- DEALT OUT
@@ -79,7 +79,7 @@ pub record Joined {P : Type 0} (inner : P → PassFacts Told) (lock : TableId) (
   pub own : keep.lock ≡ lock
   pub ours : All (λ p. IsPassOf lock (inner p)) left
   pub count : length keep.made ≡ length joined
-  pub each : All (λ p. IsWithin (inner p) keep) joined
+  pub each : All (λ p. IsPassWithin (inner p) keep) joined
   pub seen : SeenBy inner keep.seen joined
 
 module _ {P : Type 0} (inner : P → PassFacts Told) (lock : TableId) (all : List P) where
@@ -93,8 +93,8 @@ module _ {P : Type 0} (inner : P → PassFacts Told) (lock : TableId) (all : Lis
         ours = split.0;
         count = one-role (inner p).made split.1.1;
         each =
-            All-cons (λ q. IsWithin (inner q) (inner p)) p [] (([], sym (append-nil (inner p).seen)), λ log a. a)
-            (All-nil (λ q. IsWithin (inner q) (inner p)));
+            All-cons (λ q. IsPassWithin (inner q) (inner p)) p [] (([], sym (append-nil (inner p).seen)), λ log a. a)
+            (All-nil (λ q. IsPassWithin (inner q) (inner p)));
         seen = inl refl;
       }
 
@@ -121,8 +121,8 @@ module _ {P : Type 0} (inner : P → PassFacts Told) (lock : TableId) (all : Lis
             let whole_ = ap (λ (q : PassFacts Told). length q.made) made in
             omega (arith, both, whole_, j.count, one-role (inner p).made split.1.1);
         each =
-            All-cons (λ q. IsWithin (inner q) new) p j.joined (fronts.1, λ log a. (apart log a).1)
-            (All-weaker (λ q. IsWithin (inner q) keep) (λ q. IsWithin (inner q) new)
+            All-cons (λ q. IsPassWithin (inner q) new) p j.joined (fronts.1, λ log a. (apart log a).1)
+            (All-weaker (λ q. IsPassWithin (inner q) keep) (λ q. IsPassWithin (inner q) new)
             (λ q w. (prefix-on (inner q).seen keep.seen new.seen w.0 fronts.0, λ log a. w.1 log (apart log a).0)) j.joined j.each);
         seen =
             elim (longer-either keep.seen (inner p).seen (subst (λ (l : List Told). IsPrefix (inner p).seen l) longest fronts.1)) [
@@ -138,18 +138,18 @@ module _ {P : Type 0} (inner : P → PassFacts Told) (lock : TableId) (all : Lis
 
   -- once none is left
   pub all-joined : (left : List P) (keep : PassFacts Told) → Joined inner lock all left keep → left ≡ []
-      → (length keep.made ≡ length all) × All (λ p. IsWithin (inner p) keep) all × Any (λ p. (inner p).seen ≡ keep.seen) all
+      → (length keep.made ≡ length all) × All (λ p. IsPassWithin (inner p) keep) all × Any (λ p. (inner p).seen ≡ keep.seen) all
   all-joined left keep j none =
       let is : all ≡ j.joined = j.whole ∙ ap (λ (l : List P). l ++ j.joined) none in (
         j.count ∙ ap (λ (l : List P). length l) (sym is),
-        All-same (λ p. IsWithin (inner p) keep) all j.joined is j.each,
+        All-same (λ p. IsPassWithin (inner p) keep) all j.joined is j.each,
         subst (λ (l : List P). Any (λ p. (inner p).seen ≡ keep.seen) l) (sym is) (seen-any keep.seen j.joined j.seen),
       )
 
 -- WHAT IS SAID OF THE BOARD
 
 -- what a joined pass says of the log, the board's words say of the board
-pub has-made : (p keep : PassFacts Told) (l : Last) (b : BoardState) → HasOneRole p.made → IsWithin p keep → reverse b ≡ keep.seen
+pub has-made : (p keep : PassFacts Told) (l : Last) (b : BoardState) → HasOneRole p.made → IsPassWithin p keep → reverse b ≡ keep.seen
     → AreExact begins_of (reverse b) keep.made
     → HasMade b (known_by p l)
 has-made p keep l b one w is exact_ =

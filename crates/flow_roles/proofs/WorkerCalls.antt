@@ -44,7 +44,7 @@ use Rattle.flow_roles.specs.Passes.{Pass, Called}
 use Rattle.flow_roles.specs.RoleMoves.{worker_logs, HasNothing}
 use Rattle.flow_roles.specs.RoleEnds.{worker_ends, IsOfHand}
 use Rattle.flow_roles.specs.Feeder.{name_of, parts_of}
-use Rattle.flow_roles.specs.Worker.{HasJob, IsDone}
+use Rattle.flow_roles.specs.Worker.{HasJob, IsJobDone}
 use Rattle.flow_roles.proofs.Calls.{here, unmoved, moved, hand-before, hand-after, role-after}
 use Rattle.flow_roles.proofs.RoleCalls.{worker-quiet, kept}
 use Rattle.flow_roles.proofs.Named.{hand-named}
@@ -371,7 +371,7 @@ lent-by lent (Some (Load q k b n y g x)) input blank h = absurd (true≢false h.
 lent-by lent (Some _) input blank h = absurd h
 
 module _ (g : Graph) (stack : StackValue) (r v : ℕ) (input : Sealed) (blank : Option (List ℕ)) (old new : Pass) (job : HasJob g stack r v input blank old) where
-  pub job-may-put : (done : Done Sealed) → IsDone g stack v input blank done
+  pub job-may-put : (done : Done Sealed) → IsJobDone g stack v input blank done
       → MayPut name_of parts_of (run_measure g stack) (run_setting g stack) old.made r done
   job-may-put done d is = (
     d.result,
@@ -379,7 +379,7 @@ module _ (g : Graph) (stack : StackValue) (r v : ℕ) (input : Sealed) (blank : 
     granted-by (lent_to r old.made) (hand r (past old.made)) input blank done.made job.held d.whole,
   )
 
-  pub put-goes : {E : Type 0} (done : Done Sealed) (x : E) → IsDone g stack v input blank done
+  pub put-goes : {E : Type 0} (done : Done Sealed) (x : E) → IsJobDone g stack v input blank done
       → Called (run_setting g stack) (λ a b. PutGives {E = E} name_of (run_setting g stack) a r done (Ok x) b) last.Other old new
       → HasNothing (worker_logs v) r new
   put-goes {E} done x d c =
@@ -395,7 +395,7 @@ module _ (g : Graph) (stack : StackValue) (r v : ℕ) (input : Sealed) (blank : 
       }
 
   -- the hand of a job isn't another one
-  pub put-takes : (E : Type 0) (done : Done Sealed) (e : NotYours Sealed) → IsDone g stack v input blank done
+  pub put-takes : (E : Type 0) (done : Done Sealed) (e : NotYours Sealed) → IsJobDone g stack v input blank done
       → Called (run_setting g stack) (λ a b. PutGives {E = E} name_of (run_setting g stack) a r done (Err e) b) last.NotYours old new → ⊥
   put-takes E done e d c =
       let f = λ (a b : BoardState). PutGives {E = E} name_of (run_setting g stack) a r done (Err e) b in

@@ -49,5 +49,5 @@ pub record HasMade (b : BoardState) (p : Pass) : Type 0 where
   pub made : moves_by p.role b ≡ p.made
 
 -- what the one pass says, the other says too
-abbrev pub IsWithin : PassFacts Told → PassFacts Told → Type 0
-IsWithin p keep = IsPrefix p.seen keep.seen × ((log : List Told) → AreExact begins_of log keep.made → AreExact begins_of log p.made)
+abbrev pub IsPassWithin : PassFacts Told → PassFacts Told → Type 0
+IsPassWithin p keep = IsPrefix p.seen keep.seen × ((log : List Told) → AreExact begins_of log keep.made → AreExact begins_of log p.made)

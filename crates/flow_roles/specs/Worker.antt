@@ -38,7 +38,7 @@ pub record HasJob (g : Graph) (stack : StackValue) (r v : ℕ) (input : Sealed) 
   pub fits : FitsNode g stack v blank
 
 -- the result of this job, on this storage
-pub record IsDone (g : Graph) (stack : StackValue) (v : ℕ) (input : Sealed) (blank : Option (List ℕ)) (done : Done Sealed) : Type 0 where
+pub record IsJobDone (g : Graph) (stack : StackValue) (v : ℕ) (input : Sealed) (blank : Option (List ℕ)) (done : Done Sealed) : Type 0 where
   pub node : done.node ≡ v
   pub given : done.input ≡ input
   pub result : IsResult name_of (run_measure g stack) (run_setting g stack) done

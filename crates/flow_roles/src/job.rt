@@ -14,7 +14,7 @@ ghost use Rattle.chain_plain.specs.Plans.{plan_of, maker_of, shape_at};
 ghost use Rattle.flow_journal.specs.Setting.{is_node};
 ghost use Rattle.board_rules.specs.RunMeasures.{run_setting, run_measure};
 ghost use Rattle.trig_window.specs.Triggers.{trigger_fires};
-ghost use Rattle.flow_roles.specs.Worker.{ComesTo, FitsNode, IsDone};
+ghost use Rattle.flow_roles.specs.Worker.{ComesTo, FitsNode, IsJobDone};
 
 use board_rules::{Done, Left};
 use chain_plain::maker_for;
@@ -202,7 +202,7 @@ pub fn result_of<R: Run>(
     requires node { IsTrue (is_node (run_setting R.graph R.stack) node) }
     requires comes { ComesTo R.graph node input }
     requires fits { FitsNode R.graph R.stack node blank }
-    ensures done { IfOk result (λ done. IsDone R.graph R.stack node input blank done) }
+    ensures done { IfOk result (λ done. IsJobDone R.graph R.stack node input blank done) }
     ensures left { IfErr result (λ left. left ≡ record { input = Some input; made = None; blank = blank }) }
 {
     let Some(rule) = rule_at(plan.graph.nodes.as_slice(), node) else {

@@ -11,7 +11,7 @@ ghost use Rattle.flow_roles.specs.Lasts.{last_given};
 ghost use Rattle.flow_roles.specs.declared.last.Last.{Last};
 ghost use Rattle.flow_roles.specs.Passes.{Called, only_drain_saves};
 ghost use Rattle.flow_roles.specs.Operations.{frames_of, role_of, MayPlay, Replies, Lends};
-ghost use Rattle.flow_roles.specs.TurnPasses.{role_in, moves_in, known_by, IsPassOf, IsFreshOf, IsWithin, HasMade};
+ghost use Rattle.flow_roles.specs.TurnPasses.{role_in, moves_in, known_by, IsPassOf, IsFreshOf, IsPassWithin, HasMade};
 
 use crate::{
     Desk, DeskOp, DeskReply, Last, Played, after_close, after_issue, after_load, after_progress,
@@ -310,7 +310,7 @@ fn join_all<F: Held, B: BoardCalls<F>>(
     requires some { 0 < vec_len passes }
     ensures lock { result.lock ≡ desk.now.id }
     ensures roles { length result.made ≡ vec_len passes }
-    ensures each { All (λ p. IsWithin p.inner result) passes.items }
+    ensures each { All (λ p. IsPassWithin p.inner result) passes.items }
     ensures seen { Any (λ p. p.inner.seen ≡ result.seen) passes.items }
 {
     let TurnPass { inner, last: _ } = passes.pop().unwrap();

@@ -24,7 +24,7 @@ use Rattle.frame_table.specs.Kept.{IsUntold, MayLend, IsPartOf, Kept, Empty, Fra
 use Rattle.frame_table.specs.Kept.{IsMadeAnew, IsAway, IsLeft, BecomesOther, IsRefused}
 use Rattle.board_rules.specs.LastGrants.{LastGrant, Never, InMaking, Made, TakenBack, last_grant, is_taken_back, was_taken_back}
 use Rattle.kept_blocks.specs.Keeping.{IsKeptBy, HoldsBlocks, IsRunOf, IsHome}
-use Rattle.kept_blocks.specs.LookLaws.{IsWithin, IsLendable}
+use Rattle.kept_blocks.specs.LookLaws.{IsWithinBlock, IsLendable}
 use Rattle.kept_blocks.specs.GrantLaws.{IsGranted, IsRefusedLent}
 use Rattle.kept_blocks.proofs.Unplaced.{unplaced-clear}
 use Rattle.kept_blocks.proofs.Granted.{held-making, makes-block, makes-placed, alone-from}
@@ -346,7 +346,7 @@ lendable-law parts s B t need b z f g v a i next =
       its_parts = l.its_parts;
       frame = beside ∙ l.frame;
       may = subst MayLend (sym beside) l.may;
-      within = subst IsWithin (sym beside) l.within;
+      within = subst IsWithinBlock (sym beside) l.within;
       tells = λ tell untold. l.tells tell (subst IsUntold beside untold);
     }
 

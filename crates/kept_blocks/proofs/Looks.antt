@@ -26,7 +26,7 @@ use Rattle.frame_table.specs.Kept.{Kept, Empty, Frame, Storage, kept_at, with_ke
 use Rattle.std.proofs.lemmas.Bool.{eq-eqb}
 use Rattle.board_rules.specs.LastGrants.{LastGrant}
 use Rattle.kept_blocks.specs.Keeping.{HoldsBlocks, IsRunOf}
-use Rattle.kept_blocks.specs.LookLaws.{IsWithin, IsLendable, IsLent, IsAwaited, LookLaws}
+use Rattle.kept_blocks.specs.LookLaws.{IsWithinBlock, IsLendable, IsLent, IsAwaited, LookLaws}
 use Rattle.kept_blocks.proofs.Granted.{Makes, making-granted, makes-block, makes-placed}
 use Rattle.kept_blocks.proofs.Placing.{known-at, queued-used, unsaved-used, hand-used}
 use Rattle.kept_blocks.proofs.Rest.{later}
@@ -35,7 +35,7 @@ use Rattle.kept_blocks.proofs.Holding.{IsKeptIn, Holds, holds-in, legal-of, Stan
 
 -- LENDING
 
-within-parts : (p : Option Parts) (a : FrameName) (n m : ℕ) → OfSome (λ q. (q.size ≡ n) × (q.here ≡ 2 ^ 32 - m)) p → IsWithin (Frame a p)
+within-parts : (p : Option Parts) (a : FrameName) (n m : ℕ) → OfSome (λ q. (q.size ≡ n) × (q.here ≡ 2 ^ 32 - m)) p → IsWithinBlock (Frame a p)
 within-parts None a n m here = tt
 within-parts (Some q) a n m here = omega (arith, here.1)
 
@@ -49,7 +49,7 @@ lendable-from parts s B t a run h st = record {
   frame = st.frame.is;
   may = may-lend parts s B st.placed.block st.placed.size a (kept_at t st.placed.block) run.few (legal-of s B run) h.lost st.frame;
   within =
-      subst IsWithin (sym st.frame.is)
+      subst IsWithinBlock (sym st.frame.is)
       (within-parts st.frame.its_parts a st.placed.size (parts_in_hand (past B) st.placed.block + parts_away st.placed.block B) st.frame.here);
   tells = not-untold parts B st.placed.block st.placed.size a (kept_at t st.placed.block) st.frame;
 }
@@ -61,7 +61,7 @@ lendable parts s B t a run hb used =
     lendable-from parts s B t a run h (stands parts s B t a run.pooled (legal-of s B run) h used)
 
 -- what is lent and given back
-back-kept : (k : Kept) (a : FrameName) (q : Option Parts) → MayLend k → IsWithin k → IsPartOf k a q
+back-kept : (k : Kept) (a : FrameName) (q : Option Parts) → MayLend k → IsWithinBlock k → IsPartOf k a q
     → MayGiveBack (less_one k) q × (united (less_one k) q ≡ k)
 back-kept Empty a q may within part = absurd may
 back-kept (Storage n u) a q may within part = absurd may
@@ -74,7 +74,7 @@ back-kept (Frame c (Some p)) a q may within part =
     ((refl, omega (arith, whole, within)), ap (λ (i : ℕ). Frame c (Some (record p { here = i }))) whole)
 
 lent-and-back : (t : List Kept) (b : ℕ) (a : FrameName) (q : Option Parts) → b < length t → MayLend (kept_at t b)
-    → IsWithin (kept_at t b) → IsPartOf (kept_at t b) a q
+    → IsWithinBlock (kept_at t b) → IsPartOf (kept_at t b) a q
     → MayGiveBack (kept_at (with_kept t b (less_one (kept_at t b))) b) q
     × (with_kept (with_kept t b (less_one (kept_at t b))) b (united (kept_at (with_kept t b (less_one (kept_at t b))) b) q) ≡ t)
 lent-and-back t b a q lt may within part =

@@ -17,9 +17,9 @@ use Rattle.frame_table.specs.Kept.{Kept, Empty, Frame, kept_at, with_kept, MayLe
 use Rattle.kept_blocks.specs.Keeping.{HoldsBlocks, IsRunOf}
 
 -- no more parts are here than a block has
-abbrev pub IsWithin : Kept → Type 0
-IsWithin (Frame a (Some p)) = p.here ≤ 2 ^ 32
-IsWithin _ = Unit {0}
+abbrev pub IsWithinBlock : Kept → Type 0
+IsWithinBlock (Frame a (Some p)) = p.here ≤ 2 ^ 32
+IsWithinBlock _ = Unit {0}
 
 -- the array is kept at the place of its block, and a part of it may be lent
 pub record IsLendable {F : Type 0} (parts : F → Option Parts) (P : Past) (t : List Kept) (a : FrameName) : Type 0 where
@@ -29,7 +29,7 @@ pub record IsLendable {F : Type 0} (parts : F → Option Parts) (P : Past) (t : 
   pub its_parts : Option Parts
   pub frame : kept_at t block ≡ Frame a its_parts
   pub may : MayLend (kept_at t block)
-  pub within : IsWithin (kept_at t block)
+  pub within : IsWithinBlock (kept_at t block)
   pub tells : TellParts parts → IsUntold (kept_at t block) → ⊥
 
 -- the array of a hand is kept at the place of its block, and what was lent of it may be given back
@@ -64,7 +64,7 @@ pub record LookLaws {F : Type 0} (parts : F → Option Parts) : Type 0 where
   pub handed : (s : Setting) (told : BoardState) (tick r : ℕ) (t : Told) → takes_up r t.entry ≡ true
       → (hand r (past (moved_at s tick t told)) ≡ Some t.entry) × (lent_to r (moved_at s tick t told) ≡ t.lent)
   -- a part that was lent and given back leaves the table as it was
-  pub lent_and_back : (t : List Kept) (b : ℕ) (a : FrameName) (q : Option Parts) → b < length t → MayLend (kept_at t b) → IsWithin (kept_at t b)
+  pub lent_and_back : (t : List Kept) (b : ℕ) (a : FrameName) (q : Option Parts) → b < length t → MayLend (kept_at t b) → IsWithinBlock (kept_at t b)
       → IsPartOf (kept_at t b) a q
       → MayGiveBack (kept_at (with_kept t b (less_one (kept_at t b))) b) q
       × (with_kept (with_kept t b (less_one (kept_at t b))) b (united (kept_at (with_kept t b (less_one (kept_at t b))) b) q) ≡ t)

@@ -24,7 +24,7 @@ use Rattle.run_report.specs.Backwards.{has_role, is_taken_back, before, rest}
 use Rattle.run_report.specs.Report.{loaded, is_offer, node_count, plan_setting}
 use Rattle.flow_journal.specs.EntryTests.{is_full, is_pool_drop, is_sort_drop, is_refused_load, says_regrown}
 use Rattle.flow_journal.proofs.Lengths.{numbers-length}
-use Rattle.run_report.specs.Tallies.{HasRoom, HasRoomForLoads, IsOneMore, fresh, fresh_nodes, finished, more_loads, one_if, at, stands_before}
+use Rattle.run_report.specs.Tallies.{HasRoomForCounts, HasRoomForLoads, IsOneMore, fresh, fresh_nodes, finished, more_loads, one_if, at, stands_before}
 use Rattle.run_report.specs.Tallied.{IsTallied}
 use Rattle.run_report.proofs.Standing.{rest-same, rest-standing}
 use Rattle.run_report.proofs.Leads.{Leads, leads-more, leads-end, count-one, count-yes, count-no}
@@ -190,7 +190,7 @@ breaks-le s (k ∷ ks) =
       | false ↦ omega (arith, less)
     ]
 
-node-room : (s : Setting) (v : ℕ) (past P S : Past) (t : NodeTally) → length past < 2 ^ 60 → Leads s v (node_count s past v) t S P → HasRoom t
+node-room : (s : Setting) (v : ℕ) (past P S : Past) (t : NodeTally) → length past < 2 ^ 60 → Leads s v (node_count s past v) t S P → HasRoomForCounts t
 node-room s v past P S t few l =
     let o = count_by-le-length (is_offer v) past in
     let f = count_by-le-length (is_full v) past in
@@ -208,9 +208,9 @@ node-room s v past P S t few l =
       breaks = omega (arith, l.breaks, x, y, z, few);
     }
 
-pub reads-room : (p : Plan) (past P : Past) (t : Tally) → length past < 2 ^ 60 → Reads p past P t → All HasRoom t.nodes.items
+pub reads-room : (p : Plan) (past P : Past) (t : Tally) → length past < 2 ^ 60 → Reads p past P t → All HasRoomForCounts t.nodes.items
 reads-room p past P t few r =
-    All-from_get_or HasRoom t.nodes.items (fresh false)
+    All-from_get_or HasRoomForCounts t.nodes.items (fresh false)
     (λ (v : ℕ) (within : v < length t.nodes.items).
     node-room (plan_setting p) v past P (rest (has_role t.reclaims) P) (at t.nodes.items v) few (r.nodes v within))
 

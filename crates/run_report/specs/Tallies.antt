@@ -14,7 +14,7 @@ use Rattle.run_report.specs.declared.tally.NodeTally.{NodeTally}
 use Rattle.run_report.specs.Backwards.{has_role, is_taken_back, before}
 
 -- no count is near its type's end
-pub record HasRoom (t : NodeTally) : Type 0 where
+pub record HasRoomForCounts (t : NodeTally) : Type 0 where
   pub offered : t.offered < 2 ^ 60
   pub full : t.full < 2 ^ 60
   pub pool : t.pool < 2 ^ 60

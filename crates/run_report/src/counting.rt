@@ -4,7 +4,7 @@ ghost use Rattle.std.specs.Prelude.{◌≡◌, ◌<◌, ◌^◌, length, map, re
 ghost use Rattle.std.specs.List.{All};
 ghost use Rattle.flow_journal.specs.Setting.{first_prev};
 ghost use Rattle.run_report.specs.Report.{report};
-ghost use Rattle.run_report.specs.Tallies.{node_at, fresh_nodes, HasRoom, HasRoomForLoads, IsOneMore, finished};
+ghost use Rattle.run_report.specs.Tallies.{node_at, fresh_nodes, HasRoomForCounts, HasRoomForLoads, IsOneMore, finished};
 ghost use Rattle.run_report.specs.Tallied.{IsTallied};
 
 use crate::feed::FeedTally;
@@ -58,7 +58,7 @@ fn finished_nodes(
     nodes: &[NodeTally],
     first_prev: i64,
 ) -> Result<Vec<NodeCount>, AllocError>
-    requires { All HasRoom nodes.now }
+    requires { All HasRoomForCounts nodes.now }
     ensures { IfOk result (λ counts. counts.items ≡ map (finished first_prev) nodes.now) }
 {
     let mut counts = Vec::new(alloc);
@@ -81,7 +81,7 @@ impl Tally {
     /// Counts the entry before those that were counted.
     fn count(&mut self, ids: &[i32], entry: &Entry) -> Result<(), OutOfMemory>
         requires feed { HasRoomForLoads self.old.feed }
-        requires nodes { All HasRoom self.old.nodes.items }
+        requires nodes { All HasRoomForCounts self.old.nodes.items }
         ensures { OnOk result (IsOneMore ids.now entry.now self.old self.new) }
     {
         let stands = self.reclaims.stands(entry)?;

@@ -4,7 +4,7 @@ ghost use Rattle.std.specs.Prelude.{◌≡◌, ◌+◌, ◌<◌};
 ghost use Rattle.flow_journal.specs.RunSetting.{work_of};
 ghost use Rattle.flow_journal.specs.Unsaved.{is_file};
 ghost use Rattle.queue_sort.specs.Sorting.{keeps_step};
-ghost use Rattle.run_report.specs.Tallies.{HasRoom, fresh, break_after, index_id, with_out, more, finished};
+ghost use Rattle.run_report.specs.Tallies.{HasRoomForCounts, fresh, break_after, index_id, with_out, more, finished};
 
 use crate::NodeCount;
 use flow_journal::Entry;
@@ -86,7 +86,7 @@ impl NodeTally {
 
     /// Counts an array of this id that went out.
     fn let_out(&mut self, id: i32)
-        requires { HasRoom self.old }
+        requires { HasRoomForCounts self.old }
         ensures { self.new ≡ with_out id self.old }
     {
         self.out += 1;
@@ -96,7 +96,7 @@ impl NodeTally {
 
     /// Counts an entry at the node, which stands or was taken back.
     pub(crate) fn count(&mut self, ids: &[i32], entry: &Entry, stands: bool)
-        requires { HasRoom self.old }
+        requires { HasRoomForCounts self.old }
         ensures { self.new ≡ more ids.now stands entry.now self.old }
     {
         match *entry {
@@ -115,7 +115,7 @@ impl NodeTally {
 
     /// The counts of the node once the whole log is read, where this id is before the first.
     pub(crate) fn finished(&self, first_prev: i64) -> NodeCount
-        requires { HasRoom self.now }
+        requires { HasRoomForCounts self.now }
         ensures { result ≡ finished first_prev self.now }
     {
         let dropped = self.full + self.pool + self.sort;

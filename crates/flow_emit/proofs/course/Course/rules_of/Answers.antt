@@ -4,7 +4,7 @@ use Rattle.board_rules.specs.RunMeasures.{run_setting}
 use Rattle.flow_emit.specs.declared.rules.NodeRules.{NodeRules}
 use Rattle.flow_emit.specs.RunRules.{as_node}
 use Rattle.std.proofs.lemmas.Option.{slice_get_within, get_or_from_slice_get}
-use Rattle.flow_emit.specs.RunRules.{IsWithin, IsWorkWithin}
+use Rattle.flow_emit.specs.RunRules.{IsNodeWithin, IsWorkWithin}
 use Rattle.flow_emit.proofs.Reading.{place-of, rule-of}
 use Rattle.flow_emit.proofs.course.Course.rules_of.Goals as goal
 
@@ -25,7 +25,7 @@ pub returns-clause-input : goal.returns-clause-input
 returns-clause-input g c =
     let r = c.node.result.now in
     let ns = c.self.inside.rules.nodes in
-    let within : IsWithin (length ns) r =
-    subst (λ (x : NodeRules). IsWithin (length ns) x) (get_or_from_slice_get ns (c.args.node - 1) r r c.node.ensures)
+    let within : IsNodeWithin (length ns) r =
+    subst (λ (x : NodeRules). IsNodeWithin (length ns) x) (get_or_from_slice_get ns (c.args.node - 1) r r c.node.ensures)
     (c.self.invariant.ruled.within (c.args.node - 1) r (slice_get_within ns (c.args.node - 1) r c.node.ensures)) in
     omega (arith, within.0, ap length c.self.invariant.ruled.nodes, length-map ns as_node)
