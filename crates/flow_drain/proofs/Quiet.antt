@@ -52,7 +52,8 @@ all-numbers p from (n ∷ ns) h v low high =
           all-numbers p (from + 1) ns a.1 v (omega (arith, low, ne)) (omega (arith, high))
     ]
 
-pub numbers-all : (p : ℕ → Bool) (from : ℕ) (ns : List Node) → ((v : ℕ) → from ≤ v → v < from + length ns → p v ≡ true) → list_all p (numbers_from from ns) ≡ true
+pub numbers-all : (p : ℕ → Bool) (from : ℕ) (ns : List Node) → ((v : ℕ) → from ≤ v → v < from + length ns → p v ≡ true)
+    → list_all p (numbers_from from ns) ≡ true
 numbers-all p from [] h = refl
 numbers-all p from (n ∷ ns) h =
     and_from _ _ (h from (omega arith) (omega arith)) (numbers-all p (from + 1) ns (λ v low high. h v (omega (arith, low)) (omega (arith, high))))
