@@ -14,14 +14,14 @@ use Rattle.cdf_read.specs.Places.{dim_length, value_size}
 use Rattle.nd_stack.specs.Columns.{frame_count, frame_values, column_of}
 use Rattle.nd_stack.specs.FrameShape.{shape_of}
 use Rattle.nd_stack.specs.StackRules.{heads_of}
-use Rattle.nd_stack.specs.Sound.{IsSound, IsSoundVar}
+use Rattle.nd_stack.specs.Sound.{IsSoundHeader, IsSoundVar}
 use Rattle.nd_stack.specs.SoundLaws.{column_of-LiesWithin}
 use Rattle.nd_stack.proofs.Accepted.{IsAccepted, sample_type-stored, stored_as-size}
 use Rattle.nd_stack.proofs.Numbers.{All-find}
 use Rattle.nd_stack.proofs.Dimensions.{sample_count-dims_of, dims_of-has_dimensions}
 
 -- the frames' variable is sound
-pub array_data-IsSoundVar : (total : ℕ) (h : Header) (v : HeadVar) (kind : SampleType) → IsSound total h → IsAccepted h v kind → IsSoundVar total h v
+pub array_data-IsSoundVar : (total : ℕ) (h : Header) (v : HeadVar) (kind : SampleType) → IsSoundHeader total h → IsAccepted h v kind → IsSoundVar total h v
 array_data-IsSoundVar total h v kind sound accepted =
     All-find (IsSoundVar total h) (λ w. bytes_eq w.name (codes "array_data")) h.vars v sound.vars accepted.found
 
@@ -33,7 +33,7 @@ frame_size-is h v kind accepted fixed =
     ap (λ n. n * width kind) (sample_count-dims_of h v fixed) ∙ ap (λ n. frame_values h v * n) (sym size)
 
 -- the stack of accepted frames lies within the file
-pub accepted-FitsFile : (bytes : List ℕ) (h : Header) (v : HeadVar) (kind : SampleType) → IsSound (length bytes) h → IsAccepted h v kind →
+pub accepted-FitsFile : (bytes : List ℕ) (h : Header) (v : HeadVar) (kind : SampleType) → IsSoundHeader (length bytes) h → IsAccepted h v kind →
     FitsFile (shape_of h v kind) (heads_of bytes h (frame_count h v)) bytes (column_of h v).first (column_of h v).step
 accepted-FitsFile bytes h v kind sound accepted =
     let var = array_data-IsSoundVar (length bytes) h v kind sound accepted in

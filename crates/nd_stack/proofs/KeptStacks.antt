@@ -40,7 +40,7 @@ use Rattle.nd_stack.specs.FrameShape.{attr_columns, text_room, width_of, shape_o
 use Rattle.nd_stack.specs.KeptStacks.{IsKeptStack}
 use Rattle.nd_stack.specs.LayoutHeads.{IsKeptValue}
 use Rattle.nd_stack.specs.RoundTrip.{IsKept}
-use Rattle.nd_stack.specs.SoundLaws.{Reads-IsSound}
+use Rattle.nd_stack.specs.SoundLaws.{Reads-IsSoundHeader}
 use Rattle.nd_stack.specs.StackRules.{frames_of, head_for, heads_of, stack_with, stack_of}
 use Rattle.nd_stack.proofs.Accepted.{bind-Ok, IsAccepted, frames_of-IsAccepted}
 use Rattle.nd_stack.proofs.Fits.{accepted-FitsFile}
@@ -224,7 +224,7 @@ stack_with-IsKeptStack bytes h v kind small is reads accepted =
     let shape = shape_of h v kind in
     let heads = heads_of bytes h (frame_count h v) in
     let column = read.column_of h v in
-    let fits = accepted-FitsFile bytes h v kind (Reads-IsSound bytes h reads) accepted in
+    let fits = accepted-FitsFile bytes h v kind (Reads-IsSoundHeader bytes h reads) accepted in
     let sound : IsStack (stack_with bytes h v kind) = stack_at-IsStack shape heads bytes column.first column.step fits in
     let count : frame_count h v ≡ length heads = sym (length-map-range_with_len (head_for bytes (times_of h) (attr_vars h)) 0 (frame_count h v)) in
     let kept = heads_of-IsKeptHead bytes h v kind (frame_count h v) small (omega (arith, count, fits.few_frames)) in

@@ -16,7 +16,7 @@ use Rattle.cdf_read.specs.PlaceLaws.{position-None}
 use Rattle.nd_stack.specs.Columns.{variable_of, number_of, frame_count, values_size, column_of}
 use Rattle.nd_stack.specs.FrameVars.{counts_frames, is_frame_var, misfit, earlier, frame_misfit, times_of}
 use Rattle.nd_stack.specs.AttrVars.{is_attr_var, attr_rank, attr_misfit, attr_var, attr_vars}
-use Rattle.nd_stack.specs.Sound.{IsSound, IsSoundVar, HasCell, HasTimes, HasAttr}
+use Rattle.nd_stack.specs.Sound.{IsSoundHeader, IsSoundVar, HasCell, HasTimes, HasAttr}
 use Rattle.nd_stack.specs.SoundLaws.{column_of-LiesWithin}
 use Rattle.nd_stack.proofs.Numbers.{All-find}
 
@@ -61,7 +61,8 @@ fits_cell total h v frames kind k sound fits within =
     let cell = counted_within total h v frames 1 k sound parts.0 within in
     (cell.1, one_value h v cell.0 ∙ ap value_size (eqb-true v.kind kind parts.1))
 
-named_cell : (total : ℕ) (h : Header) (frames : ℕ) (name : List ℕ) (kind k : ℕ) (found : Option HeadVar) → IsSound total h → misfit h frames name kind ≡ None
+named_cell : (total : ℕ) (h : Header) (frames : ℕ) (name : List ℕ) (kind k : ℕ) (found : Option HeadVar) → IsSoundHeader total h
+    → misfit h frames name kind ≡ None
     → variable_of h name ≡ found → k < frames → IfSome (option_map (column_of h) found) (HasCell total (value_size kind) k)
 named_cell total h frames name kind k None sound e is within = tt
 named_cell total h frames name kind k (Some w) sound e is within =
@@ -74,7 +75,7 @@ none_earlier (Some m) None e = absurd (cc)
 none_earlier (Some m) (Some n) e = absurd (cc)
 
 -- the per-frame variables have a value for each frame
-pub times-HasTimes : (total : ℕ) (h : Header) (frames k : ℕ) → IsSound total h → frame_misfit h frames ≡ None → k < frames → HasTimes total k (times_of h)
+pub times-HasTimes : (total : ℕ) (h : Header) (frames k : ℕ) → IsSoundHeader total h → frame_misfit h frames ≡ None → k < frames → HasTimes total k (times_of h)
 times-HasTimes total h frames k sound e within =
     let both =
     none_earlier (earlier (misfit h frames (codes "uniqueId") 4) (misfit h frames (codes "timeStamp") 6))
@@ -98,7 +99,7 @@ pub record IsCounted (total : ℕ) (h : Header) (frames : ℕ) (v : HeadVar) : T
   pub sound : IsSoundVar total h v
   pub counts : is_attr_var v ≡ true → counts_frames h frames (attr_rank v.kind) v ≡ true
 
-pub all_counted : (total : ℕ) (h : Header) (frames : ℕ) → IsSound total h → attr_misfit h frames ≡ None → All (IsCounted total h frames) h.vars
+pub all_counted : (total : ℕ) (h : Header) (frames : ℕ) → IsSoundHeader total h → attr_misfit h frames ≡ None → All (IsCounted total h frames) h.vars
 all_counted total h frames sound e i d within = record {
   sound = sound.vars i d within;
   counts = counts_where (is_attr_var (get_or h.vars i d)) (counts_frames h frames (attr_rank (get_or h.vars i d).kind) (get_or h.vars i d))
@@ -126,7 +127,8 @@ has_attr total h frames k v counted is within =
     }
 
 -- the attribute variables have a value for each frame
-pub attrs-HasAttr : (total : ℕ) (h : Header) (frames k : ℕ) → IsSound total h → attr_misfit h frames ≡ None → k < frames → All (HasAttr total k) (attr_vars h)
+pub attrs-HasAttr : (total : ℕ) (h : Header) (frames k : ℕ) → IsSoundHeader total h → attr_misfit h frames ≡ None → k < frames
+    → All (HasAttr total k) (attr_vars h)
 attrs-HasAttr total h frames k sound e within =
     let counted = All-filter is_attr_var (IsCounted total h frames) h.vars (all_counted total h frames sound e) in
     let are = filter_passes is_attr_var h.vars in

@@ -13,7 +13,7 @@ use Rattle.nd_stack.specs.declared.attributes.AttrVar.{AttrVar}
 use Rattle.nd_stack.specs.Columns.{column_of}
 use Rattle.nd_stack.specs.AttrVars.{is_attr_var, attr_misfit, attr_rank, attr_var, attr_vars}
 use Rattle.nd_stack.specs.FrameShape.{text_room, width_of}
-use Rattle.nd_stack.specs.Sound.{IsSound}
+use Rattle.nd_stack.specs.Sound.{IsSoundHeader}
 use Rattle.nd_stack.proofs.Others.{IsCounted, all_counted, counted_rank}
 
 dim_length-most : (dims : List HeadDim) (n : ℕ) → All (λ d. d.length ≤ 2147483647) dims → dim_length dims n ≤ 2147483647
@@ -26,7 +26,7 @@ one_left dims [] e all = absurd (omega arith)
 one_left dims (n ∷ []) e all = omega (arith, value_count-cons dims n [], dim_length-most dims n all)
 one_left dims (n ∷ m ∷ numbers) e all = absurd (omega arith)
 
-text_size : (total : ℕ) (h : Header) (frames : ℕ) (v : HeadVar) → IsSound total h → IsCounted total h frames v → is_attr_var v ≡ true → v.kind ≡ 2
+text_size : (total : ℕ) (h : Header) (frames : ℕ) (v : HeadVar) → IsSoundHeader total h → IsCounted total h frames v → is_attr_var v ≡ true → v.kind ≡ 2
     → (column_of h v).size ≤ 2147483647
 text_size total h frames v sound counted is kind =
     let rank : length v.dims ≡ 2 = counted_rank total h frames v counted is ∙ ap attr_rank kind in
@@ -40,7 +40,7 @@ fold-most (a ∷ vars) start m low all =
     let here = All-head (λ (a : AttrVar). a.column.size ≤ m) a vars all in
     fold-most vars (max start a.column.size) m (omega arith) (All-tail (λ (a : AttrVar). a.column.size ≤ m) a vars all)
 
-texts_small : (total : ℕ) (h : Header) (frames : ℕ) → IsSound total h → All (IsCounted total h frames) h.vars
+texts_small : (total : ℕ) (h : Header) (frames : ℕ) → IsSoundHeader total h → All (IsCounted total h frames) h.vars
     → All (λ (a : AttrVar). a.kind ≡ 2 → a.column.size ≤ 2147483647) (attr_vars h)
 texts_small total h frames sound all =
     let counted = All-filter is_attr_var (IsCounted total h frames) h.vars all in
@@ -59,7 +59,7 @@ width_by : (b : Bool) (n : ℕ) → n ≤ 2147483647 → (if b then 256 else n) 
 width_by true n low = omega arith
 width_by false n low = low
 
-pub width_of-most : (total : ℕ) (h : Header) (frames : ℕ) → IsSound total h → attr_misfit h frames ≡ None → width_of (attr_vars h) ≤ 2147483647
+pub width_of-most : (total : ℕ) (h : Header) (frames : ℕ) → IsSoundHeader total h → attr_misfit h frames ≡ None → width_of (attr_vars h) ≤ 2147483647
 width_of-most total h frames sound e =
     width_by (text_room (attr_vars h) == 0) (text_room (attr_vars h))
     (room_most (attr_vars h) (texts_small total h frames sound (all_counted total h frames sound e)))

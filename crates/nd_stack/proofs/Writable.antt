@@ -31,7 +31,7 @@ use Rattle.nd_stack.specs.Columns.{frame_count, frame_values}
 use Rattle.nd_stack.specs.AttrVars.{is_attr_name, is_attr_var, attr_kind, attr_var, attr_vars}
 use Rattle.nd_stack.specs.FrameShape.{text_room, width_of, extras_of, shape_of}
 use Rattle.nd_stack.specs.Sound.{IsSoundVar}
-use Rattle.nd_stack.specs.SoundLaws.{AreMany-All, Reads-IsSound}
+use Rattle.nd_stack.specs.SoundLaws.{AreMany-All, Reads-IsSoundHeader}
 use Rattle.nd_stack.specs.StackRules.{frames_of, stack_of}
 use Rattle.nd_stack.proofs.Numbers.{All-find}
 use Rattle.nd_stack.proofs.Accepted.{bind-Ok, IsAccepted, frames_of-IsAccepted}
@@ -105,7 +105,7 @@ width_of-positive vars = width_by (text_room vars == 0) (text_room vars) refl
 
 accepted-IsWritable : (bytes : List ℕ) (h : Header) (v : HeadVar) (kind : SampleType) → Reads bytes h → IsAccepted h v kind → IsWritable (shape_of h v kind)
 accepted-IsWritable bytes h v kind reads accepted =
-    let sound = Reads-IsSound bytes h reads in
+    let sound = Reads-IsSoundHeader bytes h reads in
     let this : IsSoundVar (length bytes) h v = All-find (IsSoundVar (length bytes) h) _ h.vars v sound.vars accepted.found in
     let named =
     AreMany-All (λ (earlier : List HeadVar). IsVar reads.form h.dims)

@@ -16,7 +16,7 @@ pub record IsSoundVar (total : ℕ) (h : Header) (v : HeadVar) : Type 0 where
   pub least : 1 ≤ v.kind
   pub most : v.kind ≤ 6
 
-pub record IsSound (total : ℕ) (h : Header) : Type 0 where
+pub record IsSoundHeader (total : ℕ) (h : Header) : Type 0 where
   pub few : length h.vars ≤ 2147483647
   pub vars : All (IsSoundVar total h) h.vars
   pub lengths : All (λ d. d.length ≤ 2147483647) h.dims

@@ -14,7 +14,7 @@ use Rattle.cdf_read.specs.Grammar.{AreMany, IsDim, IsDimNumber, IsVar, Reads}
 use Rattle.cdf_read.specs.Places.{dim_length, value_size, value_count, size_of, var_size, values_end}
 use Rattle.cdf_read.specs.PlaceLaws.{value_count-cons}
 use Rattle.nd_stack.specs.Columns.{frame_count, column_of, LiesWithin}
-use Rattle.nd_stack.specs.Sound.{IsSound}
+use Rattle.nd_stack.specs.Sound.{IsSoundHeader}
 
 -- what each element says holds of all
 pub AreMany-All : {A : Type 0} (Is : List A → A → List ℕ → List ℕ → Type 0) (P : A → Type 0)
@@ -63,8 +63,8 @@ spelled form dims v before after is = record {
 }
 
 -- a header that was read is sound
-pub Reads-IsSound : (bytes : List ℕ) (h : Header) → Reads bytes h → IsSound (length bytes) h
-Reads-IsSound bytes h reads =
+pub Reads-IsSoundHeader : (bytes : List ℕ) (h : Header) → Reads bytes h → IsSoundHeader (length bytes) h
+Reads-IsSoundHeader bytes h reads =
     let vars =
     AreMany-All (λ (earlier : List HeadVar). IsVar reads.form h.dims) (IsSpelled h.dims) (λ earlier v before after. spelled reads.form h.dims v before after) []
     h.vars reads.header.vars.0 reads.after reads.header.vars.2 in

@@ -7,7 +7,7 @@ ghost use Rattle.nd_stack.specs.Answers.{Gives};
 ghost use Rattle.nd_stack.specs.ColumnLaws.{FrameStands};
 ghost use Rattle.nd_stack.specs.Columns.{frame_count};
 ghost use Rattle.nd_stack.specs.FrameShape.{shape_of};
-ghost use Rattle.nd_stack.specs.Sound.{IsSound};
+ghost use Rattle.nd_stack.specs.Sound.{IsSoundHeader};
 ghost use Rattle.nd_stack.specs.StackRules.{frames_of, heads_of, stack_of};
 
 use crate::StackFault;
@@ -28,7 +28,7 @@ fn parts_of(
     var: &HeadVar,
     kind: SampleType,
 ) -> Result<(FileShape, Vec<Head>), OutOfMemory>
-    requires sound { IsSound (length bytes.now) header.now }
+    requires sound { IsSoundHeader (length bytes.now) header.now }
     requires frames { frames_of header.now ≡ Ok (var.now, kind) }
     ensures shape { IfOk result (λ parts. parts.0 ≡ shape_of header.now var.now kind) }
     ensures heads { IfOk result (λ parts. parts.1.items ≡ heads_of bytes.now header.now (frame_count header.now var.now)) }
