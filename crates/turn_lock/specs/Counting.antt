@@ -58,5 +58,5 @@ abbrev pub IsReady : TableId → Job → Type 0
 IsReady id j = (j.pass.lock ≡ id) × (j.pass.made ≡ no_moves j.role ∷ [])
 
 -- the pass of a role that has done its counts
-abbrev pub IsDone : TableId → ℕ → PassFacts Count → Type 0
-IsDone id times p = (p.lock ≡ id) × (length p.made ≡ 1) × EachCounted times p.made
+abbrev pub IsCountDone : TableId → ℕ → PassFacts Count → Type 0
+IsCountDone id times p = (p.lock ≡ id) × (length p.made ≡ 1) × EachCounted times p.made

@@ -5,7 +5,7 @@ ghost use Rattle.turn_lock.specs.declared.counter.Count.{Count};
 ghost use Rattle.turn_lock.specs.Logs.{moves_of};
 ghost use Rattle.turn_lock.specs.Views.{no_moves};
 ghost use Rattle.turn_lock.specs.Passes.{new_passes};
-ghost use Rattle.turn_lock.specs.Counting.{counted_by, count, HasRole, HasCounted, EachCounted, IsReady, IsDone};
+ghost use Rattle.turn_lock.specs.Counting.{counted_by, count, HasRole, HasCounted, EachCounted, IsReady, IsCountDone};
 
 use crate::counter::{Counter, CounterOp, CounterReply};
 use crate::lock::{Pass, TurnLock};
@@ -120,7 +120,7 @@ fn join_all(
     mut ends: Vec<Result<Pass<Counter>, AllocError>>,
     times: u32,
 ) -> Result<Pass<Counter>, AllocError>
-    requires done { All (λ r. IfOk r (λ p. IsDone lock.now.id times p)) ends.items }
+    requires done { All (λ r. IfOk r (λ p. IsCountDone lock.now.id times p)) ends.items }
     requires some_end { 0 < vec_len ends }
     ensures own { IfOk result (λ p. p.lock ≡ lock.now.id) }
     ensures all { IfOk result (λ p. length p.made ≡ vec_len ends) }
@@ -149,7 +149,7 @@ pub fn count_all<T: Threads + Wait + Sync>(
     let jobs = jobs(alloc, &lock, passes)?;
     let work = |job: Job| -> Result<Pass<Counter>, AllocError>
         requires { IsReady lock.id job }
-        ensures { IfOk result (λ p. IsDone lock.id times p) }
+        ensures { IfOk result (λ p. IsCountDone lock.id times p) }
     {
         let Job { role, pass } = job;
         count_times(rt, alloc, &lock, pass, role, times)
