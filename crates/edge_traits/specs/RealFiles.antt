@@ -36,8 +36,8 @@ abbrev pub Seeks : {F : Type 0} → (F → Option ℕ) → (F → Option (List �
 Seeks place bytes to n old new = IfSome (place old) (λ p. IsSeekTarget p (bytes old) to n × (place new ≡ Some n))
 
 -- a seek to this place, and then a read that gave this answer
-abbrev pub Reads : {F E : Type 0} → (F → Option ℕ) → (F → Option (List ℕ)) → (F → Option (List ℕ)) → SeekFrom → Result ℕ E → List ℕ → F → F → Type 0
-Reads {F} place bytes remaining to answer buf old new =
+abbrev pub ReadsAfterSeek : {F E : Type 0} → (F → Option ℕ) → (F → Option (List ℕ)) → (F → Option (List ℕ)) → SeekFrom → Result ℕ E → List ℕ → F → F → Type 0
+ReadsAfterSeek {F} place bytes remaining to answer buf old new =
     (there : F) × (n : ℕ) × Seeks place bytes to n old there × ReadConsumes (remaining there) (remaining new) answer buf
 
 -- A file that the shelf has begun and not finished: its name, where the bytes that the shelf gave it end, and where it is open the

@@ -3,7 +3,7 @@
 ghost use Rattle.std.specs.Prelude.{◌≡◌, ◌≤◌, None, length, pos, IfOk, OnOk};
 ghost use Rattle.std.specs.declared.io.traits.SeekFrom.TheVariants.{Start, End};
 ghost use Rattle.edge_traits.specs.Faults.{Counts};
-ghost use Rattle.edge_traits.specs.RealFiles.{Steps, Seeks, Reads};
+ghost use Rattle.edge_traits.specs.RealFiles.{Steps, Seeks, ReadsAfterSeek};
 
 use super::kept_file::KeptFile;
 use super::{counted, fault, file_of, interrupted};
@@ -79,7 +79,7 @@ impl<'a, R: Files> Library for DiskLibrary<'a, R> {
     fn read_at(&mut self, name: &str, off: u64, buf: &mut [u8]) -> Result<usize, Failed>
         ensures bound { IfOk result (λ n. n ≤ length buf.new) }
         ensures reads { OnOk result (Steps self.old.last self.new.last name.now
-            (Reads R.File.stream_position R.File.stream_bytes R.File.remaining (Start off) result buf.new)) }
+            (ReadsAfterSeek R.File.stream_position R.File.stream_bytes R.File.remaining (Start off) result buf.new)) }
         ensures cause { Counts self.old.faults self.new.faults result }
     {
         let mut file = file_of(
