@@ -38,7 +38,7 @@ value_within bytes h var r i value reads =
     omega (arith, last, before)
 
 -- the same of a value that is found by its variable's place in the list, in a file of fewer than 2 ^ 64 bytes
-pub record Stands (h : Header) (v : HeadVar) (var r i : ℕ) : Type 0 where
+pub record IsStandingValue (h : Header) (v : HeadVar) (var r i : ℕ) : Type 0 where
   pub found : slice_get h.vars var ≡ Some v
   pub value : i * value_size v.kind < 2 ^ 64
   pub in_record : is_record_var h.dims v ≡ true → v.begin + r * h.recsize + i * value_size v.kind < 2 ^ 64
@@ -49,7 +49,7 @@ below : (b : Bool) (begin records value : ℕ) → begin + (if b then records el
 below true begin records value h = (λ e. h, λ e. absurd (cc))
 below false begin records value h = (λ e. absurd (cc), λ e. omega arith)
 
-pub value_stands : (h : Header) (v : HeadVar) (var r i : ℕ) → IsOfFile h → HasValue h var r i → v ≡ get_or h.vars var v → Stands h v var r i
+pub value_stands : (h : Header) (v : HeadVar) (var r i : ℕ) → IsOfFile h → HasValue h var r i → v ≡ get_or h.vars var v → IsStandingValue h v var r i
 value_stands h v var r i file value at =
     let same : value.variable ≡ v = sym (get_or_from_slice_get h.vars var value.variable v value.found) ∙ sym at in
     let within = value_within file.bytes h var r i value file.reads in
