@@ -1,4 +1,4 @@
--- Each array at a place stands on a block, and so does each that is owed.
+-- The block of an array that is next at a place, of all in a ring, and of that of a hand.
 use Rattle.std.proofs.Common.{◌≡◌, ◌∙◌, ℕ, true, false, Bool, List, [], ◌∷◌, Some, sym, ap, arith}
 use Rattle.std.specs.List.{All}
 use Rattle.std.proofs.lemmas.List.Elements.{All-cons, All-nil}
