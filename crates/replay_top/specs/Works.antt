@@ -15,7 +15,7 @@ use Rattle.replay_top.specs.PlainText.{plain_text}
 use Rattle.replay_top.specs.Printed.{frames_line}
 use Rattle.replay_top.specs.Sources.{IsGraphRead, IsStackRead}
 
--- a graph and a stack; `copy` and `info` go over the stack alone
+-- a graph and a stack; `copy` brings a graph of its own, and `info` goes over the stack alone
 pub record Source : Type 0 where
   pub graph : Graph
   pub stack : StackValue
