@@ -1,5 +1,6 @@
 -- What a write of several rows in one piece makes of the files of a node: what one write for each of them would.
-use Rattle.std.proofs.Common.{◌≡◌, ℕ, suc, ◌+◌, ◌^◌, ◌<◌, ◌≤◌, Bool, true, false, ltb, List, [], ◌∷◌, ◌++◌, length, Option, None, Some, Ok, Err, Result, inl, inr}
+use Rattle.std.proofs.Common.{◌≡◌, ℕ, suc, ◌+◌, ◌^◌, ◌<◌, ◌≤◌, Bool, true, false, ltb, List, [], ◌∷◌, ◌++◌, length}
+use Rattle.std.proofs.Common.{Option, None, Some, Ok, Err, Result, inl, inr}
 use Rattle.std.proofs.Common.{OnOk, OnErr, IfErr, refl, sym, ap, subst, ◌∙◌, arith, append_assoc, append-nil, take, drop}
 use Rattle.std.specs.List.{flat_map}
 use Rattle.std.specs.Option.{ForSome}
@@ -73,7 +74,8 @@ module _ (f : Stream) (a : Array) (t : Option Files) where
 
 -- as one write of an array
 module _ (x : NodeFile) (of : Option ℕ) (g p : ℕ) (small : g < 2 ^ 64) (a : Array) (o : Option Stream) (f : Stream) where
-  goes-some : (t u : Option Files) → x.current ≡ Some f → f ≡ stream_of x g p f.numrecs → f.numrecs ≡ first_count x.late of → (rows : List Array) → HasRows t f rows
+  goes-some : (t u : Option Files) → x.current ≡ Some f → f ≡ stream_of x g p f.numrecs → f.numrecs ≡ first_count x.late of → (rows : List Array)
+      → HasRows t f rows
       → IsChangedAt t f.name u → ((rows : List Array) → HasRows t f rows → RowGoes (ltb (p + 1) x.count) f (rows ++ a ∷ []) o u) → Goes x of g p a o t u
   goes-some t u is this numrecs rows has changed given = record {
     numrecs = numrecs-after {T = Bool} (Ok true) (ltb (p + 1) x.count) f rows a o t u (first_count x.late of) numrecs has given tt;
@@ -89,7 +91,8 @@ module _ (x : NodeFile) (of : Option ℕ) (g p : ℕ) (small : g < 2 ^ 64) (a : 
     numrecs = numrecs-after {T = Bool} (Ok true) (ltb (p + 1) x.count) f [] a o v u (first_count x.late of) (ap (λ (k : Stream). k.numrecs) this) has given tt;
     changed =
         changed-then t v u (name_of x g) (Wrote (header x.shape (first_count x.late of)) made) (subst (λ (k : Stream). IsChangedAt v k.name u) this changed);
-    written = λ arrays place h. none-goes x (record x { current = o }) g p small (λ shape. a) t u refl arrays place h none_ (first_count x.late of) f this v made
+    written = λ arrays place h.
+      none-goes x (record x { current = o }) g p small (λ shape. a) t u refl arrays place h none_ (first_count x.late of) f this v made
         has changed x.count refl given;
     ended = λ last. ended-by (ltb (p + 1) x.count) f ([] ++ a ∷ []) o u (p + 1) x.count refl last (given [] has);
   }

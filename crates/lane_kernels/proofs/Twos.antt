@@ -1,16 +1,25 @@
--- Two samples of 16 bits in one word.
+-- Two samples in one word or one pair.
 use Rattle.std.proofs.Common.{◌≡◌, ◌≢◌, ℕ, ◌+◌, ◌-◌, ◌*◌, ◌/◌, ◌%◌, ◌≤◌, ℤ, pos, ◌+ℤ◌, List, [], ◌∷◌, length, get_or, take, drop, Fits, FitsSigned, w8}
-use Rattle.std.proofs.Common.{to_z, of_z, ap, sym, subst, ◌∙◌, arith}
+use Rattle.std.proofs.Common.{to_z, of_z, ap, sym, subst, refl, ◌∙◌, arith}
 use Rattle.std.specs.Int.{w16, w32, from_be_bytes, int_wrap}
 use Rattle.std.specs.Prelude.{unsigned_abs}
 use Rattle.std.proofs.Math.Facts.{of_z-to_z}
 use Rattle.std.proofs.lemmas.Int.{to_z_pos, wrapping_add_is, int_wrap-add_left, SFits-int_wrap, ints}
 use Rattle.std.proofs.lemmas.List.{drop-drop, length-drop}
 use Rattle.nd_base.specs.declared.array.SampleType.{SampleType}
-use Rattle.nd_base.specs.declared.array.SampleType.TheVariants.{UInt16}
+use Rattle.nd_base.specs.declared.array.SampleType.TheVariants.{UInt8, UInt16}
 use Rattle.lane_kernels.specs.Plain.{stored, run, square_run}
-use Rattle.lane_kernels.proofs.Narrow.{narrow_stored, square_run-more}
+use Rattle.lane_kernels.proofs.Narrow.{narrow_stored, byte_stored, square_run-more}
 use Rattle.lane_kernels.proofs.Wraps.{sum_below-more}
+
+-- the sum of two samples without a sign
+two_run : (kind : SampleType) (input : List ℕ) (place high low : ℕ) → stored kind input place ≡ pos high → stored kind input (place + 1) ≡ pos low
+    → pos (high + low) ≡ run kind input 2 place
+two_run kind input place high low first second =
+    let here : place + 0 ≡ place = omega arith in
+    let sum : high + low ≡ 0 + high + low = omega arith in
+    ap pos sum ∙ ap (λ z. pos 0 +ℤ z +ℤ pos low) (sym (ap (stored kind input) here ∙ first))
+    ∙ ap (λ z. pos 0 +ℤ stored kind input (place + 0) +ℤ z) (sym second)
 
 word_halves : (bs : List ℕ) → 4 ≤ length bs → from_be_bytes w32 (take 4 bs) ≡ from_be_bytes w16 (take 2 bs) * 65536 + from_be_bytes w16 (take 2 (drop 2 bs))
 word_halves [] h = absurd (omega arith)
@@ -55,10 +64,7 @@ module _ (input : List ℕ) (place : ℕ) (fit : (i : ℕ) → Fits w8 (get_or i
     pub two_of_word : pos (word / 65536 + word % 65536) ≡ run UInt16 input 2 place
     two_of_word =
         let low = narrow_stored UInt16 input (place + 1) fit (omega arith) in
-        let both = halves_sum word first second split low in
-        let here : place ≡ place + 0 = omega arith in
-        let sum : first + second ≡ 0 + first + second = omega arith in
-        ap pos (both ∙ sum) ∙ ap (λ p. pos (0 + from_be_bytes w16 (take 2 (drop (p * 2) input)) + second)) here
+        ap pos (halves_sum word first second split low) ∙ two_run UInt16 input place first second refl refl
 
     pub two_in_word : to_z w32 (word / 65536 + word % 65536) ≡ run UInt16 input 2 place
     two_in_word =
@@ -66,6 +72,33 @@ module _ (input : List ℕ) (place : ℕ) (fit : (i : ℕ) → Fits w8 (get_or i
         let low = narrow_stored UInt16 input (place + 1) fit (omega arith) in
         let both = halves_sum word first second split low in
         to_z_pos w32 (word / 65536 + word % 65536) (omega (arith, high, low, both)) ∙ two_of_word
+
+pair_halves : (bs : List ℕ) → 2 ≤ length bs → from_be_bytes w16 (take 2 bs) ≡ from_be_bytes w8 (take 1 bs) * 256 + from_be_bytes w8 (take 1 (drop 1 bs))
+pair_halves [] h = absurd (omega arith)
+pair_halves (a ∷ []) h = absurd (omega arith)
+pair_halves (a ∷ b ∷ bs) h = omega arith
+
+bytes_sum : (pair high low : ℕ) → pair ≡ high * 256 + low → low ≤ 255 → pair / 256 + pair % 256 ≡ high + low
+bytes_sum pair high low e h = omega arith
+
+-- the sum of the two bytes at a place
+pub two_in_pair : (input : List ℕ) (place : ℕ) → ((i : ℕ) → Fits w8 (get_or input i 0)) → (pair : ℕ) → pair ≡ from_be_bytes w16 (take 2 (drop place input))
+    → place + 2 ≤ length input → to_z w32 (pair / 256 + pair % 256) ≡ run UInt8 input 2 place
+two_in_pair input place fit pair e within =
+    let bs = drop place input in
+    let long = length-drop place input in
+    let here : place ≡ place * 1 = omega arith in
+    let there : place + 1 ≡ (place + 1) * 1 = omega arith in
+    let next : drop 1 bs ≡ drop ((place + 1) * 1) input = drop-drop 1 place input ∙ ap (λ n. drop n input) there in
+    let high = from_be_bytes w8 (take 1 (drop (place * 1) input)) in
+    let low = from_be_bytes w8 (take 1 (drop ((place + 1) * 1) input)) in
+    let first = byte_stored UInt8 input place fit refl in
+    let second = byte_stored UInt8 input (place + 1) fit refl in
+    let split : pair ≡ high * 256 + low =
+    e ∙ pair_halves bs (omega arith) ∙ ap (λ n. from_be_bytes w8 (take 1 (drop n input)) * 256 + from_be_bytes w8 (take 1 (drop 1 bs))) here
+    ∙ ap (λ l. high * 256 + from_be_bytes w8 (take 1 l)) next in
+    let both = bytes_sum pair high low split second in
+    to_z_pos w32 (pair / 256 + pair % 256) (omega (arith, first, second, both)) ∙ ap pos both ∙ two_run UInt8 input place high low refl refl
 
 regrouped : (r a b : ℤ) → r +ℤ a +ℤ b ≡ r +ℤ (pos 0 +ℤ a +ℤ b)
 regrouped r a b = omega (arith, ints)

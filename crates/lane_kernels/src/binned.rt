@@ -5,10 +5,10 @@ ghost use Rattle.std.specs.Int.{w32, w64, int_wrap};
 ghost use Rattle.std.specs.List.{range_with_len};
 ghost use Rattle.nd_base.specs.Samples.{width};
 ghost use Rattle.nd_base.specs.declared.array.SampleType.TheVariants.{UInt8, UInt16};
-ghost use Rattle.lane_kernels.specs.Plain.{run};
+ghost use Rattle.lane_kernels.specs.Plain.{stored, run};
 
-use crate::sample::{low_word, narrow_at, sample_at};
-use nd_base::{SampleType, word_at};
+use crate::sample::{low_word, sample_at};
+use nd_base::{SampleType, pair_at, word_at};
 use std::simd::prelude::*;
 
 /// The sum of the `bin` samples from a place on.
@@ -54,6 +54,16 @@ fn low_run_each(kind: SampleType, input: &[u8], bin: usize, place: usize) -> i32
     sum
 }
 
+/// The sum of two bytes without a sign, read as one pair.
+#[inline(always)]
+fn sum_of_bytes(input: &[u8], place: usize) -> i32
+    requires { place + 2 ≤ length input.now / width UInt8 }
+    ensures { result ≡ run UInt8 input.now 2 place }
+{
+    let pair = pair_at(input, place);
+    (pair / 0x100 + pair % 0x100) as i32
+}
+
 /// The sum of two samples of 16 bits without a sign, read as one word.
 #[inline(always)]
 fn sum_of_two(input: &[u8], place: usize) -> i32
@@ -64,7 +74,18 @@ fn sum_of_two(input: &[u8], place: usize) -> i32
     (word / 0x1_0000 + word % 0x1_0000) as i32
 }
 
-/// The same of samples of 16 bits without a sign, two by two.
+/// The sample of 16 bits without a sign at a place. With the code of all types in its place `add_low_runs` would grow too large to be
+/// compiled for each type.
+#[inline(always)]
+#[tactic(auto, using(crate::proofs::Narrow::narrow_stored))]
+fn unsigned_at(input: &[u8], place: usize) -> i32
+    requires { place < length input.now / width UInt16 }
+    ensures { result ≡ stored UInt16 input.now place }
+{
+    i32::from(pair_at(input, place * 2))
+}
+
+/// What is left in 32 bits of the sum of the `bin` samples from a place on, of 16 bits without a sign, two by two.
 #[inline(always)]
 #[tactic(auto, using(crate::proofs::Wraps::wrapping))]
 fn low_run_by_two(input: &[u8], bin: usize, place: usize) -> i32
@@ -78,7 +99,7 @@ fn low_run_by_two(input: &[u8], bin: usize, place: usize) -> i32
     if bin % 2 == 0 {
         sum
     } else {
-        let last = narrow_at(SampleType::UInt16, input, place + bin - 1);
+        let last = unsigned_at(input, place + bin - 1);
         sum.wrapping_add(last)
     }
 }
@@ -90,6 +111,7 @@ fn low_run(kind: SampleType, input: &[u8], bin: usize, place: usize) -> i32
     ensures { result ≡ int_wrap w32 (run kind input.now bin place) }
 {
     match kind {
+        SampleType::UInt8 if bin == 2 => sum_of_bytes(input, place),
         SampleType::UInt16 => low_run_by_two(input, bin, place),
         _ => low_run_each(kind, input, bin, place),
     }

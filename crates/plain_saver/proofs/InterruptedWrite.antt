@@ -218,7 +218,8 @@ module _ (g : Graph) (s : StackValue) (prefix : List ℕ) (sound : IsGraph g) (k
               ]
 
     -- a fault of the shelf on the group's name, while the rows of these were written
-    pub interrupted-rows : (zs rest : List Array) → group_of x.count G (all_out g s x.node) ≡ (group_of x.count G (W x.node) ++ zs) ++ rest → (now : Option Files)
+    pub interrupted-rows : (zs rest : List Array) → group_of x.count G (all_out g s x.node) ≡ (group_of x.count G (W x.node) ++ zs) ++ rest
+        → (now : Option Files)
         → AllWrittenBut t (set xs at (record x { current = None })) W x G now
         → IsTorn (file_at t (name_of x G)) x.shape (first_count x.late (Some (size x))) (group_of x.count G (W x.node) ++ zs) (file_at now (name_of x G))
         → AreInterrupted before (plain_files g s prefix) now

@@ -130,7 +130,8 @@ arrays-end g ps xs at k all h = record {
 module _ (g : Graph) (s : StackValue) (prefix : List ℕ) (before t : Option Files) (ps : List Pass) (xs : List NodeFile) (sound : IsGraph g)
     {ts : List (List ℕ)} (saved : IsSaved g s prefix before ps ts xs t) (k : ℕ) where
   -- one file node more was asked
-  pub arrays-next : (qs : List Pass) (ys : List NodeFile) (at : ℕ) (x : NodeFile) → slice_get xs at ≡ Some x → IsAsked ps x.node k qs → map closed ys ≡ map closed xs → ArrayTurns g ps xs at k
+  pub arrays-next : (qs : List Pass) (ys : List NodeFile) (at : ℕ) (x : NodeFile) → slice_get xs at ≡ Some x → IsAsked ps x.node k qs
+      → map closed ys ≡ map closed xs → ArrayTurns g ps xs at k
       → ArrayTurns g qs ys (at + 1) k
   arrays-next qs ys at x is asked same h = record {
     done = λ j y low hy.

@@ -18,7 +18,7 @@ use nd_base::{FileShape, OutOfMemory, Plan, Stack};
 use std::alloc::Global;
 
 /// How many bytes are enough for one write.
-const ENOUGH: usize = 65_536;
+const ENOUGH: usize = 16_384;
 
 /// Adds the row of the array that goes out of a file node after `ahead` others.
 fn add_row(

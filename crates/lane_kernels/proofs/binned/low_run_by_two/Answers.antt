@@ -24,7 +24,7 @@ returns-else-bin-eq0 c =
     let all : c.loop-j.j ≡ bin / 2 = omega arith in
     let before = run UInt16 input (bin / 2 * 2) place in
     let f : Fits w32 c.loop-j.sum-bits = search rules in
-    let g : FitsSigned w32 c.narrow_at-last.result = search rules in
-    kept_more c.loop-j.sum-bits before c.narrow_at-last.result f g (c.loop-j.invariant ∙ ap (λ n. int_wrap w32 (run UInt16 input (n * 2) place)) all)
-    ∙ ap (λ z. int_wrap w32 (before +ℤ z)) c.narrow_at-last.ensures.value
+    let g : FitsSigned w32 c.unsigned_at-last.result = search rules in
+    kept_more c.loop-j.sum-bits before c.unsigned_at-last.result f g (c.loop-j.invariant ∙ ap (λ n. int_wrap w32 (run UInt16 input (n * 2) place)) all)
+    ∙ ap (λ z. int_wrap w32 (before +ℤ z)) c.unsigned_at-last.ensures
     ∙ ap (int_wrap w32) (sym (run-last UInt16 input bin place c.if-bin-eq0.false))

@@ -64,7 +64,8 @@ overflow_sub-next g c =
     let i = item xs c.args.at c.requires.at in
     let x = i.0 in
     let node = c.node-node.ensures x i.1 in
-    let below = one-left graph s c.requires.graph c.requires.kept c.requires.saved.0 c.requires.saved.1.0 ps xs t c.requires.saved.1.1 c.args.at x i.1 c.args.index
+    let below = one-left graph s c.requires.graph c.requires.kept c.requires.saved.0 c.requires.saved.1.0 ps xs t c.requires.saved.1.1
+    c.args.at x i.1 c.args.index
     c.in-Some.next.group c.in-Some.next.place c.in-Some.next.of (c.in-Some.ensures.some x i.1) in
     omega (arith, below)
 
@@ -109,7 +110,8 @@ gather-requires-clause-some g c =
     let i = item xs c.args.at c.requires.at in
     let x = i.0 in
     let node = c.node-node.ensures x i.1 in
-    let below = one-left graph s c.requires.graph c.requires.kept c.requires.saved.0 c.requires.saved.1.0 ps xs t c.requires.saved.1.1 c.args.at x i.1 c.args.index
+    let below = one-left graph s c.requires.graph c.requires.kept c.requires.saved.0 c.requires.saved.1.0 ps xs t c.requires.saved.1.1
+    c.args.at x i.1 c.args.index
     c.in-Some.next.group c.in-Some.next.place c.in-Some.next.of (c.in-Some.ensures.some x i.1) in
     omega (arith, below)
 
@@ -194,7 +196,8 @@ returns-in_err-write_rows-clause-err g c =
     ∙ ap (λ v. flat_map (row x.shape) (arrays_from graph s v c.index.result.now.gone n)) node
     ∙ ap (λ (q : Pass). flat_map (row x.shape) (arrays_from graph s x.node q.gone n)) p in
     let r = c.in_err-write_rows.ensures.goes x i.1 in
-    let many = next-length graph s c.requires.graph c.requires.kept c.requires.saved.0 c.requires.saved.1.0 ps xs t c.requires.saved.1.1 c.args.at x i.1 c.args.index
+    let many = next-length graph s c.requires.graph c.requires.kept c.requires.saved.0 c.requires.saved.1.0 ps xs t c.requires.saved.1.1
+    c.args.at x i.1 c.args.index
     c.in-Some.next.group c.in-Some.next.place c.in-Some.next.of (c.in-Some.ensures.some x i.1) n c.in_ok-count.ensures.some
     c.in_ok-count.ensures.most in
     rw w.1 (λ prefix before h.
@@ -241,7 +244,8 @@ count_gone-requires-clause-next g c =
     let x = i.0 in
     let node = c.node-node.ensures x i.1 in
     let n = c.in_ok-count.count in
-    let low = next-low graph s c.requires.graph c.requires.kept c.requires.saved.0 c.requires.saved.1.0 ps xs t c.requires.saved.1.1 c.args.at x i.1 c.args.index
+    let low = next-low graph s c.requires.graph c.requires.kept c.requires.saved.0 c.requires.saved.1.0 ps xs t c.requires.saved.1.1
+    c.args.at x i.1 c.args.index
     c.in-Some.next.group c.in-Some.next.place c.in-Some.next.of (c.in-Some.ensures.some x i.1) n c.in_ok-count.ensures.some
     c.in_ok-count.ensures.most in
     let same = ap (λ v. (pass_at ps v).gone) node in
@@ -286,7 +290,8 @@ returns-clause-saved g c = λ prefix before h.
     ∙ ap (λ (q : Pass). flat_map (row x.shape) (arrays_from graph s x.node q.gone n)) p in
     let u = g.K.Shelf.held c.write_rows.new.shelf in
     let r = c.in_ok-write_rows.ensures.goes x i.1 in
-    let many = next-length graph s c.requires.graph c.requires.kept c.requires.saved.0 c.requires.saved.1.0 ps xs t c.requires.saved.1.1 c.args.at x i.1 c.args.index
+    let many = next-length graph s c.requires.graph c.requires.kept c.requires.saved.0 c.requires.saved.1.0 ps xs t c.requires.saved.1.1
+    c.args.at x i.1 c.args.index
     c.in-Some.next.group c.in-Some.next.place c.in-Some.next.of (c.in-Some.ensures.some x i.1) n c.in_ok-count.ensures.some
     c.in_ok-count.ensures.most in
     let done =
