@@ -4,7 +4,7 @@ use Rattle.std.proofs.Common.{FitsSigned}
 use Rattle.std.proofs.Common.{List, [], ◌∷◌, ◌++◌, length, ap, ◌∙◌, inl, inr, length-append}
 use Rattle.std.specs.Prelude.{unsigned_abs}
 use Rattle.std.proofs.lemmas.Bool.{cases_lt}
-use Rattle.std.proofs.lemmas.Nat.{div-mul-add}
+use Rattle.std.proofs.lemmas.Nat.{div-mul-add, le-div}
 use Rattle.std.proofs.lemmas.List.{get_or_append_left, get_or_push}
 use Rattle.std.proofs.Math.Nat.{mul-le-mul, mul-le-mul_left, mul-le-mul_right, div-lt_iff_lt-mul}
 use Rattle.std.proofs.lemmas.Int.{ints, fits_signed_mul, unsigned_abs-mul}
@@ -96,3 +96,20 @@ mark_small b r a m range e h some few =
       | inr over ↦ absurd (let p : 2047 * range ≤ b * range = mul-le-mul_right range over in let q : a * m ≤ (range + 1) * 1023 = mul-le-mul h few in
           omega (arith, p, q, e, some))
     ]
+
+-- the values before the end of a bin have this bin or one before it; the end is the quotient by two times the last bin, rounded up
+pub bin_before : (a range last bin end : ℕ) → 0 < range → end * (2 * last) < range * (2 * bin + 1) + 2 * last → a < end
+    → (2 * a * last + range) / (2 * range) ≤ bin
+bin_before a range last bin end some up below =
+    let p : (a + 1) * (2 * last) ≤ end * (2 * last) = mul-le-mul_right (2 * last) (omega (arith, below)) in
+    let q : 2 * a * last + range < (bin + 1) * (2 * range) = omega (arith, p, up) in
+    let r = (div-lt_iff_lt-mul {k = 2 * range} {x = 2 * a * last + range} {y = bin + 1} (omega (arith, some))).1 q in
+    omega (arith, r)
+
+-- and those from there on one behind it
+pub bin_behind : (a range last bin end : ℕ) → 0 < range → range * (2 * bin + 1) ≤ end * (2 * last) → end ≤ a → bin < (2 * a * last + range) / (2 * range)
+bin_behind a range last bin end some up from =
+    let p : end * (2 * last) ≤ a * (2 * last) = mul-le-mul_right (2 * last) from in
+    let q : (bin + 1) * (2 * range) ≤ 2 * a * last + range = omega (arith, p, up) in
+    let r = le-div (bin + 1) (2 * a * last + range) (2 * range) (omega (arith, some)) q in
+    omega (arith, r)

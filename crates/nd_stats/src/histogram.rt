@@ -1,6 +1,6 @@
 //! The histogram of a piece.
 
-ghost use Rattle.std.specs.Prelude.{◌≡◌, ◌≢◌, ◌+◌, ◌*◌, ◌/◌, ◌<◌, ◌≤◌, ◌^◌, ◌≤ℤ◌, ◌-ℤ◌, ◌&&◌, [], int_lt, length, unsigned_abs, IfOk, IfSome};
+ghost use Rattle.std.specs.Prelude.{◌≡◌, ◌≢◌, ℕ, ◌-◌, ◌+◌, ◌*◌, ◌/◌, ◌<◌, ◌≤◌, ◌^◌, ◌≤ℤ◌, ◌-ℤ◌, ◌&&◌, [], int_lt, length, unsigned_abs, IfOk, IfSome};
 ghost use Rattle.nd_base.specs.GraphRules.{IsStats};
 ghost use Rattle.nd_base.specs.Samples.{width, samples_of, IsSmall};
 ghost use Rattle.nd_base.specs.Shapes.{most_samples};
@@ -57,6 +57,65 @@ fn next_mark(mark: Mark, step: Mark, whole: u64) -> Mark
     }
 }
 
+/// How many values of a range, from its low end on, have this bin or one before it.
+fn bin_end(range: u64, size: u32, bin: u32) -> u64
+    requires some { 0 < range }
+    requires few { range ≤ 8589934592 }
+    requires size { size ≤ 1024 }
+    requires bin { bin < size }
+    ensures within { result ≤ range + 1 }
+    ensures before { (a : ℕ) → a < result → (2 * a * (size - 1) + range) / (2 * range) ≤ bin }
+    ensures behind { (a : ℕ) → result ≤ a → a ≤ range → bin < (2 * a * (size - 1) + range) / (2 * range) }
+{
+    let last = size - 1;
+    if bin == last {
+        return range + 1;
+    }
+    (range * u64::from(2 * bin + 1)).div_ceil(u64::from(2 * last))
+}
+
+/// The bins of the values of the histogram's range, from its low end on, bin by bin.
+fn list_by_bin(alloc: Global, rule: &StatsRule, range: u64) -> Result<Vec<u16>, OutOfMemory>
+    requires rule { IsStats rule.now }
+    requires some { rule.now.hist_size ≢ 0 }
+    requires range { range ≡ unsigned_abs (rule.now.hist_hi -ℤ rule.now.hist_lo) }
+    ensures bins { IfOk result (λ bins. AreBins rule.now bins.items) }
+    ensures size { IfOk result (λ bins. length bins.items ≡ range + 1) }
+{
+    let mut bins = Vec::new(alloc);
+    for bin in 0..rule.hist_size {
+        let end = bin_end(range, rule.hist_size, bin);
+        bins.resize(end as usize, bin as u16)?;
+    }
+    Ok(bins)
+}
+
+/// The same value by value.
+fn list_by_value(alloc: Global, rule: &StatsRule, range: u64) -> Result<Vec<u16>, OutOfMemory>
+    requires rule { IsStats rule.now }
+    requires some { rule.now.hist_size ≢ 0 }
+    requires range { range ≡ unsigned_abs (rule.now.hist_hi -ℤ rule.now.hist_lo) }
+    ensures bins { IfOk result (λ bins. AreBins rule.now bins.items) }
+    ensures size { IfOk result (λ bins. length bins.items ≡ range + 1) }
+{
+    let whole = 2 * range;
+    let last = u64::from(rule.hist_size - 1);
+    let step = mark_of(2 * last, whole);
+    let mut mark = Mark {
+        bin: 0,
+        rest: range,
+    };
+    let mut bins = Vec::new(alloc);
+    for _ in 0..range + 1 {
+        bins.push(mark.bin as u16)?;
+        mark = next_mark(mark, step, whole);
+    }
+    Ok(bins)
+}
+
+/// From how many values a bin on the bins are listed one by one.
+const WIDE: u64 = 16;
+
 /// The bins of the values of the histogram's range, from its low end on; none where the range is too wide for so few samples.
 #[inline(never)]
 pub(crate) fn list_bins(
@@ -70,26 +129,17 @@ pub(crate) fn list_bins(
     ensures size { IfOk result (λ bins. rule.now.hist_size ≢ 0 → unsigned_abs (rule.now.hist_hi -ℤ rule.now.hist_lo) < count / 2
         → length bins.items ≡ unsigned_abs (rule.now.hist_hi -ℤ rule.now.hist_lo) + 1) }
 {
-    let mut bins = Vec::new(alloc);
     if rule.hist_size == 0 {
-        return Ok(bins);
+        return Ok(Vec::new(alloc));
     }
     let range = distance(rule.hist_lo, rule.hist_hi);
     if range >= count as u64 / 2 {
-        return Ok(bins);
+        Ok(Vec::new(alloc))
+    } else if range < WIDE * u64::from(rule.hist_size) {
+        list_by_value(alloc, rule, range)
+    } else {
+        list_by_bin(alloc, rule, range)
     }
-    let whole = 2 * range;
-    let last = u64::from(rule.hist_size - 1);
-    let step = mark_of(2 * last, whole);
-    let mut mark = Mark {
-        bin: 0,
-        rest: range,
-    };
-    for _ in 0..range + 1 {
-        bins.push(mark.bin as u16)?;
-        mark = next_mark(mark, step, whole);
-    }
-    Ok(bins)
 }
 
 /// How far a value lies above the low end of the histogram's range; further than any range where it lies below.

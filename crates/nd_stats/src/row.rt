@@ -104,6 +104,9 @@ fn push_profiles(text: &mut String, m: &Measure) -> Result<(), AllocError>
     push_numbers(text, m.y.as_slice())
 }
 
+/// How many bytes most lines have at most that have no list.
+const ROOM: usize = 256;
+
 /// The line of a measure, with its line end: the id, the numbers with their names, the histogram where there
 /// is one, and the profiles where there are some.
 ///
@@ -113,7 +116,7 @@ fn push_profiles(text: &mut String, m: &Measure) -> Result<(), AllocError>
 pub fn row_text(alloc: Global, m: &Measure) -> Result<String, OutOfMemory>
     ensures { IfOk result (λ text. string_bytes text ≡ row m.now) }
 {
-    let mut text = String::new(alloc);
+    let mut text = String::with_capacity(alloc, ROOM)?;
     push_counts(&mut text, m)?;
     push_extremes(&mut text, m)?;
     push_sums(&mut text, m)?;

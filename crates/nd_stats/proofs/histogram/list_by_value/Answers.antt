@@ -1,18 +1,15 @@
-use Rattle.std.proofs.Common.{rules, ◌≡◌, ◌+◌, ◌*◌, ◌-◌, ◌/◌, ap, subst, sym, ◌∙◌, arith, w64, FitsSigned}
+use Rattle.std.proofs.Common.{rules, ◌≡◌, ◌+◌, ◌*◌, ◌-◌, ◌/◌, ap, subst, sym, ◌∙◌, arith}
 use Rattle.std.specs.Prelude.{unsigned_abs, ◌-ℤ◌}
-use Rattle.std.proofs.lemmas.Int.{to_z-of_z}
 use Rattle.nd_stats.specs.Running.{AreBins}
 use Rattle.nd_stats.proofs.Bins.{bins_push, mark_bin, mark_more, mark_small}
-use Rattle.nd_stats.proofs.histogram.list_bins.Goals as goal
+use Rattle.nd_stats.proofs.histogram.list_by_value.Goals as goal
 
 pub loop-preserved : goal.loop-preserved
 loop-preserved c =
     let rule = c.args.rule.now in
-    let flo : FitsSigned w64 c.args.rule.now.hist_lo = search rules in
-    let fhi : FitsSigned w64 c.args.rule.now.hist_hi = search rules in
-    let range = simp to_z-of_z at c.distance-range.ensures in
+    let range = c.requires.range in
     let items = c.in_ok-push.ensures.items in
-    let parts = c.distance-range.result in
+    let parts = c.args.range in
     let last = rule.hist_size - 1 in
     let n = c.loop.counter in
     let mark = c.loop.mark in
@@ -32,5 +29,5 @@ loop-preserved c =
           ∙ ap (λ k. let r = unsigned_abs (rule.hist_hi -ℤ rule.hist_lo) in (2 * k * last + r) / (2 * r)) (sym c.loop.invariant.count ∙ c.loop.bins.ok.0)));
       value = value;
       rest = c.next_mark-mark.ensures.rest;
-      small = mark_small next.bin next.rest (n + 1) last parts value (omega arith) (omega (arith, c.loop.invariant.rest)) (omega (arith, c.requires.hist_size));
+      small = mark_small next.bin next.rest (n + 1) last parts value (omega arith) (omega (arith, c.loop.invariant.rest)) (omega (arith, c.requires.rule.hist_size));
     }

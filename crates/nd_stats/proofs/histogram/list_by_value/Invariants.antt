@@ -1,6 +1,6 @@
 use Rattle.std.proofs.Common.{◌≡◌, ◌+◌, ◌*◌, ◌-◌, ◌<◌, ◌≤◌, vec_len}
 use Rattle.nd_stats.specs.Running.{AreBins}
-use Rattle.nd_stats.proofs.histogram.list_bins.Given as goal
+use Rattle.nd_stats.proofs.histogram.list_by_value.Given as goal
 
 abbrev pub invariant-loop : goal.invariant-loop
 invariant-loop l = record {
