@@ -1,13 +1,17 @@
 //! Files over a shelf in memory.
 
-ghost use Rattle.std.specs.Prelude.{◌≡◌, length, All, IfOk};
+ghost use Rattle.std.specs.Prelude.{◌≡◌, List, length, All, IfOk};
+ghost use Rattle.std.specs.List.{flat_map};
 ghost use Rattle.std.specs.Option.{ForSome};
+ghost use Rattle.nd_base.specs.Array.{Array};
+ghost use Rattle.cdf_write.specs.Layout.{row};
 ghost use Rattle.file_out.specs.Examples.{two_by_two};
 ghost use Rattle.file_out.specs.Streams.{IsRow};
 
 use crate::{Row, SaveFault, StreamFile, save_group};
+use cdf_write::push_row;
 use edge_traits::{MemShelf, Shelf};
-use nd_base::{Attrs, Bytes, Dim, FileShape, Form, Head, SampleType, Seq};
+use nd_base::{Attrs, Bytes, Dim, FileShape, Form, Head, OutOfMemory, SampleType, Seq};
 use std::alloc::{AllocError, Global};
 use std::test::Fail;
 
@@ -116,6 +120,28 @@ fn stream<K: Shelf>(alloc: Global, shelf: &mut K, numrecs: Option<u32>) -> Resul
     file.end(shelf)
 }
 
+/// The rows of both frames in one piece.
+fn rows_of_both(alloc: Global, shape: &FileShape) -> Result<Vec<u8>, OutOfMemory>
+    requires { shape.now ≡ two_by_two }
+    ensures { IfOk result (λ rows. (arrays : List Array) × ((length arrays ≡ 2) × (rows.items ≡ flat_map (row two_by_two) arrays))) }
+{
+    let first = frame(alloc, 1, [1, 2, 3, 4])?;
+    let second = frame(alloc, 2, [5, 6, 7, 8])?;
+    let mut rows = Vec::new(alloc);
+    push_row(&mut rows, shape, &first.head, first.samples.list())?;
+    push_row(&mut rows, shape, &second.head, second.samples.list())?;
+    Ok(rows)
+}
+
+/// Writes both frames at once into a file with room for five.
+fn stream_at_once<K: Shelf>(alloc: Global, shelf: &mut K) -> Result<u32, SaveFault> {
+    let shape = shape_of_both(alloc)?;
+    let rows = rows_of_both(alloc, &shape)?;
+    let mut file = StreamFile::begin(alloc, shelf, "a.nc", &shape, None, 5)?;
+    file.add_rows(shelf, &rows, 2)?;
+    file.end(shelf)
+}
+
 /// A shelf with room enough.
 fn shelf(alloc: Global) -> Result<MemShelf, AllocError> {
     Ok(MemShelf::new(alloc, 1_000, 2, Vec::new(alloc))?)
@@ -142,5 +168,16 @@ fn a_stream_ends_as_the_group_does(rt: HostRuntime) -> Result<(), Fail> {
         let written = shelf.bytes("a.nc").ok_or("no file")?;
         assert_eq!(rt; written, two_frames(alloc, 2)?.as_slice());
     }
+    Ok(())
+}
+
+#[test]
+fn rows_in_one_piece_are_one_call(rt: HostRuntime) -> Result<(), Fail> {
+    let alloc = rt.alloc();
+    let mut shelf = shelf(alloc)?;
+    assert_eq!(rt; stream_at_once(alloc, &mut shelf), Ok(2));
+    assert_eq!(rt; shelf.calls(), 5);
+    let written = shelf.bytes("a.nc").ok_or("no file")?;
+    assert_eq!(rt; written, two_frames(alloc, 2)?.as_slice());
     Ok(())
 }
