@@ -7,6 +7,7 @@ use Rattle.std.proofs.lemmas.List.Elements.{All-from_get_or}
 use Rattle.nd_base.specs.declared.array.SampleType.{SampleType}
 use Rattle.nd_base.specs.Samples.{width, number, numbers, samples_of}
 use Rattle.nd_base.specs.SampleLaws.{width-positive, length-numbers}
+use Rattle.lane_kernels.specs.Plain.{stored}
 use Rattle.nd_stats.specs.Samples.{placed, AreSmall}
 use Rattle.nd_stats.specs.MergingLaws.{placed-append, small_placed}
 
@@ -21,6 +22,12 @@ numbers-split kind (suc k) m bytes =
     (numbers-split kind k m (drop w bytes)
     ∙ ap (λ rest. numbers kind k (drop w bytes) ++ numbers kind m rest) (drop-drop (k * w) w bytes
     ∙ ap (λ n. drop n bytes) (sym (suc-mul k w ∙ add_comm (k * w) w))))
+
+-- a sample behind others
+pub stored_behind : (kind : SampleType) (k m : ℕ) (bytes : List ℕ) → stored kind (drop (k * width kind) bytes) m ≡ stored kind bytes (k + m)
+stored_behind kind k m bytes =
+    let w = width kind in
+    ap (λ rest. number kind (take w rest)) (drop-drop (m * w) (k * w) bytes ∙ ap (λ n. drop n bytes) (sym (add-mul k m w)))
 
 pub numbers-take : (kind : SampleType) (m : ℕ) (bytes : List ℕ) → numbers kind m (take (m * width kind) bytes) ≡ numbers kind m bytes
 numbers-take kind zero bytes = refl

@@ -1,6 +1,6 @@
 -- Sums over values and over samples, and tests that nothing passes.
 use Rattle.std.proofs.Common.{◌≡◌, ℕ, ◌+◌, ◌/◌, ◌%◌, ◌<◌, ◌||◌, List, [], ◌∷◌, length, filter, cond, refl, ap, sym, ◌∙◌, arith, ℤ, pos, ◌+ℤ◌, Bool, false}
-use Rattle.std.proofs.Common.{not, ◌&&◌, ◌==◌, nat_lt, sum_by}
+use Rattle.std.proofs.Common.{not, ◌&&◌, ◌==◌, nat_lt, sum_by, ◌*◌, drop}
 use Rattle.std.specs.List.{list_all}
 use Rattle.std.proofs.lemmas.Bool.{and_parts, ltb-true}
 use Rattle.std.proofs.lemmas.Bool.Decides.{nat_tests}
@@ -9,8 +9,8 @@ use Rattle.std.proofs.lemmas.List.Sums.{sum_by-cons}
 use Rattle.nd_base.specs.declared.array.Dim.{Dim}
 use Rattle.nd_base.specs.declared.array.SampleType.{SampleType}
 use Rattle.nd_base.specs.declared.graph.StatsRule.{StatsRule}
-use Rattle.nd_base.specs.Samples.{numbers}
-use Rattle.lane_kernels.specs.Plain.{total, squares}
+use Rattle.nd_base.specs.Samples.{numbers, width}
+use Rattle.lane_kernels.specs.Plain.{total, squares, stored}
 use Rattle.nd_stats.specs.declared.border.Edge.{Edge}
 use Rattle.nd_stats.specs.declared.tally.Sums.{Sums}
 use Rattle.nd_stats.specs.declared.tally.Histogram.{Histogram}
@@ -18,11 +18,23 @@ use Rattle.nd_stats.specs.Samples.{Sample, placed, sum_of, is_near_end, is_at_bo
 use Rattle.nd_stats.specs.Measured.{count_where, square, has_histogram, is_on_border, is_below, is_above, is_in_bin}
 use Rattle.nd_stats.specs.Running.{IsFrame, AreSums, IsEdge, IsHistogram}
 use Rattle.nd_stats.proofs.Places.{AreSizes}
-use Rattle.nd_stats.proofs.Pieces.{length-piece}
+use Rattle.nd_stats.proofs.Sums.{sum_of-more}
+use Rattle.nd_stats.proofs.Parts.{stored_behind}
+use Rattle.nd_stats.proofs.Pieces.{length-piece, piece-more, sample_at}
 
 pub total_placed : (p : ℕ) (vs : List ℤ) → total vs ≡ sum_of (λ s. s.value) (placed p vs)
 total_placed p [] = refl
 total_placed p (v ∷ vs) = ap (λ z. v +ℤ z) (total_placed (p + 1) vs)
+
+-- the sum of some samples from a place on, with one sample more
+pub total-next : (kind : SampleType) (k m : ℕ) (bytes : List ℕ) → (let rest = drop (k * width kind) bytes in
+    total (numbers kind (m + 1) rest) ≡ total (numbers kind m rest) +ℤ stored kind bytes (k + m))
+total-next kind k m bytes =
+    let rest = drop (k * width kind) bytes in
+    total_placed 0 (numbers kind (m + 1) rest) ∙ ap (sum_of (λ s. s.value)) (piece-more kind 0 m rest)
+    ∙ sum_of-more (λ s. s.value) (placed 0 (numbers kind m rest)) (sample_at kind 0 m rest)
+    ∙ ap (λ z. z +ℤ stored kind rest m) (sym (total_placed 0 (numbers kind m rest)))
+    ∙ ap (λ z. total (numbers kind m rest) +ℤ z) (stored_behind kind k m bytes)
 
 pub squares_placed : (p : ℕ) (vs : List ℤ) → squares vs ≡ sum_by (λ s. square s.value) (placed p vs)
 squares_placed p [] = refl

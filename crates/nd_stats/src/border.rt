@@ -7,7 +7,7 @@ ghost use Rattle.nd_stats.specs.Samples.{placed, is_near_end};
 ghost use Rattle.nd_stats.specs.Running.{IsFrame, IsEdge};
 
 use crate::sample::part;
-use crate::spot::{Spot, first_size, later_spot, spot_at};
+use crate::spot::{Spot, later_spot, plane_of, spot_at};
 use lane_kernels::sum_bytes;
 use nd_base::{Dim, SampleType, StatsRule};
 
@@ -63,17 +63,17 @@ pub(crate) fn edge_of(
         return edge;
     }
     let count = samples.len() / kind.width();
-    let width = first_size(dims);
+    let plane = plane_of(dims);
     let mut spot = spot_at(rule.border, dims, from);
     let mut done = 0;
     while done < count {
-        let run = run_at(rule.border, width, &spot);
+        let run = run_at(rule.border, plane.width, &spot);
         let size = (run.size as usize).min(count - done);
         if run.at_border {
             edge.count += size as u32;
             edge.sum += sum_bytes(kind, part(kind, samples, done, size));
         }
-        spot = later_spot(rule.border, dims, width, spot, size as u32);
+        spot = later_spot(rule.border, dims, plane, spot, size as u32);
         done += size;
     }
     edge

@@ -11,20 +11,9 @@ ghost use Rattle.nd_stats.specs.Running.{IsFrame, AreMoments};
 
 use crate::over::{Over, line_over};
 use crate::sample::part;
-use crate::spot::{first_index, first_size};
+use crate::spot::{later_spot, plane_of, spot_at};
 use crate::tally::Moments;
 use nd_base::{Dim, SampleType, StatsRule};
-
-/// The index of a place in dimension 1, 0 where there is none.
-pub(crate) fn second_index(dims: &[Dim], place: u32) -> u32
-    requires { list_all (λ d. nat_lt 0 d.size) dims.now ≡ true }
-    ensures { result ≡ index_in dims.now 1 place }
-{
-    match dims {
-        [] => 0,
-        [first, others @ ..] => first_index(others, place / first.size),
-    }
-}
 
 /// How many of `left` samples lie on a line of this width from index `x` on, at most 8,192.
 pub(crate) fn on_line(width: u32, x: u32, left: usize) -> usize
@@ -86,20 +75,20 @@ pub(crate) fn moments_of(
     ensures { AreMoments rule.now dims.now (placed from (samples_of kind samples.now)) result }
 {
     let count = samples.len() / kind.width();
-    let width = first_size(dims);
+    let plane = plane_of(dims);
     let mut moments = Moments {
         over: 0,
         m0: 0,
         mx: 0,
         my: 0,
     };
+    let mut spot = spot_at(rule.border, dims, from);
     let mut done = 0;
     while done < count {
-        let place = from + done as u32;
-        let x = first_index(dims, place);
-        let size = on_line(width, x, count - done);
+        let size = on_line(plane.width, spot.x, count - done);
         let line = line_over(kind, rule.threshold, part(kind, samples, done, size));
-        moments.add_line(&line, x, second_index(dims, place));
+        moments.add_line(&line, spot.x, spot.y);
+        spot = later_spot(rule.border, dims, plane, spot, size as u32);
         done += size;
     }
     moments

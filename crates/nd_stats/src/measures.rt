@@ -12,8 +12,8 @@ ghost use Rattle.nd_stats.specs.Running.{IsTally, IsFrame, AreBins, IsWithinRang
 use crate::blocks::{Basics, basics_of};
 use crate::border::edge_of;
 use crate::histogram::{histogram_of, list_bins};
-use crate::profiles::{add_columns, add_rows};
-use crate::spot::{first_size, next_spot, spot_at};
+use crate::profiles::add_profiles;
+use crate::spot::{first_size, next_spot, plane_of, second_size, spot_at};
 use crate::tally::{Extremes, Histogram, Moments, Sums, Tally};
 use nd_base::{Dim, Measure, OutOfMemory, SampleType, Seq, StatsRule, number_at};
 use std::alloc::Global;
@@ -24,16 +24,6 @@ fn zeros(alloc: Global, count: usize) -> Result<Vec<i64>, OutOfMemory>
 {
     let sums = vec![in alloc; 0i64; count]?;
     Ok(sums)
-}
-
-/// The size of dimension 1, 1 where there is none.
-fn second_size(dims: &[Dim]) -> u32
-    ensures { result ≡ size_in dims.now 1 }
-{
-    match dims {
-        [] => 1,
-        [_, others @ ..] => first_size(others),
-    }
 }
 
 /// A profile of no samples, with so many sums.
@@ -109,13 +99,13 @@ fn add_all(
     } (placed from (samples_of kind samples.now)) result }
 {
     let width = kind.width();
-    let line = first_size(dims);
+    let plane = plane_of(dims);
     let count = samples.len() / width;
     let mut spot = spot_at(rule.border, dims, from);
     for k in 0..count {
         let value = number_at(kind, samples, k * width);
         tally.add(rule, dims, &spot, value);
-        spot = next_spot(rule.border, dims, line, spot);
+        spot = next_spot(rule.border, dims, plane, spot);
     }
     tally
 }
@@ -188,8 +178,7 @@ fn tally_lines(
     tally.moments = moments;
     tally.histogram = histogram_of(tally.histogram, rule, bins, kind, from, samples);
     if rule.profiles {
-        add_columns(rule, kind, dims, from, samples, &mut tally.x);
-        add_rows(rule, kind, dims, from, samples, &mut tally.y);
+        add_profiles(rule, kind, dims, from, samples, &mut tally.x, &mut tally.y);
     }
     tally
 }

@@ -53,6 +53,10 @@ later_spot-spot-requires-clause-more c =
     ap (λ w. length c.args.samples.now / w) c.width.ensures in
     omega (arith, count, c.min-size.ensures, c.requires.within, c.requires.frame.few)
 
+pub later_spot-spot-requires-clause-line : goal.later_spot-spot-requires-clause-line
+later_spot-spot-requires-clause-line c =
+    omega (arith, c.min-size.ensures, c.run_at-run.ensures.within, c.plane_of-plane.ensures.width)
+
 pub loop-done-preserved : goal.loop-done-preserved
 loop-done-preserved c =
     let rule = c.args.rule.now in
@@ -72,8 +76,8 @@ loop-done-preserved c =
     λ j h.
     border_along rule.border dims p spot.x j spot.line_at_border c.requires.frame.some (sym (is.x ∙ ap (index_in dims 0) c.loop-done.invariant.place))
     (is.line ∙ ap (λ q. is_at_border rule.border (drop 1 dims) (q / size_in dims 0)) c.loop-done.invariant.place)
-    (omega (arith, long, c.min-size.ensures, c.run_at-run.ensures.within, c.first_size-width.ensures))
-    ∙ ap (λ w. is_near_end rule.border w (spot.x + j) || spot.line_at_border) (sym c.first_size-width.ensures)
+    (omega (arith, long, c.min-size.ensures, c.run_at-run.ensures.within, c.plane_of-plane.ensures.width))
+    ∙ ap (λ w. is_near_end rule.border w (spot.x + j) || spot.line_at_border) (sym c.plane_of-plane.ensures.width)
     ∙ c.run_at-run.ensures.same j (omega (arith, long, c.min-size.ensures)) in
     record {
       done = omega (arith, count, c.min-size.ensures, c.loop-done-test.true);

@@ -1,12 +1,15 @@
-use Rattle.std.proofs.Common.{◌≤◌, ◌-◌, ◌/◌, length}
+use Rattle.std.proofs.Common.{◌≡◌, ◌≤◌, ◌+◌, ◌-◌, ◌/◌, length}
 use Rattle.nd_base.specs.Samples.{numbers, width}
 use Rattle.nd_stats.specs.Samples.{placed}
+use Rattle.nd_stats.specs.Spots.{IsSpot}
 use Rattle.nd_stats.specs.Running.{AreMoments}
 use Rattle.nd_stats.proofs.lines.moments_of.Given as goal
 
 abbrev pub invariant-loop-done : goal.invariant-loop-done
 invariant-loop-done l = record {
   done : l.done ≤ length l.samples / width l.kind;
+  place : l.spot.place ≡ l.from + l.done;
+  spot : IsSpot l.rule.border l.dims l.spot;
   moments : AreMoments l.rule l.dims (placed l.from (numbers l.kind l.done l.samples)) l.moments;
 }
 

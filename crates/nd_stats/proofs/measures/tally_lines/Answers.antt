@@ -28,11 +28,11 @@ returns-then-rule c =
           ∙ c.basics_of-total.ensures.total) c.basics_of-total.ensures.squares (to_z-of_z w64 c.edge_of-edge.result.sum fe) refl;
       moments = c.basics_of-total.ensures.moments;
       histogram = c.histogram_of.ensures;
-      x = slice_whole c.args.blank.x.items c.add_columns.new.sums _ (sym c.args.blank.x.ok.0) (ap length c.add_columns.ensures ∙ long 0
-          ∙ sym (ap length (c.requires.blank.x ∙ profile_on rule dims 0 [] c.if-rule.true) ∙ blank 0)) ∙ c.add_columns.ensures
+      x = slice_whole c.args.blank.x.items c.add_profiles.new.columns _ (sym c.args.blank.x.ok.0) (ap length c.add_profiles.ensures.columns ∙ long 0
+          ∙ sym (ap length (c.requires.blank.x ∙ profile_on rule dims 0 [] c.if-rule.true) ∙ blank 0)) ∙ c.add_profiles.ensures.columns
           ∙ sym (profile_on rule dims 0 xs c.if-rule.true);
-      y = slice_whole c.args.blank.y.items c.add_rows.new.sums _ (sym c.args.blank.y.ok.0) (ap length c.add_rows.ensures ∙ long 1
-          ∙ sym (ap length (c.requires.blank.y ∙ profile_on rule dims 1 [] c.if-rule.true) ∙ blank 1)) ∙ c.add_rows.ensures
+      y = slice_whole c.args.blank.y.items c.add_profiles.new.rows _ (sym c.args.blank.y.ok.0) (ap length c.add_profiles.ensures.rows ∙ long 1
+          ∙ sym (ap length (c.requires.blank.y ∙ profile_on rule dims 1 [] c.if-rule.true) ∙ blank 1)) ∙ c.add_profiles.ensures.rows
           ∙ sym (profile_on rule dims 1 xs c.if-rule.true);
     }
 

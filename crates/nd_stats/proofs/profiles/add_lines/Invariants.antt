@@ -1,0 +1,18 @@
+use Rattle.std.proofs.Common.{◌≡◌, ◌≤◌, ◌+◌, ◌-◌, ◌/◌, length}
+use Rattle.nd_base.specs.Samples.{numbers, width}
+use Rattle.nd_stats.specs.Samples.{placed}
+use Rattle.nd_stats.specs.Spots.{IsSpot}
+use Rattle.nd_stats.specs.Running.{sums_along}
+use Rattle.nd_stats.proofs.profiles.add_lines.Given as goal
+
+abbrev pub invariant-loop-done : goal.invariant-loop-done
+invariant-loop-done l = record {
+  done : l.done ≤ length l.samples / width l.kind;
+  place : l.spot.place ≡ l.from + l.done;
+  spot : IsSpot l.rule.border l.dims l.spot;
+  columns : l.columns ≡ sums_along l.dims 0 (placed l.from (numbers l.kind l.done l.samples));
+  rows : l.rows ≡ sums_along l.dims 1 (placed l.from (numbers l.kind l.done l.samples));
+}
+
+abbrev pub decreases-loop-done : goal.decreases-loop-done
+decreases-loop-done l = l.count - l.done
