@@ -14,6 +14,7 @@ pub mod Parts
 pub mod Pieces
 pub mod Places
 pub mod Products
+pub mod Quotients
 pub mod Reached
 pub mod Rooms
 pub mod Steps

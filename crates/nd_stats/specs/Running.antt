@@ -12,6 +12,7 @@ use Rattle.nd_stats.specs.declared.tally.Histogram.{Histogram}
 use Rattle.nd_stats.specs.declared.blocks.Basics.{Basics}
 use Rattle.nd_stats.specs.declared.border.Edge.{Edge}
 use Rattle.nd_stats.specs.declared.histogram.Ends.{Ends}
+use Rattle.nd_stats.specs.declared.histogram.Scale.{Scale}
 use Rattle.nd_stats.specs.Tallies.{HasRoom}
 use Rattle.nd_stats.specs.Samples.{Sample, AreSmall, sum_of, least_from, greatest_from, table}
 use Rattle.nd_stats.specs.Measured.{count_where, value_where, square, is_on_border, is_over, is_below, is_above, is_in_bin, has_index, moment, profile}
@@ -69,6 +70,13 @@ AreBins rule bins =
 -- no more bins than values of the histogram's range
 abbrev pub IsWithinRange : StatsRule → List ℕ → Type 0
 IsWithinRange rule bins = length bins ≤ unsigned_abs (rule.hist_hi -ℤ rule.hist_lo) + 1
+
+-- what the bin of a value is computed from: the range, the number of the last bin, and what twice the range divides by
+pub record IsScale (rule : StatsRule) (s : Scale) : Type 0 where
+  pub range : s.range ≡ unsigned_abs (rule.hist_hi -ℤ rule.hist_lo)
+  pub last : s.last ≡ rule.hist_size - 1
+  pub by : s.divisor.by ≡ 2 * s.range
+  pub times : s.divisor.times ≡ 18446744073709551615 / s.divisor.by
 
 -- the counts of the histogram's range, and of what lies beside it
 pub record IsCounted (rule : StatsRule) (xs : List Sample) (e : Ends) (counts : List ℤ) : Type 0 where

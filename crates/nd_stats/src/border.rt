@@ -1,14 +1,14 @@
 //! The samples at the border of an array.
 
-ghost use Rattle.std.specs.Prelude.{◌≡◌, ℕ, ◌+◌, ◌/◌, ◌<◌, ◌≤◌, ◌||◌, length};
-ghost use Rattle.nd_base.specs.Samples.{width, samples_of};
-ghost use Rattle.nd_base.specs.Shapes.{sample_count};
+ghost use Rattle.std.specs.Prelude.{◌≡◌, ℕ, ◌+◌, ◌*◌, ◌/◌, ◌<◌, ◌≤◌, ◌||◌, length, drop};
+ghost use Rattle.nd_base.specs.Samples.{width, numbers, samples_of};
+ghost use Rattle.nd_base.specs.Shapes.{sample_count, most_samples};
+ghost use Rattle.lane_kernels.specs.Plain.{total};
 ghost use Rattle.nd_stats.specs.Samples.{placed, is_near_end};
 ghost use Rattle.nd_stats.specs.Running.{IsFrame, IsEdge};
 
-use crate::sample::part;
 use crate::spot::{Spot, later_spot, plane_of, spot_at};
-use lane_kernels::sum_bytes;
+use lane_kernels::sample_at;
 use nd_base::{Dim, SampleType, StatsRule};
 
 /// The samples at the border: how many, and their sum.
@@ -46,14 +46,23 @@ fn run_at(border: u32, width: u32, spot: &Spot) -> Run
     }
 }
 
+/// The sum of `size` neighbours from place `done` of the samples on, by a loop of their type: most runs are short.
+#[inline(always)]
+fn sum_run(kind: SampleType, samples: &[u8], done: usize, size: usize) -> i64
+    requires within { done + size ≤ length samples.now / width kind }
+    requires few { length samples.now / width kind ≤ most_samples }
+    ensures { result ≡ total (numbers kind size (drop (done * width kind) samples.now)) }
+{
+    let mut sum = 0i64;
+    for k in 0..size {
+        sum += sample_at(kind, samples, done + k);
+    }
+    sum
+}
+
 /// The samples at the border of a piece that begins at place `from`.
-pub(crate) fn edge_of(
-    rule: &StatsRule,
-    kind: SampleType,
-    dims: &[Dim],
-    from: u32,
-    samples: &[u8],
-) -> Edge
+#[inline(always)]
+fn edge_each(rule: &StatsRule, kind: SampleType, dims: &[Dim], from: u32, samples: &[u8]) -> Edge
     requires frame { IsFrame rule.now dims.now }
     requires within { from + length samples.now / width kind ≤ sample_count dims.now }
     ensures { IsEdge rule.now dims.now (placed from (samples_of kind samples.now)) result }
@@ -71,10 +80,33 @@ pub(crate) fn edge_of(
         let size = (run.size as usize).min(count - done);
         if run.at_border {
             edge.count += size as u32;
-            edge.sum += sum_bytes(kind, part(kind, samples, done, size));
+            edge.sum += sum_run(kind, samples, done, size);
         }
         spot = later_spot(rule.border, dims, plane, spot, size as u32);
         done += size;
     }
     edge
+}
+
+/// The same by code of each sample type.
+#[inline(never)]
+pub(crate) fn edge_of(
+    rule: &StatsRule,
+    kind: SampleType,
+    dims: &[Dim],
+    from: u32,
+    samples: &[u8],
+) -> Edge
+    requires frame { IsFrame rule.now dims.now }
+    requires within { from + length samples.now / width kind ≤ sample_count dims.now }
+    ensures { IsEdge rule.now dims.now (placed from (samples_of kind samples.now)) result }
+{
+    match kind {
+        SampleType::Int8 => edge_each(rule, SampleType::Int8, dims, from, samples),
+        SampleType::UInt8 => edge_each(rule, SampleType::UInt8, dims, from, samples),
+        SampleType::Int16 => edge_each(rule, SampleType::Int16, dims, from, samples),
+        SampleType::UInt16 => edge_each(rule, SampleType::UInt16, dims, from, samples),
+        SampleType::Int32 => edge_each(rule, SampleType::Int32, dims, from, samples),
+        SampleType::UInt32 => edge_each(rule, SampleType::UInt32, dims, from, samples),
+    }
 }

@@ -7,9 +7,9 @@ ghost use Rattle.nd_base.specs.Shapes.{most_samples};
 ghost use Rattle.nd_stats.specs.Measured.{bin_of, has_histogram};
 ghost use Rattle.nd_stats.specs.Tallies.{HaveRoom, bins_after, one_if};
 ghost use Rattle.nd_stats.specs.Samples.{placed};
-ghost use Rattle.nd_stats.specs.Running.{IsHistogram, AreBins, IsWithinRange, IsCounted};
+ghost use Rattle.nd_stats.specs.Running.{IsHistogram, AreBins, IsWithinRange, IsScale, IsCounted};
 
-use crate::tally::{Histogram, add_at, bin_of, distance};
+use crate::tally::{Histogram, add_at, distance};
 use lane_kernels::sample_at;
 use nd_base::{OutOfMemory, SampleType, StatsRule};
 use std::alloc::Global;
@@ -142,6 +142,79 @@ pub(crate) fn list_bins(
     }
 }
 
+/// A number to divide by, and how often it goes into the greatest number of 64 bits.
+#[derive(Clone, Copy)]
+struct Divisor {
+    by: u64,
+    times: u64,
+}
+
+/// What to divide by.
+fn divisor_of(by: u64) -> Divisor
+    requires { 0 < by }
+    ensures by { result.by ≡ by }
+    ensures times { result.times ≡ 18446744073709551615 / by }
+{
+    Divisor {
+        by,
+        times: u64::MAX / by,
+    }
+}
+
+/// The quotient, by a product in place of a division. What the product gives is right, or one too low.
+#[inline(always)]
+fn quotient(number: u64, divisor: Divisor) -> u64
+    requires some { 0 < divisor.by }
+    requires times { divisor.times ≡ 18446744073709551615 / divisor.by }
+    requires small { number < 2 ^ 62 }
+    requires small_by { divisor.by < 2 ^ 40 }
+    ensures { result ≡ number / divisor.by }
+{
+    let near = (u128::from(number) * u128::from(divisor.times) / 0x1_0000_0000_0000_0000) as u64;
+    if (near + 1) * divisor.by <= number {
+        near + 1
+    } else {
+        near
+    }
+}
+
+/// What the bin of a value is computed from.
+#[derive(Clone, Copy)]
+struct Scale {
+    range: u64,
+    last: u64,
+    divisor: Divisor,
+}
+
+/// The scale of a histogram.
+fn scale_of(rule: &StatsRule) -> Scale
+    requires rule { IsStats rule.now }
+    requires some { rule.now.hist_size ≢ 0 }
+    ensures { IsScale rule.now result }
+{
+    let range = distance(rule.hist_lo, rule.hist_hi);
+    Scale {
+        range,
+        last: u64::from(rule.hist_size - 1),
+        divisor: divisor_of(2 * range),
+    }
+}
+
+/// The bin of a value of the histogram's range, without a division.
+#[inline(always)]
+fn scaled_bin(rule: &StatsRule, scale: Scale, value: i64) -> usize
+    requires rule { IsStats rule.now }
+    requires some { rule.now.hist_size ≢ 0 }
+    requires scale { IsScale rule.now scale }
+    requires from { rule.now.hist_lo ≤ℤ value }
+    requires to { value ≤ℤ rule.now.hist_hi }
+    ensures bin { result ≡ bin_of rule.now value }
+    ensures below { result < rule.now.hist_size }
+{
+    let above = distance(rule.hist_lo, value);
+    quotient(2 * above * scale.last + scale.range, scale.divisor) as usize
+}
+
 /// How far a value lies above the low end of the histogram's range; further than any range where it lies below.
 #[inline(always)]
 fn above_low(rule: &StatsRule, value: i64) -> u64
@@ -181,9 +254,17 @@ pub(crate) struct Ends {
 
 /// Counts one sample.
 #[inline(always)]
-fn count_one(rule: &StatsRule, bins: &[u16], value: i64, ends: Ends, counts: &mut [i64]) -> Ends
+fn count_one(
+    rule: &StatsRule,
+    scale: Scale,
+    bins: &[u16],
+    value: i64,
+    ends: Ends,
+    counts: &mut [i64],
+) -> Ends
     requires rule { IsStats rule.now }
     requires some { rule.now.hist_size ≢ 0 }
+    requires scale { IsScale rule.now scale }
     requires bins { AreBins rule.now bins.now }
     requires within { IsWithinRange rule.now bins.now }
     requires small { IsSmall value }
@@ -212,7 +293,7 @@ fn count_one(rule: &StatsRule, bins: &[u16], value: i64, ends: Ends, counts: &mu
             above: above + 1,
         };
     }
-    add_at(counts, bin_of(rule, value), 1);
+    add_at(counts, scaled_bin(rule, scale, value), 1);
     ends
 }
 
@@ -220,6 +301,7 @@ fn count_one(rule: &StatsRule, bins: &[u16], value: i64, ends: Ends, counts: &mu
 #[inline(always)]
 fn count_each(
     rule: &StatsRule,
+    scale: Scale,
     bins: &[u16],
     kind: SampleType,
     from: u32,
@@ -228,6 +310,7 @@ fn count_each(
 ) -> Ends
     requires rule { IsStats rule.now }
     requires some { rule.now.hist_size ≢ 0 }
+    requires scale { IsScale rule.now scale }
     requires bins { AreBins rule.now bins.now }
     requires within { IsWithinRange rule.now bins.now }
     requires few { length samples.now / width kind ≤ most_samples }
@@ -236,7 +319,7 @@ fn count_each(
 {
     let mut ends = Ends { below: 0, above: 0 };
     for k in 0..samples.len() / kind.width() {
-        ends = count_one(rule, bins, sample_at(kind, samples, k), ends, counts);
+        ends = count_one(rule, scale, bins, sample_at(kind, samples, k), ends, counts);
     }
     ends
 }
@@ -245,6 +328,7 @@ fn count_each(
 #[inline(always)]
 fn count_kind(
     rule: &StatsRule,
+    scale: Scale,
     bins: &[u16],
     kind: SampleType,
     from: u32,
@@ -253,6 +337,7 @@ fn count_kind(
 ) -> Ends
     requires rule { IsStats rule.now }
     requires some { rule.now.hist_size ≢ 0 }
+    requires scale { IsScale rule.now scale }
     requires bins { AreBins rule.now bins.now }
     requires within { IsWithinRange rule.now bins.now }
     requires few { length samples.now / width kind ≤ most_samples }
@@ -260,18 +345,58 @@ fn count_kind(
     ensures { IsCounted rule.now (placed from (samples_of kind samples.now)) result counts.new }
 {
     match kind {
-        SampleType::Int8 => count_each(rule, bins, SampleType::Int8, from, samples, counts),
+        SampleType::Int8 => count_each(rule, scale, bins, SampleType::Int8, from, samples, counts),
         SampleType::UInt8 if rule.hist_lo == 0 && bins.len() == 256 => {
-            count_each(rule, bins, SampleType::UInt8, from, samples, counts)
+            count_each(rule, scale, bins, SampleType::UInt8, from, samples, counts)
         }
-        SampleType::UInt8 => count_each(rule, bins, SampleType::UInt8, from, samples, counts),
-        SampleType::Int16 => count_each(rule, bins, SampleType::Int16, from, samples, counts),
+        SampleType::UInt8 => count_each(
+            rule,
+            scale,
+            bins,
+            SampleType::UInt8,
+            from,
+            samples,
+            counts,
+        ),
+        SampleType::Int16 => count_each(
+            rule,
+            scale,
+            bins,
+            SampleType::Int16,
+            from,
+            samples,
+            counts,
+        ),
         SampleType::UInt16 if rule.hist_lo == 0 && bins.len() == 65_536 => {
-            count_each(rule, bins, SampleType::UInt16, from, samples, counts)
+            count_each(rule, scale, bins, SampleType::UInt16, from, samples, counts)
         }
-        SampleType::UInt16 => count_each(rule, bins, SampleType::UInt16, from, samples, counts),
-        SampleType::Int32 => count_each(rule, bins, SampleType::Int32, from, samples, counts),
-        SampleType::UInt32 => count_each(rule, bins, SampleType::UInt32, from, samples, counts),
+        SampleType::UInt16 => count_each(
+            rule,
+            scale,
+            bins,
+            SampleType::UInt16,
+            from,
+            samples,
+            counts,
+        ),
+        SampleType::Int32 => count_each(
+            rule,
+            scale,
+            bins,
+            SampleType::Int32,
+            from,
+            samples,
+            counts,
+        ),
+        SampleType::UInt32 => count_each(
+            rule,
+            scale,
+            bins,
+            SampleType::UInt32,
+            from,
+            samples,
+            counts,
+        ),
     }
 }
 
@@ -294,7 +419,7 @@ fn count_all(
     ensures { IsCounted rule.now (placed from (samples_of kind samples.now)) result counts.new }
 {
     let own = StatsRule { ..*rule };
-    count_kind(&own, bins, kind, from, samples, counts)
+    count_kind(&own, scale_of(&own), bins, kind, from, samples, counts)
 }
 
 /// The histogram of a piece that begins at place `from`; before it has counted nothing.

@@ -183,8 +183,8 @@ fn tally_lines(
     tally
 }
 
-/// From how many samples on a line is long.
-const LONG: u32 = 16;
+/// From how many samples on a line is long enough for passes over lines.
+const LONG: u32 = 4;
 
 /// The numbers of a piece that begins at place `from`.
 fn tally_of(

@@ -3,7 +3,6 @@ use Rattle.std.proofs.lemmas.Int.{to_z-of_z}
 use Rattle.nd_base.specs.Samples.{width, numbers}
 use Rattle.nd_base.specs.SampleLaws.{length-numbers}
 use Rattle.nd_base.specs.Places.{index_in, size_in}
-use Rattle.lane_kernels.specs.Plain.{total}
 use Rattle.nd_stats.specs.Samples.{placed, sum_of, is_near_end, is_at_border}
 use Rattle.nd_stats.specs.Measured.{is_on_border}
 use Rattle.nd_stats.specs.Running.{IsEdge}
@@ -13,8 +12,8 @@ use Rattle.nd_stats.proofs.Sums.{count-le}
 use Rattle.nd_stats.proofs.Pieces.{length-piece}
 use Rattle.nd_stats.proofs.Parts.{parts-more}
 use Rattle.nd_stats.proofs.Totals.{none_on_border}
-use Rattle.nd_stats.proofs.border.edge_of.Goals as goal
-use Rattle.nd_stats.proofs.border.edge_of.Goals.{then-run, else-run}
+use Rattle.nd_stats.proofs.border.edge_each.Goals as goal
+use Rattle.nd_stats.proofs.border.edge_each.Goals.{then-run, else-run}
 
 pub returns-then-rule-eq0 : goal.returns-then-rule-eq0
 returns-then-rule-eq0 c =
@@ -39,13 +38,12 @@ overflow_add-edge-then-run c =
     let k = c.loop-done.done in
     let m = c.min-size.result in
     let count : length bytes / c.width.result ≡ length bytes / width kind = ap (λ w. length bytes / w) c.width.ensures in
-    let rooms = part_rooms (is_on_border c.args.rule.now c.args.dims.now) kind c.args.from k m bytes c.loop-done.edge.sum c.sum_bytes.result c.type_inv.samples
-    (omega (arith, count, c.min-size.ensures, c.requires.within, c.requires.frame.few)) c.loop-done.invariant.edge.sum (c.sum_bytes.ensures
-    ∙ ap total c.part.ensures.values) in
+    let rooms = part_rooms (is_on_border c.args.rule.now c.args.dims.now) kind c.args.from k m bytes c.loop-done.edge.sum c.sum_run.result c.type_inv.samples
+    (omega (arith, count, c.min-size.ensures, c.requires.within, c.requires.frame.few)) c.loop-done.invariant.edge.sum (c.sum_run.ensures) in
     rw (
       to_z-of_z w64 c.loop-done.edge.sum (fits_room c.loop-done.edge.sum rooms.0),
-      to_z-of_z w64 c.sum_bytes.result (fits_room c.sum_bytes.result rooms.1),
-    ) (fits_rooms c.loop-done.edge.sum c.sum_bytes.result rooms.0 rooms.1)
+      to_z-of_z w64 c.sum_run.result (fits_room c.sum_run.result rooms.1),
+    ) (fits_rooms c.loop-done.edge.sum c.sum_run.result rooms.0 rooms.1)
 
 pub later_spot-spot-requires-clause-more : goal.later_spot-spot-requires-clause-more
 later_spot-spot-requires-clause-more c =
@@ -86,12 +84,12 @@ loop-done-preserved c =
       edge = subst (λ ys. IsEdge rule dims ys c.if-run.edge) (sym (parts-more kind c.args.from k m bytes))
           (elim c.if-run.branch [
             | then-run w ↦
-                let e = w.sum_bytes.ensures ∙ ap total w.part.ensures.values in
-                let rooms = part_rooms (is_on_border rule dims) kind c.args.from k m bytes c.loop-done.edge.sum w.sum_bytes.result c.type_inv.samples
+                let e = w.sum_run.ensures in
+                let rooms = part_rooms (is_on_border rule dims) kind c.args.from k m bytes c.loop-done.edge.sum w.sum_run.result c.type_inv.samples
                 (omega (arith, count, c.min-size.ensures, c.requires.within, c.requires.frame.few)) c.loop-done.invariant.edge.sum e in
                 edge_in rule dims xs p vs c.loop-done.edge c.if-run.edge c.loop-done.invariant.edge (λ j h. same j h ∙ w.if-run.true)
                 (ap (λ e. e.count) w.edge-is ∙ ap (λ n. c.loop-done.edge.count + n) (sym long))
-                (ap (λ e. e.sum) w.edge-is ∙ room_sum c.loop-done.edge.sum w.sum_bytes.result rooms.0 rooms.1 ∙ ap (λ z. c.loop-done.edge.sum +ℤ z) e)
+                (ap (λ e. e.sum) w.edge-is ∙ room_sum c.loop-done.edge.sum w.sum_run.result rooms.0 rooms.1 ∙ ap (λ z. c.loop-done.edge.sum +ℤ z) e)
             | else-run w ↦ edge_out rule dims xs p vs c.loop-done.edge c.if-run.edge c.loop-done.invariant.edge (λ j h. same j h
                 ∙ w.if-run.false) (ap (λ e. e.count) w.edge-is) (ap (λ e. e.sum) w.edge-is)
           ]);

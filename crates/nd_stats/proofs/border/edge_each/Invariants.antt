@@ -3,7 +3,7 @@ use Rattle.nd_base.specs.Samples.{numbers, width}
 use Rattle.nd_stats.specs.Samples.{placed}
 use Rattle.nd_stats.specs.Running.{IsEdge}
 use Rattle.nd_stats.specs.Spots.{IsSpot}
-use Rattle.nd_stats.proofs.border.edge_of.Given as goal
+use Rattle.nd_stats.proofs.border.edge_each.Given as goal
 
 abbrev pub invariant-loop-done : goal.invariant-loop-done
 invariant-loop-done l = record {
