@@ -5,13 +5,15 @@ use Rattle.nd_base.specs.declared.array.Dim.{Dim}
 use Rattle.nd_base.specs.declared.array.SampleType.{SampleType}
 use Rattle.nd_base.specs.declared.graph.StatsRule.{StatsRule}
 use Rattle.nd_base.specs.Samples.{numbers}
+use Rattle.nd_stats.specs.declared.border.Edge.{Edge}
 use Rattle.nd_stats.specs.declared.tally.Moments.{Moments}
 use Rattle.nd_stats.specs.Samples.{placed, sum_of}
-use Rattle.nd_stats.specs.Measured.{square}
+use Rattle.nd_stats.specs.Measured.{square, is_on_border}
 use Rattle.nd_stats.specs.Tallies.{HasRoom}
-use Rattle.nd_stats.specs.Running.{IsFrame, AreMoments, HaveMomentRooms}
-use Rattle.nd_stats.proofs.Bounds.{value_room, squares_room}
+use Rattle.nd_stats.specs.Running.{IsFrame, AreMoments, HaveMomentRooms, IsEdge, HaveEdgeRooms}
+use Rattle.nd_stats.proofs.Bounds.{value_room, squares_room, where_room}
 use Rattle.nd_stats.proofs.MomentLines.{moment_rooms}
+use Rattle.nd_stats.proofs.Rooms.{count_room}
 use Rattle.nd_stats.proofs.Parts.{parts_small}
 use Rattle.nd_stats.proofs.Pieces.{length-piece}
 
@@ -35,3 +37,12 @@ module _ (kind : SampleType) (p n : ℕ) (bytes : List ℕ) (fit : (i : ℕ) →
   block_moments rule dims m frame are =
       moment_rooms rule dims (placed p (numbers kind n bytes)) m frame are (parts_small kind p n bytes fit) (let long = length-piece kind p n bytes in
       omega (arith, long, few))
+
+  pub block_edge : (rule : StatsRule) (dims : List Dim) (e : Edge) → IsEdge rule dims (placed p (numbers kind n bytes)) e → HaveEdgeRooms e
+  block_edge rule dims e is =
+      let xs = placed p (numbers kind n bytes) in
+      let long = length-piece kind p n bytes in
+      record {
+        count = count_room (is_on_border rule dims) xs e.count is.count (omega (arith, long, few));
+        sum = subst HasRoom (sym is.sum) (where_room (is_on_border rule dims) xs (parts_small kind p n bytes fit) (omega (arith, long, few)));
+      }

@@ -115,6 +115,16 @@ edge_out rule dims xs p vs e f is same c s =
       sum = s ∙ is.sum ∙ sym (+ℤ_idr (value_where q xs)) ∙ sym (value_run q false xs p vs (λ j v h. same j h));
     }
 
+-- with the samples at the border of later ones
+pub edges_both : (rule : StatsRule) (dims : List Dim) (xs ys : List Sample) (a b c : Edge) → IsEdge rule dims xs a → IsEdge rule dims ys b
+    → c.count ≡ a.count + b.count → c.sum ≡ a.sum +ℤ b.sum → IsEdge rule dims (xs ++ ys) c
+edges_both rule dims xs ys a b c one two e f =
+    let q = is_on_border rule dims in
+    record {
+      count = e ∙ ap (λ n. n + b.count) one.count ∙ ap (λ n. count_where q xs + n) two.count ∙ sym (count-append q xs ys);
+      sum = f ∙ ap (λ z. z +ℤ b.sum) one.sum ∙ ap (λ z. value_where q xs +ℤ z) two.sum ∙ sym (sum_where-append q (λ s. s.value) xs ys);
+    }
+
 -- the sum of a part has room
 pub part_room : (kind : SampleType) (at m : ℕ) (bytes : List ℕ) (b : ℤ) → ((i : ℕ) → Fits w8 (get_or bytes i 0)) → m ≤ 67108864
     → b ≡ total (numbers kind m (drop at bytes)) → HasRoom b

@@ -36,6 +36,11 @@ pub record IsEdge (rule : StatsRule) (dims : List Dim) (xs : List Sample) (e : E
   pub count : e.count ≡ count_where (is_on_border rule dims) xs
   pub sum : e.sum ≡ value_where (is_on_border rule dims) xs
 
+-- samples at the border that have room for as many again
+pub record HaveEdgeRooms (e : Edge) : Type 0 where
+  pub count : e.count < 2 ^ 31
+  pub sum : HasRoom e.sum
+
 pub record AreMoments (rule : StatsRule) (dims : List Dim) (xs : List Sample) (m : Moments) : Type 0 where
   pub over : m.over ≡ count_where (is_over rule) xs
   pub m0 : m.m0 ≡ value_where (is_over rule) xs
@@ -54,6 +59,7 @@ pub record AreBasics (rule : StatsRule) (dims : List Dim) (first : Sample) (xs :
   pub extremes : AreExtremes first xs b.extremes
   pub total : b.total ≡ sum_of (λ t. t.value) xs
   pub squares : b.squares ≡ sum_by (λ t. square t.value) xs
+  pub edge : IsEdge rule dims xs b.edge
   pub moments : AreMoments rule dims xs b.moments
 
 pub record IsHistogram (rule : StatsRule) (xs : List Sample) (h : Histogram) : Type 0 where

@@ -1,4 +1,4 @@
-//! The extremes, the sums and the moments of a piece, block by block, so that each pass finds a block where the one before it left it.
+//! The extremes, the sums, the border and the moments of a piece, block by block, so that each pass finds a block where the one before it left it.
 
 ghost use Rattle.std.specs.Prelude.{◌≡◌, ◌+◌, ◌/◌, ◌<◌, ◌≤◌, ◌+ℤ◌, length, take};
 ghost use Rattle.nd_base.specs.Samples.{width, number, samples_of};
@@ -6,6 +6,7 @@ ghost use Rattle.nd_base.specs.Shapes.{sample_count};
 ghost use Rattle.nd_stats.specs.Samples.{placed};
 ghost use Rattle.nd_stats.specs.Running.{IsFrame, AreBasics, HaveMomentRooms};
 
+use crate::border::{Edge, edge_of};
 use crate::extremes::with_block;
 use crate::lines::moments_of;
 use crate::sample::part;
@@ -19,6 +20,7 @@ pub(crate) struct Basics {
     pub extremes: Extremes,
     pub total: i64,
     pub squares: u128,
+    pub edge: Edge,
     pub moments: Moments,
 }
 
@@ -68,6 +70,7 @@ pub(crate) fn basics_of(
     };
     let mut total = 0i64;
     let mut squares = 0u128;
+    let mut edge = Edge { count: 0, sum: 0 };
     let mut moments = Moments {
         over: 0,
         m0: 0,
@@ -83,6 +86,7 @@ pub(crate) fn basics_of(
         let (more, more_squares) = sums_bytes(kind, block);
         total += more;
         squares += more_squares;
+        edge.extend(&edge_of(rule, kind, dims, place, block));
         moments.join(&moments_of(rule, kind, dims, place, block));
         done += size;
     }
@@ -90,6 +94,7 @@ pub(crate) fn basics_of(
         extremes,
         total,
         squares,
+        edge,
         moments,
     }
 }

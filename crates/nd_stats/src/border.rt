@@ -18,6 +18,22 @@ pub(crate) struct Edge {
     pub sum: i64,
 }
 
+impl Edge {
+    ghost use Rattle.std.specs.Prelude.{◌+ℤ◌};
+    ghost use Rattle.nd_stats.specs.Running.{HaveEdgeRooms};
+
+    /// Takes up those of later samples.
+    pub fn extend(&mut self, later: &Edge)
+        requires one { HaveEdgeRooms self.old }
+        requires two { HaveEdgeRooms later.now }
+        ensures count { self.new.count ≡ self.old.count + later.now.count }
+        ensures sum { self.new.sum ≡ self.old.sum +ℤ later.now.sum }
+    {
+        self.count += later.count;
+        self.sum += later.sum;
+    }
+}
+
 /// Neighbours on a line that are all at the border, or all not.
 #[derive(Clone, Copy)]
 struct Run {

@@ -10,7 +10,6 @@ ghost use Rattle.nd_stats.specs.Measured.{measure_of};
 ghost use Rattle.nd_stats.specs.Running.{IsTally, IsFrame, AreBins, IsWithinRange};
 
 use crate::blocks::{Basics, basics_of};
-use crate::border::edge_of;
 use crate::histogram::{histogram_of, list_bins};
 use crate::profiles::add_profiles;
 use crate::spot::{first_size, next_spot, plane_of, second_size, spot_at};
@@ -160,11 +159,11 @@ fn tally_lines(
     } (placed from (samples_of kind samples.now)) result }
 {
     let mut tally = blank;
-    let edge = edge_of(rule, kind, dims, from, samples);
     let Basics {
         extremes,
         total,
         squares,
+        edge,
         moments,
     } = basics_of(rule, kind, dims, from, samples);
     tally.extremes = extremes;

@@ -6,8 +6,9 @@ use Rattle.nd_base.specs.Samples.{width, number, numbers, samples_of}
 use Rattle.nd_stats.specs.declared.blocks.Basics.{Basics}
 use Rattle.nd_stats.specs.Samples.{Sample, placed, sum_of}
 use Rattle.nd_stats.specs.Measured.{square}
-use Rattle.nd_stats.specs.Running.{AreBasics, AreExtremes, AreMoments}
-use Rattle.nd_stats.proofs.BlockRooms.{fit_behind, block_total, block_squares, block_moments}
+use Rattle.nd_stats.specs.Running.{AreBasics, AreExtremes, IsEdge, AreMoments}
+use Rattle.nd_stats.proofs.BlockRooms.{fit_behind, block_total, block_squares, block_edge, block_moments}
+use Rattle.nd_stats.proofs.Edges.{edges_both}
 use Rattle.nd_stats.proofs.Joins.{room_more, fits_room, fits_rooms}
 use Rattle.nd_stats.proofs.MomentLines.{moments_both}
 use Rattle.nd_stats.proofs.Parts.{parts-more}
@@ -42,6 +43,25 @@ overflow_add-squares c =
     (omega (arith, count, c.min-size.ensures, c.requires.within, c.requires.frame.few)) c.sums_bytes-more.result.1
     (c.sums_bytes-more.ensures.squares ∙ ap squares c.part-block.ensures.values ∙ squares_placed 0 (numbers kind c.min-size.result rest)) in
     record { fits = omega (arith, ha, hb) }
+
+pub extend-requires-clause-one : goal.extend-requires-clause-one
+extend-requires-clause-one c =
+    let bytes = c.args.samples.now in
+    let count : length bytes / c.width.result ≡ length bytes / width c.args.kind = ap (λ w. length bytes / w) c.width.ensures in
+    block_edge c.args.kind c.args.from c.loop-done.done bytes c.type_inv.samples
+    (omega (arith, count, c.loop-done.invariant.done, c.requires.within, c.requires.frame.few))
+    c.args.rule.now c.args.dims.now c.loop-done.edge c.loop-done.invariant.edge
+
+pub extend-requires-clause-two : goal.extend-requires-clause-two
+extend-requires-clause-two c =
+    let kind = c.args.kind in
+    let at = c.loop-done.done * width kind in
+    let rest = drop at c.args.samples.now in
+    let count : length c.args.samples.now / c.width.result ≡ length c.args.samples.now / width kind = ap (λ w. length c.args.samples.now / w) c.width.ensures in
+    let p : ℕ = c.args.from + c.loop-done.done in
+    block_edge kind p c.min-size.result rest (fit_behind at c.args.samples.now c.type_inv.samples)
+    (omega (arith, count, c.min-size.ensures, c.requires.within, c.requires.frame.few)) c.args.rule.now c.args.dims.now c.edge_of.result
+    (subst (λ vs. IsEdge c.args.rule.now c.args.dims.now (placed p vs) c.edge_of.result) c.part-block.ensures.values c.edge_of.ensures)
 
 pub join-requires-clause-one : goal.join-requires-clause-one
 join-requires-clause-one c =
@@ -98,6 +118,9 @@ loop-done-preserved c =
       squares = ap (λ n. n + c.sums_bytes-more.result.1) c.loop-done.invariant.squares
           ∙ ap (λ n. sum_by (λ t. square t.value) xs + n) (c.sums_bytes-more.ensures.squares ∙ squares_placed (from + k) (samples_of kind block))
           ∙ sym (sum_by-append (λ (t : Sample). square t.value) xs ys) ∙ ap (sum_by (λ t. square t.value)) (sym both);
+      edge = subst (λ zs. IsEdge rule dims zs c.extend.new.self) (sym both)
+          (edges_both rule dims xs ys c.loop-done.edge c.edge_of.result c.extend.new.self c.loop-done.invariant.edge c.edge_of.ensures
+          c.extend.ensures.count c.extend.ensures.sum);
       moments = subst (λ zs. AreMoments rule dims zs c.join.new.self) (sym both)
           (moments_both rule dims xs ys c.loop-done.moments c.moments_of.result c.join.new.self c.loop-done.invariant.moments c.moments_of.ensures
           c.join.ensures.over c.join.ensures.m0 c.join.ensures.mx c.join.ensures.my);
@@ -111,13 +134,14 @@ returns c =
     let bytes = c.args.samples.now in
     let first : Sample = record { place = c.args.from; value = number kind (take (width kind) bytes) } in
     let basics : Basics =
-    record { extremes = c.loop-done.extremes; total = to_z w64 c.loop-done.total-bits; squares = c.loop-done.squares; moments = c.loop-done.moments } in
+    record { extremes = c.loop-done.extremes; total = to_z w64 c.loop-done.total-bits; squares = c.loop-done.squares; edge = c.loop-done.edge; moments = c.loop-done.moments } in
     let count : length bytes / c.width.result ≡ length bytes / width kind = ap (λ w. length bytes / w) c.width.ensures in
     let all : c.loop-done.done ≡ length bytes / width kind = omega (arith, count, c.loop-done.invariant.done, c.loop-done-test.false) in
     let is : AreBasics rule dims first (placed c.args.from (numbers kind c.loop-done.done bytes)) basics = record {
       extremes = c.loop-done.invariant.extremes;
       total = c.loop-done.invariant.total;
       squares = c.loop-done.invariant.squares;
+      edge = c.loop-done.invariant.edge;
       moments = c.loop-done.invariant.moments;
     } in
     subst (λ n. AreBasics rule dims first (placed c.args.from (numbers kind n bytes)) basics) all is

@@ -18,14 +18,14 @@ returns-then-rule c =
     let n : ℕ = length bytes / width kind in
     let xs = placed c.args.from (numbers kind n bytes) in
     let ft : FitsSigned w64 c.basics_of-total.result.total = search rules in
-    let fe : FitsSigned w64 c.edge_of-edge.result.sum = search rules in
+    let fe : FitsSigned w64 c.basics_of-total.result.edge.sum = search rules in
     let count : length bytes / c.width.result ≡ n = ap (λ w. length bytes / w) c.width.ensures in
     let long = λ (d : ℕ). length-table (λ k. value_where (has_index dims d k) xs) 0 (size_in dims d) in
     let blank = λ (d : ℕ). length-table (λ k. value_where (has_index dims d k) []) 0 (size_in dims d) in
     record {
       extremes = c.basics_of-total.ensures.extremes;
-      sums = whole_sums rule dims kind c.args.from n bytes c.edge_of-edge.result _ c.edge_of-edge.ensures count (to_z-of_z w64 c.basics_of-total.result.total ft
-          ∙ c.basics_of-total.ensures.total) c.basics_of-total.ensures.squares (to_z-of_z w64 c.edge_of-edge.result.sum fe) refl;
+      sums = whole_sums rule dims kind c.args.from n bytes c.basics_of-total.result.edge _ c.basics_of-total.ensures.edge count (to_z-of_z w64 c.basics_of-total.result.total ft
+          ∙ c.basics_of-total.ensures.total) c.basics_of-total.ensures.squares (to_z-of_z w64 c.basics_of-total.result.edge.sum fe) refl;
       moments = c.basics_of-total.ensures.moments;
       histogram = c.histogram_of.ensures;
       x = slice_whole c.args.blank.x.items c.add_profiles.new.columns _ (sym c.args.blank.x.ok.0) (ap length c.add_profiles.ensures.columns ∙ long 0
@@ -45,12 +45,12 @@ returns-else-rule c =
     let n : ℕ = length bytes / width kind in
     let xs = placed c.args.from (numbers kind n bytes) in
     let ft : FitsSigned w64 c.basics_of-total.result.total = search rules in
-    let fe : FitsSigned w64 c.edge_of-edge.result.sum = search rules in
+    let fe : FitsSigned w64 c.basics_of-total.result.edge.sum = search rules in
     let count : length bytes / c.width.result ≡ n = ap (λ w. length bytes / w) c.width.ensures in
     record {
       extremes = c.basics_of-total.ensures.extremes;
-      sums = whole_sums rule dims kind c.args.from n bytes c.edge_of-edge.result _ c.edge_of-edge.ensures count (to_z-of_z w64 c.basics_of-total.result.total ft
-          ∙ c.basics_of-total.ensures.total) c.basics_of-total.ensures.squares (to_z-of_z w64 c.edge_of-edge.result.sum fe) refl;
+      sums = whole_sums rule dims kind c.args.from n bytes c.basics_of-total.result.edge _ c.basics_of-total.ensures.edge count (to_z-of_z w64 c.basics_of-total.result.total ft
+          ∙ c.basics_of-total.ensures.total) c.basics_of-total.ensures.squares (to_z-of_z w64 c.basics_of-total.result.edge.sum fe) refl;
       moments = c.basics_of-total.ensures.moments;
       histogram = c.histogram_of.ensures;
       x = c.requires.blank.x ∙ profile_off rule dims 0 [] c.if-rule.false ∙ sym (profile_off rule dims 0 xs c.if-rule.false);
