@@ -58,6 +58,8 @@ pub fn sums_bytes(kind: SampleType, samples: &[u8]) -> (i64, u128)
 {
     match kind {
         SampleType::UInt16 => words::sum_and_squares(samples),
+        SampleType::Int32 => sums::sums_by_parts(SampleType::Int32, samples),
+        SampleType::UInt32 => sums::sums_by_parts(SampleType::UInt32, samples),
         _ => (sum_bytes(kind, samples), squares_bytes(kind, samples)),
     }
 }

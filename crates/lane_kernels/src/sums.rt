@@ -6,7 +6,7 @@ ghost use Rattle.nd_base.specs.Samples.{width, samples_of};
 ghost use Rattle.nd_base.specs.Shapes.{most_samples};
 ghost use Rattle.lane_kernels.specs.Plain.{total, squares, run, square_run};
 
-use crate::sample::{byte_square, narrow_at, sample_square};
+use crate::sample::{byte_square, narrow_at, sample_at, sample_square};
 use nd_base::{SampleType, number_at};
 
 /// How many samples a block has.
@@ -116,7 +116,7 @@ pub(crate) fn squares(kind: SampleType, samples: &[u8]) -> u128
     match kind.width() {
         1 => u128::from(square_blocks(kind, samples)),
         2 => u128::from(narrow_squares(kind, samples)),
-        _ => squares_by_parts(kind, samples),
+        _ => sums_by_parts(kind, samples).1,
     }
 }
 
@@ -134,20 +134,24 @@ fn narrow_squares(kind: SampleType, samples: &[u8]) -> u64
     sum
 }
 
-/// The sum of the squares, by their sum in 64 bits, which may wrap, and the sum of all but their lowest 36 bits. What the second leaves of
-/// the first is less than 64 bits, so that no bit of it is lost. Were they cut at 32 bits, the compiler would make two products of each.
+/// The sum, and that of the squares by their sum in 64 bits, which may wrap, and the sum of all but their lowest 36 bits. What the second leaves
+/// of the first is less than 64 bits, so that no bit of it is lost. Were they cut at 32 bits, the compiler would make two products of each.
 #[inline(always)]
-fn squares_by_parts(kind: SampleType, samples: &[u8]) -> u128
+pub(crate) fn sums_by_parts(kind: SampleType, samples: &[u8]) -> (i64, u128)
     requires { length samples.now / width kind ≤ most_samples }
-    ensures { result ≡ squares (samples_of kind samples.now) }
+    ensures sum { result.0 ≡ total (samples_of kind samples.now) }
+    ensures squares { result.1 ≡ squares (samples_of kind samples.now) }
 {
+    let mut sum = 0i64;
     let mut whole = 0u64;
     let mut high = 0u64;
     for k in 0..samples.len() / kind.width() {
+        sum += sample_at(kind, samples, k);
         let square = sample_square(kind, samples, k);
         whole = whole.wrapping_add(square);
         high += square / 0x10_0000_0000;
     }
     let low = whole.wrapping_sub(high.wrapping_mul(0x10_0000_0000));
-    u128::from(low) + u128::from(high) * 0x10_0000_0000
+    let squares = u128::from(low) + u128::from(high) * 0x10_0000_0000;
+    (sum, squares)
 }
