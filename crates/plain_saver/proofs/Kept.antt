@@ -1,8 +1,8 @@
 -- What is kept back at the nodes, one node after the other.
-use Rattle.std.proofs.Common.{◌≡◌, ◌≢◌, inl, inr, ℕ, ◌+◌, ◌-◌, ◌≤◌, List, [], Some, length, refl, ap, sym, ◌∙◌, arith}
+use Rattle.std.proofs.Common.{◌≡◌, inl, inr, ℕ, ◌+◌, ◌-◌, ◌≤◌, List, [], Some, length, refl, ap, sym, ◌∙◌, arith}
 use Rattle.std.specs.Prelude.{All, slice_get}
 use Rattle.std.proofs.lemmas.Bool.{cases_lt}
-use Rattle.std.proofs.lemmas.List.{get_or_past, get_or-set_same, get_or-set_other}
+use Rattle.std.proofs.lemmas.List.{get_or_past}
 use Rattle.std.proofs.lemmas.Option.{same_Some, slice_get_within}
 use Rattle.nd_base.specs.GraphRules.{rule_at}
 use Rattle.nd_base.specs.declared.graph.Graph.{Graph}
@@ -12,14 +12,8 @@ use Rattle.nd_base.specs.declared.graph.NodeRule.{NodeRule}
 use Rattle.nd_base.specs.declared.graph.StatsRule.{StatsRule}
 use Rattle.graph_files.specs.NodeFileLaws.{cases_eq}
 use Rattle.plain_saver.specs.Texts.{text_at, with_text, emptied, emptied_kind, AreEmptyTo}
+use Rattle.plain_saver.proofs.AtNodes.{node-same, node-other}
 use Rattle.plain_saver.proofs.Pushed.{node-place, rule-next}
-
-pub text_at-same : (ts : List (List ℕ)) (v : ℕ) (text : List ℕ) → 1 ≤ v → v ≤ length ts → text_at (with_text ts v text) v ≡ text
-text_at-same ts v text some within = get_or-set_same ts (v - 1) text [] (omega (arith, some, within))
-
-pub text_at-other : (ts : List (List ℕ)) (v w : ℕ) (text : List ℕ) → 1 ≤ v → 1 ≤ w → w ≢ v → text_at (with_text ts v text) w ≡ text_at ts w
-text_at-other ts v w text some some_w ne =
-    get_or-set_other ts (v - 1) (w - 1) text [] (λ e. ne (let same : w ≡ v = omega (arith, e, some, some_w) in same))
 
 -- nothing is kept back where each text is empty
 pub text_at-none : (ts : List (List ℕ)) → All (λ text. text ≡ []) ts → (v : ℕ) → text_at ts v ≡ []
@@ -38,8 +32,8 @@ module _ (g : Graph) (ts : List (List ℕ)) (size : length ts ≡ length g.nodes
 
   empty-stats : AreEmptyTo g (with_text ts (at + 1) []) (at + 1)
   empty-stats = λ v m q low rule kind. elim (cases_eq v (at + 1)) [
-    | inl here ↦ ap (text_at (with_text ts (at + 1) [])) here ∙ text_at-same ts (at + 1) [] (omega arith) has-text
-    | inr ne ↦ text_at-other ts (at + 1) v [] (omega arith) (node-place g v m rule).0 ne ∙ h v m q (omega (arith, low, ne)) rule kind
+    | inl here ↦ ap (text_at (with_text ts (at + 1) [])) here ∙ node-same ts (at + 1) [] [] (omega arith) has-text
+    | inr ne ↦ node-other ts (at + 1) [] [] (omega arith) v (node-place g v m rule).0 ne ∙ h v m q (omega (arith, low, ne)) rule kind
   ]
 
   empty-other : ((r : StatsRule) → n.kind ≡ Stats r → ⊥) → AreEmptyTo g ts (at + 1)

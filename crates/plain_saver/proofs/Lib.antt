@@ -1,4 +1,5 @@
 pub mod Ahead
+pub mod AtNodes
 pub mod Begins
 pub mod Contents
 pub mod Ended

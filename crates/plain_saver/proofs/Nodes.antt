@@ -14,7 +14,7 @@ use Rattle.chain_plain.specs.PassingLaws.{maker_within-none}
 use Rattle.chain_plain.proofs.Depths.{depth, depth-input}
 use Rattle.chain_plain.proofs.Found.{maker_of_region, maker_of_other}
 use Rattle.chain_plain.proofs.Rules.{stands}
-use Rattle.plain_saver.specs.declared.rooms.Room.{Room}
+use Rattle.plain_saver.specs.declared.node_rooms.Room.{Room}
 use Rattle.plain_saver.specs.Rooms.{HasRegion, HasFrame}
 
 -- the driver is at no distance
@@ -65,11 +65,11 @@ pub region-makes : (g : Graph) (v : ℕ) (n : NodeRule) (r : RoiRule) → IsGrap
 region-makes g v n r sound is kind = maker_of_region g v n sound is (ap makes_arrays kind)
 
 -- the stack has what goes out of a number that has no rule
-pub frame-none : (g : Graph) (rooms : List Room) (v k : ℕ) → None ≡ rule_at g.nodes v → HasFrame g rooms v k
+pub frame-none : (g : Graph) (rooms : List (List Room)) (v k : ℕ) → None ≡ rule_at g.nodes v → HasFrame g rooms v k
 frame-none g rooms v k none = inl (maker_within-none g.nodes (length g.nodes) v none)
 
 -- and what goes out of another node is what goes out of its input
-pub frame-passed : (g : Graph) (rooms : List Room) (v k : ℕ) (n : NodeRule) → IsGraph g → Some n ≡ rule_at g.nodes v → makes_arrays n.kind ≡ false
+pub frame-passed : (g : Graph) (rooms : List (List Room)) (v k : ℕ) (n : NodeRule) → IsGraph g → Some n ≡ rule_at g.nodes v → makes_arrays n.kind ≡ false
     → HasFrame g rooms n.input k → HasFrame g rooms v k
 frame-passed g rooms v k n sound is other here =
     subst (λ (m : ℕ). (m ≡ 0) ⊎ HasRegion rooms m k) (sym (maker_of_other g v n sound is other)) here

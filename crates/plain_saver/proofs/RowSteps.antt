@@ -25,7 +25,7 @@ use Rattle.plain_saver.specs.Texts.{HasFront, text_at, with_text}
 use Rattle.plain_saver.specs.Saved.{written, rows_of, group_size, IsGrouped, IsSaved}
 use Rattle.plain_saver.proofs.FileNodes.{file-of, group-apart_stats, one-node}
 use Rattle.plain_saver.proofs.Pushed.{node-place}
-use Rattle.plain_saver.proofs.Kept.{text_at-same, text_at-other}
+use Rattle.plain_saver.proofs.AtNodes.{node-same, node-other}
 use Rattle.plain_saver.proofs.StatsRows.{rows_of-append, arrays_out-one}
 use Rattle.plain_saver.proofs.Gone.{pass_at-other, passes-more, written-more, written-other}
 
@@ -101,7 +101,7 @@ module _ (g : Graph) (s : StackValue) (prefix : List ℕ) (before t : Option Fil
         let h = saved.rows v n r rule kind in (
           h.0,
           rows-more ∙ ap (λ (zs : List ℕ). zs ++ text) h.1 ∙ append_assoc h.0 (text_at ts v) text
-              ∙ ap (λ (zs : List ℕ). h.0 ++ zs) (sym (text_at-same ts v (text_at ts v ++ text) at-place.0 has-text)),
+              ∙ ap (λ (zs : List ℕ). h.0 ++ zs) (sym (node-same ts v (text_at ts v ++ text) [] at-place.0 has-text)),
           h.2,
         )
 
@@ -114,7 +114,7 @@ module _ (g : Graph) (s : StackValue) (prefix : List ℕ) (before t : Option Fil
               subst (λ (zs : List Array). HasFront t (stats_name prefix m.name) (text_at more w) (rows_of q zs))
               (sym (written-other g s ps v at-place.0 at-place.1 saved.passes w ne))
               (subst (λ (zs : List ℕ). HasFront t (stats_name prefix m.name) zs (rows_of q (written g s ps w)))
-              (sym (text_at-other ts v w (text_at ts v ++ text) at-place.0 (node-place g w m at_w).0 ne)) (saved.rows w m q at_w kind_w))
+              (sym (node-other ts v (text_at ts v ++ text) [] at-place.0 w (node-place g w m at_w).0 ne)) (saved.rows w m q at_w kind_w))
         ]
 
     pub saved-row : IsSaved g s prefix before (with_one_gone ps v) more xs t
@@ -154,7 +154,7 @@ module _ (g : Graph) (s : StackValue) (prefix : List ℕ) (before t : Option Fil
         let h = saved.rows v n r rule kind in (
           h.0 ++ text_at ts v,
           h.1 ∙ sym (append-nil (h.0 ++ text_at ts v))
-              ∙ ap (λ (zs : List ℕ). (h.0 ++ text_at ts v) ++ zs) (sym (text_at-same ts v [] at-place.0 has-text)),
+              ∙ ap (λ (zs : List ℕ). (h.0 ++ text_at ts v) ++ zs) (sym (node-same ts v [] [] at-place.0 has-text)),
           subst (λ (w : Option Files). HasFile w name (h.0 ++ text_at ts v)) (sym added) (HasFile-more t name h.0 (text_at ts v) h.2),
         )
 
@@ -167,7 +167,7 @@ module _ (g : Graph) (s : StackValue) (prefix : List ℕ) (before t : Option Fil
               let h = saved.rows w m q at_w kind_w in
               let names : stats_name prefix m.name ≢ name = λ e. ne (one-node g sound w v m n at_w rule (stats_names-differ prefix m.name n.name e)) in (
                 h.0,
-                h.1 ∙ ap (λ (zs : List ℕ). h.0 ++ zs) (sym (text_at-other ts v w [] at-place.0 (node-place g w m at_w).0 ne)),
+                h.1 ∙ ap (λ (zs : List ℕ). h.0 ++ zs) (sym (node-other ts v [] [] at-place.0 w (node-place g w m at_w).0 ne)),
                 changed-HasBytes t u name (stats_name prefix m.name) (Some h.0) changed names h.2,
               )
         ]

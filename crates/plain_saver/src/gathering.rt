@@ -11,14 +11,12 @@ ghost use Rattle.graph_files.specs.OutFiles.{file_shape};
 ghost use Rattle.plain_saver.specs.Ahead.{arrays_from};
 ghost use Rattle.plain_saver.specs.Rooms.{AreRooms};
 
+use crate::node_rooms::ENOUGH;
 use crate::passes::Pass;
 use crate::rooms::Rooms;
 use cdf_write::push_row;
 use nd_base::{FileShape, OutOfMemory, Plan, Stack};
 use std::alloc::Global;
-
-/// How many bytes are enough for one write.
-const ENOUGH: usize = 16_384;
 
 /// Adds the row of the array that goes out of a file node after `ahead` others.
 fn add_row(

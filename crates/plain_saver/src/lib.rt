@@ -2,6 +2,7 @@
 #![tactic(auto)]
 
 mod gathering;
+mod node_rooms;
 mod passes;
 mod passing;
 mod rooms;

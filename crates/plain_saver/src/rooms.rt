@@ -1,11 +1,12 @@
 //! The samples of frames as they go out of the nodes of a graph.
 
-ghost use Rattle.std.specs.Prelude.{◌≡◌, ◌<◌, ◌*◌, ◌↔◌, None, Some, [], length, All, IfOk, OnOk, OnErr, IsTrue};
+ghost use Rattle.std.specs.Prelude.{◌≡◌, ◌<◌, ◌≤◌, ◌*◌, ◌↔◌, ℕ, None, Some, [], length, All, IfOk, OnOk, OnErr, IsTrue};
 ghost use Rattle.nd_base.specs.Array.{StackValue};
 ghost use Rattle.nd_base.specs.GraphRules.{IsBetween, IsGraph, IsRoi, rule_at};
 ghost use Rattle.nd_base.specs.Samples.{width, samples_of};
 ghost use Rattle.nd_base.specs.Shapes.{sample_count};
 ghost use Rattle.nd_base.specs.Stacks.{IsStack};
+ghost use Rattle.nd_base.specs.declared.graph.Graph.{Graph};
 ghost use Rattle.nd_base.specs.declared.graph.Kind.TheVariants.{Roi};
 ghost use Rattle.nd_roi.specs.Cut.{region_dims};
 ghost use Rattle.nd_roi.specs.Region.{out_type, region_samples};
@@ -13,51 +14,33 @@ ghost use Rattle.chain_plain.specs.Content.{IsContent};
 ghost use Rattle.chain_plain.specs.ContentLaws.{IsArrayShape};
 ghost use Rattle.chain_plain.specs.Nodes.{maker_at};
 ghost use Rattle.chain_plain.specs.Plans.{plan_of, maker_of, shape_at};
-ghost use Rattle.plain_saver.specs.Rooms.{AreCut, HasFrame, HasRegion, KeepsFrames, with_room};
+ghost use Rattle.plain_saver.specs.Rooms.{AreCut, HasFrame, HasRegion, KeepsFrames, rooms_of, with_room};
 
+use crate::node_rooms::NodeRooms;
 use chain_plain::maker_for;
-use nd_base::{
-    Bytes, FrameName, Kind, Maker, NodeRule, OutOfMemory, Plan, RoiRule, Stack, rule_at,
-};
+use nd_base::{FrameName, Kind, Maker, NodeRule, OutOfMemory, Plan, RoiRule, Stack, rule_at};
 use nd_roi::fill_region;
 use std::alloc::Global;
 use std::marker::Model;
-use std::mem;
 
-/// Room for the samples of one frame as they go out of a node.
-#[derive(Drop)]
-pub struct Room {
-    /// The frame that they are of, if there is one.
-    pub index: Option<u32>,
-    pub bytes: Bytes,
-}
-
-impl Room {
-    /// Room that has no frame yet. It takes no memory.
-    fn empty(alloc: Global) -> Room
-        ensures { result ≡ record { index = None; bytes = [] } }
-    {
-        Room {
-            index: None,
-            bytes: Bytes::new(Vec::new(alloc)),
-        }
-    }
-}
-
-/// The samples of frames as they go out of the nodes of a graph: each region node has room for those of one frame, which is kept from
-/// frame to frame. Contracts see the list of the rooms, one for each node in the graph's order; that of another node stays empty.
+/// The samples of frames as they go out of the nodes of a graph. A region node has as many rooms, each for one frame, as a file node that passes its
+/// frames on reads ahead at most: at most 16 KiB and one frame of samples for each region node. Frame k has room k modulo their count, so that frames
+/// which follow each other are cut once, whichever nodes read them. A region is cut again where another frame took its room meanwhile: where a
+/// file node behind a further region of less bytes reads further ahead, or the frames that it reads ahead don't follow each other. The rooms of a
+/// node are made as its first frame is cut, and the storage of each at its first use; both are kept. Contracts see the rooms of each node, in the
+/// graph's order. A node that makes no arrays has none.
 #[derive(Drop)]
 pub struct Rooms {
-    rooms: Vec<Room>,
+    nodes: Vec<NodeRooms>,
 }
 
 impl Model for Rooms {
     ghost use Rattle.std.specs.Prelude.{List};
-    ghost use Rattle.plain_saver.specs.declared.rooms.Room.{Room};
+    ghost use Rattle.plain_saver.specs.declared.node_rooms.Room.{Room};
 
-    ghost Value = { List Room };
+    ghost Value = { List (List Room) };
 
-    ghost view = { λ r. r.rooms.items };
+    ghost view = { λ r. r.nodes.items };
 }
 
 /// The maker of what a node passes on, with the type, dimensions and bytes of these arrays.
@@ -89,66 +72,81 @@ fn region_in(roi: &RoiRule, from: &Maker, samples: &[u8], storage: Vec<u8>) -> V
 }
 
 impl Rooms {
-    /// Empty rooms for the nodes of a plan's graph.
+    /// No rooms yet for the nodes of a plan's graph.
     ///
     /// # Errors
     ///
     /// Only for want of memory.
     pub fn new(alloc: Global, plan: &Plan) -> Result<Rooms, OutOfMemory>
         ensures size { IfOk result (λ rooms. length rooms ≡ length plan.now.graph.nodes) }
-        ensures empty { IfOk result (λ rooms. All (λ room. room.index ≡ None) rooms) }
+        ensures empty { IfOk result (λ rooms. All (λ own. own ≡ []) rooms) }
         ensures cut { (s : StackValue) → IfOk result (AreCut plan.now.graph s) }
     {
-        let nodes = plan.graph.nodes.as_slice();
-        let mut rooms = Vec::with_capacity(alloc, nodes.len())?;
-        for _node in nodes {
-            rooms.push(Room::empty(alloc))?;
+        let rules = plan.graph.nodes.as_slice();
+        let mut nodes = Vec::with_capacity(alloc, rules.len())?;
+        for _node in rules {
+            nodes.push(NodeRooms::none(alloc))?;
         }
-        Ok(Rooms { rooms })
+        Ok(Rooms { nodes })
     }
 
-    /// Whether the room of a frame's maker has this frame.
+    /// Whether the room of a frame at its maker has it.
     fn has(&self, name: FrameName) -> bool
         requires { IsBetween 1 (length self.now) name.maker }
         ensures { IsTrue result ↔ HasRegion self.now name.maker name.index }
     {
-        self.rooms[name.maker as usize - 1].index == Some(name.index)
+        self.nodes[name.maker as usize - 1].has(name.index)
     }
 
-    /// The storage of the room of a node, made anew where it isn't of this size. The room is empty then.
+    /// Makes the rooms of a node for frames of so many bytes, where it has none.
+    ///
+    /// # Errors
+    ///
+    /// Only for want of memory, and then the node has none.
+    fn make(&mut self, alloc: Global, node: u32, need: u32) -> Result<(), OutOfMemory>
+        requires { IsBetween 1 (length self.old) node }
+        ensures size { length self.new ≡ length self.old }
+        ensures some { OnOk result (1 ≤ length (rooms_of self.new node)) }
+        ensures cut { (g : Graph) (s : StackValue) → AreCut g s self.old → AreCut g s self.new }
+        ensures kept { (g : Graph) (k : ℕ) → KeepsFrames g k self.old self.new }
+    {
+        let rooms = &mut self.nodes[node as usize - 1];
+        if rooms.count() > 0 {
+            return Ok(());
+        }
+        *rooms = NodeRooms::for_frames(alloc, need)?;
+        Ok(())
+    }
+
+    /// The storage of the room of a frame at its maker, made anew where it isn't of this size. The room is empty then.
     ///
     /// # Errors
     ///
     /// Only for want of memory, and then the rooms are as they were.
-    fn take(&mut self, alloc: Global, node: u32, size: u32) -> Result<Vec<u8>, OutOfMemory>
-        requires { IsBetween 1 (length self.old) node }
+    fn take(&mut self, alloc: Global, name: FrameName, size: u32) -> Result<Vec<u8>, OutOfMemory>
+        requires node { IsBetween 1 (length self.old) name.maker }
+        requires some { 1 ≤ length (rooms_of self.old name.maker) }
         ensures size { IfOk result (λ bytes. length bytes.items ≡ size) }
-        ensures room { OnOk result (self.new ≡ with_room self.old node (record { index = None; bytes = [] })) }
+        ensures room { OnOk result (self.new ≡ with_room self.old name.maker name.index (record { index = None; bytes = [] })) }
         ensures err { OnErr result (self.new ≡ self.old) }
     {
-        let room = &mut self.rooms[node as usize - 1];
-        if room.bytes.list().len() != size as usize {
-            room.bytes = Bytes::new(vec![in alloc; 0; size as usize]?);
-        }
-        Ok(mem::replace(room, Room::empty(alloc)).bytes.into_list())
+        self.nodes[name.maker as usize - 1].take(alloc, name.index, size)
     }
 
-    /// Puts the samples of a frame into the room of its maker.
+    /// Puts the samples of a frame into its room at its maker.
     fn put(&mut self, name: FrameName, bytes: Vec<u8>)
-        requires { IsBetween 1 (length self.old) name.maker }
-        ensures { self.new ≡ with_room self.old name.maker (record { index = Some name.index; bytes = bytes.items }) }
+        requires node { IsBetween 1 (length self.old) name.maker }
+        requires some { 1 ≤ length (rooms_of self.old name.maker) }
+        ensures { self.new ≡ with_room self.old name.maker name.index (record { index = Some name.index; bytes = bytes.items }) }
     {
-        self.rooms[name.maker as usize - 1] = Room {
-            index: Some(name.index),
-            bytes: Bytes::new(bytes),
-        };
+        self.nodes[name.maker as usize - 1].put(name.index, bytes);
     }
 
     /// Cuts a frame of a region node, where the samples that come to the node are at hand.
     ///
     /// # Errors
     ///
-    /// Only for want of memory, and then the rooms are as they were.
+    /// Only for want of memory. What was at hand of this frame stays at hand.
     fn cut_region(
         &mut self,
         alloc: Global,
@@ -173,15 +171,16 @@ impl Rooms {
     {
         let from = made_by(plan, stack, rule.input);
         let to = made_by(plan, stack, name.maker);
-        let storage = self.take(alloc, name.maker, to.need)?;
+        self.make(alloc, name.maker, to.need)?;
+        let storage = self.take(alloc, name, to.need)?;
         let samples = self.samples(plan, stack, rule.input, name.index);
         let bytes = region_in(roi, from, samples, storage);
         self.put(name, bytes);
         Ok(())
     }
 
-    /// Cuts the regions of a frame up to what goes out of a node. A region is cut only where its room has another frame, into the
-    /// storage of that one.
+    /// Cuts the regions of a frame up to what goes out of a node. A region is cut only where the frame's room has another one, into the
+    /// storage of that.
     ///
     /// # Errors
     ///
@@ -230,7 +229,7 @@ impl Rooms {
     {
         match made_by(plan, stack, node).node {
             0 => stack.frame(index),
-            maker => self.rooms[maker as usize - 1].bytes.list(),
+            maker => self.nodes[maker as usize - 1].bytes(index),
         }
     }
 }

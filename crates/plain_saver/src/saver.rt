@@ -28,8 +28,8 @@ use graph_files::OpenFiles;
 use nd_base::{Kind, NodeRule, OutOfMemory, Plan, Stack, StatsRule};
 use std::alloc::Global;
 
-/// The files of a plain run while they are written, with what has gone out of each node, the rows that are kept back, room for the samples of one
-/// frame, and room for rows that are written at once.
+/// The files of a plain run while they are written, with what has gone out of each node, the rows that are kept back, rooms for the regions of
+/// frames, and room for rows that are written at once.
 #[derive(Drop)]
 pub(crate) struct Saver {
     rooms: Rooms,

@@ -16,8 +16,8 @@ use nd_base::{Plan, Stack};
 use std::alloc::Global;
 
 /// Runs a graph over a stack in one thread, frame by frame, and writes the files of its file nodes and statistics nodes. Each frame is lent
-/// where no region cuts it, and a region of a frame is computed once, but where a file node reads ahead. The rows of small frames are gathered
-/// for one append.
+/// where no region cuts it, and a region of a frame is computed once, but where another frame takes its room meanwhile (see `Rooms`). The rows of
+/// small frames are gathered for one append.
 ///
 /// # Errors
 ///

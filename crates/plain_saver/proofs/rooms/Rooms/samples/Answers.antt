@@ -1,10 +1,12 @@
-use Rattle.std.proofs.Common.{rules, ◌≡◌, ◌≢◌, ℕ, ◌-◌, ◌≤◌, List, get_or, ap, sym, subst, ◌∙◌, arith}
+use Rattle.std.proofs.Common.{rules, ◌≡◌, ◌≢◌, ℕ, ◌-◌, ◌≤◌, List, [], get_or, ap, sym, subst, ◌∙◌, arith}
+use Rattle.std.proofs.lemmas.List.{get_or_default}
 use Rattle.chain_plain.specs.Content.{IsContent}
 use Rattle.chain_plain.specs.ContentBytes.{frame-content, content-of-maker}
 use Rattle.chain_plain.specs.ContentLaws.{frame}
 use Rattle.chain_plain.specs.Nodes.{maker_at}
-use Rattle.plain_saver.specs.declared.rooms.Room.{Room}
-use Rattle.plain_saver.proofs.Places.{frame-region, room-content}
+use Rattle.plain_saver.specs.declared.node_rooms.Room.{Room}
+use Rattle.plain_saver.specs.Rooms.{own_room, rooms_of}
+use Rattle.plain_saver.proofs.Places.{frame-region, region-within, room-content}
 use Rattle.plain_saver.proofs.rooms.Rooms.samples.Goals as goal
 
 pub returns-in-0 : goal.returns-in-0
@@ -26,12 +28,12 @@ returns-in_default c =
     let m = c.made_by.result.now.node in
     let apart : m ≢ 0 = search rules in
     let first : 1 ≤ m = omega (arith, apart) in
-    let view : c.self.inside.rooms.items ≡ rooms = c.self.view_is in
-    let read : c.index.result.now ≡ get_or rooms (m - 1) c.index.result.now =
-    c.index.ensures ∙ ap (λ (rs : List Room). get_or rs (m - 1) c.index.result.now) view in
+    let has = frame-region g rooms c.args.node m k c.made_by.ensures.number apart c.requires.here in
+    let read : c.index.result.now ≡ rooms_of rooms m =
+    c.index.ensures ∙ ap (λ (os : List (List Room)). get_or os (m - 1) c.index.result.now) c.self.view_is
+    ∙ get_or_default rooms (m - 1) c.index.result.now [] (region-within rooms m k has) in
     let held =
-    room-content g s rooms m k c.index.result.now first c.requires.cut
-    (frame-region g rooms c.args.node m k c.made_by.ensures.number apart c.requires.here) read in
-    content-of-maker g s c.args.node k c.list.result.now c.requires.graph
-    (subst (λ (w : ℕ). IsContent g s (frame w k) c.list.result.now) c.made_by.ensures.number
-    (subst (λ (b : List ℕ). IsContent g s (frame m k) b) (sym c.list.ensures) held))
+    room-content g s rooms m k c.bytes.result.now first c.requires.cut has
+    (λ room at. c.bytes.ensures room (ap (λ (own : List Room). own_room own k) read ∙ at)) in
+    content-of-maker g s c.args.node k c.bytes.result.now c.requires.graph
+    (subst (λ (w : ℕ). IsContent g s (frame w k) c.bytes.result.now) c.made_by.ensures.number held)
