@@ -4,3 +4,4 @@ pub mod Texts
 pub mod Saved
 pub mod BegunRows
 pub mod Rooms
+pub mod Sources

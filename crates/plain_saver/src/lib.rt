@@ -9,6 +9,7 @@ mod rooms;
 mod rows;
 mod saver;
 mod saving;
+mod source;
 mod texts;
 
 pub use passing::passed;

@@ -2,11 +2,10 @@
 
 ghost use Rattle.std.specs.Prelude.{◌≡◌, ◌+◌, ◌<◌, ◌==◌, ℕ, Some, false, length, slice_get, IfOk};
 ghost use Rattle.std.specs.Option.{option_map_or};
-ghost use Rattle.nd_base.specs.GraphRules.{IsGraph};
 ghost use Rattle.plain_saver.specs.Passes.{ArePasses, pass_at};
 
-use crate::passing::passed;
-use nd_base::{OutOfMemory, Plan, Seq, Stack};
+use crate::source::Source;
+use nd_base::{OutOfMemory, Seq};
 use std::alloc::Global;
 
 /// The positions of the frames that go out of a node in a plain run, in order, and how many of them have gone.
@@ -37,14 +36,13 @@ impl Pass {
 }
 
 /// What goes out of each node of the graph, of which nothing has gone.
-pub(crate) fn passes(alloc: Global, plan: &Plan, stack: &Stack) -> Result<Vec<Pass>, OutOfMemory>
-    requires { IsGraph plan.now.graph }
-    ensures positions { IfOk result (λ v. ArePasses plan.now.graph stack.now v.items) }
+pub(crate) fn passes(alloc: Global, source: &Source) -> Result<Vec<Pass>, OutOfMemory>
+    ensures positions { IfOk result (λ v. ArePasses source.now.graph source.now.stack v.items) }
     ensures none { IfOk result (λ v. (node : ℕ) → (pass_at v.items node).gone ≡ 0) }
 {
     let mut passes = Vec::new(alloc);
-    for place in 0..plan.graph.nodes.as_slice().len() {
-        let positions = passed(alloc, plan, stack, place as u32 + 1)?;
+    for place in 0..source.rules().len() {
+        let positions = source.passed(alloc, place as u32 + 1)?;
         passes.push(Pass {
             positions: Seq::new(positions),
             gone: 0,

@@ -1,21 +1,20 @@
 //! The files of the statistics nodes: a row for each array.
 
 ghost use Rattle.std.specs.Prelude.{◌≡◌, ◌<◌, ◌∷◌, [], ℕ, Some, length, IfOk, OnOk, OnErr, string_bytes};
-ghost use Rattle.nd_base.specs.GraphRules.{IsGraph, IsStats, rule_at};
+ghost use Rattle.nd_base.specs.GraphRules.{IsStats, rule_at};
 ghost use Rattle.nd_base.specs.declared.graph.Kind.TheVariants.{Stats};
 ghost use Rattle.edge_traits.specs.Files.{Stands};
 ghost use Rattle.chain_plain.specs.Content.{IsContent};
 ghost use Rattle.chain_plain.specs.OneThread.{arrays_out};
-ghost use Rattle.chain_plain.specs.Plans.{plan_of};
 ghost use Rattle.file_out.specs.Saving.{IsSaveCause};
 ghost use Rattle.graph_files.specs.OutFiles.{stats_name};
 ghost use Rattle.plain_saver.specs.Saved.{rows_of};
 ghost use Rattle.plain_saver.specs.BegunRows.{IsRowsFileBegun, MayBeginRowsFile, AreRowsBegun, AreRowsTouched};
 
-use crate::rooms::made_by;
+use crate::source::Source;
 use edge_traits::Shelf;
 use file_out::SaveFault;
-use nd_base::{Kind, NodeRule, OutOfMemory, Plan, Stack, StatsRule};
+use nd_base::{Kind, NodeRule, OutOfMemory, StatsRule};
 use nd_stats::{measure, row_text};
 use std::alloc::{AllocError, Global};
 
@@ -29,22 +28,19 @@ pub(crate) fn rows_name(alloc: Global, prefix: &str, node: &str) -> Result<Strin
 /// The row of the array that goes out of a statistics node at a position, which has these samples.
 pub(crate) fn row_of(
     alloc: Global,
-    plan: &Plan,
-    stack: &Stack,
+    source: &Source,
     node: u32,
     rule: &StatsRule,
     index: u32,
     samples: &[u8],
 ) -> Result<String, OutOfMemory>
-    requires graph { IsGraph plan.now.graph }
-    requires plan { plan.now ≡ plan_of plan.now.graph stack.now }
     requires rule { IsStats rule.now }
-    requires frame { index < length stack.now.arrays }
-    requires content { IsContent plan.now.graph stack.now (record { maker = node; index = index }) samples.now }
-    ensures { IfOk result (λ text. string_bytes text ≡ rows_of rule.now (arrays_out plan.now.graph.nodes stack.now.arrays node (index ∷ []))) }
+    requires frame { index < length source.now.stack.arrays }
+    requires content { IsContent source.now.graph source.now.stack (record { maker = node; index = index }) samples.now }
+    ensures { IfOk result (λ text. string_bytes text ≡ rows_of rule.now (arrays_out source.now.graph.nodes source.now.stack.arrays node (index ∷ []))) }
 {
-    let maker = made_by(plan, stack, node);
-    let id = stack.head(index).id;
+    let maker = source.maker(node);
+    let id = source.head(index).id;
     let measured = measure(alloc, rule, id, maker.kind, maker.dims.as_slice(), samples)?;
     row_text(alloc, &measured)
 }
@@ -75,13 +71,13 @@ pub(crate) fn begin_rows<K: Shelf>(
     alloc: Global,
     shelf: &mut K,
     prefix: &str,
-    plan: &Plan,
+    source: &Source,
 ) -> Result<(), SaveFault>
-    ensures ok { OnOk result (AreRowsBegun plan.now.graph prefix.now (K.held shelf.old) (K.held shelf.new)) }
-    ensures err { OnErr result (AreRowsTouched plan.now.graph prefix.now (K.held shelf.old) (K.held shelf.new)) }
+    ensures ok { OnOk result (AreRowsBegun source.now.graph prefix.now (K.held shelf.old) (K.held shelf.new)) }
+    ensures err { OnErr result (AreRowsTouched source.now.graph prefix.now (K.held shelf.old) (K.held shelf.new)) }
     ensures cause { IsSaveCause result (K.faults shelf.old) (K.faults shelf.new) }
 {
-    let rules = plan.graph.nodes.as_slice();
+    let rules = source.rules();
     for place in 0..rules.len() {
         begin_node(alloc, shelf, prefix, &rules[place])?;
     }
@@ -114,14 +110,14 @@ pub(crate) fn finish_rows<K: Shelf>(
     alloc: Global,
     shelf: &mut K,
     prefix: &str,
-    plan: &Plan,
+    source: &Source,
 ) -> Result<(), SaveFault>
-    requires { (v : ℕ) (n : NodeRule) (r : StatsRule) → rule_at plan.now.graph.nodes v ≡ Some n → n.kind ≡ Stats r
+    requires { (v : ℕ) (n : NodeRule) (r : StatsRule) → rule_at source.now.graph.nodes v ≡ Some n → n.kind ≡ Stats r
         → Stands (K.held shelf.old) (stats_name prefix.now n.name) }
     ensures still { K.held shelf.new ≡ K.held shelf.old }
     ensures cause { IsSaveCause result (K.faults shelf.old) (K.faults shelf.new) }
 {
-    let rules = plan.graph.nodes.as_slice();
+    let rules = source.rules();
     for place in 0..rules.len() {
         finish_node(alloc, shelf, prefix, &rules[place])?;
     }

@@ -2,12 +2,9 @@
 
 ghost use Rattle.std.specs.Prelude.{◌≡◌, [], ◌+◌, ◌-◌, ◌*◌, ◌/◌, ◌%◌, ◌<◌, ◌≤◌, ◌^◌, ℕ, List, Some, None, Option, length, slice_get, IfOk, IfErr, OnOk};
 ghost use Rattle.std.specs.Prelude.{OnErr, IfSome, IfNone, false};
-ghost use Rattle.nd_base.specs.GraphRules.{IsGraph, IsStats, rule_at};
+ghost use Rattle.nd_base.specs.GraphRules.{rule_at};
 ghost use Rattle.nd_base.specs.declared.graph.Kind.TheVariants.{Stats};
 ghost use Rattle.edge_traits.specs.Files.{Files};
-ghost use Rattle.nd_stack.specs.KeptStacks.{IsKeptStack};
-ghost use Rattle.chain_plain.specs.Plans.{plan_of};
-ghost use Rattle.graph_conf.specs.Loads.{limit_fault};
 ghost use Rattle.file_out.specs.Saving.{IsSaveCause};
 ghost use Rattle.graph_files.specs.Interrupted.{AreInterrupted};
 ghost use Rattle.graph_files.specs.NodeFiles.{NodeFile};
@@ -21,11 +18,12 @@ use crate::gathering::gather;
 use crate::passes::{Pass, passes};
 use crate::rooms::Rooms;
 use crate::rows::{begin_rows, finish_rows, row_of, rows_name};
+use crate::source::Source;
 use crate::texts::Texts;
 use edge_traits::Shelf;
 use file_out::SaveFault;
 use graph_files::OpenFiles;
-use nd_base::{Kind, NodeRule, OutOfMemory, Plan, Stack, StatsRule};
+use nd_base::{Kind, NodeRule, OutOfMemory, StatsRule};
 use std::alloc::Global;
 
 /// The files of a plain run while they are written, with what has gone out of each node, the rows that are kept back, rooms for the regions of
@@ -69,27 +67,24 @@ impl Saver {
         alloc: Global,
         shelf: &mut K,
         prefix: &str,
-        plan: &Plan,
-        stack: &Stack,
+        source: &Source,
     ) -> Result<Saver, SaveFault>
-        requires graph { IsGraph plan.now.graph }
-        requires plan { plan.now ≡ plan_of plan.now.graph stack.now }
-        requires kept { IsKeptStack stack.now }
-        requires within { limit_fault plan.now.graph stack.now ≡ None }
-        ensures saved { IfOk result (λ x. IsSaved plan.now.graph stack.now prefix.now (K.held shelf.old) x.passes.items x.texts x.files (K.held shelf.new)) }
-        ensures left { IfOk result (λ x. AreLeftFrom plan.now.graph x.passes.items x.files 0 0) }
-        ensures rooms { IfOk result (λ x. AreRooms plan.now.graph stack.now x.rooms) }
-        ensures err { OnErr result (AreInterrupted (K.held shelf.old) (plain_files plan.now.graph stack.now prefix.now) (K.held shelf.new)) }
+        ensures saved { IfOk result (λ x.
+            IsSaved source.now.graph source.now.stack prefix.now (K.held shelf.old) x.passes.items x.texts x.files (K.held shelf.new)) }
+        ensures left { IfOk result (λ x. AreLeftFrom source.now.graph x.passes.items x.files 0 0) }
+        ensures rooms { IfOk result (λ x. AreRooms source.now.graph source.now.stack x.rooms) }
+        ensures err { OnErr result (AreInterrupted (K.held shelf.old) (plain_files source.now.graph source.now.stack prefix.now) (K.held shelf.new)) }
         ensures cause { IsSaveCause result (K.faults shelf.old) (K.faults shelf.new) }
     {
+        let plan = source.plan();
         let saver = Saver {
             rooms: Rooms::new(alloc, plan)?,
-            passes: passes(alloc, plan, stack)?,
+            passes: passes(alloc, source)?,
             texts: Texts::new(alloc, plan)?,
-            files: OpenFiles::new(alloc, prefix, plan, stack)?,
+            files: OpenFiles::new(alloc, prefix, plan, source.stack())?,
             rows: Vec::new(alloc),
         };
-        begin_rows(alloc, shelf, prefix, plan)?;
+        begin_rows(alloc, shelf, prefix, source)?;
         Ok(saver)
     }
 
@@ -128,39 +123,35 @@ impl Saver {
         &mut self,
         alloc: Global,
         shelf: &mut K,
-        plan: &Plan,
-        stack: &Stack,
+        source: &Source,
         index: u32,
         at: usize,
     ) -> Result<(), SaveFault>
-        requires graph { IsGraph plan.now.graph }
-        requires plan { plan.now ≡ plan_of plan.now.graph stack.now }
-        requires kept { IsKeptStack stack.now }
-        requires frame { index < length stack.now.arrays }
+        requires frame { index < length source.now.stack.arrays }
         requires at { at < length self.old.files }
-        requires rooms { AreRooms plan.now.graph stack.now self.old.rooms }
+        requires rooms { AreRooms source.now.graph source.now.stack self.old.rooms }
         requires saved { (prefix : List ℕ) × ((before : Option Files)
-            × IsSaved plan.now.graph stack.now prefix before self.old.passes.items self.old.texts self.old.files (K.held shelf.old)) }
-        ensures rooms { AreRooms plan.now.graph stack.now self.new.rooms }
+            × IsSaved source.now.graph source.now.stack prefix before self.old.passes.items self.old.texts self.old.files (K.held shelf.old)) }
+        ensures rooms { AreRooms source.now.graph source.now.stack self.new.rooms }
         ensures count { length self.new.files ≡ length self.old.files }
         ensures passes { OnOk result ((x : NodeFile) → slice_get self.old.files at ≡ Some x
             → IsAsked self.old.passes.items x.node index self.new.passes.items) }
         ensures saved { OnOk result ((prefix : List ℕ) (before : Option Files)
-            → IsSaved plan.now.graph stack.now prefix before self.old.passes.items self.old.texts self.old.files (K.held shelf.old)
-            → IsSaved plan.now.graph stack.now prefix before self.new.passes.items self.new.texts self.new.files (K.held shelf.new)) }
+            → IsSaved source.now.graph source.now.stack prefix before self.old.passes.items self.old.texts self.old.files (K.held shelf.old)
+            → IsSaved source.now.graph source.now.stack prefix before self.new.passes.items self.new.texts self.new.files (K.held shelf.new)) }
         ensures err { OnErr result ((prefix : List ℕ) (before : Option Files)
-            → IsSaved plan.now.graph stack.now prefix before self.old.passes.items self.old.texts self.old.files (K.held shelf.old)
-            → AreInterrupted before (plain_files plan.now.graph stack.now prefix) (K.held shelf.new)) }
+            → IsSaved source.now.graph source.now.stack prefix before self.old.passes.items self.old.texts self.old.files (K.held shelf.old)
+            → AreInterrupted before (plain_files source.now.graph source.now.stack prefix) (K.held shelf.new)) }
         ensures cause { IsSaveCause result (K.faults shelf.old) (K.faults shelf.new) }
     {
+        source.known();
         let Some(next) = self.next_place(at, index) else {
             return Ok(());
         };
         let node = self.files.node(at);
         let count = gather(
             alloc,
-            plan,
-            stack,
+            source,
             node,
             &self.passes[node as usize - 1],
             self.files.shape(at),
@@ -186,33 +177,29 @@ impl Saver {
     fn keep_row(
         &mut self,
         alloc: Global,
-        plan: &Plan,
-        stack: &Stack,
+        source: &Source,
         index: u32,
         node: u32,
         rule: &StatsRule,
     ) -> Result<(), OutOfMemory>
-        requires graph { IsGraph plan.now.graph }
-        requires plan { plan.now ≡ plan_of plan.now.graph stack.now }
-        requires kept { IsKeptStack stack.now }
-        requires frame { index < length stack.now.arrays }
-        requires rule { (n : NodeRule) × ((rule_at plan.now.graph.nodes node ≡ Some n) × (n.kind ≡ Stats rule.now)) }
-        requires rooms { AreRooms plan.now.graph stack.now self.old.rooms }
+        requires frame { index < length source.now.stack.arrays }
+        requires rule { (n : NodeRule) × ((rule_at source.now.graph.nodes node ≡ Some n) × (n.kind ≡ Stats rule.now)) }
+        requires rooms { AreRooms source.now.graph source.now.stack self.old.rooms }
         requires saved { (prefix : List ℕ) × ((before : Option Files)
-            × ((held : Option Files) × IsSaved plan.now.graph stack.now prefix before self.old.passes.items self.old.texts self.old.files held)) }
-        ensures rooms { AreRooms plan.now.graph stack.now self.new.rooms }
+            × ((held : Option Files) × IsSaved source.now.graph source.now.stack prefix before self.old.passes.items self.old.texts self.old.files held)) }
+        ensures rooms { AreRooms source.now.graph source.now.stack self.new.rooms }
         ensures files { self.new.files ≡ self.old.files }
         ensures passes { OnOk result (self.new.passes.items ≡ stepped self.old.passes.items node index) }
         ensures saved { (prefix : List ℕ) (before held : Option Files)
-            → IsSaved plan.now.graph stack.now prefix before self.old.passes.items self.old.texts self.old.files held
-            → IsSaved plan.now.graph stack.now prefix before self.new.passes.items self.new.texts self.new.files held }
+            → IsSaved source.now.graph source.now.stack prefix before self.old.passes.items self.old.texts self.old.files held
+            → IsSaved source.now.graph source.now.stack prefix before self.new.passes.items self.new.texts self.new.files held }
     {
         if !self.passes[node as usize - 1].is_next(index) {
             return Ok(());
         }
-        self.rooms.cut(alloc, plan, stack, node, index)?;
-        let samples = self.rooms.samples(plan, stack, node, index);
-        let row = row_of(alloc, plan, stack, node, rule, index, samples)?;
+        source.cut(alloc, &mut self.rooms, node, index)?;
+        let samples = source.samples(&self.rooms, node, index);
+        let row = row_of(alloc, source, node, rule, index, samples)?;
         self.texts.add(alloc, node, row.as_bytes())?;
         self.count_gone(node, 1);
         Ok(())
@@ -224,28 +211,26 @@ impl Saver {
         alloc: Global,
         shelf: &mut K,
         prefix: &str,
-        plan: &Plan,
-        stack: &Stack,
+        source: &Source,
         node: u32,
         name: &str,
     ) -> Result<(), SaveFault>
-        requires graph { IsGraph plan.now.graph }
-        requires kept { IsKeptStack stack.now }
-        requires rule { (n : NodeRule) × ((r : StatsRule) × ((rule_at plan.now.graph.nodes node ≡ Some n) × (n.name ≡ name.now) × (n.kind ≡ Stats r))) }
+        requires rule { (n : NodeRule) × ((r : StatsRule) × ((rule_at source.now.graph.nodes node ≡ Some n) × (n.name ≡ name.now) × (n.kind ≡ Stats r))) }
         requires saved { (before : Option Files)
-            × IsSaved plan.now.graph stack.now prefix.now before self.old.passes.items self.old.texts self.old.files (K.held shelf.old) }
+            × IsSaved source.now.graph source.now.stack prefix.now before self.old.passes.items self.old.texts self.old.files (K.held shelf.old) }
         ensures rooms { self.new.rooms ≡ self.old.rooms }
         ensures files { self.new.files ≡ self.old.files }
         ensures passes { self.new.passes ≡ self.old.passes }
         ensures texts { OnOk result (self.new.texts ≡ with_text self.old.texts node []) }
         ensures saved { OnOk result ((before : Option Files)
-            → IsSaved plan.now.graph stack.now prefix.now before self.old.passes.items self.old.texts self.old.files (K.held shelf.old)
-            → IsSaved plan.now.graph stack.now prefix.now before self.new.passes.items self.new.texts self.new.files (K.held shelf.new)) }
+            → IsSaved source.now.graph source.now.stack prefix.now before self.old.passes.items self.old.texts self.old.files (K.held shelf.old)
+            → IsSaved source.now.graph source.now.stack prefix.now before self.new.passes.items self.new.texts self.new.files (K.held shelf.new)) }
         ensures err { OnErr result ((before : Option Files)
-            → IsSaved plan.now.graph stack.now prefix.now before self.old.passes.items self.old.texts self.old.files (K.held shelf.old)
-            → AreInterrupted before (plain_files plan.now.graph stack.now prefix.now) (K.held shelf.new)) }
+            → IsSaved source.now.graph source.now.stack prefix.now before self.old.passes.items self.old.texts self.old.files (K.held shelf.old)
+            → AreInterrupted before (plain_files source.now.graph source.now.stack prefix.now) (K.held shelf.new)) }
         ensures cause { IsSaveCause result (K.faults shelf.old) (K.faults shelf.new) }
     {
+        source.known();
         let file = rows_name(alloc, prefix, name)?;
         shelf.append(file.as_str(), self.texts.text(node))?;
         self.texts.empty(alloc, node);
@@ -259,35 +244,32 @@ impl Saver {
         alloc: Global,
         shelf: &mut K,
         prefix: &str,
-        plan: &Plan,
-        stack: &Stack,
+        source: &Source,
         index: u32,
         node: u32,
         name: &str,
         rule: &StatsRule,
     ) -> Result<(), SaveFault>
-        requires graph { IsGraph plan.now.graph }
-        requires plan { plan.now ≡ plan_of plan.now.graph stack.now }
-        requires kept { IsKeptStack stack.now }
-        requires frame { index < length stack.now.arrays }
-        requires rule { (n : NodeRule) × ((rule_at plan.now.graph.nodes node ≡ Some n) × (n.name ≡ name.now) × (n.kind ≡ Stats rule.now)) }
-        requires rooms { AreRooms plan.now.graph stack.now self.old.rooms }
+        requires frame { index < length source.now.stack.arrays }
+        requires rule { (n : NodeRule) × ((rule_at source.now.graph.nodes node ≡ Some n) × (n.name ≡ name.now) × (n.kind ≡ Stats rule.now)) }
+        requires rooms { AreRooms source.now.graph source.now.stack self.old.rooms }
         requires saved { (before : Option Files)
-            × IsSaved plan.now.graph stack.now prefix.now before self.old.passes.items self.old.texts self.old.files (K.held shelf.old) }
-        ensures rooms { AreRooms plan.now.graph stack.now self.new.rooms }
+            × IsSaved source.now.graph source.now.stack prefix.now before self.old.passes.items self.old.texts self.old.files (K.held shelf.old) }
+        ensures rooms { AreRooms source.now.graph source.now.stack self.new.rooms }
         ensures files { self.new.files ≡ self.old.files }
         ensures passes { OnOk result (self.new.passes.items ≡ stepped self.old.passes.items node index) }
         ensures saved { OnOk result ((before : Option Files)
-            → IsSaved plan.now.graph stack.now prefix.now before self.old.passes.items self.old.texts self.old.files (K.held shelf.old)
-            → IsSaved plan.now.graph stack.now prefix.now before self.new.passes.items self.new.texts self.new.files (K.held shelf.new)) }
+            → IsSaved source.now.graph source.now.stack prefix.now before self.old.passes.items self.old.texts self.old.files (K.held shelf.old)
+            → IsSaved source.now.graph source.now.stack prefix.now before self.new.passes.items self.new.texts self.new.files (K.held shelf.new)) }
         ensures err { OnErr result ((before : Option Files)
-            → IsSaved plan.now.graph stack.now prefix.now before self.old.passes.items self.old.texts self.old.files (K.held shelf.old)
-            → AreInterrupted before (plain_files plan.now.graph stack.now prefix.now) (K.held shelf.new)) }
+            → IsSaved source.now.graph source.now.stack prefix.now before self.old.passes.items self.old.texts self.old.files (K.held shelf.old)
+            → AreInterrupted before (plain_files source.now.graph source.now.stack prefix.now) (K.held shelf.new)) }
         ensures cause { IsSaveCause result (K.faults shelf.old) (K.faults shelf.new) }
     {
-        self.keep_row(alloc, plan, stack, index, node, rule)?;
+        source.known();
+        self.keep_row(alloc, source, index, node, rule)?;
         if self.texts.is_enough(node) {
-            self.put_rows(alloc, shelf, prefix, plan, stack, node, name)?;
+            self.put_rows(alloc, shelf, prefix, source, node, name)?;
         }
         Ok(())
     }
@@ -298,29 +280,25 @@ impl Saver {
         alloc: Global,
         shelf: &mut K,
         prefix: &str,
-        plan: &Plan,
-        stack: &Stack,
+        source: &Source,
         index: u32,
         node: u32,
         rule: &NodeRule,
     ) -> Result<(), SaveFault>
-        requires graph { IsGraph plan.now.graph }
-        requires plan { plan.now ≡ plan_of plan.now.graph stack.now }
-        requires kept { IsKeptStack stack.now }
-        requires frame { index < length stack.now.arrays }
-        requires rule { rule_at plan.now.graph.nodes node ≡ Some rule.now }
-        requires rooms { AreRooms plan.now.graph stack.now self.old.rooms }
+        requires frame { index < length source.now.stack.arrays }
+        requires rule { rule_at source.now.graph.nodes node ≡ Some rule.now }
+        requires rooms { AreRooms source.now.graph source.now.stack self.old.rooms }
         requires saved { (before : Option Files)
-            × IsSaved plan.now.graph stack.now prefix.now before self.old.passes.items self.old.texts self.old.files (K.held shelf.old) }
-        ensures rooms { AreRooms plan.now.graph stack.now self.new.rooms }
+            × IsSaved source.now.graph source.now.stack prefix.now before self.old.passes.items self.old.texts self.old.files (K.held shelf.old) }
+        ensures rooms { AreRooms source.now.graph source.now.stack self.new.rooms }
         ensures files { self.new.files ≡ self.old.files }
         ensures passes { OnOk result (self.new.passes.items ≡ stepped_rows rule.now self.old.passes.items node index) }
         ensures saved { OnOk result ((before : Option Files)
-            → IsSaved plan.now.graph stack.now prefix.now before self.old.passes.items self.old.texts self.old.files (K.held shelf.old)
-            → IsSaved plan.now.graph stack.now prefix.now before self.new.passes.items self.new.texts self.new.files (K.held shelf.new)) }
+            → IsSaved source.now.graph source.now.stack prefix.now before self.old.passes.items self.old.texts self.old.files (K.held shelf.old)
+            → IsSaved source.now.graph source.now.stack prefix.now before self.new.passes.items self.new.texts self.new.files (K.held shelf.new)) }
         ensures err { OnErr result ((before : Option Files)
-            → IsSaved plan.now.graph stack.now prefix.now before self.old.passes.items self.old.texts self.old.files (K.held shelf.old)
-            → AreInterrupted before (plain_files plan.now.graph stack.now prefix.now) (K.held shelf.new)) }
+            → IsSaved source.now.graph source.now.stack prefix.now before self.old.passes.items self.old.texts self.old.files (K.held shelf.old)
+            → AreInterrupted before (plain_files source.now.graph source.now.stack prefix.now) (K.held shelf.new)) }
         ensures cause { IsSaveCause result (K.faults shelf.old) (K.faults shelf.new) }
     {
         match &rule.kind {
@@ -328,8 +306,7 @@ impl Saver {
                 alloc,
                 shelf,
                 prefix,
-                plan,
-                stack,
+                source,
                 index,
                 node,
                 rule.name.text(),
@@ -344,30 +321,27 @@ impl Saver {
         &mut self,
         alloc: Global,
         shelf: &mut K,
-        plan: &Plan,
-        stack: &Stack,
+        source: &Source,
         index: u32,
     ) -> Result<(), SaveFault>
-        requires graph { IsGraph plan.now.graph }
-        requires plan { plan.now ≡ plan_of plan.now.graph stack.now }
-        requires kept { IsKeptStack stack.now }
-        requires frame { index < length stack.now.arrays }
-        requires rooms { AreRooms plan.now.graph stack.now self.old.rooms }
+        requires frame { index < length source.now.stack.arrays }
+        requires rooms { AreRooms source.now.graph source.now.stack self.old.rooms }
         requires saved { (prefix : List ℕ) × ((before : Option Files)
-            × IsSaved plan.now.graph stack.now prefix before self.old.passes.items self.old.texts self.old.files (K.held shelf.old)) }
-        requires left { AreLeftFrom plan.now.graph self.old.passes.items self.old.files index index }
-        ensures rooms { AreRooms plan.now.graph stack.now self.new.rooms }
-        ensures left { OnOk result (AreLeftFrom plan.now.graph self.new.passes.items self.new.files (index + 1) index) }
+            × IsSaved source.now.graph source.now.stack prefix before self.old.passes.items self.old.texts self.old.files (K.held shelf.old)) }
+        requires left { AreLeftFrom source.now.graph self.old.passes.items self.old.files index index }
+        ensures rooms { AreRooms source.now.graph source.now.stack self.new.rooms }
+        ensures left { OnOk result (AreLeftFrom source.now.graph self.new.passes.items self.new.files (index + 1) index) }
         ensures saved { OnOk result ((prefix : List ℕ) (before : Option Files)
-            → IsSaved plan.now.graph stack.now prefix before self.old.passes.items self.old.texts self.old.files (K.held shelf.old)
-            → IsSaved plan.now.graph stack.now prefix before self.new.passes.items self.new.texts self.new.files (K.held shelf.new)) }
+            → IsSaved source.now.graph source.now.stack prefix before self.old.passes.items self.old.texts self.old.files (K.held shelf.old)
+            → IsSaved source.now.graph source.now.stack prefix before self.new.passes.items self.new.texts self.new.files (K.held shelf.new)) }
         ensures err { OnErr result ((prefix : List ℕ) (before : Option Files)
-            → IsSaved plan.now.graph stack.now prefix before self.old.passes.items self.old.texts self.old.files (K.held shelf.old)
-            → AreInterrupted before (plain_files plan.now.graph stack.now prefix) (K.held shelf.new)) }
+            → IsSaved source.now.graph source.now.stack prefix before self.old.passes.items self.old.texts self.old.files (K.held shelf.old)
+            → AreInterrupted before (plain_files source.now.graph source.now.stack prefix) (K.held shelf.new)) }
         ensures cause { IsSaveCause result (K.faults shelf.old) (K.faults shelf.new) }
     {
+        source.known();
         for at in 0..self.files.count() {
-            self.write_array(alloc, shelf, plan, stack, index, at)?;
+            self.write_array(alloc, shelf, source, index, at)?;
         }
         Ok(())
     }
@@ -378,41 +352,28 @@ impl Saver {
         alloc: Global,
         shelf: &mut K,
         prefix: &str,
-        plan: &Plan,
-        stack: &Stack,
+        source: &Source,
         index: u32,
     ) -> Result<(), SaveFault>
-        requires graph { IsGraph plan.now.graph }
-        requires plan { plan.now ≡ plan_of plan.now.graph stack.now }
-        requires kept { IsKeptStack stack.now }
-        requires frame { index < length stack.now.arrays }
-        requires rooms { AreRooms plan.now.graph stack.now self.old.rooms }
+        requires frame { index < length source.now.stack.arrays }
+        requires rooms { AreRooms source.now.graph source.now.stack self.old.rooms }
         requires saved { (before : Option Files)
-            × IsSaved plan.now.graph stack.now prefix.now before self.old.passes.items self.old.texts self.old.files (K.held shelf.old) }
-        requires left { AreLeftFrom plan.now.graph self.old.passes.items self.old.files (index + 1) index }
-        ensures rooms { AreRooms plan.now.graph stack.now self.new.rooms }
-        ensures left { OnOk result (AreLeftFrom plan.now.graph self.new.passes.items self.new.files (index + 1) (index + 1)) }
+            × IsSaved source.now.graph source.now.stack prefix.now before self.old.passes.items self.old.texts self.old.files (K.held shelf.old) }
+        requires left { AreLeftFrom source.now.graph self.old.passes.items self.old.files (index + 1) index }
+        ensures rooms { AreRooms source.now.graph source.now.stack self.new.rooms }
+        ensures left { OnOk result (AreLeftFrom source.now.graph self.new.passes.items self.new.files (index + 1) (index + 1)) }
         ensures saved { OnOk result ((before : Option Files)
-            → IsSaved plan.now.graph stack.now prefix.now before self.old.passes.items self.old.texts self.old.files (K.held shelf.old)
-            → IsSaved plan.now.graph stack.now prefix.now before self.new.passes.items self.new.texts self.new.files (K.held shelf.new)) }
+            → IsSaved source.now.graph source.now.stack prefix.now before self.old.passes.items self.old.texts self.old.files (K.held shelf.old)
+            → IsSaved source.now.graph source.now.stack prefix.now before self.new.passes.items self.new.texts self.new.files (K.held shelf.new)) }
         ensures err { OnErr result ((before : Option Files)
-            → IsSaved plan.now.graph stack.now prefix.now before self.old.passes.items self.old.texts self.old.files (K.held shelf.old)
-            → AreInterrupted before (plain_files plan.now.graph stack.now prefix.now) (K.held shelf.new)) }
+            → IsSaved source.now.graph source.now.stack prefix.now before self.old.passes.items self.old.texts self.old.files (K.held shelf.old)
+            → AreInterrupted before (plain_files source.now.graph source.now.stack prefix.now) (K.held shelf.new)) }
         ensures cause { IsSaveCause result (K.faults shelf.old) (K.faults shelf.new) }
     {
-        let rules = plan.graph.nodes.as_slice();
+        let rules = source.rules();
         for place in 0..rules.len() {
             let node = place as u32 + 1;
-            self.write_node_row(
-                alloc,
-                shelf,
-                prefix,
-                plan,
-                stack,
-                index,
-                node,
-                &rules[place],
-            )?;
+            self.write_node_row(alloc, shelf, prefix, source, index, node, &rules[place])?;
         }
         Ok(())
     }
@@ -423,30 +384,27 @@ impl Saver {
         alloc: Global,
         shelf: &mut K,
         prefix: &str,
-        plan: &Plan,
-        stack: &Stack,
+        source: &Source,
         node: u32,
         rule: &NodeRule,
     ) -> Result<(), SaveFault>
-        requires graph { IsGraph plan.now.graph }
-        requires kept { IsKeptStack stack.now }
-        requires rule { rule_at plan.now.graph.nodes node ≡ Some rule.now }
+        requires rule { rule_at source.now.graph.nodes node ≡ Some rule.now }
         requires saved { (before : Option Files)
-            × IsSaved plan.now.graph stack.now prefix.now before self.old.passes.items self.old.texts self.old.files (K.held shelf.old) }
+            × IsSaved source.now.graph source.now.stack prefix.now before self.old.passes.items self.old.texts self.old.files (K.held shelf.old) }
         ensures files { self.new.files ≡ self.old.files }
         ensures passes { self.new.passes ≡ self.old.passes }
         ensures texts { OnOk result (self.new.texts ≡ emptied rule.now self.old.texts node) }
         ensures saved { OnOk result ((before : Option Files)
-            → IsSaved plan.now.graph stack.now prefix.now before self.old.passes.items self.old.texts self.old.files (K.held shelf.old)
-            → IsSaved plan.now.graph stack.now prefix.now before self.new.passes.items self.new.texts self.new.files (K.held shelf.new)) }
+            → IsSaved source.now.graph source.now.stack prefix.now before self.old.passes.items self.old.texts self.old.files (K.held shelf.old)
+            → IsSaved source.now.graph source.now.stack prefix.now before self.new.passes.items self.new.texts self.new.files (K.held shelf.new)) }
         ensures err { OnErr result ((before : Option Files)
-            → IsSaved plan.now.graph stack.now prefix.now before self.old.passes.items self.old.texts self.old.files (K.held shelf.old)
-            → AreInterrupted before (plain_files plan.now.graph stack.now prefix.now) (K.held shelf.new)) }
+            → IsSaved source.now.graph source.now.stack prefix.now before self.old.passes.items self.old.texts self.old.files (K.held shelf.old)
+            → AreInterrupted before (plain_files source.now.graph source.now.stack prefix.now) (K.held shelf.new)) }
         ensures cause { IsSaveCause result (K.faults shelf.old) (K.faults shelf.new) }
     {
         match &rule.kind {
             Kind::Stats(_) => {
-                self.put_rows(alloc, shelf, prefix, plan, stack, node, rule.name.text())
+                self.put_rows(alloc, shelf, prefix, source, node, rule.name.text())
             }
             Kind::Roi(_) | Kind::Circular(_) | Kind::File(_) | Kind::Scatter => Ok(()),
         }
@@ -458,28 +416,25 @@ impl Saver {
         alloc: Global,
         shelf: &mut K,
         prefix: &str,
-        plan: &Plan,
-        stack: &Stack,
+        source: &Source,
     ) -> Result<(), SaveFault>
-        requires graph { IsGraph plan.now.graph }
-        requires kept { IsKeptStack stack.now }
         requires saved { (before : Option Files)
-            × IsSaved plan.now.graph stack.now prefix.now before self.old.passes.items self.old.texts self.old.files (K.held shelf.old) }
+            × IsSaved source.now.graph source.now.stack prefix.now before self.old.passes.items self.old.texts self.old.files (K.held shelf.old) }
         ensures files { self.new.files ≡ self.old.files }
         ensures passes { self.new.passes ≡ self.old.passes }
-        ensures empty { OnOk result (AreEmptyTo plan.now.graph self.new.texts (length plan.now.graph.nodes)) }
+        ensures empty { OnOk result (AreEmptyTo source.now.graph self.new.texts (length source.now.graph.nodes)) }
         ensures saved { OnOk result ((before : Option Files)
-            → IsSaved plan.now.graph stack.now prefix.now before self.old.passes.items self.old.texts self.old.files (K.held shelf.old)
-            → IsSaved plan.now.graph stack.now prefix.now before self.new.passes.items self.new.texts self.new.files (K.held shelf.new)) }
+            → IsSaved source.now.graph source.now.stack prefix.now before self.old.passes.items self.old.texts self.old.files (K.held shelf.old)
+            → IsSaved source.now.graph source.now.stack prefix.now before self.new.passes.items self.new.texts self.new.files (K.held shelf.new)) }
         ensures err { OnErr result ((before : Option Files)
-            → IsSaved plan.now.graph stack.now prefix.now before self.old.passes.items self.old.texts self.old.files (K.held shelf.old)
-            → AreInterrupted before (plain_files plan.now.graph stack.now prefix.now) (K.held shelf.new)) }
+            → IsSaved source.now.graph source.now.stack prefix.now before self.old.passes.items self.old.texts self.old.files (K.held shelf.old)
+            → AreInterrupted before (plain_files source.now.graph source.now.stack prefix.now) (K.held shelf.new)) }
         ensures cause { IsSaveCause result (K.faults shelf.old) (K.faults shelf.new) }
     {
-        let rules = plan.graph.nodes.as_slice();
+        let rules = source.rules();
         for place in 0..rules.len() {
             let node = place as u32 + 1;
-            self.put_node_rows(alloc, shelf, prefix, plan, stack, node, &rules[place])?;
+            self.put_node_rows(alloc, shelf, prefix, source, node, &rules[place])?;
         }
         Ok(())
     }
@@ -490,21 +445,18 @@ impl Saver {
         alloc: Global,
         shelf: &mut K,
         prefix: &str,
-        plan: &Plan,
-        stack: &Stack,
+        source: &Source,
     ) -> Result<(), SaveFault>
-        requires graph { IsGraph plan.now.graph }
-        requires kept { IsKeptStack stack.now }
         requires saved { (before : Option Files)
-            × IsSaved plan.now.graph stack.now prefix.now before self.passes.items self.texts self.files (K.held shelf.old) }
-        requires left { AreLeftFrom plan.now.graph self.passes.items self.files (length stack.now.arrays) (length stack.now.arrays) }
-        requires empty { AreEmptyTo plan.now.graph self.texts (length plan.now.graph.nodes) }
+            × IsSaved source.now.graph source.now.stack prefix.now before self.passes.items self.texts self.files (K.held shelf.old) }
+        requires left { AreLeftFrom source.now.graph self.passes.items self.files (length source.now.stack.arrays) (length source.now.stack.arrays) }
+        requires empty { AreEmptyTo source.now.graph self.texts (length source.now.graph.nodes) }
         ensures ok { OnOk result ((before : Option Files)
-            → IsSaved plan.now.graph stack.now prefix.now before self.passes.items self.texts self.files (K.held shelf.old)
-            → K.held shelf.new ≡ with_files before (plain_files plan.now.graph stack.now prefix.now)) }
+            → IsSaved source.now.graph source.now.stack prefix.now before self.passes.items self.texts self.files (K.held shelf.old)
+            → K.held shelf.new ≡ with_files before (plain_files source.now.graph source.now.stack prefix.now)) }
         ensures err { OnErr result ((before : Option Files)
-            → IsSaved plan.now.graph stack.now prefix.now before self.passes.items self.texts self.files (K.held shelf.old)
-            → AreInterrupted before (plain_files plan.now.graph stack.now prefix.now) (K.held shelf.new)) }
+            → IsSaved source.now.graph source.now.stack prefix.now before self.passes.items self.texts self.files (K.held shelf.old)
+            → AreInterrupted before (plain_files source.now.graph source.now.stack prefix.now) (K.held shelf.new)) }
         ensures cause { IsSaveCause result (K.faults shelf.old) (K.faults shelf.new) }
     {
         let Saver {
@@ -514,7 +466,8 @@ impl Saver {
             files,
             rows: _,
         } = self;
-        finish_rows(alloc, shelf, prefix, plan)?;
+        source.known();
+        finish_rows(alloc, shelf, prefix, source)?;
         files.end(shelf)
     }
 
@@ -524,24 +477,21 @@ impl Saver {
         alloc: Global,
         shelf: &mut K,
         prefix: &str,
-        plan: &Plan,
-        stack: &Stack,
+        source: &Source,
     ) -> Result<(), SaveFault>
-        requires graph { IsGraph plan.now.graph }
-        requires kept { IsKeptStack stack.now }
         requires saved { (before : Option Files)
-            × IsSaved plan.now.graph stack.now prefix.now before self.passes.items self.texts self.files (K.held shelf.old) }
-        requires left { AreLeftFrom plan.now.graph self.passes.items self.files (length stack.now.arrays) (length stack.now.arrays) }
+            × IsSaved source.now.graph source.now.stack prefix.now before self.passes.items self.texts self.files (K.held shelf.old) }
+        requires left { AreLeftFrom source.now.graph self.passes.items self.files (length source.now.stack.arrays) (length source.now.stack.arrays) }
         ensures ok { OnOk result ((before : Option Files)
-            → IsSaved plan.now.graph stack.now prefix.now before self.passes.items self.texts self.files (K.held shelf.old)
-            → K.held shelf.new ≡ with_files before (plain_files plan.now.graph stack.now prefix.now)) }
+            → IsSaved source.now.graph source.now.stack prefix.now before self.passes.items self.texts self.files (K.held shelf.old)
+            → K.held shelf.new ≡ with_files before (plain_files source.now.graph source.now.stack prefix.now)) }
         ensures err { OnErr result ((before : Option Files)
-            → IsSaved plan.now.graph stack.now prefix.now before self.passes.items self.texts self.files (K.held shelf.old)
-            → AreInterrupted before (plain_files plan.now.graph stack.now prefix.now) (K.held shelf.new)) }
+            → IsSaved source.now.graph source.now.stack prefix.now before self.passes.items self.texts self.files (K.held shelf.old)
+            → AreInterrupted before (plain_files source.now.graph source.now.stack prefix.now) (K.held shelf.new)) }
         ensures cause { IsSaveCause result (K.faults shelf.old) (K.faults shelf.new) }
     {
         let mut saver = self;
-        saver.put_all_rows(alloc, shelf, prefix, plan, stack)?;
-        saver.end_files(alloc, shelf, prefix, plan, stack)
+        saver.put_all_rows(alloc, shelf, prefix, source)?;
+        saver.end_files(alloc, shelf, prefix, source)
     }
 }

@@ -10,6 +10,7 @@ ghost use Rattle.graph_files.specs.Interrupted.{AreInterrupted};
 ghost use Rattle.graph_files.specs.OutFiles.{plain_files, with_files};
 
 use crate::saver::Saver;
+use crate::source::Source;
 use edge_traits::Shelf;
 use file_out::SaveFault;
 use nd_base::{Plan, Stack};
@@ -38,10 +39,11 @@ pub fn save_files<K: Shelf>(
     ensures err { OnErr result (AreInterrupted (K.held shelf.old) (plain_files plan.now.graph stack.now prefix.now) (K.held shelf.new)) }
     ensures cause { IsSaveCause result (K.faults shelf.old) (K.faults shelf.new) }
 {
-    let mut saver = Saver::begin(alloc, shelf, prefix, plan, stack)?;
+    let source = Source { plan, stack };
+    let mut saver = Saver::begin(alloc, shelf, prefix, &source)?;
     for index in 0..stack.frames() {
-        saver.write_arrays(alloc, shelf, plan, stack, index)?;
-        saver.write_rows(alloc, shelf, prefix, plan, stack, index)?;
+        saver.write_arrays(alloc, shelf, &source, index)?;
+        saver.write_rows(alloc, shelf, prefix, &source, index)?;
     }
-    saver.end(alloc, shelf, prefix, plan, stack)
+    saver.end(alloc, shelf, prefix, &source)
 }

@@ -9,6 +9,6 @@ use Rattle.plain_saver.proofs.gathering.gather.Given as goal
 abbrev pub invariant-loop-ahead : goal.invariant-loop-ahead
 invariant-loop-ahead l =
     record {
-      rooms : AreRooms l.plan.graph l.stack l.rooms;
-      rows : l.rows.items ≡ flat_map (row l.shape) (arrays_from l.plan.graph l.stack l.node l.pass.gone l.ahead);
+      rooms : AreRooms l.source.graph l.source.stack l.rooms;
+      rows : l.rows.items ≡ flat_map (row l.shape) (arrays_from l.source.graph l.source.stack l.node l.pass.gone l.ahead);
     }

@@ -17,8 +17,8 @@ loop-place-init c =
 
 pub loop-place-preserved : goal.loop-place-preserved
 loop-place-preserved c =
-    let g = c.args.plan.now.graph in
-    let s = c.args.stack.now in
+    let g = c.args.source.now.graph in
+    let s = c.args.source.now.stack in
     let ps = c.loop-place.passes.items in
     let p : Pass = record { positions = c.new.result; gone = 0 } in
     let count = c.loop-place.invariant.count in
@@ -32,7 +32,7 @@ loop-place-preserved c =
         | inr high ↦
             let last : v ≡ length ps + 1 = omega (arith, high, few, count) in
             ap (λ (qs : List Pass). (pass_at qs v).positions) all ∙ ap (λ (q : Pass). q.positions) (pass_at-last ps p v last)
-            ∙ (c.new.ensures ∙ c.in_ok-positions.ensures.value) ∙ ap (passed g s) (omega (arith, last, count))
+            ∙ (c.new.ensures ∙ c.in_ok-positions.ensures) ∙ ap (passed g s) (omega (arith, last, count))
       ];
       none = λ v. ap (λ (qs : List Pass). (pass_at qs v).gone) all ∙ none-more ps p refl c.loop-place.invariant.none v;
     }
@@ -40,7 +40,7 @@ loop-place-preserved c =
 pub returns-clause-positions : goal.returns-clause-positions
 returns-clause-positions c =
     let inv = c.loop-place.invariant in
-    let all : c.loop-place.place ≡ length c.args.plan.now.graph.nodes = omega (arith, ap length c.as_slice-place-end.ensures) in
+    let all : c.loop-place.place ≡ length c.args.source.now.graph.nodes = omega (arith, ap length c.rules-place-end.ensures.value) in
     record {
       count = inv.count ∙ all;
       positions = λ v some few. inv.positions v some (omega (arith, few, all));

@@ -8,6 +8,6 @@ abbrev pub invariant-loop-place : goal.invariant-loop-place
 invariant-loop-place l =
     record {
       count : length l.passes.items ≡ l.place;
-      positions : (v : ℕ) → 1 ≤ v → v ≤ l.place → (pass_at l.passes.items v).positions ≡ passed l.plan.graph l.stack v;
+      positions : (v : ℕ) → 1 ≤ v → v ≤ l.place → (pass_at l.passes.items v).positions ≡ passed l.source.graph l.source.stack v;
       none : (v : ℕ) → (pass_at l.passes.items v).gone ≡ 0;
     }

@@ -7,7 +7,7 @@ abbrev pub invariant-loop-place : goal.invariant-loop-place
 invariant-loop-place g l =
     let held = g.K.Shelf.held in
     record {
-      begun : AreBegunTo l.plan.graph l.prefix (held l.fn.shelf) (held l.shelf) l.place;
-      touched : AreRowsTouched l.plan.graph l.prefix (held l.fn.shelf) (held l.shelf);
+      begun : AreBegunTo l.source.graph l.prefix (held l.fn.shelf) (held l.shelf) l.place;
+      touched : AreRowsTouched l.source.graph l.prefix (held l.fn.shelf) (held l.shelf);
       none : g.K.Shelf.faults l.shelf ≡ g.K.Shelf.faults l.fn.shelf;
     }

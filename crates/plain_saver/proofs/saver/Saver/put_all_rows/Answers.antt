@@ -10,7 +10,7 @@ loop-place-init g c =
     record {
       files = refl;
       passes = refl;
-      empty = empty-begin c.args.plan.now.graph c.args.self.now.texts;
+      empty = empty-begin c.args.source.now.graph c.args.self.now.texts;
       some = c.requires.saved;
       saved = λ before h. h;
       none = refl;
@@ -18,10 +18,10 @@ loop-place-init g c =
 
 pub put_node_rows-requires-clause-rule : goal.put_node_rows-requires-clause-rule
 put_node_rows-requires-clause-rule g c =
-    let nodes = c.args.plan.now.graph.nodes in
+    let nodes = c.args.source.now.graph.nodes in
     let rule = c.index-rules-place.result in
     rule-next nodes c.loop-place.place rule
-    (rule-here nodes c.as_slice-rules.result.now c.loop-place.place rule c.as_slice-rules.ensures c.loop-place-test.true c.index-rules-place.is)
+    (rule-here nodes c.rules-rules.result.now c.loop-place.place rule c.rules-rules.ensures.value c.loop-place-test.true c.index-rules-place.is)
 
 pub returns-in_err-put_node_rows-clause-err : goal.returns-in_err-put_node_rows-clause-err
 returns-in_err-put_node_rows-clause-err g c =
@@ -30,9 +30,9 @@ returns-in_err-put_node_rows-clause-err g c =
 
 pub loop-place-preserved : goal.loop-place-preserved
 loop-place-preserved g c =
-    let graph = c.args.plan.now.graph in
+    let graph = c.args.source.now.graph in
     let rule = c.index-rules-place.result in
-    let here = rule-here graph.nodes c.as_slice-rules.result.now c.loop-place.place rule c.as_slice-rules.ensures c.loop-place-test.true
+    let here = rule-here graph.nodes c.rules-rules.result.now c.loop-place.place rule c.rules-rules.ensures.value c.loop-place-test.true
     c.index-rules-place.is in
     let inv = c.loop-place.invariant in
     record {
@@ -48,5 +48,5 @@ loop-place-preserved g c =
 
 pub returns-clause-empty : goal.returns-clause-empty
 returns-clause-empty g c =
-    let e : c.loop-place.place ≡ length c.args.plan.now.graph.nodes = omega (arith, ap length c.as_slice-rules.ensures) in
-    subst (AreEmptyTo c.args.plan.now.graph c.loop-place.self.texts) e c.loop-place.invariant.empty
+    let e : c.loop-place.place ≡ length c.args.source.now.graph.nodes = omega (arith, ap length c.rules-rules.ensures.value) in
+    subst (AreEmptyTo c.args.source.now.graph c.loop-place.self.texts) e c.loop-place.invariant.empty

@@ -12,9 +12,10 @@ invariant-loop-place g l =
     record {
       files : l.self.files ≡ l.fn.self.files;
       passes : l.self.passes ≡ l.fn.self.passes;
-      empty : AreEmptyTo l.plan.graph l.self.texts l.place;
-      some : (before : Option Files) × IsSaved l.plan.graph l.stack l.prefix before l.self.passes.items l.self.texts l.self.files (held l.shelf);
-      saved : (before : Option Files) → IsSaved l.plan.graph l.stack l.prefix before l.fn.self.passes.items l.fn.self.texts l.fn.self.files (held l.fn.shelf)
-          → IsSaved l.plan.graph l.stack l.prefix before l.self.passes.items l.self.texts l.self.files (held l.shelf);
+      empty : AreEmptyTo l.source.graph l.self.texts l.place;
+      some : (before : Option Files) × IsSaved l.source.graph l.source.stack l.prefix before l.self.passes.items l.self.texts l.self.files (held l.shelf);
+      saved : (before : Option Files)
+          → IsSaved l.source.graph l.source.stack l.prefix before l.fn.self.passes.items l.fn.self.texts l.fn.self.files (held l.fn.shelf)
+          → IsSaved l.source.graph l.source.stack l.prefix before l.self.passes.items l.self.texts l.self.files (held l.shelf);
       none : g.K.Shelf.faults l.shelf ≡ g.K.Shelf.faults l.fn.shelf;
     }

@@ -9,7 +9,7 @@ loop-at-init g c =
     record {
       rooms = c.requires.rooms;
       count = refl;
-      turns = arrays-begin c.args.plan.now.graph c.args.self.now.passes.items c.args.self.now.files c.args.index c.requires.left;
+      turns = arrays-begin c.args.source.now.graph c.args.self.now.passes.items c.args.self.now.files c.args.index c.requires.left;
       some = c.requires.saved;
       saved = λ prefix before h. h;
       none = refl;
@@ -22,8 +22,8 @@ returns-in_err-write_array-clause-err g c =
 
 pub loop-at-preserved : goal.loop-at-preserved
 loop-at-preserved g c =
-    let graph = c.args.plan.now.graph in
-    let s = c.args.stack.now in
+    let graph = c.args.source.now.graph in
+    let s = c.args.source.now.stack in
     let inv = c.loop-at.invariant in
     let within : c.loop-at.at < length c.loop-at.self.files = omega (arith, inv.count) in
     let i = item c.loop-at.self.files c.loop-at.at within in
@@ -33,7 +33,7 @@ loop-at-preserved g c =
       rooms = c.in_ok-write_array.ensures.rooms;
       count = c.in_ok-write_array.ensures.count ∙ inv.count;
       turns =
-          arrays-next graph s inv.some.0 inv.some.1.0 (g.K.Shelf.held c.loop-at.shelf) c.loop-at.self.passes.items c.loop-at.self.files c.requires.graph h
+          arrays-next graph s inv.some.0 inv.some.1.0 (g.K.Shelf.held c.loop-at.shelf) c.loop-at.self.passes.items c.loop-at.self.files c.known.ensures.graph h
           c.args.index c.write_array.new.self.passes.items c.write_array.new.self.files c.loop-at.at i.0 i.1 (c.in_ok-write_array.ensures.passes i.0 i.1)
           (next.nodes ∙ sym h.nodes) inv.turns;
       some = (inv.some.0, (inv.some.1.0, next));
@@ -43,5 +43,5 @@ loop-at-preserved g c =
 
 pub returns-clause-left : goal.returns-clause-left
 returns-clause-left g c =
-    arrays-end c.args.plan.now.graph c.loop-at.self.passes.items c.loop-at.self.files c.loop-at.at c.args.index (omega (arith, c.loop-at.invariant.count))
+    arrays-end c.args.source.now.graph c.loop-at.self.passes.items c.loop-at.self.files c.loop-at.at c.args.index (omega (arith, c.loop-at.invariant.count))
     c.loop-at.invariant.turns

@@ -9,8 +9,8 @@ returns-in_err-keep_row-clause-err g c =
     let p = err_from_is_err_and c.from_residual.result c.from_residual.ensures.1 in
     let t = g.K.Shelf.held c.args.shelf.now in
     rw p.1 (λ before h.
-    interrupted-saved c.args.plan.now.graph c.args.stack.now c.args.prefix.now c.requires.graph c.requires.kept before c.keep_row.new.self.passes.items
-    c.keep_row.new.self.files t (c.in_err-keep_row.ensures.saved c.args.prefix.now before t h))
+    interrupted-saved c.args.source.now.graph c.args.source.now.stack c.args.prefix.now c.known.ensures.graph c.known.ensures.kept before
+    c.keep_row.new.self.passes.items c.keep_row.new.self.files t (c.in_err-keep_row.ensures.saved c.args.prefix.now before t h))
 
 pub keep_row-requires-clause-rule : goal.keep_row-requires-clause-rule
 keep_row-requires-clause-rule g c =
@@ -23,7 +23,7 @@ keep_row-requires-clause-saved g c = (c.args.prefix.now, (c.requires.saved.0, (g
 pub is_enough-requires : goal.is_enough-requires
 is_enough-requires g c =
     let r = c.requires.rule in
-    let at = node-place c.args.plan.now.graph c.args.node r.0 r.1.0 in
+    let at = node-place c.args.source.now.graph c.args.node r.0 r.1.0 in
     let h = c.in_ok-keep_row.ensures.saved c.args.prefix.now c.requires.saved.0 (g.K.Shelf.held c.args.shelf.now) c.requires.saved.1 in
     (at.0, subst (λ n. c.args.node ≤ n) (sym h.kept) at.1)
 

@@ -11,10 +11,11 @@ abbrev pub invariant-loop-place : goal.invariant-loop-place
 invariant-loop-place g l =
     let held = g.K.Shelf.held in
     record {
-      rooms : AreRooms l.plan.graph l.stack l.self.rooms;
-      turns : RowTurns l.plan.graph l.self.passes.items l.self.files l.place l.index;
-      some : (before : Option Files) × IsSaved l.plan.graph l.stack l.prefix before l.self.passes.items l.self.texts l.self.files (held l.shelf);
-      saved : (before : Option Files) → IsSaved l.plan.graph l.stack l.prefix before l.fn.self.passes.items l.fn.self.texts l.fn.self.files (held l.fn.shelf)
-          → IsSaved l.plan.graph l.stack l.prefix before l.self.passes.items l.self.texts l.self.files (held l.shelf);
+      rooms : AreRooms l.source.graph l.source.stack l.self.rooms;
+      turns : RowTurns l.source.graph l.self.passes.items l.self.files l.place l.index;
+      some : (before : Option Files) × IsSaved l.source.graph l.source.stack l.prefix before l.self.passes.items l.self.texts l.self.files (held l.shelf);
+      saved : (before : Option Files)
+          → IsSaved l.source.graph l.source.stack l.prefix before l.fn.self.passes.items l.fn.self.texts l.fn.self.files (held l.fn.shelf)
+          → IsSaved l.source.graph l.source.stack l.prefix before l.self.passes.items l.self.texts l.self.files (held l.shelf);
       none : g.K.Shelf.faults l.shelf ≡ g.K.Shelf.faults l.fn.shelf;
     }
