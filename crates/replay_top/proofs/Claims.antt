@@ -1,56 +1,72 @@
 -- What the end of a command says of its status.
-use Rattle.std.proofs.Common.{◌≡◌, ◌≢◌, ℕ, List, Option, None, Some, refl, ap, sym, ◌⊎◌, inl, inr}
-use Rattle.edge_traits.specs.Files.{Files}
-use Rattle.graph_conf.specs.declared.load.LimitFault.{LimitFault}
-use Rattle.graph_conf.specs.declared.load.LimitFault.TheVariants.{GraphBytes, StackFile, Load, Kept, FileTooLarge}
+use Rattle.std.proofs.Common.{◌≡◌, ◌⊎◌, Option, None, Some, Ok, Err, refl, inl, inr}
 use Rattle.replay_top.specs.declared.status.Status.{Status}
 use Rattle.replay_top.specs.declared.status.Status.TheVariants.{Done, Usage, GraphText, GraphRule, StackBytes, Limit, ReadFault, ShelfFault, OutFault}
 use Rattle.replay_top.specs.declared.status.Status.TheVariants.{OutOfMemory}
-use Rattle.replay_top.specs.Answers.{Ends, PassesLimit}
+use Rattle.replay_top.specs.Answers.{Objects, IsUntouched, IsRefusal, Ends}
 use Rattle.replay_top.specs.Causes.{Counts, IsCause}
-use Rattle.replay_top.specs.Claims.{IsAskedOf, NoneRose}
+use Rattle.replay_top.specs.Claims.{Completes}
 use Rattle.replay_top.specs.Command.{Command}
-use Rattle.replay_top.specs.Limits.{IsAsked, load_status}
-use Rattle.replay_top.proofs.Asked.{asked-graph, asked-stack, asked-load}
+use Rattle.replay_top.specs.Outcomes.{Leads}
+use Rattle.replay_top.specs.Works.{outcome_of}
+use Rattle.replay_top.proofs.Outcomes.{Leads-Asks}
 
 -- no command ends with Usage, and nothing else
-pub Ends-none : (s : Status) (told held now : Option Files) (before after : Option (List ℕ)) → Ends s None told held now before after → s ≡ Usage
-Ends-none Done told held now before after ends = absurd ends
-Ends-none Usage told held now before after ends = refl
-Ends-none GraphText told held now before after ends = absurd ends.0
-Ends-none (GraphRule f) told held now before after ends = absurd ends.0
-Ends-none (StackBytes f) told held now before after ends = absurd ends.0
-Ends-none (Limit f) told held now before after ends = absurd ends.0
-Ends-none ReadFault told held now before after ends = absurd (ends.0 refl)
-Ends-none ShelfFault told held now before after ends = absurd ends.0
-Ends-none OutFault told held now before after ends = absurd ends
-Ends-none OutOfMemory told held now before after ends = absurd ends.0
+pub Ends-none : (s : Status) (o : Objects) → Ends s None o → s ≡ Usage
+Ends-none Usage o ends = refl
+Ends-none Done o ends = absurd (cc ends.read)
+Ends-none GraphText o ends = absurd (cc ends.0)
+Ends-none (GraphRule f) o ends = absurd (cc ends.0)
+Ends-none (StackBytes f) o ends = absurd (cc ends.0)
+Ends-none (Limit f) o ends = absurd (cc ends.0)
+Ends-none ReadFault o ends = absurd (ends.0 refl)
+Ends-none ShelfFault o ends = absurd (cc ends.read)
+Ends-none OutFault o ends = absurd (cc ends.read)
+Ends-none OutOfMemory o ends = absurd (ends.0 refl)
 
--- the command's files ask for a limit that it passes
-limit_asked : (fault : LimitFault) (command : Command) (told : Option Files) → PassesLimit told command fault → IsAsked (Limit fault) command told
-limit_asked (GraphBytes n) command told passes = asked-graph (Limit (GraphBytes n)) command told passes.1
-limit_asked (StackFile n) command told passes = asked-stack (Limit (StackFile n)) command told passes.1
-limit_asked (Load n) command told passes = asked-load (Limit (Load n)) command told passes.source passes.read (sym (ap load_status passes.passed))
-limit_asked (Kept n) command told passes = asked-load (Limit (Kept n)) command told passes.source passes.read (sym (ap load_status passes.passed))
-limit_asked (FileTooLarge v n) command told passes =
-    asked-load (Limit (FileTooLarge v n)) command told passes.source passes.read (sym (ap load_status passes.passed))
+module _ (o : Objects) where
+  -- a refusal is what the files lead to
+  pub Ends-refused : (s : Status) (command : Option Command) → Ends s command o → IsRefusal s → Leads o.library (outcome_of command) (Err s)
+  Ends-refused Usage None ends is = refl
+  Ends-refused Usage (Some c) ends is = absurd (cc ends.0)
+  Ends-refused GraphText command ends is = ends.0
+  Ends-refused (GraphRule f) command ends is = ends.0
+  Ends-refused (StackBytes f) command ends is = ends.0
+  Ends-refused (Limit f) command ends is = ends.0
+  Ends-refused Done command ends is = absurd is
+  Ends-refused ReadFault command ends is = absurd is
+  Ends-refused ShelfFault command ends is = absurd is
+  Ends-refused OutFault command ends is = absurd is
+  Ends-refused OutOfMemory command ends is = absurd is
 
--- where no count rose, the files decide
-asked : (s : Status) (command : Command) (told held now : Option Files) (written out : Option (List ℕ)) (before after : Counts)
-    → Ends s (Some command) told held now written out → IsCause s before after → NoneRose before after → IsAsked s command told ⊎ (s ≡ OutOfMemory)
-asked Done command told held now written out before after ends cause none =
-    inl (asked-load Done command told ends.source ends.read (sym (ap load_status ends.within)))
-asked Usage command told held now written out before after ends cause none = absurd (let no : Some command ≡ None = ends.0 in cc)
-asked GraphText command told held now written out before after ends cause none = inl (asked-graph GraphText command told ends.0)
-asked (GraphRule f) command told held now written out before after ends cause none = inl (asked-graph (GraphRule f) command told ends.0.2)
-asked (StackBytes f) command told held now written out before after ends cause none = inl (asked-stack (StackBytes f) command told ends.0.1)
-asked (Limit f) command told held now written out before after ends cause none = inl (limit_asked f command told ends.0)
-asked ReadFault command told held now written out before after ends cause none = absurd (none.library cause.0)
-asked ShelfFault command told held now written out before after ends cause none = absurd (none.shelf cause.1)
-asked OutFault command told held now written out before after ends cause none = absurd (none.sink cause.2)
-asked OutOfMemory command told held now written out before after ends cause none = inr refl
+  -- and leaves all as it was, as a fault of the library does
+  pub Ends-untouched : (s : Status) (command : Option Command) → Ends s command o → IsRefusal s ⊎ (s ≡ ReadFault) → IsUntouched o
+  Ends-untouched Usage command ends is = ends.1
+  Ends-untouched GraphText command ends is = ends.1
+  Ends-untouched (GraphRule f) command ends is = ends.1
+  Ends-untouched (StackBytes f) command ends is = ends.1
+  Ends-untouched (Limit f) command ends is = ends.1
+  Ends-untouched ReadFault command ends is = ends.1
+  Ends-untouched Done command ends (inl never) = absurd never
+  Ends-untouched Done command ends (inr never) = absurd (cc)
+  Ends-untouched ShelfFault command ends (inl never) = absurd never
+  Ends-untouched ShelfFault command ends (inr never) = absurd (cc)
+  Ends-untouched OutFault command ends (inl never) = absurd never
+  Ends-untouched OutFault command ends (inr never) = absurd (cc)
+  Ends-untouched OutOfMemory command ends (inl never) = absurd never
+  Ends-untouched OutOfMemory command ends (inr never) = absurd (cc)
 
-pub answered : (s : Status) (command : Option Command) (told held now : Option Files) (written out : Option (List ℕ)) (before after : Counts)
-    → Ends s command told held now written out → IsCause s before after → command ≢ None → NoneRose before after → IsAskedOf command told s ⊎ (s ≡ OutOfMemory)
-answered s None told held now written out before after ends cause some none = absurd (some refl)
-answered s (Some command) told held now written out before after ends cause some none = asked s command told held now written out before after ends cause none
+  -- where no count rose, the files decide
+  pub answered : (s : Status) (command : Option Command) (before after : Counts) → Ends s command o → IsCause s before after
+      → Completes (outcome_of command) s o.library before after
+  answered Done command before after ends cause none = inl (Leads-Asks o.library (outcome_of command) (Ok ends.work) ends.read)
+  answered Usage None before after ends cause none = inl refl
+  answered Usage (Some c) before after ends cause none = absurd (cc ends.0)
+  answered GraphText command before after ends cause none = inl (Leads-Asks o.library (outcome_of command) (Err GraphText) ends.0)
+  answered (GraphRule f) command before after ends cause none = inl (Leads-Asks o.library (outcome_of command) (Err (GraphRule f)) ends.0)
+  answered (StackBytes f) command before after ends cause none = inl (Leads-Asks o.library (outcome_of command) (Err (StackBytes f)) ends.0)
+  answered (Limit f) command before after ends cause none = inl (Leads-Asks o.library (outcome_of command) (Err (Limit f)) ends.0)
+  answered ReadFault command before after ends cause none = absurd (none.library cause.0)
+  answered ShelfFault command before after ends cause none = absurd (none.shelf cause.1)
+  answered OutFault command before after ends cause none = absurd (none.sink cause.2)
+  answered OutOfMemory command before after ends cause none = inr refl

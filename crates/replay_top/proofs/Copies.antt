@@ -11,6 +11,7 @@ use Rattle.std.proofs.lemmas.Bool.Decides.{nat_tests}
 use Rattle.std.proofs.lemmas.List.{take_all, append-nil}
 use Rattle.std.proofs.lemmas.List.Elements.{All-nil, All-cons, All-head}
 use Rattle.nd_base.specs.Array.{Array, StackValue}
+use Rattle.nd_base.specs.declared.attribute.FileShape.{FileShape}
 use Rattle.nd_base.specs.declared.graph.Mode.TheVariants.{Capture}
 use Rattle.nd_base.specs.declared.graph.NodeRule.{NodeRule}
 use Rattle.nd_base.specs.GraphRules.{IsGraph, IsNode, is_source, source_of}
@@ -25,6 +26,7 @@ use Rattle.graph_conf.specs.Loads.{arrivals, kept, file_bytes_at, limit_fault}
 use Rattle.graph_files.specs.OutFiles.{group_name, group_number, group_files}
 use Rattle.replay_top.specs.Copy.{copy_graph, copy_node, copy_name, copy_shape, copy_file, copy_length, CopiesAreOneFile, CopiesHaveOneLimit}
 use Rattle.replay_top.specs.ReadBack.{files_read_back}
+use Rattle.replay_top.specs.Works.{IsBack, copy_groups}
 
 -- THE GRAPH
 
@@ -122,13 +124,24 @@ one_file s prefix few =
     append-nil _ ∙ ap (group_files Capture (copy_shape s) prefix (codes "copy") 0) (one_result s few) ∙ named s prefix (length s.arrays == 0)
 
 -- which reads back as the arrays
-pub copy_reads_back : (s : StackValue) → IsKeptStack s → length s.arrays ≤ 65536 → limit_fault copy_graph s ≡ None → 1 ≤ length s.arrays
+copy_reads_back : (s : StackValue) → IsKeptStack s → length s.arrays ≤ 65536 → limit_fault copy_graph s ≡ None → 1 ≤ length s.arrays
     → ReadsBack (copy_shape s) s.arrays
 copy_reads_back s kept few within some =
     let filled : (length s.arrays == 0) ≡ false = grind (arith, nat_tests) in
     let one : (result_of copy_graph s 1).files ≡ s.arrays ∷ [] = one_result s few ∙ ap (λ none. if none then [] else s.arrays ∷ []) filled in
     All-head (ReadsBack (copy_shape s)) s.arrays []
     (subst (All (ReadsBack (copy_shape s))) one (files_read_back copy_graph s copy_graph-IsGraph kept within 1))
+
+-- so that of its one group does, where there is one
+copy_group : (shape : FileShape) (arrays : List Array) → (1 ≤ length arrays → ReadsBack shape arrays)
+    → All IsBack (if length arrays == 0 then [] else record { shape = shape; arrays = arrays } ∷ [])
+copy_group shape [] back = All-nil IsBack
+copy_group shape (a ∷ arrays) back =
+    let some : (length (a ∷ arrays) == 0) ≡ false = grind (arith, nat_tests) in
+    rw some (All-cons IsBack (record { shape = shape; arrays = a ∷ arrays }) [] (back (omega arith)) (All-nil IsBack))
+
+pub copy_back : (s : StackValue) → IsKeptStack s → length s.arrays ≤ 65536 → limit_fault copy_graph s ≡ None → All IsBack (copy_groups s)
+copy_back s kept few within = copy_group (copy_shape s) s.arrays (copy_reads_back s kept few within)
 
 -- THE LIMIT
 

@@ -1,9 +1,11 @@
 -- What nodes give one after the other.
-use Rattle.std.proofs.Common.{◌≡◌, ℕ, zero, suc, ◌+◌, ◌<◌, List, [], ◌∷◌, ◌++◌, Some, length, get_or, ap, sym, ◌∙◌, arith}
+use Rattle.std.proofs.Common.{◌≡◌, ℕ, zero, suc, ◌+◌, ◌<◌, ◌≤◌, List, [], ◌∷◌, ◌++◌, Some, length, get_or, ap, sym, ◌∙◌, arith}
+use Rattle.std.specs.Prelude.{All}
 use Rattle.std.specs.List.{flat_map, range_with_len}
 use Rattle.std.specs.Option.{option_map_or}
 use Rattle.std.proofs.lemmas.List.{append-nil}
 use Rattle.std.proofs.lemmas.List.Concat.{flat_map-append}
+use Rattle.std.proofs.lemmas.List.Elements.{All-nil, All-append}
 use Rattle.std.proofs.lemmas.Option.{slice_get-get_or}
 use Rattle.nd_base.specs.Array.{StackValue}
 use Rattle.nd_base.specs.declared.graph.Graph.{Graph}
@@ -26,6 +28,12 @@ module _ {X : Type 0} (f : ℕ → List X) where
       let next : place + 1 ≡ suc place = omega arith in
       ap (λ n. flat_map f (range_with_len 1 n)) next ∙ ap (flat_map f) (range_more 1 place) ∙ flat_map-append f (range_with_len 1 place) ((1 + place) ∷ [])
       ∙ ap (λ xs. flat_map f (range_with_len 1 place) ++ xs) (append-nil (f (1 + place)) ∙ ap f e)
+
+  -- what holds of what each node gives holds of all of it
+  pub All-each : (P : X → Type 0) (a n : ℕ) → ((v : ℕ) → a ≤ v → All P (f v)) → All P (flat_map f (range_with_len a n))
+  All-each P a zero each = All-nil P
+  All-each P a (suc n) each =
+      All-append P (f a) (flat_map f (range_with_len (a + 1) n)) (each a (omega arith)) (All-each P (a + 1) n (λ v low. each v (omega (arith, low))))
 
 -- the rule of the node at a place
 rule_after : (nodes : List NodeRule) (place : ℕ) (n : NodeRule) → place < length nodes → n ≡ get_or nodes place n → rule_at nodes (place + 1) ≡ Some n

@@ -5,7 +5,7 @@ use Rattle.std.specs.Prelude.{All, codes}
 use Rattle.std.specs.List.{flat_map, range_with_len}
 use Rattle.std.specs.Option.{option_map_or}
 use Rattle.std.proofs.Math.Nat.{div-le_self}
-use Rattle.std.proofs.lemmas.List.Elements.{All-nil, All-cons, All-append}
+use Rattle.std.proofs.lemmas.List.Elements.{All-nil, All-cons}
 use Rattle.std.proofs.lemmas.List.FromFn.{length-map-range_with_len}
 use Rattle.std.proofs.lemmas.List.Kept.{AllPairs-cons}
 use Rattle.queue_sort.proofs.ById.{AllPairs-append}
@@ -35,7 +35,10 @@ use Rattle.replay_top.specs.Command.{Copy, Plain, Info}
 use Rattle.replay_top.specs.Copy.{copy_graph}
 use Rattle.replay_top.specs.FileNames.{HaveOwnNames, CommandsHaveOwnNames, GroupsHaveOwnNames, RowsHaveOwnNames, GroupsAreNoTexts, OnlyLogsMeetTheLog}
 use Rattle.replay_top.specs.LogFiles.{log_name}
+use Rattle.replay_top.specs.Works.{Work}
 use Rattle.replay_top.proofs.Copies.{copy_graph-IsGraph}
+use Rattle.replay_top.proofs.EachNode.{All-each}
+use Rattle.replay_top.proofs.Leads.{of_copy, of_plain, of_info}
 
 -- NODES
 
@@ -87,20 +90,13 @@ no_pairs = λ i j d lt within. absurd (omega (arith, within))
 one_file : (f : OutFile) → HaveOwnNames (f ∷ [])
 one_file f = λ i j d lt within. absurd (omega (arith, lt, within))
 
--- what holds of each list holds of all
-all-range : (P : OutFile → Type 0) (files : ℕ → List OutFile) (a n : ℕ) → ((v : ℕ) → a ≤ v → All P (files v)) → All P (flat_map files (range_with_len a n))
-all-range P files a zero each = All-nil P
-all-range P files a (suc n) each =
-    All-append P (files a) (flat_map files (range_with_len (a + 1) n)) (each a (omega arith))
-    (all-range P files (a + 1) n (λ v low. each v (omega (arith, low))))
-
--- and names that differ in each list, and from those of every later one, differ in all
+-- names that differ in each list, and from those of every later one, differ in all
 pairs-range : (files : ℕ → List OutFile) (a n : ℕ) → ((v : ℕ) → HaveOwnNames (files v))
     → ((v w : ℕ) → v < w → All (λ x. All (Apart x) (files w)) (files v)) → HaveOwnNames (flat_map files (range_with_len a n))
 pairs-range files a zero own between = no_pairs
 pairs-range files a (suc n) own between =
     AllPairs-append Apart (files a) (flat_map files (range_with_len (a + 1) n)) (own a) (pairs-range files (a + 1) n own between)
-    (λ k d within. all-range (Apart (get_or (files a) k d)) files (a + 1) n (λ w low. between a w (omega (arith, low)) k d within))
+    (λ k d within. All-each files (Apart (get_or (files a) k d)) (a + 1) n (λ w low. between a w (omega (arith, low)) k d within))
 
 -- GROUPS
 
@@ -196,6 +192,13 @@ module _ (g : Graph) (s : StackValue) (prefix : List ℕ) (sound : IsGraph g) (f
 -- COMMANDS
 
 pub command_names : CommandsHaveOwnNames
-command_names told (Copy stack prefix) source read = plain_names copy_graph source.stack prefix copy_graph-IsGraph read.few
-command_names told (Plain graph stack prefix) source read = plain_names source.graph source.stack prefix read.0.sound read.1.few
-command_names told (Info stack) source read = no_pairs
+command_names told None work leads = absurd (cc)
+command_names told (Some (Copy stack prefix)) work leads =
+    let p = of_copy told stack prefix work leads in
+    subst (λ (w : Work). HaveOwnNames w.files) (sym p.3) (plain_names copy_graph p.0 prefix copy_graph-IsGraph p.1.sound)
+command_names told (Some (Plain graph stack prefix)) work leads =
+    let p = of_plain told graph stack prefix work leads in
+    subst (λ (w : Work). HaveOwnNames w.files) (sym p.2) (plain_names p.0.graph p.0.stack prefix p.1.graph.sound p.1.stack.sound)
+command_names told (Some (Info stack)) work leads =
+    let p = of_info told stack work leads in
+    subst (λ (w : Work). HaveOwnNames w.files) (sym p.2) no_pairs

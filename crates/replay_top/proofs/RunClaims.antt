@@ -1,40 +1,60 @@
 -- What the end of a run says of its status.
-use Rattle.std.proofs.Common.{◌≡◌, ◌≢◌, Option, None, Some, refl, ap, sym, ◌⊎◌, inl, inr}
+use Rattle.std.proofs.Common.{◌≡◌, ◌⊎◌, Option, None, Some, Ok, Err, refl, inl, inr}
 use Rattle.flow_journal.specs.Journal.{Journal}
 use Rattle.replay_top.specs.declared.status.Status.{Status}
 use Rattle.replay_top.specs.declared.status.Status.TheVariants.{Done, Usage, GraphText, GraphRule, StackBytes, Limit, ReadFault, ShelfFault, OutFault}
 use Rattle.replay_top.specs.declared.status.Status.TheVariants.{OutOfMemory}
+use Rattle.replay_top.specs.Answers.{IsRefusal, IsUntouched}
 use Rattle.replay_top.specs.Causes.{Counts}
-use Rattle.replay_top.specs.Claims.{IsAskedOf, NoneRose}
-use Rattle.replay_top.specs.Limits.{load_status}
-use Rattle.replay_top.specs.RunAnswers.{Objects, RunEnds, IsRunCause, IsLogOf}
-use Rattle.replay_top.specs.RunCommand.{RunCommand, plain_run, plain_run_of}
-use Rattle.replay_top.specs.Works.{Source}
-use Rattle.replay_top.proofs.Asked.{asked-load}
-use Rattle.replay_top.proofs.Claims.{answered}
+use Rattle.replay_top.specs.Claims.{Completes}
+use Rattle.replay_top.specs.Outcomes.{Leads}
+use Rattle.replay_top.specs.RunAnswers.{RunObjects, RunEnds, IsRunCause}
+use Rattle.replay_top.specs.RunCommand.{RunCommand}
+use Rattle.replay_top.specs.RunSources.{sources_of}
+use Rattle.replay_top.proofs.Outcomes.{Leads-Asks}
+
+module _ (log : Option Journal) (c : RunCommand) (o : RunObjects) where
+  -- a refusal is what the files lead to
+  pub RunEnds-refused : (s : Status) → RunEnds s log (Some c) o → IsRefusal s → Leads o.objects.library (sources_of (Some c)) (Err s)
+  RunEnds-refused Usage ends is = absurd (cc ends.1)
+  RunEnds-refused GraphText ends is = ends.1.0
+  RunEnds-refused (GraphRule f) ends is = ends.1.0
+  RunEnds-refused (StackBytes f) ends is = ends.1.0
+  RunEnds-refused (Limit f) ends is = ends.1.0
+  RunEnds-refused Done ends is = absurd is
+  RunEnds-refused ReadFault ends is = absurd is
+  RunEnds-refused ShelfFault ends is = absurd is
+  RunEnds-refused OutFault ends is = absurd is
+  RunEnds-refused OutOfMemory ends is = absurd is
+
+  -- and leaves all as it was, as a fault of the library does
+  pub RunEnds-untouched : (s : Status) → RunEnds s log (Some c) o → IsRefusal s ⊎ (s ≡ ReadFault) → IsUntouched o.objects
+  RunEnds-untouched Usage ends is = ends.2
+  RunEnds-untouched GraphText ends is = ends.1.1
+  RunEnds-untouched (GraphRule f) ends is = ends.1.1
+  RunEnds-untouched (StackBytes f) ends is = ends.1.1
+  RunEnds-untouched (Limit f) ends is = ends.1.1
+  RunEnds-untouched ReadFault ends is = ends.2
+  RunEnds-untouched Done ends (inl never) = absurd never
+  RunEnds-untouched Done ends (inr never) = absurd (cc)
+  RunEnds-untouched ShelfFault ends (inl never) = absurd never
+  RunEnds-untouched ShelfFault ends (inr never) = absurd (cc)
+  RunEnds-untouched OutFault ends (inl never) = absurd never
+  RunEnds-untouched OutFault ends (inr never) = absurd (cc)
+  RunEnds-untouched OutOfMemory ends (inl never) = absurd never
+  RunEnds-untouched OutOfMemory ends (inr never) = absurd (cc)
 
 -- where no count rose, the files decide
-asked-run : (o : Objects) (c : RunCommand) (source : Source) (log : Journal) → IsLogOf o c source log.past → IsAskedOf (Some (plain_run c)) o.told Done
-asked-run o c source log is = asked-load Done (plain_run c) o.told source is.read (sym (ap load_status is.within))
-
-pub answered_run : (s : Status) (log : Option Journal) (command : Option RunCommand) (o : Objects) (before after : Counts)
-    → RunEnds s log command o → IsRunCause s before after
-    → plain_run_of command ≢ None → NoneRose before after → IsAskedOf (plain_run_of command) o.told s ⊎ (s ≡ OutOfMemory)
-answered_run Done (Some l) (Some c) o before after ends cause some none = inl (asked-run o c ends.source l ends.log)
-answered_run Done log None o before after ends cause some none = absurd ends
-answered_run Done None (Some c) o before after ends cause some none = absurd ends
-answered_run ShelfFault log command o before after ends cause some none = absurd (none.shelf cause.1)
-answered_run OutFault log command o before after ends cause some none = absurd (none.sink cause.2)
-answered_run OutOfMemory log command o before after ends cause some none = inr refl
-answered_run Usage log command o before after ends cause some none =
-    answered Usage (plain_run_of command) o.told o.held o.now o.written o.out before after ends.1 cause some none
-answered_run GraphText log command o before after ends cause some none =
-    answered GraphText (plain_run_of command) o.told o.held o.now o.written o.out before after ends.1 cause some none
-answered_run (GraphRule f) log command o before after ends cause some none =
-    answered (GraphRule f) (plain_run_of command) o.told o.held o.now o.written o.out before after ends.1 cause some none
-answered_run (StackBytes f) log command o before after ends cause some none =
-    answered (StackBytes f) (plain_run_of command) o.told o.held o.now o.written o.out before after ends.1 cause some none
-answered_run (Limit f) log command o before after ends cause some none =
-    answered (Limit f) (plain_run_of command) o.told o.held o.now o.written o.out before after ends.1 cause some none
-answered_run ReadFault log command o before after ends cause some none =
-    answered ReadFault (plain_run_of command) o.told o.held o.now o.written o.out before after ends.1 cause some none
+pub answered_run : (s : Status) (log : Option Journal) (c : RunCommand) (o : RunObjects) (before after : Counts) → RunEnds s log (Some c) o
+    → IsRunCause s before after → Completes (sources_of (Some c)) s o.objects.library before after
+answered_run Done (Some l) c o before after ends cause none = inl (Leads-Asks o.objects.library (sources_of (Some c)) (Ok ends.source) ends.log.read)
+answered_run Done None c o before after ends cause none = absurd ends
+answered_run Usage log c o before after ends cause none = absurd (cc ends.1)
+answered_run GraphText log c o before after ends cause none = inl (Leads-Asks o.objects.library (sources_of (Some c)) (Err GraphText) ends.1.0)
+answered_run (GraphRule f) log c o before after ends cause none = inl (Leads-Asks o.objects.library (sources_of (Some c)) (Err (GraphRule f)) ends.1.0)
+answered_run (StackBytes f) log c o before after ends cause none = inl (Leads-Asks o.objects.library (sources_of (Some c)) (Err (StackBytes f)) ends.1.0)
+answered_run (Limit f) log c o before after ends cause none = inl (Leads-Asks o.objects.library (sources_of (Some c)) (Err (Limit f)) ends.1.0)
+answered_run ReadFault log c o before after ends cause none = absurd (none.library cause.0)
+answered_run ShelfFault log c o before after ends cause none = absurd (none.shelf cause.1)
+answered_run OutFault log c o before after ends cause none = absurd (none.sink cause.2)
+answered_run OutOfMemory log c o before after ends cause none = inr refl

@@ -1,5 +1,5 @@
 -- Where a stage of a run stopped, the run ends so.
-use Rattle.std.proofs.Common.{◌≡◌, ◌≢◌, ℕ, Bool, true, false, List, ◌++◌, Option, None, Some, refl, ap, sym, subst, ◌∙◌}
+use Rattle.std.proofs.Common.{◌≡◌, ◌≢◌, ℕ, Bool, true, false, List, ◌++◌, Option, None, Some, Err, refl, ap, sym, subst, ◌∙◌}
 use Rattle.std.proofs.lemmas.List.{append-nil}
 use Rattle.nd_base.specs.Array.{StackValue}
 use Rattle.nd_base.specs.declared.graph.Graph.{Graph}
@@ -20,29 +20,32 @@ use Rattle.flow_run.specs.Ticks.{IsFedByTheClock}
 use Rattle.replay_top.specs.declared.status.Status.{Status}
 use Rattle.replay_top.specs.declared.status.Status.TheVariants.{Done, Usage, GraphText, GraphRule, StackBytes, Limit, ReadFault, ShelfFault, OutFault}
 use Rattle.replay_top.specs.declared.status.Status.TheVariants.{OutOfMemory}
-use Rattle.replay_top.specs.RunAnswers.{Objects, IsLogOf, RunEnds, IsRunCause, run_print}
+use Rattle.replay_top.specs.Answers.{IsUntouched}
+use Rattle.replay_top.specs.Outcomes.{Leads}
+use Rattle.replay_top.specs.RunAnswers.{RunObjects, IsLogOf, RunEnds, IsRunCause, run_print}
 use Rattle.replay_top.specs.RunCommand.{RunCommand}
 use Rattle.replay_top.specs.RunFiles.{later_files, HoldsFiles, HaveGroupsBack, AtGroups, AfterGroups}
 use Rattle.replay_top.specs.LogFiles.{log_files}
-use Rattle.replay_top.specs.RunSources.{IsSourceRead, SourceStops}
+use Rattle.replay_top.specs.RunSources.{IsSourceRead}
 use Rattle.replay_top.specs.RunStages.{RestEnds, RestCause}
-use Rattle.replay_top.specs.Works.{Source}
+use Rattle.replay_top.specs.Stages.{ReadStops}
+use Rattle.replay_top.specs.Works.{Source, sources}
 
 -- READING
 
 -- what there is to run wasn't read
-pub RunEnds-unread : (status : Status) (c : RunCommand) (o : Objects) (before now : ℕ) → SourceStops status o.told c.graph c.stack before now → o.now ≡ o.held
-    → o.out ≡ o.written → RunEnds status None (Some c) o
-RunEnds-unread GraphText c o before now stops held written = (refl, (stops.0 c.prefix, held, written))
-RunEnds-unread (GraphRule f) c o before now stops held written = (refl, (stops.0 c.prefix, held, written))
-RunEnds-unread (StackBytes f) c o before now stops held written = (refl, (stops.0 c.prefix, held, written))
-RunEnds-unread (Limit f) c o before now stops held written = (refl, (stops.0 c.prefix, held, written))
-RunEnds-unread ReadFault c o before now stops held written = (refl, ((λ e. cc), held, written))
-RunEnds-unread OutOfMemory c o before now stops held written = (refl, written)
-RunEnds-unread Done c o before now stops held written = absurd stops
-RunEnds-unread Usage c o before now stops held written = absurd stops
-RunEnds-unread ShelfFault c o before now stops held written = absurd stops
-RunEnds-unread OutFault c o before now stops held written = absurd stops
+pub RunEnds-unread : (status : Status) (c : RunCommand) (o : RunObjects) (before now : ℕ)
+    → ReadStops (λ s. Leads o.objects.library (sources c.graph c.stack) (Err s)) status before now → IsUntouched o.objects → RunEnds status None (Some c) o
+RunEnds-unread GraphText c o before now stops still = (refl, (stops.0, still))
+RunEnds-unread (GraphRule f) c o before now stops still = (refl, (stops.0, still))
+RunEnds-unread (StackBytes f) c o before now stops still = (refl, (stops.0, still))
+RunEnds-unread (Limit f) c o before now stops still = (refl, (stops.0, still))
+RunEnds-unread ReadFault c o before now stops still = (refl, (λ e. cc), still)
+RunEnds-unread OutOfMemory c o before now stops still = (refl, still.1)
+RunEnds-unread Done c o before now stops still = absurd stops
+RunEnds-unread Usage c o before now stops still = absurd stops
+RunEnds-unread ShelfFault c o before now stops still = absurd stops
+RunEnds-unread OutFault c o before now stops still = absurd stops
 
 -- AFTER THE RUN
 
@@ -57,33 +60,45 @@ module _ (g : Graph) (stack : StackValue) (prefix : List ℕ) (P : Past) (held m
       subst (λ (w : Option Files). HoldsFilesOf g stack prefix P held w) same holds
   holds-by true holds is = (rows, holds, is ∙ with_files-append mid (rows_files g stack prefix P) (log_files true prefix P))
 
-module _ (complete : RowsComplete) (reads : GroupsReadBack) (c : RunCommand) (o : Objects) (g : Graph) (stack : StackValue) (log : Journal) (mid : Option Files)
-    (read : IsSourceRead o.told c.graph c.stack g stack) (run : IsFinishedRun (run_setting g stack) log.past)
-    (roles : AreOwnMoves (run_setting g stack) log.past)
+module _ (complete : RowsComplete) (reads : GroupsReadBack) (c : RunCommand) (o : RunObjects) (g : Graph) (stack : StackValue) (log : Journal)
+    (mid : Option Files) (read : IsSourceRead o.objects.library c.graph c.stack (record { graph = g; stack = stack }))
+    (run : IsFinishedRun (run_setting g stack) log.past) (roles : AreOwnMoves (run_setting g stack) log.past)
     (ticks : IsFedByTheClock (run_setting g stack) log.past o.coming o.later) where
+  abbrev held : Option Files
+  held = o.objects.shelf_before
+
+  abbrev now : Option Files
+  now = o.objects.shelf_after
+
+  abbrev written : Option (List ℕ)
+  written = o.objects.sink_before
+
+  abbrev out : Option (List ℕ)
+  out = o.objects.sink_after
+
   abbrev source : Source
   source = record { graph = g; stack = stack }
 
   is_log : IsLogOf o c source log.past
-  is_log = record { read = (read.graph, read.stack.source); within = read.within; run = run; roles = roles; ticks = ticks }
+  is_log = record { read = read.read; within = read.within; run = run; roles = roles; ticks = ticks }
 
   back : HaveGroupsBack source log.past
-  back v i n r at kind some = reads g stack log.past v i n r read.graph.sound read.stack.kept read.within run.legal at kind some
+  back v i n r at kind some = reads g stack log.past v i n r read.sound read.kept read.within run.legal at kind some
 
-  holds : HoldsGroupsOf g stack c.prefix log.past o.held mid → o.now ≡ with_files mid (later_files c source log.past)
-      → HoldsFiles c.logs source c.prefix log.past o.held o.now
-  holds groups is = holds-by g stack c.prefix log.past o.held mid o.now c.logs (complete g stack c.prefix log.past o.held mid read.graph.sound groups) is
+  holds : HoldsGroupsOf g stack c.prefix log.past held mid → now ≡ with_files mid (later_files c source log.past)
+      → HoldsFiles c.logs source c.prefix log.past held now
+  holds groups is = holds-by g stack c.prefix log.past held mid now c.logs (complete g stack c.prefix log.past held mid read.sound groups) is
 
   -- what was left to write and to print, where the log is kept
-  ends : (status : Status) (fault : Bool) → HasSavedRun g stack c.prefix log.past o.held fault mid → status ≢ OutOfMemory
-      → RestEnds status fault (later_files c source log.past) (run_print source log.past) mid o.now o.written o.out → RunEnds status (Some log) (Some c) o
+  ends : (status : Status) (fault : Bool) → HasSavedRun g stack c.prefix log.past held fault mid → status ≢ OutOfMemory
+      → RestEnds status fault (later_files c source log.past) (run_print source log.past) mid now written out → RunEnds status (Some log) (Some c) o
   ends Done true groups some rest = absurd (let no : true ≡ false = rest.0 in cc)
   ends Done false groups some rest = record { source = source; log = is_log; files = holds groups rest.1; back = back; printed = rest.2 }
   ends ShelfFault true groups some rest =
       record {
         source = source;
         log = is_log;
-        files = AtGroups (subst (λ (w : Option Files). HasSavedRun g stack c.prefix log.past o.held true w) (sym rest.0) groups);
+        files = AtGroups (subst (λ (w : Option Files). HasSavedRun g stack c.prefix log.past held true w) (sym rest.0) groups);
         unprinted = rest.1;
       }
   ends ShelfFault false groups some rest = record { source = source; log = is_log; files = AfterGroups mid groups rest.0; unprinted = rest.1 }
@@ -99,13 +114,13 @@ module _ (complete : RowsComplete) (reads : GroupsReadBack) (c : RunCommand) (o 
 
   -- the same by what the nodes measured and what the plan says
   pub RunEnds-rest : (status : Status) (fault : Bool) (files : List OutFile) (print : List ℕ)
-      → HasSavedRun g stack c.prefix log.past o.held fault mid → status ≢ OutOfMemory
-      → files ≡ later_files c source log.past → print ≡ run_print source log.past → RestEnds status fault files print mid o.now o.written o.out
+      → HasSavedRun g stack c.prefix log.past held fault mid → status ≢ OutOfMemory
+      → files ≡ later_files c source log.past → print ≡ run_print source log.past → RestEnds status fault files print mid now written out
       → RunEnds status (Some log) (Some c) o
   RunEnds-rest status fault files print groups some same_files same_print rest =
       ends status fault groups some
-      (subst (λ (fs : List OutFile). RestEnds status fault fs (run_print source log.past) mid o.now o.written o.out) same_files
-      (subst (λ (t : List ℕ). RestEnds status fault files t mid o.now o.written o.out) same_print rest))
+      (subst (λ (fs : List OutFile). RestEnds status fault fs (run_print source log.past) mid now written out) same_files
+      (subst (λ (t : List ℕ). RestEnds status fault files t mid now written out) same_print rest))
 
 -- the counts
 rose : (before mid now : ℕ) → mid ≡ before → Rose mid now → Rose before now

@@ -1,5 +1,5 @@
 -- No two files have one name.
-use Rattle.std.specs.Prelude.{◌≡◌, ◌≢◌, ℕ, ◌<◌, ◌^◌, List, AllPairs, Option, Some, codes}
+use Rattle.std.specs.Prelude.{◌≡◌, ◌≢◌, ℕ, ◌<◌, ◌^◌, List, AllPairs, Option, Some, Ok, codes}
 use Rattle.nd_base.specs.declared.graph.Graph.{Graph}
 use Rattle.nd_base.specs.declared.graph.NodeRule.{NodeRule}
 use Rattle.nd_base.specs.GraphRules.{IsGraph, rule_at}
@@ -7,7 +7,8 @@ use Rattle.edge_traits.specs.Files.{Files}
 use Rattle.graph_files.specs.OutFiles.{OutFile, group_name, stats_name}
 use Rattle.replay_top.specs.Command.{Command}
 use Rattle.replay_top.specs.LogFiles.{log_name}
-use Rattle.replay_top.specs.Works.{Source, work_of, IsRead}
+use Rattle.replay_top.specs.Outcomes.{Leads}
+use Rattle.replay_top.specs.Works.{Work, outcome_of}
 
 -- no two of these files have one name
 abbrev pub HaveOwnNames : List OutFile → Type 0
@@ -15,8 +16,7 @@ HaveOwnNames files = AllPairs (λ a b. a.name ≢ b.name) files
 
 -- nor of those that a command writes, over what it read
 abbrev pub CommandsHaveOwnNames : Type 0
-CommandsHaveOwnNames =
-    (told : Option Files) (command : Command) (source : Source) → IsRead told command source → HaveOwnNames (work_of command source).files
+CommandsHaveOwnNames = (told : Option Files) (command : Option Command) (work : Work) → Leads told (outcome_of command) (Ok work) → HaveOwnNames work.files
 
 -- two groups of one name are one group of one node, whoever writes them
 abbrev pub GroupsHaveOwnNames : Type 0

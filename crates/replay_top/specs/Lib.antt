@@ -5,9 +5,10 @@ pub mod Command
 pub mod Copy
 pub mod FileNames
 pub mod Info
-pub mod Limits
+pub mod Inputs
 pub mod LogFiles
 pub mod MeasuredFiles
+pub mod Outcomes
 pub mod PlainRuns
 pub mod PlainText
 pub mod Printed
@@ -19,10 +20,10 @@ pub mod RunFiles
 pub mod RunSources
 pub mod RunStages
 pub mod RunWords
-pub mod Sources
 pub mod Stages
 pub mod StatusText
 pub mod Words
 pub mod WorkedInfo
+pub mod WorkLaws
 pub mod Works
 pub mod SmoothRuns

@@ -18,10 +18,6 @@ run_command_of (word ∷ graph ∷ stack ∷ prefix ∷ []) =
     else None
 run_command_of _ = None
 
--- the plain run of the same words: both read the same files, in the same order, and are refused alike
+-- the plain run of the same words
 abbrev pub plain_run : RunCommand → Command
 plain_run c = Plain c.graph c.stack c.prefix
-
-abbrev pub plain_run_of : Option RunCommand → Option Command
-plain_run_of None = None
-plain_run_of (Some c) = Some (plain_run c)

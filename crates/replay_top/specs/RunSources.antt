@@ -1,30 +1,22 @@
--- What a run goes over, and why it didn't begin.
-use Rattle.std.specs.Prelude.{◌≡◌, ℕ, List, Option, None, Some}
-use Rattle.nd_base.specs.Array.{StackValue}
-use Rattle.nd_base.specs.declared.graph.Graph.{Graph}
-use Rattle.edge_traits.specs.Faults.{Rose}
+-- What a run goes over.
+use Rattle.std.specs.Prelude.{◌≡◌, ℕ, List, Option, None, Some, Ok}
+use Rattle.nd_base.specs.GraphRules.{IsGraph}
 use Rattle.edge_traits.specs.Files.{Files}
+use Rattle.nd_stack.specs.KeptStacks.{IsKeptStack}
 use Rattle.graph_conf.specs.Loads.{limit_fault}
-use Rattle.replay_top.specs.declared.status.Status.{Status}
-use Rattle.replay_top.specs.declared.status.Status.TheVariants.{GraphText, GraphRule, StackBytes, Limit, ReadFault, OutOfMemory}
-use Rattle.replay_top.specs.Answers.{HasNoText, HasGraphFault, HasStackFault, HasLimitFault}
-use Rattle.replay_top.specs.Command.{Plain}
-use Rattle.replay_top.specs.Sources.{IsGraphRead}
-use Rattle.replay_top.specs.Stages.{IsLoaded}
+use Rattle.replay_top.specs.declared.status.Status.TheVariants.{Usage}
+use Rattle.replay_top.specs.Outcomes.{Outcome, Refused, Leads}
+use Rattle.replay_top.specs.RunCommand.{RunCommand}
+use Rattle.replay_top.specs.Works.{Source, sources}
 
--- a graph and a stack that were read, and pass no limit
-pub record IsSourceRead (told : Option Files) (graph_name stack_name : List ℕ) (g : Graph) (s : StackValue) : Type 0 where
-  pub graph : IsGraphRead told graph_name g
-  pub stack : IsLoaded told stack_name s
-  pub within : limit_fault g s ≡ None
+-- what a run asks its files for; no run is refused at once
+abbrev pub sources_of : Option RunCommand → Outcome Source
+sources_of None = Refused Usage
+sources_of (Some c) = sources c.graph c.stack
 
--- Why there are none: the refusals of a plain run over these files, whatever its prefix, and then no count rose; a fault of the library; or
--- want of memory.
-abbrev pub SourceStops : Status → Option Files → (graph stack : List ℕ) → (before now : ℕ) → Type 0
-SourceStops GraphText told graph stack before now = ((prefix : List ℕ) → HasNoText (Some (Plain graph stack prefix)) told) × (now ≡ before)
-SourceStops (GraphRule fault) told graph stack before now = ((prefix : List ℕ) → HasGraphFault (Some (Plain graph stack prefix)) told fault) × (now ≡ before)
-SourceStops (StackBytes fault) told graph stack before now = ((prefix : List ℕ) → HasStackFault (Some (Plain graph stack prefix)) told fault) × (now ≡ before)
-SourceStops (Limit fault) told graph stack before now = ((prefix : List ℕ) → HasLimitFault (Some (Plain graph stack prefix)) told fault) × (now ≡ before)
-SourceStops ReadFault told graph stack before now = Rose before now
-SourceStops OutOfMemory told graph stack before now = now ≡ before
-SourceStops _ told graph stack before now = ⊥
+-- a graph and a stack that were read, and so can be run
+pub record IsSourceRead (told : Option Files) (graph stack : List ℕ) (source : Source) : Type 0 where
+  pub read : Leads told (sources graph stack) (Ok source)
+  pub sound : IsGraph source.graph
+  pub kept : IsKeptStack source.stack
+  pub within : limit_fault source.graph source.stack ≡ None

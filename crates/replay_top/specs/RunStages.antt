@@ -31,4 +31,5 @@ RestCause ShelfFault true shelf_before shelf_now sink_before sink_now = (shelf_n
 RestCause ShelfFault false shelf_before shelf_now sink_before sink_now = Rose shelf_before shelf_now × (sink_now ≡ sink_before)
 RestCause OutFault fault shelf_before shelf_now sink_before sink_now = (shelf_now ≡ shelf_before) × Rose sink_before sink_now
 RestCause OutOfMemory fault shelf_before shelf_now sink_before sink_now = sink_now ≡ sink_before
-RestCause status fault shelf_before shelf_now sink_before sink_now = (shelf_now ≡ shelf_before) × (sink_now ≡ sink_before)
+RestCause Done fault shelf_before shelf_now sink_before sink_now = (shelf_now ≡ shelf_before) × (sink_now ≡ sink_before)
+RestCause _ fault shelf_before shelf_now sink_before sink_now = ⊥

@@ -1,5 +1,5 @@
 -- Why each stage of a command stopped, and what it left.
-use Rattle.std.specs.Prelude.{◌≡◌, ◌≢◌, ℕ, ◌<◌, List, Option, Some}
+use Rattle.std.specs.Prelude.{◌≡◌, ℕ, List, Option, Some}
 use Rattle.nd_base.specs.Array.{StackValue}
 use Rattle.nd_base.specs.declared.graph.Graph.{Graph}
 use Rattle.edge_traits.specs.Faults.{Rose}
@@ -8,7 +8,6 @@ use Rattle.file_out.specs.declared.fault.SaveFault.{SaveFault}
 use Rattle.file_out.specs.declared.fault.SaveFault.TheVariants as saving
 use Rattle.nd_stack.specs.declared.fault.StackFault.{StackFault}
 use Rattle.nd_stack.specs.declared.fault.StackFault.TheVariants as refusal
-use Rattle.nd_stack.specs.KeptStacks.{IsKeptStack}
 use Rattle.graph_conf.specs.declared.fault.GraphFault.{GraphFault}
 use Rattle.graph_conf.specs.declared.fault.GraphFault.TheVariants as rule
 use Rattle.graph_conf.specs.Loads.{limit_fault}
@@ -16,12 +15,11 @@ use Rattle.graph_conf.specs.declared.load.LimitFault.TheVariants.{GraphBytes, St
 use Rattle.replay_top.specs.declared.reading.ReadRefusal.{ReadRefusal}
 use Rattle.replay_top.specs.declared.reading.ReadRefusal.TheVariants as reading
 use Rattle.replay_top.specs.declared.status.Status.{Status}
-use Rattle.replay_top.specs.declared.status.Status.TheVariants.{GraphText, GraphRule, StackBytes, Limit, ReadFault, ShelfFault, OutFault, OutOfMemory}
+use Rattle.replay_top.specs.declared.status.Status.TheVariants.{Done, Usage, GraphText, GraphRule, StackBytes, Limit, ReadFault, ShelfFault, OutFault}
+use Rattle.replay_top.specs.declared.status.Status.TheVariants.{OutOfMemory}
 use Rattle.graph_files.specs.Interrupted.{AreInterrupted}
-use Rattle.replay_top.specs.Limits.{IsGraphRefused, IsStackRefused}
 use Rattle.graph_files.specs.OutFiles.{OutFile}
 use Rattle.replay_top.specs.Printed.{IsCutShort}
-use Rattle.replay_top.specs.Sources.{most_graph_bytes, most_stack_bytes, IsStackRead}
 
 -- the status of a file that wasn't read, as a graph and as a stack
 abbrev pub graph_read_status : ReadRefusal → Status
@@ -49,28 +47,18 @@ abbrev pub save_fault_status : SaveFault → Status
 save_fault_status saving.Failed = ShelfFault
 save_fault_status saving.OutOfMemory = OutOfMemory
 
--- reading the graph
-abbrev pub GraphStops : Status → Option Files → (name : List ℕ) → (before now : ℕ) → Type 0
-GraphStops GraphText told name before now = IsGraphRefused GraphText told name × (now ≡ before)
-GraphStops (GraphRule fault) told name before now =
-    (fault ≢ rule.OutOfMemory) × (fault ≢ rule.Text) × IsGraphRefused (GraphRule fault) told name × (now ≡ before)
-GraphStops (Limit (GraphBytes bytes)) told name before now = (most_graph_bytes < bytes) × IsGraphRefused (Limit (GraphBytes bytes)) told name × (now ≡ before)
-GraphStops ReadFault told name before now = Rose before now
-GraphStops OutOfMemory told name before now = now ≡ before
-GraphStops _ told name before now = ⊥
-
--- reading the stack
-abbrev pub StackStops : Status → Option Files → (name : List ℕ) → (before now : ℕ) → Type 0
-StackStops (StackBytes fault) told name before now = (fault ≢ refusal.OutOfMemory) × IsStackRefused (StackBytes fault) told name × (now ≡ before)
-StackStops (Limit (StackFile bytes)) told name before now = (most_stack_bytes < bytes) × IsStackRefused (Limit (StackFile bytes)) told name × (now ≡ before)
-StackStops ReadFault told name before now = Rose before now
-StackStops OutOfMemory told name before now = now ≡ before
-StackStops _ told name before now = ⊥
-
--- a stack that was read, and so can be written
-pub record IsLoaded (told : Option Files) (name : List ℕ) (s : StackValue) : Type 0 where
-  pub source : IsStackRead told name s
-  pub kept : IsKeptStack s
+-- Why files weren't read, where `Refuses` says which statuses they are refused with: then no count rose; a fault of the library; or want of memory.
+abbrev pub ReadStops : (Refuses : Status → Type 0) → Status → (before now : ℕ) → Type 0
+ReadStops Refuses GraphText before now = Refuses GraphText × (now ≡ before)
+ReadStops Refuses (GraphRule fault) before now = Refuses (GraphRule fault) × (now ≡ before)
+ReadStops Refuses (StackBytes fault) before now = Refuses (StackBytes fault) × (now ≡ before)
+ReadStops Refuses (Limit fault) before now = Refuses (Limit fault) × (now ≡ before)
+ReadStops Refuses ReadFault before now = Rose before now
+ReadStops Refuses OutOfMemory before now = now ≡ before
+ReadStops Refuses Done before now = ⊥
+ReadStops Refuses Usage before now = ⊥
+ReadStops Refuses ShelfFault before now = ⊥
+ReadStops Refuses OutFault before now = ⊥
 
 -- making the plan, and testing its limits
 abbrev pub PlanStops : Status → Graph → StackValue → Type 0

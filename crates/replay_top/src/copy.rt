@@ -60,8 +60,14 @@ pub(crate) fn copy<L: Library, K: Shelf, T: Sink>(
     shelf: &mut K,
     out: &mut T,
 ) -> Result<(), Status>
-    ensures ends { Ends (status_of result) (Some (Copy name.now prefix.now)) (L.holds library.old) (K.held shelf.old) (K.held shelf.new) (T.written out.old)
-        (T.written out.new) }
+    ensures ends { Ends (status_of result) (Some (Copy name.now prefix.now))
+        (record {
+          library = L.holds library.old;
+          shelf_before = K.held shelf.old;
+          shelf_after = K.held shelf.new;
+          sink_before = T.written out.old;
+          sink_after = T.written out.new;
+        }) }
     ensures cause { IsCause (status_of result) (record { library = L.faults library.old; shelf = K.faults shelf.old; sink = T.faults out.old })
         (record { library = L.faults library.new; shelf = K.faults shelf.new; sink = T.faults out.new }) }
     ensures library { L.holds library.new ≡ L.holds library.old }

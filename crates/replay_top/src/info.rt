@@ -135,8 +135,14 @@ pub(crate) fn info<L: Library, T: Sink>(
     library: &mut L,
     out: &mut T,
 ) -> Result<(), Status>
-    ensures ends { (held : Option Files) → Ends (status_of result) (Some (Info name.now)) (L.holds library.old) held held
-        (T.written out.old) (T.written out.new) }
+    ensures ends { (held : Option Files) → Ends (status_of result) (Some (Info name.now))
+        (record {
+          library = L.holds library.old;
+          shelf_before = held;
+          shelf_after = held;
+          sink_before = T.written out.old;
+          sink_after = T.written out.new;
+        }) }
     ensures cause { (shelf : ℕ) → IsCause (status_of result) (record { library = L.faults library.old; shelf = shelf; sink = T.faults out.old })
         (record { library = L.faults library.new; shelf = shelf; sink = T.faults out.new }) }
     ensures library { L.holds library.new ≡ L.holds library.old }

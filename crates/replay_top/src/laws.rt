@@ -4,6 +4,8 @@ ghost use Rattle.replay_top.specs.Copy.{CopiesAreOneFile, CopiesHaveOneLimit};
 ghost use Rattle.replay_top.specs.FileNames.{CommandsHaveOwnNames, GroupsHaveOwnNames, RowsHaveOwnNames, GroupsAreNoTexts, OnlyLogsMeetTheLog};
 ghost use Rattle.replay_top.specs.PlainRuns.{DriverPassesOnAll, NodesPassOnTheirInputs, ResultsAreOfTheInputs, ResultsAreOfThePassed};
 ghost use Rattle.replay_top.specs.SmoothRuns.{SmoothFilesArePlain};
+ghost use Rattle.replay_top.specs.WorkLaws.{SourcesAreRead, PlainIsOfItsSources, CopyIsOfItsStack, InfoIsOfItsStack, LoadsAreNoSizes};
+ghost use Rattle.replay_top.specs.WorkLaws.{RunsAreRefusedAsPlain, RunsAskAsPlain};
 
 use run_laws::smooth_runs_are_plain;
 
@@ -39,3 +41,19 @@ pub fn smooth_runs_are_plain_files()
 {
     smooth_runs_are_plain();
 }
+
+/// Where the files of a command lead to its work, it is that of a graph and a stack that were read, and pass no limit. A limit that a graph passes over a
+/// stack is none of the sizes of their files.
+pub fn works_are_of_what_was_read()
+    ensures sources { SourcesAreRead }
+    ensures plain { PlainIsOfItsSources }
+    ensures copy { CopyIsOfItsStack }
+    ensures info { InfoIsOfItsStack }
+    ensures limits { LoadsAreNoSizes }
+{}
+
+/// A run is refused as the plain run of the same words is, and its files ask for the same status.
+pub fn runs_are_refused_as_plain()
+    ensures refusals { RunsAreRefusedAsPlain }
+    ensures asked { RunsAskAsPlain }
+{}

@@ -22,7 +22,8 @@ mod words;
 pub use exit::Exit;
 pub use graph_conf::LimitFault;
 pub use laws::{
-    copies_are_one_file, files_have_own_names, plain_runs_go_by_inputs, smooth_runs_are_plain_files,
+    copies_are_one_file, files_have_own_names, plain_runs_go_by_inputs, runs_are_refused_as_plain,
+    smooth_runs_are_plain_files, works_are_of_what_was_read,
 };
 pub use run::run_top;
 pub use status::{Status, status_text};

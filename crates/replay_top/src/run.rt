@@ -1,19 +1,18 @@
 //! `run GRAPH STACK PREFIX` and `run-log GRAPH STACK PREFIX`: runs a graph over a stack with its threads.
 
-ghost use Rattle.std.specs.Prelude.{◌≡◌, ◌↔◌, ◌++◌, map, length, None, Some, IsSome, IfOk, OnOk, IfErr, string_bytes};
+ghost use Rattle.std.specs.Prelude.{◌≡◌, ◌⊎◌, ◌↔◌, ◌++◌, map, length, None, Some, Err, IsSome, IfOk, OnOk, IfErr, string_bytes};
 ghost use Rattle.edge_traits.specs.Written.{with_written};
 ghost use Rattle.nd_base.specs.GraphRules.{IsGraph};
-ghost use Rattle.nd_stack.specs.declared.fault.StackFault.{StackFault};
-ghost use Rattle.graph_conf.specs.declared.fault.GraphFault.{GraphFault};
-ghost use Rattle.graph_conf.specs.declared.load.LimitFault.{LimitFault};
 ghost use Rattle.run_report.specs.Report.{report};
 ghost use Rattle.run_report.specs.Text.{report_text};
 ghost use Rattle.graph_files.specs.OutFiles.{with_files};
-ghost use Rattle.replay_top.specs.Answers.{status_of, HasNoText, HasGraphFault, HasStackFault, HasLimitFault, IsRefused};
+ghost use Rattle.replay_top.specs.Answers.{status_of, IsRefusal};
 ghost use Rattle.replay_top.specs.Claims.{Completes};
 ghost use Rattle.replay_top.specs.RunAnswers.{RunEnds, IsRunCause, OfLog, HasFinished, IsRunDone, IsRunTorn, IsRunCutShort};
 ghost use Rattle.replay_top.specs.MeasuredFiles.{measured_files};
-ghost use Rattle.replay_top.specs.RunCommand.{run_command_of, plain_run_of};
+ghost use Rattle.replay_top.specs.Outcomes.{Leads};
+ghost use Rattle.replay_top.specs.RunCommand.{run_command_of};
+ghost use Rattle.replay_top.specs.RunSources.{sources_of};
 ghost use Rattle.replay_top.specs.LogFiles.{log_files};
 ghost use Rattle.replay_top.specs.RunWords.{run_told};
 ghost use Rattle.replay_top.specs.RunStages.{LaterStops, RestEnds, RestCause};
@@ -129,13 +128,15 @@ fn run_words<
 ) -> Exit
     ensures ends { RunEnds result.status result.log (Some (run_told words.entry))
         (record {
-          told = L.holds library.old;
+          objects = record {
+            library = L.holds library.old;
+            shelf_before = K.held shelf.old;
+            shelf_after = K.held shelf.new;
+            sink_before = T.written out.old;
+            sink_after = T.written out.new;
+          };
           coming = C.coming clock.old;
           later = C.coming clock.new;
-          held = K.held shelf.old;
-          now = K.held shelf.new;
-          written = T.written out.old;
-          out = T.written out.new;
         }) }
     ensures cause { IsRunCause result.status (record { library = L.faults library.old; shelf = K.faults shelf.old; sink = T.faults out.old })
         (record { library = L.faults library.new; shelf = K.faults shelf.new; sink = T.faults out.new }) }
@@ -185,55 +186,56 @@ pub fn run_top<
     ensures logged { HasFinished result.status ↔ IsSome result.log }
     ensures done { result.status ≡ Status.Done → OfLog (IsRunDone
         (record {
-          told = L.holds library.old;
+          objects = record {
+            library = L.holds library.old;
+            shelf_before = K.held shelf.old;
+            shelf_after = K.held shelf.new;
+            sink_before = T.written out.old;
+            sink_after = T.written out.new;
+          };
           coming = C.coming clock.old;
           later = C.coming clock.new;
-          held = K.held shelf.old;
-          now = K.held shelf.new;
-          written = T.written out.old;
-          out = T.written out.new;
         }))
         (run_command_of (map string_bytes words.now)) result.log }
     ensures shelf_fault { result.status ≡ Status.ShelfFault → OfLog (IsRunTorn
         (record {
-          told = L.holds library.old;
+          objects = record {
+            library = L.holds library.old;
+            shelf_before = K.held shelf.old;
+            shelf_after = K.held shelf.new;
+            sink_before = T.written out.old;
+            sink_after = T.written out.new;
+          };
           coming = C.coming clock.old;
           later = C.coming clock.new;
-          held = K.held shelf.old;
-          now = K.held shelf.new;
-          written = T.written out.old;
-          out = T.written out.new;
         }))
         (run_command_of (map string_bytes words.now)) result.log }
     ensures out_fault { result.status ≡ Status.OutFault → OfLog (IsRunCutShort
         (record {
-          told = L.holds library.old;
+          objects = record {
+            library = L.holds library.old;
+            shelf_before = K.held shelf.old;
+            shelf_after = K.held shelf.new;
+            sink_before = T.written out.old;
+            sink_after = T.written out.new;
+          };
           coming = C.coming clock.old;
           later = C.coming clock.new;
-          held = K.held shelf.old;
-          now = K.held shelf.new;
-          written = T.written out.old;
-          out = T.written out.new;
         }))
         (run_command_of (map string_bytes words.now)) result.log }
 
-    // Refusals: exactly where the words are no run; and else those of the plain run of the same words.
+    // Refusals: exactly where the words are no run; and where the files that were read, the graph first, lead to it.
     ensures usage { (result.status ≡ Status.Usage) ↔ (run_command_of (map string_bytes words.now) ≡ None) }
-    ensures no_text { result.status ≡ Status.GraphText → HasNoText (plain_run_of (run_command_of (map string_bytes words.now))) (L.holds library.old) }
-    ensures graph { (fault : GraphFault) → result.status ≡ Status.GraphRule fault
-        → HasGraphFault (plain_run_of (run_command_of (map string_bytes words.now))) (L.holds library.old) fault }
-    ensures refused { (fault : StackFault) → result.status ≡ Status.StackBytes fault
-        → HasStackFault (plain_run_of (run_command_of (map string_bytes words.now))) (L.holds library.old) fault }
-    ensures limit { (fault : LimitFault) → result.status ≡ Status.Limit fault
-        → HasLimitFault (plain_run_of (run_command_of (map string_bytes words.now))) (L.holds library.old) fault }
-    ensures untouched { IsRefused result.status → (K.held shelf.new ≡ K.held shelf.old) × (T.written out.new ≡ T.written out.old) }
+    ensures refused { IsRefusal result.status → Leads (L.holds library.old) (sources_of (run_command_of (map string_bytes words.now))) (Err result.status) }
+    ensures untouched { IsRefusal result.status ⊎ (result.status ≡ Status.ReadFault)
+        → (K.held shelf.new ≡ K.held shelf.old) × (T.written out.new ≡ T.written out.old) }
     ensures memory { result.status ≡ Status.OutOfMemory → T.written out.new ≡ T.written out.old }
     ensures library { L.holds library.new ≡ L.holds library.old }
 
     // Faults come only where their object's count rose; where none rose, the files that were read decide.
     ensures cause { IsRunCause result.status (record { library = L.faults library.old; shelf = K.faults shelf.old; sink = T.faults out.old })
         (record { library = L.faults library.new; shelf = K.faults shelf.new; sink = T.faults out.new }) }
-    ensures complete { Completes result.status (plain_run_of (run_command_of (map string_bytes words.now))) (L.holds library.old)
+    ensures complete { Completes (sources_of (run_command_of (map string_bytes words.now))) result.status (L.holds library.old)
         (record { library = L.faults library.old; shelf = K.faults shelf.old; sink = T.faults out.old })
         (record { library = L.faults library.new; shelf = K.faults shelf.new; sink = T.faults out.new }) }
 {

@@ -1,8 +1,11 @@
 //! Reading what a run goes over.
 
-ghost use Rattle.std.specs.Prelude.{◌≡◌, OnOk, IfOk, IfErr};
+ghost use Rattle.std.specs.Prelude.{◌≡◌, Err, OnOk, IfOk, IfErr};
 ghost use Rattle.chain_plain.specs.Plans.{plan_of};
-ghost use Rattle.replay_top.specs.RunSources.{IsSourceRead, SourceStops};
+ghost use Rattle.replay_top.specs.Outcomes.{Leads};
+ghost use Rattle.replay_top.specs.RunSources.{IsSourceRead};
+ghost use Rattle.replay_top.specs.Stages.{ReadStops};
+ghost use Rattle.replay_top.specs.Works.{sources};
 
 use crate::plain::plan_within;
 use crate::sources::{load_graph, load_stack};
@@ -18,11 +21,12 @@ pub(crate) fn load_run<L: Library>(
     graph: &str,
     name: &str,
 ) -> Result<(Plan, Stack), Status>
-    ensures read { IfOk result (λ r. IsSourceRead (L.holds library.old) graph.now name.now r.0.graph r.1) }
+    ensures read { IfOk result (λ r. IsSourceRead (L.holds library.old) graph.now name.now (record { graph = r.0.graph; stack = r.1 })) }
     ensures plan { IfOk result (λ r. r.0 ≡ plan_of r.0.graph r.1) }
     ensures stays { OnOk result (L.faults library.new ≡ L.faults library.old) }
     ensures files { L.holds library.new ≡ L.holds library.old }
-    ensures err { IfErr result (λ s. SourceStops s (L.holds library.old) graph.now name.now (L.faults library.old) (L.faults library.new)) }
+    ensures err { IfErr result (λ s. ReadStops (λ status. Leads (L.holds library.old) (sources graph.now name.now) (Err status)) s
+        (L.faults library.old) (L.faults library.new)) }
 {
     let graph = load_graph(alloc, library, graph)?;
     let stack = load_stack(alloc, library, name)?;

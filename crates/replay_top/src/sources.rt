@@ -4,8 +4,8 @@ ghost use Rattle.std.specs.Prelude.{◌≡◌, OnOk, IfOk, IfErr};
 ghost use Rattle.nd_stack.specs.Answers.{Gives};
 ghost use Rattle.nd_stack.specs.KeptStacks.{IsKeptStack};
 ghost use Rattle.nd_stack.specs.StackRules.{stack_of};
-ghost use Rattle.replay_top.specs.Sources.{IsGraphRead};
-ghost use Rattle.replay_top.specs.Stages.{IsLoaded, GraphStops, StackStops, graph_read_status, stack_read_status};
+ghost use Rattle.replay_top.specs.Inputs.{AsGraph, AsStack, IsReadAs, IsRefusedAs};
+ghost use Rattle.replay_top.specs.Stages.{ReadStops, graph_read_status, stack_read_status};
 
 use crate::reading::{ReadRefusal, read_file};
 use crate::status::Status;
@@ -49,10 +49,10 @@ pub(crate) fn load_graph<L: Library>(
     library: &mut L,
     name: &str,
 ) -> Result<Graph, Status>
-    ensures ok { IfOk result (λ g. IsGraphRead (L.holds library.old) name.now g) }
+    ensures ok { IfOk result (λ g. IsReadAs (L.holds library.old) AsGraph name.now g) }
     ensures stays { OnOk result (L.faults library.new ≡ L.faults library.old) }
     ensures files { L.holds library.new ≡ L.holds library.old }
-    ensures err { IfErr result (λ s. GraphStops s (L.holds library.old) name.now (L.faults library.old) (L.faults library.new)) }
+    ensures err { IfErr result (λ s. ReadStops (IsRefusedAs (L.holds library.old) AsGraph name.now) s (L.faults library.old) (L.faults library.new)) }
 {
     let bytes = match read_file(alloc, library, name, GRAPH_LIMIT) {
         Ok(bytes) => bytes,
@@ -79,10 +79,11 @@ pub(crate) fn load_stack<L: Library>(
     library: &mut L,
     name: &str,
 ) -> Result<Stack, Status>
-    ensures ok { IfOk result (λ stack. IsLoaded (L.holds library.old) name.now stack) }
+    ensures ok { IfOk result (λ stack. IsReadAs (L.holds library.old) AsStack name.now stack) }
+    ensures kept { IfOk result IsKeptStack }
     ensures stays { OnOk result (L.faults library.new ≡ L.faults library.old) }
     ensures files { L.holds library.new ≡ L.holds library.old }
-    ensures err { IfErr result (λ s. StackStops s (L.holds library.old) name.now (L.faults library.old) (L.faults library.new)) }
+    ensures err { IfErr result (λ s. ReadStops (IsRefusedAs (L.holds library.old) AsStack name.now) s (L.faults library.old) (L.faults library.new)) }
 {
     let bytes = match read_file(alloc, library, name, STACK_LIMIT) {
         Ok(bytes) => bytes,

@@ -1,14 +1,12 @@
 //! The top call.
 
-ghost use Rattle.std.specs.Prelude.{◌≡◌, ◌↔◌, map, None, string_bytes};
-ghost use Rattle.nd_stack.specs.declared.fault.StackFault.{StackFault};
-ghost use Rattle.graph_conf.specs.declared.fault.GraphFault.{GraphFault};
-ghost use Rattle.graph_conf.specs.declared.load.LimitFault.{LimitFault};
-ghost use Rattle.replay_top.specs.Answers.{Ends, status_of, IsDone, HasNoText, HasGraphFault, HasStackFault, HasLimitFault, IsSaveBegun, IsSaveFailed};
-ghost use Rattle.replay_top.specs.Answers.{IsPrintCutShort, IsRefused};
+ghost use Rattle.std.specs.Prelude.{◌≡◌, ◌⊎◌, ◌↔◌, map, None, Err, string_bytes};
+ghost use Rattle.replay_top.specs.Answers.{Ends, status_of, IsRefusal, IsDone, IsWorkBegun, IsPrintCutShort};
 ghost use Rattle.replay_top.specs.Causes.{IsCause};
 ghost use Rattle.replay_top.specs.Claims.{Completes};
 ghost use Rattle.replay_top.specs.Command.{command_of};
+ghost use Rattle.replay_top.specs.Outcomes.{Leads};
+ghost use Rattle.replay_top.specs.Works.{outcome_of};
 
 use crate::copy::copy;
 use crate::info::info;
@@ -26,8 +24,14 @@ fn run_command<L: Library, K: Shelf, T: Sink>(
     shelf: &mut K,
     out: &mut T,
 ) -> Result<(), Status>
-    ensures ends { Ends (status_of result) (command_of (map string_bytes words.now)) (L.holds library.old) (K.held shelf.old) (K.held shelf.new)
-        (T.written out.old) (T.written out.new) }
+    ensures ends { Ends (status_of result) (command_of (map string_bytes words.now))
+        (record {
+          library = L.holds library.old;
+          shelf_before = K.held shelf.old;
+          shelf_after = K.held shelf.new;
+          sink_before = T.written out.old;
+          sink_after = T.written out.new;
+        }) }
     ensures cause { IsCause (status_of result) (record { library = L.faults library.old; shelf = K.faults shelf.old; sink = T.faults out.old })
         (record { library = L.faults library.new; shelf = K.faults shelf.new; sink = T.faults out.new }) }
     ensures library { L.holds library.new ≡ L.holds library.old }
@@ -58,36 +62,52 @@ pub fn tool_top<L: Library, K: Shelf, T: Sink>(
     out: &mut T,
 ) -> Status
     // Done: what the command is there for, and nothing else.
-    ensures done { result ≡ Status.Done →
-        IsDone (command_of (map string_bytes words.now)) (L.holds library.old) (K.held shelf.old) (K.held shelf.new) (T.written out.old) (T.written out.new) }
+    ensures done { result ≡ Status.Done → IsDone (outcome_of (command_of (map string_bytes words.now)))
+        (record {
+          library = L.holds library.old;
+          shelf_before = K.held shelf.old;
+          shelf_after = K.held shelf.new;
+          sink_before = T.written out.old;
+          sink_after = T.written out.new;
+        }) }
 
-    // Refusals: exactly where the words are no command; where the graph's bytes are no TOML, or the graph or the stack has
-    // that fault; where a number passes its limit.
+    // Refusals: exactly where the words are no command; and where the files that were read, in the command's order, lead to it.
     ensures usage { (result ≡ Status.Usage) ↔ (command_of (map string_bytes words.now) ≡ None) }
-    ensures no_text { result ≡ Status.GraphText → HasNoText (command_of (map string_bytes words.now)) (L.holds library.old) }
-    ensures graph { (fault : GraphFault) → result ≡ Status.GraphRule fault
-        → HasGraphFault (command_of (map string_bytes words.now)) (L.holds library.old) fault }
-    ensures refused { (fault : StackFault) → result ≡ Status.StackBytes fault
-        → HasStackFault (command_of (map string_bytes words.now)) (L.holds library.old) fault }
-    ensures limit { (fault : LimitFault) → result ≡ Status.Limit fault → HasLimitFault (command_of (map string_bytes words.now)) (L.holds library.old) fault }
+    ensures refused { IsRefusal result → Leads (L.holds library.old) (outcome_of (command_of (map string_bytes words.now))) (Err result) }
 
     // What a status other than Done leaves. The files that are read stay, whatever the status.
     ensures library { L.holds library.new ≡ L.holds library.old }
-    ensures untouched { IsRefused result → (K.held shelf.new ≡ K.held shelf.old) × (T.written out.new ≡ T.written out.old) }
-    ensures shelf_fault { result ≡ Status.ShelfFault →
-        IsSaveFailed (command_of (map string_bytes words.now)) (L.holds library.old) (K.held shelf.old) (K.held shelf.new)
-        × (T.written out.new ≡ T.written out.old) }
-    ensures out_fault { result ≡ Status.OutFault →
-        IsPrintCutShort (command_of (map string_bytes words.now)) (L.holds library.old) (K.held shelf.old) (K.held shelf.new)
-        (T.written out.old) (T.written out.new) }
-    ensures memory { result ≡ Status.OutOfMemory →
-        IsSaveBegun (command_of (map string_bytes words.now)) (L.holds library.old) (K.held shelf.old) (K.held shelf.new)
-        × (T.written out.new ≡ T.written out.old) }
+    ensures untouched { IsRefusal result ⊎ (result ≡ Status.ReadFault) → (K.held shelf.new ≡ K.held shelf.old) × (T.written out.new ≡ T.written out.old) }
+    ensures shelf_fault { result ≡ Status.ShelfFault → IsWorkBegun (outcome_of (command_of (map string_bytes words.now)))
+        (record {
+          library = L.holds library.old;
+          shelf_before = K.held shelf.old;
+          shelf_after = K.held shelf.new;
+          sink_before = T.written out.old;
+          sink_after = T.written out.new;
+        }) }
+    ensures out_fault { result ≡ Status.OutFault → IsPrintCutShort (outcome_of (command_of (map string_bytes words.now)))
+        (record {
+          library = L.holds library.old;
+          shelf_before = K.held shelf.old;
+          shelf_after = K.held shelf.new;
+          sink_before = T.written out.old;
+          sink_after = T.written out.new;
+        }) }
+    ensures memory { result ≡ Status.OutOfMemory → (K.held shelf.new ≡ K.held shelf.old) × (T.written out.new ≡ T.written out.old)
+        ⊎ IsWorkBegun (outcome_of (command_of (map string_bytes words.now)))
+        (record {
+          library = L.holds library.old;
+          shelf_before = K.held shelf.old;
+          shelf_after = K.held shelf.new;
+          sink_before = T.written out.old;
+          sink_after = T.written out.new;
+        }) }
 
     // Faults come only where their object's count rose; where none rose, the files that were read decide.
     ensures cause { IsCause result (record { library = L.faults library.old; shelf = K.faults shelf.old; sink = T.faults out.old })
         (record { library = L.faults library.new; shelf = K.faults shelf.new; sink = T.faults out.new }) }
-    ensures complete { Completes result (command_of (map string_bytes words.now)) (L.holds library.old)
+    ensures complete { Completes (outcome_of (command_of (map string_bytes words.now))) result (L.holds library.old)
         (record { library = L.faults library.old; shelf = K.faults shelf.old; sink = T.faults out.old })
         (record { library = L.faults library.new; shelf = K.faults shelf.new; sink = T.faults out.new }) }
 {

@@ -1,12 +1,23 @@
 use Rattle.std.proofs.Common.{◌≡◌, ◌∙◌, refl}
+use Rattle.std.proofs.lemmas.List.Elements.{All-nil}
+use Rattle.std.proofs.lemmas.Result.{err_from_is_err_and}
 use Rattle.replay_top.specs.Command.{Info}
-use Rattle.replay_top.specs.Copy.{copy_graph}
 use Rattle.replay_top.specs.Info.{info_text}
-use Rattle.replay_top.proofs.Stops.{Ends-printed}
+use Rattle.replay_top.specs.Works.{IsBack, info_work}
+use Rattle.replay_top.proofs.Leads.{info_unread, info_read}
+use Rattle.replay_top.proofs.Stops.{Ends-unread, Ends-printed}
 use Rattle.replay_top.proofs.info.info.Goals as goal
+
+pub returns-in_err-stack-clause-ends : goal.returns-in_err-stack-clause-ends
+returns-in_err-stack-clause-ends g c held =
+    let p = err_from_is_err_and c.from_residual.result c.from_residual.ensures.1 in
+    let name = c.args.name.now in
+    rw (p.1, p.2) (Ends-unread (Info name) _ _ _ _ (info_unread _ name _ _ _ c.in_err-stack.ensures.err) (refl, refl))
 
 pub returns-clause-ends : goal.returns-clause-ends
 returns-clause-ends g c held =
-    let text : c.as_str.result.now ≡ info_text c.in_ok-stack.stack = c.as_str.ensures.value ∙ c.in_ok-text.ensures in
-    Ends-printed c.print.result (Info c.args.name.now) (record { graph = copy_graph; stack = c.in_ok-stack.stack }) _ held held _ _ _ _
-    c.in_ok-stack.ensures.ok.source refl refl tt (rw text at c.print.ensures.ok) (rw text at c.print.ensures.err)
+    let name = c.args.name.now in
+    let stack = c.in_ok-stack.stack in
+    let text : c.as_str.result.now ≡ info_text stack = c.as_str.ensures.value ∙ c.in_ok-text.ensures in
+    Ends-printed (Info name) _ (info_work stack) (info_read _ name stack c.in_ok-stack.ensures.ok) refl c.print.result _ _ (All-nil IsBack)
+    (rw text at c.print.ensures.ok) (rw text at c.print.ensures.err)

@@ -1,10 +1,18 @@
-use Rattle.std.proofs.Common.{Some}
 use Rattle.replay_top.specs.RunWords.{run_told}
-use Rattle.replay_top.proofs.RunClaims.{answered_run}
+use Rattle.replay_top.proofs.RunClaims.{RunEnds-refused, RunEnds-untouched, answered_run}
 use Rattle.replay_top.proofs.run.run_top.Goals as goal
 
+pub returns-in-Some-clause-refused : goal.returns-in-Some-clause-refused
+returns-in-Some-clause-refused g c =
+    rw c.in-Some.ensures
+    (RunEnds-refused c.run_words.result.log (run_told c.in-Some.words) _ c.run_words.result.status c.run_words.ensures.ends)
+
+pub returns-in-Some-clause-untouched : goal.returns-in-Some-clause-untouched
+returns-in-Some-clause-untouched g c =
+    RunEnds-untouched c.run_words.result.log (run_told c.in-Some.words) _ c.run_words.result.status c.run_words.ensures.ends
+
 pub returns-in-Some-clause-complete : goal.returns-in-Some-clause-complete
-returns-in-Some-clause-complete g c some none =
+returns-in-Some-clause-complete g c =
     rw c.in-Some.ensures
     (answered_run c.run_words.result.status c.run_words.result.log
-    (Some (run_told c.in-Some.words)) _ _ _ c.run_words.ensures.ends c.run_words.ensures.cause (λ e. cc) none)
+    (run_told c.in-Some.words) _ _ _ c.run_words.ensures.ends c.run_words.ensures.cause)

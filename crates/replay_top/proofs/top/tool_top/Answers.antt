@@ -1,13 +1,19 @@
 use Rattle.std.proofs.Common.{sym, ◌∙◌}
-use Rattle.replay_top.proofs.Claims.{Ends-none, answered}
+use Rattle.replay_top.proofs.Claims.{Ends-none, Ends-refused, Ends-untouched, answered}
 use Rattle.replay_top.proofs.top.tool_top.Goals as goal
 
 pub returns-clause-usage : goal.returns-clause-usage
 returns-clause-usage g c =
     let ends = c.run_command.ensures.ends in (
       (λ usage. (rw (sym c.status_of.ensures ∙ usage) at ends).0),
-      (λ none. c.status_of.ensures ∙ Ends-none _ _ _ _ _ _ (rw none at ends)),
+      (λ none. c.status_of.ensures ∙ Ends-none _ _ (rw none at ends)),
     )
 
+pub returns-clause-refused : goal.returns-clause-refused
+returns-clause-refused g c = rw c.status_of.ensures (Ends-refused _ _ _ c.run_command.ensures.ends)
+
+pub returns-clause-untouched : goal.returns-clause-untouched
+returns-clause-untouched g c = rw c.status_of.ensures (Ends-untouched _ _ _ c.run_command.ensures.ends)
+
 pub returns-clause-complete : goal.returns-clause-complete
-returns-clause-complete g c some none = rw c.status_of.ensures (answered _ _ _ _ _ _ _ _ _ c.run_command.ensures.ends c.run_command.ensures.cause some none)
+returns-clause-complete g c = rw c.status_of.ensures (answered _ _ _ _ _ c.run_command.ensures.ends c.run_command.ensures.cause)
