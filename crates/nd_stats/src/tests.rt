@@ -252,9 +252,13 @@ fn rows_agree(alloc: Global, rule: &StatsRule, array: &NdArray) -> Result<bool, 
     Ok(row.as_str() == plain.as_str())
 }
 
-/// Sizes with lines of less and of more than sixteen samples, of a block of 128 and more, and of one.
-const SIZES: [&'static [u32]; 7] = [
+/// Sizes with lines of less and of more than four samples, of a block of 128 and more, and of one, with planes, and with a block that
+/// ends within a line.
+const SIZES: [&'static [u32]; 10] = [
     &[1, 40],
+    &[3, 7],
+    &[4, 3, 2],
+    &[130, 70],
     &[15, 3],
     &[16, 3],
     &[37, 5, 3],
@@ -263,14 +267,24 @@ const SIZES: [&'static [u32]; 7] = [
     &[17, 1, 2, 2],
 ];
 
-/// With bins that are listed for these arrays, and with none at a border.
+/// With bins that are listed for the larger of these arrays, bin by bin; those of the first rule are listed value by value.
 const NARROW: StatsRule = StatsRule {
     threshold: -3,
     border: 2,
     hist_size: 5,
-    hist_lo: -7,
-    hist_hi: 9,
+    hist_lo: -70,
+    hist_hi: 90,
     profiles: true,
+};
+
+/// With bins that are never listed.
+const WIDE: StatsRule = StatsRule {
+    threshold: 100,
+    border: 3,
+    hist_size: 1024,
+    hist_lo: -2_147_483_648,
+    hist_hi: 4_294_967_295,
+    profiles: false,
 };
 
 #[test]
@@ -292,6 +306,7 @@ fn passes_over_lines_give_what_the_plain_program_does(rt: HostRuntime) -> Result
             assert!(rt; rows_agree(alloc, &WHOLE, &array)?, "{kind:?}");
             assert!(rt; rows_agree(alloc, &PLAIN, &array)?, "{kind:?}");
             assert!(rt; rows_agree(alloc, &NARROW, &array)?, "{kind:?}");
+            assert!(rt; rows_agree(alloc, &WIDE, &array)?, "{kind:?}");
         }
     }
     Ok(())

@@ -134,7 +134,13 @@ returns c =
     let bytes = c.args.samples.now in
     let first : Sample = record { place = c.args.from; value = number kind (take (width kind) bytes) } in
     let basics : Basics =
-    record { extremes = c.loop-done.extremes; total = to_z w64 c.loop-done.total-bits; squares = c.loop-done.squares; edge = c.loop-done.edge; moments = c.loop-done.moments } in
+    record {
+      extremes = c.loop-done.extremes;
+      total = to_z w64 c.loop-done.total-bits;
+      squares = c.loop-done.squares;
+      edge = c.loop-done.edge;
+      moments = c.loop-done.moments;
+    } in
     let count : length bytes / c.width.result ≡ length bytes / width kind = ap (λ w. length bytes / w) c.width.ensures in
     let all : c.loop-done.done ≡ length bytes / width kind = omega (arith, count, c.loop-done.invariant.done, c.loop-done-test.false) in
     let is : AreBasics rule dims first (placed c.args.from (numbers kind c.loop-done.done bytes)) basics = record {

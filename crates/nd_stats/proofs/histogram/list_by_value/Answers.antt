@@ -29,5 +29,6 @@ loop-preserved c =
           ∙ ap (λ k. let r = unsigned_abs (rule.hist_hi -ℤ rule.hist_lo) in (2 * k * last + r) / (2 * r)) (sym c.loop.invariant.count ∙ c.loop.bins.ok.0)));
       value = value;
       rest = c.next_mark-mark.ensures.rest;
-      small = mark_small next.bin next.rest (n + 1) last parts value (omega arith) (omega (arith, c.loop.invariant.rest)) (omega (arith, c.requires.rule.hist_size));
+      small = mark_small next.bin next.rest (n + 1) last parts value (omega arith) (omega (arith, c.loop.invariant.rest))
+          (omega (arith, c.requires.rule.hist_size));
     }

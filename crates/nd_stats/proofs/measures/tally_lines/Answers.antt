@@ -24,7 +24,8 @@ returns-then-rule c =
     let blank = λ (d : ℕ). length-table (λ k. value_where (has_index dims d k) []) 0 (size_in dims d) in
     record {
       extremes = c.basics_of-total.ensures.extremes;
-      sums = whole_sums rule dims kind c.args.from n bytes c.basics_of-total.result.edge _ c.basics_of-total.ensures.edge count (to_z-of_z w64 c.basics_of-total.result.total ft
+      sums = whole_sums rule dims kind c.args.from n bytes c.basics_of-total.result.edge _ c.basics_of-total.ensures.edge count
+          (to_z-of_z w64 c.basics_of-total.result.total ft
           ∙ c.basics_of-total.ensures.total) c.basics_of-total.ensures.squares (to_z-of_z w64 c.basics_of-total.result.edge.sum fe) refl;
       moments = c.basics_of-total.ensures.moments;
       histogram = c.histogram_of.ensures;
@@ -49,7 +50,8 @@ returns-else-rule c =
     let count : length bytes / c.width.result ≡ n = ap (λ w. length bytes / w) c.width.ensures in
     record {
       extremes = c.basics_of-total.ensures.extremes;
-      sums = whole_sums rule dims kind c.args.from n bytes c.basics_of-total.result.edge _ c.basics_of-total.ensures.edge count (to_z-of_z w64 c.basics_of-total.result.total ft
+      sums = whole_sums rule dims kind c.args.from n bytes c.basics_of-total.result.edge _ c.basics_of-total.ensures.edge count
+          (to_z-of_z w64 c.basics_of-total.result.total ft
           ∙ c.basics_of-total.ensures.total) c.basics_of-total.ensures.squares (to_z-of_z w64 c.basics_of-total.result.edge.sum fe) refl;
       moments = c.basics_of-total.ensures.moments;
       histogram = c.histogram_of.ensures;

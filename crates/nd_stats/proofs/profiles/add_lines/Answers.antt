@@ -51,7 +51,8 @@ overflow_add-rows c =
     (omega (arith, count, c.requires.within, c.requires.frame.few)) c.loop-done.invariant.rows in
     let a = get_or c.loop-done.rows y (pos 0) in
     let v = c.add_line-row.result in
-    let ha : HasRoom a = rooms.0 y (omega (arith, rooms.1, index_below c.args.dims.now 1 c.loop-done.spot.place c.requires.frame.sizes, c.loop-done.invariant.spot.y)) in
+    let ha : HasRoom a =
+    rooms.0 y (omega (arith, rooms.1, index_below c.args.dims.now 1 c.loop-done.spot.place c.requires.frame.sizes, c.loop-done.invariant.spot.y)) in
     let hv : HasRoom v =
     part_room kind (c.loop-done.done * width kind) c.on_line-size.result bytes v c.type_inv.samples (omega (arith, c.on_line-size.ensures.few))
     c.add_line-row.ensures.sum in
