@@ -92,7 +92,7 @@ module _ (x : NodeFile) (of : Option ℕ) (g p : ℕ) (small : g < 2 ^ 64) (a : 
     changed =
         changed-then t v u (name_of x g) (Wrote (header x.shape (first_count x.late of)) made) (subst (λ (k : Stream). IsChangedAt v k.name u) this changed);
     written = λ arrays place h.
-      none-goes x (record x { current = o }) g p small (λ shape. a) t u refl arrays place h none_ (first_count x.late of) f this v made
+        none-goes x (record x { current = o }) g p small (λ shape. a) t u refl arrays place h none_ (first_count x.late of) f this v made
         has changed x.count refl given;
     ended = λ last. ended-by (ltb (p + 1) x.count) f ([] ++ a ∷ []) o u (p + 1) x.count refl last (given [] has);
   }
