@@ -5,7 +5,8 @@ use Rattle.std.proofs.lemmas.Int.{ints, int_min_is, int_max_is}
 use Rattle.std.proofs.Math.Nat.{zero-mul}
 use Rattle.nd_base.specs.declared.array.SampleType.{SampleType}
 use Rattle.nd_base.specs.Samples.{width, number, numbers}
-use Rattle.lane_kernels.specs.Plain.{least, greatest, least_with, greatest_with, stored}
+use Rattle.lane_kernels.specs.Plain.{min_max, least_with, greatest_with, stored}
+use Rattle.lane_kernels.specs.declared.extremes.MinMax.{MinMax}
 use Rattle.lane_kernels.proofs.Samples.{numbers-more}
 
 pub stored-first : (kind : SampleType) (bytes : List ℕ) → stored kind bytes 0 ≡ number kind (take (width kind) bytes)
@@ -38,14 +39,6 @@ pub least_again : (v : ℤ) (vs : List ℤ) → least_with v (v ∷ vs) ≡ leas
 least_again v [] = min_same v
 least_again v (w ∷ vs) = min_self v (least_with w vs)
 
--- a list begins with its first sample
-pub least_all : (kind : SampleType) (n : ℕ) (bytes : List ℕ) (v : ℤ) → 0 < n → v ≡ least_with (stored kind bytes 0) (numbers kind n bytes)
-    → Some v ≡ least (numbers kind n bytes)
-least_all kind zero bytes v h e = absurd (omega arith)
-least_all kind (suc n) bytes v h e =
-    let first = number kind (take (width kind) bytes) in
-    ap Some (e ∙ ap (λ f. least_with f (numbers kind (suc n) bytes)) (stored-first kind bytes) ∙ least_again first (numbers kind n (drop (width kind) bytes)))
-
 max_assoc : (a b c : ℤ) → int_max a (int_max b c) ≡ int_max (int_max a b) c
 max_assoc a b c = grind (arith, ints)
 
@@ -74,10 +67,13 @@ greatest_again v [] = max_same v
 greatest_again v (w ∷ vs) = max_self v (greatest_with w vs)
 
 -- a list begins with its first sample
-pub greatest_all : (kind : SampleType) (n : ℕ) (bytes : List ℕ) (v : ℤ) → 0 < n → v ≡ greatest_with (stored kind bytes 0) (numbers kind n bytes)
-    → Some v ≡ greatest (numbers kind n bytes)
-greatest_all kind zero bytes v h e = absurd (omega arith)
-greatest_all kind (suc n) bytes v h e =
+pub min_max_all : (kind : SampleType) (n : ℕ) (bytes : List ℕ) (ends : MinMax) → 0 < n
+    → ends.min ≡ least_with (stored kind bytes 0) (numbers kind n bytes) → ends.max ≡ greatest_with (stored kind bytes 0) (numbers kind n bytes)
+    → Some ends ≡ min_max (numbers kind n bytes)
+min_max_all kind zero bytes ends h e f = absurd (omega arith)
+min_max_all kind (suc n) bytes ends h e f =
     let first = number kind (take (width kind) bytes) in
-    ap Some (e ∙ ap (λ f. greatest_with f (numbers kind (suc n) bytes)) (stored-first kind bytes)
-    ∙ greatest_again first (numbers kind n (drop (width kind) bytes)))
+    let rest = numbers kind n (drop (width kind) bytes) in
+    let min = e ∙ ap (λ v. least_with v (numbers kind (suc n) bytes)) (stored-first kind bytes) ∙ least_again first rest in
+    let max = f ∙ ap (λ v. greatest_with v (numbers kind (suc n) bytes)) (stored-first kind bytes) ∙ greatest_again first rest in
+    ap (λ m. Some (record { min = m; max = ends.max })) min ∙ ap (λ m. Some (record { min = least_with first rest; max = m })) max

@@ -3,6 +3,7 @@ use Rattle.std.specs.Prelude.{ℕ, zero, suc, ◌+◌, ◌*◌, ℤ, pos, ◌+�
 use Rattle.std.specs.Int.{int_min, int_max}
 use Rattle.nd_base.specs.declared.array.SampleType.{SampleType}
 use Rattle.nd_base.specs.Samples.{width, number}
+use Rattle.lane_kernels.specs.declared.extremes.MinMax.{MinMax}
 
 -- the sample at a place
 abbrev pub stored : SampleType → List ℕ → ℕ → ℤ
@@ -28,15 +29,10 @@ abbrev pub greatest_with : ℤ → List ℤ → ℤ
 greatest_with v [] = v
 greatest_with v (w ∷ vs) = int_max v (greatest_with w vs)
 
--- the least value, where there is one
-abbrev pub least : List ℤ → Option ℤ
-least [] = None
-least (v ∷ vs) = Some (least_with v vs)
-
--- the greatest value, where there is one
-abbrev pub greatest : List ℤ → Option ℤ
-greatest [] = None
-greatest (v ∷ vs) = Some (greatest_with v vs)
+-- the least and the greatest value, where there is one
+abbrev pub min_max : List ℤ → Option MinMax
+min_max [] = None
+min_max (v ∷ vs) = Some (record { min = least_with v vs; max = greatest_with v vs })
 
 -- value 0 + value 1 + .. below n
 abbrev pub sum_below : ℕ → (ℕ → ℤ) → ℤ

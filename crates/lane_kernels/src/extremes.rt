@@ -2,7 +2,7 @@
 
 ghost use Rattle.std.specs.Prelude.{◌≡◌, ◌≢◌, ℕ, ◌+◌, ◌/◌, ◌<◌, ◌≤◌, ◌+ℤ◌, length, take, drop};
 ghost use Rattle.nd_base.specs.Samples.{width, number, samples_of};
-ghost use Rattle.lane_kernels.specs.Plain.{least, greatest, stored};
+ghost use Rattle.lane_kernels.specs.Plain.{min_max, stored};
 ghost use Rattle.lane_kernels.specs.Lanes.{offset, narrow_offset};
 
 use nd_base::{SampleType, number_at, pair_at, word_at};
@@ -61,94 +61,68 @@ fn from_narrow_lane(kind: SampleType, lane: i16) -> i64
     }
 }
 
-/// The least sample.
+/// The least and the greatest of some numbers.
+#[derive(Clone, Copy)]
+pub struct MinMax {
+    pub min: i64,
+    pub max: i64,
+}
+
+/// The least and the greatest sample.
 #[inline(always)]
-pub(crate) fn min(kind: SampleType, samples: &[u8]) -> Option<i64>
-    ensures { result ≡ least (samples_of kind samples.now) }
+pub(crate) fn min_max(kind: SampleType, samples: &[u8]) -> Option<MinMax>
+    ensures { result ≡ min_max (samples_of kind samples.now) }
 {
     if kind.width() <= 2 {
-        narrow_min(kind, samples)
+        narrow_min_max(kind, samples)
     } else {
-        wide_min(kind, samples)
+        wide_min_max(kind, samples)
     }
 }
 
-/// The least sample, of at most 16 bits.
+/// The least and the greatest sample, of at most 16 bits.
 #[inline(always)]
-fn narrow_min(kind: SampleType, samples: &[u8]) -> Option<i64>
+fn narrow_min_max(kind: SampleType, samples: &[u8]) -> Option<MinMax>
     requires { width kind ≤ 2 }
-    ensures { result ≡ least (samples_of kind samples.now) }
+    ensures { result ≡ min_max (samples_of kind samples.now) }
 {
     let width = kind.width();
     if samples.len() < width {
         return None;
     }
     let mut least = narrow_lane_at(kind, samples, 0);
+    let mut greatest = least;
     for k in 0..samples.len() / width {
-        least = least.min(narrow_lane_at(kind, samples, k * width));
+        let lane = narrow_lane_at(kind, samples, k * width);
+        least = least.min(lane);
+        greatest = greatest.max(lane);
     }
-    Some(from_narrow_lane(kind, least))
+    Some(MinMax {
+        min: from_narrow_lane(kind, least),
+        max: from_narrow_lane(kind, greatest),
+    })
 }
 
-/// The least sample, in lanes of 32 bits.
+/// The least and the greatest sample, in lanes of 32 bits.
 #[inline(always)]
-fn wide_min(kind: SampleType, samples: &[u8]) -> Option<i64>
-    ensures { result ≡ least (samples_of kind samples.now) }
+fn wide_min_max(kind: SampleType, samples: &[u8]) -> Option<MinMax>
+    ensures { result ≡ min_max (samples_of kind samples.now) }
 {
     let width = kind.width();
     if samples.len() < width {
         return None;
     }
     let mut least = lane_at(kind, samples, 0);
+    let mut greatest = least;
     for k in 0..samples.len() / width {
-        least = least.min(lane_at(kind, samples, k * width));
+        let lane = lane_at(kind, samples, k * width);
+        least = least.min(lane);
+        greatest = greatest.max(lane);
     }
-    Some(from_lane(kind, least))
-}
-
-/// The greatest sample.
-#[inline(always)]
-pub(crate) fn max(kind: SampleType, samples: &[u8]) -> Option<i64>
-    ensures { result ≡ greatest (samples_of kind samples.now) }
-{
-    if kind.width() <= 2 {
-        narrow_max(kind, samples)
-    } else {
-        wide_max(kind, samples)
-    }
-}
-
-/// The greatest sample, of at most 16 bits.
-#[inline(always)]
-fn narrow_max(kind: SampleType, samples: &[u8]) -> Option<i64>
-    requires { width kind ≤ 2 }
-    ensures { result ≡ greatest (samples_of kind samples.now) }
-{
-    let width = kind.width();
-    if samples.len() < width {
-        return None;
-    }
-    let mut greatest = narrow_lane_at(kind, samples, 0);
-    for k in 0..samples.len() / width {
-        greatest = greatest.max(narrow_lane_at(kind, samples, k * width));
-    }
-    Some(from_narrow_lane(kind, greatest))
-}
-
-/// The greatest sample, in lanes of 32 bits.
-#[inline(always)]
-fn wide_max(kind: SampleType, samples: &[u8]) -> Option<i64>
-    ensures { result ≡ greatest (samples_of kind samples.now) }
-{
-    let width = kind.width();
-    if samples.len() < width {
-        return None;
-    }
-    let mut greatest = lane_at(kind, samples, 0);
-    for k in 0..samples.len() / width {
-        greatest = greatest.max(lane_at(kind, samples, k * width));
-    }
-    Some(from_lane(kind, greatest))
+    Some(MinMax {
+        min: from_lane(kind, least),
+        max: from_lane(kind, greatest),
+    })
 }
 
 /// The place of the first sample with this value, and the number of samples where none has it.

@@ -5,7 +5,7 @@ ghost use Rattle.std.specs.Prelude.{◌≡◌, ◌≢◌, ℕ, ◌*◌, ◌/◌,
 ghost use Rattle.std.specs.Int.{w32, w64, int_wrap};
 ghost use Rattle.nd_base.specs.Samples.{width, samples_of};
 ghost use Rattle.nd_base.specs.Shapes.{most_samples};
-ghost use Rattle.lane_kernels.specs.Plain.{total, squares, least, greatest, stored, run};
+ghost use Rattle.lane_kernels.specs.Plain.{total, squares, min_max, stored, run};
 
 mod binned;
 mod extremes;
@@ -13,6 +13,7 @@ mod sample;
 mod sums;
 mod words;
 
+pub use extremes::MinMax;
 use nd_base::SampleType;
 pub use sample::{low_word, sample_at};
 
@@ -64,33 +65,18 @@ pub fn sums_bytes(kind: SampleType, samples: &[u8]) -> (i64, u128)
     }
 }
 
-/// The least sample; None where there is none.
+/// The least and the greatest sample; None where there is none.
 #[inline(never)]
-pub fn min_bytes(kind: SampleType, samples: &[u8]) -> Option<i64>
-    ensures { result ≡ least (samples_of kind samples.now) }
+pub fn min_max_bytes(kind: SampleType, samples: &[u8]) -> Option<MinMax>
+    ensures { result ≡ min_max (samples_of kind samples.now) }
 {
     match kind {
-        SampleType::Int8 => extremes::min(SampleType::Int8, samples),
-        SampleType::UInt8 => extremes::min(SampleType::UInt8, samples),
-        SampleType::Int16 => extremes::min(SampleType::Int16, samples),
-        SampleType::UInt16 => extremes::min(SampleType::UInt16, samples),
-        SampleType::Int32 => extremes::min(SampleType::Int32, samples),
-        SampleType::UInt32 => extremes::min(SampleType::UInt32, samples),
-    }
-}
-
-/// The greatest sample; None where there is none.
-#[inline(never)]
-pub fn max_bytes(kind: SampleType, samples: &[u8]) -> Option<i64>
-    ensures { result ≡ greatest (samples_of kind samples.now) }
-{
-    match kind {
-        SampleType::Int8 => extremes::max(SampleType::Int8, samples),
-        SampleType::UInt8 => extremes::max(SampleType::UInt8, samples),
-        SampleType::Int16 => extremes::max(SampleType::Int16, samples),
-        SampleType::UInt16 => extremes::max(SampleType::UInt16, samples),
-        SampleType::Int32 => extremes::max(SampleType::Int32, samples),
-        SampleType::UInt32 => extremes::max(SampleType::UInt32, samples),
+        SampleType::Int8 => extremes::min_max(SampleType::Int8, samples),
+        SampleType::UInt8 => extremes::min_max(SampleType::UInt8, samples),
+        SampleType::Int16 => extremes::min_max(SampleType::Int16, samples),
+        SampleType::UInt16 => extremes::min_max(SampleType::UInt16, samples),
+        SampleType::Int32 => extremes::min_max(SampleType::Int32, samples),
+        SampleType::UInt32 => extremes::min_max(SampleType::UInt32, samples),
     }
 }
 

@@ -9,7 +9,8 @@ use Rattle.std.proofs.lemmas.List.{drop-drop}
 use Rattle.nd_base.specs.declared.array.SampleType.{SampleType}
 use Rattle.nd_base.specs.Samples.{width, number, numbers}
 use Rattle.nd_base.specs.SampleLaws.{length-numbers}
-use Rattle.lane_kernels.specs.Plain.{stored, least_with, greatest_with, least as plain_least, greatest as plain_greatest}
+use Rattle.lane_kernels.specs.Plain.{stored, least_with, greatest_with, min_max}
+use Rattle.lane_kernels.specs.declared.extremes.MinMax.{MinMax}
 use Rattle.nd_stats.specs.declared.tally.Extremes.{Extremes}
 use Rattle.nd_stats.specs.Samples.{Sample, placed, least_from, greatest_from, least, greatest}
 use Rattle.nd_stats.specs.Running.{AreExtremes}
@@ -111,14 +112,14 @@ greatest_place p v (w ∷ vs) (suc i) is first =
     greatest_place (p + 1) w vs i (λ k. is (omega arith) ∙ same) (λ j k f. first (suc j) (omega arith) (f ∙ sym same)) ∙ e)
 
 -- the least of a block
-pub least_block : (kind : SampleType) (p n : ℕ) (bytes : List ℕ) (v : ℤ) → 0 < n → Some v ≡ plain_least (numbers kind n bytes)
-    → v ≡ (least (placed p (numbers kind n bytes))).value
-least_block kind p zero bytes v h e = absurd (omega arith)
-least_block kind p (suc n) bytes v h e =
+pub least_block : (kind : SampleType) (p n : ℕ) (bytes : List ℕ) (ends : MinMax) → 0 < n → Some ends ≡ min_max (numbers kind n bytes)
+    → ends.min ≡ (least (placed p (numbers kind n bytes))).value
+least_block kind p zero bytes ends h e = absurd (omega arith)
+least_block kind p (suc n) bytes ends h e =
     let first = number kind (take (width kind) bytes) in
     let vs = numbers kind n (drop (width kind) bytes) in
-    let same : v ≡ least_with first vs = cc in
-    same ∙ sym (least_value p first vs)
+    let same : ends ≡ record { min = least_with first vs; max = greatest_with first vs } = cc in
+    ap (λ m. m.min) same ∙ sym (least_value p first vs)
 
 -- and its place
 pub least_block_place : (kind : SampleType) (p n i : ℕ) (bytes : List ℕ) (v : ℤ) → 0 < n → v ≡ (least (placed p (numbers kind n bytes))).value
@@ -132,14 +133,14 @@ least_block_place kind p (suc n) i bytes v h e here first within =
     (λ j k f. first j k (sym (get_or-numbers kind (suc n) j bytes (omega arith)) ∙ f ∙ sym e)))
 
 -- the greatest of a block
-pub greatest_block : (kind : SampleType) (p n : ℕ) (bytes : List ℕ) (v : ℤ) → 0 < n → Some v ≡ plain_greatest (numbers kind n bytes)
-    → v ≡ (greatest (placed p (numbers kind n bytes))).value
-greatest_block kind p zero bytes v h e = absurd (omega arith)
-greatest_block kind p (suc n) bytes v h e =
+pub greatest_block : (kind : SampleType) (p n : ℕ) (bytes : List ℕ) (ends : MinMax) → 0 < n → Some ends ≡ min_max (numbers kind n bytes)
+    → ends.max ≡ (greatest (placed p (numbers kind n bytes))).value
+greatest_block kind p zero bytes ends h e = absurd (omega arith)
+greatest_block kind p (suc n) bytes ends h e =
     let first = number kind (take (width kind) bytes) in
     let vs = numbers kind n (drop (width kind) bytes) in
-    let same : v ≡ greatest_with first vs = cc in
-    same ∙ sym (greatest_value p first vs)
+    let same : ends ≡ record { min = least_with first vs; max = greatest_with first vs } = cc in
+    ap (λ m. m.max) same ∙ sym (greatest_value p first vs)
 
 -- and its place
 pub greatest_block_place : (kind : SampleType) (p n i : ℕ) (bytes : List ℕ) (v : ℤ) → 0 < n → v ≡ (greatest (placed p (numbers kind n bytes))).value

@@ -11,6 +11,7 @@ ghost use Rattle.nd_stats.specs.Running.{IsHistogram, AreBins, IsWithinRange, Is
 
 use crate::tally::{Histogram, add_at, distance};
 use lane_kernels::sample_at;
+use nd_base::SampleType::{Int8, Int16, Int32, UInt8, UInt16, UInt32};
 use nd_base::{OutOfMemory, SampleType, StatsRule};
 use std::alloc::Global;
 
@@ -345,58 +346,18 @@ fn count_kind(
     ensures { IsCounted rule.now (placed from (samples_of kind samples.now)) result counts.new }
 {
     match kind {
-        SampleType::Int8 => count_each(rule, scale, bins, SampleType::Int8, from, samples, counts),
-        SampleType::UInt8 if rule.hist_lo == 0 && bins.len() == 256 => {
-            count_each(rule, scale, bins, SampleType::UInt8, from, samples, counts)
+        Int8 => count_each(rule, scale, bins, Int8, from, samples, counts),
+        UInt8 if rule.hist_lo == 0 && bins.len() == 256 => {
+            count_each(rule, scale, bins, UInt8, from, samples, counts)
         }
-        SampleType::UInt8 => count_each(
-            rule,
-            scale,
-            bins,
-            SampleType::UInt8,
-            from,
-            samples,
-            counts,
-        ),
-        SampleType::Int16 => count_each(
-            rule,
-            scale,
-            bins,
-            SampleType::Int16,
-            from,
-            samples,
-            counts,
-        ),
-        SampleType::UInt16 if rule.hist_lo == 0 && bins.len() == 65_536 => {
-            count_each(rule, scale, bins, SampleType::UInt16, from, samples, counts)
+        UInt8 => count_each(rule, scale, bins, UInt8, from, samples, counts),
+        Int16 => count_each(rule, scale, bins, Int16, from, samples, counts),
+        UInt16 if rule.hist_lo == 0 && bins.len() == 65_536 => {
+            count_each(rule, scale, bins, UInt16, from, samples, counts)
         }
-        SampleType::UInt16 => count_each(
-            rule,
-            scale,
-            bins,
-            SampleType::UInt16,
-            from,
-            samples,
-            counts,
-        ),
-        SampleType::Int32 => count_each(
-            rule,
-            scale,
-            bins,
-            SampleType::Int32,
-            from,
-            samples,
-            counts,
-        ),
-        SampleType::UInt32 => count_each(
-            rule,
-            scale,
-            bins,
-            SampleType::UInt32,
-            from,
-            samples,
-            counts,
-        ),
+        UInt16 => count_each(rule, scale, bins, UInt16, from, samples, counts),
+        Int32 => count_each(rule, scale, bins, Int32, from, samples, counts),
+        UInt32 => count_each(rule, scale, bins, UInt32, from, samples, counts),
     }
 }
 

@@ -1,6 +1,7 @@
 //! A measure as a line of text.
 
-ghost use Rattle.std.specs.Prelude.{◌≡◌, ◌++◌, IfOk, OnOk, string_bytes};
+ghost use Rattle.std.specs.Prelude.{◌≡◌, ◌<◌, ◌+◌, ◌++◌, ◌∷◌, [], codes, IfOk, OnOk, string_bytes};
+ghost use Rattle.std.specs.Fmt.{signed_decimal};
 ghost use Rattle.nd_stats.specs.Row.{with_commas, comma_list, counts_text, extremes_text, sums_text, moments_text, histogram_text, profiles_text, row};
 
 use itoa::{Buffer, Integer};
@@ -15,12 +16,32 @@ fn push_named<N: Integer>(text: &mut String, name: &str, number: N) -> Result<()
     text.push_str(Buffer::new().format(number))
 }
 
+/// Appends a comma and a digit.
+fn push_digit(text: &mut String, digit: u8) -> Result<(), AllocError>
+    requires { digit < 10 }
+    ensures { OnOk result (string_bytes text.new ≡ string_bytes text.old ++ (codes "," ++ (48 + digit) ∷ [])) }
+{
+    text.push(',')?;
+    text.push(char::from(b'0' + digit))
+}
+
+/// Appends a comma and a number. Most counts of a histogram have one digit, which needs no buffer.
+#[tactic(auto, using(std::proofs::lemmas::Fmt::decimal_digit))]
+fn push_next(text: &mut String, number: i64) -> Result<(), AllocError>
+    ensures { OnOk result (string_bytes text.new ≡ string_bytes text.old ++ (codes "," ++ signed_decimal number)) }
+{
+    match u8::try_from(number) {
+        Ok(digit @ 0..=9) => push_digit(text, digit),
+        _ => push_named(text, ",", number),
+    }
+}
+
 /// Appends numbers with a comma before each.
 fn push_more(text: &mut String, numbers: &[i64]) -> Result<(), AllocError>
     ensures { OnOk result (string_bytes text.new ≡ string_bytes text.old ++ with_commas numbers.now) }
 {
     for number in numbers {
-        push_named(text, ",", *number)?;
+        push_next(text, *number)?;
     }
     Ok(())
 }

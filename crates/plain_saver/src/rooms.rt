@@ -25,10 +25,10 @@ use std::marker::Model;
 
 /// The samples of frames as they go out of the nodes of a graph. A region node has as many rooms, each for one frame, as a file node that passes its
 /// frames on reads ahead at most: at most 16 KiB and one frame of samples for each region node. Frame k has room k modulo their count, so that frames
-/// which follow each other are cut once, whichever nodes read them. A region is cut again where another frame took its room meanwhile: where a
-/// file node behind a further region of less bytes reads further ahead, or the frames that it reads ahead don't follow each other. The rooms of a
-/// node are made as its first frame is cut, and the storage of each at its first use; both are kept. Contracts see the rooms of each node, in the
-/// graph's order. A node that makes no arrays has none.
+/// which follow each other need be cut only once, whichever nodes read them. A region is cut again where another frame took its room meanwhile: where
+/// a file node behind a further region of less bytes reads further ahead, or the frames that it reads ahead don't follow each other. How often a
+/// region is cut is by how it is built: contracts see the rooms of each node, in the graph's order, and what they hold. The rooms of a node are made
+/// as its first frame is cut, and the storage of each at its first use; both are kept. A node that makes no arrays has none.
 #[derive(Drop)]
 pub struct Rooms {
     nodes: Vec<NodeRooms>,

@@ -2,7 +2,7 @@ use Rattle.std.proofs.Common.{rules, true, false, ◌/◌, ℤ, ℕ, length, ref
 use Rattle.std.proofs.lemmas.Int.{to_z-of_z}
 use Rattle.nd_base.specs.Samples.{width, numbers}
 use Rattle.nd_stats.specs.Samples.{placed, greatest}
-use Rattle.nd_stats.proofs.Firsts.{taken, left_out, test_right, greatest_block, greatest_block_place}
+use Rattle.nd_stats.proofs.Firsts.{taken, left_out, test_right, greatest_block_place}
 use Rattle.nd_stats.proofs.extremes.greater.Goals as goal
 
 pub returns-then-max-value-clause-value : goal.returns-then-max-value-clause-value
@@ -10,10 +10,10 @@ returns-then-max-value-clause-value c =
     let kind = c.args.kind in
     let bytes = c.args.block.now in
     let n : ℕ = length bytes / width kind in
-    let v : ℤ = c.in-Some.max in
+    let v : ℤ = c.args.max in
     let fv : FitsSigned w64 v = search rules in
     let fw : FitsSigned w64 c.args.value = search rules in
-    let e = greatest_block kind c.args.place n bytes v c.requires.some c.in-Some.ensures in
+    let e = c.requires.max in
     let x = (greatest (placed c.args.place (numbers kind n bytes))).value in
     to_z-of_z w64 v fv ∙ taken _ x c.args.value v (test_right v c.args.value x true (simp to_z-of_z at c.if-max-value.true) e) e
 
@@ -22,10 +22,10 @@ returns-then-max-value-clause-at c =
     let kind = c.args.kind in
     let bytes = c.args.block.now in
     let n : ℕ = length bytes / width kind in
-    let v : ℤ = c.in-Some.max in
+    let v : ℤ = c.args.max in
     let fv : FitsSigned w64 v = search rules in
     let fw : FitsSigned w64 c.args.value = search rules in
-    let e = greatest_block kind c.args.place n bytes v c.requires.some c.in-Some.ensures in
+    let e = c.requires.max in
     let s = greatest (placed c.args.place (numbers kind n bytes)) in
     let here = simp to_z-of_z at c.first_place.ensures.here in
     let first = simp to_z-of_z at c.first_place.ensures.first in
@@ -37,10 +37,10 @@ returns-else-max-value-clause-value c =
     let kind = c.args.kind in
     let bytes = c.args.block.now in
     let n : ℕ = length bytes / width kind in
-    let v : ℤ = c.in-Some.max in
+    let v : ℤ = c.args.max in
     let fv : FitsSigned w64 v = search rules in
     let fw : FitsSigned w64 c.args.value = search rules in
-    let e = greatest_block kind c.args.place n bytes v c.requires.some c.in-Some.ensures in
+    let e = c.requires.max in
     let x = (greatest (placed c.args.place (numbers kind n bytes))).value in
     left_out _ x c.args.value _ (test_right v c.args.value x false (simp to_z-of_z at c.if-max-value.false) e) (to_z-of_z w64 c.args.value fw)
 
@@ -49,9 +49,9 @@ returns-else-max-value-clause-at c =
     let kind = c.args.kind in
     let bytes = c.args.block.now in
     let n : ℕ = length bytes / width kind in
-    let v : ℤ = c.in-Some.max in
+    let v : ℤ = c.args.max in
     let fv : FitsSigned w64 v = search rules in
     let fw : FitsSigned w64 c.args.value = search rules in
-    let e = greatest_block kind c.args.place n bytes v c.requires.some c.in-Some.ensures in
+    let e = c.requires.max in
     let s = greatest (placed c.args.place (numbers kind n bytes)) in
     left_out _ s.place c.args.at c.args.at (test_right v c.args.value s.value false (simp to_z-of_z at c.if-max-value.false) e) refl

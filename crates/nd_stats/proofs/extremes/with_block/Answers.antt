@@ -1,9 +1,21 @@
-use Rattle.std.proofs.Common.{rules, ◌/◌, ℕ, length, w64, FitsSigned}
+use Rattle.std.proofs.Common.{rules, ◌/◌, ◌∙◌, ℕ, length, w64, FitsSigned}
 use Rattle.std.proofs.lemmas.Int.{to_z-of_z}
 use Rattle.nd_base.specs.Samples.{width}
 use Rattle.nd_stats.specs.declared.tally.Extremes.{Extremes}
-use Rattle.nd_stats.proofs.Firsts.{extremes_block}
+use Rattle.nd_stats.proofs.Firsts.{extremes_block, least_block, greatest_block}
 use Rattle.nd_stats.proofs.extremes.with_block.Goals as goal
+
+pub lesser-min-requires-clause-min : goal.lesser-min-requires-clause-min
+lesser-min-requires-clause-min c =
+    let fits : FitsSigned w64 c.in-Some.field-0.min = search rules in
+    to_z-of_z w64 c.in-Some.field-0.min fits
+    ∙ least_block c.args.kind c.args.place (length c.args.block.now / width c.args.kind) c.args.block.now c.in-Some.field-0 c.requires.some c.in-Some.ensures
+
+pub greater-max-requires-clause-max : goal.greater-max-requires-clause-max
+greater-max-requires-clause-max c =
+    let fits : FitsSigned w64 c.in-Some.field-0.max = search rules in
+    to_z-of_z w64 c.in-Some.field-0.max fits
+    ∙ greatest_block c.args.kind c.args.place (length c.args.block.now / width c.args.kind) c.args.block.now c.in-Some.field-0 c.requires.some c.in-Some.ensures
 
 pub returns : goal.returns
 returns c = λ first xs are.
