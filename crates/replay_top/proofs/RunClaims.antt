@@ -4,11 +4,11 @@ use Rattle.flow_journal.specs.Journal.{Journal}
 use Rattle.replay_top.specs.declared.status.Status.{Status}
 use Rattle.replay_top.specs.declared.status.Status.TheVariants.{Done, Usage, GraphText, GraphRule, StackBytes, Limit, ReadFault, ShelfFault, OutFault}
 use Rattle.replay_top.specs.declared.status.Status.TheVariants.{OutOfMemory}
-use Rattle.replay_top.specs.Answers.{IsRefusal, IsUntouched}
+use Rattle.replay_top.specs.Answers.{IsRefusal}
 use Rattle.replay_top.specs.Causes.{Counts}
 use Rattle.replay_top.specs.Claims.{Completes}
 use Rattle.replay_top.specs.Outcomes.{Leads}
-use Rattle.replay_top.specs.RunAnswers.{RunObjects, RunEnds, IsRunCause}
+use Rattle.replay_top.specs.RunAnswers.{RunObjects, RunEnds, IsRunCause, IsRunUntouched}
 use Rattle.replay_top.specs.RunCommand.{RunCommand}
 use Rattle.replay_top.specs.RunSources.{sources_of}
 use Rattle.replay_top.proofs.Outcomes.{Leads-Asks}
@@ -28,7 +28,7 @@ module _ (log : Option Journal) (c : RunCommand) (o : RunObjects) where
   RunEnds-refused OutOfMemory ends is = absurd is
 
   -- and leaves all as it was, as a fault of the library does
-  pub RunEnds-untouched : (s : Status) → RunEnds s log (Some c) o → IsRefusal s ⊎ (s ≡ ReadFault) → IsUntouched o.objects
+  pub RunEnds-untouched : (s : Status) → RunEnds s log (Some c) o → IsRefusal s ⊎ (s ≡ ReadFault) → IsRunUntouched o
   RunEnds-untouched Usage ends is = ends.2
   RunEnds-untouched GraphText ends is = ends.1.1
   RunEnds-untouched (GraphRule f) ends is = ends.1.1

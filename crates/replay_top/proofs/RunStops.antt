@@ -20,9 +20,8 @@ use Rattle.flow_run.specs.Ticks.{IsFedByTheClock}
 use Rattle.replay_top.specs.declared.status.Status.{Status}
 use Rattle.replay_top.specs.declared.status.Status.TheVariants.{Done, Usage, GraphText, GraphRule, StackBytes, Limit, ReadFault, ShelfFault, OutFault}
 use Rattle.replay_top.specs.declared.status.Status.TheVariants.{OutOfMemory}
-use Rattle.replay_top.specs.Answers.{IsUntouched}
 use Rattle.replay_top.specs.Outcomes.{Leads}
-use Rattle.replay_top.specs.RunAnswers.{RunObjects, IsLogOf, RunEnds, IsRunCause, run_print}
+use Rattle.replay_top.specs.RunAnswers.{RunObjects, IsLogOf, RunEnds, IsRunCause, IsRunUntouched, run_print}
 use Rattle.replay_top.specs.RunCommand.{RunCommand}
 use Rattle.replay_top.specs.RunFiles.{later_files, HoldsFiles, HaveGroupsBack, AtGroups, AfterGroups}
 use Rattle.replay_top.specs.LogFiles.{log_files}
@@ -35,7 +34,7 @@ use Rattle.replay_top.specs.Works.{Source, sources}
 
 -- what there is to run wasn't read
 pub RunEnds-unread : (status : Status) (c : RunCommand) (o : RunObjects) (before now : ℕ)
-    → ReadStops (λ s. Leads o.objects.library (sources c.graph c.stack) (Err s)) status before now → IsUntouched o.objects → RunEnds status None (Some c) o
+    → ReadStops (λ s. Leads o.objects.library (sources c.graph c.stack) (Err s)) status before now → IsRunUntouched o → RunEnds status None (Some c) o
 RunEnds-unread GraphText c o before now stops still = (refl, (stops.0, still))
 RunEnds-unread (GraphRule f) c o before now stops still = (refl, (stops.0, still))
 RunEnds-unread (StackBytes f) c o before now stops still = (refl, (stops.0, still))

@@ -1,5 +1,5 @@
 -- What each status of a run says of its log and of the objects.
-use Rattle.std.specs.Prelude.{◌≡◌, ◌≢◌, ℕ, List, Option, None, Some, Ok}
+use Rattle.std.specs.Prelude.{◌≡◌, ◌≢◌, ℕ, List, Option, None, Some, Ok, Err}
 use Rattle.edge_traits.specs.Ticks.{Coming}
 use Rattle.edge_traits.specs.Written.{with_written}
 use Rattle.chain_plain.specs.Plans.{plan_of}
@@ -15,7 +15,7 @@ use Rattle.flow_run.specs.Ticks.{IsFedByTheClock}
 use Rattle.replay_top.specs.declared.status.Status.{Status}
 use Rattle.replay_top.specs.declared.status.Status.TheVariants.{Done, Usage, GraphText, GraphRule, StackBytes, Limit, ReadFault, ShelfFault, OutFault}
 use Rattle.replay_top.specs.declared.status.Status.TheVariants.{OutOfMemory}
-use Rattle.replay_top.specs.Answers.{Objects, IsRefused, IsUntouched}
+use Rattle.replay_top.specs.Answers.{Objects}
 use Rattle.replay_top.specs.Causes.{Counts, IsCause}
 use Rattle.replay_top.specs.Outcomes.{Leads}
 use Rattle.replay_top.specs.Printed.{IsCutShort}
@@ -85,17 +85,25 @@ OfLog P (Some c) (Some log) = P c log.past
 OfLog P None log = ⊥
 OfLog P (Some c) None = ⊥
 
+-- the files, the output and the clock are as they were
+abbrev pub IsRunUntouched : RunObjects → Type 0
+IsRunUntouched o = (o.objects.shelf_after ≡ o.objects.shelf_before) × (o.objects.sink_after ≡ o.objects.sink_before) × (o.later ≡ o.coming)
+
+-- the files that were read lead to this refusal, and nothing else changed
+abbrev pub IsRunRefused : Option RunCommand → Status → RunObjects → Type 0
+IsRunRefused command status o = Leads o.objects.library (sources_of command) (Err status) × IsRunUntouched o
+
 -- How a run ends. Without a log it was refused, the library failed, or memory was wanting, and then nothing was printed.
 abbrev pub RunEnds : Status → Option Journal → Option RunCommand → RunObjects → Type 0
 RunEnds Done log command o = OfLog (IsRunDone o) command log
 RunEnds ShelfFault log command o = OfLog (IsRunTorn o) command log
 RunEnds OutFault log command o = OfLog (IsRunCutShort o) command log
-RunEnds Usage log command o = (log ≡ None) × (command ≡ None) × IsUntouched o.objects
-RunEnds GraphText log command o = (log ≡ None) × IsRefused (sources_of command) GraphText o.objects
-RunEnds (GraphRule fault) log command o = (log ≡ None) × IsRefused (sources_of command) (GraphRule fault) o.objects
-RunEnds (StackBytes fault) log command o = (log ≡ None) × IsRefused (sources_of command) (StackBytes fault) o.objects
-RunEnds (Limit fault) log command o = (log ≡ None) × IsRefused (sources_of command) (Limit fault) o.objects
-RunEnds ReadFault log command o = (log ≡ None) × (command ≢ None) × IsUntouched o.objects
+RunEnds Usage log command o = (log ≡ None) × (command ≡ None) × IsRunUntouched o
+RunEnds GraphText log command o = (log ≡ None) × IsRunRefused command GraphText o
+RunEnds (GraphRule fault) log command o = (log ≡ None) × IsRunRefused command (GraphRule fault) o
+RunEnds (StackBytes fault) log command o = (log ≡ None) × IsRunRefused command (StackBytes fault) o
+RunEnds (Limit fault) log command o = (log ≡ None) × IsRunRefused command (Limit fault) o
+RunEnds ReadFault log command o = (log ≡ None) × (command ≢ None) × IsRunUntouched o
 RunEnds OutOfMemory log command o = (log ≡ None) × (o.objects.sink_after ≡ o.objects.sink_before)
 
 -- the counts rise as with a plain run, but that want of memory may come after the shelf has failed

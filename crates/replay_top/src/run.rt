@@ -228,7 +228,7 @@ pub fn run_top<
     ensures usage { (result.status ≡ Status.Usage) ↔ (run_command_of (map string_bytes words.now) ≡ None) }
     ensures refused { IsRefusal result.status → Leads (L.holds library.old) (sources_of (run_command_of (map string_bytes words.now))) (Err result.status) }
     ensures untouched { IsRefusal result.status ⊎ (result.status ≡ Status.ReadFault)
-        → (K.held shelf.new ≡ K.held shelf.old) × (T.written out.new ≡ T.written out.old) }
+        → (K.held shelf.new ≡ K.held shelf.old) × (T.written out.new ≡ T.written out.old) × (C.coming clock.new ≡ C.coming clock.old) }
     ensures memory { result.status ≡ Status.OutOfMemory → T.written out.new ≡ T.written out.old }
     ensures library { L.holds library.new ≡ L.holds library.old }
 
