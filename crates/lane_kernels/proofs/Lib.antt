@@ -4,6 +4,7 @@ mod Leasts
 mod Middles
 mod Narrow
 mod Samples
+pub mod Slices
 mod Squares
 mod Twos
 pub mod Wraps

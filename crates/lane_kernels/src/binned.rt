@@ -40,27 +40,27 @@ fn add_each(kind: SampleType, input: &[u8], bin: usize, place: usize, sums: &mut
     }
 }
 
-/// What is left in 32 bits of the sum of the `bin` samples from a place on, one by one.
+/// What is left in 32 bits of the sum of the first `bin` samples, one by one.
 #[inline(always)]
 #[tactic(auto, using(crate::proofs::Wraps::wrapping))]
-fn low_run_each(kind: SampleType, input: &[u8], bin: usize, place: usize) -> i32
-    requires { place + bin ≤ length input.now / width kind }
-    ensures { result ≡ int_wrap w32 (run kind input.now bin place) }
+fn low_run_each(kind: SampleType, samples: &[u8], bin: usize) -> i32
+    requires { bin ≤ length samples.now / width kind }
+    ensures { result ≡ int_wrap w32 (run kind samples.now bin 0) }
 {
     let mut sum = 0i32;
     for j in 0..bin {
-        sum = sum.wrapping_add(low_word(sample_at(kind, input, place + j)));
+        sum = sum.wrapping_add(low_word(sample_at(kind, samples, j)));
     }
     sum
 }
 
-/// The sum of two bytes without a sign, read as one pair.
+/// The sum of the first two bytes without a sign, read as one pair.
 #[inline(always)]
-fn sum_of_bytes(input: &[u8], place: usize) -> i32
-    requires { place + 2 ≤ length input.now / width UInt8 }
-    ensures { result ≡ run UInt8 input.now 2 place }
+fn sum_of_bytes(samples: &[u8]) -> i32
+    requires { 2 ≤ length samples.now / width UInt8 }
+    ensures { result ≡ run UInt8 samples.now 2 0 }
 {
-    let pair = pair_at(input, place);
+    let pair = pair_at(samples, 0);
     (pair / 0x100 + pair % 0x100) as i32
 }
 
@@ -85,41 +85,42 @@ fn unsigned_at(input: &[u8], place: usize) -> i32
     i32::from(pair_at(input, place * 2))
 }
 
-/// What is left in 32 bits of the sum of the `bin` samples from a place on, of 16 bits without a sign, two by two.
+/// What is left in 32 bits of the sum of the first `bin` samples, of 16 bits without a sign, two by two.
 #[inline(always)]
 #[tactic(auto, using(crate::proofs::Wraps::wrapping))]
-fn low_run_by_two(input: &[u8], bin: usize, place: usize) -> i32
-    requires { place + bin ≤ length input.now / width UInt16 }
-    ensures { result ≡ int_wrap w32 (run UInt16 input.now bin place) }
+fn low_run_by_two(samples: &[u8], bin: usize) -> i32
+    requires { bin ≤ length samples.now / width UInt16 }
+    ensures { result ≡ int_wrap w32 (run UInt16 samples.now bin 0) }
 {
     let mut sum = 0i32;
     for j in 0..bin / 2 {
-        sum = sum.wrapping_add(sum_of_two(input, place + j * 2));
+        sum = sum.wrapping_add(sum_of_two(samples, j * 2));
     }
     if bin % 2 == 0 {
         sum
     } else {
-        let last = unsigned_at(input, place + bin - 1);
+        let last = unsigned_at(samples, bin - 1);
         sum.wrapping_add(last)
     }
 }
 
-/// What is left in 32 bits of the sum of the `bin` samples from a place on.
+/// What is left in 32 bits of the sum of the first `bin` samples.
 #[inline(always)]
-fn low_run(kind: SampleType, input: &[u8], bin: usize, place: usize) -> i32
-    requires { place + bin ≤ length input.now / width kind }
-    ensures { result ≡ int_wrap w32 (run kind input.now bin place) }
+fn low_run(kind: SampleType, samples: &[u8], bin: usize) -> i32
+    requires { bin ≤ length samples.now / width kind }
+    ensures { result ≡ int_wrap w32 (run kind samples.now bin 0) }
 {
     match kind {
-        SampleType::UInt8 if bin == 2 => sum_of_bytes(input, place),
-        SampleType::UInt16 => low_run_by_two(input, bin, place),
-        _ => low_run_each(kind, input, bin, place),
+        SampleType::UInt8 if bin == 2 => sum_of_bytes(samples),
+        SampleType::UInt16 => low_run_by_two(samples, bin),
+        _ => low_run_each(kind, samples, bin),
     }
 }
 
-/// Adds `bin` samples to each sum of 32 bits, those from the line's start on to the first.
+/// Adds `bin` samples to each sum of 32 bits, those from the line's start on to the first. Each sum's samples are a slice of their own, of
+/// a length that the compiler knows: so it tests only where the slice ends, and makes lanes of the loop.
 #[inline(always)]
-#[tactic(auto, using(crate::proofs::Wraps::wrapping))]
+#[tactic(auto, using(crate::proofs::Wraps::wrapping, crate::proofs::Slices::run_end))]
 fn add_low_each(kind: SampleType, line: &[u8], bin: usize, sums: &mut [i32])
     requires { length sums.old * bin ≤ length line.now / width kind }
     ensures { (k : ℕ) → k < length sums.new
@@ -127,8 +128,9 @@ fn add_low_each(kind: SampleType, line: &[u8], bin: usize, sums: &mut [i32])
 {
     let mut at = 0;
     for sum in sums.iter_mut() {
-        *sum = sum.wrapping_add(low_run(kind, line, bin, at));
-        at += bin;
+        let end = at + bin * kind.width();
+        *sum = sum.wrapping_add(low_run(kind, &line[at..end], bin));
+        at = end;
     }
 }
 

@@ -1,11 +1,13 @@
 //! The least and the greatest sample, and the first place of one.
 
-ghost use Rattle.std.specs.Prelude.{◌≡◌, ◌≢◌, ℕ, ◌+◌, ◌/◌, ◌<◌, ◌≤◌, ◌+ℤ◌, length, take, drop};
+ghost use Rattle.std.specs.Prelude.{◌≡◌, ◌≢◌, ℕ, false, ◌+◌, ◌/◌, ◌<◌, ◌≤◌, ◌+ℤ◌, length, take, drop};
+ghost use Rattle.std.specs.Int.{w32, int_wrap};
 ghost use Rattle.nd_base.specs.Samples.{width, number, samples_of};
 ghost use Rattle.lane_kernels.specs.Plain.{min_max, stored};
 ghost use Rattle.lane_kernels.specs.Lanes.{offset, narrow_offset};
 
-use nd_base::{SampleType, number_at, pair_at, word_at};
+use crate::sample::{low_word, sample_at};
+use nd_base::{SampleType, pair_at, word_at};
 
 /// The sample whose bytes begin at index `at`, less 2^31 in UInt32, so that each type goes through lanes of 32 bits.
 #[inline(always)]
@@ -125,6 +127,39 @@ fn wide_min_max(kind: SampleType, samples: &[u8]) -> Option<MinMax>
     })
 }
 
+/// How many samples are looked through at once.
+const CHUNK: usize = 64;
+
+/// Whether one of the `size` samples from a place on has these lowest 32 bits. All are looked at, so that the compiler makes lanes of them.
+#[inline(always)]
+fn has_low(kind: SampleType, samples: &[u8], place: usize, size: usize, low: i32) -> bool
+    requires { place + size ≤ length samples.now / width kind }
+    ensures { result ≡ false → (k : ℕ) → k < size → int_wrap w32 (stored kind samples.now (place + k)) ≢ low }
+{
+    let mut found = false;
+    for k in 0..size {
+        if low_word(sample_at(kind, samples, place + k)) == low {
+            found = true;
+        }
+    }
+    found
+}
+
+/// A place before which no sample has this value: one from which on a chunk may have it, or where no whole chunk is left.
+#[inline(always)]
+fn chunk_with(kind: SampleType, samples: &[u8], value: i64) -> usize
+    ensures within { result ≤ length samples.now / width kind }
+    ensures first { (k : ℕ) → k < result → stored kind samples.now k ≢ value }
+{
+    let count = samples.len() / kind.width();
+    let low = low_word(value);
+    let mut place = 0;
+    while count - place >= CHUNK && !has_low(kind, samples, place, CHUNK, low) {
+        place += CHUNK;
+    }
+    place
+}
+
 /// The place of the first sample with this value, and the number of samples where none has it.
 #[inline(always)]
 pub(crate) fn first_place(kind: SampleType, samples: &[u8], value: i64) -> usize
@@ -132,10 +167,9 @@ pub(crate) fn first_place(kind: SampleType, samples: &[u8], value: i64) -> usize
     ensures here { result < length samples.now / width kind → stored kind samples.now result ≡ value }
     ensures first { (k : ℕ) → k < result → stored kind samples.now k ≢ value }
 {
-    let width = kind.width();
-    let count = samples.len() / width;
-    for k in 0..count {
-        if number_at(kind, samples, k * width) == value {
+    let count = samples.len() / kind.width();
+    for k in chunk_with(kind, samples, value)..count {
+        if sample_at(kind, samples, k) == value {
             return k;
         }
     }

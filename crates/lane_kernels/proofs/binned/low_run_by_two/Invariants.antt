@@ -5,4 +5,4 @@ use Rattle.lane_kernels.specs.Plain.{run}
 use Rattle.lane_kernels.proofs.binned.low_run_by_two.Given as goal
 
 abbrev pub invariant-loop-j : goal.invariant-loop-j
-invariant-loop-j l = l.sum ≡ int_wrap w32 (run UInt16 l.input (l.j * 2) l.place)
+invariant-loop-j l = l.sum ≡ int_wrap w32 (run UInt16 l.samples (l.j * 2) 0)
