@@ -15,7 +15,7 @@ mod words;
 
 pub use extremes::MinMax;
 use nd_base::SampleType;
-pub use sample::{low_word, sample_at};
+pub use sample::{low_word, narrow_at, sample_at};
 
 /// The sum of the samples.
 pub fn sum_bytes(kind: SampleType, samples: &[u8]) -> i64

@@ -20,7 +20,7 @@ pub fn sample_at(kind: SampleType, bytes: &[u8], place: usize) -> i64
 /// The sample at a place, of at most 16 bits.
 #[inline(always)]
 #[tactic(auto, using(crate::proofs::Narrow::narrow_stored))]
-pub(crate) fn narrow_at(kind: SampleType, bytes: &[u8], place: usize) -> i32
+pub fn narrow_at(kind: SampleType, bytes: &[u8], place: usize) -> i32
     requires place { place < length bytes.now / width kind }
     requires narrow { width kind ≤ 2 }
     ensures value { result ≡ stored kind bytes.now place }

@@ -168,6 +168,9 @@ rows-more dims n xs p x y vs at row fits within =
     (λ k ne. sym (value_run (has_index dims 1 k) false xs p vs
     (λ j v h. ne_eqb (index_in dims 1 (p + j)) k (λ e. ne (sym e ∙ y_along dims p x y j at row (omega arith) ∙ sym there))) ∙ +ℤ_idr (f k)))
 
+pub length-along : (dims : List Dim) (d : ℕ) (xs : List Sample) (sums : List ℤ) → sums ≡ sums_along dims d xs → length sums ≡ size_in dims d
+length-along dims d xs sums is = ap length is ∙ length-table (λ i. value_where (has_index dims d i) xs) 0 (size_in dims d)
+
 -- so many sums along a dimension have room
 pub along_room : (dims : List Dim) (d : ℕ) (kind : SampleType) (from k : ℕ) (bytes : List ℕ) (sums : List ℤ) → ((i : ℕ) → Fits w8 (get_or bytes i 0))
     → k ≤ 67108864 → sums ≡ sums_along dims d (placed from (numbers kind k bytes)) → HaveRoom sums × (length sums ≡ size_in dims d)
@@ -175,8 +178,7 @@ along_room dims d kind from k bytes sums fit few is =
     let xs = placed from (numbers kind k bytes) in
     let long = length-piece kind from k bytes in (
       subst HaveRoom (sym is) (profile_room dims d (size_in dims d) xs (parts_small kind from k bytes fit) (omega (arith, long))),
-      ap length is
-          ∙ length-table (λ i. value_where (has_index dims d i) xs) 0 (size_in dims d),
+      length-along dims d xs sums is,
     )
 
 -- the sums of the columns with one sample more

@@ -36,10 +36,20 @@ pub sums_most : (a b c : ℤ) (k m : ℕ) → c ≡ a +ℤ b → unsigned_abs a 
 sums_most a b c k m e h l = let s = abs-add a b in rw e (omega (arith, s))
 
 pub weighted_most : (a b d c : ℤ) (k m : ℕ) → c ≡ a +ℤ (b +ℤ (pos k *ℤ d)) → k ≤ 8192 → unsigned_abs a ≤ k * 70368744177664
-    → unsigned_abs b ≤ m * 549755813888 → unsigned_abs d ≤ m * 4294967296 → unsigned_abs c ≤ (k + m) * 70368744177664
+    → unsigned_abs b ≤ m * 8796093022208 → unsigned_abs d ≤ m * 4294967296 → unsigned_abs c ≤ (k + m) * 70368744177664
 weighted_most a b d c k m e few h l n =
     let s = abs-add a (b +ℤ (pos k *ℤ d)) in
     let t = abs-add b (pos k *ℤ d) in
     let p = unsigned_abs-mul (pos k) d in
     let q : k * unsigned_abs d ≤ 8192 * (m * 4294967296) = mul-le-mul few n in
     rw e (omega (arith, s, t, p, q))
+
+-- the same of two parts of one block
+pub joined_most : (a b d c : ℤ) (k n m : ℕ) → c ≡ a +ℤ (b +ℤ (pos k *ℤ d)) → k ≤ 1024 → unsigned_abs a ≤ n * 549755813888
+    → unsigned_abs b ≤ m * 549755813888 → unsigned_abs d ≤ m * 4294967296 → unsigned_abs c ≤ (n + m) * 8796093022208
+joined_most a b d c k n m e few h l s =
+    let x = abs-add a (b +ℤ (pos k *ℤ d)) in
+    let y = abs-add b (pos k *ℤ d) in
+    let p = unsigned_abs-mul (pos k) d in
+    let q : k * unsigned_abs d ≤ 1024 * (m * 4294967296) = mul-le-mul few s in
+    rw e (omega (arith, x, y, p, q))

@@ -40,7 +40,7 @@ pub summed-table : (f g : ℕ → ℤ) (k n : ℕ) → summed (table f k n) (tab
 summed-table f g k zero = refl
 summed-table f g k (suc n) = ap (λ rest. (f k +ℤ g k) ∷ rest) (summed-table f g (k + 1) n)
 
-stored_sum : (w : Width) (a b : ℤ) → FitsSigned w a → FitsSigned w b → FitsSigned w (a +ℤ b) → to_z w (of_z w (to_z w (of_z w a) +ℤ to_z w (of_z w b))) ≡ a +ℤ b
+pub stored_sum : (w : Width) (a b : ℤ) → FitsSigned w a → FitsSigned w b → FitsSigned w (a +ℤ b) → to_z w (of_z w (to_z w (of_z w a) +ℤ to_z w (of_z w b))) ≡ a +ℤ b
 stored_sum w a b fa fb fs = simp to_z-of_z
 
 pub fits_room : (v : ℤ) → HasRoom v → FitsSigned w64 v

@@ -7,6 +7,7 @@ pub mod Firsts
 pub mod Growth
 pub mod Joinings
 pub mod Joins
+pub mod Lanes
 pub mod Merges
 pub mod MomentLines
 pub mod Overs
@@ -17,8 +18,10 @@ pub mod Products
 pub mod Quotients
 pub mod Reached
 pub mod Rooms
+pub mod RowSums
 pub mod Steps
 pub mod Sums
 pub mod Tables
 pub mod Texts
 pub mod Totals
+pub mod Withins

@@ -5,6 +5,7 @@ pub mod Spots
 pub mod Tallies
 pub mod Running
 pub mod Over
+pub mod Columns
 pub mod Row
 pub mod Merging
 pub mod Joined

@@ -94,6 +94,10 @@ pub record IsCounted (rule : StatsRule) (xs : List Sample) (e : Ends) (counts : 
 abbrev pub sums_along : List Dim → ℕ → List Sample → List ℤ
 sums_along dims d xs = table (λ k. value_where (has_index dims d k) xs) 0 (size_in dims d)
 
+-- sums of which none is further from 0
+abbrev pub AreWithin : ℕ → List ℤ → Type 0
+AreWithin most sums = (k : ℕ) → k < length sums → unsigned_abs (slice_index_or sums k (pos 0)) ≤ most
+
 -- the numbers of these samples; the extremes are those of `first` and these samples
 pub record IsTally (rule : StatsRule) (dims : List Dim) (first : Sample) (xs : List Sample) (t : Tally) : Type 0 where
   pub extremes : AreExtremes first xs t.extremes

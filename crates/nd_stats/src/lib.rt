@@ -7,6 +7,7 @@
 
 mod blocks;
 mod border;
+mod columns;
 mod extremes;
 mod histogram;
 mod lines;

@@ -36,6 +36,23 @@ fn blank_profile(alloc: Global, wanted: bool, size: u32) -> Result<Vec<i64>, Out
     }
 }
 
+/// Sums of 32 bits of no samples, one for each index of dimension 0, where profiles are wanted of samples of at most 16 bits.
+fn blank_narrow(
+    alloc: Global,
+    rule: &StatsRule,
+    kind: SampleType,
+    dims: &[Dim],
+) -> Result<Vec<i32>, OutOfMemory>
+    ensures { rule.now.profiles ≡ true → width kind ≤ 2 → IfOk result (λ v. v.items ≡ table (λ _. pos 0) 0 (size_in dims.now 0)) }
+{
+    if rule.profiles && kind.width() <= 2 {
+        let sums = vec![in alloc; 0i32; first_size(dims) as usize]?;
+        Ok(sums)
+    } else {
+        Ok(Vec::new(alloc))
+    }
+}
+
 /// The numbers of no samples; `value` at `place` is the first sample.
 pub(crate) fn blank_tally(
     alloc: Global,
@@ -136,11 +153,13 @@ pub(crate) fn add_each(
     }
 }
 
-/// The numbers of a piece by passes over its lines and blocks. `bins` lists the bins of the histogram's range, or none.
+/// The numbers of a piece by passes over its lines and blocks. `bins` lists the bins of the histogram's range, or none, and `narrow` is where
+/// samples of at most 16 bits are added up for a profile.
 fn tally_lines(
     blank: Tally,
     rule: &StatsRule,
     bins: &[u16],
+    narrow: &mut [i32],
     kind: SampleType,
     dims: &[Dim],
     from: u32,
@@ -149,6 +168,7 @@ fn tally_lines(
     requires frame { IsFrame rule.now dims.now }
     requires bins { AreBins rule.now bins.now }
     requires range { IsWithinRange rule.now bins.now }
+    requires narrow { rule.now.profiles ≡ true → width kind ≤ 2 → narrow.old ≡ table (λ _. pos 0) 0 (size_in dims.now 0) }
     requires whole { length samples.now % width kind ≡ 0 }
     requires some { 0 < length samples.now / width kind }
     requires within { from + length samples.now / width kind ≤ sample_count dims.now }
@@ -177,7 +197,16 @@ fn tally_lines(
     tally.moments = moments;
     tally.histogram = histogram_of(tally.histogram, rule, bins, kind, from, samples);
     if rule.profiles {
-        add_profiles(rule, kind, dims, from, samples, &mut tally.x, &mut tally.y);
+        add_profiles(
+            rule,
+            kind,
+            dims,
+            from,
+            samples,
+            narrow,
+            &mut tally.x,
+            &mut tally.y,
+        );
     }
     tally
 }
@@ -190,6 +219,7 @@ fn tally_of(
     blank: Tally,
     rule: &StatsRule,
     bins: &[u16],
+    narrow: &mut [i32],
     kind: SampleType,
     dims: &[Dim],
     from: u32,
@@ -198,6 +228,7 @@ fn tally_of(
     requires frame { IsFrame rule.now dims.now }
     requires bins { AreBins rule.now bins.now }
     requires range { IsWithinRange rule.now bins.now }
+    requires narrow { rule.now.profiles ≡ true → width kind ≤ 2 → narrow.old ≡ table (λ _. pos 0) 0 (size_in dims.now 0) }
     requires whole { length samples.now % width kind ≡ 0 }
     requires some { 0 < length samples.now / width kind }
     requires within { from + length samples.now / width kind ≤ sample_count dims.now }
@@ -210,7 +241,7 @@ fn tally_of(
     if first_size(dims) < LONG {
         add_each(blank, rule, kind, dims, from, samples)
     } else {
-        tally_lines(blank, rule, bins, kind, dims, from, samples)
+        tally_lines(blank, rule, bins, narrow, kind, dims, from, samples)
     }
 }
 
@@ -296,7 +327,8 @@ pub fn measure_piece(
     let first = number_at(kind, samples, 0);
     let blank = blank_tally(alloc, rule, dims, from, first)?;
     let bins = list_bins(alloc, rule, samples.len() / kind.width())?;
-    let tally = tally_of(blank, rule, &bins, kind, dims, from, samples);
+    let mut narrow = blank_narrow(alloc, rule, kind, dims)?;
+    let tally = tally_of(blank, rule, &bins, &mut narrow, kind, dims, from, samples);
     Ok(measure_from(tally, id))
 }
 

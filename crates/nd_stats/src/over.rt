@@ -6,11 +6,13 @@ ghost use Rattle.nd_base.specs.declared.array.SampleType.TheVariants.{Int32};
 ghost use Rattle.nd_stats.specs.Samples.{placed};
 ghost use Rattle.nd_stats.specs.Tallies.{counted};
 ghost use Rattle.nd_stats.specs.Over.{IsOver};
+ghost use Rattle.nd_stats.specs.Columns.{IsNarrowUnsigned, most_in_block};
 ghost use Rattle.lane_kernels.specs.Plain.{stored};
 
+use crate::columns::rows_over;
 use crate::sample::part;
 use crate::tally::{counted, reaches};
-use lane_kernels::sample_at;
+use lane_kernels::{narrow_at, sample_at};
 use nd_base::{SampleType, word_at};
 
 /// How many samples reach the threshold, their sum, and the sum of each times its index.
@@ -21,8 +23,18 @@ pub(crate) struct Over {
     pub weighted: i64,
 }
 
-/// How many samples a block has, so that its indices are small.
-const BLOCK: usize = 128;
+/// How many samples a block has at most, so that its numbers are small.
+#[inline(always)]
+fn block_size(kind: SampleType) -> usize
+    ensures size { result ≡ most_in_block kind }
+    ensures some { 0 < result }
+    ensures few { result ≤ 1024 }
+{
+    match kind {
+        SampleType::UInt8 | SampleType::UInt16 => 1024,
+        _ => 128,
+    }
+}
 
 /// A value times its index in a block.
 #[inline(always)]
@@ -74,17 +86,6 @@ fn near(threshold: i64) -> i32
     } else {
         threshold as i32
     }
-}
-
-/// A sample of at most 16 bits.
-#[inline(always)]
-fn narrow_at(kind: SampleType, bytes: &[u8], place: usize) -> i32
-    requires place { place < length bytes.now / width kind }
-    requires narrow { width kind ≤ 2 }
-    ensures value { result ≡ stored kind bytes.now place }
-    ensures bound { unsigned_abs result ≤ 65535 }
-{
-    sample_at(kind, bytes, place) as i32
 }
 
 /// Whether a sample reaches the near threshold.
@@ -216,19 +217,37 @@ fn long_over(kind: SampleType, threshold: i64, block: &[u8]) -> Over
     }
 }
 
-/// The numbers of a block.
+/// The numbers of a block of samples of at most 16 bits without a sign: those of rows of eight, and of the rest one by one.
 #[inline(always)]
-fn block_over(kind: SampleType, threshold: i64, block: &[u8]) -> Over
-    requires { length block.now / width kind ≤ 128 }
+fn unsigned_over(kind: SampleType, threshold: i64, block: &[u8]) -> Over
+    requires kind { IsNarrowUnsigned kind }
+    requires few { length block.now / width kind ≤ 1024 }
     ensures over { IsOver threshold (placed 0 (samples_of kind block.now)) result }
     ensures few { result.count ≤ length block.now / width kind }
     ensures sum { unsigned_abs result.sum ≤ length block.now / width kind * 4294967296 }
-    ensures weighted { unsigned_abs result.weighted ≤ length block.now / width kind * 549755813888 }
+    ensures weighted { unsigned_abs result.weighted ≤ length block.now / width kind * 8796093022208 }
 {
-    if kind.width() <= 2 {
-        narrow_over(kind, threshold, block)
-    } else {
-        long_over(kind, threshold, block)
+    let count = block.len() / kind.width();
+    let done = count / 8 * 8;
+    let mut over = rows_over(kind, threshold, part(kind, block, 0, done));
+    let rest = narrow_over(kind, threshold, part(kind, block, done, count - done));
+    over.join(&rest, done);
+    over
+}
+
+/// The numbers of a block.
+#[inline(always)]
+fn block_over(kind: SampleType, threshold: i64, block: &[u8]) -> Over
+    requires { length block.now / width kind ≤ most_in_block kind }
+    ensures over { IsOver threshold (placed 0 (samples_of kind block.now)) result }
+    ensures few { result.count ≤ length block.now / width kind }
+    ensures sum { unsigned_abs result.sum ≤ length block.now / width kind * 4294967296 }
+    ensures weighted { unsigned_abs result.weighted ≤ length block.now / width kind * 8796093022208 }
+{
+    match kind {
+        SampleType::UInt8 | SampleType::UInt16 => unsigned_over(kind, threshold, block),
+        SampleType::Int8 | SampleType::Int16 => narrow_over(kind, threshold, block),
+        SampleType::Int32 | SampleType::UInt32 => long_over(kind, threshold, block),
     }
 }
 
@@ -236,10 +255,10 @@ fn block_over(kind: SampleType, threshold: i64, block: &[u8]) -> Over
 #[inline(always)]
 fn shifted(weighted: i64, by: usize, sum: i64) -> i64
     requires by { by ≤ 8192 }
-    requires sum { unsigned_abs sum ≤ 2 ^ 39 }
-    requires weighted { unsigned_abs weighted ≤ 2 ^ 46 }
+    requires sum { unsigned_abs sum ≤ 2 ^ 42 }
+    requires weighted { unsigned_abs weighted ≤ 2 ^ 56 }
     ensures value { result ≡ weighted +ℤ (pos by *ℤ sum) }
-    ensures bound { unsigned_abs result ≤ 2 ^ 53 }
+    ensures bound { unsigned_abs result ≤ 2 ^ 57 }
 {
     weighted + i64::from(by as u16) * sum
 }
@@ -252,9 +271,9 @@ impl Over {
         requires count { self.old.count ≤ 8192 }
         requires sum { unsigned_abs self.old.sum ≤ 2 ^ 46 }
         requires weighted { unsigned_abs self.old.weighted ≤ 2 ^ 60 }
-        requires more { later.now.count ≤ 128 }
-        requires more_sum { unsigned_abs later.now.sum ≤ 2 ^ 39 }
-        requires more_weighted { unsigned_abs later.now.weighted ≤ 2 ^ 46 }
+        requires more { later.now.count ≤ 1024 }
+        requires more_sum { unsigned_abs later.now.sum ≤ 2 ^ 42 }
+        requires more_weighted { unsigned_abs later.now.weighted ≤ 2 ^ 56 }
         ensures count { self.new.count ≡ self.old.count + later.now.count }
         ensures sum { self.new.sum ≡ self.old.sum +ℤ later.now.sum }
         ensures weighted { self.new.weighted ≡ self.old.weighted +ℤ (later.now.weighted +ℤ (pos done *ℤ later.now.sum)) }
@@ -282,7 +301,7 @@ fn part_over(kind: SampleType, threshold: i64, line: &[u8]) -> Over
     };
     let mut done = 0;
     while done < count {
-        let size = (count - done).min(BLOCK);
+        let size = (count - done).min(block_size(kind));
         let block = block_over(kind, threshold, part(kind, line, done, size));
         over.join(&block, done);
         done += size;

@@ -1,4 +1,4 @@
-use Rattle.std.proofs.Common.{◌≡◌, ◌+◌, ◌*◌, ◌-◌, ◌/◌, ◌<◌, ◌≤◌, length, vec_len, subst, sym, inl, inr, arith}
+use Rattle.std.proofs.Common.{◌<◌, vec_len, inl, inr, arith}
 use Rattle.std.proofs.lemmas.Bool.{cases_lt}
 use Rattle.nd_stats.proofs.Bins.{bin_below, range_positive}
 use Rattle.nd_stats.proofs.histogram.list_by_bin.Goals as goal

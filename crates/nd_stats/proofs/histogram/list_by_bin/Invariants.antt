@@ -1,4 +1,4 @@
-use Rattle.std.proofs.Common.{◌≡◌, ℕ, ◌+◌, ◌*◌, ◌-◌, ◌/◌, ◌<◌, ◌≤◌, vec_len}
+use Rattle.std.proofs.Common.{ℕ, ◌+◌, ◌*◌, ◌-◌, ◌/◌, ◌<◌, ◌≤◌, vec_len}
 use Rattle.nd_stats.specs.Running.{AreBins}
 use Rattle.nd_stats.proofs.histogram.list_by_bin.Given as goal
 

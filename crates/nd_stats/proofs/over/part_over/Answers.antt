@@ -21,7 +21,7 @@ loop-done-preserved c =
     let count : length bytes / c.width.result ≡ length bytes / width kind = ap (λ w. length bytes / w) c.width.ensures in
     let two = subst (λ us. IsOver t (placed 0 us) block) c.part.ensures.values c.block_over-block.ensures.over in
     let low = subst (λ n. unsigned_abs block.sum ≤ n * 4294967296) many c.block_over-block.ensures.sum in
-    let most = subst (λ n. unsigned_abs block.weighted ≤ n * 549755813888) many c.block_over-block.ensures.weighted in
+    let most = subst (λ n. unsigned_abs block.weighted ≤ n * 8796093022208) many c.block_over-block.ensures.weighted in
     let few : k ≤ 8192 = omega (arith, count) in
     record {
       done = omega (arith, count, c.min-size.ensures);
