@@ -41,8 +41,8 @@ impl Moments {
     }
 }
 
-/// How many samples a block has. Those of 32 bits fill two thirds of a processor's nearest cache.
-const BLOCK: usize = 8192;
+/// How many samples a block has. Those of 32 bits fill half of a nearest cache of 32 KiB.
+const BLOCK: usize = 4096;
 
 /// The numbers of a piece that begins at place `from`.
 pub(crate) fn basics_of(
@@ -82,12 +82,12 @@ pub(crate) fn basics_of(
         let size = (count - done).min(BLOCK);
         let place = from + done as u32;
         let block = part(kind, samples, done, size);
-        extremes = with_block(&extremes, kind, block, place);
+        moments.join(&moments_of(rule, kind, dims, place, block));
         let (more, more_squares) = sums_bytes(kind, block);
         total += more;
         squares += more_squares;
+        extremes = with_block(&extremes, kind, block, place);
         edge.extend(&edge_of(rule, kind, dims, place, block));
-        moments.join(&moments_of(rule, kind, dims, place, block));
         done += size;
     }
     Basics {
