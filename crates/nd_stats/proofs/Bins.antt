@@ -1,17 +1,15 @@
 -- Bins of a histogram, and products.
 use Rattle.std.proofs.Common.{◌≡◌, ◌≢◌, ℕ, zero, suc, ◌+◌, ◌-◌, ◌*◌, ◌/◌, ◌<◌, ◌≤◌, ◌^◌, sym, subst, arith, ℤ, pos, negsuc, ◌-ℤ◌, ◌*ℤ◌, ◌≤ℤ◌, ◌<ℤ◌, w64}
 use Rattle.std.proofs.Common.{FitsSigned}
-use Rattle.std.proofs.Common.{List, [], ◌∷◌, ◌++◌, length, ap, ◌∙◌, inl, inr, length-append}
-use Rattle.std.specs.Prelude.{unsigned_abs}
-use Rattle.std.proofs.lemmas.Bool.{cases_lt}
-use Rattle.std.proofs.lemmas.Nat.{div-mul-add, le-div}
-use Rattle.std.proofs.lemmas.List.{get_or_append_left, get_or_push}
+use Rattle.std.proofs.Common.{List, ap}
+use Rattle.std.specs.Prelude.{Bool, true, false, not, ◌&&◌, refl, unsigned_abs, int_lt, if◌then◌else◌}
+use Rattle.std.proofs.lemmas.Bool.{ne_eqb}
 use Rattle.std.proofs.Math.Nat.{mul-le-mul, mul-le-mul_left, mul-le-mul_right, div-lt_iff_lt-mul}
 use Rattle.std.proofs.lemmas.Int.{ints, fits_signed_mul, unsigned_abs-mul}
 use Rattle.nd_base.specs.GraphRules.{IsStats}
 use Rattle.nd_base.specs.declared.graph.StatsRule.{StatsRule}
-use Rattle.nd_stats.specs.Measured.{bin_of}
-use Rattle.nd_stats.specs.Running.{AreBins}
+use Rattle.nd_stats.specs.Measured.{bin_at, bin_of, has_histogram}
+use Rattle.nd_stats.specs.Tallies.{added_at, bins_after}
 
 pub fits_product : (x : ℕ) (a b v : ℤ) → a ≡ pos x → b ≡ v → x ≤ 67108864 → unsigned_abs v < 2 ^ 32 → FitsSigned w64 (a *ℤ b)
 fits_product x a b v e f small weight =
@@ -44,6 +42,13 @@ range_positive (negsuc a) (negsuc b) h = omega (arith, ints)
 pub ordered_ends : (lo v hi : ℤ) → lo ≤ℤ v → v ≤ℤ hi → lo ≤ℤ hi
 ordered_ends lo v hi h k = omega (arith, ints)
 
+-- the ends of a histogram's range
+pub ordered : (rule : StatsRule) → IsStats rule → rule.hist_size ≢ 0 → rule.hist_lo ≤ℤ rule.hist_hi
+ordered rule stats some = at_most rule.hist_lo rule.hist_hi (stats.ordered some)
+  where
+    at_most : (lo hi : ℤ) → lo <ℤ hi → lo ≤ℤ hi
+    at_most lo hi h = grind (arith, ints)
+
 pub bin_product : (a m : ℕ) → a ≤ 8589934592 → m ≤ 1024 → 2 * a * m ≤ 17592186044416
 bin_product a m h k = let p = mul-le-mul (mul-le-mul_left 2 h) k in omega (arith, p)
 
@@ -61,55 +66,42 @@ product_bound x v small weight =
     let m : x * unsigned_abs v ≤ 67108864 * 4294967296 = mul-le-mul small w in
     rw (unsigned_abs-mul (pos x) v) (omega (arith, m))
 
+-- the bins of the range are below their number
+pub bin_at_below : (rule : StatsRule) (above : ℕ) → IsStats rule → rule.hist_size ≢ 0 → above ≤ unsigned_abs (rule.hist_hi -ℤ rule.hist_lo)
+    → bin_at rule above < rule.hist_size
+bin_at_below rule above stats some within =
+    bin_below above (unsigned_abs (rule.hist_hi -ℤ rule.hist_lo)) rule.hist_size within
+    (range_positive rule.hist_lo rule.hist_hi (stats.ordered some)) (omega (arith, some))
+
 -- the bin of a value of the range is one of the bins
 pub bin_of_range : (rule : StatsRule) (v : ℤ) → IsStats rule → rule.hist_size ≢ 0 → rule.hist_lo ≤ℤ v → v ≤ℤ rule.hist_hi → bin_of rule v < rule.hist_size
 bin_of_range rule v stats some from to =
-    bin_below (unsigned_abs (v -ℤ rule.hist_lo)) (unsigned_abs (rule.hist_hi -ℤ rule.hist_lo)) rule.hist_size
-    (within_range rule.hist_lo v rule.hist_hi from to) (range_positive rule.hist_lo rule.hist_hi (stats.ordered some)) (omega (arith, some))
+    bin_at_below rule (unsigned_abs (v -ℤ rule.hist_lo)) stats some (within_range rule.hist_lo v rule.hist_hi from to)
 
--- one bin more in the list
-pub bins_push : (rule : StatsRule) (bins : List ℕ) (b : ℕ) → AreBins rule bins → (let range = unsigned_abs (rule.hist_hi -ℤ rule.hist_lo) in
-    b ≡ (2 * length bins * (rule.hist_size - 1) + range) / (2 * range)) → AreBins rule (bins ++ b ∷ [])
-bins_push rule bins b are e = λ k h.
-    let long = length-append bins (b ∷ []) in
-    elim (cases_lt k (length bins)) [
-      | inl below ↦ get_or_append_left bins (b ∷ []) 0 k below ∙ are k below
-      | inr end ↦
-          let here : length bins ≡ k = omega (arith, long, h) in
-          let range = unsigned_abs (rule.hist_hi -ℤ rule.hist_lo) in
-          get_or_push bins b 0 k here ∙ e ∙ ap (λ n. (2 * n * (rule.hist_size - 1) + range) / (2 * range)) here
-    ]
+-- a value that is no further from the low end than the high end is lies in the range
+pub in_range : (lo v hi : ℤ) → lo ≤ℤ hi → lo ≤ℤ v → unsigned_abs (v -ℤ lo) ≤ unsigned_abs (hi -ℤ lo) → v ≤ℤ hi
+in_range lo v hi h k l = omega (arith, ints, h, k, l)
 
--- the bin of a mark, which is the quotient
-pub mark_bin : (b r n w : ℕ) → b * w + r ≡ n → r < w → b ≡ n / w
-mark_bin b r n w e h = sym (div-mul-add b w r h) ∙ ap (λ m. m / w) e
+-- and one that is further lies above it
+pub beyond_range : (lo v hi : ℤ) → lo ≤ℤ hi → lo ≤ℤ v → unsigned_abs (hi -ℤ lo) < unsigned_abs (v -ℤ lo) → int_lt hi v ≡ true
+beyond_range lo v hi h k l = grind (arith, ints)
 
--- a mark one step further
-pub mark_more : (x y s a m r : ℕ) → x ≡ y + s → y ≡ 2 * a * m + r → s ≡ 2 * m → x ≡ 2 * (a + 1) * m + r
-mark_more x y s a m r e f g = omega (arith, e, f, g)
+pub some_histogram : (rule : StatsRule) → rule.hist_size ≢ 0 → has_histogram rule ≡ true
+some_histogram rule some = ap not (ne_eqb rule.hist_size 0 some)
 
--- a mark of the range, and the one behind it, has a small bin
-pub mark_small : (b r a m range : ℕ) → b * (2 * range) + r ≡ 2 * a * m + range → a ≤ range + 1 → 0 < range → m ≤ 1023 → b ≤ 2046
-mark_small b r a m range e h some few =
-    elim (cases_lt b 2047) [
-      | inl below ↦ omega (arith, below)
-      | inr over ↦ absurd (let p : 2047 * range ≤ b * range = mul-le-mul_right range over in let q : a * m ≤ (range + 1) * 1023 = mul-le-mul h few in
-          omega (arith, p, q, e, some))
-    ]
+not_less : (a b : ℤ) → a ≤ℤ b → not (int_lt b a) ≡ true
+not_less a b h = grind (arith, ints)
 
--- the values before the end of a bin have this bin or one before it; the end is the quotient by two times the last bin, rounded up
-pub bin_before : (a range last bin end : ℕ) → 0 < range → end * (2 * last) < range * (2 * bin + 1) + 2 * last → a < end
-    → (2 * a * last + range) / (2 * range) ≤ bin
-bin_before a range last bin end some up below =
-    let p : (a + 1) * (2 * last) ≤ end * (2 * last) = mul-le-mul_right (2 * last) (omega (arith, below)) in
-    let q : 2 * a * last + range < (bin + 1) * (2 * range) = omega (arith, p, up) in
-    let r = (div-lt_iff_lt-mul {k = 2 * range} {x = 2 * a * last + range} {y = bin + 1} (omega (arith, some))).1 q in
-    omega (arith, r)
+-- one value of the range more
+pub bins_inside : (rule : StatsRule) (v : ℤ) (bins : List ℤ) → rule.hist_size ≢ 0 → rule.hist_lo ≤ℤ v → v ≤ℤ rule.hist_hi
+    → bins_after rule v bins ≡ added_at bins (bin_of rule v) (pos 1)
+bins_inside rule v bins some from to = rw (some_histogram rule some) (rw (not_less rule.hist_lo v from) (rw (not_less v rule.hist_hi to) refl))
 
--- and those from there on one behind it
-pub bin_behind : (a range last bin end : ℕ) → 0 < range → range * (2 * bin + 1) ≤ end * (2 * last) → end ≤ a → bin < (2 * a * last + range) / (2 * range)
-bin_behind a range last bin end some up from =
-    let p : end * (2 * last) ≤ a * (2 * last) = mul-le-mul_right (2 * last) from in
-    let q : (bin + 1) * (2 * range) ≤ 2 * a * last + range = omega (arith, p, up) in
-    let r = le-div (bin + 1) (2 * a * last + range) (2 * range) (omega (arith, some)) q in
-    omega (arith, r)
+-- one value above the range more
+pub bins_beyond : (rule : StatsRule) (v : ℤ) (bins : List ℤ) → int_lt rule.hist_hi v ≡ true → bins_after rule v bins ≡ bins
+bins_beyond rule v bins over = outside (has_histogram rule) (not (int_lt v rule.hist_lo)) (int_lt rule.hist_hi v) over
+  where
+    outside : (a b c : Bool) → c ≡ true → (if a && (b && not c) then added_at bins (bin_of rule v) (pos 1) else bins) ≡ bins
+    outside true true c e = rw e refl
+    outside true false c e = refl
+    outside false b c e = refl

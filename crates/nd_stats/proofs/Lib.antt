@@ -16,6 +16,7 @@ pub mod Pieces
 pub mod Places
 pub mod Products
 pub mod Quotients
+pub mod Ramps
 pub mod Reached
 pub mod Rooms
 pub mod RowSums

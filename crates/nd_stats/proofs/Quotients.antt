@@ -1,5 +1,6 @@
 -- A quotient by a product: m is how often d goes into the greatest number of 64 bits, and q is n times m without its lowest 64 bits.
-use Rattle.std.proofs.Common.{◌≡◌, ℕ, ◌+◌, ◌*◌, ◌/◌, ◌<◌, ◌≤◌, sym, arith}
+use Rattle.std.proofs.Common.{◌≡◌, ℕ, ◌+◌, ◌*◌, ◌/◌, ◌<◌, ◌≤◌, sym, inl, inr, arith}
+use Rattle.std.proofs.lemmas.Bool.{cases_lt}
 use Rattle.std.proofs.Math.Nat.{mul-le-mul_left, mul-le-mul_right, div-mul-le_self, lt-div-mul-add, div-eq_of_lt-le}
 
 -- it is not too high
@@ -30,3 +31,29 @@ near_quotient n d m some small e =
 
 pub is_quotient : (n d q : ℕ) → q * d ≤ n → n < q * d + d → q ≡ n / d
 is_quotient n d q low high = sym (div-eq_of_lt-le d low (omega (arith, high)))
+
+-- A quotient by a product with what is rounded up: m is how often d goes into p, and one more, and q times d is the greatest that n holds.
+parts_low : (n d p m q : ℕ) → p ≤ m * d → q * d ≤ n → q * p ≤ n * m
+parts_low n d p m q beyond low =
+    let a : q * p ≤ q * (m * d) = mul-le-mul_left q beyond in
+    let b : q * d * m ≤ n * m = mul-le-mul_right m low in
+    omega (arith, a, b)
+
+parts_high : (n d p m q : ℕ) → m * d ≤ p + d → n < q * d + d → n * d < p → n * m < q * p + p
+parts_high n d p m q near high few =
+    elim (cases_lt (n * m) (q * p + p)) [
+      | inl below ↦ below
+      | inr over ↦ absurd (let a : (q * p + p) * d ≤ n * m * d = mul-le-mul_right d over in let b : n * (m * d) ≤ n * (p + d) = mul-le-mul_left n near in
+          let c : (n + 1) * p ≤ (q * d + d) * p = mul-le-mul_right p (omega (arith, high)) in omega (arith, a, b, c, few))
+    ]
+
+-- where p is more than n times d, the product, in parts of p, is the quotient
+pub parts_quotient : (n d p m : ℕ) → 0 < d → m ≡ p / d + 1 → n * d < p → n * m / p ≡ n / d
+parts_quotient n d p m some e few =
+    let q = n / d in
+    let within : p / d * d ≤ p = div-mul-le_self p d in
+    let beyond : p < p / d * d + d = lt-div-mul-add some in
+    let times : m * d ≡ p / d * d + d = rw e (omega arith) in
+    let low = parts_low n d p m q (omega (arith, beyond, times)) (div-mul-le_self n d) in
+    let high = parts_high n d p m q (omega (arith, within, times)) (lt-div-mul-add some) few in
+    div-eq_of_lt-le p low (omega (arith, high))

@@ -40,11 +40,15 @@ is_below rule s = has_histogram rule && int_lt s.value rule.hist_lo
 abbrev pub is_above : StatsRule → Sample → Bool
 is_above rule s = has_histogram rule && int_lt rule.hist_hi s.value
 
--- the bin of a value of the histogram's range: bin 0 has its middle at the low end and the last bin at the high end
-abbrev pub bin_of : StatsRule → ℤ → ℕ
-bin_of rule v =
+-- the bin of the value that lies so far above the low end of the histogram's range: bin 0 has its middle at the low end and the last bin at the high end
+abbrev pub bin_at : StatsRule → ℕ → ℕ
+bin_at rule above =
     let range = unsigned_abs (rule.hist_hi -ℤ rule.hist_lo) in
-    (2 * unsigned_abs (v -ℤ rule.hist_lo) * (rule.hist_size - 1) + range) / (2 * range)
+    (2 * above * (rule.hist_size - 1) + range) / (2 * range)
+
+-- the bin of a value of the histogram's range
+abbrev pub bin_of : StatsRule → ℤ → ℕ
+bin_of rule v = bin_at rule (unsigned_abs (v -ℤ rule.hist_lo))
 
 -- whether a sample falls into bin k
 abbrev pub is_in_bin : StatsRule → ℕ → Sample → Bool

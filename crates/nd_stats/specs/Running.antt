@@ -12,10 +12,11 @@ use Rattle.nd_stats.specs.declared.tally.Histogram.{Histogram}
 use Rattle.nd_stats.specs.declared.blocks.Basics.{Basics}
 use Rattle.nd_stats.specs.declared.border.Edge.{Edge}
 use Rattle.nd_stats.specs.declared.histogram.Ends.{Ends}
+use Rattle.nd_stats.specs.declared.histogram.Ramp.{Ramp}
 use Rattle.nd_stats.specs.declared.histogram.Scale.{Scale}
 use Rattle.nd_stats.specs.Tallies.{HasRoom}
 use Rattle.nd_stats.specs.Samples.{Sample, AreSmall, sum_of, least_from, greatest_from, table}
-use Rattle.nd_stats.specs.Measured.{count_where, value_where, square, is_on_border, is_over, is_below, is_above, is_in_bin, has_index, moment, profile}
+use Rattle.nd_stats.specs.Measured.{count_where, value_where, square, is_on_border, is_over, is_below, is_above, is_in_bin, bin_at, has_index, moment, profile}
 pub use Rattle.nd_stats.specs.Frames.{IsFrame}
 
 pub record AreExtremes (first : Sample) (xs : List Sample) (e : Extremes) : Type 0 where
@@ -67,22 +68,18 @@ pub record IsHistogram (rule : StatsRule) (xs : List Sample) (h : Histogram) : T
   pub bins : h.bins.items ≡ table (λ k. pos (count_where (is_in_bin rule k) xs)) 0 rule.hist_size
   pub above : h.above ≡ count_where (is_above rule) xs
 
--- the bins of the values from the low end of the histogram's range on
-abbrev pub AreBins : StatsRule → List ℕ → Type 0
-AreBins rule bins =
-    (k : ℕ) → k < length bins
-    → (let range = unsigned_abs (rule.hist_hi -ℤ rule.hist_lo) in slice_index_or bins k 0 ≡ (2 * k * (rule.hist_size - 1) + range) / (2 * range))
-
--- no more bins than values of the histogram's range
-abbrev pub IsWithinRange : StatsRule → List ℕ → Type 0
-IsWithinRange rule bins = length bins ≤ unsigned_abs (rule.hist_hi -ℤ rule.hist_lo) + 1
-
--- what the bin of a value is computed from: the range, the number of the last bin, and what twice the range divides by
+-- what the bin of a value is computed from: the low end, the range, the number of the last bin, and what twice the range divides by
 pub record IsScale (rule : StatsRule) (s : Scale) : Type 0 where
+  pub low : s.low ≡ rule.hist_lo
   pub range : s.range ≡ unsigned_abs (rule.hist_hi -ℤ rule.hist_lo)
   pub last : s.last ≡ rule.hist_size - 1
   pub by : s.divisor.by ≡ 2 * s.range
   pub times : s.divisor.times ≡ 18446744073709551615 / s.divisor.by
+
+-- where the values of the histogram's range lie, in parts of 2^54 to a bin: each in its bin, and none beyond 64 bits
+pub record IsRamp (rule : StatsRule) (ramp : Ramp) : Type 0 where
+  pub bins : (above : ℕ) → above ≤ unsigned_abs (rule.hist_hi -ℤ rule.hist_lo) → (above * ramp.step + ramp.start) / 2 ^ 54 ≡ bin_at rule above
+  pub fits : (above : ℕ) → above ≤ unsigned_abs (rule.hist_hi -ℤ rule.hist_lo) → above * ramp.step + ramp.start < 2 ^ 64
 
 -- the counts of the histogram's range, and of what lies beside it
 pub record IsCounted (rule : StatsRule) (xs : List Sample) (e : Ends) (counts : List ℤ) : Type 0 where

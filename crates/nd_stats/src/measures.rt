@@ -7,10 +7,10 @@ ghost use Rattle.nd_base.specs.Shapes.{has_dimensions, sample_count, most_sample
 ghost use Rattle.nd_base.specs.Places.{size_in};
 ghost use Rattle.nd_stats.specs.Samples.{table, placed};
 ghost use Rattle.nd_stats.specs.Measured.{measure_of};
-ghost use Rattle.nd_stats.specs.Running.{IsTally, IsFrame, AreBins, IsWithinRange};
+ghost use Rattle.nd_stats.specs.Running.{IsTally, IsFrame};
 
 use crate::blocks::{Basics, basics_of};
-use crate::histogram::{histogram_of, list_bins};
+use crate::histogram::histogram_of;
 use crate::profiles::add_profiles;
 use crate::spot::{first_size, next_spot, plane_of, second_size, spot_at};
 use crate::tally::{Extremes, Histogram, Moments, Sums, Tally};
@@ -153,12 +153,10 @@ pub(crate) fn add_each(
     }
 }
 
-/// The numbers of a piece by passes over its lines and blocks. `bins` lists the bins of the histogram's range, or none, and `narrow` is where
-/// samples of at most 16 bits are added up for a profile.
+/// The numbers of a piece by passes over its lines and blocks. `narrow` is where samples of at most 16 bits are added up for a profile.
 fn tally_lines(
     blank: Tally,
     rule: &StatsRule,
-    bins: &[u16],
     narrow: &mut [i32],
     kind: SampleType,
     dims: &[Dim],
@@ -166,8 +164,6 @@ fn tally_lines(
     samples: &[u8],
 ) -> Tally
     requires frame { IsFrame rule.now dims.now }
-    requires bins { AreBins rule.now bins.now }
-    requires range { IsWithinRange rule.now bins.now }
     requires narrow { rule.now.profiles ≡ true → width kind ≤ 2 → narrow.old ≡ table (λ _. pos 0) 0 (size_in dims.now 0) }
     requires whole { length samples.now % width kind ≡ 0 }
     requires some { 0 < length samples.now / width kind }
@@ -195,7 +191,7 @@ fn tally_lines(
         border_n: edge.count,
     };
     tally.moments = moments;
-    tally.histogram = histogram_of(tally.histogram, rule, bins, kind, from, samples);
+    tally.histogram = histogram_of(tally.histogram, rule, kind, from, samples);
     if rule.profiles {
         add_profiles(
             rule,
@@ -218,7 +214,6 @@ const LONG: u32 = 4;
 fn tally_of(
     blank: Tally,
     rule: &StatsRule,
-    bins: &[u16],
     narrow: &mut [i32],
     kind: SampleType,
     dims: &[Dim],
@@ -226,8 +221,6 @@ fn tally_of(
     samples: &[u8],
 ) -> Tally
     requires frame { IsFrame rule.now dims.now }
-    requires bins { AreBins rule.now bins.now }
-    requires range { IsWithinRange rule.now bins.now }
     requires narrow { rule.now.profiles ≡ true → width kind ≤ 2 → narrow.old ≡ table (λ _. pos 0) 0 (size_in dims.now 0) }
     requires whole { length samples.now % width kind ≡ 0 }
     requires some { 0 < length samples.now / width kind }
@@ -241,7 +234,7 @@ fn tally_of(
     if first_size(dims) < LONG {
         add_each(blank, rule, kind, dims, from, samples)
     } else {
-        tally_lines(blank, rule, bins, narrow, kind, dims, from, samples)
+        tally_lines(blank, rule, narrow, kind, dims, from, samples)
     }
 }
 
@@ -326,9 +319,8 @@ pub fn measure_piece(
 {
     let first = number_at(kind, samples, 0);
     let blank = blank_tally(alloc, rule, dims, from, first)?;
-    let bins = list_bins(alloc, rule, samples.len() / kind.width())?;
     let mut narrow = blank_narrow(alloc, rule, kind, dims)?;
-    let tally = tally_of(blank, rule, &bins, &mut narrow, kind, dims, from, samples);
+    let tally = tally_of(blank, rule, &mut narrow, kind, dims, from, samples);
     Ok(measure_from(tally, id))
 }
 

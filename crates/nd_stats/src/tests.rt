@@ -252,9 +252,9 @@ fn rows_agree(alloc: Global, rule: &StatsRule, array: &NdArray) -> Result<bool, 
     Ok(row.as_str() == plain.as_str())
 }
 
-/// Sizes with lines of less and of more than four samples, of a block of 128 and more, and of one, with planes, and with a block that
-/// ends within a line.
-const SIZES: [&'static [u32]; 10] = [
+/// Sizes with lines of less and of more than four samples, of a block of 128 and of 1,024 and more, and of one, with planes, and with a
+/// block that ends within a line.
+const SIZES: [&'static [u32]; 11] = [
     &[1, 40],
     &[3, 7],
     &[4, 3, 2],
@@ -264,10 +264,11 @@ const SIZES: [&'static [u32]; 10] = [
     &[37, 5, 3],
     &[130, 2, 2],
     &[300],
+    &[2100, 2],
     &[17, 1, 2, 2],
 ];
 
-/// With bins that are listed for the larger of these arrays, bin by bin; those of the first rule are listed value by value.
+/// With a short range, which ends within that of each sample type.
 const NARROW: StatsRule = StatsRule {
     threshold: -3,
     border: 2,
@@ -277,13 +278,33 @@ const NARROW: StatsRule = StatsRule {
     profiles: true,
 };
 
-/// With bins that are never listed.
+/// With a long range.
 const WIDE: StatsRule = StatsRule {
     threshold: 100,
     border: 3,
     hist_size: 1024,
     hist_lo: -2_147_483_648,
     hist_hi: 4_294_967_295,
+    profiles: false,
+};
+
+/// With a range of all values of 8 bits.
+const BYTES: StatsRule = StatsRule {
+    threshold: 0,
+    border: 0,
+    hist_size: 1024,
+    hist_lo: 0,
+    hist_hi: 255,
+    profiles: false,
+};
+
+/// With a range of all values of 16 bits.
+const PAIRS: StatsRule = StatsRule {
+    threshold: 0,
+    border: 0,
+    hist_size: 1000,
+    hist_lo: 0,
+    hist_hi: 65_535,
     profiles: false,
 };
 
@@ -307,6 +328,8 @@ fn passes_over_lines_give_what_the_plain_program_does(rt: HostRuntime) -> Result
             assert!(rt; rows_agree(alloc, &PLAIN, &array)?, "{kind:?}");
             assert!(rt; rows_agree(alloc, &NARROW, &array)?, "{kind:?}");
             assert!(rt; rows_agree(alloc, &WIDE, &array)?, "{kind:?}");
+            assert!(rt; rows_agree(alloc, &BYTES, &array)?, "{kind:?}");
+            assert!(rt; rows_agree(alloc, &PAIRS, &array)?, "{kind:?}");
         }
     }
     Ok(())
