@@ -5,7 +5,7 @@ use Rattle.std.proofs.Common.{List, ap}
 use Rattle.std.specs.Prelude.{Bool, true, false, not, ◌&&◌, refl, unsigned_abs, int_lt, if◌then◌else◌}
 use Rattle.std.proofs.lemmas.Bool.{ne_eqb}
 use Rattle.std.proofs.Math.Nat.{mul-le-mul, mul-le-mul_left, mul-le-mul_right, div-lt_iff_lt-mul}
-use Rattle.std.proofs.lemmas.Int.{ints, fits_signed_mul, unsigned_abs-mul}
+use Rattle.std.proofs.lemmas.Int.{ints, fits_signed_mul}
 use Rattle.nd_base.specs.GraphRules.{IsStats}
 use Rattle.nd_base.specs.declared.graph.StatsRule.{StatsRule}
 use Rattle.nd_stats.specs.Measured.{bin_at, bin_of, has_histogram}
@@ -60,12 +60,6 @@ bin_below a range (suc m) h some any =
     let e : suc m - 1 ≡ m = omega arith in
     (div-lt_iff_lt-mul (omega arith)).1 (rw e (omega (arith, p)))
 
-pub product_bound : (x : ℕ) (v : ℤ) → x ≤ 67108864 → unsigned_abs v < 2 ^ 32 → unsigned_abs (pos x *ℤ v) < 2 ^ 60
-product_bound x v small weight =
-    let w : unsigned_abs v ≤ 4294967296 = omega arith in
-    let m : x * unsigned_abs v ≤ 67108864 * 4294967296 = mul-le-mul small w in
-    rw (unsigned_abs-mul (pos x) v) (omega (arith, m))
-
 -- the bins of the range are below their number
 pub bin_at_below : (rule : StatsRule) (above : ℕ) → IsStats rule → rule.hist_size ≢ 0 → above ≤ unsigned_abs (rule.hist_hi -ℤ rule.hist_lo)
     → bin_at rule above < rule.hist_size
@@ -86,11 +80,14 @@ in_range lo v hi h k l = omega (arith, ints, h, k, l)
 pub beyond_range : (lo v hi : ℤ) → lo ≤ℤ hi → lo ≤ℤ v → unsigned_abs (hi -ℤ lo) < unsigned_abs (v -ℤ lo) → int_lt hi v ≡ true
 beyond_range lo v hi h k l = grind (arith, ints)
 
+pub not_above : (a b : ℤ) → a ≤ℤ b → int_lt b a ≡ false
+not_above a b h = grind (arith, ints)
+
 pub some_histogram : (rule : StatsRule) → rule.hist_size ≢ 0 → has_histogram rule ≡ true
 some_histogram rule some = ap not (ne_eqb rule.hist_size 0 some)
 
 not_less : (a b : ℤ) → a ≤ℤ b → not (int_lt b a) ≡ true
-not_less a b h = grind (arith, ints)
+not_less a b h = ap not (not_above a b h)
 
 -- one value of the range more
 pub bins_inside : (rule : StatsRule) (v : ℤ) (bins : List ℤ) → rule.hist_size ≢ 0 → rule.hist_lo ≤ℤ v → v ≤ℤ rule.hist_hi

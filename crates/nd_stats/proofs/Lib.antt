@@ -2,6 +2,7 @@ pub mod Alongs
 pub mod Bins
 pub mod BlockRooms
 pub mod Bounds
+pub mod Counts
 pub mod Edges
 pub mod Firsts
 pub mod Growth

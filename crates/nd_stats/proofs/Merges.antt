@@ -82,7 +82,7 @@ lengths_of rule id dims xs ys = record {
   y = same_length_if rule.profiles (λ k. value_where (has_index dims 1 k) xs) (λ k. value_where (has_index dims 1 k) ys) (size_in dims 1);
 }
 
-bins-both : (rule : StatsRule) (xs ys : List Sample) (n : ℕ)
+pub bins-both : (rule : StatsRule) (xs ys : List Sample) (n : ℕ)
     → summed (table (λ k. pos (count_where (is_in_bin rule k) xs)) 0 n) (table (λ k. pos (count_where (is_in_bin rule k) ys)) 0 n)
     ≡ table (λ k. pos (count_where (is_in_bin rule k) (xs ++ ys))) 0 n
 bins-both rule xs ys n =

@@ -1,8 +1,8 @@
 -- The samples of a part.
-use Rattle.std.proofs.Common.{◌≡◌, ℕ, zero, suc, ◌+◌, ◌*◌, ◌/◌, ◌<◌, ◌≤◌, List, ◌∷◌, ◌++◌, length, take, drop, get_or, refl, ap, sym, ◌∙◌, arith, add_comm}
+use Rattle.std.proofs.Common.{◌≡◌, ℕ, zero, suc, ◌+◌, ◌-◌, ◌*◌, ◌/◌, ◌<◌, ◌≤◌, List, ◌∷◌, ◌++◌, length, take, drop, get_or, refl, ap, sym, ◌∙◌, arith, add_comm}
 use Rattle.std.proofs.Common.{Fits, w8}
-use Rattle.std.proofs.Math.Nat.{suc-mul, zero-mul, mul-div_cancel, mul-le-mul_right, div-mul-le_self, add-mul}
-use Rattle.std.proofs.lemmas.List.{drop-drop, drop-take, take-take}
+use Rattle.std.proofs.Math.Nat.{suc-mul, zero-mul, mul-div_cancel, mul-add-div_right, mul-le-mul_right, div-mul-le_self, add-mul}
+use Rattle.std.proofs.lemmas.List.{drop-drop, drop-take, take-take, length-take-le, length-drop}
 use Rattle.std.proofs.lemmas.List.Elements.{All-from_get_or}
 use Rattle.nd_base.specs.declared.array.SampleType.{SampleType}
 use Rattle.nd_base.specs.Samples.{width, number, numbers, samples_of}
@@ -51,6 +51,35 @@ pub parts-more : (kind : SampleType) (from k m : ℕ) (bytes : List ℕ)
 parts-more kind from k m bytes =
     ap (placed from) (numbers-split kind k m bytes) ∙ placed-append from (numbers kind k bytes) (numbers kind m (drop (k * width kind) bytes))
     ∙ ap (λ n. placed from (numbers kind k bytes) ++ placed (from + n) (numbers kind m (drop (k * width kind) bytes))) (length-numbers kind k bytes)
+
+-- how many samples lie on each side of a place between two
+pub side_counts : (kind : SampleType) (k : ℕ) (bytes first second : List ℕ) → k ≤ length bytes / width kind
+    → first ≡ take (k * width kind) bytes → second ≡ drop (k * width kind) bytes
+    → (length first ≡ k * width kind) × (length first / width kind ≡ k) × (length bytes / width kind ≡ k + length second / width kind)
+side_counts kind k bytes first second within one two =
+    let w = width kind in
+    let fits : k * w ≤ length bytes = (let p = mul-le-mul_right w within in let q = div-mul-le_self (length bytes) w in omega (arith, p, q)) in
+    let long : length first ≡ k * w = ap length one ∙ length-take-le (k * w) bytes fits in
+    let rest : length second ≡ length bytes - k * w = ap length two ∙ length-drop (k * w) bytes in
+    let whole : length bytes ≡ k * w + length second = omega (arith, fits, rest) in (
+      long,
+      ap (λ l. l / w) long ∙ mul-div_cancel k (width-positive kind),
+      ap (λ l. l / w) whole ∙ mul-add-div_right (width-positive kind) k (length second),
+    )
+
+-- and which
+pub both_sides : (kind : SampleType) (from k : ℕ) (bytes first second : List ℕ) → k ≤ length bytes / width kind
+    → first ≡ take (k * width kind) bytes → second ≡ drop (k * width kind) bytes
+    → placed from (samples_of kind bytes) ≡ placed from (samples_of kind first) ++ placed (from + length first / width kind) (samples_of kind second)
+both_sides kind from k bytes first second within one two =
+    let w = width kind in
+    let counts = side_counts kind k bytes first second within one two in
+    let later = length second / w in
+    ap (λ n. placed from (numbers kind n bytes)) counts.2 ∙ parts-more kind from k later bytes
+    ∙ ap (λ vs. placed from vs ++ placed (from + k) (numbers kind later (drop (k * w) bytes)))
+    (sym (samples_of-take kind k (k * w) bytes first refl one counts.0))
+    ∙ ap (λ n. placed from (samples_of kind first) ++ placed (from + n) (numbers kind later (drop (k * w) bytes))) (sym counts.1)
+    ∙ ap (λ l. placed from (samples_of kind first) ++ placed (from + length first / w) (numbers kind later l)) (sym two)
 
 pub parts_small : (kind : SampleType) (from n : ℕ) (bytes : List ℕ) → ((i : ℕ) → Fits w8 (get_or bytes i 0)) → AreSmall (placed from (numbers kind n bytes))
 parts_small kind from n bytes fit = small_placed kind from n bytes (All-from_get_or (λ b. b < 256) bytes 0 (λ i _. (fit i).fits))

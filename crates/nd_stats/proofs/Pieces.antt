@@ -3,7 +3,7 @@ use Rattle.std.proofs.Common.{◌≡◌, ℕ, zero, suc, ◌+◌, ◌*◌, ◌/�
 use Rattle.std.proofs.Common.{pos, true, false, Bool, add_comm, add-one, replicate, not, ◌&&◌, ◌==◌, nat_le, nat_lt, IsTrue}
 use Rattle.std.specs.Prelude.{int_lt, if◌then◌else◌}
 use Rattle.std.specs.List.{list_all}
-use Rattle.std.proofs.Math.Nat.{suc-mul, zero-mul, mul-le-mul_right, div-mul-le_self}
+use Rattle.std.proofs.Math.Nat.{suc-mul, zero-mul}
 use Rattle.std.proofs.lemmas.List.{drop-drop}
 use Rattle.std.proofs.lemmas.Nat.{div-add-mod'}
 use Rattle.nd_stats.specs.declared.tally.Tally.{Tally}
@@ -79,14 +79,6 @@ small-next kind from k bytes s e small h =
 
 pub length-piece : (kind : SampleType) (from k : ℕ) (bytes : List ℕ) → length (placed from (numbers kind k bytes)) ≡ k
 length-piece kind from k bytes = length-placed from (numbers kind k bytes) ∙ length-numbers kind k bytes
-
--- the bytes of sample k end within the bytes
-pub bytes_within : (k n w : ℕ) → k < n / w → k * w + w ≤ n
-bytes_within k n w h =
-    let a = mul-le-mul_right w h in
-    let b = suc-mul k w in
-    let c = div-mul-le_self n w in
-    omega (arith, a, b, c)
 
 pub table-replicate : (k n : ℕ) → replicate n (pos 0) ≡ table (λ _. pos 0) k n
 table-replicate k zero = refl

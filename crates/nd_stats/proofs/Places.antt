@@ -1,6 +1,6 @@
 -- Places and their indices.
-use Rattle.std.proofs.Common.{◌≡◌, ℕ, zero, suc, ◌+◌, ◌*◌, ◌/◌, ◌%◌, ◌<◌, ◌||◌, List, [], ◌∷◌, length, drop, get_or, refl, ap, sym, ◌∙◌, arith, add-one, Bool}
-use Rattle.std.proofs.Common.{drop-cons, pos, true, false, nat_lt}
+use Rattle.std.proofs.Common.{◌≡◌, ℕ, zero, suc, ◌+◌, ◌*◌, ◌/◌, ◌%◌, ◌<◌, ◌||◌, List, [], ◌∷◌, length, drop, get_or, refl, ap, sym, ◌∙◌, arith, Bool}
+use Rattle.std.proofs.Common.{true, nat_lt}
 use Rattle.std.specs.List.{list_all}
 use Rattle.std.proofs.Math.Nat.{suc-mul}
 use Rattle.std.proofs.lemmas.Bool.{and_parts, ltb-true}
@@ -10,9 +10,6 @@ use Rattle.nd_base.specs.Places.{index_in, size_in}
 use Rattle.nd_stats.specs.declared.spot.Spot.{Spot}
 use Rattle.nd_stats.specs.Samples.{is_near_end, is_at_border}
 use Rattle.nd_stats.specs.Spots.{IsSpot}
-
-pub no_dim : Dim
-no_dim = record { size = 0; offset = pos 0; binning = pos 0; reverse = false }
 
 -- none of them is empty
 abbrev pub AreSizes : List Dim → Type 0
@@ -26,13 +23,6 @@ border-step b (x ∷ dims) zero rest d h = refl
 border-step b (x ∷ dims) (suc i) rest d h = border-step b dims i rest d (omega arith)
     ∙ ap (λ n. is_near_end b (get_or dims i d).size (rest % (get_or dims i d).size) || is_at_border b (drop n (x ∷ dims)) (rest / (get_or dims i d).size))
     (let e : suc (i + 1) ≡ suc i + 1 = omega arith in e)
-
-pub sizes-step : (dims : List Dim) (i : ℕ) (d : Dim) → i < length dims → AreSizes (drop i dims)
-    → (nat_lt 0 (get_or dims i d).size ≡ true) × AreSizes (drop (i + 1) dims)
-sizes-step dims i d h sizes =
-    let parts = rw (drop-cons dims i d) at sizes in
-    let both = and_parts (nat_lt 0 (get_or dims i d).size) (list_all (λ d. nat_lt 0 d.size) (drop (suc i) dims)) parts in
-    (both.0, rw add-one both.1)
 
 -- the next place of a line
 pub next_mod : (p w : ℕ) → p % w + 1 < w → (p + 1) % w ≡ p % w + 1

@@ -14,7 +14,7 @@ use Rattle.nd_stats.specs.declared.border.Edge.{Edge}
 use Rattle.nd_stats.specs.declared.histogram.Ends.{Ends}
 use Rattle.nd_stats.specs.declared.histogram.Ramp.{Ramp}
 use Rattle.nd_stats.specs.declared.histogram.Scale.{Scale}
-use Rattle.nd_stats.specs.Tallies.{HasRoom}
+use Rattle.nd_stats.specs.Tallies.{HasRoom, HaveRoom}
 use Rattle.nd_stats.specs.Samples.{Sample, AreSmall, sum_of, least_from, greatest_from, table}
 use Rattle.nd_stats.specs.Measured.{count_where, value_where, square, is_on_border, is_over, is_below, is_above, is_in_bin, bin_at, has_index, moment, profile}
 pub use Rattle.nd_stats.specs.Frames.{IsFrame}
@@ -86,6 +86,13 @@ pub record IsCounted (rule : StatsRule) (xs : List Sample) (e : Ends) (counts : 
   pub below : e.below ≡ count_where (is_below rule) xs
   pub bins : counts ≡ table (λ k. pos (count_where (is_in_bin rule k) xs)) 0 rule.hist_size
   pub above : e.above ≡ count_where (is_above rule) xs
+
+-- counts that have room for one sample more
+pub record HaveCountRooms (rule : StatsRule) (e : Ends) (counts : List ℤ) : Type 0 where
+  pub size : length counts ≡ rule.hist_size
+  pub room : HaveRoom counts
+  pub below : e.below < 2 ^ 31
+  pub above : e.above < 2 ^ 31
 
 -- the sum of the values at each index in dimension d
 abbrev pub sums_along : List Dim → ℕ → List Sample → List ℤ

@@ -1,18 +1,25 @@
 //! The histogram of a piece.
 
-ghost use Rattle.std.specs.Prelude.{◌≡◌, ◌≢◌, ℕ, ◌-◌, ◌+◌, ◌*◌, ◌/◌, ◌<◌, ◌≤◌, ◌^◌, ◌≤ℤ◌, ◌-ℤ◌, ◌&&◌, [], int_lt, length, unsigned_abs, IfOk, IfSome};
+ghost use Rattle.std.specs.Prelude.{◌≡◌, ◌≢◌, ℕ, ◌-◌, ◌+◌, ◌*◌, ◌/◌, ◌<◌, ◌≤◌, ◌^◌, ◌≤ℤ◌, ◌-ℤ◌, ◌&&◌, [], int_lt, length, pos, unsigned_abs, IfOk, IfSome};
 ghost use Rattle.nd_base.specs.GraphRules.{IsStats};
 ghost use Rattle.nd_base.specs.Samples.{width, samples_of, IsSmall};
 ghost use Rattle.nd_base.specs.Shapes.{most_samples};
 ghost use Rattle.nd_stats.specs.Measured.{bin_at, has_histogram};
-ghost use Rattle.nd_stats.specs.Tallies.{HaveRoom, bins_after, one_if};
+ghost use Rattle.nd_stats.specs.Tallies.{bins_after, one_if};
 ghost use Rattle.nd_stats.specs.Samples.{placed};
-ghost use Rattle.nd_stats.specs.Running.{IsHistogram, IsScale, IsRamp, IsCounted};
+ghost use Rattle.nd_stats.specs.Running.{IsHistogram, IsScale, IsRamp, IsCounted, HaveCountRooms};
 
+use crate::merge::add_each;
 use crate::tally::{Histogram, add_at, distance};
 use lane_kernels::sample_at;
 use nd_base::SampleType::{Int8, Int16, Int32, UInt8, UInt16, UInt32};
 use nd_base::{SampleType, StatsRule};
+
+/// How many bins a histogram has at most.
+const MOST_BINS: usize = 1024;
+
+/// From how many samples on a piece is counted by halves.
+const MANY: usize = 4096;
 
 /// How many parts a bin has.
 const PARTS: u64 = 1 << 54;
@@ -32,7 +39,7 @@ fn ramp_of(rule: &StatsRule) -> Option<Ramp>
     requires rule { IsStats rule.now }
     requires some { rule.now.hist_size ≢ 0 }
     ensures ramp { IfSome result (λ ramp. IsRamp rule.now ramp) }
-    ensures short { unsigned_abs (rule.now.hist_hi -ℤ rule.now.hist_lo) < 2097152 → result ≢ None }
+    ensures short { unsigned_abs (rule.now.hist_hi -ℤ rule.now.hist_lo) < 2 ^ 21 → result ≢ None }
 {
     let range = distance(rule.hist_lo, rule.hist_hi);
     if range >= LONG {
@@ -179,10 +186,7 @@ fn count_one(
     requires scale { IsScale rule.now scale }
     requires ramp { IfSome ramp (λ ramp. IsRamp rule.now ramp) }
     requires small { IsSmall value }
-    requires size { length counts.old ≡ rule.now.hist_size }
-    requires room { HaveRoom counts.old }
-    requires below { ends.below < 2 ^ 31 }
-    requires above { ends.above < 2 ^ 31 }
+    requires rooms { HaveCountRooms rule.now ends counts.old }
     ensures below { result.below ≡ ends.below + one_if (has_histogram rule.now && int_lt value rule.now.hist_lo) }
     ensures bins { counts.new ≡ bins_after rule.now value counts.old }
     ensures above { result.above ≡ ends.above + one_if (has_histogram rule.now && int_lt rule.now.hist_hi value) }
@@ -232,6 +236,94 @@ fn count_each(
     ends
 }
 
+/// Counts the samples of two pieces in turns, each in counts of its own, so that a sample needn't wait for an equal one before it. The second
+/// has as many samples as the first, or one more.
+#[inline(always)]
+fn count_turns(
+    rule: &StatsRule,
+    scale: Scale,
+    ramp: Option<Ramp>,
+    kind: SampleType,
+    from: u32,
+    first: &[u8],
+    second: &[u8],
+    counts: &mut [i64],
+    more: &mut [i64],
+) -> (Ends, Ends)
+    requires rule { IsStats rule.now }
+    requires some { rule.now.hist_size ≢ 0 }
+    requires scale { IsScale rule.now scale }
+    requires ramp { IfSome ramp (λ ramp. IsRamp rule.now ramp) }
+    requires few { length first.now / width kind + length second.now / width kind ≤ most_samples }
+    requires as_many { length first.now / width kind ≤ length second.now / width kind }
+    requires one_more { length second.now / width kind ≤ length first.now / width kind + 1 }
+    requires blank { IsCounted rule.now [] record { below = 0; above = 0 } counts.old }
+    requires blank_more { IsCounted rule.now [] record { below = 0; above = 0 } more.old }
+    ensures first { IsCounted rule.now (placed from (samples_of kind first.now)) result.0 counts.new }
+    ensures second { IsCounted rule.now (placed (from + length first.now / width kind) (samples_of kind second.now)) result.1 more.new }
+{
+    let mut one = Ends { below: 0, above: 0 };
+    let mut two = one;
+    let turns = first.len() / kind.width();
+    for k in 0..turns {
+        one = count_one(rule, scale, ramp, sample_at(kind, first, k), one, counts);
+        two = count_one(rule, scale, ramp, sample_at(kind, second, k), two, more);
+    }
+    if turns < second.len() / kind.width() {
+        let last = sample_at(kind, second, turns);
+        two = count_one(rule, scale, ramp, last, two, more);
+    }
+    (one, two)
+}
+
+/// Counts the samples of a piece that begins at place `from`, by halves where there are counts for a second one.
+#[inline(always)]
+fn count_piece(
+    rule: &StatsRule,
+    scale: Scale,
+    ramp: Option<Ramp>,
+    kind: SampleType,
+    from: u32,
+    samples: &[u8],
+    counts: &mut [i64],
+    more: &mut [i64],
+) -> Ends
+    requires rule { IsStats rule.now }
+    requires some { rule.now.hist_size ≢ 0 }
+    requires scale { IsScale rule.now scale }
+    requires ramp { IfSome ramp (λ ramp. IsRamp rule.now ramp) }
+    requires few { length samples.now / width kind ≤ most_samples }
+    requires blank { IsCounted rule.now [] record { below = 0; above = 0 } counts.old }
+    requires blank_more { 0 < length more.old → IsCounted rule.now [] record { below = 0; above = 0 } more.old }
+    ensures { IsCounted rule.now (placed from (samples_of kind samples.now)) result counts.new }
+{
+    if more.is_empty() {
+        return count_each(rule, scale, ramp, kind, from, samples, counts);
+    }
+    let half = samples.len() / kind.width() / 2;
+    let (first, second) = samples.split_at(half * kind.width());
+    let (one, two) = count_turns(rule, scale, ramp, kind, from, first, second, counts, more);
+    add_each(counts, more);
+    Ends {
+        below: one.below + two.below,
+        above: one.above + two.above,
+    }
+}
+
+/// The same scale, with ends that are known where the code is made.
+#[inline(always)]
+fn whole(scale: Scale, last: u64) -> Scale
+    requires low { scale.low ≡ pos 0 }
+    requires range { scale.range ≡ last }
+    ensures { result ≡ scale }
+{
+    Scale {
+        low: 0,
+        range: last,
+        ..scale
+    }
+}
+
 /// The same by code of each sample type. Where the range has just the values of a type without a sign, its code is made without a test.
 #[inline(always)]
 fn count_kind(
@@ -242,6 +334,7 @@ fn count_kind(
     from: u32,
     samples: &[u8],
     counts: &mut [i64],
+    more: &mut [i64],
 ) -> Ends
     requires rule { IsStats rule.now }
     requires some { rule.now.hist_size ≢ 0 }
@@ -249,31 +342,24 @@ fn count_kind(
     requires ramp { IfSome ramp (λ ramp. IsRamp rule.now ramp) }
     requires few { length samples.now / width kind ≤ most_samples }
     requires blank { IsCounted rule.now [] record { below = 0; above = 0 } counts.old }
+    requires blank_more { 0 < length more.old → IsCounted rule.now [] record { below = 0; above = 0 } more.old }
     ensures { IsCounted rule.now (placed from (samples_of kind samples.now)) result counts.new }
 {
     match kind {
-        Int8 => count_each(rule, scale, ramp, Int8, from, samples, counts),
+        Int8 => count_piece(rule, scale, ramp, Int8, from, samples, counts, more),
         UInt8 if scale.low == 0 && scale.range == 255 => {
-            let whole = Scale {
-                low: 0,
-                range: 255,
-                ..scale
-            };
-            count_each(rule, whole, ramp, UInt8, from, samples, counts)
+            let scale = whole(scale, 255);
+            count_piece(rule, scale, ramp, UInt8, from, samples, counts, more)
         }
-        UInt8 => count_each(rule, scale, ramp, UInt8, from, samples, counts),
-        Int16 => count_each(rule, scale, ramp, Int16, from, samples, counts),
+        UInt8 => count_piece(rule, scale, ramp, UInt8, from, samples, counts, more),
+        Int16 => count_piece(rule, scale, ramp, Int16, from, samples, counts, more),
         UInt16 if scale.low == 0 && scale.range == 65_535 => {
-            let whole = Scale {
-                low: 0,
-                range: 65_535,
-                ..scale
-            };
-            count_each(rule, whole, ramp, UInt16, from, samples, counts)
+            let scale = whole(scale, 65_535);
+            count_piece(rule, scale, ramp, UInt16, from, samples, counts, more)
         }
-        UInt16 => count_each(rule, scale, ramp, UInt16, from, samples, counts),
-        Int32 => count_each(rule, scale, ramp, Int32, from, samples, counts),
-        UInt32 => count_each(rule, scale, ramp, UInt32, from, samples, counts),
+        UInt16 => count_piece(rule, scale, ramp, UInt16, from, samples, counts, more),
+        Int32 => count_piece(rule, scale, ramp, Int32, from, samples, counts, more),
+        UInt32 => count_piece(rule, scale, ramp, UInt32, from, samples, counts, more),
     }
 }
 
@@ -285,17 +371,19 @@ fn count_all(
     from: u32,
     samples: &[u8],
     counts: &mut [i64],
+    more: &mut [i64],
 ) -> Ends
     requires rule { IsStats rule.now }
     requires some { rule.now.hist_size ≢ 0 }
     requires few { length samples.now / width kind ≤ most_samples }
     requires blank { IsCounted rule.now [] record { below = 0; above = 0 } counts.old }
+    requires blank_more { 0 < length more.old → IsCounted rule.now [] record { below = 0; above = 0 } more.old }
     ensures { IsCounted rule.now (placed from (samples_of kind samples.now)) result counts.new }
 {
     let scale = scale_of(rule);
     match ramp_of(rule) {
-        Some(ramp) => count_kind(rule, scale, Some(ramp), kind, from, samples, counts),
-        None => count_kind(rule, scale, None, kind, from, samples, counts),
+        Some(ramp) => count_kind(rule, scale, Some(ramp), kind, from, samples, counts, more),
+        None => count_kind(rule, scale, None, kind, from, samples, counts, more),
     }
 }
 
@@ -316,7 +404,13 @@ pub(crate) fn histogram_of(
         return blank;
     }
     let mut histogram = blank;
-    let ends = count_all(rule, kind, from, samples, &mut histogram.bins);
+    let ends = if samples.len() / kind.width() < MANY {
+        count_all(rule, kind, from, samples, &mut histogram.bins, &mut [])
+    } else {
+        let mut more = [0; MOST_BINS];
+        let more = &mut more[..rule.hist_size as usize];
+        count_all(rule, kind, from, samples, &mut histogram.bins, more)
+    };
     histogram.below = ends.below;
     histogram.above = ends.above;
     histogram

@@ -33,7 +33,7 @@ impl Merge for Measure {
 }
 
 /// Adds sums to sums, place by place.
-fn add_each(sums: &mut [i64], more: &[i64])
+pub(crate) fn add_each(sums: &mut [i64], more: &[i64])
     requires lengths { length sums.old ≡ length more.now }
     requires room { HaveRoom sums.old }
     requires more { HaveRoom more.now }

@@ -253,7 +253,7 @@ fn rows_agree(alloc: Global, rule: &StatsRule, array: &NdArray) -> Result<bool, 
 }
 
 /// Sizes with lines of less and of more than four samples, of a block of 128 and of 1,024 and more, and of one, with planes, and with a
-/// block that ends within a line.
+/// block that ends within a line; with an even and an odd number of samples that are counted by halves.
 const SIZES: [&'static [u32]; 11] = [
     &[1, 40],
     &[3, 7],
@@ -264,7 +264,7 @@ const SIZES: [&'static [u32]; 11] = [
     &[37, 5, 3],
     &[130, 2, 2],
     &[300],
-    &[2100, 2],
+    &[2101, 3],
     &[17, 1, 2, 2],
 ];
 
