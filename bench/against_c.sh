@@ -3,14 +3,14 @@
 # line by line in narrow types. Types, rules and sizes are words on both command lines, so that neither compiler knows them. Each
 # pair prints the same checksum, or the script ends. It prints the ratio of the medians of processor time, seven runs each in turn,
 # and the nanoseconds a sample. It is no part of the gate.
-# Usage: bench/against_c.sh [stats|region]
+# Usage: bench/against_c.sh [stats|ranges|region]
 set -eu
 here=$(cd "$(dirname "$0")/.." && pwd)
 crate=$here/crates/nd_bench
 source "$here/bench/timing.sh"
 work=$(mktemp -d)
 trap 'rm -rf "$work"' EXIT
-(cd "$crate" && rt run -- stats UInt8 0 0 0 0 0 0 4x4 1) > "$work/build.log"
+(cd "$crate" && rt run -- stats UInt8 8 0 0 0 0 0 0 4x4 1) > "$work/build.log"
 program=$crate/out/nd_bench
 for name in stats region; do gcc -O3 -march=native -o "$work/$name" "$here/bench/$name.c"; done
 
@@ -40,10 +40,24 @@ compare() {
 if [ "${1:-stats}" = stats ]; then
     for sizes in 1024x1024 128x128x64 16x16; do
         for kind in UInt8 UInt16 Int32; do
-            compare "stats $sizes $kind, no option" $sizes stats $kind 0 0 0 0 0 0
-            compare "stats $sizes $kind, all options" $sizes stats $kind "$(middle $kind)" 2 256 "$(first $kind)" "$(last $kind)" 1
+            compare "stats $sizes $kind, no option" $sizes stats $kind 32 0 0 0 0 0 0
+            compare "stats $sizes $kind, all options" $sizes stats $kind 32 "$(middle $kind)" 2 256 "$(first $kind)" "$(last $kind)" 1
         done
     done
+fi
+# Other samples and ranges, with all options: samples of two bits, as in a dark frame; those of 12 bits in a range of as many; a range that all
+# but a few samples lie in; and one that half of the samples lie above, in no order.
+if [ "${1:-ranges}" = ranges ]; then
+    sizes=1024x1024
+    for kind in UInt8 UInt16 Int32; do
+        compare "stats $sizes $kind of 2 bits" $sizes stats $kind 2 2 2 256 "$(first $kind)" "$(last $kind)" 1
+    done
+    compare "stats $sizes UInt16 of 12 bits, range 0 to 4095" $sizes stats UInt16 12 2048 2 256 0 4095 1
+    compare "stats $sizes UInt16 of 2 bits, range 0 to 4095" $sizes stats UInt16 2 2 2 256 0 4095 1
+    compare "stats $sizes UInt8, range 0 to 254" $sizes stats UInt8 8 128 2 256 0 254 1
+    compare "stats $sizes UInt16, range 0 to 65534" $sizes stats UInt16 16 32768 2 256 0 65534 1
+    compare "stats $sizes UInt8, range 0 to 127" $sizes stats UInt8 8 128 2 256 0 127 1
+    compare "stats $sizes UInt16, range 0 to 32767" $sizes stats UInt16 16 32768 2 256 0 32767 1
 fi
 if [ "${1:-region}" = region ]; then
     for kind in UInt8 UInt16 Int32; do

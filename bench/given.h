@@ -1,4 +1,5 @@
-/* What the C programs beside this file are given: the sample type and the sizes of an array, whose bytes have no pattern. */
+/* What the C programs beside this file are given: the sample type, the bits of a sample and the sizes of an array, whose samples have no
+   pattern. */
 enum type { INT8, UINT8, INT16, UINT16, INT32, UINT32 };
 
 struct given {
@@ -17,8 +18,8 @@ static enum type type_of(const char *word) {
 
 static int bytes_of(enum type type) { return 1 << type / 2; }
 
-/* Sizes like 1024x1024, dimension 0 first. */
-static struct given given(const char *type, const char *sizes) {
+/* Sizes like 1024x1024, dimension 0 first. A sample has its lowest `bits` bits, and its most significant byte first. */
+static struct given given(const char *type, int bits, const char *sizes) {
     struct given g = {type_of(type), 0, 0, {0}, 0, 1, 1, 0};
     g.bytes_each = bytes_of(g.type);
     for (char *end; g.rank < 10; sizes = end + 1) {
@@ -33,7 +34,9 @@ static struct given given(const char *type, const char *sizes) {
     uint32_t number = 1;
     for (size_t i = 0; i < count; i++) {
         number = number * 1664525u + 1013904223u;
-        g.bytes[i] = (uint8_t)(number >> 24);
+        int kept = bits - 8 * (g.bytes_each - 1 - (int)(i % g.bytes_each));
+        kept = kept < 0 ? 0 : kept > 8 ? 8 : kept;
+        g.bytes[i] = (uint8_t)(number >> 24 & ((1u << kept) - 1));
     }
     return g;
 }

@@ -101,7 +101,7 @@ REGION(UInt32, uint32_t, uint32_t, __builtin_bswap32, int64_t, wide)
 
 int main(int argc, char **argv) {
     if (argc != 9) return 1;
-    struct given g = given(argv[2], argv[7]);
+    struct given g = given(argv[2], 32, argv[7]);
     struct region r = {.reverse = !strcmp(argv[4], "1"), .scale = strtoul(argv[5], 0, 10)};
     r.out_type = strcmp(argv[6], "same") ? type_of(argv[6]) : g.type;
     r.length = bytes_of(r.out_type);

@@ -1,4 +1,4 @@
-/* The workload `stats` of nd_bench as a plain program (statistics.h). Usage: stats stats TYPE THRESHOLD BORDER BINS LOW HIGH PROFILES SIZES
+/* The workload `stats` of nd_bench as a plain program (statistics.h). Usage: stats stats TYPE BITS THRESHOLD BORDER BINS LOW HIGH PROFILES SIZES
    COUNT. */
 #include "statistics.h"
 
@@ -28,11 +28,11 @@ MEASURE(Int32, int32_t, uint32_t, __builtin_bswap32, int64_t, WIDE, INT32_MIN, I
 MEASURE(UInt32, uint32_t, uint32_t, __builtin_bswap32, int64_t, WIDE, (int64_t)0, UINT32_MAX)
 
 int main(int argc, char **argv) {
-    if (argc != 11) return 1;
-    struct rule r = {strtoll(argv[3], 0, 10), strtoll(argv[6], 0, 10), strtoll(argv[7], 0, 10), strtoul(argv[4], 0, 10),
-                     strtoul(argv[5], 0, 10), !strcmp(argv[8], "1")};
-    struct given g = given(argv[2], argv[9]);
-    uint32_t count = strtoul(argv[10], 0, 10);
+    if (argc != 12) return 1;
+    struct rule r = {strtoll(argv[4], 0, 10), strtoll(argv[7], 0, 10), strtoll(argv[8], 0, 10), strtoul(argv[5], 0, 10),
+                     strtoul(argv[6], 0, 10), !strcmp(argv[9], "1")};
+    struct given g = given(argv[2], atoi(argv[3]), argv[10]);
+    uint32_t count = strtoul(argv[11], 0, 10);
     struct measure m = {0};
     m.bins = malloc(r.bins * 8 + 8), m.x = malloc(g.width * 8), m.y = malloc(g.height * 8);
     uint64_t sum = 0;

@@ -1,6 +1,6 @@
 //! Arrays and rules that words on the command line name, so that types, sizes and options are known only as the program runs.
 
-ghost use Rattle.std.specs.Prelude.{◌≤◌, IfSome, length};
+ghost use Rattle.std.specs.Prelude.{◌≡◌, ◌<◌, ◌≤◌, IfSome, length};
 ghost use Rattle.nd_base.specs.GraphRules.{IsSampleBound};
 
 use crate::frames::samples;
@@ -45,8 +45,28 @@ pub(crate) fn list_of(alloc: Global, word: &str) -> Option<Vec<i32>>
     Some(list)
 }
 
-/// An array of these sizes, as 1024x1024, with dimension 0 first. Its samples have no pattern.
-pub(crate) fn array_of(alloc: Global, kind: SampleType, sizes: &str) -> Option<NdArray> {
+/// The lowest bits of a byte, by how many.
+const LOWEST: [u8; 9] = [0, 1, 3, 7, 15, 31, 63, 127, 255];
+
+/// Leaves each sample, which has `width` bytes, the most significant first, its lowest `bits` bits.
+fn keep_bits(samples: &mut [u8], width: usize, bits: usize)
+    requires { 0 < width }
+    ensures { length samples.new ≡ length samples.old }
+{
+    for (index, byte) in samples.iter_mut().enumerate() {
+        let behind = width.saturating_sub(index % width).saturating_sub(1);
+        let kept = bits.saturating_sub(behind.saturating_mul(8)).min(8);
+        *byte &= LOWEST[kept];
+    }
+}
+
+/// An array of these sizes, as 1024x1024, with dimension 0 first. Its samples have no pattern, and so many bits.
+pub(crate) fn array_of(
+    alloc: Global,
+    kind: SampleType,
+    bits: usize,
+    sizes: &str,
+) -> Option<NdArray> {
     let mut dims = Vec::new(alloc);
     let mut bytes = kind.width();
     for size in list_of(alloc, sizes)?.iter() {
@@ -67,7 +87,9 @@ pub(crate) fn array_of(alloc: Global, kind: SampleType, sizes: &str) -> Option<N
         nsec: 0,
         attrs: Attrs::none(alloc),
     };
-    NdArray::new(alloc, head, kind, dims, samples(alloc, bytes)?).ok()
+    let mut samples = samples(alloc, bytes)?;
+    keep_bits(&mut samples, kind.width(), bits);
+    NdArray::new(alloc, head, kind, dims, samples).ok()
 }
 
 /// A checksum with one number more.

@@ -56,6 +56,6 @@ pub(crate) fn region(
     sizes: &str,
     count: u32,
 ) -> Option<u64> {
-    let array = array_of(alloc, kind_of(kind)?, sizes)?;
+    let array = array_of(alloc, kind_of(kind)?, 32, sizes)?;
     cut(alloc, &rule_of(alloc, rule)?, &array, count)
 }

@@ -1,4 +1,5 @@
-//! Workload `stats TYPE THRESHOLD BORDER BINS LOW HIGH PROFILES SIZES COUNT`: the measure of an array, so many times.
+//! Workload `stats TYPE BITS THRESHOLD BORDER BINS LOW HIGH PROFILES SIZES COUNT`: the measure of an array whose samples have so many bits, so many
+//! times.
 
 ghost use Rattle.std.specs.Prelude.{IfSome};
 ghost use Rattle.nd_base.specs.GraphRules.{IsStats};
@@ -74,7 +75,11 @@ pub(crate) fn stats(
     sizes: &str,
     count: u32,
 ) -> Option<u64> {
-    let array = array_of(alloc, kind_of(kind)?, sizes)?;
+    let [bits, rule @ ..] = rule else {
+        return None;
+    };
+    let bits = bits.as_str().parse::<usize>().ok()?;
+    let array = array_of(alloc, kind_of(kind)?, bits, sizes)?;
     let rule = rule_of(rule)?;
     let mut sum = 0;
     for _ in 0..count {
