@@ -38,6 +38,11 @@ pub record Objects : Type 0 where
   pub sink_before : Option (List ℕ)
   pub sink_after : Option (List ℕ)
 
+-- the same in one line: the library, the shelf before and after, and the sink before and after
+abbrev pub objects_of : Option Files → Option Files → Option Files → Option (List ℕ) → Option (List ℕ) → Objects
+objects_of library shelf shelf_now sink sink_now =
+    record { library = library; shelf_before = shelf; shelf_after = shelf_now; sink_before = sink; sink_after = sink_now }
+
 -- shelf and sink are as they were
 abbrev pub IsUntouched : Objects → Type 0
 IsUntouched o = (o.shelf_after ≡ o.shelf_before) × (o.sink_after ≡ o.sink_before)

@@ -1,5 +1,6 @@
 -- What each status of a run says of its log and of the objects.
 use Rattle.std.specs.Prelude.{◌≡◌, ◌≢◌, ℕ, List, Option, None, Some, Ok, Err}
+use Rattle.edge_traits.specs.Files.{Files}
 use Rattle.edge_traits.specs.Ticks.{Coming}
 use Rattle.edge_traits.specs.Written.{with_written}
 use Rattle.chain_plain.specs.Plans.{plan_of}
@@ -15,7 +16,7 @@ use Rattle.flow_run.specs.Ticks.{IsFedByTheClock}
 use Rattle.replay_top.specs.declared.status.Status.{Status}
 use Rattle.replay_top.specs.declared.status.Status.TheVariants.{Done, Usage, GraphText, GraphRule, StackBytes, Limit, ReadFault, ShelfFault, OutFault}
 use Rattle.replay_top.specs.declared.status.Status.TheVariants.{OutOfMemory}
-use Rattle.replay_top.specs.Answers.{Objects}
+use Rattle.replay_top.specs.Answers.{Objects, objects_of}
 use Rattle.replay_top.specs.Causes.{Counts, IsCause}
 use Rattle.replay_top.specs.Outcomes.{Leads}
 use Rattle.replay_top.specs.Printed.{IsCutShort}
@@ -29,6 +30,12 @@ pub record RunObjects : Type 0 where
   pub objects : Objects
   pub coming : Option Coming
   pub later : Option Coming
+
+-- the same in one line, with the clock before and after at its end
+abbrev pub run_objects_of : Option Files → Option Files → Option Files → Option (List ℕ) → Option (List ℕ) → Option Coming → Option Coming
+    → RunObjects
+run_objects_of library shelf shelf_now sink sink_now coming later =
+    record { objects = objects_of library shelf shelf_now sink sink_now; coming = coming; later = later }
 
 -- The log is a finished history of the graph and the stack that were read, which pass no limit. Unless a role left for want of memory, each role
 -- has made its own moves; and each load was handed the clock's next answer.

@@ -2,7 +2,7 @@
 
 ghost use Rattle.std.specs.Prelude.{◌≡◌, Some, IfOk, OnOk, IfErr};
 ghost use Rattle.edge_traits.specs.Written.{with_written};
-ghost use Rattle.replay_top.specs.Answers.{Ends, status_of};
+ghost use Rattle.replay_top.specs.Answers.{objects_of, Ends, status_of};
 ghost use Rattle.replay_top.specs.Causes.{IsCause};
 ghost use Rattle.replay_top.specs.Command.{Copy};
 ghost use Rattle.replay_top.specs.Copy.{copy_graph};
@@ -61,13 +61,7 @@ pub(crate) fn copy<L: Library, K: Shelf, T: Sink>(
     out: &mut T,
 ) -> Result<(), Status>
     ensures ends { Ends (status_of result) (Some (Copy name.now prefix.now))
-        (record {
-          library = L.holds library.old;
-          shelf_before = K.held shelf.old;
-          shelf_after = K.held shelf.new;
-          sink_before = T.written out.old;
-          sink_after = T.written out.new;
-        }) }
+        (objects_of (L.holds library.old) (K.held shelf.old) (K.held shelf.new) (T.written out.old) (T.written out.new)) }
     ensures cause { IsCause (status_of result) (record { library = L.faults library.old; shelf = K.faults shelf.old; sink = T.faults out.old })
         (record { library = L.faults library.new; shelf = K.faults shelf.new; sink = T.faults out.new }) }
     ensures library { L.holds library.new ≡ L.holds library.old }

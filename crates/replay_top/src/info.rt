@@ -2,7 +2,7 @@
 
 ghost use Rattle.std.specs.Prelude.{◌≡◌, ◌++◌, ℕ, length, Option, Some, IfOk, OnOk, string_bytes};
 ghost use Rattle.edge_traits.specs.Files.{Files};
-ghost use Rattle.replay_top.specs.Answers.{Ends, status_of};
+ghost use Rattle.replay_top.specs.Answers.{objects_of, Ends, status_of};
 ghost use Rattle.replay_top.specs.Causes.{IsCause};
 ghost use Rattle.replay_top.specs.Command.{Info};
 ghost use Rattle.replay_top.specs.Info.{type_word, attr_word, kind_line, sizes, dims_line, ids_line, attr_line, attr_lines, info_text};
@@ -136,13 +136,7 @@ pub(crate) fn info<L: Library, T: Sink>(
     out: &mut T,
 ) -> Result<(), Status>
     ensures ends { (held : Option Files) → Ends (status_of result) (Some (Info name.now))
-        (record {
-          library = L.holds library.old;
-          shelf_before = held;
-          shelf_after = held;
-          sink_before = T.written out.old;
-          sink_after = T.written out.new;
-        }) }
+        (objects_of (L.holds library.old) held held (T.written out.old) (T.written out.new)) }
     ensures cause { (shelf : ℕ) → IsCause (status_of result) (record { library = L.faults library.old; shelf = shelf; sink = T.faults out.old })
         (record { library = L.faults library.new; shelf = shelf; sink = T.faults out.new }) }
     ensures library { L.holds library.new ≡ L.holds library.old }

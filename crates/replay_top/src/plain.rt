@@ -6,7 +6,7 @@ ghost use Rattle.nd_base.specs.GraphRules.{IsGraph};
 ghost use Rattle.nd_stack.specs.KeptStacks.{IsKeptStack};
 ghost use Rattle.chain_plain.specs.Plans.{plan_of};
 ghost use Rattle.graph_conf.specs.Loads.{limit_fault};
-ghost use Rattle.replay_top.specs.Answers.{Ends, status_of};
+ghost use Rattle.replay_top.specs.Answers.{objects_of, Ends, status_of};
 ghost use Rattle.replay_top.specs.Causes.{IsCause};
 ghost use Rattle.replay_top.specs.Command.{Plain};
 ghost use Rattle.graph_files.specs.OutFiles.{plain_files, with_files};
@@ -85,13 +85,7 @@ pub(crate) fn plain<L: Library, K: Shelf, T: Sink>(
     out: &mut T,
 ) -> Result<(), Status>
     ensures ends { Ends (status_of result) (Some (Plain graph.now name.now prefix.now))
-        (record {
-          library = L.holds library.old;
-          shelf_before = K.held shelf.old;
-          shelf_after = K.held shelf.new;
-          sink_before = T.written out.old;
-          sink_after = T.written out.new;
-        }) }
+        (objects_of (L.holds library.old) (K.held shelf.old) (K.held shelf.new) (T.written out.old) (T.written out.new)) }
     ensures cause { IsCause (status_of result) (record { library = L.faults library.old; shelf = K.faults shelf.old; sink = T.faults out.old })
         (record { library = L.faults library.new; shelf = K.faults shelf.new; sink = T.faults out.new }) }
     ensures library { L.holds library.new ≡ L.holds library.old }

@@ -8,7 +8,7 @@ ghost use Rattle.run_report.specs.Text.{report_text};
 ghost use Rattle.graph_files.specs.OutFiles.{with_files};
 ghost use Rattle.replay_top.specs.Answers.{status_of, IsRefusal};
 ghost use Rattle.replay_top.specs.Claims.{Completes};
-ghost use Rattle.replay_top.specs.RunAnswers.{RunEnds, IsRunCause, OfLog, HasFinished, IsRunDone, IsRunTorn, IsRunCutShort};
+ghost use Rattle.replay_top.specs.RunAnswers.{run_objects_of, RunEnds, IsRunCause, OfLog, HasFinished, IsRunDone, IsRunTorn, IsRunCutShort};
 ghost use Rattle.replay_top.specs.MeasuredFiles.{measured_files};
 ghost use Rattle.replay_top.specs.Outcomes.{Leads};
 ghost use Rattle.replay_top.specs.RunCommand.{run_command_of};
@@ -127,17 +127,8 @@ fn run_words<
     gate: &G,
 ) -> Exit
     ensures ends { RunEnds result.status result.log (Some (run_told words.entry))
-        (record {
-          objects = record {
-            library = L.holds library.old;
-            shelf_before = K.held shelf.old;
-            shelf_after = K.held shelf.new;
-            sink_before = T.written out.old;
-            sink_after = T.written out.new;
-          };
-          coming = C.coming clock.old;
-          later = C.coming clock.new;
-        }) }
+        (run_objects_of (L.holds library.old) (K.held shelf.old) (K.held shelf.new) (T.written out.old) (T.written out.new)
+        (C.coming clock.old) (C.coming clock.new)) }
     ensures cause { IsRunCause result.status (record { library = L.faults library.old; shelf = K.faults shelf.old; sink = T.faults out.old })
         (record { library = L.faults library.new; shelf = K.faults shelf.new; sink = T.faults out.new }) }
     ensures library { L.holds library.new ≡ L.holds library.old }
@@ -185,43 +176,16 @@ pub fn run_top<
     // Done and OutFault the shelf holds its files, and the sink its report, or a proper front of it; with ShelfFault each file is as it was left.
     ensures logged { HasFinished result.status ↔ IsSome result.log }
     ensures done { result.status ≡ Status.Done → OfLog (IsRunDone
-        (record {
-          objects = record {
-            library = L.holds library.old;
-            shelf_before = K.held shelf.old;
-            shelf_after = K.held shelf.new;
-            sink_before = T.written out.old;
-            sink_after = T.written out.new;
-          };
-          coming = C.coming clock.old;
-          later = C.coming clock.new;
-        }))
+        (run_objects_of (L.holds library.old) (K.held shelf.old) (K.held shelf.new) (T.written out.old) (T.written out.new)
+        (C.coming clock.old) (C.coming clock.new)))
         (run_command_of (map string_bytes words.now)) result.log }
     ensures shelf_fault { result.status ≡ Status.ShelfFault → OfLog (IsRunTorn
-        (record {
-          objects = record {
-            library = L.holds library.old;
-            shelf_before = K.held shelf.old;
-            shelf_after = K.held shelf.new;
-            sink_before = T.written out.old;
-            sink_after = T.written out.new;
-          };
-          coming = C.coming clock.old;
-          later = C.coming clock.new;
-        }))
+        (run_objects_of (L.holds library.old) (K.held shelf.old) (K.held shelf.new) (T.written out.old) (T.written out.new)
+        (C.coming clock.old) (C.coming clock.new)))
         (run_command_of (map string_bytes words.now)) result.log }
     ensures out_fault { result.status ≡ Status.OutFault → OfLog (IsRunCutShort
-        (record {
-          objects = record {
-            library = L.holds library.old;
-            shelf_before = K.held shelf.old;
-            shelf_after = K.held shelf.new;
-            sink_before = T.written out.old;
-            sink_after = T.written out.new;
-          };
-          coming = C.coming clock.old;
-          later = C.coming clock.new;
-        }))
+        (run_objects_of (L.holds library.old) (K.held shelf.old) (K.held shelf.new) (T.written out.old) (T.written out.new)
+        (C.coming clock.old) (C.coming clock.new)))
         (run_command_of (map string_bytes words.now)) result.log }
 
     // Refusals: exactly where the words are no run; and where the files that were read, the graph first, lead to it.

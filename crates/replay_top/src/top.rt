@@ -1,7 +1,7 @@
 //! The top call.
 
 ghost use Rattle.std.specs.Prelude.{◌≡◌, ◌⊎◌, ◌↔◌, map, None, Err, string_bytes};
-ghost use Rattle.replay_top.specs.Answers.{Ends, status_of, IsRefusal, IsDone, IsWorkBegun, IsPrintCutShort};
+ghost use Rattle.replay_top.specs.Answers.{objects_of, Ends, status_of, IsRefusal, IsDone, IsWorkBegun, IsPrintCutShort};
 ghost use Rattle.replay_top.specs.Causes.{IsCause};
 ghost use Rattle.replay_top.specs.Claims.{Completes};
 ghost use Rattle.replay_top.specs.Command.{command_of};
@@ -25,13 +25,7 @@ fn run_command<L: Library, K: Shelf, T: Sink>(
     out: &mut T,
 ) -> Result<(), Status>
     ensures ends { Ends (status_of result) (command_of (map string_bytes words.now))
-        (record {
-          library = L.holds library.old;
-          shelf_before = K.held shelf.old;
-          shelf_after = K.held shelf.new;
-          sink_before = T.written out.old;
-          sink_after = T.written out.new;
-        }) }
+        (objects_of (L.holds library.old) (K.held shelf.old) (K.held shelf.new) (T.written out.old) (T.written out.new)) }
     ensures cause { IsCause (status_of result) (record { library = L.faults library.old; shelf = K.faults shelf.old; sink = T.faults out.old })
         (record { library = L.faults library.new; shelf = K.faults shelf.new; sink = T.faults out.new }) }
     ensures library { L.holds library.new ≡ L.holds library.old }
@@ -63,13 +57,7 @@ pub fn tool_top<L: Library, K: Shelf, T: Sink>(
 ) -> Status
     // Done: what the command is there for, and nothing else.
     ensures done { result ≡ Status.Done → IsDone (outcome_of (command_of (map string_bytes words.now)))
-        (record {
-          library = L.holds library.old;
-          shelf_before = K.held shelf.old;
-          shelf_after = K.held shelf.new;
-          sink_before = T.written out.old;
-          sink_after = T.written out.new;
-        }) }
+        (objects_of (L.holds library.old) (K.held shelf.old) (K.held shelf.new) (T.written out.old) (T.written out.new)) }
 
     // Refusals: exactly where the words are no command; and where the files that were read, in the command's order, lead to it.
     ensures usage { (result ≡ Status.Usage) ↔ (command_of (map string_bytes words.now) ≡ None) }
@@ -79,30 +67,12 @@ pub fn tool_top<L: Library, K: Shelf, T: Sink>(
     ensures library { L.holds library.new ≡ L.holds library.old }
     ensures untouched { IsRefusal result ⊎ (result ≡ Status.ReadFault) → (K.held shelf.new ≡ K.held shelf.old) × (T.written out.new ≡ T.written out.old) }
     ensures shelf_fault { result ≡ Status.ShelfFault → IsWorkBegun (outcome_of (command_of (map string_bytes words.now)))
-        (record {
-          library = L.holds library.old;
-          shelf_before = K.held shelf.old;
-          shelf_after = K.held shelf.new;
-          sink_before = T.written out.old;
-          sink_after = T.written out.new;
-        }) }
+        (objects_of (L.holds library.old) (K.held shelf.old) (K.held shelf.new) (T.written out.old) (T.written out.new)) }
     ensures out_fault { result ≡ Status.OutFault → IsPrintCutShort (outcome_of (command_of (map string_bytes words.now)))
-        (record {
-          library = L.holds library.old;
-          shelf_before = K.held shelf.old;
-          shelf_after = K.held shelf.new;
-          sink_before = T.written out.old;
-          sink_after = T.written out.new;
-        }) }
+        (objects_of (L.holds library.old) (K.held shelf.old) (K.held shelf.new) (T.written out.old) (T.written out.new)) }
     ensures memory { result ≡ Status.OutOfMemory → (K.held shelf.new ≡ K.held shelf.old) × (T.written out.new ≡ T.written out.old)
         ⊎ IsWorkBegun (outcome_of (command_of (map string_bytes words.now)))
-        (record {
-          library = L.holds library.old;
-          shelf_before = K.held shelf.old;
-          shelf_after = K.held shelf.new;
-          sink_before = T.written out.old;
-          sink_after = T.written out.new;
-        }) }
+        (objects_of (L.holds library.old) (K.held shelf.old) (K.held shelf.new) (T.written out.old) (T.written out.new)) }
 
     // Faults come only where their object's count rose; where none rose, the files that were read decide.
     ensures cause { IsCause result (record { library = L.faults library.old; shelf = K.faults shelf.old; sink = T.faults out.old })
