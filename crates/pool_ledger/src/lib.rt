@@ -9,5 +9,3 @@ mod grants;
 mod key_set;
 mod key_tree;
 mod pools;
-#[cfg(test)]
-mod tests;
