@@ -1,7 +1,7 @@
 use Rattle.std.proofs.Common.{rules, subst, sym}
 use Rattle.turn_lock.specs.Steps.{HasDrawn}
 use Rattle.turn_lock.proofs.Waiting.{polls_drawn}
-use Rattle.turn_lock.proofs.lock.TurnLock.spin.Goals as goal
+use Rattle.turn_lock.proofs.lock.TurnLock.wait_turn.Goals as goal
 
 pub load-requires : goal.load-requires
 load-requires g c = (
