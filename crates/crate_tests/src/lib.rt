@@ -15,6 +15,8 @@ mod counted_files;
 #[cfg(test)]
 mod expressions;
 #[cfg(test)]
+mod frames;
+#[cfg(test)]
 mod gates;
 #[cfg(test)]
 mod groups;
@@ -42,5 +44,7 @@ mod shared_frame;
 mod storage;
 #[cfg(test)]
 mod test_frame;
+#[cfg(test)]
+mod turns;
 #[cfg(test)]
 mod windows;

@@ -1,9 +1,9 @@
-//! What no clause says: that storage comes back when a frame is dropped, and that the calls go on as they should with real memory.
+//! Frames over real memory: their parts, reads in threads, and storage that comes back when a frame is dropped.
 
 ghost use Rattle.std.specs.Prelude.{◌≡◌, ◌≤◌, ◌<◌, ◌^◌, ◌++◌, length, drop, IfOk};
 ghost use Rattle.chain_plain.specs.Content.{IsContent};
 
-use crate::{Blank, Frame};
+use frame_store::{Blank, Frame};
 use nd_base::{FrameName, Held, Named, OutOfMemory, Run};
 use std::alloc::Global;
 use std::fs;
@@ -141,7 +141,7 @@ fn pages(rt: &HostRuntime) -> Result<u64, Fail> {
 }
 
 #[test]
-#[tactic(auto, using(crate::specs::WorkedRun::row_content))]
+#[tactic(auto, using(frame_store::specs::WorkedRun::row_content))]
 fn a_frame_is_a_blank_again_with_all_parts(rt: HostRuntime) -> Result<(), Fail> {
     let bytes = [1, 2, 3, 4];
     assert_eq!(rt;
@@ -152,7 +152,7 @@ fn a_frame_is_a_blank_again_with_all_parts(rt: HostRuntime) -> Result<(), Fail> 
 }
 
 #[test]
-#[tactic(auto, using(crate::specs::WorkedRun::row_content))]
+#[tactic(auto, using(frame_store::specs::WorkedRun::row_content))]
 fn sizes_from_one_byte_to_the_most(rt: HostRuntime) -> Result<(), Fail> {
     for size in [1, 67_108_864] {
         let bytes = vec![in rt.alloc(); 7u8; size]?;
@@ -163,7 +163,7 @@ fn sizes_from_one_byte_to_the_most(rt: HostRuntime) -> Result<(), Fail> {
 }
 
 #[test]
-#[tactic(auto, using(crate::specs::WorkedRun::row_content))]
+#[tactic(auto, using(frame_store::specs::WorkedRun::row_content))]
 fn two_threads_read_a_frame(rt: HostRuntime) -> Result<(), Fail> {
     let bytes = [1, 2, 1, 4, 1];
     assert_eq!(rt; read_in_threads::<Brand>(&rt, rt.alloc(), &bytes)?, (3, 3));
@@ -172,7 +172,7 @@ fn two_threads_read_a_frame(rt: HostRuntime) -> Result<(), Fail> {
 
 /// 2,000 MiB go through frames that are dropped with all parts, and 100 MiB through ones that have lost a part.
 #[test]
-#[tactic(auto, using(crate::specs::WorkedRun::row_content))]
+#[tactic(auto, using(frame_store::specs::WorkedRun::row_content))]
 fn dropped_frames_give_their_storage_back(rt: HostRuntime) -> Result<(), Fail> {
     let bytes = vec![in rt.alloc(); 1u8; 1_048_576]?;
     let before = pages(&rt)?;

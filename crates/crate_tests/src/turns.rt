@@ -1,7 +1,11 @@
-use crate::{Count, Counter, CounterOp, CounterReply, Open, TurnLock, add_then_first, count_all};
-use std::test::Fail;
+//! Threads that count behind a turn lock, and one thread with all passes.
 
-// The counts of the roles, where each has counted so often.
+use std::test::Fail;
+use turn_lock::{
+    Count, Counter, CounterOp, CounterReply, Open, TurnLock, add_then_first, count_all,
+};
+
+/// Whether each role has counted so often.
 fn is_even(counts: &[Count], seats: u32, times: usize) -> bool {
     for role in 0..seats {
         if counts.iter().filter(|count| count.role == role).count() != times {
