@@ -337,8 +337,8 @@ FIRST_BYTES = (
     (b"\x89HDF", "it is a netCDF-4 or HDF5 file: 'nccopy -k classic {0} NEW.nc' writes netCDF-4 in the classic form (for unsigned samples see docs/formats.md)"),
     (b"CDF\x05", "it is a CDF-5 file: 'nccopy -k classic {0} NEW.nc' writes it in the classic form (for unsigned samples see docs/formats.md)"),
     (b"\x1f\x8b", "it is compressed: 'gunzip < {0} > NEW.nc' unpacks it"),
-    (b"II*\0", "it is a TIFF file: write its frames as the variable array_data of a netCDF file, as docs/outputs.md shows"),
-    (b"MM\0*", "it is a TIFF file: write its frames as the variable array_data of a netCDF file, as docs/outputs.md shows"),
+    (b"II*\0", "it is a TIFF file: write its frames as the variable array_data of a netCDF file, as docs/formats.md shows"),
+    (b"MM\0*", "it is a TIFF file: write its frames as the variable array_data of a netCDF file, as docs/formats.md shows"),
 )
 
 
