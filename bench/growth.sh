@@ -1,27 +1,22 @@
 #!/usr/bin/env bash
-# Times the workloads of `nd_bench` at a count, twice and four times the count, five times each in turn, and prints the
-# medians with their growth. It is no part of the gate. A list of workloads can be given, as `bench/growth.sh pool:16384`.
+# Times `nd_replay` over 16,384, 32,768 and 65,536 frames of 4 x 4 bytes, by wall clock, three times each: `plain` and `run` of a file, of a window
+# whose ring is full, of a pool that refuses some frames, and of statistics in four threads that a sort list puts in order. Prints the medians with
+# their growth. It is no part of the gate.
 set -eu
-here=$(cd "$(dirname "$0")/.." && pwd)
-crate=$here/crates/nd_bench
-source "$here/bench/timing.sh"
-(cd "$crate" && rt run -- pool 1) > /dev/null
-program=$crate/out/nd_bench
+source "$(dirname "$0")/program.sh"
+cd "$work"
+node() { printf '[[node]]\nname = "%s"\nkind = "%s"\ninput = "driver"\nqueue = 64\n' "$1" "$2"; }
+{ printf '[run]\nfeed = "wait"\n'; node cap file; printf 'mode = "stream"\ncount = 65536\n'; } > file.toml
+{ printf '[run]\nfeed = "wait"\n'; node ring circular; printf 'trigger = "0"\npre = 4096\n'; } > window.toml
+{ printf '[run]\npool = 16384\n'; node ring circular; printf 'trigger = "0"\npre = 4096\n'; } > pool.toml
+{ printf '[run]\nfeed = "wait"\n'; node st stats; printf 'threads = 4\nsort = 64\nsort_time = 1000000\n'; } > sort.toml
 
-measure() {
-    local workload=$1 count=$2 times
-    times=$(for _ in 1 2 3 4 5; do nanoseconds "$program" "$workload" "$count"; done)
-    echo "$times" | median
-}
-
-for entry in "${@:-board-file:16384 header:65536 journal:1250000 pool:16384 window:1000000 sort-rising:16384 sort-falling:16384 sort-shuffled:8192}"; do
-    for one in $entry; do
-        workload=${one%%:*}
-        count=${one##*:}
-        a=$(measure "$workload" "$count")
-        b=$(measure "$workload" $((2 * count)))
-        c=$(measure "$workload" $((4 * count)))
-        awk -v w="$workload" -v n="$count" -v a="$a" -v b="$b" -v c="$c" \
-            'BEGIN { printf "%s %d: %.1f ms, twice %.2f, four times %.2f\n", w, n, a / 1e6, b / a, c / a }'
-    done
+measure() { for _ in 1 2 3; do nanoseconds "$program" "$@"; done | median; }
+for words in "plain file" "run file" "run window" "run pool" "run sort"; do
+    read -r command graph <<< "$words"
+    for frames in 16384 32768 65536; do
+        make_stack "$frames" 4 > stack.nc
+        measure "$command" "$graph.toml" stack.nc out_
+    done | awk -v words="$words" 'NR == 1 { first = $1 } { printf "%s%.2f", NR == 1 ? words ": growth " : " : ", $1 / first }
+        END { printf ", %.0f ns a frame\n", $1 / 65536 }'
 done

@@ -97,6 +97,3 @@ impl Header {
             .position(|var| var.name.text() == name)
     }
 }
-
-#[cfg(test)]
-mod tests;

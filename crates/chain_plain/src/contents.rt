@@ -90,7 +90,7 @@ fn array_out_of(
 /// # Errors
 ///
 /// Only for want of memory.
-pub(crate) fn content(
+pub fn content(
     alloc: Global,
     plan: &Plan,
     stack: &Stack,

@@ -6,9 +6,8 @@ mod laws;
 mod outputs;
 mod plans;
 mod shape;
-#[cfg(test)]
-mod tests;
 
+pub use contents::content;
 pub use laws::{contents_are_as_planned, contents_follow_the_graph};
 pub use outputs::plain_outputs;
 pub use plans::{maker_for, plan};

@@ -5,8 +5,6 @@
 mod fault;
 mod group;
 mod stream;
-#[cfg(test)]
-mod tests;
 
 pub use fault::SaveFault;
 pub use group::{Row, save_group};

@@ -11,8 +11,6 @@ mod log;
 mod progress;
 mod read;
 mod spelling;
-#[cfg(test)]
-mod tests;
 mod write;
 
 pub use entry::{Entry, Why};

@@ -4,8 +4,6 @@
 
 mod blank;
 mod frame;
-#[cfg(test)]
-mod tests;
 
 pub use blank::Blank;
 pub use frame::Frame;

@@ -4,12 +4,6 @@
 #![tactic(auto)]
 
 mod place;
-mod shared_frame;
 mod table;
-mod test_frame;
-#[cfg(test)]
-mod tests;
 
-pub use shared_frame::{SharedBlank, SharedFrame};
 pub use table::{FrameTable, Taken};
-pub use test_frame::{TestBlank, TestFrame};

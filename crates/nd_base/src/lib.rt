@@ -22,8 +22,6 @@ mod run;
 mod sample;
 mod seq;
 mod stack;
-#[cfg(test)]
-mod tests;
 
 pub use array::{Dim, Head, MOST_SAMPLES, NdArray, SampleType, ShapeFault, frame_bytes, same_head};
 pub use attribute::{Attr, AttrColumn, AttrKind, AttrValue, Extra, FileShape};

@@ -3,7 +3,6 @@
 ghost use Rattle.std.specs.Prelude.{◌≡◌, ◌<◌, ◌≤◌, IfSome, length};
 ghost use Rattle.nd_base.specs.GraphRules.{IsSampleBound};
 
-use crate::frames::samples;
 use nd_base::{Attrs, Dim, Head, NdArray, SampleType};
 use std::alloc::Global;
 
@@ -43,6 +42,19 @@ pub(crate) fn list_of(alloc: Global, word: &str) -> Option<Vec<i32>>
         return None;
     }
     Some(list)
+}
+
+/// So many samples without a pattern.
+fn samples(alloc: Global, count: usize) -> Option<Vec<u8>>
+    ensures { IfSome result (λ samples. length samples.items ≡ count) }
+{
+    let mut samples = vec![in alloc; 0u8; count].ok()?;
+    let mut number = 1u32;
+    for sample in samples.iter_mut() {
+        number = number.wrapping_mul(1_664_525).wrapping_add(1_013_904_223);
+        *sample = number.to_be_bytes()[0];
+    }
+    Some(samples)
 }
 
 /// The lowest bits of a byte, by how many.

@@ -1,23 +1,12 @@
-//! `nd_bench WORKLOAD COUNT`: runs a workload of a crate, and prints a checksum of what it computed. Scripts time it from
-//! outside. Two workloads take more words: `stats` and `region` say in their files which.
+//! `nd_bench WORKLOAD .. COUNT`: runs a workload of a crate so many times, and prints a checksum of what it computed. Scripts time it from
+//! outside. It has what the program itself can't show alone: one array's statistics or region, and threads at a lock.
 #![tactic(auto)]
 
-mod board;
-mod frames;
 mod given;
-mod header;
-mod journal;
 mod lock;
-mod pool;
 mod region;
-mod report;
-mod rows;
-mod sort;
-mod stack;
 mod stats;
-mod window;
 
-use sort::Order;
 use std::alloc::Global;
 use std::process::ExitCode;
 use std::rt::Env;
@@ -32,7 +21,7 @@ enum Refusal {
     OutOfMemory,
 }
 
-/// Runs the workload of this name, where it is one of the threads round a lock.
+/// Runs the threads round a lock that this name says.
 fn run_threads<T: Threads + Wait + Sync>(
     rt: &T,
     alloc: Global,
@@ -53,36 +42,6 @@ fn run_threads<T: Threads + Wait + Sync>(
         _ => return Err(Refusal::Usage),
     };
     total.ok_or(Refusal::OutOfMemory)
-}
-
-/// Runs the workload of this name.
-fn run<T: Threads + Wait + Sync>(
-    rt: &T,
-    alloc: Global,
-    workload: &str,
-    count: u32,
-) -> Result<u64, Refusal> {
-    let checksum = match workload {
-        "board-file" => board::board(alloc, board::FILE, count),
-        "board-chain" => board::board(alloc, board::CHAIN, count),
-        "board-ring" => board::board(alloc, board::RING, count),
-        "emit-1" => board::board(alloc, board::CHILD, count),
-        "emit-8" => board::board(alloc, board::CHILDREN, count),
-        "header" => header::header(alloc, count),
-        "journal" => journal::journal(alloc, count),
-        "log" => journal::log(alloc, count),
-        "pool" => pool::pool(alloc, count),
-        "report" => report::report(alloc, count),
-        "rows" => rows::rows(alloc, count),
-        "sort-rising" => sort::sort(alloc, Order::Rising, count),
-        "sort-falling" => sort::sort(alloc, Order::Falling, count),
-        "sort-shuffled" => sort::sort(alloc, Order::Shuffled, count),
-        "stack" => stack::stack(alloc, count),
-        "start" => board::start(alloc, count),
-        "window" => window::window(alloc, count),
-        _ => return run_threads(rt, alloc, workload, count),
-    };
-    checksum.ok_or(Refusal::OutOfMemory)
 }
 
 /// Runs a workload over an array. The words are its type, a rule and its sizes.
@@ -111,7 +70,7 @@ fn run_words<T: Threads + Wait + Sync>(
         return Err(Refusal::Usage);
     };
     if more.is_empty() {
-        run(rt, alloc, workload.as_str(), count)
+        run_threads(rt, alloc, workload.as_str(), count)
     } else {
         run_over(alloc, workload.as_str(), more, count)
     }

@@ -4,8 +4,6 @@
 mod cut;
 mod fill;
 mod sample;
-#[cfg(test)]
-mod tests;
 mod walk;
 
 pub use cut::region;

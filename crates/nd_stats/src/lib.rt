@@ -19,8 +19,6 @@ mod row;
 mod sample;
 mod spot;
 mod tally;
-#[cfg(test)]
-mod tests;
 
 pub use measures::{measure, measure_piece};
 pub use merge::Merge;

@@ -3,13 +3,11 @@ ghost use Rattle.std.specs.Prelude.{◌≡◌, ◌≢◌, ◌==◌, ◌<◌, ◌
 ghost use Rattle.std.specs.List.{AllByRecursion, list_any};
 ghost use Rattle.pool_ledger.specs.Keys.{IsRising, with_key, without_key, least_from, greatest_below};
 
+use crate::key_range::KeyRange;
 use crate::key_tree::KeyTree;
 use nd_base::OutOfMemory;
 use std::alloc::{AllocError, Global};
 use std::marker::Model;
-
-// Where the range of all keys is split, and how far from there its halves are.
-const MIDDLE: u64 = 1 << 63;
 
 /// A set with room for so many keys.
 #[derive(Drop)]
@@ -102,7 +100,7 @@ impl KeySet {
     {
         let low = take_spare(&mut self.spare);
         let high = take_spare(&mut self.spare);
-        self.tree.insert(key, MIDDLE, MIDDLE / 2, low, high);
+        self.tree.insert(key, KeyRange::all(), low, high);
     }
 
     /// Takes a key out.

@@ -1,12 +1,12 @@
-//! A search tree over numbers whose form follows from the numbers alone.
+//! A search tree over keys.
 //!
-//! Each fork halves the range of numbers that it stands for: keys below its split go to the low side, the others to
-//! the high side, and the fork itself keeps the least. So no path is longer than a key has bits, and nothing is ever
-//! rebalanced.
+//! Each fork splits the range of keys that it stands for: keys below its split go to the low side, the others to the high side,
+//! and the fork itself keeps the least. Splits are picked so that the keys spread, and nothing is ever rebalanced.
 ghost use Rattle.std.specs.Prelude.{◌≡◌, ◌≢◌, ◌==◌, [], ◌∷◌, true};
 ghost use Rattle.std.specs.List.{AllByRecursion, list_any};
 ghost use Rattle.pool_ledger.specs.Keys.{with_key, without_key, least_from, greatest_below};
 
+use crate::key_range::KeyRange;
 use std::marker::Model;
 use std::mem;
 
@@ -111,8 +111,8 @@ impl KeyTree {
         }
     }
 
-    /// Puts a key in. A new fork here would split at `split`, and one below it at `half` from there.
-    pub fn insert(&mut self, key: u64, split: u64, half: u64, low: Box<KeyTree>, high: Box<KeyTree>)
+    /// Puts a key in, where the tree stands for this range.
+    pub fn insert(&mut self, key: u64, range: KeyRange, low: Box<KeyTree>, high: Box<KeyTree>)
         requires absent { AllByRecursion (λ k. k ≢ key) self.old }
         requires low_empty { low.value ≡ [] }
         requires high_empty { high.value ≡ [] }
@@ -120,15 +120,15 @@ impl KeyTree {
     {
         match &mut self.node {
             Node::Leaf => {
-                self.node = Node::Fork(low, key, split, high);
+                self.node = Node::Fork(low, key, range.split(key), high);
             }
             Node::Fork(below, least, middle, above) => {
                 let greater = key.max(*least);
                 *least = key.min(*least);
                 if greater < *middle {
-                    below.insert(greater, middle.saturating_sub(half), half / 2, low, high);
+                    below.insert(greater, range.below(*middle), low, high);
                 } else {
-                    above.insert(greater, middle.saturating_add(half), half / 2, low, high);
+                    above.insert(greater, range.above(*middle), low, high);
                 }
             }
         }

@@ -6,8 +6,7 @@ pub use grants::{Grant, Refused};
 pub use pools::Pool;
 
 mod grants;
+mod key_range;
 mod key_set;
 mod key_tree;
 mod pools;
-#[cfg(test)]
-mod tests;

@@ -5,14 +5,12 @@ ghost use Rattle.pool_ledger.specs.Ledger.{empty_ledger, blocks, refs, is_free, 
 ghost use Rattle.pool_ledger.specs.Ledger.{without_blocks, largest_first, has_block};
 
 use crate::grants::{Grant, Refused};
+use crate::key_range::NUMBERS;
 use crate::key_set::KeySet;
 use nd_base::OutOfMemory;
 use std::alloc::Global;
 use std::collections::VecDeque;
 use std::marker::Model;
-
-// A free block's key is its size times this, plus its number.
-const NUMBERS: u64 = 4_294_967_296;
 
 /// What is kept of a number: the size and the holds of its block. Size 0 means that the number names no block.
 #[derive(Clone, Copy, Debug)]

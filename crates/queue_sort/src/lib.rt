@@ -3,8 +3,6 @@
 
 mod inboxes;
 mod sort_lists;
-#[cfg(test)]
-mod tests;
 
 pub use inboxes::{Full, Inbox, queues_every_run};
 pub use sort_lists::{Due, Placed, SortFull, SortList, Waiting, sorts_every_run};

@@ -9,8 +9,6 @@ mod feed;
 mod laws;
 mod reclaims;
 mod tally;
-#[cfg(test)]
-mod tests;
 mod text;
 
 pub use counting::counters;

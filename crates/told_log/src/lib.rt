@@ -7,8 +7,6 @@
 mod laws;
 mod log;
 mod lost;
-#[cfg(test)]
-mod tests;
 
 pub use laws::reclaims_have_room;
 pub use log::ToldLog;

@@ -5,8 +5,6 @@ mod expression;
 mod firing;
 mod passing;
 mod symbols;
-#[cfg(test)]
-mod tests;
 mod trigger;
 mod window;
 

@@ -1,4 +1,4 @@
--- To draw a ticket, to poll and to count sleepers keeps the rule.
+-- To draw a ticket, to poll, and to step on a word of which the rule says nothing, keeps the rule.
 use Rattle.std.proofs.Common.{◌≡◌, ℕ, zero, suc, ◌+◌, ◌%◌, ◌<◌, ◌≤◌, List, [], ◌∷◌, length, get_or, set, sym, refl, ap, ◌∙◌, subst, arith, length-set, inl}
 use Rattle.std.proofs.Common.{inr, ⊎_elim}
 use mathlib.Core.Logic.{dite}

@@ -1,6 +1,6 @@
 -- The rule of the turn lock, which holds between any two steps.
--- Word 0 counts the tickets that were drawn and word 1 the turns that have ended. The other words are for sleeping, and the
--- rule says nothing of them. The log has the entries of the turns that have ended.
+-- Word 0 counts the tickets that were drawn and word 1 the turns that have ended. Of any other word the rule says nothing. The
+-- log has the entries of the turns that have ended.
 use Rattle.std.specs.Prelude.{◌≡◌, ℕ, ◌+◌, ◌%◌, ◌<◌, ◌≤◌, ◌⊎◌, List, [], ◌∷◌, length, Option}
 use mathlib.Core.Option.{some}
 use mathlib.Core.Option as maybe

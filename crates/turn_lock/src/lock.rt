@@ -17,25 +17,16 @@ use std::hint::spin_loop;
 use std::marker::Model;
 use std::sync::Wait;
 
-// The words of the table: how many tickets were drawn, how many turns have ended, how many threads sleep or are about to, and
-// sixteen bells, each of which was rung so often: a thread sleeps by the bell of its ticket.
+// The words of the table: how many tickets were drawn, how many turns have ended, and the door: 0 where nobody has it, 2 where
+// somebody may sleep before it, else 1.
 const DRAWN: usize = 0;
 
 const ENDED: usize = 1;
 
-const SLEEPERS: usize = 2;
+const DOOR: usize = 2;
 
-const FIRST_BELL: usize = 3;
-
-// How often a thread polls before it sleeps.
-const SPINS: u32 = 400;
-
-/// The word of a ticket's bell.
-fn bell_of(ticket: u64) -> usize
-    ensures { (2 < result) × (result < 19) }
-{
-    FIRST_BELL + (ticket % 16) as usize
-}
+// How often a thread looks at the door before it sleeps. After each look it waits twice as long as before.
+const LOOKS: u32 = 8;
 
 /// A lock whose callers take turns in the order of their tickets.
 #[derive(Drop)]
@@ -49,7 +40,7 @@ impl<S: Object> Model for TurnLock<S> {
 
     ghost view = { λ l. lock_facts l.table.shared.table_id l.seats };
 
-    ghost invariant = { λ l. (l.table.shared.table_id.words ≡ 19) × (l.table.shared.table_id.slots ≡ 1) × (l.table.shared.key ≡ l.seats) };
+    ghost invariant = { λ l. (l.table.shared.table_id.words ≡ 3) × (l.table.shared.table_id.slots ≡ 1) × (l.table.shared.key ≡ l.seats) };
 }
 
 /// What one caller calls with. It means what its roles have made and what it has seen.
@@ -75,75 +66,85 @@ pub struct Open<S: Object> {
 }
 
 impl<S: Object> TurnLock<S> {
-    // Polls some times, and tells whether the turn has come.
-    fn spin(&self, seat: &mut Seat<S, View<S::Entry>>, ticket: u64) -> bool
-        requires { (seat.old.table_id ≡ self.now.id) × HasDrawn seat.old.me.0 ticket seat.old.me }
+    // Takes the door if nobody has it.
+    fn try_door(&self, seat: &mut Seat<S, View<S::Entry>>) -> bool
+        requires { seat.old.table_id ≡ self.now.id }
         ensures seat { (seat.new.table_id ≡ seat.old.table_id) × (seat.new.id ≡ seat.old.id) }
-        ensures turn { result ≡ true → InTurn S.entries S.begins seat.old.me.0 seat.new.me }
-        ensures wait { result ≡ false → seat.new.me ≡ seat.old.me }
+        ensures stays { seat.new.me ≡ seat.old.me }
     {
-        for _ in 0..SPINS {
-            if self.table.shared.load::<Poll>(seat, ENDED) == ticket {
+        self.table.shared.compare_exchange::<Stay>(seat, DOOR, 0, 1) == 0
+    }
+
+    // Polls the door some times, and tells whether this thread has it.
+    fn spin(&self, seat: &mut Seat<S, View<S::Entry>>) -> bool
+        requires { seat.old.table_id ≡ self.now.id }
+        ensures seat { (seat.new.table_id ≡ seat.old.table_id) × (seat.new.id ≡ seat.old.id) }
+        ensures stays { seat.new.me ≡ seat.old.me }
+    {
+        for tried in 0..LOOKS {
+            if self.table.shared.peek(DOOR) == 0 && self.try_door(seat) {
                 return true;
             }
-            spin_loop();
+            for _ in 0..(1u32 << tried) {
+                spin_loop();
+            }
         }
         false
     }
 
-    // Sleeps by the bell of the ticket until its turn comes. Who has said that it sleeps misses no ring: the turn has come before
-    // its bell is rung.
-    fn sleep<R: Wait>(&self, rt: &R, seat: &mut Seat<S, View<S::Entry>>, ticket: u64)
-        requires { (seat.old.table_id ≡ self.now.id) × HasDrawn seat.old.me.0 ticket seat.old.me }
+    // Takes the door, and sleeps as long as others have it.
+    fn take_door<R: Wait>(&self, rt: &R, seat: &mut Seat<S, View<S::Entry>>)
+        requires { seat.old.table_id ≡ self.now.id }
         ensures seat { (seat.new.table_id ≡ seat.old.table_id) × (seat.new.id ≡ seat.old.id) }
-        ensures turn { InTurn S.entries S.begins seat.old.me.0 seat.new.me }
+        ensures stays { seat.new.me ≡ seat.old.me }
     {
-        let bell = bell_of(ticket);
+        if self.try_door(seat) || self.spin(seat) {
+            return;
+        }
         for _ in rt.forever() {
-            let rung = self.table.shared.peek(bell);
-            if self.spin(seat, ticket) {
+            if self.table.shared.swap::<Stay>(seat, DOOR, 2) == 0 {
                 return;
             }
-            self.table.shared.park(rt, bell, (rung % (1 << 32)) as u32);
+            self.table.shared.park(rt, DOOR, 2);
         }
         unreachable!()
     }
 
-    // Draws a ticket and waits until it is served.
+    // Lets the door go, and wakes one who sleeps before it.
+    fn leave_door(&self, seat: &mut Seat<S, View<S::Entry>>)
+        requires { seat.old.table_id ≡ self.now.id }
+        ensures seat { (seat.new.table_id ≡ seat.old.table_id) × (seat.new.id ≡ seat.old.id) }
+        ensures stays { seat.new.me ≡ seat.old.me }
+    {
+        if self.table.shared.swap::<Stay>(seat, DOOR, 0) == 2 {
+            self.table.shared.wake_one(DOOR);
+        }
+    }
+
+    // Waits until the ticket is served.
+    fn wait_turn<R: Wait>(&self, rt: &R, seat: &mut Seat<S, View<S::Entry>>, ticket: u64)
+        requires { (seat.old.table_id ≡ self.now.id) × HasDrawn seat.old.me.0 ticket seat.old.me }
+        ensures seat { (seat.new.table_id ≡ seat.old.table_id) × (seat.new.id ≡ seat.old.id) }
+        ensures turn { InTurn S.entries S.begins seat.old.me.0 seat.new.me }
+    {
+        for _ in rt.forever() {
+            if self.table.shared.load::<Poll>(seat, ENDED) == ticket {
+                return;
+            }
+            spin_loop();
+        }
+        unreachable!()
+    }
+
+    // Takes the door, draws a ticket and waits until it is served. Who has the door draws alone, so its turn comes at once.
     fn begin<R: Wait>(&self, rt: &R, seat: &mut Seat<S, View<S::Entry>>)
         requires { (seat.old.table_id ≡ self.now.id) × (seat.old.me.0.stage ≡ Idle) × (seat.old.me.1 ≡ []) × (0 < length seat.old.me.0.made) }
         ensures seat { (seat.new.table_id ≡ seat.old.table_id) × (seat.new.id ≡ seat.old.id) }
         ensures turn { InTurn S.entries S.begins seat.old.me.0 seat.new.me }
     {
+        self.take_door(rt, seat);
         let ticket = self.table.shared.fetch_add::<Draw>(seat, DRAWN, 1);
-        if !self.spin(seat, ticket) {
-            self.table.shared.fetch_add::<Stay>(seat, SLEEPERS, 1);
-            self.sleep(rt, seat, ticket);
-            self.table.shared.fetch_sub::<Stay>(seat, SLEEPERS, 1);
-        }
-    }
-
-    // Rings the bell of a ticket.
-    fn ring(&self, seat: &mut Seat<S, View<S::Entry>>, ticket: u64)
-        requires { seat.old.table_id ≡ self.now.id }
-        ensures seat { (seat.new.table_id ≡ seat.old.table_id) × (seat.new.id ≡ seat.old.id) }
-        ensures stays { seat.new.me ≡ seat.old.me }
-    {
-        let bell = bell_of(ticket);
-        self.table.shared.fetch_add::<Stay>(seat, bell, 1);
-        self.table.shared.wake_all(bell);
-    }
-
-    // After this turn: wakes whoever has the next ticket, and whoever has the one after it, so that it is awake when its turn comes.
-    fn wake_next(&self, seat: &mut Seat<S, View<S::Entry>>, ended: u64)
-        requires { seat.old.table_id ≡ self.now.id }
-        ensures seat { (seat.new.table_id ≡ seat.old.table_id) × (seat.new.id ≡ seat.old.id) }
-        ensures stays { seat.new.me ≡ seat.old.me }
-    {
-        if self.table.shared.peek(SLEEPERS) != 0 {
-            self.ring(seat, ended.wrapping_add(1));
-            self.ring(seat, ended.wrapping_add(2));
-        }
+        self.wait_turn(rt, seat, ticket);
     }
 
     // A whole turn.
@@ -165,8 +166,8 @@ impl<S: Object> TurnLock<S> {
         self.begin(rt, seat);
         let state = seat.slot_mut(&self.table.shared, 0);
         let reply = state.play(alloc, op);
-        let ended = self.table.shared.fetch_add::<End>(seat, ENDED, 1);
-        self.wake_next(seat, ended);
+        self.table.shared.fetch_add::<End>(seat, ENDED, 1);
+        self.leave_door(seat);
         reply
     }
 
@@ -233,7 +234,7 @@ fn deal<S: Object>(
     passes: &mut Vec<Pass<S>>,
 )
     requires seat { (seat.table_id ≡ shared.now.table_id) × (seat.me ≡ (view Idle [] (unused 0 seats), [])) }
-    requires words { (shared.now.table_id.words ≡ 19) × (0 < seats) }
+    requires words { (shared.now.table_id.words ≡ 3) × (0 < seats) }
     requires room { (passes.old.items ≡ []) × (vec_len passes.old ≡ 0) × (seats ≤ vec_capacity passes.old) }
     ensures dealt { passes.new.items ≡ new_passes shared.now.table_id 0 seats }
     ensures len { vec_len passes.new ≡ seats }
@@ -270,7 +271,7 @@ impl<S: Object + Drop> TurnLock<S> {
     {
         let mut passes = Vec::with_capacity(alloc, seats as usize)?;
         let slots = one_slot(alloc, state)?;
-        match Table::new(alloc, &[0; 19], slots, &seats) {
+        match Table::new(alloc, &[0; 3], slots, &seats) {
             Ok((table, seat)) => {
                 deal(&table.shared, seat, seats, &mut passes);
                 Ok((TurnLock { table, seats }, passes))
