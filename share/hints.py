@@ -27,7 +27,11 @@ LONGEST_FILES = {1: 2_147_483_647, 2: 8_589_934_592}
 MOST_ARRIVALS, MOST_KEPT, LONGEST_QUEUE = 1_048_576, 67_108_864, 65_535
 
 
+said = []
+
+
 def say(words):
+    said.append(words)
     print(f"nd_replay: {words}")
 
 
@@ -419,8 +423,6 @@ def tell_limit(words, graph_name, stack_name):
 
 def tell_refusal(line, graph, stack, _):
     words = line.partition("status ")[2].split()
-    if not words:
-        return
     if words[0] == "2":
         tell_graph_text(graph)
     elif words[0] == "3":
@@ -437,11 +439,13 @@ def tell_refusal(line, graph, stack, _):
 def tell_losses(report, graph_name, *_):
     with open(report, encoding="utf-8") as file:
         rows = [line.split() for line in file]
-    graph = Graph(graph_name)
-    wait = graph.run.get("feed") == "wait"
-    inputs = {it.get("name"): it.get("input") for it in graph.nodes}
+    try:
+        graph = Graph(graph_name)
+        run, inputs = graph.run, {it.get("name"): it.get("input") for it in graph.nodes}
+    except (OSError, ValueError):
+        run, inputs = {}, {}
     frames = int(rows[0][1])
-    pool = f"pool = 0 under [run], which is no limit, or more than {graph.run.get('pool', 0)}, keeps them"
+    pool = f"pool = 0 under [run], which is no limit, or more than {run.get('pool', 0)}, keeps them"
     for words in rows[1:]:
         name = words[1] if words[0] == "node" else "the driver"
         numbers = dict(zip(*[iter(words[2 if words[0] == "node" else 1 :])] * 2)) if len(words) > 4 else {}
@@ -450,7 +454,7 @@ def tell_losses(report, graph_name, *_):
             say(f"{count('refused')} of {count('offered')} frames were refused at {name}: the pool was full. {pool} (docs/report.md)")
         if count("full"):
             queue = f"queue = {min(frames, LONGEST_QUEUE)} at {name}"
-            helps = f'feed = "wait" under [run], or {queue}, keeps them' if inputs.get(name) == "driver" and not wait else f"{queue} keeps them, and more threads there take them faster"
+            helps = f'feed = "wait" under [run], or {queue}, keeps them' if inputs.get(name, "driver") == "driver" and run.get("feed") != "wait" else f"{queue} keeps them, and more threads there take them faster"
             say(f"{count('full')} of {count('offered')} arrays were dropped at {name}: its queue was full. {helps} (docs/report.md)")
         if count("pool"):
             say(f"{count('pool')} of {count('offered')} arrays were dropped at {name}: the pool was full. {pool} (docs/report.md)")
@@ -480,4 +484,5 @@ if __name__ == "__main__":
         {"refusal": tell_refusal, "losses": tell_losses, "time": tell_time}[what](*words)
     except (OSError, ValueError, LookupError, TypeError, AttributeError):
         # What can't be told isn't told: the program's own line stands.
-        pass
+        said.clear()
+    sys.exit(0 if said or what == "time" else 1)
