@@ -4,7 +4,7 @@ here=$(cd "$(dirname "${BASH_SOURCE[0]}")/.." && pwd)
 source "$here/bench/timing.sh"
 work=$(mktemp -d)
 trap 'rm -rf "$work"' EXIT
-"$here/nd_replay" --version > "$work/version"
+"$here/nd_replay" --build
 program=$here/crates/replay_main/out/replay_main
 
 # A number as the four bytes of a word, spelled for printf.

@@ -1,0 +1,488 @@
+"""What nd_replay's script says beside the program's own lines, on standard output:
+
+    hints.py refusal LINE GRAPH STACK PREFIX              what can be done after the status that LINE tells
+    hints.py losses REPORT GRAPH STACK PREFIX             what a run lost by its report, and what keeps it
+    hints.py time COMMAND CALLED GRAPH STACK PREFIX       how long a trial build takes for a stack
+
+What a key of a graph may be is read from the tables of docs/graph.md."""
+
+import difflib
+import math
+import os
+import re
+import shlex
+import struct
+import sys
+import tomllib
+
+ROOT = os.path.dirname(os.path.dirname(os.path.realpath(__file__)))
+KINDS = ("roi", "stats", "circular", "file")
+WIDTHS = {1: 1, 2: 1, 3: 2, 4: 4, 5: 4, 6: 8}
+TYPES = {1: "byte", 2: "char", 3: "short", 4: "int", 5: "float", 6: "double"}
+TYPES_OF_DETECTORS = {6: "Int64", 7: "UInt64", 8: "Float32", 9: "Float64"}
+SECONDS_OF_SAMPLE = {"copy": 5e-7, "info": 4e-7}
+SECONDS_OF_PLUGINS = 1.2e-5
+LEAST_TIME = 2
+LONGEST_FILES = {1: 2_147_483_647, 2: 8_589_934_592}
+MOST_ARRIVALS, MOST_KEPT, LONGEST_QUEUE = 1_048_576, 67_108_864, 65_535
+
+
+said = []
+
+
+def say(words):
+    said.append(words)
+    print(f"nd_replay: {words}")
+
+
+# --- graphs
+
+
+def read_keys():
+    """Returns, for each heading of the tables of keys in docs/graph.md, the keys with their values and defaults."""
+    tables, heading = {}, None
+    with open(f"{ROOT}/docs/graph.md", encoding="utf-8") as file:
+        for line in file:
+            if line.startswith("#"):
+                heading = line.strip("# \n")
+            cells = [it.strip().replace("`", "") for it in line.replace("\\|", "or").strip().strip("|").split("|")]
+            if heading and line.startswith("|") and len(cells) == 3 and cells[0] != "Key" and not cells[0].startswith("-"):
+                for key in cells[0].split(", "):
+                    tables.setdefault(heading, {})[key] = cells[1:]
+    return tables
+
+
+def keys_of(kind):
+    """Returns the keys that the table of a node of this kind may have."""
+    found = {}
+    for heading, keys in read_keys().items():
+        if heading == "Every node" or kind in heading.replace(",", "").split():
+            found.update(keys)
+    return found
+
+
+class Graph:
+    """A graph's text, its tables, and the lines at which they stand."""
+
+    def __init__(self, name):
+        with open(name, "rb") as file:
+            self.name, self.text = name, file.read().decode()
+        self.tables = tomllib.loads(self.text)
+        nodes = self.tables.get("node", [])
+        self.nodes = [it for it in nodes if isinstance(it, dict)] if isinstance(nodes, list) else []
+        run = self.tables.get("run", {})
+        self.run = run if isinstance(run, dict) else {}
+
+    def line_of(self, number, key=None):
+        """Returns the line of a key in the table of a node, from 1, or of the run, 0; or of that table; or none."""
+        at, table = 0, None
+        for count, line in enumerate(self.text.splitlines(), 1):
+            header = re.match(r"\s*(\[\[\s*node\s*\]\]|\[)", line)
+            if header:
+                at += header[1] != "["
+                table = at if header[1] != "[" else 0 if re.match(r"\s*\[\s*run\s*\]", line) else None
+                if table == number and key is None:
+                    return count
+            elif table == number and key and re.match(rf"\s*([\"']?){re.escape(key)}\1\s*=", line):
+                return count
+        return None
+
+    def place(self, number, key=None):
+        """Returns words for a node, or for the table of the run, and for the line where it can be told."""
+        line = self.line_of(number, key) or self.line_of(number)
+        words = f"line {line} of {self.name}" if line else self.name
+        if number == 0:
+            return f"{words}, under [run]"
+        name = self.nodes[number - 1].get("name")
+        return f"{words}, node {name}" if isinstance(name, str) else f"{words}, node {number} (it has no name)"
+
+    def spots(self, key):
+        """Yields the numbers of the tables that have the key, with its value."""
+        if key in self.run:
+            yield 0, self.run[key]
+        for number, node in enumerate(self.nodes, 1):
+            if key in node:
+                yield number, node[key]
+
+    def values(self, number, key):
+        """Returns what a key may be at a node, or under run, by the page on graphs."""
+        keys = read_keys().get("run", {}) if number == 0 else keys_of(self.nodes[number - 1].get("kind"))
+        return keys.get(key, [None])[0]
+
+
+def spelled(value):
+    """Returns a value as a graph's text has it."""
+    if isinstance(value, bool):
+        return str(value).lower()
+    return f'"{value}"' if isinstance(value, str) else str(value)
+
+
+def is_of_form(value, values):
+    """Returns whether a value has the form that the page on graphs gives its key."""
+    if "truth value" in values:
+        fits = lambda it: isinstance(it, bool)
+    elif re.search(r'"|text|letters|names|expression', values):
+        words = re.findall(r'"([^"]+)"', values)
+        fits = lambda it: isinstance(it, str) and (not words or it in words or not values.startswith('"'))
+        if "letters" in values:
+            fits = lambda it: isinstance(it, str) and re.fullmatch("[A-Za-z][A-Za-z0-9_]{0,31}", it) and it != "driver"
+    else:
+        fits = lambda it: isinstance(it, int) and not isinstance(it, bool)
+    if "list" in values:
+        return isinstance(value, list) and all(map(fits, value))
+    return bool(fits(value))
+
+
+def near(word, words):
+    found = difflib.get_close_matches(word, words, 1, 0.6)
+    return f" (did you mean {found[0]}?)" if found else ""
+
+
+def tell_unknown_key(graph, key):
+    top = [it for it in graph.tables if it not in ("run", "node")]
+    if key in top:
+        place = "a key of a node stands below a line [[node]], and one of the run below [run]" if not isinstance(graph.tables[key], (dict, list)) else "the tables are [run] and [[node]]"
+        return say(f"{graph.name}: {key} is no table of a graph: {place}{near(key, ['run', 'node'])}")
+    for number, table in enumerate([graph.run, *graph.nodes]):
+        kind = table.get("kind")
+        known = read_keys().get("run", {}) if number == 0 else keys_of(kind)
+        if key in table and key not in known:
+            others = [it for it in KINDS if key in keys_of(it)]
+            hint = near(key, known) or (f", only {' and '.join(others)} nodes have it" if others else "")
+            of = "[run]" if number == 0 else f"a {kind} node"
+            return say(f"{graph.place(number, key)}: {of} has no key {key}{hint}; it may have {', '.join(known)}")
+    return None
+
+
+def tell_missing(graph, key):
+    for number, node in enumerate(graph.nodes, 1):
+        values, default = keys_of(node.get("kind")).get(key, [None, ""])
+        if key not in node and default == "has to be given":
+            return say(f"{graph.place(number)}: {key} has to be given; it may be {values}")
+    return None
+
+
+def tell_form(graph, key):
+    if key in ("run", "node") and key in graph.tables:
+        return say(f"{graph.name}: {key} is {'one table, [run]' if key == 'run' else 'a list of tables, [[node]] each'}")
+    for number, value in graph.spots(key):
+        values = graph.values(number, key)
+        if values and not is_of_form(value, values):
+            return say(f"{graph.place(number, key)}: {key} = {spelled(value)} isn't allowed; {key} may be {values}")
+    return None
+
+
+def tell_range(graph, key, value):
+    if key == "node":
+        return say(f"{graph.name}: there are {value} nodes, and a graph has at most 32")
+    for number, given in graph.spots(key):
+        node = graph.nodes[number - 1] if number else graph.run
+        if key == "count" and node.get("mode") == "single" and given != 1:
+            return say(f'{graph.place(number, key)}: mode = "single" writes one array a file, so count is 1; mode = "capture" or "stream" takes more')
+        if key == "hist_hi" and node.get("hist_size") and node.get("hist_lo", 0) >= given:
+            return say(f"{graph.place(number, key)}: hist_hi = {given} has to be above hist_lo = {node.get('hist_lo', 0)}")
+        if isinstance(given, list) and len(given) == value and len(given) > 10:
+            return say(f"{graph.place(number, key)}: {key} has {value} items, and an array at most 10 dimensions")
+        if given == value or isinstance(given, list) and value in given:
+            return say(f"{graph.place(number, key)}: {key} = {spelled(given)} is out of range; {key} may be {graph.values(number, key)}")
+    if key == "threads":
+        return say(f"{graph.name}: its nodes have {value} threads in all, and a graph at most 64")
+    for number, node in enumerate(graph.nodes, 1):
+        if key == "hist_hi" and node.get("hist_size") and node.get("hist_lo", 0) >= value:
+            return say(f"{graph.place(number, 'hist_lo')}: hist_lo = {node.get('hist_lo', 0)} has to be below hist_hi, which is {value} where it isn't given")
+    return None
+
+
+def tell_trigger(graph, words):
+    triggers = [(number, it) for number, it in graph.spots("trigger") if isinstance(it, str)]
+    if words[0] == "TooLong":
+        triggers = [it for it in triggers if len(it[1].encode()) > 256]
+    at = int(words[1]) if words[0] == "Unexpected" else None
+    for number, text in triggers if len(triggers) == 1 or at is None else []:
+        what = {"TooLong": "the trigger has more than 256 bytes", "TooDeep": "more than 32 parentheses and signs are open at once"}.get(words[0])
+        if at is not None:
+            what = f"in the trigger {text!r} what stands at place {at}, {text[at:at + 8]!r}, isn't expected there" if at < len(text) else f"the trigger {text!r} ends too early"
+        return say(f"{graph.place(number, 'trigger')}: {what}; it may have A, B, whole numbers, parentheses, and || && == != < <= > >= + - * !")
+    return say(f"a trigger may have A, B, whole numbers, parentheses, and || && == != < <= > >= + - * !")
+
+
+def tell_node(graph, fault, number):
+    node, names = graph.nodes[number - 1], ["driver", *[str(it.get("name")) for it in graph.nodes]]
+    if fault == "UnknownKind":
+        return say(f"{graph.place(number, 'kind')}: kind = {spelled(node.get('kind'))} isn't allowed{near(str(node.get('kind')), KINDS)}; kind may be {keys_of('roi')['kind'][0]}")
+    if fault == "Threads":
+        return say(f"{graph.place(number, 'threads')}: a {node.get('kind')} node has one thread: leave threads out there")
+    if fault == "DoubleName":
+        return say(f"{graph.place(number, 'name')}: an earlier node has this name; a name stands for one node")
+    if fault == "UnknownInput":
+        given = str(node.get("input"))
+        if given in names:
+            return say(f"{graph.place(number, 'input')}: {given} is a file node, which passes nothing on")
+        fed = [it.get("name") for it in graph.nodes if it.get("kind") != "file" and it is not node]
+        return say(f"{graph.place(number, 'input')}: no node is named {given}{near(given, names)}; the input may be {', '.join(['driver', *fed])}")
+    return say(f"{graph.place(number, 'input')}: from input to input it never comes to the driver: one of them has to have input = \"driver\"")
+
+
+def tell_graph_rule(graph, words):
+    fault, *rest = words
+    if fault == "UnknownKey":
+        return tell_unknown_key(graph, " ".join(rest))
+    if fault == "KeyType":
+        return tell_form(graph, " ".join(rest))
+    if fault == "Missing":
+        return tell_missing(graph, rest[0])
+    if fault == "Range":
+        return tell_range(graph, rest[0], int(rest[1]))
+    if fault == "Calc":
+        return tell_trigger(graph, rest)
+    return tell_node(graph, fault, int(rest[0]))
+
+
+def tell_graph_text(name):
+    """Says where a TOML reader stops."""
+    with open(name, "rb") as file:
+        data = file.read()
+    try:
+        text = data.decode()
+        tables = tomllib.loads(text)
+    except UnicodeDecodeError as error:
+        if data[:3] == b"CDF" or data[:4] == b"\x89HDF":
+            return say(f"{name} is a netCDF file: the words are GRAPH STACK PREFIX, in this order")
+        return say(f"{name} isn't text in UTF-8: byte {error.start}, in line {data[:error.start].count(10) + 1}")
+    except tomllib.TOMLDecodeError as error:
+        return say(f"{name} isn't TOML: {error}")
+    numbers = [it for node in [tables.get("run", {}), *tables.get("node", [])] if isinstance(node, dict) for it in node.items()]
+    for key, value in numbers:
+        for it in value if isinstance(value, list) else [value]:
+            if isinstance(it, int) and not -(2**63) <= it < 2**63:
+                return say(f"{name}: {key} = {it} has more than 64 bits, which no whole number of a graph has")
+    return say(f"{name}: see docs/graph.md; Python's TOML reader finds no fault in it")
+
+
+# --- stacks
+
+
+class Stack:
+    """The header of a netCDF classic file, as far as it can be read: dimensions, global attributes, and variables."""
+
+    def __init__(self, name):
+        with open(name, "rb") as file:
+            self.data, self.at = file.read(1 << 24), 4
+        self.is_wide = self.data[3] == 2
+        self.records = self.word()
+        self.dims = self.listed(10, lambda: (self.text(), self.word()))
+        self.attrs = dict(self.listed(12, self.attr))
+        self.vars = self.listed(11, self.var)
+
+    def word(self):
+        self.at += 4
+        return struct.unpack_from(">I", self.data, self.at - 4)[0]
+
+    def text(self):
+        length = self.word()
+        self.at += length + -length % 4
+        return self.data[self.at - length - -length % 4 :][:length].decode()
+
+    def listed(self, tag, element):
+        found, count = self.word(), self.word()
+        if found not in (0, tag):
+            raise ValueError
+        return [element() for _ in range(count)]
+
+    def attr(self):
+        name, kind, count = self.text(), self.word(), self.word()
+        length = count * WIDTHS[kind]
+        values = self.data[self.at : self.at + length]
+        self.at += length + -length % 4
+        return name, (kind, values)
+
+    def var(self):
+        name = self.text()
+        dims = [self.word() for _ in range(self.word())]
+        self.listed(12, self.attr)
+        kind = self.word()
+        self.at += 8 + 4 * self.is_wide
+        return name, dims, kind
+
+    def frames(self):
+        """Returns the variable of the frames, or none."""
+        return next((it for it in self.vars if it[0] == "array_data"), None)
+
+    def samples(self):
+        """Returns the number of samples of all frames."""
+        _, dims, _ = self.frames()
+        lengths = [self.dims[it][1] for it in dims]
+        return math.prod(it or self.records for it in lengths)
+
+
+def header_of(name):
+    try:
+        return Stack(name)
+    except (OSError, ValueError, KeyError, IndexError, struct.error):
+        return None
+
+
+CONVERT_FLOATS = (
+    "ncap2 -s 'array_data=int(array_data)' {0} NEW.nc cuts them to whole numbers, and so does, rounded, "
+    "python3 -c 'import sys, xarray as x; d = x.open_dataset(sys.argv[1]); d[\"array_data\"] = d.array_data.round().astype(\"i4\"); "
+    "d.attrs.pop(\"dataType\", 0); d.to_netcdf(\"NEW.nc\", format=\"NETCDF3_64BIT\")' {0}; scale them first where they are small"
+)
+HEADERS = {
+    "Short": "the file ends within its header: it was cut off; copy it anew",
+    "Tag": "its header isn't that of a netCDF classic file behind the first bytes: write it anew by a tool of the netCDF library",
+    "Negative": "its header has a number that is too large: it is damaged; write it anew by a tool of the netCDF library",
+    "NameLength": "its header has a name of no bytes, or of more than 1,024: rename it by ncrename, or write the file anew",
+    "NameText": "its header has a name that isn't UTF-8: rename it by ncrename",
+    "DimNumber": "its header names a dimension that isn't there: it is damaged; write it anew",
+    "TwoRecordDims": "it has two dimensions without a fixed length: 'nccopy -u {0} NEW.nc' makes all fixed",
+    "ValueType": "it has a value type that the classic format hasn't: 'nccopy -k classic {0} NEW.nc' makes one of types that it has",
+}
+FIRST_BYTES = (
+    (b"\x89HDF", "it is a netCDF-4 or HDF5 file: 'nccopy -k classic {0} NEW.nc' writes netCDF-4 in the classic form (for unsigned samples see docs/formats.md)"),
+    (b"CDF\x05", "it is a CDF-5 file: 'nccopy -k classic {0} NEW.nc' writes it in the classic form (for unsigned samples see docs/formats.md)"),
+    (b"\x1f\x8b", "it is compressed: 'gunzip < {0} > NEW.nc' unpacks it"),
+    (b"II*\0", "it is a TIFF file: write its frames as the variable array_data of a netCDF file, as docs/formats.md shows"),
+    (b"MM\0*", "it is a TIFF file: write its frames as the variable array_data of a netCDF file, as docs/formats.md shows"),
+)
+
+
+def tell_magic(name):
+    with open(name, "rb") as file:
+        data = file.read(4096)
+    for start, words in FIRST_BYTES:
+        if data.startswith(start):
+            return say(f"{name}: {words.format(shlex.quote(name))}")
+    if b"[[node]]" in data:
+        return say(f"{name} is a graph: the words are GRAPH STACK PREFIX, in this order")
+    return say(f"{name} isn't a netCDF file: it begins with neither CDF and a byte 1 or 2, nor as another form does")
+
+
+def tell_sample_type(name, number, header):
+    kind = TYPES.get(header.frames()[2], "another") if header else "another"
+    quoted = shlex.quote(name)
+    if number in (-5, -6) or kind in ("float", "double"):
+        drop = f"; 'ncatted -a dataType,global,d,, NEW.nc' drops dataType, which doesn't fit then" if number > 0 else ""
+        return say(f"{name}: its samples are floating-point numbers, and only whole numbers of 8, 16 or 32 bits are read: {CONVERT_FLOATS.format(quoted)}{drop}")
+    if number == -2:
+        return say(f"{name}: array_data is of type char: store its bytes as byte, and for UInt8 the global int attribute dataType = 1")
+    named = f" ({TYPES_OF_DETECTORS[number]})" if number in TYPES_OF_DETECTORS else ""
+    return say(f"{name}: dataType is {number}{named}, and array_data is of type {kind}: 0 and 1 go with byte, 2 and 3 with short, 4 and 5 with int ('ncatted -a dataType,global,m,i,N {quoted}' sets it to N)")
+
+
+def tell_stack(name, words):
+    fault, *rest = words if words[0] != "Cdf" else words[1:]
+    header, number = header_of(name), int(rest[0]) if rest else None
+    var = header.vars[number][0] if header and rest and 0 <= number < len(header.vars) else f"number {number}"
+    quoted = shlex.quote(name)
+    if not os.path.getsize(name):
+        return say(f"{name} is empty")
+    if fault == "Magic":
+        return tell_magic(name)
+    if fault in HEADERS:
+        return say(f"{name}: {HEADERS[fault].format(quoted)}")
+    if fault == "SampleType":
+        return tell_sample_type(name, number, header)
+    if fault == "NoArrayData":
+        there = [it[0] for it in header.vars] if header else []
+        most = max(header.vars, key=lambda it: len(it[1]))[0] if there else "OLD"
+        return say(f"{name}: the frames have to be the variable array_data; it has {', '.join(there) or 'no variable'}: 'ncrename -v {most},array_data {quoted}' renames one")
+    return say(f"{name}: " + {
+        "RecordDimNotFirst": f"the variable {var} has the dimension without a fixed length in another place than the first: 'nccopy -u {quoted} NEW.nc' makes all fixed",
+        "Overflow": f"the variable {var} has more than 4 GiB: cut the file into several, as with 'ncks -d FRAMES,0,999 {quoted} NEW.nc'",
+        "DataShort": f"values of the variable {var} are missing at its end: it was cut off, or is still being written; copy it anew",
+        "Rank": f"array_data has {number} dimensions; the first counts the frames, and 1 to 10 follow: 'ncecat -O {quoted} NEW.nc' puts one in front of a single image",
+        "TooManyFrames": f"it has {number:,} frames, and a stack at most 65,536: 'ncks -d FRAMES,0,65535 {quoted} NEW.nc' cuts, FRAMES being its first dimension" if rest else "",
+        "TooManySamples": f"a frame has {number:,} samples, and at most 67,108,864 are read: cut the frames by 'ncks -d'" if rest else "",
+        "FrameCount": f"the variable {var} hasn't one value of its type (int, or double for timeStamp) for each frame: 'ncks -x -v {var} {quoted} NEW.nc' leaves it out",
+        "AttrShape": f"the attribute {var} hasn't one value, or one text, for each frame: 'ncks -x -v {var} {quoted} NEW.nc' leaves it out",
+    }.get(fault, "see docs/formats.md"))
+
+
+def tell_limit(words, graph_name, stack_name):
+    fault, *rest = words
+    number = int(rest[-1])
+    if fault == "GraphBytes":
+        return say(f"{graph_name} has {number:,} bytes, and a graph at most 1,048,576; the words are GRAPH STACK PREFIX, in this order")
+    if fault == "StackFile":
+        return say(f"{stack_name} has {number:,} bytes, and a stack at most 1,073,741,824: cut it along its first dimension into {number // 2**30 + 1} or more, as with 'ncks -d FRAMES,0,999 {shlex.quote(stack_name)} NEW.nc'")
+    nodes = Graph(graph_name).nodes if graph_name else []
+    if fault == "Load":
+        return say(f"frames times nodes is {number:,}, and at most {MOST_ARRIVALS:,} are allowed: with {len(nodes)} nodes a stack of up to {MOST_ARRIVALS // max(len(nodes), 1):,} frames, or fewer nodes")
+    if fault == "Kept":
+        return say(f"the statistics would keep {number:,} bins and profile sums over all frames, and at most {MOST_KEPT:,} are allowed: fewer bins (hist_size), no profiles, or a stack of 1 in {number // MOST_KEPT + 1} of the frames")
+    node = nodes[int(rest[0]) - 1] if nodes else {}
+    form = node.get("cdf", 1) if node else 1
+    what = f"node {node['name']}" if node else "copy"
+    helps = ['cdf = 2, for up to 8,589,934,592 bytes'] if form == 1 and node and number <= LONGEST_FILES[2] else []
+    if node.get("count", 1) > 1:
+        helps.append(f"a smaller count, as {max(1, node['count'] * LONGEST_FILES[form] // number * 9 // 10):,}")
+    if not node:
+        helps.append("a graph with one file node in place of copy, with count or cdf = 2")
+    return say(f"{what} would write a file of {number:,} bytes, and its form has at most {LONGEST_FILES[form]:,}: {', or '.join(helps) or 'smaller frames'}")
+
+
+def tell_refusal(line, graph, stack, _):
+    words = line.partition("status ")[2].split()
+    if words[0] == "2":
+        tell_graph_text(graph)
+    elif words[0] == "3":
+        tell_graph_rule(Graph(graph), words[2:])
+    elif words[0] == "4":
+        tell_stack(stack, words[2:])
+    elif words[0] == "5":
+        tell_limit(words[2:], graph, stack)
+
+
+# --- losses
+
+
+def tell_losses(report, graph_name, *_):
+    with open(report, encoding="utf-8") as file:
+        rows = [line.split() for line in file]
+    try:
+        graph = Graph(graph_name)
+        run, inputs = graph.run, {it.get("name"): it.get("input") for it in graph.nodes}
+    except (OSError, ValueError):
+        run, inputs = {}, {}
+    frames = int(rows[0][1])
+    pool = f"pool = 0 under [run], which is no limit, or more than {run.get('pool', 0)}, keeps them"
+    for words in rows[1:]:
+        name = words[1] if words[0] == "node" else "the driver"
+        numbers = dict(zip(*[iter(words[2 if words[0] == "node" else 1 :])] * 2)) if len(words) > 4 else {}
+        count = lambda it: int(numbers.get(it, 0))
+        if count("refused"):
+            say(f"{count('refused')} of {count('offered')} frames were refused at {name}: the pool was full. {pool} (docs/report.md)")
+        if count("full"):
+            queue = f"queue = {min(frames, LONGEST_QUEUE)} at {name}"
+            helps = f'feed = "wait" under [run], or {queue}, keeps them' if inputs.get(name, "driver") == "driver" and run.get("feed") != "wait" else f"{queue} keeps them, and more threads there take them faster"
+            say(f"{count('full')} of {count('offered')} arrays were dropped at {name}: its queue was full. {helps} (docs/report.md)")
+        if count("pool"):
+            say(f"{count('pool')} of {count('offered')} arrays were dropped at {name}: the pool was full. {pool} (docs/report.md)")
+        if count("sort"):
+            say(f"{count('sort')} of {count('offered')} results were dropped at {name}: its sort list was full. sort = {min(frames, LONGEST_QUEUE)} at {name} keeps them (docs/report.md)")
+
+
+# --- the trial build
+
+
+def tell_time(command, called, _, stack, __):
+    header = header_of(stack)
+    try:
+        samples = header.samples()
+    except (AttributeError, TypeError, IndexError):
+        samples = os.path.getsize(stack)
+    seconds = samples * SECONDS_OF_SAMPLE.get(command, SECONDS_OF_PLUGINS)
+    if seconds < LEAST_TIME:
+        return
+    long = f"{seconds:.0f} seconds" if seconds < 120 else f"{seconds / 60:.0f} minutes" if seconds < 7200 else f"{seconds / 3600:.0f} hours"
+    say(f"the trial build is for small data: these {samples:,} samples take it some {long}. '{called.removesuffix(' --unproved')} --build' builds the proved program, which is many times as fast")
+
+
+if __name__ == "__main__":
+    what, *words = sys.argv[1:]
+    try:
+        {"refusal": tell_refusal, "losses": tell_losses, "time": tell_time}[what](*words)
+    except (OSError, ValueError, LookupError, TypeError, AttributeError):
+        # What can't be told isn't told: the program's own line stands.
+        said.clear()
+    sys.exit(0 if said or what == "time" else 1)
