@@ -3,13 +3,14 @@
 from __future__ import annotations
 
 from dataclasses import dataclass
+from typing import Any
 
 import numpy as np
 import numpy.typing as npt
 
 COLUMNS = 1000
 
-Values = npt.NDArray[np.generic]
+Values = npt.NDArray[Any]
 
 
 @dataclass(frozen=True)
@@ -34,9 +35,12 @@ class Points:
 def step_columns(at: Values, after: Values, length: int, columns: int = COLUMNS) -> Steps:
     """Columns of a function on 0 to `length` that is 0 and, from each place of `at` on (in rising order), has the value of `after`.
 
-    A column also counts the value with which it begins.
+    A column that stands for several places also counts the value with which it begins.
     """
-    columns = max(1, min(columns, length))
+    if length <= columns:
+        edges = np.arange(max(1, length) + 1, dtype=np.float64)
+        value = np.concatenate(([0], after))[np.searchsorted(at, edges[:-1], "right")]
+        return Steps(edges, value, value)
     edges = np.linspace(0, max(1, length), columns + 1)
     first = np.searchsorted(at, edges[:-1], "left")
     last = np.searchsorted(at, edges[1:], "left")

@@ -5,6 +5,7 @@ from __future__ import annotations
 import base64
 import io
 import warnings
+from dataclasses import dataclass
 
 import matplotlib
 
@@ -49,18 +50,27 @@ def panels(count: int, height: float, **options: object) -> tuple[Figure, list[A
     return figure, list(axes[:, 0])
 
 
-def as_drawing(figure: Figure) -> str:
+@dataclass(frozen=True)
+class Picture:
+    """A figure as a data URI, and the part of the page's width that it takes, in percent."""
+
+    uri: str
+    share: int
+
+
+def as_drawing(figure: Figure) -> Picture:
     """The figure as lines (SVG), for plots: sharp in print at any size."""
-    return _uri(figure, "svg", "image/svg+xml", metadata={"Date": None, "Creator": None})
+    return _picture(figure, "svg", "image/svg+xml", metadata={"Date": None, "Creator": None})
 
 
-def as_picture(figure: Figure, dots_per_inch: int = 140) -> str:
+def as_picture(figure: Figure, dots_per_inch: int = 140) -> Picture:
     """The figure as pixels (PNG), for images of samples."""
-    return _uri(figure, "png", "image/png", dpi=dots_per_inch)
+    return _picture(figure, "png", "image/png", dpi=dots_per_inch, metadata={"Software": None})
 
 
-def _uri(figure: Figure, form: str, kind: str, **options: object) -> str:
+def _picture(figure: Figure, form: str, kind: str, **options: object) -> Picture:
+    share = min(100, round(100 * figure.get_figwidth() / WIDTH))
     room = io.BytesIO()
     figure.savefig(room, format=form, **options)
     pyplot.close(figure)
-    return f"data:{kind};base64,{base64.b64encode(room.getvalue()).decode('ascii')}"
+    return Picture(f"data:{kind};base64,{base64.b64encode(room.getvalue()).decode('ascii')}", share)

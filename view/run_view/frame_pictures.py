@@ -10,7 +10,7 @@ import numpy.typing as npt
 from matplotlib.axes import Axes
 
 from . import drawing
-from .drawing import pyplot
+from .drawing import Picture, pyplot
 from .graphs import Graph, Node
 from .stored import Frame, Layout, NodeFiles, read_frame
 
@@ -81,7 +81,7 @@ def axis_of(graph: Graph, node: Node, layout: Layout, dimension: int) -> Axis:
     return Axis(0, 1, False)
 
 
-def draw_frames(graph: Graph, node: Node, frames: Sequence[Frame]) -> tuple[str, str]:
+def draw_frames(graph: Graph, node: Node, frames: Sequence[Frame]) -> tuple[Picture, str]:
     """The arrays as a picture, and what has to be known of it in words."""
     layout = frames[0].layout
     parts = [shown_part(frame.samples) for frame in frames]
@@ -94,7 +94,7 @@ def draw_frames(graph: Graph, node: Node, frames: Sequence[Frame]) -> tuple[str,
     shape = layout.sizes[-2:]
     wide = shape[1] / shape[0]
     figure, axes = pyplot.subplots(
-        1, len(frames), figsize=(3.55 * len(frames) + 0.7, min(4.4, max(2.4, 3.1 / wide + 1.1))), squeeze=False, layout="constrained"
+        1, len(frames), figsize=(3.55 * len(frames) + 0.7, min(4.4, max(2.4, 3.1 / wide + 0.95))), squeeze=False, layout="constrained"
     )
     x, y = (axis_of(graph, node, layout, dimension) for dimension in (0, 1))
     extent = (x.start, x.start + x.step * shape[1], y.start + y.step * shape[0], y.start)
@@ -116,7 +116,7 @@ def draw_frames(graph: Graph, node: Node, frames: Sequence[Frame]) -> tuple[str,
     return drawing.as_picture(figure), " ".join(filter(None, words))
 
 
-def _draw_lines(graph: Graph, node: Node, frames: Sequence[Frame]) -> str:
+def _draw_lines(graph: Graph, node: Node, frames: Sequence[Frame]) -> Picture:
     """Arrays of one dimension as lines."""
     figure, axes = drawing.panels(len(frames), 1.5, sharey=True)
     place = axis_of(graph, node, frames[0].layout, 0)

@@ -5,7 +5,10 @@ from __future__ import annotations
 import glob
 import os
 from dataclasses import dataclass, field
-from typing import Optional, Sequence
+from typing import Callable, Optional
+
+import numpy as np
+import numpy.typing as npt
 
 from .faults import ViewFault
 from .graphs import Graph, Node
@@ -29,7 +32,7 @@ class Outputs:
     journal: Optional[Journal] = None
     counters: Optional[Counters] = None
     source: str = ""
-    ids: Optional[Sequence[int]] = None
+    ids: Optional[npt.NDArray[np.int64]] = None
     problems: list[str] = field(default_factory=list)
     names: list[str] = field(default_factory=list)
 
@@ -55,7 +58,7 @@ def read_outputs(prefix: str, graph: Graph, report: Optional[str] = None, stack:
     return outputs
 
 
-def _try(outputs: Outputs, step) -> None:
+def _try(outputs: Outputs, step: Callable[[], None]) -> None:
     try:
         step()
     except ViewFault as fault:

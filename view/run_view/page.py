@@ -5,10 +5,12 @@ from __future__ import annotations
 import json
 import os
 from html import escape
-from typing import Any, Iterable, Optional, Sequence
+from typing import Any, Container, Iterable, Sequence
+
+import numpy as np
 
 from . import frame_pictures, statistics_plots, timeline
-from .graphs import Node
+from .drawing import Picture
 from .journal import CAUSES
 from .losses import kept, losses, many
 from .outputs import Outputs
@@ -35,11 +37,13 @@ p { margin: .4em 0; }
 .verdict b { font-size: 1.1em; }
 ul { margin: .3em 0; padding-left: 1.3em; }
 figure { margin: .6em 0; }
-figure img { max-width: 100%; display: block; }
+figure img { display: block; }
 table { border-collapse: collapse; margin: .5em 0; font-variant-numeric: tabular-nums; }
 th, td { border-bottom: 1px solid #ccc; padding: .15em .7em; text-align: right; }
 th { background: #f3f3f3; font-weight: 600; }
-.words { text-align: left; overflow-wrap: anywhere; }
+td { vertical-align: top; }
+.words { text-align: left; }
+.list { text-align: left; overflow-wrap: anywhere; min-width: 14em; }
 td.bad { background: #f9d9c6; font-weight: 700; }
 pre { background: #f6f6f6; padding: .7em; overflow-x: auto; font-size: .85em; }
 @media print {
@@ -116,21 +120,22 @@ class Page:
         elif counters.frames == 0 or (counters.driver and not counters.driver["offered"]):
             head = "No frame came: the stack is empty."
         elif found:
-            head = f"{many(sum(loss.count for loss in found), 'array')} lost."
+            head = f"{many(sum(loss.count for loss in found), 'frame')} or arrays were dropped."
         else:
             offered = counters.driver["offered"] if counters.driver else 0
             head = f"Nothing was lost: all {many(offered, 'frame')} were loaded, and every node took every array that came to it."
         if found and outputs.journal and outputs.journal.fault:
             head = head[:-1] + ", as far as the log goes."
-        lines = [f"{loss.words} <i>What helps: {escape(loss.helps)}.</i>" for loss in found]
-        lines += [escape(words) for words in kept(outputs.graph, counters)]
+        lines = [f"{escape(loss.words)} <i>What helps: {escape(loss.helps)}.</i>" for loss in found]
         if outputs.journal:
             lines += [
                 f"A thread left in this run (role {role}, at line {line + 1} of the log): memory was wanting."
                 for line, role in outputs.journal.leaves
             ]
         kind = "verdict lost" if found else "verdict"
-        self._parts.append(f'<div class="{kind}"><b>{escape(head)}</b><ul>{"".join(f"<li>{line}</li>" for line in lines)}</ul></div>')
+        items = f"<ul>{''.join(f'<li>{line}</li>' for line in lines)}</ul>" if lines else ""
+        out = f"<p>{escape(' '.join(kept(outputs.graph, counters)))}</p>"
+        self._parts.append(f'<div class="{kind}"><b>{escape(head)}</b>{items}{out}</div>')
 
     def _add_frames(self) -> None:
         self.data["frames"] = {}
@@ -147,9 +152,10 @@ class Page:
             self._section(f"{node.name}: saved arrays", body)
 
     def _add_statistics(self) -> None:
+        outputs = self._outputs
         self.data["statistics"] = {}
-        for node in self._outputs.graph.of_kind("stats"):
-            rows = self._outputs.rows.get(node.name)
+        for node in outputs.graph.of_kind("stats"):
+            rows = outputs.rows.get(node.name)
             if rows is None:
                 continue
             data: dict[str, Any] = {"rows": len(rows)}
@@ -164,14 +170,15 @@ class Page:
                 for name, points in series.items()
             }
             thinned = any(points.thinned for points in series.values())
+            span = statistics_plots.limits(rows.ids if outputs.ids is None else np.concatenate((rows.ids, outputs.ids)))
             words = f"{many(len(rows), 'row')}, ids {data['ids'][0]} to {data['ids'][1]}; an id without a mark has no row."
             if thinned:
                 words += " Each column of pixels is drawn from the least to the greatest value of its rows."
             if rows.outside:
                 words += f" {many(rows.outside, 'sample')} in all lie beside the range of the histogram."
-            body = [_figure(statistics_plots.draw_series(node, rows, series), f"statistics of {node.name}", words)]
+            body = [_figure(statistics_plots.draw_series(node, rows, series, span), f"statistics of {node.name}", words)]
             for name, image in rows.images.items():
-                for picture, what in statistics_plots.draw_image(node, name, image, rows.ids):
+                for picture, what in statistics_plots.draw_image(node, name, image, rows.ids, span):
                     body.append(_figure(picture, f"{what} of {node.name}", f"{what[0].upper()}{what[1:]}; grey is an id without a row."))
             self._section(f"{node.name}: statistics", body, is_long=len(body) > 1)
 
@@ -238,7 +245,7 @@ class Page:
             return
         head = ["node", "cause", "arrays", "lines of the log", "frames (place in the stack, from 0)"]
         head += ["ids"] if outputs.ids is not None else []
-        self._section("Which frames were dropped", [_table(head, rows, set(), {4, 5})], is_long=True)
+        self._section("Which frames were dropped", [_table(head, rows, lists=(4, 5))], is_long=True)
 
     def _id_texts(self, ranges: Sequence[tuple[int, int]], indexes: Sequence[int]) -> list[str]:
         ids = self._outputs.ids
@@ -302,20 +309,20 @@ def _numbers(numbers: Iterable[int]) -> str:
     return ", ".join(str(number) for number in numbers)
 
 
-def _figure(picture: str, alternative: str, caption: str) -> str:
-    return f'<figure><img alt="{escape(alternative)}" src="{picture}"><figcaption>{escape(caption)}</figcaption></figure>'
+def _figure(picture: Picture, alternative: str, caption: str) -> str:
+    image = f'<img alt="{escape(alternative)}" style="width:{picture.share}%" src="{picture.uri}">'
+    return f'<figure>{image}<figcaption>{escape(caption)}</figcaption></figure>'
 
 
 def _list(lines: Iterable[str]) -> str:
     return "<ul>" + "".join(f"<li>{escape(line)}</li>" for line in lines) + "</ul>"
 
 
-def _table(head: Sequence[str], rows: Sequence[Sequence[Any]], bad: set[int], wordy: Optional[set[int]] = None) -> str:
-    """A table. Cells of the columns `bad` stand out where they aren't 0; the first two columns and `wordy` ones hold words."""
-    wordy = {0, 1} | (wordy or set())
+def _table(head: Sequence[str], rows: Sequence[Sequence[Any]], bad: Container[int] = (), lists: Container[int] = ()) -> str:
+    """A table whose first two columns are words. Cells of the columns `bad` stand out where they aren't 0; `lists` may be long texts."""
 
     def cell(place: int, value: Any) -> str:
-        kind = "words" if place in wordy else "bad" if place in bad and value else ""
+        kind = "list" if place in lists else "words" if place < 2 else "bad" if place in bad and value else ""
         text = f"{value:,}" if isinstance(value, int) else str(value)
         if len(text) > _LONG_LIST:
             text = f"<details><summary>{escape(text[:60])} …</summary>{escape(text)}</details>"
@@ -323,6 +330,6 @@ def _table(head: Sequence[str], rows: Sequence[Sequence[Any]], bad: set[int], wo
             text = escape(text)
         return f"<td{f' class={chr(34)}{kind}{chr(34)}' if kind else ''}>{text}</td>"
 
-    titles = "".join(f"<th{' class=words' if place in wordy else ''}>{escape(word)}</th>" for place, word in enumerate(head))
+    titles = "".join(f"<th{' class=words' if place < 2 or place in lists else ''}>{escape(word)}</th>" for place, word in enumerate(head))
     lines = ["<tr>" + "".join(cell(place, value) for place, value in enumerate(row)) + "</tr>" for row in rows]
     return f"<table><tr>{titles}</tr>{''.join(lines)}</table>"

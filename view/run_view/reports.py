@@ -9,6 +9,9 @@ from .faults import ViewFault, reason
 from .graphs import Graph
 
 if TYPE_CHECKING:
+    import numpy as np
+    import numpy.typing as npt
+
     from .journal import Journal
 
 DRIVER_KEYS = ("offered", "loaded", "refused", "breaks")
@@ -88,7 +91,7 @@ def check_names(counters: Counters, graph: Graph, path: str) -> None:
         raise ViewFault(f"the report {path} is of the nodes {', '.join(counters.nodes) or 'none'}, which aren't those of the graph")
 
 
-def count_journal(journal: Journal, graph: Graph, ids: Optional[Sequence[int]] = None) -> Counters:
+def count_journal(journal: Journal, graph: Graph, ids: Optional[npt.NDArray[np.int64]] = None) -> Counters:
     """Counts a log as the report does. Breaks are counted where the ids of the stack are given and nothing was taken back."""
     nodes: dict[str, dict[str, int]] = {}
     for node in graph.nodes:
@@ -123,7 +126,7 @@ def differences(report: Counters, counted: Counters) -> list[str]:
     return found
 
 
-def _breaks(outs: Sequence[int], journal: Journal, ids: Optional[Sequence[int]]) -> dict[str, int]:
+def _breaks(outs: Sequence[int], journal: Journal, ids: Optional[npt.NDArray[np.int64]]) -> dict[str, int]:
     if ids is None or journal.reclaims or (len(outs) and max(outs) >= len(ids)):
         return {}
     breaks = 0

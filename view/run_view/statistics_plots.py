@@ -9,8 +9,11 @@ from matplotlib import colormaps
 
 from . import drawing
 from .columns import Points, Values, point_columns
+from .drawing import Picture
 from .graphs import Node
 from .rows import RowImage, Rows
+
+Span = tuple[float, float]
 
 _DOT = 2.2
 LABELS = {
@@ -18,6 +21,7 @@ LABELS = {
     "max": "greatest\nsample",
     "min": "least\nsample",
 }
+IMAGE_WORDS = {"bins": "histogram", "x": "profile over dimension 0 (columns)", "y": "profile over dimension 1 (rows)"}
 
 
 def series_of(rows: Rows) -> dict[str, Points]:
@@ -25,7 +29,7 @@ def series_of(rows: Rows) -> dict[str, Points]:
     return {name: point_columns(rows.ids, values) for name, values in rows.series.items()}
 
 
-def draw_series(node: Node, rows: Rows, series: dict[str, Points]) -> str:
+def draw_series(node: Node, rows: Rows, series: dict[str, Points], span: Span) -> Picture:
     """Total, greatest, least and threshold count over uniqueId, and the centre of the samples that reach the threshold."""
     threshold = node.settings.get("threshold", 0)
     has_centre = bool(np.isfinite(rows.centre).any())
@@ -33,12 +37,13 @@ def draw_series(node: Node, rows: Rows, series: dict[str, Points]) -> str:
     labels = {**LABELS, "over": f"samples of\n{threshold} or more"}
     for axis, name in zip(axes, ("total", "max", "min", "over")):
         _draw_points(axis, series[name], drawing.BLUE)
+        axis.yaxis.get_major_locator().set_params(integer=True, nbins=4)
         axis.set_ylabel(labels[name])
     if has_centre:
         _draw_centre(axes[4], rows, threshold)
     axes[-1].set_xlabel("uniqueId")
     axes[-1].xaxis.get_major_locator().set_params(integer=True)
-    axes[-1].set_xlim(*limits(rows.ids))
+    axes[-1].set_xlim(*span)
     for axis in axes:
         axis.grid(axis="y", color="#dddddd", linewidth=0.5)
         axis.set_axisbelow(True)
@@ -46,7 +51,7 @@ def draw_series(node: Node, rows: Rows, series: dict[str, Points]) -> str:
     return drawing.as_drawing(figure)
 
 
-def limits(ids: Values) -> tuple[float, float]:
+def limits(ids: Values) -> Span:
     """The ends of the axis of ids."""
     return float(ids.min()) - 0.5, float(ids.max()) + 0.5
 
@@ -66,10 +71,7 @@ def _draw_points(axis: Axes, points: Points, colour: str, label: str | None = No
         axis.plot(points.at, points.least, ".", markersize=_DOT if len(points.at) > 200 else 2 * _DOT, color=colour, label=label)
 
 
-IMAGE_WORDS = {"bins": "histogram", "x": "profile over dimension 0 (columns)", "y": "profile over dimension 1 (rows)"}
-
-
-def draw_image(node: Node, name: str, image: RowImage, ids: Values) -> list[tuple[str, str]]:
+def draw_image(node: Node, name: str, image: RowImage, ids: Values, span: Span) -> list[tuple[Picture, str]]:
     """The bins or a profile as pictures over uniqueId, each with what it shows: one where no pixel has several numbers, else two."""
     both = [("greatest", image.greatest)] + ([("least", image.least)] if image.thinned else [])
     pictures = []
@@ -88,6 +90,8 @@ def draw_image(node: Node, name: str, image: RowImage, ids: Values) -> list[tupl
             norm=norm,
             extent=(*limits(ids), *_height(node, name, image)),
         )
+        axis.set_xlim(*span)
+        axis.set_facecolor(drawing.NOTHING)
         axis.set_xlabel("uniqueId")
         axis.xaxis.get_major_locator().set_params(integer=True)
         axis.set_ylabel({"bins": "sample", "x": "column of the array", "y": "row of the array"}[name])

@@ -10,7 +10,6 @@ import glob
 import os
 import re
 from dataclasses import dataclass, field
-from pathlib import Path
 from typing import Any, Iterator, Mapping, Optional
 
 import netCDF4
@@ -172,8 +171,8 @@ def _look(path: str, group: int, begin: bytes, size: int) -> StoredFile:
     room = max(0, size - layout.header_bytes) // layout.record_bytes
     end = layout.header_bytes + declared * layout.record_bytes
     if declared == _OPEN:
-        fault = f"unfinished: the number of its arrays was never written; {room} are whole"
-        return StoredFile(path, group, size, layout, room, fault, True)
+        words = f"unfinished: the number of its arrays was never written; {room} are whole"
+        return StoredFile(path, group, size, layout, room, words, True)
     if size < end:
         return StoredFile(path, group, size, layout, room, f"unfinished: {room} of its {declared} arrays are whole")
     if size > end:

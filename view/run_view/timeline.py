@@ -9,7 +9,7 @@ from matplotlib.axes import Axes
 
 from . import drawing
 from .columns import COLUMNS, Steps, step_columns
-from .drawing import pyplot
+from .drawing import Picture, pyplot
 from .graphs import Graph, Node
 from .journal import FULL, POOL, REFUSED, SORT, Journal, Level, NodeHistory
 
@@ -19,7 +19,7 @@ _LANE = 0.22
 _TIMES = 7
 
 
-def draw_timeline(graph: Graph, journal: Journal) -> str:
+def draw_timeline(graph: Graph, journal: Journal) -> Picture:
     """A panel for the driver and for each node over the lines of the log."""
     figure, axes = drawing.panels(len(graph.nodes) + 1, 1.15)
     _draw_driver(axes[0], journal)
@@ -104,7 +104,7 @@ def _draw_times(axis: Axes, journal: Journal) -> None:
     upper.set_xlabel("time of that load, after the first one")
 
 
-def draw_workers(work: list[tuple[str, int]]) -> Optional[str]:
+def draw_workers(work: list[tuple[str, int]]) -> Optional[Picture]:
     """Bars of how many frames each role did."""
     if not work:
         return None
