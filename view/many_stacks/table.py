@@ -3,7 +3,7 @@
 from __future__ import annotations
 
 import csv
-from dataclasses import dataclass
+from dataclasses import dataclass, replace
 from typing import Optional, Sequence, TextIO
 
 from run_view.faults import ViewFault
@@ -14,6 +14,7 @@ from .records import Place, Record, read_record
 
 HEAD = ("number", "stack", "status", "frames", "kept", "refused", "full", "pool", "sort", "seconds", "reason")
 _WORDS = ("stack", "reason")
+_NUMBERS = HEAD[3:10]
 NOT_RUN = "not run"
 NOT_ENDED = "it goes on, or was stopped from outside"
 
@@ -87,13 +88,12 @@ def _done(place: Place, graph: Graph, record: Record) -> Row:
     kept = sum(counters.nodes[name]["out"] for name in files) if files else None
     lost = counters.lost()
     drops = lost["refused"], lost["full"], lost["pool"], lost["sort"]
-    return Row(place.number, place.stack, 0, counters.frames, kept, *drops, _seconds(record))
+    return Row(place.number, place.stack, 0, counters.frames, kept, *drops, seconds=_seconds(record))
 
 
 def _sums(rows: Sequence[Row]) -> list[str]:
-    sums = [sum(getattr(row, name) or 0 for row in rows) for name in HEAD[3:10]]
-    done = sum(is_done(row) for row in rows)
-    return Row(len(rows), "in all", None, *sums, f"{done} of {len(rows)} done").cells()
+    whole = Row(len(rows), "in all", reason=f"{sum(map(is_done, rows))} of {len(rows)} done")
+    return replace(whole, **{name: sum(getattr(row, name) or 0 for row in rows) for name in _NUMBERS}).cells()
 
 
 def _seconds(record: Record) -> Optional[float]:

@@ -39,13 +39,13 @@ def step_columns(at: Values, after: Values, length: int, columns: int = COLUMNS)
     """
     if length <= columns:
         edges = np.arange(max(1, length) + 1, dtype=np.float64)
-        value = np.concatenate(([0], after))[np.searchsorted(at, edges[:-1], "right")]
+        value: Values = np.append(0, after)[np.searchsorted(at, edges[:-1], "right")]
         return Steps(edges, value, value)
     edges = np.linspace(0, max(1, length), columns + 1)
     first = np.searchsorted(at, edges[:-1], "left")
     last = np.searchsorted(at, edges[1:], "left")
     last[-1] = len(at)
-    least = np.concatenate(([0], after))[first]
+    least: Values = np.append(0, after)[first]
     greatest = least.copy()
     filled = last > first
     if filled.any():

@@ -5,6 +5,7 @@ from __future__ import annotations
 import glob
 import os
 from dataclasses import dataclass, field
+from functools import partial
 from typing import Callable, Optional
 
 import numpy as np
@@ -48,9 +49,9 @@ def read_outputs(prefix: str, graph: Graph, report: Optional[str] = None, stack:
     _read_log(outputs)
     _read_rows(outputs)
     if stack is not None:
-        _try(outputs, lambda: setattr(outputs, "ids", read_ids(stack)))
+        _try(outputs, partial(_take_ids, outputs, stack))
     if report is not None:
-        _try(outputs, lambda: _take_report(outputs, report))
+        _try(outputs, partial(_take_report, outputs, report))
     if not outputs.names and outputs.counters is None:
         raise ViewFault(_nothing_there(outputs))
     _count(outputs)
@@ -123,6 +124,10 @@ def _read_rows(outputs: Outputs) -> None:
                 outputs.problems.append(f"{path} was read up to row {len(rows)}: {rows.fault}.")
 
         _try(outputs, step)
+
+
+def _take_ids(outputs: Outputs, path: str) -> None:
+    outputs.ids = read_ids(path)
 
 
 def _take_report(outputs: Outputs, path: str) -> None:
