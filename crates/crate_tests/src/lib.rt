@@ -9,8 +9,6 @@ mod children;
 #[cfg(test)]
 mod clocks;
 #[cfg(test)]
-mod contents;
-#[cfg(test)]
 mod counted_files;
 #[cfg(test)]
 mod expressions;
