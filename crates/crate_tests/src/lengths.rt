@@ -1,6 +1,6 @@
 //! Lengths of files, at the longest that their form allows. Each shape is tested for what the calls require before they are made.
 
-ghost use Rattle.std.specs.Prelude.{◌≡◌, ◌≤◌, length, All, IsTrue, nat_lt};
+ghost use Rattle.std.specs.Prelude.{◌≡◌, ◌≤◌, [], length, All, IsTrue, nat_lt};
 ghost use Rattle.std.specs.List.{list_all};
 ghost use Rattle.nd_base.specs.GraphRules.{IsBetween};
 ghost use Rattle.nd_base.specs.Shapes.{has_dimensions, sample_count, most_samples};

@@ -31,8 +31,6 @@ mod objects;
 #[cfg(test)]
 mod plain_count;
 #[cfg(test)]
-mod pools;
-#[cfg(test)]
 mod real_files;
 #[cfg(test)]
 mod regions;
@@ -46,5 +44,3 @@ mod storage;
 mod test_frame;
 #[cfg(test)]
 mod turns;
-#[cfg(test)]
-mod windows;

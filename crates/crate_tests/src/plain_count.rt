@@ -1,5 +1,7 @@
 //! The numbers of an array, each counted by its rule, sample by sample.
 
+ghost use Rattle.std.specs.Prelude.{◌≤◌};
+
 use nd_base::{Dim, Measure, OutOfMemory, SampleType, Seq, StatsRule};
 use std::alloc::Global;
 
