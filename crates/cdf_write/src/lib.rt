@@ -7,6 +7,8 @@ mod header;
 mod lengths;
 mod row;
 mod spelling;
+#[cfg(test)]
+mod tests;
 mod variables;
 
 pub use header::{TooLarge, header_bytes};

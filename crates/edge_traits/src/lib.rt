@@ -13,6 +13,8 @@ mod memory;
 mod real_clock;
 mod shelf;
 mod sink;
+#[cfg(test)]
+mod tests;
 
 pub use clock::Clock;
 pub use disk::{DiskLibrary, DiskShelf, OutSink};

@@ -5,6 +5,8 @@
 mod fault;
 mod group;
 mod stream;
+#[cfg(test)]
+mod tests;
 
 pub use fault::SaveFault;
 pub use group::{Row, save_group};

@@ -11,6 +11,8 @@ mod log;
 mod progress;
 mod read;
 mod spelling;
+#[cfg(test)]
+mod tests;
 mod write;
 
 pub use entry::{Entry, Why};

@@ -4,6 +4,8 @@
 
 mod blank;
 mod frame;
+#[cfg(test)]
+mod tests;
 
 pub use blank::Blank;
 pub use frame::Frame;

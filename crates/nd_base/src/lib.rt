@@ -22,6 +22,8 @@ mod run;
 mod sample;
 mod seq;
 mod stack;
+#[cfg(test)]
+mod tests;
 
 pub use array::{Dim, Head, MOST_SAMPLES, NdArray, SampleType, ShapeFault, frame_bytes, same_head};
 pub use attribute::{Attr, AttrColumn, AttrKind, AttrValue, Extra, FileShape};

@@ -4,6 +4,8 @@
 mod cut;
 mod fill;
 mod sample;
+#[cfg(test)]
+mod tests;
 mod walk;
 
 pub use cut::region;

@@ -9,6 +9,8 @@ mod feed;
 mod laws;
 mod reclaims;
 mod tally;
+#[cfg(test)]
+mod tests;
 mod text;
 
 pub use counting::counters;

@@ -6,6 +6,9 @@ ghost use Rattle.std.specs.Prelude.{◌≡◌, ◌<◌, ◌≤◌, ◌-◌, find
 ghost use Rattle.std.specs.List.{range_with_len};
 ghost use Rattle.scatter_rule.specs.Rounds.{has_room, in_turn, choice};
 
+#[cfg(test)]
+mod tests;
+
 /// To which child an array goes.
 #[derive(Clone, Copy, Debug, PartialEq, Eq)]
 pub enum Choice {

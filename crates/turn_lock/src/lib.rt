@@ -8,6 +8,8 @@ mod lock;
 mod object;
 mod rule;
 mod steps;
+#[cfg(test)]
+mod tests;
 
 pub use counter::{Count, Counter, CounterOp, CounterReply};
 pub use crowd::{Job, add_then_first, count_all, count_times, jobs, watch};
