@@ -153,11 +153,11 @@ def _paths(prefix: str, node: str) -> Iterator[tuple[int, str]]:
 def _look(path: str, group: int, begin: bytes, size: int) -> StoredFile:
     if not begin:
         return StoredFile(path, group, size, None, 0, "unfinished: it is empty")
-    form = _FORMS.get(begin[:4])
-    if form is None:
+    if not any(magic.startswith(begin[:4]) for magic in _FORMS):
         return StoredFile(path, group, size, None, 0, f"isn't a file of a file node: {_other_form(begin)}")
     if size < _SHORTEST_HEADER:
         return StoredFile(path, group, size, None, 0, "unfinished: its header is cut off")
+    form = _FORMS[begin[:4]]
     try:
         with netCDF4.Dataset(path, memory=_head(path)) as header:
             layout = _layout(header, form)

@@ -115,7 +115,7 @@ class Batch(RunCase):
         ):
             self.assertIn(words, line)
         Path(self.out, "0002_scan_1.report").write_text("frames 7\n", encoding="utf-8")
-        self.assertIn("isn't whole", self.call("collect", self.graph, self.list, self.out)[1])
+        self.assertIn("aren't those of the graph", self.call("collect", self.graph, self.list, self.out)[1])
 
     def test_bad_input(self) -> None:
         none = str(self.folder / "none")
