@@ -41,9 +41,10 @@ figure img { display: block; }
 table { border-collapse: collapse; margin: .5em 0; font-variant-numeric: tabular-nums; }
 th, td { border-bottom: 1px solid #ccc; padding: .15em .7em; text-align: right; }
 th { background: #f3f3f3; font-weight: 600; }
-td { vertical-align: top; }
+td { vertical-align: top; white-space: nowrap; }
 .words { text-align: left; }
-.list { text-align: left; overflow-wrap: anywhere; min-width: 14em; }
+td.list { white-space: normal; overflow-wrap: anywhere; }
+th.list, td.list { text-align: left; }
 td.bad { background: #f9d9c6; font-weight: 700; }
 pre { background: #f6f6f6; padding: .7em; overflow-x: auto; font-size: .85em; }
 @media print {
@@ -330,6 +331,6 @@ def _table(head: Sequence[str], rows: Sequence[Sequence[Any]], bad: Container[in
             text = escape(text)
         return f"<td{f' class={chr(34)}{kind}{chr(34)}' if kind else ''}>{text}</td>"
 
-    titles = "".join(f"<th{' class=words' if place < 2 or place in lists else ''}>{escape(word)}</th>" for place, word in enumerate(head))
+    titles = "".join(f"<th{' class=words' if place < 2 else ' class=list' if place in lists else ''}>{escape(word)}</th>" for place, word in enumerate(head))
     lines = ["<tr>" + "".join(cell(place, value) for place, value in enumerate(row)) + "</tr>" for row in rows]
     return f"<table><tr>{titles}</tr>{''.join(lines)}</table>"
