@@ -112,8 +112,8 @@ class BadInput(RunCase):
                     run.file("cap_001.nc").write_bytes((head + whole[8:])[:length])
                     outputs = self.outputs(run)
                     self.assertIn("cap_001.nc unfinished", outputs.problems[0])
-                    frames = chosen(outputs.files["cap"])
-                    self.assertEqual((frames[0].unique_id, frames[-1].unique_id), (1, 12))
+                    shown = chosen(outputs.files["cap"])
+                    self.assertEqual((shown[0].frame.unique_id, shown[-1].frame.unique_id), (1, 12))
 
     def test_a_file_that_is_not_ours(self) -> None:
         run = self.good()
@@ -163,6 +163,7 @@ class BadInput(RunCase):
         page = run.page()
         self.assertEqual(page.status, 1)
         self.assertIn("log.txt was read up to line 40: line 41 is cut off", page.errors)
+        self.assertIn("Nothing was dropped as far as the log goes", page.text)
         run.file("log.txt").write_text("".join(lines[:40]), encoding="ascii")
         self.assertIn("it ends before the run does", self.problems(run))
         run.file("log.txt").write_text("".join(lines[:30]) + "accept x\n", encoding="ascii")
@@ -208,7 +209,8 @@ class BadInput(RunCase):
         self.assertIn("No such file", self.refused(run, graph=str(self.folder / "none.toml")))
         self.assertIn("Is a directory", self.refused(run, graph=str(self.folder)))
         self.assertIn("UTF-8", self.refused(run, graph=str(run.file("cap_000.nc"))))
-        for text, words in (("a = ", "is no TOML"), ("node = 3", "no list of tables"), ("[[node]]", "has no text 'name'"), ("[run]\npool = 'x'", "no whole number")):
+        wrong = {"a = ": "is no TOML", "node = 3": "no list of tables", "[[node]]": "has no text 'name'", "[run]\npool = 'x'": "no whole number"}
+        for text, words in wrong.items():
             self.assertIn(words, self.refused(run, graph=self.write("wrong.toml", text)))
 
     def test_a_page_that_cannot_be_written(self) -> None:
