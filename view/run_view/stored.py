@@ -111,7 +111,10 @@ def survey(prefix: str, node: str) -> NodeFiles:
 
 
 def read_frame(file: StoredFile, place: int) -> tuple[FrameFacts, Samples]:
-    """Reads one array, with its samples (the slowest dimension first) as numbers of their own type. Of an unfinished file the arrays that are whole can be read, too."""
+    """Reads one array, with its samples (the slowest dimension first) as numbers of their own type.
+
+    Of an unfinished file the arrays that are whole can be read, too.
+    """
     if file.layout is None or not 0 <= place < file.whole:
         raise ViewFault(f"{file.path} has no array {place}")
     try:
