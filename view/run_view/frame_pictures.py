@@ -12,7 +12,7 @@ from matplotlib.axes import Axes
 from . import drawing
 from .drawing import Picture, pyplot
 from .graphs import Graph, Node
-from .stored import Frame, Layout, NodeFiles, read_frame
+from .stored import FrameFacts, Layout, NodeFiles, read_frame
 
 PIXELS = 512
 """At most so many points are drawn along either side of a picture."""
@@ -25,12 +25,17 @@ Samples = npt.NDArray[np.integer[Any]]
 
 @dataclass(frozen=True)
 class Shown:
-    """The plane of an array that is drawn. Each point is the greatest of `rows` times `columns` samples; `planes` is how many there are."""
+    """An array as it is drawn: the points of its first plane, each the greatest of `rows` times `columns` samples; how many planes it has;
+    and the least, the greatest and the sum of all its samples."""
 
+    frame: FrameFacts
     points: Samples
     rows: int
     columns: int
     planes: int
+    least: int
+    greatest: int
+    total: int
 
 
 @dataclass(frozen=True)
@@ -43,14 +48,14 @@ class Axis:
     of_frame: bool
 
 
-def chosen(files: NodeFiles) -> list[Frame]:
-    """The first, a middle and the last array of a node's files, each once."""
+def chosen(files: NodeFiles) -> list[Shown]:
+    """The first, a middle and the last array of a node's files, each once; no more than one of them is in memory as a whole."""
     arrays = files.arrays()
     positions = sorted({0, arrays // 2, arrays - 1}) if arrays else []
-    return [read_frame(*files.locate(position)) for position in positions]
+    return [shown_part(*read_frame(*files.locate(position))) for position in positions]
 
 
-def shown_part(samples: Samples) -> Shown:
+def shown_part(facts: FrameFacts, samples: Samples) -> Shown:
     """The first plane of an array, made smaller by the greatest of neighbouring samples where it has more than `PIXELS` a side."""
     planes = int(np.prod(samples.shape[:-2], dtype=np.int64)) if samples.ndim > 2 else 1
     plane = samples.reshape(-1, *samples.shape[-2:])[0] if samples.ndim > 2 else np.atleast_2d(samples)
@@ -59,7 +64,8 @@ def shown_part(samples: Samples) -> Shown:
         plane = np.maximum.reduceat(plane, np.arange(0, plane.shape[0], rows), axis=0)
     if columns > 1:
         plane = np.maximum.reduceat(plane, np.arange(0, plane.shape[1], columns), axis=1)
-    return Shown(plane, rows, columns, planes)
+    least, greatest, total = int(samples.min()), int(samples.max()), int(samples.sum(dtype=np.int64))
+    return Shown(facts, plane.copy(), rows, columns, planes, least, greatest, total)
 
 
 def axis_of(graph: Graph, node: Node, layout: Layout, dimension: int) -> Axis:
@@ -81,24 +87,23 @@ def axis_of(graph: Graph, node: Node, layout: Layout, dimension: int) -> Axis:
     return Axis(0, 1, False)
 
 
-def draw_frames(graph: Graph, node: Node, frames: Sequence[Frame]) -> tuple[Picture, str]:
+def draw_frames(graph: Graph, node: Node, parts: Sequence[Shown]) -> tuple[Picture, str]:
     """The arrays as a picture, and what has to be known of it in words."""
-    layout = frames[0].layout
-    parts = [shown_part(frame.samples) for frame in frames]
+    layout = parts[0].frame.layout
     words = [_clause(parts[0])]
     if len(layout.sizes) == 1:
-        return _draw_lines(graph, node, frames), ""
+        return _draw_lines(graph, node, parts), ""
     low, high, is_clipped = _colour_range(parts)
     if is_clipped:
         words.append(f"The colours end at {high}, which {CLIPPED_ABOVE} % of the points don't pass; what is above has the last colour.")
     shape = layout.sizes[-2:]
     wide = shape[1] / shape[0]
     figure, axes = pyplot.subplots(
-        1, len(frames), figsize=(3.55 * len(frames) + 0.7, min(4.4, max(2.4, 3.1 / wide + 0.95))), squeeze=False, layout="constrained"
+        1, len(parts), figsize=(3.55 * len(parts) + 0.7, min(4.4, max(2.4, 3.1 / wide + 0.95))), squeeze=False, layout="constrained"
     )
     x, y = (axis_of(graph, node, layout, dimension) for dimension in (0, 1))
     extent = (x.start, x.start + x.step * shape[1], y.start + y.step * shape[0], y.start)
-    for axis, frame, part in zip(axes[0], frames, parts):
+    for axis, part in zip(axes[0], parts):
         image = axis.imshow(
             part.points,
             vmin=low,
@@ -108,7 +113,7 @@ def draw_frames(graph: Graph, node: Node, frames: Sequence[Frame]) -> tuple[Pict
             interpolation="nearest",
             aspect="equal" if 1 / LONG <= wide <= LONG else "auto",
         )
-        axis.set_title(_title(frame), parse_math=False)
+        axis.set_title(_title(part.frame), parse_math=False)
         _whole_ticks(axis)
         axis.set_xlabel(_label("column", x))
     axes[0][0].set_ylabel(_label("row", y))
@@ -116,16 +121,15 @@ def draw_frames(graph: Graph, node: Node, frames: Sequence[Frame]) -> tuple[Pict
     return drawing.as_picture(figure), " ".join(filter(None, words))
 
 
-def _draw_lines(graph: Graph, node: Node, frames: Sequence[Frame]) -> Picture:
+def _draw_lines(graph: Graph, node: Node, parts: Sequence[Shown]) -> Picture:
     """Arrays of one dimension as lines."""
-    figure, axes = drawing.panels(len(frames), 1.5, sharey=True)
-    place = axis_of(graph, node, frames[0].layout, 0)
-    for axis, frame in zip(axes, frames):
-        part = shown_part(frame.samples)
+    figure, axes = drawing.panels(len(parts), 1.5, sharey=True)
+    place = axis_of(graph, node, parts[0].frame.layout, 0)
+    for axis, part in zip(axes, parts):
         at = place.start + place.step * part.columns * np.arange(part.points.shape[1])
         axis.plot(at, part.points[0], color=drawing.BLUE, linewidth=0.9)
-        axis.set_title(_title(frame).replace("\n", ", "), loc="left", parse_math=False)
-        axis.set_ylabel(f"sample\n({frame.layout.sample_type})")
+        axis.set_title(_title(part.frame).replace("\n", ", "), loc="left", parse_math=False)
+        axis.set_ylabel(f"sample\n({part.frame.layout.sample_type})")
     axes[-1].set_xlabel(_label("sample", place))
     return drawing.as_drawing(figure)
 
@@ -149,7 +153,7 @@ def _clause(part: Shown) -> str:
     return " ".join(words)
 
 
-def _title(frame: Frame) -> str:
+def _title(frame: FrameFacts) -> str:
     attributes = [f"{name} = {_short(value)}" for name, value in list(frame.attributes.items())[:_ATTRIBUTES]]
     more = len(frame.attributes) - len(attributes)
     return f"id {frame.unique_id}\n{', '.join(attributes)}{f' and {more} more' if more > 0 else ''}"

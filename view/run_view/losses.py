@@ -3,6 +3,7 @@
 from __future__ import annotations
 
 from dataclasses import dataclass
+from typing import Sequence
 
 from .graphs import DRIVER, Graph, Node
 from .reports import Counters
@@ -31,6 +32,24 @@ def losses(graph: Graph, counters: Counters) -> list[Loss]:
     for node in graph.nodes:
         found += _at(graph, node, counters)
     return found
+
+
+def headline(counters: Counters, found: Sequence[Loss], is_whole: bool) -> str:
+    """The sentence that stands above all others; `is_whole` says whether the counters are those of the whole run."""
+    lost = sum(loss.count for loss in found)
+    if counters.driver is None:
+        return "A plain run drops nothing."
+    if not is_whole:
+        return f"{_dropped(lost) if lost else 'Nothing was dropped'} as far as the log goes, which isn't to the run's end."
+    if lost:
+        return f"{_dropped(lost)}."
+    if not counters.driver["offered"]:
+        return "No frame came: the stack is empty."
+    return f"Nothing was lost: all {many(counters.driver['offered'], 'frame')} were loaded, and every node took every array that came to it."
+
+
+def _dropped(count: int) -> str:
+    return "1 frame or array was dropped" if count == 1 else f"{count:,} frames or arrays were dropped"
 
 
 def _at(graph: Graph, node: Node, counters: Counters) -> list[Loss]:

@@ -139,10 +139,7 @@ def _take_report(outputs: Outputs, path: str) -> None:
 def _count(outputs: Outputs) -> None:
     if outputs.journal is None:
         return
-    try:
-        counted = count_journal(outputs.journal, outputs.graph, outputs.ids)
-    except IndexError:
-        counted = count_journal(outputs.journal, outputs.graph)
+    counted = count_journal(outputs.journal, outputs.graph, outputs.ids)
     if outputs.counters is None:
         outputs.counters, outputs.source = counted, "log"
     elif outputs.journal.fault is None:
@@ -160,13 +157,13 @@ def _compare(outputs: Outputs) -> None:
             saved = journal.nodes[node.number].saved_in
             _compare_groups(outputs, node, files, {group: count for group, count in saved.items() if count})
         elif outputs.counters is not None and outputs.source == "report":
-            _compare_totals(outputs, node, f"the files of {node.name} hold", files.arrays())
+            _compare_totals(outputs, outputs.counters, node, f"The files of {node.name} hold", files.arrays())
     for node in outputs.graph.of_kind("stats"):
         if node.name not in outputs.rows:
             if not (node.name == LOG and outputs.journal):
                 outputs.problems.append(f"{outputs.prefix}{node.name}.txt, the rows of {node.name}, isn't there.")
         elif outputs.rows[node.name].fault is None and outputs.counters is not None and (journal or outputs.source == "report"):
-            _compare_totals(outputs, node, f"the rows of {node.name} are of", len(outputs.rows[node.name]))
+            _compare_totals(outputs, outputs.counters, node, f"The rows of {node.name} are of", len(outputs.rows[node.name]))
 
 
 def _compare_groups(outputs: Outputs, node: Node, files: NodeFiles, saved: dict[int, int]) -> None:
@@ -181,12 +178,11 @@ def _compare_groups(outputs: Outputs, node: Node, files: NodeFiles, saved: dict[
             outputs.problems.append(f"{file.path} holds {many(file.whole, 'array')}, and the log saved {saved.get(group, 0)} there: {why}.")
 
 
-def _compare_totals(outputs: Outputs, node: Node, words: str, there: int) -> None:
-    assert outputs.counters is not None
-    counted = outputs.counters.nodes[node.name].get("out", there)
+def _compare_totals(outputs: Outputs, counters: Counters, node: Node, words: str, there: int) -> None:
+    counted = counters.nodes[node.name].get("out", there)
     if counted != there:
         why = "some may be of an earlier run" if there > counted else "some are missing"
-        outputs.problems.append(f"{words[0].upper()}{words[1:]} {many(there, 'array')}, and the {outputs.source} counts {counted}: {why}.")
+        outputs.problems.append(f"{words} {many(there, 'array')}, and the {outputs.source} counts {counted}: {why}.")
 
 
 def _nothing_there(outputs: Outputs) -> str:

@@ -5,57 +5,28 @@ from __future__ import annotations
 import json
 import os
 from html import escape
-from typing import Any, Container, Iterable, Sequence
+from pathlib import Path
+from typing import Any, Iterable, Sequence
 
 import numpy as np
 
 from . import frame_pictures, statistics_plots, timeline
-from .drawing import Picture
+from .frame_pictures import Shown
 from .journal import CAUSES
-from .losses import kept, losses, many
+from .losses import headline, kept, losses, many
+from .markup import bullets, figure, table
 from .outputs import Outputs
 from .ranges import range_text, ranges_of
 from .reports import DRIVER_KEYS, NODE_KEYS
-from .stored import Frame, NodeFiles
+from .stored import Layout, NodeFiles
 
 DATA_MARK = "run-data"
-_LONG_LIST = 400
+_NAMES = {1: ("only",), 2: ("first", "last"), 3: ("first", "a middle", "last")}
 _BREAKS = (
     "Breaks count the arrays that came out with an id that is neither that of the one before nor the next one: out of order, or the first "
     "after a gap, as behind a drop or at the beginning of a trigger window."
 )
-_STYLE = """
-:root { color-scheme: light; }
-body { font: 15px/1.45 system-ui, "DejaVu Sans", sans-serif; color: #222; background: #fff; max-width: 1180px; margin: 1.5em auto; padding: 0 1em; }
-h1 { font-size: 1.6em; margin: 0; overflow-wrap: anywhere; }
-h2 { font-size: 1.2em; border-bottom: 1px solid #999; margin: 1.6em 0 .5em; }
-h3 { font-size: 1em; margin: 1em 0 .2em; }
-p { margin: .4em 0; }
-.small, figcaption { color: #555; font-size: .87em; }
-.verdict, .problems { border-left: 5px solid #0072B2; background: #eef5fa; padding: .5em 1em; margin: 1em 0; }
-.lost, .problems { border-color: #D55E00; background: #fdf1ea; }
-.verdict b { font-size: 1.1em; }
-ul { margin: .3em 0; padding-left: 1.3em; }
-figure { margin: .6em 0; }
-figure img { display: block; }
-table { border-collapse: collapse; margin: .5em 0; font-variant-numeric: tabular-nums; }
-th, td { border-bottom: 1px solid #ccc; padding: .15em .7em; text-align: right; }
-th { background: #f3f3f3; font-weight: 600; }
-td { vertical-align: top; }
-.words { text-align: left; }
-.list { text-align: left; overflow-wrap: anywhere; min-width: 14em; }
-td.bad { background: #f9d9c6; font-weight: 700; }
-pre { background: #f6f6f6; padding: .7em; overflow-x: auto; font-size: .85em; }
-@media print {
-  body { font-size: 10pt; max-width: none; margin: 0; padding: 0; }
-  section, figure, table, .verdict { break-inside: avoid; }
-  section.long { break-inside: auto; }
-  h2, h3 { break-after: avoid; }
-  .verdict, .problems, td.bad, th { print-color-adjust: exact; -webkit-print-color-adjust: exact; }
-  pre { white-space: pre-wrap; }
-}
-@page { margin: 14mm; }
-"""
+_STYLE = (Path(__file__).parent / "page.css").read_text(encoding="utf-8")
 
 
 class Page:
@@ -101,7 +72,7 @@ class Page:
             have.append(f"a log of {many(outputs.journal.lines, 'line')}")
         self._parts.append(f'<p class="small">{escape(", ".join(have))}.</p>')
         if outputs.problems:
-            self._parts.append('<div class="problems"><b>What is wrong with the files</b>' + _list(outputs.problems) + "</div>")
+            self._parts.append('<div class="problems"><b>What is wrong with the files</b>' + bullets(outputs.problems) + "</div>")
         self._add_verdict()
 
     def _add_verdict(self) -> None:
@@ -115,17 +86,8 @@ class Page:
             return
         found = losses(outputs.graph, counters)
         self.data["losses"] = [{"node": loss.node, "cause": loss.cause, "count": loss.count} for loss in found]
-        if outputs.is_plain():
-            head = "A plain run drops nothing."
-        elif counters.frames == 0 or (counters.driver and not counters.driver["offered"]):
-            head = "No frame came: the stack is empty."
-        elif found:
-            head = f"{many(sum(loss.count for loss in found), 'frame')} or arrays were dropped."
-        else:
-            offered = counters.driver["offered"] if counters.driver else 0
-            head = f"Nothing was lost: all {many(offered, 'frame')} were loaded, and every node took every array that came to it."
-        if found and outputs.journal and outputs.journal.fault:
-            head = head[:-1] + ", as far as the log goes."
+        is_whole = outputs.source == "report" or not (outputs.journal and outputs.journal.fault)
+        head = headline(counters, found, is_whole)
         lines = [f"{escape(loss.words)} <i>What helps: {escape(loss.helps)}.</i>" for loss in found]
         if outputs.journal:
             lines += [
@@ -142,13 +104,12 @@ class Page:
         for node in self._outputs.graph.of_kind("file"):
             files = self._outputs.files[node.name]
             body = [f"<p>{escape(_files_words(files))}</p>"]
-            frames = frame_pictures.chosen(files)
-            self.data["frames"][node.name] = [_frame_data(frame) for frame in frames]
-            if frames:
-                picture, words = frame_pictures.draw_frames(self._outputs.graph, node, frames)
-                names = ("first", "a middle", "last") if len(frames) == 3 else ("first", "last") if len(frames) == 2 else ("only",)
-                which = ", ".join(f"{name}: id {frame.unique_id}" for name, frame in zip(names, frames))
-                body.append(_figure(picture, f"arrays of {node.name}, {which}", f"{_layout_words(frames[0])} {words}"))
+            shown = frame_pictures.chosen(files)
+            self.data["frames"][node.name] = [_frame_data(part) for part in shown]
+            if shown:
+                picture, words = frame_pictures.draw_frames(self._outputs.graph, node, shown)
+                which = ", ".join(f"{name}: id {part.frame.unique_id}" for name, part in zip(_NAMES[len(shown)], shown))
+                body.append(figure(picture, f"arrays of {node.name}, {which}", f"{_layout_words(shown[0].frame.layout)} {words}"))
             self._section(f"{node.name}: saved arrays", body)
 
     def _add_statistics(self) -> None:
@@ -176,10 +137,10 @@ class Page:
                 words += " Each column of pixels is drawn from the least to the greatest value of its rows."
             if rows.outside:
                 words += f" {many(rows.outside, 'sample')} in all lie beside the range of the histogram."
-            body = [_figure(statistics_plots.draw_series(node, rows, series, span), f"statistics of {node.name}", words)]
+            body = [figure(statistics_plots.draw_series(node, rows, series, span), f"statistics of {node.name}", words)]
             for name, image in rows.images.items():
                 for picture, what in statistics_plots.draw_image(node, name, image, rows.ids, span):
-                    body.append(_figure(picture, f"{what} of {node.name}", f"{what[0].upper()}{what[1:]}; grey is an id without a row."))
+                    body.append(figure(picture, f"{what} of {node.name}", f"{what[0].upper()}{what[1:]}; grey is an id without a row."))
             self._section(f"{node.name}: statistics", body, is_long=len(body) > 1)
 
     def _add_counters(self) -> None:
@@ -203,11 +164,11 @@ class Page:
         used = [place for place in range(len(columns)) if any(row[2 + place] != "" for row in rows)]
         head = ["node", "kind"] + [columns[place] for place in used]
         bad = {2 + number for number, place in enumerate(used) if columns[place] in ("refused", "full", "pool", "sort")}
-        table = _table(head, [row[:2] + [row[2 + place] for place in used] for row in rows], bad)
+        counted = table(head, [row[:2] + [row[2 + place] for place in used] for row in rows], bad)
         notes = f"Counted in the {self._outputs.source} of the run." + (f" {_BREAKS}" if "breaks" in head else "")
         if counters.regrown:
             notes += f" Storage was made again {counters.regrown} times (regrown)."
-        self._section("Counters", [table, f'<p class="small">{escape(notes)}</p>'])
+        self._section("Counters", [counted, f'<p class="small">{escape(notes)}</p>'])
 
     def _add_timeline(self) -> None:
         outputs = self._outputs
@@ -221,7 +182,7 @@ class Page:
             + ("; the dashed line is the end of the feed, and what is behind it has no time." if outputs.journal.closed_at is not None else ".")
         )
         picture = timeline.draw_timeline(outputs.graph, outputs.journal)
-        self._section("Queues and drops", [_figure(picture, "queues and drops over the lines of the log", words)])
+        self._section("Queues and drops", [figure(picture, "queues and drops over the lines of the log", words)])
 
     def _add_drops(self) -> None:
         outputs = self._outputs
@@ -245,7 +206,7 @@ class Page:
             return
         head = ["node", "cause", "arrays", "lines of the log", "frames (place in the stack, from 0)"]
         head += ["ids"] if outputs.ids is not None else []
-        self._section("Which frames were dropped", [_table(head, rows, lists=(4, 5))], is_long=True)
+        self._section("Which frames were dropped", [table(head, rows, lists=(4, 5))], is_long=True)
 
     def _id_texts(self, ranges: Sequence[tuple[int, int]], indexes: Sequence[int]) -> list[str]:
         ids = self._outputs.ids
@@ -264,7 +225,7 @@ class Page:
         picture = timeline.draw_workers(work)
         if picture is not None:
             words = "How many frames the feeder passed on, each worker was done with, and the last role saved."
-            self._section("Who did how many frames", [_figure(picture, "frames by role", words)])
+            self._section("Who did how many frames", [figure(picture, "frames by role", words)])
 
     def _add_graph(self) -> None:
         self._section("The graph", [f"<pre>{escape(self._outputs.graph.text)}</pre>"], is_long=True)
@@ -275,16 +236,16 @@ def page_text(outputs: Outputs) -> str:
     return Page(outputs).text()
 
 
-def _frame_data(frame: Frame) -> dict[str, Any]:
+def _frame_data(part: Shown) -> dict[str, Any]:
     return {
-        "file": os.path.basename(frame.path),
-        "place": frame.place,
-        "id": frame.unique_id,
-        "type": frame.layout.sample_type,
-        "sizes": list(frame.layout.sizes[::-1]),
-        "least": int(frame.samples.min()),
-        "greatest": int(frame.samples.max()),
-        "total": int(frame.samples.astype("int64").sum()),
+        "file": os.path.basename(part.frame.path),
+        "place": part.frame.place,
+        "id": part.frame.unique_id,
+        "type": part.frame.layout.sample_type,
+        "sizes": list(part.frame.layout.sizes[::-1]),
+        "least": part.least,
+        "greatest": part.greatest,
+        "total": part.total,
     }
 
 
@@ -295,8 +256,7 @@ def _files_words(files: NodeFiles) -> str:
     return f"{many(files.arrays(), 'array')} in {many(len(files.files), 'file')} of {size:,} bytes in all."
 
 
-def _layout_words(frame: Frame) -> str:
-    layout = frame.layout
+def _layout_words(layout: Layout) -> str:
     words = f"{layout.sample_type}, {' × '.join(str(size) for size in layout.sizes[::-1])} samples (dimension 0 first)"
     if any(layout.offset) or any(number != 1 for number in layout.binning) or any(layout.reverse):
         words += f", offset {_numbers(layout.offset)}, binning {_numbers(layout.binning)}"
@@ -307,29 +267,3 @@ def _layout_words(frame: Frame) -> str:
 
 def _numbers(numbers: Iterable[int]) -> str:
     return ", ".join(str(number) for number in numbers)
-
-
-def _figure(picture: Picture, alternative: str, caption: str) -> str:
-    image = f'<img alt="{escape(alternative)}" style="width:{picture.share}%" src="{picture.uri}">'
-    return f'<figure>{image}<figcaption>{escape(caption)}</figcaption></figure>'
-
-
-def _list(lines: Iterable[str]) -> str:
-    return "<ul>" + "".join(f"<li>{escape(line)}</li>" for line in lines) + "</ul>"
-
-
-def _table(head: Sequence[str], rows: Sequence[Sequence[Any]], bad: Container[int] = (), lists: Container[int] = ()) -> str:
-    """A table whose first two columns are words. Cells of the columns `bad` stand out where they aren't 0; `lists` may be long texts."""
-
-    def cell(place: int, value: Any) -> str:
-        kind = "list" if place in lists else "words" if place < 2 else "bad" if place in bad and value else ""
-        text = f"{value:,}" if isinstance(value, int) else str(value)
-        if len(text) > _LONG_LIST:
-            text = f"<details><summary>{escape(text[:60])} …</summary>{escape(text)}</details>"
-        else:
-            text = escape(text)
-        return f"<td{f' class={chr(34)}{kind}{chr(34)}' if kind else ''}>{text}</td>"
-
-    titles = "".join(f"<th{' class=words' if place < 2 or place in lists else ''}>{escape(word)}</th>" for place, word in enumerate(head))
-    lines = ["<tr>" + "".join(cell(place, value) for place, value in enumerate(row)) + "</tr>" for row in rows]
-    return f"<table><tr>{titles}</tr>{''.join(lines)}</table>"

@@ -21,6 +21,7 @@ _ROW = re.compile(
 SERIES = ("total", "min", "max", "over")
 IMAGES = ("bins", "x", "y")
 IMAGE_HEIGHT = 400
+_AT_ONCE = 100
 
 Image = npt.NDArray[np.float64]
 
@@ -61,17 +62,18 @@ def read_rows(path: str) -> Rows:
     """Reads a file of rows. One that is cut off is read up to there; one of which no line is a row is refused."""
     numbers: dict[str, list[int]] = {name: [] for name in ("id", *SERIES)}
     centres: list[tuple[float, float]] = []
-    heights = {name: 0 for name in IMAGES}
+    heights: dict[str, int] = {}
     faults: list[str] = []
     outside = 0
     for row in _rows(path, faults):
+        here = {name: row[name].count(",") + 1 for name in IMAGES if row[name]}
+        if here != (heights := heights or here):
+            faults.append(f"line {len(centres) + 1} has another number of bins or sums than the rows before")
+            break
         for name, column in numbers.items():
             column.append(int(row[name]))
         centres.append(_centre(int(row["m0"]), int(row["mx"]), int(row["my"])))
         outside += int(row["below"] or 0) + int(row["above"] or 0)
-        for name in IMAGES:
-            if row[name]:
-                heights[name] = max(heights[name], row[name].count(",") + 1)
     if faults and not numbers["id"] and "cut off" not in faults[0]:
         raise ViewFault(f"{path} isn't a file of statistics rows: {faults[0]}")
     ids = np.array(numbers.pop("id"), dtype=np.int64)
@@ -82,7 +84,7 @@ def read_rows(path: str) -> Rows:
         outside=outside,
         fault=faults[0] if faults else None,
     )
-    wanted = {name: height for name, height in heights.items() if height > 1 or (height and name == "bins")}
+    wanted = {name: height for name, height in heights.items() if height > 1 or name == "bins"}
     if wanted:
         rows.images = _images(path, ids, wanted)
     return rows
@@ -114,22 +116,35 @@ def _centre(total: int, weighted_x: int, weighted_y: int) -> tuple[float, float]
 
 
 class _ImageBuilder:
-    """Gathers the least and the greatest numbers of rows, column by column of ids."""
+    """Gathers the least and the greatest numbers of rows, column by column of ids; rows of one column that follow are read at once."""
 
     def __init__(self, height: int, columns: int) -> None:
         self._height = height
         self._starts = np.arange(min(height, IMAGE_HEIGHT)) * height // min(height, IMAGE_HEIGHT)
         self._least = np.full((columns, len(self._starts)), np.nan)
         self._greatest = self._least.copy()
+        self._column = 0
+        self._texts: list[str] = []
 
     def take(self, column: int, text: str) -> None:
-        numbers = np.full(self._height, np.nan)
-        given = np.fromstring(text, dtype=np.float64, sep=",")
-        numbers[: len(given)] = given
-        np.fmin(self._least[column], np.fmin.reduceat(numbers, self._starts), out=self._least[column])
-        np.fmax(self._greatest[column], np.fmax.reduceat(numbers, self._starts), out=self._greatest[column])
+        """Takes the numbers of a row."""
+        if column != self._column or len(self._texts) == _AT_ONCE:
+            self._read()
+        self._column = column
+        self._texts.append(text)
+
+    def _read(self) -> None:
+        if not self._texts:
+            return
+        numbers = np.fromstring(",".join(self._texts), dtype=np.float64, sep=",").reshape(-1, self._height)
+        self._texts.clear()
+        least, greatest = self._least[self._column], self._greatest[self._column]
+        np.fmin(least, np.minimum.reduceat(numbers.min(axis=0), self._starts), out=least)
+        np.fmax(greatest, np.maximum.reduceat(numbers.max(axis=0), self._starts), out=greatest)
 
     def image(self) -> RowImage:
+        """What was gathered."""
+        self._read()
         thinned = not np.array_equal(self._least, self._greatest, equal_nan=True)
         return RowImage(self._height, self._least.T, self._greatest.T, thinned)
 

@@ -30,6 +30,7 @@ _WORD = 4
 _HEADER_AT_MOST = 1 << 24
 _SHORTEST_HEADER = 508
 _BLOCK = 8192
+Samples = npt.NDArray[Any]
 _LIBRARY_FAULTS = (OSError, RuntimeError, ValueError, KeyError, IndexError)
 
 
@@ -60,15 +61,14 @@ class StoredFile:
 
 
 @dataclass(frozen=True)
-class Frame:
-    """One array of a file: its place there, its id, its time as stored, its attributes, and its samples (slowest dimension first)."""
+class FrameFacts:
+    """What is known of one array of a file beside its samples: its place there, its id, its time as stored and its attributes."""
 
     path: str
     place: int
     unique_id: int
     time_stamp: float
     attributes: Mapping[str, Any]
-    samples: npt.NDArray[np.integer[Any]]
     layout: Layout
 
 
@@ -110,8 +110,11 @@ def survey(prefix: str, node: str) -> NodeFiles:
     return found
 
 
-def read_frame(file: StoredFile, place: int) -> Frame:
-    """Reads one array. Of an unfinished file the arrays that are whole can be read, too."""
+def read_frame(file: StoredFile, place: int) -> tuple[FrameFacts, Samples]:
+    """Reads one array, with its samples (the slowest dimension first) as numbers of their own type.
+
+    Of an unfinished file the arrays that are whole can be read, too.
+    """
     if file.layout is None or not 0 <= place < file.whole:
         raise ViewFault(f"{file.path} has no array {place}")
     try:
@@ -120,11 +123,9 @@ def read_frame(file: StoredFile, place: int) -> Frame:
     except _LIBRARY_FAULTS as fault:
         raise ViewFault(f"array {place} of {file.path} can't be read: {fault}") from fault
     kind = SAMPLE_TYPES.index(file.layout.sample_type)
-    samples = one["array_data"].values.astype(_STORED[kind]).view(_MEANT[kind])
+    samples = one["array_data"].values.astype(_STORED[kind], copy=False).view(_MEANT[kind])
     attributes = {str(name)[5:]: _plain(value.values) for name, value in one.data_vars.items() if str(name).startswith("Attr_")}
-    return Frame(
-        file.path, place, int(one["uniqueId"]), float(one["timeStamp"]), attributes, samples, file.layout
-    )
+    return FrameFacts(file.path, place, int(one["uniqueId"]), float(one["timeStamp"]), attributes, file.layout), samples
 
 
 def read_ids(path: str) -> npt.NDArray[np.int64]:
@@ -153,11 +154,11 @@ def _paths(prefix: str, node: str) -> Iterator[tuple[int, str]]:
 def _look(path: str, group: int, begin: bytes, size: int) -> StoredFile:
     if not begin:
         return StoredFile(path, group, size, None, 0, "unfinished: it is empty")
-    form = _FORMS.get(begin[:4])
-    if form is None:
+    if not any(magic.startswith(begin[:4]) for magic in _FORMS):
         return StoredFile(path, group, size, None, 0, f"isn't a file of a file node: {_other_form(begin)}")
     if size < _SHORTEST_HEADER:
         return StoredFile(path, group, size, None, 0, "unfinished: its header is cut off")
+    form = _FORMS[begin[:4]]
     try:
         with netCDF4.Dataset(path, memory=_head(path)) as header:
             layout = _layout(header, form)

@@ -86,7 +86,8 @@ def _draw_drops(axis: Axes, history: NodeHistory, length: int, top: int) -> None
 
 
 def _legend(axis: Axes) -> None:
-    axis.legend(loc="center left", bbox_to_anchor=(1.0, 0.5), frameon=False, handlelength=1.2)
+    if axis.get_legend_handles_labels()[0]:
+        axis.legend(loc="center left", bbox_to_anchor=(1.0, 0.5), frameon=False, handlelength=1.2)
 
 
 def _draw_times(axis: Axes, journal: Journal) -> None:

@@ -3,9 +3,12 @@
 from __future__ import annotations
 
 import contextlib
+import functools
 import io
 import os
 import shutil
+import unittest
+from pathlib import Path
 
 import numpy as np
 
@@ -20,11 +23,24 @@ FRAMES = np.arange(12 * 4 * 4, dtype="u2").reshape(12, 4, 4) + 40_000
 GRAPH = WAIT + node("st", "stats") + node("cap", "file", mode="stream", count=5)
 
 
+@functools.cache
+def _kept(command: str) -> str:
+    """A folder with the outputs of a run, which stays until the tests end."""
+    case = RunCase()
+    case.setUp()
+    unittest.addModuleCleanup(case.doCleanups)
+    if case.run_graph(GRAPH, case.stack(FRAMES), command).status != 0:
+        raise AssertionError(f"the program's {command} failed")
+    return str(case.folder)
+
+
 class BadInput(RunCase):
     def good(self, command: str = "run-log") -> Run:
-        run = self.run_graph(GRAPH, self.stack(FRAMES), command)
-        self.assertEqual(run.status, 0)
-        return run
+        """A run that ended well, in this test's own folder; the program is run once for all tests."""
+        kept = _kept(command)
+        shutil.copytree(kept, self.folder, dirs_exist_ok=True)
+        name = {key: str(self.folder / value) for key, value in (("graph", "r_graph.toml"), ("report", "r.report"), ("stack", "stack.nc"))}
+        return Run(0, str(self.folder / "r_"), **name)
 
     def problems(self, run: Run, report: str | None = None, stack: str | None = None, graph: str | None = None) -> str:
         """What is wrong with a run's files, as the page and standard error tell it."""
@@ -96,15 +112,15 @@ class BadInput(RunCase):
                     run.file("cap_001.nc").write_bytes((head + whole[8:])[:length])
                     outputs = self.outputs(run)
                     self.assertIn("cap_001.nc unfinished", outputs.problems[0])
-                    frames = chosen(outputs.files["cap"])
-                    self.assertEqual((frames[0].unique_id, frames[-1].unique_id), (1, 12))
+                    shown = chosen(outputs.files["cap"])
+                    self.assertEqual((shown[0].frame.unique_id, shown[-1].frame.unique_id), (1, 12))
 
     def test_a_file_that_is_not_ours(self) -> None:
         run = self.good()
         others = {
             "no netCDF file in the classic form": b"a text that has nothing to do with it\n" * 40,
             "another form of netCDF": b"\x89HDF\r\n\x1a\n" + bytes(2000),
-            "has no epicsTSSec": (self.folder / "stack.nc").read_bytes(),
+            "has no timeStamp": (self.folder / "stack.nc").read_bytes(),
             "bytes more than its 5 arrays": run.file("cap_000.nc").read_bytes() + b"more",
         }
         for words, content in others.items():
@@ -147,6 +163,7 @@ class BadInput(RunCase):
         page = run.page()
         self.assertEqual(page.status, 1)
         self.assertIn("log.txt was read up to line 40: line 41 is cut off", page.errors)
+        self.assertIn("Nothing was dropped as far as the log goes", page.text)
         run.file("log.txt").write_text("".join(lines[:40]), encoding="ascii")
         self.assertIn("it ends before the run does", self.problems(run))
         run.file("log.txt").write_text("".join(lines[:30]) + "accept x\n", encoding="ascii")
@@ -169,7 +186,7 @@ class BadInput(RunCase):
         text = (self.folder / "r.report").read_text(encoding="ascii")
         wrong = {
             "": "is empty",
-            "frames 12\n": "isn't whole",
+            "frames 12\n": "of the nodes none, which aren't those of the graph",
             text[:-1]: "isn't whole",
             "hello\n": "line 1 is none of its lines",
             text.replace("full 0", "full x"): "line 3 is none of its lines",
@@ -192,7 +209,8 @@ class BadInput(RunCase):
         self.assertIn("No such file", self.refused(run, graph=str(self.folder / "none.toml")))
         self.assertIn("Is a directory", self.refused(run, graph=str(self.folder)))
         self.assertIn("UTF-8", self.refused(run, graph=str(run.file("cap_000.nc"))))
-        for text, words in (("a = ", "is no TOML"), ("node = 3", "no list of tables"), ("[[node]]", "has no text 'name'"), ("[run]\npool = 'x'", "no whole number")):
+        wrong = {"a = ": "is no TOML", "node = 3": "no list of tables", "[[node]]": "has no text 'name'", "[run]\npool = 'x'": "no whole number"}
+        for text, words in wrong.items():
             self.assertIn(words, self.refused(run, graph=self.write("wrong.toml", text)))
 
     def test_a_page_that_cannot_be_written(self) -> None:
@@ -200,9 +218,9 @@ class BadInput(RunCase):
         self.assertIn("can't be written", self.refused(run, "--out", str(self.folder / "no folder" / "page.html")))
         self.assertIn("it is a folder", self.refused(run, "--out", str(self.folder)))
         for path in (run.graph, str(run.file("cap_000.nc")), str(run.file("log.txt"))):
-            before = open(path, "rb").read()
+            before = Path(path).read_bytes()
             self.assertIn("which it is made of", self.refused(run, "--out", path))
-            self.assertEqual(open(path, "rb").read(), before)
+            self.assertEqual(Path(path).read_bytes(), before)
         self.assertEqual([name for name in os.listdir(self.folder) if name.startswith(".view-")], [])
 
     def test_wrong_words(self) -> None:

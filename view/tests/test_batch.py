@@ -109,13 +109,11 @@ class Batch(RunCase):
         status, text, _ = self.call("collect", self.graph, self.list, self.out)
         lines = text.splitlines()
         self.assertEqual(status, 1)
-        for line, words in zip(
-            lines[1:],
-            ("it goes on, or was stopped from outside", "", "ended by signal 9", "this was else.nc", "isn't the record of a run", "not run", "not run"),
-        ):
+        reasons = ["it goes on, or was stopped from outside", "", "ended by signal 9", "this was else.nc", "isn't the record of a run"]
+        for line, words in zip(lines[1:], [*reasons, "not run", "not run"]):
             self.assertIn(words, line)
         Path(self.out, "0002_scan_1.report").write_text("frames 7\n", encoding="utf-8")
-        self.assertIn("isn't whole", self.call("collect", self.graph, self.list, self.out)[1])
+        self.assertIn("aren't those of the graph", self.call("collect", self.graph, self.list, self.out)[1])
 
     def test_bad_input(self) -> None:
         none = str(self.folder / "none")

@@ -6,7 +6,7 @@ import numpy as np
 
 from run_view.frame_pictures import axis_of, chosen, shown_part
 from run_view.graphs import read_graph
-from run_view.stored import survey
+from run_view.stored import FrameFacts, Layout, read_frame, survey
 
 from .runs import WAIT, RunCase, node
 
@@ -27,12 +27,14 @@ class Frames(RunCase):
             with self.subTest(kind):
                 given = self.samples(kind, (5, 3, 4))
                 run = self.run_graph(DRIVER_FILE, self.stack(given), name=f"{kind}_")
-                frames = chosen(survey(run.prefix, "cap"))
-                self.assertEqual([frame.place for frame in frames], [0, 2, 4])
-                for frame in frames:
-                    self.assertEqual(frame.layout.sample_type, name)
-                    np.testing.assert_array_equal(frame.samples, given[frame.place])
-                    np.testing.assert_array_equal(shown_part(frame.samples).points, given[frame.place])
+                files = survey(run.prefix, "cap")
+                shown = chosen(files)
+                self.assertEqual([part.frame.place for part in shown], [0, 2, 4])
+                for part in shown:
+                    place = part.frame.place
+                    self.assertEqual(part.frame.layout.sample_type, name)
+                    np.testing.assert_array_equal(part.points, given[place])
+                    np.testing.assert_array_equal(read_frame(files.files[0], place)[1], given[place])
 
     def test_page_tells_ids_and_extremes_of_the_first_a_middle_and_the_last_array(self) -> None:
         given = self.samples("u2", (7, 6, 5))
@@ -51,7 +53,8 @@ class Frames(RunCase):
         run = self.run_graph(WAIT + node("cap", "file", mode="single") + node("two", "file", mode="capture", count=2), self.stack(given))
         page = run.page()
         self.assertEqual([frame["file"] for frame in page.data["frames"]["cap"]], ["r_cap_000.nc", "r_cap_005.nc", "r_cap_010.nc"])
-        self.assertEqual([(frame["file"], frame["place"]) for frame in page.data["frames"]["two"]], [("r_two_000.nc", 0), ("r_two_002.nc", 1), ("r_two_005.nc", 0)])
+        places = [(frame["file"], frame["place"]) for frame in page.data["frames"]["two"]]
+        self.assertEqual(places, [("r_two_000.nc", 0), ("r_two_002.nc", 1), ("r_two_005.nc", 0)])
         self.assertEqual([frame["id"] for frame in page.data["frames"]["two"]], [1, 6, 11])
 
     def test_a_binned_and_reversed_region_stands_where_it_was_in_the_frame(self) -> None:
@@ -59,10 +62,10 @@ class Frames(RunCase):
         roi = node("cut", "roi", min=[1, 2], size=[8, 6], bin=[2, 3], reverse=[True, False], type="UInt32")
         run = self.run_graph(WAIT + roi + node("cap", "file", "cut", mode="stream", count=10), self.stack(given))
         graph = read_graph(run.graph)
-        frame = chosen(survey(run.prefix, "cap"))[0]
+        part = chosen(survey(run.prefix, "cap"))[0]
         sums = given[0, 2:8, 1:9].astype("u4").reshape(2, 3, 4, 2).sum(axis=(1, 3))[:, ::-1]
-        np.testing.assert_array_equal(frame.samples, sums)
-        x, y = (axis_of(graph, graph.nodes[1], frame.layout, dimension) for dimension in (0, 1))
+        np.testing.assert_array_equal(part.points, sums)
+        x, y = (axis_of(graph, graph.nodes[1], part.frame.layout, dimension) for dimension in (0, 1))
         self.assertEqual((x.start, x.step, x.of_frame), (9, -2, True))
         self.assertEqual((y.start, y.step, y.of_frame), (2, 3, True))
 
@@ -70,13 +73,14 @@ class Frames(RunCase):
         regions = node("a", "roi", min=[2], bin=[2]) + node("b", "roi", "a", min=[1])
         run = self.run_graph(WAIT + regions + node("cap", "file", "b", mode="stream", count=9), self.stack(self.samples("u1", (1, 3, 12))))
         graph = read_graph(run.graph)
-        axis = axis_of(graph, graph.nodes[2], chosen(survey(run.prefix, "cap"))[0].layout, 0)
+        axis = axis_of(graph, graph.nodes[2], chosen(survey(run.prefix, "cap"))[0].frame.layout, 0)
         self.assertEqual((axis.start, axis.step, axis.of_frame), (0, 1, False))
 
     def test_a_large_frame_keeps_its_brightest_samples(self) -> None:
         samples = np.zeros((1100, 700), dtype="u2")
         samples[1099, 699] = 65535
-        part = shown_part(samples)
+        facts = FrameFacts("x.nc", 0, 1, 0.0, {}, Layout("UInt16", (1100, 700), (0, 0), (1, 1), (False, False), 540, 0))
+        part = shown_part(facts, samples)
         self.assertEqual((part.rows, part.columns, part.points.shape), (3, 2, (367, 350)))
         self.assertEqual(part.points[366, 349], 65535)
 

@@ -2,6 +2,9 @@
 
 from __future__ import annotations
 
+import functools
+import unittest
+
 import numpy as np
 
 from run_view.graphs import read_graph
@@ -11,7 +14,7 @@ from run_view.reports import count_journal, read_report
 from run_view.stored import read_ids
 from run_view.timeline import drop_columns, work_of
 
-from .runs import WAIT, RunCase, node
+from .runs import WAIT, Run, RunCase, node
 
 FRAMES = np.arange(60 * 8 * 8, dtype="u2").reshape(60, 8, 8)
 CROWDED = (
@@ -24,13 +27,19 @@ CROWDED = (
 )
 
 
-class Logs(RunCase):
-    def crowded(self) -> tuple:
-        shutter = (np.arange(60) % 9 == 4).astype("i4")
-        return self.run_graph(CROWDED, self.stack(FRAMES, np.arange(60) + 500, {"Shutter": shutter}))
+@functools.cache
+def crowded() -> Run:
+    """A run that loses frames, whose files stay until the tests end."""
+    case = RunCase()
+    case.setUp()
+    unittest.addModuleCleanup(case.doCleanups)
+    shutter = (np.arange(60) % 9 == 4).astype("i4")
+    return case.run_graph(CROWDED, case.stack(FRAMES, np.arange(60) + 500, {"Shutter": shutter}))
 
+
+class Logs(RunCase):
     def test_drops_are_those_of_the_report(self) -> None:
-        run = self.crowded()
+        run = crowded()
         page = run.page("--report", run.report, "--stack", run.stack)
         self.assertEqual((page.status, page.errors), (0, ""))
         report = read_report(run.report)
@@ -49,14 +58,14 @@ class Logs(RunCase):
             self.assertIn(f"{drop['count']:,} of ", page.text)
 
     def test_counters_of_the_log_are_the_report(self) -> None:
-        run = self.crowded()
+        run = crowded()
         graph = read_graph(run.graph)
         counted = count_journal(read_journal(run.prefix + "log.txt", graph), graph, read_ids(run.stack))
         report = read_report(run.report)
         self.assertEqual((counted.driver, counted.nodes, counted.regrown), (report.driver, report.nodes, report.regrown))
 
     def test_queues_stay_within_their_sizes_and_end_empty(self) -> None:
-        run = self.crowded()
+        run = crowded()
         graph = read_graph(run.graph)
         journal = read_journal(run.prefix + "log.txt", graph)
         self.assertIsNone(journal.fault)
@@ -69,7 +78,7 @@ class Logs(RunCase):
                     self.assertLessEqual(values.max(initial=0), most)
 
     def test_work_adds_up_to_the_arrays_of_each_node(self) -> None:
-        run = self.crowded()
+        run = crowded()
         graph = read_graph(run.graph)
         journal = read_journal(run.prefix + "log.txt", graph)
         work = work_of(graph, journal)

@@ -67,6 +67,12 @@ class Statistics(RunCase):
         self.assertEqual((image.least[0, 0], image.greatest[0, 0]), (1, 4))
         self.assertEqual((image.least[0, -1], image.greatest[0, -1]), (3997, 4000))
 
+    def test_rows_of_another_length_end_the_image(self) -> None:
+        row = "{} n=4 min=0@0 max=1@1 total=4 squares=4 border=0/0 over=0 m0=0 mx=0 my=0 below=0 bins={} above=3\n"
+        rows = read_rows(self.write("st.txt", row.format(1, "1,2") + row.format(2, "3,4") + row.format(3, "5,6,7")))
+        self.assertEqual((len(rows), rows.images["bins"].greatest.tolist()), (2, [[1, 3], [2, 4]]))
+        self.assertEqual((rows.outside, rows.fault), (6, "line 3 has another number of bins or sums than the rows before"))
+
     def test_ids_in_no_order_and_twice_are_drawn_each(self) -> None:
         points = point_columns(np.array([5, 3, 5, -1]), np.array([50, 30, 51, -10]))
         self.assertEqual((points.at.tolist(), points.least.tolist()), ([-1, 3, 5, 5], [-10, 30, 50, 51]))
