@@ -40,7 +40,7 @@ def _task(words: argparse.Namespace) -> int:
     place = _chosen(places, words.number)
     read_graph(words.graph)
     if not os.access(words.program, os.X_OK):
-        raise ViewFault(f"there is no program {words.program}: ./nd_replay --help builds it, or --program names another")
+        raise ViewFault(f"there is no program {words.program}: ./nd_replay --build builds it, or --program names another")
     status = run_stack(place, words.graph, words.program, words.command)
     if status != 0:
         print(f"batch: stack {place.number}, {place.stack}, ended with status {status} ({place.error})", file=sys.stderr)

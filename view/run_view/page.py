@@ -91,7 +91,7 @@ class Page:
         lines = [f"{escape(loss.words)} <i>What helps: {escape(loss.helps)}.</i>" for loss in found]
         if outputs.journal:
             lines += [
-                f"A thread left in this run (role {role}, at line {line + 1} of the log): memory was wanting."
+                f"A thread left in this run (role {role}, at line {line + 1} of the log): it ran out of memory."
                 for line, role in outputs.journal.leaves
             ]
         kind = "verdict lost" if found else "verdict"

@@ -31,7 +31,7 @@ def program() -> str:
     for name in ("replay_main", "replay_main_unproved"):
         if os.access(_OUT / name, os.X_OK):
             return str(_OUT / name)
-    raise FileNotFoundError(f"no program in {_OUT}: ./nd_replay --help builds it")
+    raise FileNotFoundError(f"no program in {_OUT}: ./nd_replay --build builds it")
 
 
 @dataclass(frozen=True)
