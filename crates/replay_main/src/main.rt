@@ -51,7 +51,7 @@ The status, which one line on standard error tells where it isn't 0:
     7  ShelfFault   a file can't be made or written, as where its folder isn't there or is full:
                     delete what wasn't finished, and run again
     8  OutFault     the files stand, but standard output failed
-    9  OutOfMemory  memory was wanting: free some, or cut the stack
+    9  OutOfMemory  out of memory: free some, or cut the stack
 ";
 
 const VERSION: &str = "nd_replay 0.1.0
