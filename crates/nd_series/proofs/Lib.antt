@@ -1,0 +1,10 @@
+pub mod Bounds
+pub mod Joins
+pub mod LineNumbers
+pub mod Measures
+pub mod Pushes
+pub mod RegionParts
+pub mod RegionSamples
+pub mod SpanLaws
+pub mod Summed
+pub mod Wides
