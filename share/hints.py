@@ -404,12 +404,12 @@ def tell_limit(words, graph_name, stack_name):
     if fault == "GraphBytes":
         return say(f"{graph_name} has {number:,} bytes, and a graph at most 1,048,576; the words are GRAPH STACK PREFIX, in this order")
     if fault == "StackFile":
-        return say(f"{stack_name} has {number:,} bytes, and a stack at most 1,073,741,824: cut it along its first dimension into {number // 2**30 + 1} or more, as with 'ncks -d FRAMES,0,999 {shlex.quote(stack_name)} NEW.nc'")
+        return say(f"{stack_name} has {number:,} bytes, and a stack at most 1,073,741,824: cut it along its first dimension into {-(-number // 2**30)} or more, as with 'ncks -d FRAMES,0,999 {shlex.quote(stack_name)} NEW.nc'")
     nodes = Graph(graph_name).nodes if graph_name else []
     if fault == "Load":
         return say(f"frames times nodes is {number:,}, and at most {MOST_ARRIVALS:,} are allowed: with {len(nodes)} nodes a stack of up to {MOST_ARRIVALS // max(len(nodes), 1):,} frames, or fewer nodes")
     if fault == "Kept":
-        return say(f"the statistics would keep {number:,} bins and profile sums over all frames, and at most {MOST_KEPT:,} are allowed: fewer bins (hist_size), no profiles, or a stack of 1 in {number // MOST_KEPT + 1} of the frames")
+        return say(f"the statistics would keep {number:,} bins and profile sums over all frames, and at most {MOST_KEPT:,} are allowed: fewer bins (hist_size), no profiles, or a stack of 1 in {-(-number // MOST_KEPT)} of the frames")
     node = nodes[int(rest[0]) - 1] if nodes else {}
     form = node.get("cdf", 1) if node else 1
     what = f"node {node['name']}" if node else "copy"
