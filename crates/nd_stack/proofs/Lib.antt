@@ -12,3 +12,4 @@ pub mod HeaderBytes
 pub mod KeptValues
 pub mod KeptShape
 pub mod KeptStacks
+pub mod GeneratedFrames

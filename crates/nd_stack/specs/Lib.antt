@@ -23,3 +23,6 @@ pub mod RoundTrip
 pub mod RoundTripTests
 pub mod KeptStacks
 pub mod OpenReads
+pub mod Generated
+pub mod GeneratedLaws
+pub mod WorkedStacks

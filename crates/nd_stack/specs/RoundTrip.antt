@@ -117,7 +117,7 @@ array_back shape n k a bytes writable texts has kept values =
 -- ALL ARRAYS
 
 -- arrays at a step, each of which is known
-arrays_by : (shape : FileShape) (bytes : List ℕ) (first step : ℕ) (head : ℕ → Head) (arrays : List Array) →
+pub arrays_by : (shape : FileShape) (bytes : List ℕ) (first step : ℕ) (head : ℕ → Head) (arrays : List Array) →
     ((k : ℕ) (d : Array) → k < length arrays
     → array_of (head k) shape.kind shape.dims (take (frame_size shape) (drop (first + k * step) bytes)) ≡ get_or arrays k d) →
     arrays_at shape bytes first step (map head (range_with_len 0 (length arrays))) ≡ arrays

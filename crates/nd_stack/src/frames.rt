@@ -23,7 +23,7 @@ const INT: u32 = 4;
 const DOUBLE: u32 = 6;
 
 /// The most frames.
-const MOST_FRAMES: u64 = 65_536;
+pub(crate) const MOST_FRAMES: u64 = 65_536;
 
 /// The sample type of this number.
 fn numbered(number: i32) -> Option<SampleType>

@@ -1,16 +1,18 @@
 //! Files in the layout of `cdf_write`, read as stacks.
 
-ghost use Rattle.std.specs.Prelude.{◌≡◌, ◌≤◌, ◌++◌, ◌∷◌, [], ℕ, List, length, Ok, true};
+ghost use Rattle.std.specs.Prelude.{◌≡◌, ◌≤◌, ◌++◌, ◌∷◌, [], ℕ, List, length, Ok, None, true};
 ghost use Rattle.nd_base.specs.declared.array.Dim.{Dim};
 ghost use Rattle.nd_base.specs.declared.array.SampleType.{SampleType};
 ghost use Rattle.nd_base.specs.declared.attribute.FileShape.{FileShape};
 ghost use Rattle.nd_base.specs.declared.form.Form.{Form};
+ghost use Rattle.nd_base.specs.declared.form.Form.TheVariants.{Classic};
 ghost use Rattle.nd_base.specs.Array.{Array, StackValue};
 ghost use Rattle.nd_base.specs.Forms.{longest_of};
 ghost use Rattle.nd_base.specs.SampleLaws.{AreBytes};
 ghost use Rattle.nd_base.specs.Shapes.{has_dimensions, sample_count, most_samples};
 ghost use Rattle.cdf_write.specs.Lengths.{length_of};
 ghost use Rattle.cdf_write.specs.Writable.{IsWritable};
+ghost use Rattle.nd_stack.specs.Generated.{generated, generated_shape, generated_stack, gen_fault};
 ghost use Rattle.nd_stack.specs.KeptStacks.{IsKeptStack};
 ghost use Rattle.nd_stack.specs.OpenReads.{IsOpenGroup, OpenReadsBack};
 ghost use Rattle.nd_stack.specs.StackRules.{stack_of};
@@ -36,6 +38,15 @@ pub fn stacks_read_back()
     ensures kept { (bytes : List ℕ) (s : StackValue) → AreBytes bytes → stack_of bytes ≡ Ok s → IsKeptStack s }
     ensures back { (bytes : List ℕ) (s : StackValue) → AreBytes bytes → stack_of bytes ≡ Ok s → 1 ≤ length s.arrays →
         length_of s.shape (length s.arrays) ≤ longest_of s.shape.form → ReadsBack s.shape s.arrays }
+{}
+
+/// Every stack that is generated can be written, and its file is never too long. Where it has a frame, that file is read as a stack of the same
+/// arrays.
+pub fn generated_stacks_read_back()
+    ensures kept { (n w h : ℕ) (kind : SampleType) (start : ℕ) → gen_fault n w h kind ≡ None → IsKeptStack (generated_stack n w h kind start) }
+    ensures within { (n w h : ℕ) (kind : SampleType) → gen_fault n w h kind ≡ None → length_of (generated_shape w h kind) n ≤ longest_of Classic }
+    ensures back { (n w h : ℕ) (kind : SampleType) (start : ℕ) → gen_fault n w h kind ≡ None → 1 ≤ n
+        → ReadsBack (generated_shape w h kind) (generated n w h kind start) }
 {}
 
 /// A file whose number of records was left open, with the rows of some arrays and a front of one row more, is read as a stack
