@@ -51,8 +51,8 @@ fn is_size(size: u32) -> bool
     0 < size && size <= MOST_SIZE
 }
 
-/// The first refusal that holds.
-fn fault_of(n: u32, w: u32, h: u32, kind: SampleType) -> Option<GenFault>
+/// What `gen_stack` refuses these numbers for, or None where it makes their stack. It takes no memory.
+pub fn gen_fault(n: u32, w: u32, h: u32, kind: SampleType) -> Option<GenFault>
     ensures { result ≡ gen_fault n w h kind }
 {
     if u64::from(n) > MOST_FRAMES || !is_size(w) || !is_size(h) {
@@ -201,7 +201,7 @@ pub fn gen_stack(
     ensures accepted { OnOk result (gen_fault n w h kind ≡ None) }
     ensures refused { IfErr result (λ fault. gen_fault n w h kind ≡ named_refusal fault) }
 {
-    if let Some(fault) = fault_of(n, w, h, kind) {
+    if let Some(fault) = gen_fault(n, w, h, kind) {
         return Err(fault);
     }
     let shape = generated_shape(alloc, w, h, kind)?;
