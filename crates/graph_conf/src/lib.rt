@@ -14,3 +14,4 @@ mod words;
 pub use fault::GraphFault;
 pub use load::{LimitFault, check_load};
 pub use read::read_graph;
+pub use words::sample_type_named;

@@ -25,6 +25,9 @@ pub enum LimitFault {
     /// A stack's file of more than 1,073,741,824 bytes.
     #[error("the stack's file has {bytes} bytes")]
     StackFile { bytes: u64 },
+    /// Samples of a made stack of more than 536,870,912 bytes.
+    #[error("the samples of the made stack have {bytes} bytes")]
+    GenBytes { bytes: u64 },
     /// More than 1,048,576 frames times nodes.
     #[error("{arrivals} arrivals")]
     Load { arrivals: u64 },

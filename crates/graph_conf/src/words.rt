@@ -26,8 +26,8 @@ pub(crate) fn kind_named(word: &str) -> Option<KindName>
     }
 }
 
-/// The sample type that a word names.
-pub(crate) fn sample_type_named(word: &str) -> Option<SampleType>
+/// The sample type that a word names, or None where it names none.
+pub fn sample_type_named(word: &str) -> Option<SampleType>
     ensures { result ≡ meaning_in sample_types word.now }
 {
     match word {
