@@ -9,3 +9,4 @@ pub mod PassedLaws
 pub mod ContentLaws
 pub mod ContentBytes
 pub mod Worked
+pub mod DealingLaws

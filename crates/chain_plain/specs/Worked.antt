@@ -10,13 +10,14 @@ use Rattle.nd_base.specs.declared.frame.FrameName.{FrameName}
 use Rattle.nd_base.specs.Trees.{letter_a}
 use Rattle.nd_base.specs.declared.graph.Graph.{Graph}
 use Rattle.nd_base.specs.declared.graph.Kind.{Kind}
-use Rattle.nd_base.specs.declared.graph.Kind.TheVariants.{Roi, Stats, Circular, File}
+use Rattle.nd_base.specs.declared.graph.Kind.TheVariants.{Roi, Stats, Circular, File, Scatter}
 use Rattle.nd_base.specs.declared.graph.Mode.TheVariants.{Capture}
 use Rattle.nd_base.specs.declared.graph.NodeRule.{NodeRule}
 use Rattle.nd_base.specs.declared.graph.RoiRule.{RoiRule}
 use Rattle.chain_plain.specs.Content.{content}
 use Rattle.chain_plain.specs.OneThread.{outputs, groups, one_thread}
 use Rattle.chain_plain.specs.Plans.{makers_of}
+use Rattle.chain_plain.specs.PlainRun.{passed, passed_to}
 
 abbrev side : ℕ → Dim
 side n = record { size = n; offset = pos 0; binning = pos 1; reverse = false }
@@ -139,3 +140,31 @@ a_file_of_two_arrays : (one_thread (node (codes "f") (File (record { mode = Capt
     ≡ (line (pos 10 ∷ pos 20 ∷ pos 30 ∷ pos 40 ∷ pos 50 ∷ pos 60 ∷ pos 70 ∷ pos 80 ∷ [])
     ∷ line (pos 1 ∷ pos 2 ∷ pos 3 ∷ pos 4 ∷ pos 5 ∷ pos 6 ∷ pos 7 ∷ pos 8 ∷ []) ∷ []) ∷ []
 a_file_of_two_arrays = refl
+
+-- WHAT A SCATTER NODE DEALS OUT
+
+abbrev five : StackValue
+five = record { shape = shape_of (side 8 ∷ []); arrays = map shot (pos 0 ∷ pos 0 ∷ pos 0 ∷ pos 0 ∷ pos 0 ∷ []) }
+
+abbrev stats : ℕ → NodeRule
+stats input = node (codes "st") (Stats (record { threshold = pos 0; border = 0; hist_size = 0; hist_lo = pos 0; hist_hi = pos 0; profiles = false })) input
+
+-- node 1 deals out to nodes 2 and 4, and node 3 is a child of the driver
+abbrev dealt : Graph
+dealt = graph_of (node (codes "s") Scatter 0 ∷ stats 1 ∷ stats 0 ∷ stats 1 ∷ [])
+
+-- it passes all on, one in turn to each child
+the_children_get_them_in_turn : map (passed_to dealt five) (1 ∷ 2 ∷ 3 ∷ 4 ∷ [])
+    ≡ (0 ∷ 1 ∷ 2 ∷ 3 ∷ 4 ∷ []) ∷ (0 ∷ 2 ∷ 4 ∷ []) ∷ (0 ∷ 1 ∷ 2 ∷ 3 ∷ 4 ∷ []) ∷ (1 ∷ 3 ∷ []) ∷ []
+the_children_get_them_in_turn = refl
+
+and_all_go_out_of_the_node : map (passed dealt five) (1 ∷ 2 ∷ 4 ∷ []) ≡ (0 ∷ 1 ∷ 2 ∷ 3 ∷ 4 ∷ []) ∷ (0 ∷ 2 ∷ 4 ∷ []) ∷ (1 ∷ 3 ∷ []) ∷ []
+and_all_go_out_of_the_node = refl
+
+-- a scatter node behind another deals out what it gets of it
+two_in_a_row : map (passed_to (graph_of (node (codes "s") Scatter 0 ∷ node (codes "t") Scatter 1 ∷ stats 1 ∷ stats 2 ∷ stats 2 ∷ [])) five) (3 ∷ 4 ∷ 5 ∷ [])
+    ≡ (1 ∷ 3 ∷ []) ∷ (0 ∷ 4 ∷ []) ∷ (2 ∷ []) ∷ []
+two_in_a_row = refl
+
+one_without_children : passed (graph_of (node (codes "s") Scatter 0 ∷ [])) five 1 ≡ 0 ∷ 1 ∷ 2 ∷ 3 ∷ 4 ∷ []
+one_without_children = refl
