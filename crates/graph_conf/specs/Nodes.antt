@@ -22,12 +22,13 @@ use Rattle.graph_conf.specs.Keys.{optional, required, number, count, truth, text
 use Rattle.nd_base.specs.declared.graph.Kind.{Kind}
 use Rattle.nd_base.specs.declared.graph.CircularRule.{CircularRule}
 use Rattle.graph_conf.specs.declared.node.NamedNode.{NamedNode}
-use Rattle.nd_base.specs.declared.graph.Kind.TheVariants.{Roi, Stats, Circular, File}
+use Rattle.nd_base.specs.declared.graph.Kind.TheVariants.{Roi, Stats, Circular, File, Scatter}
 
 -- WORDS
 
 abbrev pub kinds : List (List ℕ × KindName)
-kinds = (codes "roi", kind.Roi) ∷ (codes "stats", kind.Stats) ∷ (codes "circular", kind.Circular) ∷ (codes "file", kind.File) ∷ []
+kinds = (codes "roi", kind.Roi) ∷ (codes "stats", kind.Stats) ∷ (codes "circular", kind.Circular) ∷ (codes "file", kind.File)
+    ∷ (codes "scatter", kind.Scatter) ∷ []
 
 abbrev pub sample_types : List (List ℕ × SampleType)
 sample_types =
@@ -51,6 +52,7 @@ keys_of kind.Stats =
     ∷ codes "hist_hi" ∷ codes "profiles" ∷ []
 keys_of kind.Circular = shared_keys ++ codes "pre" ∷ codes "post" ∷ codes "preset" ∷ codes "trigger" ∷ codes "a" ∷ codes "b" ∷ []
 keys_of kind.File = shared_keys ++ codes "mode" ∷ codes "count" ∷ codes "cdf" ∷ []
+keys_of kind.Scatter = shared_keys
 
 -- several threads, and sorting, are for region and statistics nodes, as the rules of graphs say of their kinds
 abbrev pub is_parallel : KindName → Bool
@@ -58,6 +60,7 @@ is_parallel kind.Roi = true
 is_parallel kind.Stats = true
 is_parallel kind.Circular = false
 is_parallel kind.File = false
+is_parallel kind.Scatter = false
 
 -- THE KEYS OF EVERY NODE
 
@@ -177,6 +180,7 @@ kind_rule kind.Roi table = roi_rule table >>= λ r. Ok (Roi r)
 kind_rule kind.Stats table = stats_rule table >>= λ r. Ok (Stats r)
 kind_rule kind.Circular table = circular_rule table >>= λ r. Ok (Circular r)
 kind_rule kind.File table = file_rule table >>= λ r. Ok (File r)
+kind_rule kind.Scatter table = Ok Scatter
 
 -- THE NODE
 

@@ -10,7 +10,7 @@ use Rattle.toml.proofs.OnLiterals.{toml_on_literals}
 use Rattle.graph_conf.specs.declared.fault.GraphFault.TheVariants.{Text, UnknownKey, KeyType, Range, Missing, UnknownKind, Threads, Calc, DoubleName}
 use Rattle.graph_conf.specs.declared.fault.GraphFault.TheVariants.{UnknownInput, Cycle}
 use Rattle.nd_base.specs.declared.graph.Graph.{Graph}
-use Rattle.nd_base.specs.declared.graph.Kind.TheVariants.{Roi, Stats, File}
+use Rattle.nd_base.specs.declared.graph.Kind.TheVariants.{Roi, Stats, File, Scatter}
 use Rattle.graph_conf.specs.Nodes.{node_of, roi_rule, stats_rule, circular_rule, file_rule}
 use Rattle.toml.specs.Parse.{parse_document}
 use Rattle.graph_conf.specs.declared.fault.GraphFault.{GraphFault}
@@ -83,6 +83,29 @@ queue_of_none = refl
 file_node_with_two_threads : of_text (file_node (codes "threads = 2\n")) ≡ Err (Threads 1)
 unfolding toml_on_literals graph_of run_table node_key linked node_of roi_rule stats_rule circular_rule file_rule
 file_node_with_two_threads = refl
+
+-- a scatter node that feeds another one
+abbrev scatter_node : List ℕ → List ℕ
+scatter_node lines = codes "[[node]]\nname = 's'\nkind = 'scatter'\ninput = 'driver'\n" ++ lines
+
+two_scatter_nodes : of_text (scatter_node (codes "queue = 3\nthreads = 1\n[[node]]\nname = 't'\nkind = 'scatter'\ninput = 's'\n")) ≡ Ok (record {
+  wait = false;
+  limit = 0;
+  nodes =
+      record { name = codes "s"; kind = Scatter; input = 0; queue = 3; threads = 1; sort = 0; sort_time = 100 }
+      ∷ record { name = codes "t"; kind = Scatter; input = 1; queue = 20; threads = 1; sort = 0; sort_time = 100 } ∷ [];
+})
+unfolding toml_on_literals graph_of run_table node_key linked node_of roi_rule stats_rule circular_rule file_rule
+two_scatter_nodes = refl
+
+scatter_node_with_two_threads : of_text (scatter_node (codes "threads = 2\n")) ≡ Err (Threads 1)
+unfolding toml_on_literals graph_of run_table node_key linked node_of roi_rule stats_rule circular_rule file_rule
+scatter_node_with_two_threads = refl
+
+-- it has no sort list
+scatter_node_that_sorts : of_text (scatter_node (codes "sort = 4\n")) ≡ Err (UnknownKey (codes "sort"))
+unfolding toml_on_literals graph_of run_table node_key linked node_of roi_rule stats_rule circular_rule file_rule
+scatter_node_that_sorts = refl
 
 -- the range of threads comes before their kind
 file_node_with_seventeen_threads : of_text (file_node (codes "threads = 17\n")) ≡ Err (Range (codes "threads") (pos 17))

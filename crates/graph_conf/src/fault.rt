@@ -26,7 +26,7 @@ pub enum GraphFault {
     /// The node is of no kind that there is.
     #[error("node {node} is of unknown kind")]
     UnknownKind { node: u32 },
-    /// A circular or file node with more than one thread.
+    /// A circular, file or scatter node with more than one thread.
     #[error("node {0} may have only one thread")]
     Threads(u32),
     /// The trigger is no expression.

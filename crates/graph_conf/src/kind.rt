@@ -7,4 +7,5 @@ pub(crate) enum KindName {
     Stats,
     Circular,
     File,
+    Scatter,
 }

@@ -188,5 +188,6 @@ pub(crate) fn kind_rule(alloc: Global, kind: KindName, table: &Table) -> Result<
         KindName::Stats => Ok(Kind::Stats(stats_rule(alloc, table)?)),
         KindName::Circular => Ok(Kind::Circular(circular_rule(alloc, table)?)),
         KindName::File => Ok(Kind::File(file_rule(alloc, table)?)),
+        KindName::Scatter => Ok(Kind::Scatter),
     }
 }

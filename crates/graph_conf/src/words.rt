@@ -22,6 +22,7 @@ pub(crate) fn kind_named(word: &str) -> Option<KindName>
         "stats" => Some(KindName::Stats),
         "circular" => Some(KindName::Circular),
         "file" => Some(KindName::File),
+        "scatter" => Some(KindName::Scatter),
         _ => None,
     }
 }
@@ -107,6 +108,7 @@ pub(crate) fn keys_of(kind: KindName) -> &'static [&'static str]
         KindName::File => &[
             "name", "kind", "input", "queue", "threads", "mode", "count", "cdf",
         ],
+        KindName::Scatter => &["name", "kind", "input", "queue", "threads"],
     }
 }
 
