@@ -23,7 +23,7 @@ use Rattle.nd_base.specs.declared.graph.Mode.{Mode}
 use Rattle.nd_base.specs.declared.graph.NodeRule.{NodeRule}
 use Rattle.nd_base.specs.declared.graph.StatsRule.{StatsRule}
 use Rattle.nd_base.specs.declared.measure.Measure.{Measure}
-use Rattle.nd_base.specs.GraphRules.{IsGraph, IsKind, IsFile, input_of, rule_at}
+use Rattle.nd_base.specs.GraphRules.{IsGraph, IsKind, IsFile, rule_at}
 use Rattle.edge_traits.specs.Files.{Files, HasFile, file_at}
 use Rattle.edge_traits.specs.FileLaws.{get-insert_cases}
 use Rattle.cdf_write.specs.Layout.{layout}
@@ -32,7 +32,7 @@ use Rattle.chain_plain.specs.OneThread.{arrays_out, outputs, groups, measure_of_
 use Rattle.chain_plain.specs.OneThread as one
 use Rattle.chain_plain.specs.PassedLaws.{passed-step}
 use Rattle.chain_plain.specs.PassingLaws.{rule_within}
-use Rattle.chain_plain.specs.PlainRun.{passed, result_of}
+use Rattle.chain_plain.specs.PlainRun.{passed, passed_to, result_of}
 use Rattle.chain_plain.proofs.Rules.{stands}
 use Rattle.graph_files.specs.Groups.{group_of}
 use Rattle.graph_files.specs.NodeFileLaws.{cases_eq}
@@ -185,8 +185,8 @@ module _ (g : Graph) (s : StackValue) (prefix : List ℕ) (sound : IsGraph g) (v
   abbrev made : List OutFile
   made = kind_files n.kind shape prefix n.name (result_of g s v)
 
-  -- what goes out of the node is what it makes of what goes out of its input
-  out-are : arrays_out g.nodes s.arrays v (outputs g.nodes s.arrays v (passed g s (input_of g.nodes v))) ≡ all_out g s v
+  -- what goes out of the node is what it makes of what its input passes on to it
+  out-are : arrays_out g.nodes s.arrays v (outputs g.nodes s.arrays v (passed_to g s v)) ≡ all_out g s v
   out-are = ap (arrays_out g.nodes s.arrays v) (sym (passed-step g s v sound (rule_within g.nodes v n (sym at))))
 
   module _ (r : FileRule) (same : n.kind ≡ File r) where
