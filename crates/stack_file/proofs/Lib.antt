@@ -1,0 +1,4 @@
+pub mod Parts
+pub mod Changing
+pub mod Gathering
+pub mod Writing

@@ -1,0 +1,2 @@
+pub mod ChangedStacks
+pub mod Gathered
