@@ -44,6 +44,7 @@ pub fn save_stack<K: Shelf, C: Change>(
         ≡ with_stack_file (K.held shelf.old) name.now shape.now (map (C.change change.now) stack.now.arrays)) }
     ensures kept { OnOk result (IsKeptStack (changed_stack (C.change change.now) (C.dims change.now) stack.now)) }
     ensures back { OnOk result (1 ≤ length stack.now.arrays → ReadsBack shape.now (map (C.change change.now) stack.now.arrays)) }
+    ensures some { OnErr result (1 ≤ length stack.now.arrays) }
     ensures err { OnErr result (IsBegun (K.held shelf.old) name.now (layout shape.now (map (C.change change.now) stack.now.arrays))
         (K.held shelf.new)) }
     ensures cause { IsSaveCause result (K.faults shelf.old) (K.faults shelf.new) }
