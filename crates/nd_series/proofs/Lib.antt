@@ -1,10 +1,14 @@
 pub mod Bounds
+pub mod Groups
 pub mod Joins
 pub mod LineNumbers
 pub mod Measures
+pub mod Numbers
 pub mod Pushes
 pub mod RegionParts
 pub mod RegionSamples
+pub mod RowsUpto
 pub mod SpanLaws
 pub mod Summed
+pub mod Totals
 pub mod Wides

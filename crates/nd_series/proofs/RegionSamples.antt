@@ -122,9 +122,6 @@ pub record AreCut (min bin size : ℕ) (reverse : Bool) (s : Span) : Type 0 wher
 near_low : (x n : ℕ) → min (n - 1) (max 0 x) ≡ min x (n - 1)
 near_low x n = omega arith
 
-near_size : (w low left : ℕ) → min left (max 1 w) ≡ min (max w 1) left
-near_size w low left = omega arith
-
 one_bin : (span : ℕ) → 1 ≤ span → min span (max 1 1) ≡ 1
 one_bin span h = omega arith
 

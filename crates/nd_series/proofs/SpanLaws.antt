@@ -1,11 +1,10 @@
 -- What a region takes lies within the frame.
 use Rattle.std.proofs.Common.{◌≡◌, ℕ, zero, suc, ◌+◌, ◌*◌, ◌/◌, ◌%◌, ◌<◌, ◌≤◌, true, nat_lt, List, [], ◌∷◌, refl, ap, ◌∙◌, arith}
 use Rattle.std.specs.List.{list_all}
-use Rattle.std.proofs.Math.Nat.{mul-le-mul, mul-le-mul_left, mul-le-mul_right, one-le-mul, add-mul-mod_self_left, add-mul-div_left, mod-eq_of_lt, div-eq_of_lt}
+use Rattle.std.proofs.Math.Nat.{mul-le-mul, one-le-mul, add-mul-mod_self_left, add-mul-div_left, mod-eq_of_lt, div-eq_of_lt}
 use Rattle.std.proofs.lemmas.Bool.{and_parts, ltb-true}
 use Rattle.nd_base.specs.declared.array.Dim.{Dim}
 use Rattle.nd_base.specs.Shapes.{sample_count}
-use Rattle.nd_base.specs.ShapeLaws.{sample_count-positive}
 use Rattle.nd_series.specs.declared.region.Box4.{Box4}
 use Rattle.nd_series.specs.declared.span.Span.{Span}
 use Rattle.nd_series.specs.Spans.{span_from, span_at, spans_from, span_count}
@@ -31,16 +30,12 @@ span_at-size b (suc (suc k)) size = refl
 pub record Parts (dim : Dim) (dims : List Dim) : Type 0 where
   pub some : 0 < dim.size
   pub others : list_all (λ d. nat_lt 0 d.size) dims ≡ true
-  pub rest : 1 ≤ sample_count dims
-  pub fewer : sample_count dims ≤ dim.size * sample_count dims
 
 -- dimensions of which none is empty
 pub none_empty : (dim : Dim) (dims : List Dim) → list_all (λ d. nat_lt 0 d.size) (dim ∷ dims) ≡ true → Parts dim dims
 none_empty dim dims h =
     let parts = and_parts (nat_lt 0 dim.size) (list_all (λ d. nat_lt 0 d.size) dims) h in
-    let some = ltb-true 0 dim.size parts.0 in
-    let one = mul-le-mul_right (sample_count dims) some in
-    record { some = some; others = parts.1; rest = sample_count-positive dims parts.1; fewer = omega (arith, one) }
+    record { some = ltb-true 0 dim.size parts.0; others = parts.1 }
 
 pub span_count-most : (b : Box4) (k : ℕ) (dims : List Dim) → list_all (λ d. nat_lt 0 d.size) dims ≡ true → span_count (spans_from b k dims) ≤ sample_count dims
 span_count-most b k [] h = omega arith
@@ -63,7 +58,3 @@ column_mod k c j h = ap (λ p. p % c) (let e : k * c + j ≡ j + c * k = grind a
 pub column_div : (k c j : ℕ) → j < c → (k * c + j) / c ≡ k
 column_div k c j h = ap (λ p. p / c) (let e : k * c + j ≡ j + c * k = grind arith in e)
     ∙ add-mul-div_left j k (omega (arith, h)) ∙ ap (λ q. q + k) (div-eq_of_lt h) ∙ (let e : 0 + k ≡ k = omega arith in e)
-
--- an index of the first dimension, and a place of the others
-pub place_within : (i q size n : ℕ) → i < size → q < n → i + size * q < size * n
-place_within i q size n a b = let m = mul-le-mul_left size b in omega (arith, m)

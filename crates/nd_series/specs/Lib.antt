@@ -5,4 +5,7 @@ pub mod Joined
 pub mod Lines
 pub mod Kept
 pub mod KeptFields
+pub mod Stacks
+pub mod Words
+pub mod Text
 pub mod Worked

@@ -1,5 +1,6 @@
 -- Worked rows of series.
-use Rattle.std.specs.Prelude.{◌≡◌, ℕ, ℤ, pos, negsuc, false, List, [], ◌∷◌, Some, refl}
+use Rattle.std.specs.Prelude.{◌≡◌, ℕ, ℤ, pos, negsuc, false, List, [], ◌∷◌, None, Some, codes, refl}
+use Rattle.std.specs.Fmt.{digits}
 use Rattle.nd_base.specs.Array.{Array}
 use Rattle.nd_base.specs.declared.array.Dim.{Dim}
 use Rattle.nd_base.specs.declared.array.SampleType.{SampleType}
@@ -11,6 +12,9 @@ use Rattle.nd_series.specs.declared.row.SeriesRow.{SeriesRow}
 use Rattle.nd_series.specs.InPlace.{numbers_of, row_in_place}
 use Rattle.nd_series.specs.Kept.{Kept, no_rows, fallen, after_pushes, sums_over}
 use Rattle.nd_series.specs.Regions.{row_of}
+use Rattle.nd_series.specs.Stacks.{series_of}
+use Rattle.nd_series.specs.Text.{series_text}
+use Rattle.nd_series.specs.Words.{regions_in, length_in}
 
 abbrev box : (x y w h : ℕ) → Box4
 box x y w h = record { x = x; y = y; w = w; h = h }
@@ -93,3 +97,50 @@ longer_than_the_stack = refl
 
 without_frames : sums_over 2 [] ≡ pos 0 ∷ pos 0 ∷ []
 without_frames = refl
+
+-- the series of these two regions over that frame, with up to five rows
+abbrev of_one_frame : Kept
+of_one_frame = series_of 5 (box 0 0 2 1 ∷ box 1 1 1 1 ∷ []) (of_four ∷ [])
+
+one_frame_as_text : series_text of_one_frame ≡ codes "1 1/2/3/3/2 4/4/4/4/1\nsum 3 4\n"
+unfolding measured digits
+one_frame_as_text = refl
+
+-- one dimension: the last of two frames is kept
+one_row_as_text : series_text (series_of 1 (box 0 0 3 1 ∷ []) (frame (pos 1) Int16 (plain 3 ∷ []) (pos 1 ∷ pos 2 ∷ pos 3 ∷ [])
+    ∷ frame (pos 2) Int16 (plain 3 ∷ []) (pos 4 ∷ pos 5 ∷ pos 6 ∷ []) ∷ [])) ≡ codes "2 4/6/15/10/2\nsum 15\n"
+unfolding measured digits
+one_row_as_text = refl
+
+no_frames_as_text : series_text (series_of 5 (box 0 0 2 1 ∷ box 1 1 1 1 ∷ []) []) ≡ codes "sum 0 0\n"
+unfolding digits
+no_frames_as_text = refl
+
+two_regions : regions_in (codes "0,0,2,1;1,1,1,1") ≡ Some (box 0 0 2 1 ∷ box 1 1 1 1 ∷ [])
+two_regions = refl
+
+-- zeros may lead, and a number is at most 67,108,864
+zeros_lead : regions_in (codes "00000001,2,3,67108864") ≡ Some (box 1 2 3 67108864 ∷ [])
+zeros_lead = refl
+
+too_far : regions_in (codes "0,0,1,67108865") ≡ None
+too_far = refl
+
+nine_digits : regions_in (codes "000000001,2,3,4") ≡ None
+nine_digits = refl
+
+three_numbers : regions_in (codes "0,0,1") ≡ None
+three_numbers = refl
+
+-- a semicolon stands between two regions alone
+one_semicolon_more : regions_in (codes "0,0,2,1;") ≡ None
+one_semicolon_more = refl
+
+no_region : regions_in [] ≡ None
+no_region = refl
+
+longest : length_in (codes "4096") ≡ Some 4096
+longest = refl
+
+no_length : length_in (codes "0") ≡ None
+no_length = refl

@@ -12,8 +12,14 @@ mod region;
 mod row;
 mod series;
 mod span;
+mod stack;
+mod text;
+mod words;
 
 pub use laws::pushes_keep_the_last;
 pub use region::{Box4, region_row};
 pub use row::{Part, SeriesRow};
 pub use series::Series;
+pub use stack::{series_of, stack_row};
+pub use text::series_text;
+pub use words::{parse_length, parse_regions};

@@ -1,6 +1,6 @@
 //! The numbers of regions of a frame, read where they lie.
 
-ghost use Rattle.std.specs.Prelude.{◌≡◌, ◌*◌, ◌<◌, ◌≤◌, IfOk, IsTrue, length};
+ghost use Rattle.std.specs.Prelude.{◌≡◌, ◌*◌, ◌<◌, ◌≤◌, IfOk, IsTrue, length, map};
 ghost use Rattle.nd_base.specs.Samples.{width, samples_of};
 ghost use Rattle.nd_base.specs.Shapes.{has_dimensions, sample_count, most_samples};
 ghost use Rattle.nd_base.specs.Array.{Array};
@@ -47,6 +47,28 @@ fn region_part(region: &Box4, kind: SampleType, dims: &[Dim], samples: &[u8]) ->
     part
 }
 
+/// The numbers of each region of a frame of this type, with these dimensions and samples.
+pub(crate) fn region_parts(
+    alloc: Global,
+    regions: &[Box4],
+    kind: SampleType,
+    dims: &[Dim],
+    samples: &[u8],
+) -> Result<Vec<Part>, OutOfMemory>
+    requires dimensions { IsTrue (has_dimensions dims.now) }
+    requires few { sample_count dims.now ≤ most_samples }
+    requires count { length samples.now ≡ sample_count dims.now * width kind }
+    ensures in_place { IfOk result (λ parts. parts.items ≡ map (λ b. part_in b dims.now (samples_of kind samples.now)) regions.now) }
+    ensures measured { (a : Array) → a.kind ≡ kind → a.dims ≡ dims.now → a.samples ≡ samples_of kind samples.now
+        → IfOk result (λ parts. parts.items ≡ map (λ b. measured_part b a) regions.now) }
+{
+    let mut parts = Vec::with_capacity(alloc, regions.len())?;
+    for region in regions {
+        parts.push(region_part(region, kind, dims, samples))?;
+    }
+    Ok(parts)
+}
+
 /// The numbers of each region of a frame, with one pass over the region's samples and no copy of them.
 ///
 /// # Errors
@@ -56,10 +78,7 @@ pub fn region_row(alloc: Global, regions: &[Box4], a: &NdArray) -> Result<Series
     ensures measured { IfOk result (λ row. row ≡ row_of regions.now a.now) }
     ensures in_place { IfOk result (λ row. row ≡ row_in_place regions.now a.now) }
 {
-    let mut parts = Vec::with_capacity(alloc, regions.len())?;
-    for region in regions {
-        parts.push(region_part(region, a.kind(), a.dims(), a.bytes()))?;
-    }
+    let parts = region_parts(alloc, regions, a.kind(), a.dims(), a.bytes())?;
     Ok(SeriesRow {
         id: a.head().id,
         parts: Seq::new(parts),

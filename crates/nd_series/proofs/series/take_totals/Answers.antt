@@ -1,31 +1,24 @@
-use Rattle.std.proofs.Common.{rules, ◌≢◌, ◌<◌, length, pos, w64, FitsSigned, ℤ, get_or, arith, ap, ◌∙◌, below_more, ◌^◌}
-use Rattle.std.proofs.lemmas.List.{get_or-set_other, get_or-set_same}
-use Rattle.std.specs.Prelude.{unsigned_abs, ◌-ℤ◌}
+use Rattle.std.proofs.Common.{rules, w64, FitsSigned, get_or, ℤ, pos, arith}
+use Rattle.std.specs.Prelude.{◌-ℤ◌}
 use Rattle.nd_series.specs.Kept.{part_at}
+use Rattle.nd_series.proofs.Totals.{left_room, one_changed}
 use Rattle.nd_series.proofs.Wides.{wide_difference, fits_difference}
 use Rattle.nd_series.proofs.series.take_totals.Goals as goal
 
 pub overflow_sub-sums : goal.overflow_sub-sums
 overflow_sub-sums c =
-    let b : ℤ = (part_at c.loop-k.k c.args.parts.now).total in
-    let fits : FitsSigned w64 b = search rules in
-    let a : ℤ = get_or c.loop-k.sums c.loop-k.k (pos 0) in
-    let same = c.loop-k.invariant.left c.loop-k.k (omega arith) in
-    let room : unsigned_abs a < 2 ^ 100 = rw same (c.requires.room c.loop-k.k) in
-    fits_difference a b c.from.result room fits c.from.ensures
+    let k = c.loop-k.k in
+    let total = (part_at k c.args.parts.now).total in
+    let fits : FitsSigned w64 total = search rules in
+    let room = left_room (λ sum total. sum -ℤ total) c.args.parts.now c.args.sums.now c.loop-k.sums k c.loop-k.invariant c.requires.room in
+    fits_difference (get_or c.loop-k.sums k (pos 0)) total c.from.result room fits c.from.ensures
 
 pub loop-k-preserved : goal.loop-k-preserved
 loop-k-preserved c =
     let k = c.loop-k.k in
-    let b : ℤ = (part_at k c.args.parts.now).total in
-    let fits : FitsSigned w64 b = search rules in
-    let a : ℤ = get_or c.loop-k.sums k (pos 0) in
-    let same = c.loop-k.invariant.left k (omega arith) in
-    let room : unsigned_abs a < 2 ^ 100 = rw same (c.requires.room k) in
-    let difference = wide_difference a b c.from.result room fits c.from.ensures in
-    let within : k < length c.loop-k.sums = omega arith in
-    record {
-      taken = below_more _ _ (λ j h. let ne : j ≢ k = omega arith in rw get_or-set_other (c.loop-k.invariant.taken j h))
-          (rw get_or-set_same (difference ∙ ap (λ z. z -ℤ b) same));
-      left = λ j h. let ne : j ≢ k = omega arith in rw get_or-set_other (c.loop-k.invariant.left j (omega arith));
-    }
+    let total = (part_at k c.args.parts.now).total in
+    let fits : FitsSigned w64 total = search rules in
+    let take : ℤ → ℤ → ℤ = λ sum total. sum -ℤ total in
+    let room = left_room take c.args.parts.now c.args.sums.now c.loop-k.sums k c.loop-k.invariant c.requires.room in
+    one_changed take c.args.parts.now c.args.sums.now c.loop-k.sums k _ (omega arith)
+    (wide_difference (get_or c.loop-k.sums k (pos 0)) total c.from.result room fits c.from.ensures) c.loop-k.invariant

@@ -1,0 +1,94 @@
+//! The words of a series on a command line.
+
+ghost use Rattle.std.specs.Prelude.{◌≡◌, map, IfOk};
+ghost use Rattle.std.specs.List.{list_all};
+ghost use Rattle.std.specs.Char.{is_ascii_digit};
+ghost use Rattle.std.specs.Option.{option_map};
+ghost use Rattle.nd_series.specs.Words.{number_in, side_in, length_in, box_of, region_in, regions_in};
+
+use crate::region::Box4;
+use nd_base::OutOfMemory;
+use std::alloc::Global;
+
+/// The most regions of a series.
+const MOST_REGIONS: usize = 32;
+
+/// Whether there are decimal digits alone.
+fn are_digits(bytes: &[u8]) -> bool
+    ensures { result ≡ list_all is_ascii_digit bytes.now }
+{
+    bytes.iter().all(|byte| byte.is_ascii_digit())
+}
+
+/// The number that one to `most_digits` decimal digits spell, where it lies from `least` to `most`.
+fn number_in(text: &str, most_digits: usize, least: u32, most: u32) -> Option<u32>
+    ensures { result ≡ number_in most_digits least most text.now }
+{
+    if text.len() > most_digits || !are_digits(text.as_bytes()) {
+        return None;
+    }
+    match text.parse::<u32>() {
+        Ok(number) if (least..=most).contains(&number) => Some(number),
+        _ => None,
+    }
+}
+
+/// A place or a size of a region.
+fn side_in(text: &str) -> Option<u32>
+    ensures { result ≡ side_in text.now }
+{
+    number_in(text, 8, 0, 67_108_864)
+}
+
+/// The number of rows that a word asks for: 1 to 4,096 in one to four decimal digits.
+pub fn parse_length(text: &str) -> Option<u32>
+    ensures { result ≡ length_in text.now }
+{
+    number_in(text, 4, 1, 4096)
+}
+
+/// The region of four numbers.
+fn box_of(words: &[&str]) -> Option<Box4>
+    ensures { result ≡ box_of (map (λ w. w.now) words.now) }
+{
+    let [x, y, w, h] = words else {
+        return None;
+    };
+    Some(Box4 {
+        x: side_in(x)?,
+        y: side_in(y)?,
+        w: side_in(w)?,
+        h: side_in(h)?,
+    })
+}
+
+/// The region of four numbers that commas join.
+fn region_in(alloc: Global, text: &str) -> Result<Option<Box4>, OutOfMemory>
+    ensures { IfOk result (λ found. found ≡ region_in text.now) }
+{
+    let words: Vec<&str> = text.split(',').collect(alloc)?;
+    Ok(box_of(&words))
+}
+
+/// The regions that a word asks for: 1 to 32 that semicolons join, each of four numbers x, y, w and h that commas join, and each number of
+/// one to eight decimal digits and at most 67,108,864. None exactly where the word isn't that.
+///
+/// # Errors
+///
+/// Only for want of memory.
+pub fn parse_regions(alloc: Global, text: &str) -> Result<Option<Vec<Box4>>, OutOfMemory>
+    ensures { IfOk result (λ found. option_map (λ v. v.items) found ≡ regions_in text.now) }
+{
+    let groups: Vec<&str> = text.split(';').collect(alloc)?;
+    if groups.len() > MOST_REGIONS {
+        return Ok(None);
+    }
+    let mut regions = Vec::with_capacity(alloc, groups.len())?;
+    for group in &groups {
+        let Some(region) = region_in(alloc, group)? else {
+            return Ok(None);
+        };
+        regions.push(region)?;
+    }
+    Ok(Some(regions))
+}
