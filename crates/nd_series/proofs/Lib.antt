@@ -9,6 +9,7 @@ pub mod RegionParts
 pub mod RegionSamples
 pub mod RowsUpto
 pub mod SpanLaws
+pub mod Spellings
 pub mod Summed
 pub mod Totals
 pub mod Wides

@@ -7,5 +7,6 @@ pub mod Kept
 pub mod KeptFields
 pub mod Stacks
 pub mod Words
+pub mod Spelled
 pub mod Text
 pub mod Worked
