@@ -1,8 +1,10 @@
 //! Reading a stack.
 
-ghost use Rattle.std.specs.Prelude.{◌≡◌, ℕ, length, Ok, IfOk};
+ghost use Rattle.std.specs.Prelude.{◌≡◌, ◌↔◌, ℕ, List, length, Ok, IfOk};
 ghost use Rattle.cdf_read.specs.declared.head.HeadVar.{HeadVar};
 ghost use Rattle.cdf_read.specs.declared.head.Header.{Header};
+ghost use Rattle.cdf_read.specs.Grammar.{Reads};
+ghost use Rattle.cdf_read.specs.HeaderReading.{header_of};
 ghost use Rattle.nd_stack.specs.Answers.{Gives};
 ghost use Rattle.nd_stack.specs.ColumnLaws.{FrameStands};
 ghost use Rattle.nd_stack.specs.Columns.{frame_count};
@@ -62,4 +64,9 @@ pub fn read_stack(alloc: Global, bytes: Vec<u8>) -> Result<Stack, StackFault>
 /// of the frames before it.
 pub fn frames_stand_where_their_values_do()
     ensures { (h : Header) (v : HeadVar) (k : ℕ) → FrameStands h v k }
+{}
+
+/// There is a header, from which the rules of stacks begin, exactly where the grammar of headers reads this one from the bytes.
+pub fn headers_are_those_of_the_grammar()
+    ensures { (bytes : List ℕ) (h : Header) → (header_of bytes ≡ Ok h) ↔ Reads bytes h }
 {}
