@@ -4,8 +4,8 @@ use Rattle.std.specs.Char.{is_ascii_digit}
 use Rattle.std.specs.List.{list_all}
 use Rattle.std.specs.Str.{all_ascii_digits}
 use Rattle.std.specs.Str.Parse.{digits_value, ParsesUnsigned}
-use Rattle.std.specs.Prelude.{nat_lt, nat_le}
-use Rattle.std.proofs.lemmas.Bool.{and_parts, ltb-true, leb-true}
+use Rattle.std.specs.Prelude.{nat_le}
+use Rattle.std.proofs.lemmas.Bool.{and_parts, leb-true}
 use Rattle.decimal_words.specs.Numbers.{are_digits}
 use Rattle.std.proofs.Common.{ap, sym, ◌∙◌, arith}
 use Rattle.std.proofs.lemmas.Str.Parse.{IsNumeralModel, numerals_by_value, tells_all_ascii_digits, digits_value_short, parse_gives}
@@ -25,8 +25,8 @@ few_digits word r parses some few digits =
     parse_gives own 64 word r parses all some (omega (arith, digits_value_short own word 10 all few))
 
 -- the parts of the test
-pub is_spelled : (most : ℕ) (word : List ℕ) → are_digits most word ≡ true → (0 < length word) × (length word ≤ most) × (list_all is_ascii_digit word ≡ true)
+pub is_spelled : (most : ℕ) (word : List ℕ) → are_digits most word ≡ true → (1 ≤ length word) × (length word ≤ most) × (list_all is_ascii_digit word ≡ true)
 is_spelled most word is =
-    let p = and_parts (nat_lt 0 (length word) && nat_le (length word) most) (list_all is_ascii_digit word) is in
-    let q = and_parts (nat_lt 0 (length word)) (nat_le (length word) most) p.0 in
-    (ltb-true 0 (length word) q.0, leb-true (length word) most q.1, p.1)
+    let p = and_parts (nat_le 1 (length word) && nat_le (length word) most) (list_all is_ascii_digit word) is in
+    let q = and_parts (nat_le 1 (length word)) (nat_le (length word) most) p.0 in
+    (leb-true 1 (length word) q.0, leb-true (length word) most q.1, p.1)

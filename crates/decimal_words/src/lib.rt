@@ -32,17 +32,17 @@ fn value_of(digits: &str) -> u64
     }
 }
 
-/// The number that a word of 1 to `most` decimal digits spells, leading zeros among them; None where the word is spelled in
-/// another way, or the number is above `bound`. `most` is at most 10.
-pub fn number(word: &str, most: usize, bound: u32) -> Option<u32>
-    requires { most ≤ 10 }
-    ensures { result ≡ number_of most bound word.now }
+/// The number that a word of 1 to `digits` decimal digits spells, leading zeros among them; None where the word is spelled in
+/// another way, or the number isn't one from `least` to `most`. `digits` is at most 10.
+pub fn number(word: &str, digits: usize, least: u32, most: u32) -> Option<u32>
+    requires { digits ≤ 10 }
+    ensures { result ≡ number_of digits least most word.now }
 {
-    if !are_digits(word, most) {
+    if !are_digits(word, digits) {
         return None;
     }
     let number = value_of(word);
-    if number <= u64::from(bound) {
+    if u64::from(least) <= number && number <= u64::from(most) {
         Some(number as u32)
     } else {
         None
@@ -55,11 +55,11 @@ pub fn integer(word: &str) -> Option<i32>
     ensures { result ≡ integer_of word.now }
 {
     match word.strip_prefix("-") {
-        Some(digits) => match number(digits, 10, 1 << 31) {
+        Some(digits) => match number(digits, 10, 0, 1 << 31) {
             Some(number) => Some((-i64::from(number)) as i32),
             None => None,
         },
-        None => match number(word, 10, (1 << 31) - 1) {
+        None => match number(word, 10, 0, (1 << 31) - 1) {
             Some(number) => Some(number as i32),
             None => None,
         },

@@ -3,7 +3,6 @@ pub mod Groups
 pub mod Joins
 pub mod LineNumbers
 pub mod Measures
-pub mod Numbers
 pub mod Pushes
 pub mod RegionParts
 pub mod RegionSamples
@@ -11,5 +10,6 @@ pub mod RowsUpto
 pub mod SpanLaws
 pub mod Spellings
 pub mod Summed
+pub mod Tests
 pub mod Totals
 pub mod Wides

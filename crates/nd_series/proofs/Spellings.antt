@@ -9,7 +9,8 @@ use Rattle.std.proofs.lemmas.Bool.{leb-true, le-leb, eqb-true, eq-eqb, and_parts
 use Rattle.std.proofs.lemmas.List.Elements.{All-nil, All-cons, All-append}
 use Rattle.std.proofs.lemmas.List.Splits.{slice_split_none, slice_split_at, length-slice_split, join_with_byte-slice_split}
 use Rattle.nd_series.specs.declared.region.Box4.{Box4}
-use Rattle.nd_series.specs.Words.{number_in, side_in, box_with, box_of, region_in, regions_of, regions_in}
+use Rattle.decimal_words.specs.Numbers.{number_of}
+use Rattle.nd_series.specs.Words.{side_in, box_with, box_of, region_in, regions_of, regions_in}
 use Rattle.nd_series.specs.Spelled.{IsNumber, IsRegion, AreRegions}
 
 some_is : {X : Type 0} (a b : X) → Some a ≡ Some b → a ≡ b
@@ -22,7 +23,7 @@ asked false v n e = absurd (cc)
 -- numbers
 
 module _ (digits least most : ℕ) (text : List ℕ) (n : ℕ) where
-  pub number-spelled : number_in digits least most text ≡ Some n → IsNumber digits least most text n
+  pub number-spelled : number_of digits least most text ≡ Some n → IsNumber digits least most text n
   number-spelled e =
       let v = digits_value 10 text in
       let counted = nat_le 1 (length text) && nat_le (length text) digits in
@@ -42,7 +43,7 @@ module _ (digits least most : ℕ) (text : List ℕ) (n : ℕ) where
         range = (subst (λ m. least ≤ m) same from, subst (λ m. m ≤ most) same upto);
       }
 
-  pub spelled-number : IsNumber digits least most text n → number_in digits least most text ≡ Some n
+  pub spelled-number : IsNumber digits least most text n → number_of digits least most text ≡ Some n
   spelled-number is =
       let v = digits_value 10 text in
       let some = le-leb 1 (length text) is.count.0 in

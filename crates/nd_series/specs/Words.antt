@@ -1,24 +1,17 @@
 -- The words of a series on a command line.
 use Rattle.std.specs.Prelude.{ℕ, ◌==◌, ◌&&◌, nat_le, List, [], ◌∷◌, length, Option, None, Some, if◌then◌else◌}
-use Rattle.std.specs.Char.{is_ascii_digit}
 use Rattle.std.specs.List.{list_all, slice_split, flat_map}
 use Rattle.std.specs.Option.{is_some, option_to_list}
-use Rattle.std.specs.Str.Parse.{digits_value}
+use Rattle.decimal_words.specs.Numbers.{number_of}
 use Rattle.nd_series.specs.declared.region.Box4.{Box4}
-
--- the number that one to so many decimal digits spell, where it lies from `least` to `most`
-abbrev pub number_in : (digits least most : ℕ) → List ℕ → Option ℕ
-number_in digits least most text =
-    let n = digits_value 10 text in
-    if nat_le 1 (length text) && nat_le (length text) digits && list_all is_ascii_digit text && nat_le least n && nat_le n most then Some n else None
 
 -- a place or a size of a region
 abbrev pub side_in : List ℕ → Option ℕ
-side_in text = number_in 8 0 67108864 text
+side_in text = number_of 8 0 67108864 text
 
 -- a number of rows
 abbrev pub length_in : List ℕ → Option ℕ
-length_in text = number_in 4 1 4096 text
+length_in text = number_of 4 1 4096 text
 
 abbrev pub box_with : (x y w h : Option ℕ) → Option Box4
 box_with (Some x) (Some y) (Some w) (Some h) = Some (record { x = x; y = y; w = w; h = h })

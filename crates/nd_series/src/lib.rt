@@ -24,4 +24,4 @@ pub use row::{Part, SeriesRow};
 pub use series::Series;
 pub use stack::{series_of, stack_row};
 pub use text::series_text;
-pub use words::{parse_length, parse_regions};
+pub use words::{are_regions, parse_length, parse_regions};

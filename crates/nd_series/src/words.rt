@@ -1,50 +1,29 @@
 //! The words of a series on a command line.
 
 ghost use Rattle.std.specs.Prelude.{◌≡◌, map, IfOk};
-ghost use Rattle.std.specs.List.{list_all};
-ghost use Rattle.std.specs.Char.{is_ascii_digit};
-ghost use Rattle.std.specs.Option.{option_map};
-ghost use Rattle.nd_series.specs.Words.{number_in, side_in, length_in, box_of, region_in, regions_in};
+ghost use Rattle.std.specs.Option.{is_some, option_map};
+ghost use Rattle.nd_series.specs.Words.{side_in, length_in, box_of, region_in, regions_in};
 
 use crate::region::Box4;
+use decimal_words::number;
 use nd_base::OutOfMemory;
 use std::alloc::Global;
 
 /// The most regions of a series.
 const MOST_REGIONS: usize = 32;
 
-/// Whether there are decimal digits alone.
-fn are_digits(bytes: &[u8]) -> bool
-    ensures { result ≡ list_all is_ascii_digit bytes.now }
-{
-    bytes.iter().all(|byte| byte.is_ascii_digit())
-}
-
-/// The number that one to `most_digits` decimal digits spell, where it lies from `least` to `most`.
-fn number_in(text: &str, most_digits: usize, least: u32, most: u32) -> Option<u32>
-    ensures { result ≡ number_in most_digits least most text.now }
-{
-    if text.len() > most_digits || !are_digits(text.as_bytes()) {
-        return None;
-    }
-    match text.parse::<u32>() {
-        Ok(number) if (least..=most).contains(&number) => Some(number),
-        _ => None,
-    }
-}
-
 /// A place or a size of a region.
 fn side_in(text: &str) -> Option<u32>
     ensures { result ≡ side_in text.now }
 {
-    number_in(text, 8, 0, 67_108_864)
+    number(text, 8, 0, 67_108_864)
 }
 
 /// The number of rows that a word asks for: 1 to 4,096 in one to four decimal digits.
 pub fn parse_length(text: &str) -> Option<u32>
     ensures { result ≡ length_in text.now }
 {
-    number_in(text, 4, 1, 4096)
+    number(text, 4, 1, 4096)
 }
 
 /// The region of four numbers.
@@ -68,6 +47,20 @@ fn region_in(alloc: Global, text: &str) -> Result<Option<Box4>, OutOfMemory>
 {
     let words: Vec<&str> = text.split(',').collect(alloc)?;
     Ok(box_of(&words))
+}
+
+/// Whether a text is a region.
+fn is_region(text: &str) -> bool
+    ensures { result ≡ is_some (region_in text.now) }
+{
+    text.split(',').count() == 4 && text.split(',').all(|side| side_in(side).is_some())
+}
+
+/// Whether a word asks for regions: whether `parse_regions` has some for it. It takes no memory.
+pub fn are_regions(text: &str) -> bool
+    ensures { result ≡ is_some (regions_in text.now) }
+{
+    text.split(';').count() <= MOST_REGIONS && text.split(';').all(|group| is_region(group))
 }
 
 /// The regions that a word asks for: 1 to 32 that semicolons join, each of four numbers x, y, w and h that commas join, and each number of
