@@ -1,0 +1,3 @@
+pub mod Orientation
+pub mod Modes
+pub mod IndexLaws
