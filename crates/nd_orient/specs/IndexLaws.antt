@@ -1,11 +1,11 @@
 -- Which index stands at a place.
-use Rattle.std.specs.Prelude.{◌≡◌, ℕ, zero, suc, ◌+◌, ◌*◌, ◌<◌, List, [], ◌∷◌, ◌++◌, length, map, refl}
+use Rattle.std.specs.Prelude.{◌≡◌, ℕ, zero, suc, ◌+◌, ◌*◌, ◌<◌, List, [], ◌∷◌, ◌++◌, length, map}
 use Rattle.std.specs.List.{range_with_len, flat_map}
-use Rattle.std.proofs.Common.{ap, sym, ◌∙◌, arith, get_or}
+use Rattle.std.proofs.Common.{ap, ◌∙◌, arith, get_or}
 use Rattle.std.proofs.lemmas.List.{length-map, get_or-map, get_or_append_left, get_or-append-add}
 use Rattle.std.proofs.lemmas.List.FromFn.{length-range_with_len, get_or-range_with_len}
 use Rattle.nd_base.specs.Shapes.{product}
-use Rattle.nd_base.specs.Places.{place, indices}
+use Rattle.nd_base.specs.Places.{indices}
 use Rattle.nd_base.specs.PlaceLaws.{length-indices}
 
 -- element x of part k, where each part has n elements

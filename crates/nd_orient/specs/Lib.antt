@@ -1,3 +1,5 @@
 pub mod Orientation
 pub mod Modes
 pub mod IndexLaws
+pub mod Laws
+pub mod Worked
