@@ -15,7 +15,7 @@ use Rattle.nd_orient.specs.Modes.{composed, inverse_of}
 use Rattle.nd_orient.proofs.Turns.{either, after, turn_of-composed, composed-inverse, inverse-below, along-along, along-below, run_over-run_over}
 use Rattle.nd_orient.proofs.Indices.{indices-cong, get_or-map-place}
 
-abbrev turn : Bool → Bool → Bool → Turn
+abbrev pub turn : Bool → Bool → Bool → Turn
 turn s a b = record { swaps = s; x_down = a; y_down = b }
 
 -- dimensions

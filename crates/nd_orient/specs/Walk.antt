@@ -1,0 +1,28 @@
+-- What the walk over a plane of dimensions 0 and 1 computes, in places of samples.
+use Rattle.std.specs.Prelude.{ℕ, ◌+◌, ◌*◌, List, take, drop, if◌then◌else◌}
+use Rattle.nd_orient.specs.declared.samples.Plane.{Plane}
+use Rattle.nd_orient.specs.Orientation.{along}
+
+-- the bytes of sample k, where each sample has so many
+abbrev pub cell : (width : ℕ) → List ℕ → ℕ → List ℕ
+cell width bytes k = take width (drop (k * width) bytes)
+
+-- the size of the output's dimension 0
+abbrev pub line_size : Plane → ℕ
+line_size p = if p.turn.swaps then p.rows else p.columns
+
+-- the size of the output's dimension 1
+abbrev pub line_count : Plane → ℕ
+line_count p = if p.turn.swaps then p.columns else p.rows
+
+-- the input's column that sample x of the output's line y reads
+abbrev pub column : Plane → (x y : ℕ) → ℕ
+column p x y = if p.turn.swaps then along p.turn.y_down p.columns y else along p.turn.x_down p.columns x
+
+-- and its row
+abbrev pub row : Plane → (x y : ℕ) → ℕ
+row p x y = if p.turn.swaps then along p.turn.x_down p.rows x else along p.turn.y_down p.rows y
+
+-- its place in the plane
+abbrev pub source : Plane → (x y : ℕ) → ℕ
+source p x y = column p x y + p.columns * row p x y
