@@ -52,7 +52,8 @@ module _ (kind : SampleType) (n : ℕ) (bytes out : List ℕ) (input : length by
   -- where the bytes of each sample are those of the sample that its index reads
   samples_by_index : (t : Turn) (dims : List Dim) → n ≡ product (sizes_of dims) → n ≡ product (sizes_of (turned_dims t dims))
       → ((index : List ℕ) → IsIndex (turned_dims t dims) index
-      → cell (width kind) out (place (sizes_of (turned_dims t dims)) index) ≡ cell (width kind) bytes (place (sizes_of dims) (read_index t (sizes_of dims) index)))
+      → cell (width kind) out (place (sizes_of (turned_dims t dims)) index)
+      ≡ cell (width kind) bytes (place (sizes_of dims) (read_index t (sizes_of dims) index)))
       → samples_of kind out ≡ turned_samples t dims (samples_of kind bytes)
   samples_by_index t dims count same each =
       let to = turned_dims t dims in

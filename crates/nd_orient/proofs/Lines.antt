@@ -7,7 +7,7 @@ use Rattle.nd_base.specs.Shapes.{most_samples}
 use Rattle.nd_orient.specs.declared.samples.Plane.{Plane}
 use Rattle.nd_orient.specs.Orientation.{along}
 use Rattle.nd_orient.specs.Walk.{line_size, line_count, source}
-use Rattle.nd_orient.proofs.Cells.{cell_end}
+use Rattle.nd_orient.proofs.Parts.{cell_end}
 use Rattle.nd_orient.proofs.Turns.{along-below}
 
 both_orders : (s : Bool) (m n : ℕ) → (if s then n else m) * (if s then m else n) ≡ m * n

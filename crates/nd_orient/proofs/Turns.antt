@@ -1,5 +1,5 @@
 -- One turn after another.
-use Rattle.std.proofs.Common.{◌≡◌, ℕ, zero, suc, ◌<◌, Bool, true, false, refl, ap, arith}
+use Rattle.std.proofs.Common.{◌≡◌, ℕ, zero, suc, ◌<◌, Bool, true, false, refl, ap, lit<, arith}
 use Rattle.std.specs.Prelude.{not, if◌then◌else◌}
 use Rattle.nd_base.specs.declared.array.Dim.{Dim}
 use Rattle.nd_orient.specs.declared.turn.Turn.{Turn}
@@ -54,7 +54,7 @@ pub composed-inverse : (mode : ℕ) → mode < 8 → composed mode (inverse_of m
 composed-inverse = below_8 (λ mode. composed mode (inverse_of mode) ≡ 0) refl refl refl refl refl refl refl refl
 
 pub inverse-below : (mode : ℕ) → mode < 8 → inverse_of mode < 8
-inverse-below = below_8 (λ mode. inverse_of mode < 8) (omega arith) (omega arith) (omega arith) (omega arith) (omega arith) (omega arith) (omega arith) (omega arith)
+inverse-below = below_8 (λ mode. inverse_of mode < 8) (lit< tt) (lit< tt) (lit< tt) (lit< tt) (lit< tt) (lit< tt) (lit< tt) (lit< tt)
 
 -- down twice is up
 pub along-along : (a b : Bool) (n i : ℕ) → i < n → along a n (along b n i) ≡ along (either a b) n i

@@ -4,4 +4,6 @@ pub mod IndexLaws
 pub mod Laws
 pub mod ShapeLaws
 pub mod Walk
+pub mod Correction
+pub mod CorrectionLaws
 pub mod Worked

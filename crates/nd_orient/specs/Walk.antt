@@ -1,11 +1,17 @@
--- What the walk over a plane of dimensions 0 and 1 computes, in places of samples.
-use Rattle.std.specs.Prelude.{ℕ, ◌+◌, ◌*◌, List, take, drop, if◌then◌else◌}
+-- Samples by their places, and what the walk over a plane of dimensions 0 and 1 reads.
+use Rattle.std.specs.Prelude.{ℕ, ℤ, ◌+◌, ◌*◌, List, take, drop, if◌then◌else◌}
+use Rattle.nd_base.specs.declared.array.SampleType.{SampleType}
+use Rattle.nd_base.specs.Samples.{width, number}
 use Rattle.nd_orient.specs.declared.samples.Plane.{Plane}
 use Rattle.nd_orient.specs.Orientation.{along}
 
 -- the bytes of sample k, where each sample has so many
 abbrev pub cell : (width : ℕ) → List ℕ → ℕ → List ℕ
 cell width bytes k = take width (drop (k * width) bytes)
+
+-- the number of sample k
+abbrev pub stored : SampleType → List ℕ → ℕ → ℤ
+stored kind bytes k = number kind (cell (width kind) bytes k)
 
 -- the size of the output's dimension 0
 abbrev pub line_size : Plane → ℕ

@@ -1,7 +1,10 @@
--- Worked examples of orientations.
-use Rattle.std.specs.Prelude.{◌≡◌, ℕ, ℤ, pos, Bool, true, false, List, [], ◌∷◌, map, refl}
+-- Worked examples of orientations and corrections.
+use Rattle.std.specs.Prelude.{◌≡◌, ℕ, ℤ, pos, negsuc, Bool, true, false, List, [], ◌∷◌, map, refl}
 use Rattle.nd_base.specs.declared.array.Dim.{Dim}
 use Rattle.nd_orient.specs.Orientation.{oriented_dims, oriented_samples}
+use Rattle.nd_base.specs.declared.array.SampleType.TheVariants.{Int8, UInt8, Int32}
+use Rattle.nd_orient.specs.declared.rule.CorrectRule.{CorrectRule}
+use Rattle.nd_orient.specs.Correction.{corrected_sample, corrected_samples}
 use Rattle.nd_orient.specs.Modes.{composed, inverse_of}
 
 abbrev plain : ℕ → Dim
@@ -75,3 +78,30 @@ inverse_of_a_mirrored_turn = refl
 
 inverse_of_a_turn : inverse_of 1 ≡ 3
 inverse_of_a_turn = refl
+
+-- corrections
+
+abbrev half_more : CorrectRule
+half_more = record { offset = pos 10; num = pos 3; den = pos 2; low = pos 0; high = pos 10 }
+
+abbrev threes : List ℤ
+threes = pos 3 ∷ pos 3 ∷ pos 3 ∷ pos 3 ∷ []
+
+corrected_row : corrected_samples half_more UInt8 threes one_to_four ≡ pos 7 ∷ pos 9 ∷ pos 10 ∷ pos 10 ∷ []
+corrected_row = refl
+
+-- -3 / 2 is -1
+toward_zero : corrected_sample half_more UInt8 (pos 2) (pos 3) ≡ pos 9
+toward_zero = refl
+
+-- a range beyond the type's is brought to its end
+range_of_the_type : corrected_sample (record half_more { low = pos 300; high = pos 400 }) UInt8 (pos 4) (pos 3) ≡ pos 255
+range_of_the_type = refl
+
+range_below_the_type : corrected_sample (record half_more { low = negsuc 999; high = negsuc 499 }) Int8 (pos 4) (pos 3) ≡ negsuc 127
+range_below_the_type = refl
+
+-- a product beyond 64 bits
+far_apart : corrected_sample (record { offset = pos 1; num = negsuc 2147483647; den = pos 2147483647; low = negsuc 2147483647; high = pos 2147483647 }) Int32
+    (pos 2147483647) (negsuc 2147483647) ≡ negsuc 2147483647
+far_apart = refl

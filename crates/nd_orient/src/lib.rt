@@ -1,15 +1,21 @@
-//! Arrays in eight orientations.
+//! Arrays in eight orientations, and their correction by a dark array.
 #![tactic(auto)]
 
 mod arrays;
+mod cells;
+mod correction;
 mod dims;
 mod laws;
 mod modes;
+mod rule;
 mod samples;
+mod scale;
 mod turn;
 
-pub use arrays::{OrientFault, orient};
+pub use arrays::{OrientFault, correct, orient};
+pub use correction::{Samples, correct_samples};
 pub use dims::orient_dims;
 pub use laws::orientations_compose;
 pub use modes::{compose, inverse};
+pub use rule::CorrectRule;
 pub use samples::orient_samples;

@@ -1,11 +1,12 @@
 //! The samples of an oriented array.
 
-ghost use Rattle.std.specs.Prelude.{◌≡◌, ◌≢◌, ℕ, ◌+◌, ◌*◌, ◌<◌, ◌≤◌, length, IsTrue};
+ghost use Rattle.std.specs.Prelude.{◌≡◌, ℕ, ◌+◌, ◌*◌, ◌<◌, ◌≤◌, length, IsTrue};
 ghost use Rattle.nd_base.specs.Samples.{width, samples_of};
 ghost use Rattle.nd_base.specs.Shapes.{has_dimensions, sample_count, most_samples};
 ghost use Rattle.nd_orient.specs.Orientation.{along, turn_of, oriented_samples};
 ghost use Rattle.nd_orient.specs.Walk.{cell, line_size, line_count, column, row, source};
 
+use crate::cells::copy_sample;
 use crate::turn::{Turn, turn_of};
 use nd_base::{Dim, SampleType};
 
@@ -95,19 +96,6 @@ impl Plane {
     {
         self.column(x, y) + self.columns * self.row(x, y)
     }
-}
-
-/// Copies sample `from` of the input to place `to` of the output. A sample has `width` bytes.
-#[inline(always)]
-fn copy_sample(width: usize, input: &[u8], from: usize, out: &mut [u8], to: usize)
-    requires input { from * width + width ≤ length input.now }
-    requires output { to * width + width ≤ length out.old }
-    ensures copied { cell width out.new to ≡ cell width input.now from }
-    ensures others { (k : ℕ) → k ≢ to → cell width out.new k ≡ cell width out.old k }
-{
-    let source = from * width;
-    let target = to * width;
-    out[target..target + width].copy_from_slice(&input[source..source + width]);
 }
 
 /// Fills line `y` of the output's plane.

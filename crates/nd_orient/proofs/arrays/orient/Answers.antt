@@ -26,7 +26,8 @@ unreachable-requires c =
     let dims : out ≡ oriented_dims mode whole = c.in_ok-dims.ensures ∙ ap (oriented_dims mode) c.dims-2.ensures.value in
     let count : sample_count out ≡ sample_count whole = ap sample_count dims ∙ oriented_dims-count mode whole in
     let size = c.in_ok-bytes.ensures.size ∙ ap (λ n. n * width c.args.array.now.kind) (sym count) ∙ ap (λ k. sample_count out * width k) (sym c.kind.ensures) in
-    let none = accepted kind out (length c.in_ok-bytes.bytes.items) (ap has_dimensions dims ∙ oriented_dims-has_dimensions mode whole ∙ c.dims.ensures.dimensions)
+    let none = accepted kind out (length c.in_ok-bytes.bytes.items)
+    (ap has_dimensions dims ∙ oriented_dims-has_dimensions mode whole ∙ c.dims.ensures.dimensions)
     (rw count c.dims.ensures.few) size in
     let clash : None ≡ Some c.in_default.field-0 = sym none ∙ c.in_default.ensures.refused in
     absurd (cc)

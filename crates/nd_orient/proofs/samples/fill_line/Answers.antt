@@ -1,6 +1,6 @@
 use Rattle.std.proofs.Common.{◌≢◌, ◌*◌, ap, ◌∙◌, arith, below_more}
 use Rattle.nd_orient.specs.Walk.{cell}
-use Rattle.nd_orient.proofs.Cells.{cell_end}
+use Rattle.nd_orient.proofs.Parts.{cell_end}
 use Rattle.nd_orient.proofs.samples.fill_line.Goals as goal
 
 pub copy_sample-requires-clause-input : goal.copy_sample-requires-clause-input

@@ -2,7 +2,7 @@ use borrow.Rule.Slice.PartMut.{put_mid}
 use Rattle.std.proofs.Common.{rules, ◌≡◌, ◌+◌, ◌-◌, ◌*◌, ◌<◌, ◌≤◌, length, inl, inr, ap, sym, ◌∙◌, arith}
 use Rattle.std.proofs.lemmas.Bool.{cases_lt}
 use Rattle.nd_orient.specs.Walk.{cell, line_size, line_count, source}
-use Rattle.nd_orient.proofs.Cells.{cell_end, cell-put, cell-put_before}
+use Rattle.nd_orient.proofs.Parts.{cell_end, cell-put, cell-put_before}
 use Rattle.nd_orient.proofs.Lines.{line_end, plane_few, line_few}
 use Rattle.nd_orient.proofs.samples.fill_plane.Goals as goal
 

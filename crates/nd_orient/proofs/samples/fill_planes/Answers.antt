@@ -2,7 +2,7 @@ use borrow.Rule.Slice.PartMut.{put_mid}
 use Rattle.std.proofs.Common.{rules, ◌≡◌, ◌+◌, ◌-◌, ◌*◌, ◌<◌, ◌≤◌, length, take, drop, inl, inr, ap, sym, ◌∙◌, arith}
 use Rattle.std.proofs.lemmas.Bool.{cases_lt}
 use Rattle.nd_orient.specs.Walk.{cell, line_size, source}
-use Rattle.nd_orient.proofs.Cells.{cell_end, cell-put, cell-put_before, cell-between}
+use Rattle.nd_orient.proofs.Parts.{cell_end, cell-put, cell-put_before, cell-between}
 use Rattle.nd_orient.proofs.Lines.{place_below, source_below}
 use Rattle.nd_orient.proofs.samples.fill_planes.Goals as goal
 

@@ -1,7 +1,7 @@
 use Rattle.std.proofs.Common.{◌≡◌, ◌+◌, ◌-◌, ◌*◌, length, inl, inr, arith}
 use Rattle.std.proofs.lemmas.Bool.{cases_lt}
-use Rattle.nd_orient.proofs.Cells.{cell-put_before, cell-put_behind}
-use Rattle.nd_orient.proofs.samples.copy_sample.Goals as goal
+use Rattle.nd_orient.proofs.Parts.{cell-put_before, cell-put_behind}
+use Rattle.nd_orient.proofs.cells.put_sample.Goals as goal
 
 pub returns-clause-others : goal.returns-clause-others
 returns-clause-others c = λ k h.
