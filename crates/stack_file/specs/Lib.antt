@@ -1,2 +1,3 @@
 pub mod ChangedStacks
 pub mod Gathered
+pub mod TurnedShapes

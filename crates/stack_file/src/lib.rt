@@ -3,8 +3,10 @@
 #![tactic(auto)]
 
 mod change;
+mod changes;
 mod rows;
 mod saving;
 
 pub use change::{Change, Unchanged};
+pub use changes::{Corrected, Oriented};
 pub use saving::save_stack;
