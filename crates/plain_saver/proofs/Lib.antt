@@ -23,3 +23,4 @@ pub mod Pushed
 pub mod Writing
 pub mod KeptStacks
 pub mod Kept
+pub mod Dealt
