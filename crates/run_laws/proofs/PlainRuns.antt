@@ -19,7 +19,7 @@ use Rattle.nd_base.specs.declared.plan.Maker.{Maker}
 use Rattle.nd_base.specs.GraphRules.{IsGraph, IsNode, is_parallel, may_feed, is_source, rule_at}
 use Rattle.chain_plain.specs.OneThread.{arrays_out, outputs}
 use Rattle.chain_plain.specs.PlainRun.{passed}
-use Rattle.chain_plain.specs.PassedLaws.{passed-step, passed-none, passed-rule, passed-frames}
+use Rattle.chain_plain.specs.PassedLaws.{passed-step, passed-none, passed-rule, passed-frames, share_of-whole}
 use Rattle.chain_plain.specs.PassingLaws.{rule_within}
 use Rattle.chain_plain.proofs.Depths.{depth}
 use Rattle.chain_plain.proofs.Rules.{stands}
@@ -172,6 +172,12 @@ module _ (g : Graph) (makers : List Maker) (stack : StackValue) (P : Past) (soun
   never_deals (File r) h = refl
   never_deals Scatter h = absurd (h refl)
 
+  no_dealer : (u : ℕ) (n : NodeRule) → rule_at g.nodes u ≡ Some n → n.kind ≢ Scatter
+  no_dealer zero n at = absurd (cc)
+  no_dealer (suc k) n at =
+      subst (λ (m : NodeRule). m.kind ≢ Scatter) (get_or_from_slice_get g.nodes k n n at)
+      (All-get_or (λ (m : NodeRule). m.kind ≢ Scatter) g.nodes k n (slice_get_within g.nodes k n at) whole)
+
   -- a node that feeds others gives each of them all
   alike : (u : ℕ) → IsTrue (is_source g.nodes u) → deals s u ≡ false
   alike zero source = refl
@@ -180,10 +186,8 @@ module _ (g : Graph) (makers : List Maker) (stack : StackValue) (P : Past) (soun
       by : (o : Option NodeRule) → o ≡ slice_get g.nodes k → deals s (suc k) ≡ false
       by None is = absurd (false≢true (ap (λ (o : Option NodeRule). option_map_or (λ (n : NodeRule). may_feed n.kind) o false) is ∙ source))
       by (Some n) is =
-          let other : n.kind ≢ Scatter =
-          subst (λ (m : NodeRule). m.kind ≢ Scatter) (get_or_from_slice_get g.nodes k n n (sym is))
-          (All-get_or (λ (m : NodeRule). m.kind ≢ Scatter) g.nodes k n (slice_get_within g.nodes k n (sym is)) whole) in
-          ap (λ (m : Node). is_dealing m.work) (node-is g makers stack.arrays (suc k) n (sym is)) ∙ never_deals n.kind other
+          ap (λ (m : Node). is_dealing m.work) (node-is g makers stack.arrays (suc k) n (sym is))
+          ∙ never_deals n.kind (no_dealer (suc k) n (sym is))
 
   -- a node that has children
   record Feeds (u : ℕ) : Type 0 where
@@ -223,7 +227,9 @@ module _ (g : Graph) (makers : List Maker) (stack : StackValue) (P : Past) (soun
       taken = ap indices all ∙ before
 
       onward : passed g stack v ≡ outputs g.nodes stack.arrays v (passed g stack n.input)
-      onward = passed-rule g stack v n sound (sym rule)
+      onward =
+          passed-rule g stack v n sound (sym rule)
+          ∙ ap (outputs g.nodes stack.arrays v) (share_of-whole g.nodes n.input v (passed g stack n.input) (no_dealer n.input))
 
       by : (is_parallel n.kind ≡ true) ⊎ (is_parallel n.kind ≡ false) → indices (put_out s v P) ≡ passed g stack v
       by (inr alone) =

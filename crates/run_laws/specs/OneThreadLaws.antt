@@ -24,13 +24,13 @@ abbrev pub FilesSaveTheAccepted : Type 0
 FilesSaveTheAccepted =
     (s : Setting) (P : Past) (v : ℕ) → is_file (node s v).work ≡ true → (node s v).threads ≤ 1 → IsFinishedRun s P → standing_saves v P ≡ accepted s v P
 
--- a region or statistics node of one thread without a sort list emitted its results of these, in this order
+-- a region, statistics or scatter node of one thread without a sort list emitted its results of these, in this order
 abbrev pub OneThreadEmitsTheAccepted : Type 0
 OneThreadEmitsTheAccepted =
     (s : Setting) (P : Past) (v : ℕ) → is_node s v ≡ true → may_sort (node s v).work ≡ true → is_sorted s v ≡ false → (node s v).threads ≤ 1 → IsFinishedRun s P
     → emitted v P ≡ map (result_name s v) (accepted s v P)
 
--- any region or statistics node emitted its results of these, in some order
+-- any region, statistics or scatter node emitted its results of these, in some order
 abbrev pub EmissionsPermuteTheAccepted : Type 0
 EmissionsPermuteTheAccepted =
     (s : Setting) (P : Past) (v : ℕ) → is_node s v ≡ true → may_sort (node s v).work ≡ true → IsFinishedRun s P

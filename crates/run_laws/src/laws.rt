@@ -20,7 +20,7 @@ pub fn arrays_are_accepted_or_dropped()
     ensures every_frame { EveryFrameIsOffered }
 {}
 
-/// A node of one thread without a sort list, as each circular and file node is, puts out its one-thread result on exactly the
+/// A node of one thread without a sort list, as each circular, file and scatter node is, puts out its one-thread result on exactly the
 /// arrays that it accepted for good, in their order.
 pub fn outputs_keep_order()
     ensures files { FilesSaveTheAccepted }
