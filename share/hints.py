@@ -20,9 +20,10 @@ KINDS = ("roi", "stats", "circular", "file")
 WIDTHS = {1: 1, 2: 1, 3: 2, 4: 4, 5: 4, 6: 8}
 TYPES = {1: "byte", 2: "char", 3: "short", 4: "int", 5: "float", 6: "double"}
 TYPES_OF_DETECTORS = {6: "Int64", 7: "UInt64", 8: "Float32", 9: "Float64"}
-SECONDS_OF_SAMPLE = {"copy": 5e-7, "info": 4e-7}
-SECONDS_OF_PLUGINS = 1.2e-5
+SECONDS_OF_SAMPLE = {"copy": 8e-7, "info": 4e-7}
+SECONDS_OF_PLUGINS = 1.5e-5
 LEAST_TIME = 2
+LONGEST_STACK = 1_073_741_824
 LONGEST_FILES = {1: 2_147_483_647, 2: 8_589_934_592}
 MOST_ARRIVALS, MOST_KEPT, LONGEST_QUEUE = 1_048_576, 67_108_864, 65_535
 
@@ -141,7 +142,8 @@ def near(word, words):
 def tell_unknown_key(graph, key):
     top = [it for it in graph.tables if it not in ("run", "node")]
     if key in top:
-        place = "a key of a node stands below a line [[node]], and one of the run below [run]" if not isinstance(graph.tables[key], (dict, list)) else "the tables are [run] and [[node]]"
+        is_table = isinstance(graph.tables[key], (dict, list))
+        place = "the tables are [run] and [[node]]" if is_table else "a key of a node stands below a line [[node]], and one of the run below [run]"
         return say(f"{graph.name}: {key} is no table of a graph: {place}{near(key, ['run', 'node'])}")
     for number, table in enumerate([graph.run, *graph.nodes]):
         kind = table.get("kind")
@@ -201,7 +203,9 @@ def tell_trigger(graph, words):
     for number, text in triggers if len(triggers) == 1 or at is None else []:
         what = {"TooLong": "the trigger has more than 256 bytes", "TooDeep": "more than 32 parentheses and signs are open at once"}.get(words[0])
         if at is not None:
-            what = f"in the trigger {text!r} what stands at place {at}, {text[at:at + 8]!r}, isn't expected there" if at < len(text) else f"the trigger {text!r} ends too early"
+            what = f"in the trigger {text!r} what stands at place {at}, {text[at:at + 8]!r}, isn't expected there"
+            if at >= len(text):
+                what = f"the trigger {text!r} ends too early"
         return say(f"{graph.place(number, 'trigger')}: {what}; it may have A, B, whole numbers, parentheses, and || && == != < <= > >= + - * !")
     return say(f"a trigger may have A, B, whole numbers, parentheses, and || && == != < <= > >= + - * !")
 
@@ -209,7 +213,8 @@ def tell_trigger(graph, words):
 def tell_node(graph, fault, number):
     node, names = graph.nodes[number - 1], ["driver", *[str(it.get("name")) for it in graph.nodes]]
     if fault == "UnknownKind":
-        return say(f"{graph.place(number, 'kind')}: kind = {spelled(node.get('kind'))} isn't allowed{near(str(node.get('kind')), KINDS)}; kind may be {keys_of('roi')['kind'][0]}")
+        kind = node.get("kind")
+        return say(f"{graph.place(number, 'kind')}: kind = {spelled(kind)} isn't allowed{near(str(kind), KINDS)}; kind may be {keys_of('roi')['kind'][0]}")
     if fault == "Threads":
         return say(f"{graph.place(number, 'threads')}: a {node.get('kind')} node has one thread: leave threads out there")
     if fault == "DoubleName":
@@ -331,15 +336,16 @@ HEADERS = {
     "Short": "the file ends within its header: it was cut off; copy it anew",
     "Tag": "its header isn't that of a netCDF classic file behind the first bytes: write it anew by a tool of the netCDF library",
     "Negative": "its header has a number that is too large: it is damaged; write it anew by a tool of the netCDF library",
-    "NameLength": "its header has a name of no bytes, or of more than 1,024: rename it by ncrename, or write the file anew",
-    "NameText": "its header has a name that isn't UTF-8: rename it by ncrename",
-    "DimNumber": "its header names a dimension that isn't there: it is damaged; write it anew",
-    "TwoRecordDims": "it has two dimensions without a fixed length: 'nccopy -u {0} NEW.nc' makes all fixed",
-    "ValueType": "it has a value type that the classic format hasn't: 'nccopy -k classic {0} NEW.nc' makes one of types that it has",
+    "NameLength": "its header has a name of no bytes, or of more than 1,024: write the file anew with names between",
+    "NameText": "its header has a name that isn't UTF-8: write the file anew with other names",
+    "DimNumber": "its header names a dimension that isn't there: it is damaged; write it anew by a tool of the netCDF library",
+    "TwoRecordDims": "it has two dimensions without a fixed length, and the classic format at most one: write it anew by a tool of the netCDF library",
+    "ValueType": "it has a value type that the classic format hasn't: write it anew by a tool of the netCDF library",
 }
+COPY_CLASSIC = "in the classic form (for unsigned samples see docs/formats.md)"
 FIRST_BYTES = (
-    (b"\x89HDF", "it is a netCDF-4 or HDF5 file: 'nccopy -k classic {0} NEW.nc' writes netCDF-4 in the classic form (for unsigned samples see docs/formats.md)"),
-    (b"CDF\x05", "it is a CDF-5 file: 'nccopy -k classic {0} NEW.nc' writes it in the classic form (for unsigned samples see docs/formats.md)"),
+    (b"\x89HDF", f"it is a netCDF-4 or HDF5 file: 'nccopy -k classic {{0}} NEW.nc' writes netCDF-4 {COPY_CLASSIC}"),
+    (b"CDF\x05", f"it is a CDF-5 file: 'nccopy -k classic {{0}} NEW.nc' writes it {COPY_CLASSIC}"),
     (b"\x1f\x8b", "it is compressed: 'gunzip < {0} > NEW.nc' unpacks it"),
     (b"II*\0", "it is a TIFF file: write its frames as the variable array_data of a netCDF file, as docs/formats.md shows"),
     (b"MM\0*", "it is a TIFF file: write its frames as the variable array_data of a netCDF file, as docs/formats.md shows"),
@@ -362,18 +368,32 @@ def tell_sample_type(name, number, header):
     quoted = shlex.quote(name)
     if number in (-5, -6) or kind in ("float", "double"):
         drop = f"; 'ncatted -a dataType,global,d,, NEW.nc' drops dataType, which doesn't fit then" if number > 0 else ""
-        return say(f"{name}: its samples are floating-point numbers, and only whole numbers of 8, 16 or 32 bits are read: {CONVERT_FLOATS.format(quoted)}{drop}")
+        what = "its samples are floating-point numbers, and only whole numbers of 8, 16 or 32 bits are read"
+        return say(f"{name}: {what}: {CONVERT_FLOATS.format(quoted)}{drop}")
     if number == -2:
         return say(f"{name}: array_data is of type char: store its bytes as byte, and for UInt8 the global int attribute dataType = 1")
     named = f" ({TYPES_OF_DETECTORS[number]})" if number in TYPES_OF_DETECTORS else ""
-    return say(f"{name}: dataType is {number}{named}, and array_data is of type {kind}: 0 and 1 go with byte, 2 and 3 with short, 4 and 5 with int ('ncatted -a dataType,global,m,i,N {quoted}' sets it to N)")
+    fits = "0 and 1 go with byte, 2 and 3 with short, 4 and 5 with int"
+    return say(f"{name}: dataType is {number}{named}, and array_data is of type {kind}: {fits} ('ncatted -a dataType,global,m,i,N {quoted}' sets it to N)")
+
+
+def first_dimension(header):
+    """Returns the name of the dimension that counts the frames, or a word that stands for it."""
+    frames = header.frames() if header else None
+    return header.dims[frames[1][0]][0] if frames and frames[1] and frames[1][0] < len(header.dims) else "FRAMES"
+
+
+def tell_rank(number, quoted):
+    """Returns what can be done about an array_data of so many dimensions."""
+    told = f"array_data has {number} dimension{'s' if number != 1 else ''}; the first counts the frames, and 1 to 10 follow"
+    return f"{told}: 'ncecat -O {quoted} NEW.nc' puts one in front of a single image" if number < 2 else told
 
 
 def tell_stack(name, words):
     fault, *rest = words if words[0] != "Cdf" else words[1:]
     header, number = header_of(name), int(rest[0]) if rest else None
     var = header.vars[number][0] if header and rest and 0 <= number < len(header.vars) else f"number {number}"
-    quoted = shlex.quote(name)
+    quoted, cut = shlex.quote(name), first_dimension(header)
     if not os.path.getsize(name):
         return say(f"{name} is empty")
     if fault == "Magic":
@@ -385,15 +405,18 @@ def tell_stack(name, words):
     if fault == "NoArrayData":
         there = [it[0] for it in header.vars] if header else []
         most = max(header.vars, key=lambda it: len(it[1]))[0] if there else "OLD"
-        return say(f"{name}: the frames have to be the variable array_data; it has {', '.join(there) or 'no variable'}: 'ncrename -v {most},array_data {quoted}' renames one")
+        has = f"it has {', '.join(there) or 'no variable'}"
+        return say(f"{name}: the frames have to be the variable array_data; {has}: 'ncrename -v {most},array_data {quoted}' renames one")
     return say(f"{name}: " + {
-        "RecordDimNotFirst": f"the variable {var} has the dimension without a fixed length in another place than the first: 'nccopy -u {quoted} NEW.nc' makes all fixed",
-        "Overflow": f"the variable {var} has more than 4 GiB: cut the file into several, as with 'ncks -d FRAMES,0,999 {quoted} NEW.nc'",
+        "RecordDimNotFirst": f"the variable {var} has the dimension without a fixed length in another place than the first, which the classic format "
+        "doesn't allow: write it anew by a tool of the netCDF library",
+        "Overflow": f"the variable {var} has more than 4 GiB: cut the file into several, as with 'ncks -d {cut},0,999 {quoted} NEW.nc'",
         "DataShort": f"values of the variable {var} are missing at its end: it was cut off, or is still being written; copy it anew",
-        "Rank": f"array_data has {number} dimensions; the first counts the frames, and 1 to 10 follow: 'ncecat -O {quoted} NEW.nc' puts one in front of a single image",
-        "TooManyFrames": f"it has {number:,} frames, and a stack at most 65,536: 'ncks -d FRAMES,0,65535 {quoted} NEW.nc' cuts, FRAMES being its first dimension" if rest else "",
+        "Rank": tell_rank(number, quoted) if rest else "",
+        "TooManyFrames": f"it has {number:,} frames, and a stack at most 65,536: 'ncks -d {cut},0,65535 {quoted} NEW.nc' cuts it" if rest else "",
         "TooManySamples": f"a frame has {number:,} samples, and at most 67,108,864 are read: cut the frames by 'ncks -d'" if rest else "",
-        "FrameCount": f"the variable {var} hasn't one value of its type (int, or double for timeStamp) for each frame: 'ncks -x -v {var} {quoted} NEW.nc' leaves it out",
+        "FrameCount": f"the variable {var} hasn't one value of its type (int, or double for timeStamp) for each frame: "
+        f"'ncks -x -v {var} {quoted} NEW.nc' leaves it out",
         "AttrShape": f"the attribute {var} hasn't one value, or one text, for each frame: 'ncks -x -v {var} {quoted} NEW.nc' leaves it out",
     }.get(fault, "see docs/formats.md"))
 
@@ -404,12 +427,17 @@ def tell_limit(words, graph_name, stack_name):
     if fault == "GraphBytes":
         return say(f"{graph_name} has {number:,} bytes, and a graph at most 1,048,576; the words are GRAPH STACK PREFIX, in this order")
     if fault == "StackFile":
-        return say(f"{stack_name} has {number:,} bytes, and a stack at most 1,073,741,824: cut it along its first dimension into {-(-number // 2**30)} or more, as with 'ncks -d FRAMES,0,999 {shlex.quote(stack_name)} NEW.nc'")
+        cut = f"'ncks -d {first_dimension(header_of(stack_name))},0,999 {shlex.quote(stack_name)} NEW.nc'"
+        parts = -(-number // LONGEST_STACK)
+        what = f"{stack_name} has {number:,} bytes, and a stack at most {LONGEST_STACK:,}"
+        return say(f"{what}: cut it along its first dimension into {parts} or more, as with {cut}")
     nodes = Graph(graph_name).nodes if graph_name else []
     if fault == "Load":
-        return say(f"frames times nodes is {number:,}, and at most {MOST_ARRIVALS:,} are allowed: with {len(nodes)} nodes a stack of up to {MOST_ARRIVALS // max(len(nodes), 1):,} frames, or fewer nodes")
+        fits = f"with {len(nodes)} nodes a stack of up to {MOST_ARRIVALS // max(len(nodes), 1):,} frames"
+        return say(f"frames times nodes is {number:,}, and at most {MOST_ARRIVALS:,} are allowed: {fits}, or fewer nodes")
     if fault == "Kept":
-        return say(f"the statistics would keep {number:,} bins and profile sums over all frames, and at most {MOST_KEPT:,} are allowed: fewer bins (hist_size), no profiles, or a stack of 1 in {-(-number // MOST_KEPT)} of the frames")
+        what = f"the statistics would keep {number:,} bins and profile sums over all frames, and at most {MOST_KEPT:,} are allowed"
+        return say(f"{what}: fewer bins (hist_size), no profiles, or a stack of 1 in {-(-number // MOST_KEPT)} of the frames")
     node = nodes[int(rest[0]) - 1] if nodes else {}
     form = node.get("cdf", 1) if node else 1
     what = f"node {node['name']}" if node else "copy"
@@ -445,7 +473,7 @@ def tell_losses(report, graph_name, *_):
     except (OSError, ValueError):
         run, inputs = {}, {}
     frames = int(rows[0][1])
-    pool = f"pool = 0 under [run], which is no limit, or more than {run.get('pool', 0)}, keeps them"
+    pool = f"pool = 0 under [run], which is no limit, keeps them; one above {run.get('pool', 0)} may"
     for words in rows[1:]:
         name = words[1] if words[0] == "node" else "the driver"
         numbers = dict(zip(*[iter(words[2 if words[0] == "node" else 1 :])] * 2)) if len(words) > 4 else {}
@@ -454,18 +482,23 @@ def tell_losses(report, graph_name, *_):
             say(f"{count('refused')} of {count('offered')} frames were refused at {name}: the pool was full. {pool} (docs/report.md)")
         if count("full"):
             queue = f"queue = {min(frames, LONGEST_QUEUE)} at {name}"
-            helps = f'feed = "wait" under [run], or {queue}, keeps them' if inputs.get(name, "driver") == "driver" and run.get("feed") != "wait" else f"{queue} keeps them, and more threads there take them faster"
+            helps = f"{queue} keeps them, and more threads there take them faster"
+            if inputs.get(name, "driver") == "driver" and run.get("feed") != "wait":
+                helps = f'feed = "wait" under [run], or {queue}, keeps them'
             say(f"{count('full')} of {count('offered')} arrays were dropped at {name}: its queue was full. {helps} (docs/report.md)")
         if count("pool"):
             say(f"{count('pool')} of {count('offered')} arrays were dropped at {name}: the pool was full. {pool} (docs/report.md)")
         if count("sort"):
-            say(f"{count('sort')} of {count('offered')} results were dropped at {name}: its sort list was full. sort = {min(frames, LONGEST_QUEUE)} at {name} keeps them (docs/report.md)")
+            keeps = f"sort = {min(frames, LONGEST_QUEUE)} at {name} keeps them (docs/report.md)"
+            say(f"{count('sort')} of {count('offered')} results were dropped at {name}: its sort list was full. {keeps}")
 
 
 # --- the trial build
 
 
 def tell_time(command, called, _, stack, __):
+    if os.path.getsize(stack) > LONGEST_STACK:
+        return
     header = header_of(stack)
     try:
         samples = header.samples()
@@ -475,7 +508,8 @@ def tell_time(command, called, _, stack, __):
     if seconds < LEAST_TIME:
         return
     long = f"{seconds:.0f} seconds" if seconds < 120 else f"{seconds / 60:.0f} minutes" if seconds < 7200 else f"{seconds / 3600:.0f} hours"
-    say(f"the trial build is for small data: these {samples:,} samples take it some {long}. '{called.removesuffix(' --unproved')} --build' builds the proved program, which is many times as fast")
+    build = f"'{called.removesuffix(' --unproved')} --build' builds the proved program, which is many times as fast"
+    say(f"the trial build is for small data: these {samples:,} samples take it up to some {long}. {build}")
 
 
 if __name__ == "__main__":
