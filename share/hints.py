@@ -20,8 +20,8 @@ KINDS = ("roi", "stats", "circular", "file")
 WIDTHS = {1: 1, 2: 1, 3: 2, 4: 4, 5: 4, 6: 8}
 TYPES = {1: "byte", 2: "char", 3: "short", 4: "int", 5: "float", 6: "double"}
 TYPES_OF_DETECTORS = {6: "Int64", 7: "UInt64", 8: "Float32", 9: "Float64"}
-SECONDS_OF_SAMPLE = {"copy": 8e-7, "info": 4e-7}
-SECONDS_OF_PLUGINS = 1.5e-5
+SECONDS_OF_BYTE = {"copy": 2e-7, "info": 2e-7}
+SECONDS_OF_BYTE_AT_NODE = 4e-6
 LEAST_TIME = 2
 LONGEST_STACK = 1_073_741_824
 LONGEST_FILES = {1: 2_147_483_647, 2: 8_589_934_592}
@@ -496,15 +496,23 @@ def tell_losses(report, graph_name, *_):
 # --- the trial build
 
 
-def tell_time(command, called, _, stack, __):
+def nodes_that_compute(graph):
+    """Returns how many nodes of a graph go over the samples of each array: those of regions and statistics, or 1 where it can't be told."""
+    try:
+        return max(1, sum(it.get("kind") in ("roi", "stats") for it in Graph(graph).nodes))
+    except (OSError, ValueError):
+        return 1
+
+
+def tell_time(command, called, graph, stack, _):
     if os.path.getsize(stack) > LONGEST_STACK:
         return
     header = header_of(stack)
     try:
-        samples = header.samples()
-    except (AttributeError, TypeError, IndexError):
-        samples = os.path.getsize(stack)
-    seconds = samples * SECONDS_OF_SAMPLE.get(command, SECONDS_OF_PLUGINS)
+        samples, width = header.samples(), WIDTHS[header.frames()[2]]
+    except (AttributeError, TypeError, LookupError):
+        samples, width = os.path.getsize(stack), 1
+    seconds = samples * width * (SECONDS_OF_BYTE.get(command) or SECONDS_OF_BYTE_AT_NODE * nodes_that_compute(graph))
     if seconds < LEAST_TIME:
         return
     long = f"{seconds:.0f} seconds" if seconds < 120 else f"{seconds / 60:.0f} minutes" if seconds < 7200 else f"{seconds / 3600:.0f} hours"
