@@ -20,7 +20,8 @@ _nd_replay() {
 # The words that may come first; or the name of a command's word at a place, from 1, as the program's help has it.
 _nd_replay_names() {
     if [ -n "$1" ]; then
-        awk -v command="$1" -v place="$2" '$1 == "nd_replay" && $2 == command && $(2 + place) ~ /^[A-Z]+$/ { print $(2 + place); exit }' <<< "$_nd_replay_help"
+        awk -v command="$1" -v place="$2" '
+            $1 == "nd_replay" && $2 == command { sub(/^ +/, ""); sub(/  .*/, ""); print $(2 + place); exit }' <<< "$_nd_replay_help"
     else
         awk '$1 == "nd_replay" { print $2 }' <<< "$_nd_replay_help"
         echo --build
