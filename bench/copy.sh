@@ -6,7 +6,7 @@ set -eu
 source "$(dirname "$0")/program.sh"
 cd "$work"
 while read -r side frames; do
-    make_stack "$frames" "$side" > stack.nc
+    make_stack "$frames" "$side"
     gcc -O3 -march=native -D SIDE="$side" -o copy_c "$here/bench/copy.c"
     ratio_of "copy $frames frames of $side x $side" "$work" "$program" copy stack.nc x_ -- ./copy_c stack.nc c.nc
     cmp x_copy_000.nc c.nc
@@ -16,4 +16,4 @@ done << 'SIZES'
 256 2000
 16 65536
 SIZES
-growth 200 "$program" copy stack.nc x_
+growth 100 "$program" copy stack.nc x_

@@ -6,6 +6,9 @@ set -eu
 source "$(dirname "$0")/program.sh"
 cd "$work"
 
+# A number as the four bytes of a word, spelled for printf.
+word() { printf '\\x%02x' $(($1 >> 24 & 255)) $(($1 >> 16 & 255)) $(($1 >> 8 & 255)) $(($1 & 255)); }
+
 # The header of so many records of four bytes, which begin 1,024 bytes past 2^32, and zeros up to place 2,048.
 front() {
     printf 'CDF\002%b\0\0\0\012\0\0\0\002\0\0\0\001n\0\0\0\0\0\0\0\0\0\0\001x\0\0\0\0\0\0\004' "$(word "$1")"

@@ -15,7 +15,7 @@ measure() { for _ in 1 2 3; do nanoseconds "$program" "$@"; done | median; }
 for words in "plain file" "run file" "run window" "run pool" "run sort"; do
     read -r command graph <<< "$words"
     for frames in 16384 32768 65536; do
-        make_stack "$frames" 4 > stack.nc
+        make_stack "$frames" 4
         measure "$command" "$graph.toml" stack.nc out_
     done | awk -v words="$words" 'NR == 1 { first = $1 } { printf "%s%.2f", NR == 1 ? words ": growth " : " : ", $1 / first }
         END { printf ", %.0f ns a frame\n", $1 / 65536 }'

@@ -33,7 +33,7 @@ GRAPH
 
 cd "$work"
 while read -r side frames; do
-    make_stack "$frames" "$side" > stack.nc
+    make_stack "$frames" "$side"
     rm -f ./*.times
     for _ in 1 2 3 4 5 6 7; do
         nanoseconds "$program" run alone.toml stack.nc a_ >> alone.times

@@ -1,11 +1,12 @@
-/* Writing the netCDF files of copy.c and plain.c: frames of two equal sides, without attributes. */
+/* Reading and writing the netCDF files of the programs beside this one, which are laid out as those of `nd_replay gen`: frames of two equal
+   sides, with the attribute `Frame`. */
 #include <stdint.h>
 #include <stdio.h>
 #include <stdlib.h>
 #include <string.h>
 
-/* How many bytes a stack of program.sh has before its frames, and how many a written file. */
-enum { BEGIN = 144, HEADER = 540 };
+/* How many bytes a file has before its rows, and a row before and after its samples. */
+enum { HEADER = 584, BEFORE = 20, AFTER = 4 };
 
 /* The numbers of the sample types in `dataType`, and of the netCDF types that hold them. */
 enum { BYTES = 1, PAIRS = 3, NC_BYTE = 1, NC_SHORT = 3 };
@@ -71,20 +72,28 @@ static void header(FILE *file, uint32_t frames, uint32_t side, uint32_t bin, int
     ints(file, "dimOffset", 2, (uint32_t[]){0, 0});
     ints(file, "dimBinning", 2, (uint32_t[]){bin, bin});
     ints(file, "dimReverse", 2, (uint32_t[]){0, 0});
-    word(file, 11), word(file, 5);
+    word(file, 11), word(file, 6);
     variable(file, "uniqueId", 1, 4, 4, &place);
     variable(file, "timeStamp", 1, 6, 8, &place);
     variable(file, "epicsTSSec", 1, 4, 4, &place);
     variable(file, "epicsTSNsec", 1, 4, 4, &place);
     variable(file, "array_data", 3, pairs ? NC_SHORT : NC_BYTE, (pairs ? 2 : 1) * side * side, &place);
+    variable(file, "Attr_Frame", 1, 4, 4, &place);
 }
 
-/* The row of frame k: its id, no times, and its samples. */
+/* The row of frame k: its id, no times, its samples, and its number. */
 static void row(FILE *file, uint32_t k, const void *samples, size_t bytes) {
     word(file, k + 1);
     for (int i = 0; i < 4; i++) word(file, 0);
     fwrite(samples, 1, bytes, file);
+    word(file, k);
 }
+
+/* How many frames of so many bytes a file has. */
+static uint32_t frames_of(size_t size, size_t bytes) { return (uint32_t)((size - HEADER) / (BEFORE + bytes + AFTER)); }
+
+/* The samples of frame k of a file in memory. */
+static const uint8_t *frame_of(const uint8_t *file, uint32_t k, size_t bytes) { return file + HEADER + k * (BEFORE + bytes + AFTER) + BEFORE; }
 
 /* A whole file in memory. */
 static uint8_t *whole(const char *path, size_t *size) {

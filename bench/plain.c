@@ -45,7 +45,7 @@ static void compute(uint32_t k, struct result *r) {
     struct given g = {UINT16, 2, 2, {HALF, HALF}, HALF, HALF, HALF * HALF, (uint8_t *)r->half};
     r->m = (struct measure){.bins = r->bins, .x = r->x, .y = r->y};
     memset(r->bins, 0, sizeof r->bins), memset(r->x, 0, sizeof r->x), memset(r->y, 0, sizeof r->y);
-    bin(bytes + BEGIN + (size_t)k * SIDE * SIDE, r->half);
+    bin(frame_of(bytes, k, SIDE * SIDE), r->half);
     measure_halves(&r->m, &rule, &g);
     spell(r->half);
 }
@@ -122,7 +122,7 @@ int main(int argc, char **argv) {
     bytes = whole(argv[1], &size);
     FILE *file = fopen(argv[2], "wb"), *text = fopen(argv[3], "wb");
     if (!file || !text) die("open");
-    frames = (uint32_t)((size - BEGIN) / (SIDE * SIDE));
+    frames = frames_of(size, SIDE * SIDE);
     if (argc > 4 && !strcmp(argv[4], "all")) rule = (struct rule){510, 0, 1020, 2, BINS, 1};
     threads = argc > 5 ? (uint32_t)atoi(argv[5]) : 0;
     if (threads > MOST_THREADS) return 1;

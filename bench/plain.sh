@@ -40,7 +40,7 @@ hist_lo = 0
 hist_hi = 1020
 profiles = true' > all.toml
 while read -r side frames; do
-    make_stack "$frames" "$side" > stack.nc
+    make_stack "$frames" "$side"
     gcc -O3 -march=native -pthread -D SIDE="$side" -o plain_c "$here/bench/plain.c"
     for options in none all; do
         ratio_of "plain $frames frames of $side x $side, options of statistics: $options" "$work" \
@@ -54,4 +54,4 @@ done << 'SIZES'
 256 2000
 16 65536
 SIZES
-growth 200 "$program" plain none.toml stack.nc x_
+growth 100 "$program" plain none.toml stack.nc x_

@@ -62,7 +62,7 @@ cd "$work"
 for threads in 1 2 4 8; do write_graph $threads 0 > graph$threads.toml; done
 write_graph 4 67108864 > limited.toml
 while read -r side frames; do
-    make_stack "$frames" "$side" > stack.nc
+    make_stack "$frames" "$side"
     gcc -O3 -march=native -pthread -D SIDE="$side" -o plain_c "$here/bench/plain.c"
     mapfile -t all < <(medians "$program plain graph4.toml stack.nc p_" "$program run graph1.toml stack.nc r_" "$program run graph2.toml stack.nc r_" \
         "$program run graph4.toml stack.nc r_" "$program run graph8.toml stack.nc r_" "./plain_c stack.nc c.nc c.txt" "./plain_c stack.nc c4.nc c4.txt none 4")

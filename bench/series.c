@@ -1,4 +1,4 @@
-/* What `nd_replay series` does with a stack of program.sh, as a plain program that keeps the whole file in memory, too: each region is read
+/* What `nd_replay series` does with a stack of `nd_replay gen`, as a plain program that keeps the whole file in memory, too: each region is read
    line by line in narrow types, in one pass. Usage: series UInt8|UInt16 LENGTH REGIONS STACK FILE. */
 #include "layout.h"
 
@@ -107,9 +107,9 @@ int main(int argc, char **argv) {
     struct row *rows = malloc(length * sizeof *rows);
     FILE *text = fopen(argv[5], "wb");
     if (!rows || !text) die("open");
-    uint32_t frames = (uint32_t)((size - BEGIN) / frame);
+    uint32_t frames = frames_of(size, frame);
     for (uint32_t k = 0; k < frames; k++) {
-        const uint8_t *bytes = stack + BEGIN + k * frame;
+        const uint8_t *bytes = frame_of(stack, k, frame);
         struct row *row = &rows[k % length];
         row->id = k + 1;
         for (uint32_t i = 0; i < count; i++) row->parts[i] = type == UINT8 ? part_bytes(&regions[i], bytes) : part_pairs(&regions[i], bytes);

@@ -17,7 +17,7 @@ regions() {
 cd "$work"
 gcc -O3 -march=native -o series_c "$here/bench/series.c"
 for type in UInt8 UInt16; do
-    make_stack 200 1024 $type > stack.nc
+    make_stack 200 1024 $type
     for count in 1 8 32; do
         boxes=$(regions $count)
         ratio_of "series of $count regions of 100 x 100 in 200 frames of 1024 x 1024 $type" "$work" \
