@@ -1,10 +1,11 @@
 """What nd_replay's script says beside the program's own lines, on standard output:
 
-    hints.py refusal LINE GRAPH STACK PREFIX              what can be done after the status that LINE tells
-    hints.py losses REPORT GRAPH STACK PREFIX             what a run lost by its report, and what keeps it
-    hints.py time COMMAND CALLED GRAPH STACK PREFIX       how long a trial build takes for a stack
+    hints.py refusal LINE COMMAND NAME=WORD ..       what can be done after the status that LINE tells
+    hints.py losses REPORT COMMAND NAME=WORD ..      what a run lost by its report, and what keeps it
+    hints.py time CALLED COMMAND NAME=WORD ..        how long a trial build takes for a stack
 
-What a key of a graph may be is read from the tables of docs/graph.md."""
+COMMAND is the program's command, and NAME=WORD are its words, each under the name that the help has for it. What a key of a graph may be is read from the
+tables of docs/graph.md."""
 
 import difflib
 import math
@@ -17,6 +18,7 @@ import tomllib
 
 ROOT = os.path.dirname(os.path.dirname(os.path.realpath(__file__)))
 KINDS = ("roi", "stats", "circular", "file")
+WIDTHS_OF_SAMPLES = {"Int8": 1, "UInt8": 1, "Int16": 2, "UInt16": 2, "Int32": 4, "UInt32": 4}
 WIDTHS = {1: 1, 2: 1, 3: 2, 4: 4, 5: 4, 6: 8}
 TYPES = {1: "byte", 2: "char", 3: "short", 4: "int", 5: "float", 6: "double"}
 TYPES_OF_DETECTORS = {6: "Int64", 7: "UInt64", 8: "Float32", 9: "Float64"}
@@ -25,6 +27,7 @@ SECONDS_OF_BYTE_AT_NODE = 4e-6
 LEAST_TIME = 2
 LONGEST_STACK = 1_073_741_824
 LONGEST_FILES = {1: 2_147_483_647, 2: 8_589_934_592}
+MOST_GENERATED, MOST_REGIONS = 536_870_912, 32
 MOST_ARRIVALS, MOST_KEPT, LONGEST_QUEUE = 1_048_576, 67_108_864, 65_535
 
 
@@ -34,6 +37,77 @@ said = []
 def say(words):
     said.append(words)
     print(f"nd_replay: {words}")
+
+
+class Call:
+    """The command that was called, and its words by their names; a word that it hasn't is empty."""
+
+    def __init__(self, command, *words):
+        self.command, self.words = command, dict(it.split("=", 1) for it in words)
+
+    def __getitem__(self, name):
+        return self.words.get(name, "")
+
+    def order(self):
+        return f"the words of {self.command} are {' '.join(self.words)}"
+
+
+def near(word, words):
+    found = [it for it in words if it.lower() == word.lower()] or difflib.get_close_matches(word, words, 1, 0.6)
+    return f" (did you mean {found[0]}?)" if found else ""
+
+
+# --- words
+
+
+def number(digits, least, most):
+    """Returns what a word fits that is a whole number between bounds, and what is said of it."""
+    form = re.compile(f"{'-?' if least < 0 else ''}[0-9]{{1,{digits}}}")
+    fits = lambda word: form.fullmatch(word) and least <= int(word) <= most
+    return fits, f"a whole number from {least:,} to {most:,}, in at most {digits} digit{'s' if digits > 1 else ''}"
+
+
+WHOLE = number(10, -(2**31), 2**31 - 1)
+SIDE = number(8, 0, 67_108_864)
+FORMS = {
+    "gen": {
+        "N": number(10, 0, 65_536),
+        "W": number(10, 1, 8_192),
+        "H": number(10, 1, 8_192),
+        "KIND": (WIDTHS_OF_SAMPLES.__contains__, ", ".join(WIDTHS_OF_SAMPLES)),
+        "START": number(10, 0, 2**31 - 1),
+    },
+    "orient": {"MODE": number(1, 0, 7)},
+    "correct": {"OFFSET": WHOLE, "NUM": WHOLE, "DEN": number(10, 1, 2**31 - 1), "LOW": WHOLE, "HIGH": WHOLE},
+    "series": {"LENGTH": number(4, 1, 4_096)},
+}
+
+
+def tell_regions(word):
+    """Says which part of a word isn't a region of a series."""
+    groups = word.split(";")
+    if len(groups) > MOST_REGIONS:
+        return say(f"REGIONS has {len(groups)} regions, and at most {MOST_REGIONS} are measured")
+    fits, what = SIDE
+    for count, group in enumerate(groups, 1):
+        numbers = group.split(",")
+        if len(numbers) != 4 or not all(map(fits, numbers)):
+            return say(f"region {count} of REGIONS, {shlex.quote(group)}, isn't X,Y,W,H, of which each is {what}; a ; stands between regions")
+    return None
+
+
+def tell_words(call):
+    """Says which word isn't spelled as its command takes it."""
+    for name, (fits, what) in FORMS.get(call.command, {}).items():
+        word = call[name]
+        if not fits(word):
+            hint = near(word, WIDTHS_OF_SAMPLES) if name == "KIND" else ""
+            return say(f"{name} = {shlex.quote(word)} isn't allowed{hint}; {name} may be {what}; {call.order()}")
+    if call.command == "series":
+        return tell_regions(call["REGIONS"])
+    if call.command == "correct" and int(call["LOW"]) > int(call["HIGH"]):
+        return say(f"LOW = {call['LOW']} is above HIGH = {call['HIGH']}")
+    return None
 
 
 # --- graphs
@@ -132,11 +206,6 @@ def is_of_form(value, values):
     if "list" in values:
         return isinstance(value, list) and all(map(fits, value))
     return bool(fits(value))
-
-
-def near(word, words):
-    found = difflib.get_close_matches(word, words, 1, 0.6)
-    return f" (did you mean {found[0]}?)" if found else ""
 
 
 def tell_unknown_key(graph, key):
@@ -243,8 +312,9 @@ def tell_graph_rule(graph, words):
     return tell_node(graph, fault, int(rest[0]))
 
 
-def tell_graph_text(name):
+def tell_graph_text(call):
     """Says where a TOML reader stops."""
+    name = call["GRAPH"]
     with open(name, "rb") as file:
         data = file.read()
     try:
@@ -252,7 +322,7 @@ def tell_graph_text(name):
         tables = tomllib.loads(text)
     except UnicodeDecodeError as error:
         if data[:3] == b"CDF" or data[:4] == b"\x89HDF":
-            return say(f"{name} is a netCDF file: the words are GRAPH STACK PREFIX, in this order")
+            return say(f"{name} is a netCDF file, and {call.order()}")
         return say(f"{name} isn't text in UTF-8: byte {error.start}, in line {data[:error.start].count(10) + 1}")
     except tomllib.TOMLDecodeError as error:
         return say(f"{name} isn't TOML: {error}")
@@ -313,11 +383,14 @@ class Stack:
         """Returns the variable of the frames, or none."""
         return next((it for it in self.vars if it[0] == "array_data"), None)
 
+    def lengths(self):
+        """Returns the number of frames, and the sizes of one, the slowest dimension first."""
+        _, dims, _ = self.frames()
+        return [self.dims[it][1] or self.records for it in dims]
+
     def samples(self):
         """Returns the number of samples of all frames."""
-        _, dims, _ = self.frames()
-        lengths = [self.dims[it][1] for it in dims]
-        return math.prod(it or self.records for it in lengths)
+        return math.prod(self.lengths())
 
 
 def header_of(name):
@@ -352,14 +425,15 @@ FIRST_BYTES = (
 )
 
 
-def tell_magic(name):
+def tell_magic(call):
+    name = call["STACK"]
     with open(name, "rb") as file:
         data = file.read(4096)
     for start, words in FIRST_BYTES:
         if data.startswith(start):
             return say(f"{name}: {words.format(shlex.quote(name))}")
     if b"[[node]]" in data:
-        return say(f"{name} is a graph: the words are GRAPH STACK PREFIX, in this order")
+        return say(f"{name} is a graph, and {call.order()}")
     return say(f"{name} isn't a netCDF file: it begins with neither CDF and a byte 1 or 2, nor as another form does")
 
 
@@ -389,7 +463,8 @@ def tell_rank(number, quoted):
     return f"{told}: 'ncecat -O {quoted} NEW.nc' puts one in front of a single image" if number < 2 else told
 
 
-def tell_stack(name, words):
+def tell_stack(call, words):
+    name = call["STACK"]
     fault, *rest = words if words[0] != "Cdf" else words[1:]
     header, number = header_of(name), int(rest[0]) if rest else None
     var = header.vars[number][0] if header and rest and 0 <= number < len(header.vars) else f"number {number}"
@@ -397,7 +472,7 @@ def tell_stack(name, words):
     if not os.path.getsize(name):
         return say(f"{name} is empty")
     if fault == "Magic":
-        return tell_magic(name)
+        return tell_magic(call)
     if fault in HEADERS:
         return say(f"{name}: {HEADERS[fault].format(quoted)}")
     if fault == "SampleType":
@@ -421,17 +496,30 @@ def tell_stack(name, words):
     }.get(fault, "see docs/formats.md"))
 
 
-def tell_limit(words, graph_name, stack_name):
+def cutting(name):
+    """Returns a command that cuts a stack along its first dimension."""
+    return f"'ncks -d {first_dimension(header_of(name))},0,999 {shlex.quote(name)} NEW.nc'"
+
+
+def tell_limit(call, words):
     fault, *rest = words
-    number = int(rest[-1])
+    number, stack = int(rest[-1]), call["STACK"]
     if fault == "GraphBytes":
-        return say(f"{graph_name} has {number:,} bytes, and a graph at most 1,048,576; the words are GRAPH STACK PREFIX, in this order")
+        return say(f"{call['GRAPH']} has {number:,} bytes, and a graph at most 1,048,576; {call.order()}")
     if fault == "StackFile":
-        cut = f"'ncks -d {first_dimension(header_of(stack_name))},0,999 {shlex.quote(stack_name)} NEW.nc'"
+        if call["DARK"] and os.path.getsize(call["DARK"]) == number:
+            stack = call["DARK"]
         parts = -(-number // LONGEST_STACK)
-        what = f"{stack_name} has {number:,} bytes, and a stack at most {LONGEST_STACK:,}"
-        return say(f"{what}: cut it along its first dimension into {parts} or more, as with {cut}")
-    nodes = Graph(graph_name).nodes if graph_name else []
+        what = f"{stack} has {number:,} bytes, and a stack at most {LONGEST_STACK:,}"
+        return say(f"{what}: cut it along its first dimension into {parts} or more, as with {cutting(stack)}")
+    if fault == "GenBytes":
+        frame = int(call["W"]) * int(call["H"]) * WIDTHS_OF_SAMPLES[call["KIND"]]
+        fits = f"up to {MOST_GENERATED // frame:,} frames of these sizes, or smaller ones"
+        return say(f"the samples would have {number:,} bytes, and at most {MOST_GENERATED:,} are made: {fits}")
+    if call["NAME"]:
+        what = f"{call['NAME']} would have {number:,} bytes, and a file has at most {LONGEST_FILES[1]:,}"
+        return say(f"{what}: cut the stack along its first dimension, as with {cutting(stack)}")
+    nodes = Graph(call["GRAPH"]).nodes if call["GRAPH"] else []
     if fault == "Load":
         fits = f"with {len(nodes)} nodes a stack of up to {MOST_ARRIVALS // max(len(nodes), 1):,} frames"
         return say(f"frames times nodes is {number:,}, and at most {MOST_ARRIVALS:,} are allowed: {fits}, or fewer nodes")
@@ -449,26 +537,46 @@ def tell_limit(words, graph_name, stack_name):
     return say(f"{what} would write a file of {number:,} bytes, and its form has at most {LONGEST_FILES[form]:,}: {', or '.join(helps) or 'smaller frames'}")
 
 
-def tell_refusal(line, graph, stack, _):
+def sizes_in(name):
+    """Returns the number of a stack's frames, and words for the sizes of one, dimension 0 first."""
+    frames, *sizes = header_of(name).lengths()
+    return frames, " x ".join(f"{it:,}" for it in reversed(sizes))
+
+
+def tell_sizes(call):
+    _, sizes = sizes_in(call["STACK"])
+    if call.command == "orient":
+        return say(f"the frames of {call['STACK']} have one dimension, of {sizes} samples, and a mode turns dimensions 0 and 1")
+    frames, dark_sizes = sizes_in(call["DARK"])
+    if frames == 0 or dark_sizes == sizes:
+        return say(f"{call['DARK']} has no frame, and its first one is the dark one")
+    return say(f"the frames of {call['DARK']} have {dark_sizes} samples, and those of {call['STACK']} {sizes}: the dark frame has to have the same sizes")
+
+
+def tell_refusal(line, call):
     words = line.partition("status ")[2].split()
-    if words[0] == "2":
-        tell_graph_text(graph)
+    if words[0] == "1":
+        tell_words(call)
+    elif words[0] == "2":
+        tell_graph_text(call)
     elif words[0] == "3":
-        tell_graph_rule(Graph(graph), words[2:])
+        tell_graph_rule(Graph(call["GRAPH"]), words[2:])
     elif words[0] == "4":
-        tell_stack(stack, words[2:])
+        tell_stack(call, words[2:])
     elif words[0] == "5":
-        tell_limit(words[2:], graph, stack)
+        tell_limit(call, words[2:])
+    elif words[0] == "10":
+        tell_sizes(call)
 
 
 # --- losses
 
 
-def tell_losses(report, graph_name, *_):
+def tell_losses(report, call):
     with open(report, encoding="utf-8") as file:
         rows = [line.split() for line in file]
     try:
-        graph = Graph(graph_name)
+        graph = Graph(call["GRAPH"])
         run, inputs = graph.run, {it.get("name"): it.get("input") for it in graph.nodes}
     except (OSError, ValueError):
         run, inputs = {}, {}
@@ -504,7 +612,8 @@ def nodes_that_compute(graph):
         return 1
 
 
-def tell_time(command, called, graph, stack, _):
+def tell_time(called, call):
+    stack = call["STACK"]
     if os.path.getsize(stack) > LONGEST_STACK:
         return
     header = header_of(stack)
@@ -512,7 +621,7 @@ def tell_time(command, called, graph, stack, _):
         samples, width = header.samples(), WIDTHS[header.frames()[2]]
     except (AttributeError, TypeError, LookupError):
         samples, width = os.path.getsize(stack), 1
-    seconds = samples * width * (SECONDS_OF_BYTE.get(command) or SECONDS_OF_BYTE_AT_NODE * nodes_that_compute(graph))
+    seconds = samples * width * (SECONDS_OF_BYTE.get(call.command) or SECONDS_OF_BYTE_AT_NODE * nodes_that_compute(call["GRAPH"]))
     if seconds < LEAST_TIME:
         return
     long = f"{seconds:.0f} seconds" if seconds < 120 else f"{seconds / 60:.0f} minutes" if seconds < 7200 else f"{seconds / 3600:.0f} hours"
@@ -521,9 +630,9 @@ def tell_time(command, called, graph, stack, _):
 
 
 if __name__ == "__main__":
-    what, *words = sys.argv[1:]
+    what, of, *words = sys.argv[1:]
     try:
-        {"refusal": tell_refusal, "losses": tell_losses, "time": tell_time}[what](*words)
+        {"refusal": tell_refusal, "losses": tell_losses, "time": tell_time}[what](of, Call(*words))
     except (OSError, ValueError, LookupError, TypeError, AttributeError):
         # What can't be told isn't told: the program's own line stands.
         said.clear()

@@ -1,4 +1,4 @@
-# Completes the commands and files of nd_replay in bash: source share/nd_replay.bash, as from ~/.bashrc.
+# Completes the commands and words of nd_replay in bash: source share/nd_replay.bash, as from ~/.bashrc.
 _nd_replay() {
     local word=${COMP_WORDS[COMP_CWORD]} place first=1 name
     COMPREPLY=()
@@ -12,8 +12,10 @@ _nd_replay() {
     name=$(_nd_replay_names "${COMP_WORDS[first]}" "$place")
     case $name in
         GRAPH) _nd_replay_files '!*.toml' "$word" ;;
-        STACK) _nd_replay_files '!*.nc' "$word" ;;
-        PREFIX) _nd_replay_files '' "$word" ;;
+        STACK | DARK) _nd_replay_files '!*.nc' "$word" ;;
+        PREFIX | NAME) _nd_replay_files '' "$word" ;;
+        MODE) mapfile -t COMPREPLY < <(compgen -W "0 1 2 3 4 5 6 7" -- "$word") ;;
+        KIND) mapfile -t COMPREPLY < <(compgen -W "Int8 UInt8 Int16 UInt16 Int32 UInt32" -- "$word") ;;
     esac
 }
 
