@@ -22,6 +22,19 @@ const HELP: &str = "nd_replay: replays a stack of detector frames through a grap
     nd_replay copy STACK PREFIX            writes the frames of STACK to <PREFIX>copy_000.nc
     nd_replay info STACK                   prints the sample type, the dimensions, the number of
                                            frames, the ids and the attributes of STACK
+    nd_replay orient MODE STACK NAME       writes the frames of STACK, turned and mirrored by MODE,
+                                           to the file NAME
+    nd_replay correct DARK STACK NAME OFFSET NUM DEN LOW HIGH
+                                           writes the frames of STACK, corrected by the first frame
+                                           of DARK, to the file NAME: each sample v over the dark
+                                           sample d becomes (v - d) * NUM / DEN, cut toward zero,
+                                           plus OFFSET, brought within LOW and HIGH
+    nd_replay series LENGTH REGIONS STACK NAME
+                                           writes the statistics of REGIONS in each of the last
+                                           LENGTH frames of STACK, and the sum of each region, to
+                                           the text NAME
+    nd_replay gen N W H KIND START NAME    writes a stack of N made frames, W samples wide and H
+                                           high, to the file NAME
     nd_replay --help                       prints this text
     nd_replay --version                    prints the version
 
@@ -34,24 +47,33 @@ docs/formats.md has the rules.
 
 GRAPH is a TOML text of at most 1 MiB with up to 32 plugins. docs/graph.md lists its keys.
 
+MODE is 0 to 7: 0 to 3 turn by so many quarters clockwise, and 4 to 7 by four fewer and then
+mirror. DARK is such a file as STACK, and its frames have the sizes of those of STACK. OFFSET, NUM,
+DEN, LOW and HIGH are whole numbers of 32 bits, DEN from 1 on and LOW at most HIGH. REGIONS is up to
+32 regions X,Y,W,H with ; between, as '0,0,100,100;50,50,10,10', and LENGTH 1 to 4,096. N is at most
+65,536, W and H are 1 to 8,192, KIND is Int8, UInt8, Int16, UInt16, Int32 or UInt32, and START, 0 to
+2,147,483,647, begins the samples. docs/formats.md and docs/outputs.md tell more.
+
 A file node writes <PREFIX>NODE_000.nc, <PREFIX>NODE_001.nc and so on, and a statistics node
-<PREFIX>NODE.txt. What stands under such a name is replaced without a question, the inputs too
-where they are named so. No folder is made.
+<PREFIX>NODE.txt. What stands under such a name, or under NAME, is replaced without a question, the
+inputs too where they are named so. No folder is made.
 
 The status, which one line on standard error tells where it isn't 0:
 
     0  Done         the command did its work
-    1  Usage        there is no such command, or it takes another number of words
+    1  Usage        there is no such command, or it takes another number of words, or other ones
     2  GraphText    GRAPH is no TOML: mend its text
     3  GraphRule    GRAPH breaks a rule, which is named: see docs/graph.md
-    4  StackBytes   STACK isn't such a file; the fault is named: see docs/formats.md
+    4  StackBytes   STACK or DARK isn't such a file; the fault is named: see docs/formats.md
     5  Limit        a file is too large, or a run or a file would be: cut the stack, keep
                     fewer bins, or write smaller groups of arrays
-    6  ReadFault    GRAPH or STACK isn't there or can't be read
+    6  ReadFault    GRAPH, STACK or DARK isn't there or can't be read
     7  ShelfFault   a file can't be made or written, as where its folder isn't there or is full:
                     delete what wasn't finished, and run again
     8  OutFault     the files stand, but standard output failed
     9  OutOfMemory  out of memory: free some, or cut the stack
+    10 Sizes        the frames to be turned have one dimension; or DARK has no frame, or frames
+                    of other sizes than STACK
 ";
 
 const VERSION: &str = "nd_replay 0.1.0
