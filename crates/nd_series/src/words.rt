@@ -1,7 +1,8 @@
 //! The words of a series on a command line.
 
-ghost use Rattle.std.specs.Prelude.{◌≡◌, map, IfOk};
+ghost use Rattle.std.specs.Prelude.{◌≡◌, map, length, IfOk, IfSome};
 ghost use Rattle.std.specs.Option.{is_some, option_map};
+ghost use Rattle.nd_base.specs.GraphRules.{IsBetween};
 ghost use Rattle.nd_series.specs.Words.{side_in, length_in, box_of, region_in, regions_in};
 
 use crate::region::Box4;
@@ -21,7 +22,8 @@ fn side_in(text: &str) -> Option<u32>
 
 /// The number of rows that a word asks for: 1 to 4,096 in one to four decimal digits.
 pub fn parse_length(text: &str) -> Option<u32>
-    ensures { result ≡ length_in text.now }
+    ensures value { result ≡ length_in text.now }
+    ensures range { IfSome result (λ most. IsBetween 1 4096 most) }
 {
     number(text, 4, 1, 4096)
 }
@@ -70,7 +72,8 @@ pub fn are_regions(text: &str) -> bool
 ///
 /// Only for want of memory.
 pub fn parse_regions(alloc: Global, text: &str) -> Result<Option<Vec<Box4>>, OutOfMemory>
-    ensures { IfOk result (λ found. option_map (λ v. v.items) found ≡ regions_in text.now) }
+    ensures value { IfOk result (λ found. option_map (λ v. v.items) found ≡ regions_in text.now) }
+    ensures range { IfOk result (λ found. IfSome found (λ v. IsBetween 1 32 (length v.items))) }
 {
     let groups: Vec<&str> = text.split(';').collect(alloc)?;
     if groups.len() > MOST_REGIONS {
