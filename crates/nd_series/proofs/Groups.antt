@@ -25,4 +25,5 @@ module _ {X : Type 0} (v : X → List ℕ) (items : List X) (text : List ℕ) (s
   all_good h e =
       let few : nat_le (length (map v items)) 32 ≡ true = le-leb (length (map v items)) 32 (let l = length-map items v in omega (arith, l, h)) in
       let good : list_all (λ g. is_some (region_in g)) (map v items) ≡ true = list_all-map (λ g. is_some (region_in g)) v items ∙ e in
-      ap Some (sym (flat_map-map (λ g. option_to_list (region_in g)) v items)) ∙ subst (λ gs. Some (flat_map (λ g. option_to_list (region_in g)) (map v items)) ≡ regions_of gs) same (rw (few, good) refl)
+      ap Some (sym (flat_map-map (λ g. option_to_list (region_in g)) v items))
+      ∙ subst (λ gs. Some (flat_map (λ g. option_to_list (region_in g)) (map v items)) ≡ regions_of gs) same (rw (few, good) refl)

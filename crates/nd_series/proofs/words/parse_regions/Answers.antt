@@ -18,13 +18,16 @@ groups c = subst (λ r. IfOk r (λ w. map (λ x. x.now) w.items ≡ slice_split 
 
 pub returns-then-len-gt-MOST_REGIONS-clause-value : goal.returns-then-len-gt-MOST_REGIONS-clause-value
 returns-then-len-gt-MOST_REGIONS-clause-value c =
-    too_many (λ x. x.now) c.in_ok-groups.groups.items c.args.text.now (groups ((goal.at.returns-then-len-gt-MOST_REGIONS-clause-value c).After-len)) (omega arith)
+    let same = groups ((goal.at.returns-then-len-gt-MOST_REGIONS-clause-value c).After-len) in
+    too_many (λ x. x.now) c.in_ok-groups.groups.items c.args.text.now same (omega arith)
 
 pub returns-in_default-clause-value : goal.returns-in_default-clause-value
 returns-in_default-clause-value c =
-    one_bad (λ x. x.now) c.in_ok-groups.groups.items c.args.text.now (groups ((goal.at.returns-in_default-clause-value c).After-len)) c.loop-group.group-index (record { ref_ptr = (0, 0); now = [] })
-    (omega arith)
-    (ap (λ (gs : List (Bor (List ℕ))). region_in (get_or gs c.loop-group.group-index (record { ref_ptr = (0, 0); now = [] })).now) (sym c.deref-group-items.ensures.value) ∙ sym c.in_ok-region.ensures ∙ c.in_default.is)
+    let none : Bor (List ℕ) = record { ref_ptr = (0, 0); now = [] } in
+    let k = c.loop-group.group-index in
+    one_bad (λ x. x.now) c.in_ok-groups.groups.items c.args.text.now (groups ((goal.at.returns-in_default-clause-value c).After-len)) k none (omega arith)
+    (ap (λ (gs : List (Bor (List ℕ))). region_in (get_or gs k none).now) (sym c.deref-group-items.ensures.value)
+    ∙ sym c.in_ok-region.ensures ∙ c.in_default.is)
 
 pub returns-clause-value : goal.returns-clause-value
 returns-clause-value c =
