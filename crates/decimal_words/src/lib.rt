@@ -1,7 +1,7 @@
 //! Numbers that are written in decimal, as words of a command line.
 #![tactic(auto)]
 
-ghost use Rattle.std.specs.Prelude.{◌≡◌, ◌≤◌, true};
+ghost use Rattle.std.specs.Prelude.{◌≡◌, ◌≤◌, true, IfSome};
 ghost use Rattle.std.specs.Char.{is_ascii_digit};
 ghost use Rattle.std.specs.List.{list_all};
 ghost use Rattle.std.specs.Str.Parse.{digits_value};
@@ -36,7 +36,8 @@ fn value_of(digits: &str) -> u64
 /// another way, or the number isn't one from `least` to `most`. `digits` is at most 10.
 pub fn number(word: &str, digits: usize, least: u32, most: u32) -> Option<u32>
     requires { digits ≤ 10 }
-    ensures { result ≡ number_of digits least most word.now }
+    ensures value { result ≡ number_of digits least most word.now }
+    ensures range { IfSome result (λ n. (least ≤ n) × (n ≤ most)) }
 {
     if !are_digits(word, digits) {
         return None;

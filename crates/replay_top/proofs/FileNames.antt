@@ -17,28 +17,29 @@ use Rattle.nd_base.specs.declared.graph.Kind.{Kind}
 use Rattle.nd_base.specs.declared.graph.Kind.TheVariants.{Roi, Stats, Circular, File, Scatter}
 use Rattle.nd_base.specs.declared.graph.Mode.{Mode}
 use Rattle.nd_base.specs.declared.graph.NodeRule.{NodeRule}
-use Rattle.nd_base.specs.GraphRules.{IsGraph, IsKind, IsFile, input_of, rule_at}
+use Rattle.nd_base.specs.GraphRules.{IsGraph, IsKind, IsFile, rule_at}
 use Rattle.cdf_write.specs.Layout.{layout}
 use Rattle.nd_stats.specs.Row.{row}
 use Rattle.chain_plain.specs.OneThread.{arrays_out, outputs, groups, files_of}
 use Rattle.chain_plain.specs.OneThread as one
 use Rattle.chain_plain.specs.PassedLaws.{passed-step, passed-frames, passed-few}
 use Rattle.chain_plain.specs.PassingLaws.{rule_within}
-use Rattle.chain_plain.specs.PlainRun.{passed, result_of}
+use Rattle.chain_plain.specs.PlainRun.{passed, passed_to, result_of}
 use Rattle.chain_plain.proofs.Rules.{stands}
 use Rattle.graph_files.specs.NameLaws.{names-differ, stats-differ, stats_names-differ}
 use Rattle.graph_files.specs.NodeFileLaws.{cases_eq}
 use Rattle.graph_files.specs.OpenFileLaws.{rules-apart}
 use Rattle.graph_files.specs.OutFiles.{OutFile, file_shape, group_files, group_name, is_stream, stats_name, kind_files, node_files, plain_files}
 use Rattle.graph_files.specs.OutgoingLaws.{length-arrays_out}
-use Rattle.replay_top.specs.Command.{Copy, Plain, Info}
-use Rattle.replay_top.specs.Copy.{copy_graph}
+use Rattle.tool_commands.specs.Command.{Copy, Plain, Info, Gen, Orient, Correct, Series}
+use Rattle.tool_commands.specs.Copy.{copy_graph}
 use Rattle.replay_top.specs.FileNames.{HaveOwnNames, CommandsHaveOwnNames, GroupsHaveOwnNames, RowsHaveOwnNames, GroupsAreNoTexts, OnlyLogsMeetTheLog}
 use Rattle.replay_top.specs.LogFiles.{log_name}
-use Rattle.replay_top.specs.Works.{Work}
-use Rattle.replay_top.proofs.Copies.{copy_graph-IsGraph}
-use Rattle.replay_top.proofs.EachNode.{All-each}
-use Rattle.replay_top.proofs.Leads.{of_copy, of_plain, of_info}
+use Rattle.tool_commands.specs.Works.{Work}
+use Rattle.tool_commands.proofs.Copies.{copy_graph-IsGraph}
+use Rattle.tool_commands.proofs.EachNode.{All-each}
+use Rattle.tool_commands.proofs.FewFiles.{gen_few, orient_few, correct_few, series_few}
+use Rattle.tool_commands.proofs.Leads.{of_copy, of_plain, of_info}
 
 -- NODES
 
@@ -129,7 +130,7 @@ module _ (mode : Mode) (shape : FileShape) (prefix node : List ℕ) where
 module _ (g : Graph) (s : StackValue) (prefix : List ℕ) (sound : IsGraph g) (few : length s.arrays ≤ 65536) where
   module _ (v : ℕ) (n : NodeRule) (at : rule_at g.nodes v ≡ Some n) where
     abbrev out : List Array
-    out = arrays_out g.nodes s.arrays v (outputs g.nodes s.arrays v (passed g s (input_of g.nodes v)))
+    out = arrays_out g.nodes s.arrays v (outputs g.nodes s.arrays v (passed_to g s v))
 
     -- no more arrays go out than the stack has
     out-few : length out ≤ 65536
@@ -191,6 +192,9 @@ module _ (g : Graph) (s : StackValue) (prefix : List ℕ) (sound : IsGraph g) (f
 
 -- COMMANDS
 
+few_names : (files : List OutFile) → length files ≤ 1 → HaveOwnNames files
+few_names files few = λ i j d lt within. absurd (omega (arith, few, lt, within))
+
 pub command_names : CommandsHaveOwnNames
 command_names told None work leads = absurd (cc)
 command_names told (Some (Copy stack prefix)) work leads =
@@ -202,3 +206,7 @@ command_names told (Some (Plain graph stack prefix)) work leads =
 command_names told (Some (Info stack)) work leads =
     let p = of_info told stack work leads in
     subst (λ (w : Work). HaveOwnNames w.files) (sym p.2) no_pairs
+command_names told (Some (Gen rule name)) work leads = few_names work.files (gen_few told rule name work leads)
+command_names told (Some (Orient mode stack name)) work leads = few_names work.files (orient_few told mode stack name work leads)
+command_names told (Some (Correct rule dark stack name)) work leads = few_names work.files (correct_few told rule dark stack name work leads)
+command_names told (Some (Series most regions stack name)) work leads = few_names work.files (series_few told most regions stack name work leads)

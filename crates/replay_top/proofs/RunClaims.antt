@@ -1,17 +1,17 @@
 -- What the end of a run says of its status.
 use Rattle.std.proofs.Common.{◌≡◌, ◌⊎◌, Option, None, Some, Ok, Err, refl, inl, inr}
 use Rattle.flow_journal.specs.Journal.{Journal}
-use Rattle.replay_top.specs.declared.status.Status.{Status}
-use Rattle.replay_top.specs.declared.status.Status.TheVariants.{Done, Usage, GraphText, GraphRule, StackBytes, Limit, ReadFault, ShelfFault, OutFault}
-use Rattle.replay_top.specs.declared.status.Status.TheVariants.{OutOfMemory}
-use Rattle.replay_top.specs.Answers.{IsRefusal}
-use Rattle.replay_top.specs.Causes.{Counts}
-use Rattle.replay_top.specs.Claims.{Completes}
-use Rattle.replay_top.specs.Outcomes.{Leads}
+use Rattle.tool_commands.specs.declared.status.Status.{Status}
+use Rattle.tool_commands.specs.declared.status.Status.TheVariants.{Done, Usage, GraphText, GraphRule, StackBytes, Limit, Sizes, ReadFault, ShelfFault, OutFault}
+use Rattle.tool_commands.specs.declared.status.Status.TheVariants.{OutOfMemory}
+use Rattle.tool_commands.specs.Answers.{IsRefusal}
+use Rattle.tool_commands.specs.Causes.{Counts}
+use Rattle.tool_commands.specs.Claims.{Completes}
+use Rattle.tool_commands.specs.Outcomes.{Leads}
 use Rattle.replay_top.specs.RunAnswers.{RunObjects, RunEnds, IsRunCause, IsRunUntouched}
 use Rattle.replay_top.specs.RunCommand.{RunCommand}
 use Rattle.replay_top.specs.RunSources.{sources_of}
-use Rattle.replay_top.proofs.Outcomes.{Leads-Asks}
+use Rattle.tool_commands.proofs.Outcomes.{Leads-Asks}
 
 module _ (log : Option Journal) (c : RunCommand) (o : RunObjects) where
   -- a refusal is what the files lead to
@@ -21,6 +21,7 @@ module _ (log : Option Journal) (c : RunCommand) (o : RunObjects) where
   RunEnds-refused (GraphRule f) ends is = ends.1.0
   RunEnds-refused (StackBytes f) ends is = ends.1.0
   RunEnds-refused (Limit f) ends is = ends.1.0
+  RunEnds-refused Sizes ends is = ends.1.0
   RunEnds-refused Done ends is = absurd is
   RunEnds-refused ReadFault ends is = absurd is
   RunEnds-refused ShelfFault ends is = absurd is
@@ -34,6 +35,7 @@ module _ (log : Option Journal) (c : RunCommand) (o : RunObjects) where
   RunEnds-untouched (GraphRule f) ends is = ends.1.1
   RunEnds-untouched (StackBytes f) ends is = ends.1.1
   RunEnds-untouched (Limit f) ends is = ends.1.1
+  RunEnds-untouched Sizes ends is = ends.1.1
   RunEnds-untouched ReadFault ends is = ends.2
   RunEnds-untouched Done ends (inl never) = absurd never
   RunEnds-untouched Done ends (inr never) = absurd (cc)
@@ -54,6 +56,7 @@ answered_run GraphText log c o before after ends cause none = inl (Leads-Asks o.
 answered_run (GraphRule f) log c o before after ends cause none = inl (Leads-Asks o.objects.library (sources_of (Some c)) (Err (GraphRule f)) ends.1.0)
 answered_run (StackBytes f) log c o before after ends cause none = inl (Leads-Asks o.objects.library (sources_of (Some c)) (Err (StackBytes f)) ends.1.0)
 answered_run (Limit f) log c o before after ends cause none = inl (Leads-Asks o.objects.library (sources_of (Some c)) (Err (Limit f)) ends.1.0)
+answered_run Sizes log c o before after ends cause none = inl (Leads-Asks o.objects.library (sources_of (Some c)) (Err Sizes) ends.1.0)
 answered_run ReadFault log c o before after ends cause none = absurd (none.library cause.0)
 answered_run ShelfFault log c o before after ends cause none = absurd (none.shelf cause.1)
 answered_run OutFault log c o before after ends cause none = absurd (none.sink cause.2)

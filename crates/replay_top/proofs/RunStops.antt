@@ -17,18 +17,18 @@ use Rattle.flow_saver.specs.Saver.{CountsSo}
 use Rattle.flow_run.specs.RunFiles.{HasSavedRun}
 use Rattle.flow_run.specs.Strangers.{AreOwnMoves}
 use Rattle.flow_run.specs.Ticks.{IsFedByTheClock}
-use Rattle.replay_top.specs.declared.status.Status.{Status}
-use Rattle.replay_top.specs.declared.status.Status.TheVariants.{Done, Usage, GraphText, GraphRule, StackBytes, Limit, ReadFault, ShelfFault, OutFault}
-use Rattle.replay_top.specs.declared.status.Status.TheVariants.{OutOfMemory}
-use Rattle.replay_top.specs.Outcomes.{Leads}
+use Rattle.tool_commands.specs.declared.status.Status.{Status}
+use Rattle.tool_commands.specs.declared.status.Status.TheVariants.{Done, Usage, GraphText, GraphRule, StackBytes, Limit, Sizes, ReadFault, ShelfFault, OutFault}
+use Rattle.tool_commands.specs.declared.status.Status.TheVariants.{OutOfMemory}
+use Rattle.tool_commands.specs.Outcomes.{Leads}
 use Rattle.replay_top.specs.RunAnswers.{RunObjects, IsLogOf, RunEnds, IsRunCause, IsRunUntouched, run_print}
 use Rattle.replay_top.specs.RunCommand.{RunCommand}
 use Rattle.replay_top.specs.RunFiles.{later_files, HoldsFiles, HaveGroupsBack, AtGroups, AfterGroups}
 use Rattle.replay_top.specs.LogFiles.{log_files}
 use Rattle.replay_top.specs.RunSources.{IsSourceRead}
 use Rattle.replay_top.specs.RunStages.{RestEnds, RestCause}
-use Rattle.replay_top.specs.Stages.{ReadStops}
-use Rattle.replay_top.specs.Works.{Source, sources}
+use Rattle.tool_commands.specs.Stages.{ReadStops}
+use Rattle.tool_commands.specs.Works.{Source, sources}
 
 -- READING
 
@@ -39,6 +39,7 @@ RunEnds-unread GraphText c o before now stops still = (refl, (stops.0, still))
 RunEnds-unread (GraphRule f) c o before now stops still = (refl, (stops.0, still))
 RunEnds-unread (StackBytes f) c o before now stops still = (refl, (stops.0, still))
 RunEnds-unread (Limit f) c o before now stops still = (refl, (stops.0, still))
+RunEnds-unread Sizes c o before now stops still = (refl, (stops.0, still))
 RunEnds-unread ReadFault c o before now stops still = (refl, (λ e. cc), still)
 RunEnds-unread OutOfMemory c o before now stops still = (refl, still.1)
 RunEnds-unread Done c o before now stops still = absurd stops
@@ -109,6 +110,7 @@ module _ (complete : RowsComplete) (reads : GroupsReadBack) (c : RunCommand) (o 
   ends (GraphRule f) fault groups some rest = absurd rest
   ends (StackBytes f) fault groups some rest = absurd rest
   ends (Limit f) fault groups some rest = absurd rest
+  ends Sizes fault groups some rest = absurd rest
   ends ReadFault fault groups some rest = absurd rest
 
   -- the same by what the nodes measured and what the plan says
@@ -148,4 +150,5 @@ IsRunCause-rest GraphText fault files print held_mid held_now written out librar
 IsRunCause-rest (GraphRule f) fault files print held_mid held_now written out library shelf mid shelf_now sink sink_now rest counts cause = absurd rest
 IsRunCause-rest (StackBytes f) fault files print held_mid held_now written out library shelf mid shelf_now sink sink_now rest counts cause = absurd rest
 IsRunCause-rest (Limit f) fault files print held_mid held_now written out library shelf mid shelf_now sink sink_now rest counts cause = absurd rest
+IsRunCause-rest Sizes fault files print held_mid held_now written out library shelf mid shelf_now sink sink_now rest counts cause = absurd rest
 IsRunCause-rest ReadFault fault files print held_mid held_now written out library shelf mid shelf_now sink sink_now rest counts cause = absurd rest

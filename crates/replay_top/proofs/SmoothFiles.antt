@@ -29,7 +29,7 @@ use Rattle.graph_files.proofs.PlainNames.{IsIn, IsPlainFile, all_out, group_out,
 use Rattle.graph_files.proofs.PlainNames as planned
 use Rattle.flow_saver.specs.HistoryFiles.{IsFileOf, Group, Rows, kind_group, kind_rows}
 use Rattle.replay_top.specs.SmoothRuns.{IsAmong}
-use Rattle.replay_top.proofs.PlainRuns.{arrays}
+use Rattle.tool_commands.proofs.PlainRuns.{arrays}
 
 -- AMONG FILES
 

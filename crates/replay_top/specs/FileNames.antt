@@ -5,10 +5,10 @@ use Rattle.nd_base.specs.declared.graph.NodeRule.{NodeRule}
 use Rattle.nd_base.specs.GraphRules.{IsGraph, rule_at}
 use Rattle.edge_traits.specs.Files.{Files}
 use Rattle.graph_files.specs.OutFiles.{OutFile, group_name, stats_name}
-use Rattle.replay_top.specs.Command.{Command}
+use Rattle.tool_commands.specs.Command.{Command}
 use Rattle.replay_top.specs.LogFiles.{log_name}
-use Rattle.replay_top.specs.Outcomes.{Leads}
-use Rattle.replay_top.specs.Works.{Work, outcome_of}
+use Rattle.tool_commands.specs.Outcomes.{Leads}
+use Rattle.tool_commands.specs.Works.{Work, outcome_of}
 
 -- no two of these files have one name
 abbrev pub HaveOwnNames : List OutFile → Type 0

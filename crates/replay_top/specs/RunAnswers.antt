@@ -13,17 +13,17 @@ use Rattle.run_report.specs.Text.{report_text}
 use Rattle.graph_conf.specs.Loads.{limit_fault}
 use Rattle.flow_run.specs.Strangers.{AreOwnMoves}
 use Rattle.flow_run.specs.Ticks.{IsFedByTheClock}
-use Rattle.replay_top.specs.declared.status.Status.{Status}
-use Rattle.replay_top.specs.declared.status.Status.TheVariants.{Done, Usage, GraphText, GraphRule, StackBytes, Limit, ReadFault, ShelfFault, OutFault}
-use Rattle.replay_top.specs.declared.status.Status.TheVariants.{OutOfMemory}
-use Rattle.replay_top.specs.Answers.{Objects, objects_of}
-use Rattle.replay_top.specs.Causes.{Counts, IsCause}
-use Rattle.replay_top.specs.Outcomes.{Leads}
-use Rattle.replay_top.specs.Printed.{IsCutShort}
+use Rattle.tool_commands.specs.declared.status.Status.{Status}
+use Rattle.tool_commands.specs.declared.status.Status.TheVariants.{Done, Usage, GraphText, GraphRule, StackBytes, Limit, Sizes, ReadFault, ShelfFault, OutFault}
+use Rattle.tool_commands.specs.declared.status.Status.TheVariants.{OutOfMemory}
+use Rattle.tool_commands.specs.Answers.{Objects, objects_of}
+use Rattle.tool_commands.specs.Causes.{Counts, IsCause}
+use Rattle.tool_commands.specs.Outcomes.{Leads}
+use Rattle.tool_commands.specs.Printed.{IsCutShort}
 use Rattle.replay_top.specs.RunCommand.{RunCommand}
 use Rattle.replay_top.specs.RunFiles.{HoldsFiles, AreTorn, HaveGroupsBack}
 use Rattle.replay_top.specs.RunSources.{sources_of}
-use Rattle.replay_top.specs.Works.{Source, sources}
+use Rattle.tool_commands.specs.Works.{Source, sources}
 
 -- what the objects of a run tell: those of a command, and the clock its answers to come before the run and after it
 pub record RunObjects : Type 0 where
@@ -83,6 +83,7 @@ HasFinished GraphText = ⊥
 HasFinished (GraphRule fault) = ⊥
 HasFinished (StackBytes fault) = ⊥
 HasFinished (Limit fault) = ⊥
+HasFinished Sizes = ⊥
 HasFinished ReadFault = ⊥
 HasFinished OutOfMemory = ⊥
 
@@ -110,6 +111,7 @@ RunEnds GraphText log command o = (log ≡ None) × IsRunRefused command GraphTe
 RunEnds (GraphRule fault) log command o = (log ≡ None) × IsRunRefused command (GraphRule fault) o
 RunEnds (StackBytes fault) log command o = (log ≡ None) × IsRunRefused command (StackBytes fault) o
 RunEnds (Limit fault) log command o = (log ≡ None) × IsRunRefused command (Limit fault) o
+RunEnds Sizes log command o = (log ≡ None) × IsRunRefused command Sizes o
 RunEnds ReadFault log command o = (log ≡ None) × (command ≢ None) × IsRunUntouched o
 RunEnds OutOfMemory log command o = (log ≡ None) × (o.objects.sink_after ≡ o.objects.sink_before)
 
@@ -122,6 +124,7 @@ IsRunCause GraphText before after = IsCause GraphText before after
 IsRunCause (GraphRule fault) before after = IsCause (GraphRule fault) before after
 IsRunCause (StackBytes fault) before after = IsCause (StackBytes fault) before after
 IsRunCause (Limit fault) before after = IsCause (Limit fault) before after
+IsRunCause Sizes before after = IsCause Sizes before after
 IsRunCause ReadFault before after = IsCause ReadFault before after
 IsRunCause ShelfFault before after = IsCause ShelfFault before after
 IsRunCause OutFault before after = IsCause OutFault before after

@@ -1,7 +1,7 @@
 -- The commands that run a graph with its threads, by the words of the command line.
 use Rattle.std.specs.Prelude.{ℕ, Bool, true, false, List, [], ◌∷◌, Option, None, Some, codes, if◌then◌else◌}
 use Rattle.std.specs.Str.{bytes_eq}
-use Rattle.replay_top.specs.Command.{Command, Plain}
+use Rattle.tool_commands.specs.Command.{Command, Plain}
 
 pub record RunCommand : Type 0 where
   pub graph : List ℕ

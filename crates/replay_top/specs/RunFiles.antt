@@ -17,7 +17,7 @@ use Rattle.flow_saver.specs.Ending.{IsTornHistory}
 use Rattle.flow_saver.specs.HistoryFiles.{HoldsFilesOf, HoldsGroupsOf, rows_files}
 use Rattle.replay_top.specs.LogFiles.{log_name, log_text, log_files}
 use Rattle.replay_top.specs.RunCommand.{RunCommand}
-use Rattle.replay_top.specs.Works.{Source}
+use Rattle.tool_commands.specs.Works.{Source}
 
 -- what is written once the groups stand: the rows, and the log's text last
 abbrev pub later_files : RunCommand → Source → Past → List OutFile

@@ -4,10 +4,10 @@ use Rattle.nd_base.specs.GraphRules.{IsGraph}
 use Rattle.edge_traits.specs.Files.{Files}
 use Rattle.nd_stack.specs.KeptStacks.{IsKeptStack}
 use Rattle.graph_conf.specs.Loads.{limit_fault}
-use Rattle.replay_top.specs.declared.status.Status.TheVariants.{Usage}
-use Rattle.replay_top.specs.Outcomes.{Outcome, Refused, Leads}
+use Rattle.tool_commands.specs.declared.status.Status.TheVariants.{Usage}
+use Rattle.tool_commands.specs.Outcomes.{Outcome, Refused, Leads}
 use Rattle.replay_top.specs.RunCommand.{RunCommand}
-use Rattle.replay_top.specs.Works.{Source, sources}
+use Rattle.tool_commands.specs.Works.{Source, sources}
 
 -- what a run asks its files for; no run is refused at once
 abbrev pub sources_of : Option RunCommand → Outcome Source

@@ -5,9 +5,9 @@ use Rattle.edge_traits.specs.Files.{Files}
 use Rattle.edge_traits.specs.Written.{with_written}
 use Rattle.graph_files.specs.BegunFiles.{AreBegun}
 use Rattle.graph_files.specs.OutFiles.{OutFile, with_files}
-use Rattle.replay_top.specs.declared.status.Status.{Status}
-use Rattle.replay_top.specs.declared.status.Status.TheVariants.{Done, ShelfFault, OutFault, OutOfMemory}
-use Rattle.replay_top.specs.Printed.{IsCutShort}
+use Rattle.tool_commands.specs.declared.status.Status.{Status}
+use Rattle.tool_commands.specs.declared.status.Status.TheVariants.{Done, ShelfFault, OutFault, OutOfMemory}
+use Rattle.tool_commands.specs.Printed.{IsCutShort}
 
 -- writing the rows and the log, one file after the other
 abbrev pub LaterStops : Status → (held : Option Files) → List OutFile → (now : Option Files) → (before after : ℕ) → Type 0

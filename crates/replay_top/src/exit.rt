@@ -2,8 +2,8 @@
 
 ghost use Rattle.std.specs.Prelude.{◌≡◌, None};
 
-use crate::status::Status;
 use flow_journal::Log;
+use tool_commands::Status;
 
 /// How a run ended.
 #[derive(Drop)]

@@ -6,25 +6,23 @@ ghost use Rattle.nd_base.specs.GraphRules.{IsGraph};
 ghost use Rattle.run_report.specs.Report.{report};
 ghost use Rattle.run_report.specs.Text.{report_text};
 ghost use Rattle.graph_files.specs.OutFiles.{with_files};
-ghost use Rattle.replay_top.specs.Answers.{status_of, IsRefusal};
-ghost use Rattle.replay_top.specs.Claims.{Completes};
+ghost use Rattle.tool_commands.specs.Answers.{status_of, IsRefusal};
+ghost use Rattle.tool_commands.specs.Claims.{Completes};
 ghost use Rattle.replay_top.specs.RunAnswers.{run_objects_of, RunEnds, IsRunCause, OfLog, HasFinished, IsRunDone, IsRunTorn, IsRunCutShort};
 ghost use Rattle.replay_top.specs.MeasuredFiles.{measured_files};
-ghost use Rattle.replay_top.specs.Outcomes.{Leads};
+ghost use Rattle.tool_commands.specs.Outcomes.{Leads};
 ghost use Rattle.replay_top.specs.RunCommand.{run_command_of};
 ghost use Rattle.replay_top.specs.RunSources.{sources_of};
 ghost use Rattle.replay_top.specs.LogFiles.{log_files};
 ghost use Rattle.replay_top.specs.RunWords.{run_told};
 ghost use Rattle.replay_top.specs.RunStages.{LaterStops, RestEnds, RestCause};
-ghost use Rattle.replay_top.specs.Stages.{PrintStops};
+ghost use Rattle.tool_commands.specs.Stages.{PrintStops};
 
 use crate::exit::{Exit, unfinished};
 use crate::histories::run_plan;
-use crate::printing::print;
 use crate::run_rows::save_later;
 use crate::run_sources::load_run;
 use crate::run_words::{RunWords, run_in};
-use crate::status::{Status, status_of};
 use edge_traits::{Clock, Gate, Library, Shelf, Sink};
 use flow_journal::Log;
 use flow_run::RunEnd;
@@ -34,6 +32,7 @@ use run_report::{counters, report_text};
 use std::alloc::Global;
 use std::sync::Wait;
 use std::thread::Threads;
+use tool_commands::{Status, print, status_of};
 
 /// Writes the rows of the statistics nodes, and the log's text where `logs` says so.
 fn save_rest<K: Shelf>(

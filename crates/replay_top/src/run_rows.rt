@@ -18,6 +18,7 @@ use flow_journal::{Log, write_text};
 use nd_base::{Graph, Kind, Measure, NodeRule};
 use nd_stats::row_text;
 use std::alloc::Global;
+use tool_commands::save_text;
 
 /// Writes the rows of these measures under a name. The file is there also where it has no row.
 fn save_measures<K: Shelf>(
@@ -35,18 +36,6 @@ fn save_measures<K: Shelf>(
         let row = row_text(alloc, measure)?;
         shelf.append(name, row.as_bytes())?;
     }
-    shelf.finish(name)?;
-    Ok(())
-}
-
-/// Writes a text under a name.
-fn save_text<K: Shelf>(shelf: &mut K, name: &str, text: &str) -> Result<(), SaveFault>
-    ensures ok { OnOk result (K.held shelf.new ≡ with_file (K.held shelf.old) name.now text.now) }
-    ensures err { OnErr result (IsBegun (K.held shelf.old) name.now text.now (K.held shelf.new)) }
-    ensures cause { IsSaveCause result (K.faults shelf.old) (K.faults shelf.new) }
-{
-    shelf.create(name)?;
-    shelf.append(name, text.as_bytes())?;
     shelf.finish(name)?;
     Ok(())
 }

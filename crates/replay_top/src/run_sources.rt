@@ -2,17 +2,15 @@
 
 ghost use Rattle.std.specs.Prelude.{◌≡◌, Err, OnOk, IfOk, IfErr};
 ghost use Rattle.chain_plain.specs.Plans.{plan_of};
-ghost use Rattle.replay_top.specs.Outcomes.{Leads};
+ghost use Rattle.tool_commands.specs.Outcomes.{Leads};
 ghost use Rattle.replay_top.specs.RunSources.{IsSourceRead};
-ghost use Rattle.replay_top.specs.Stages.{ReadStops};
-ghost use Rattle.replay_top.specs.Works.{sources};
+ghost use Rattle.tool_commands.specs.Stages.{ReadStops};
+ghost use Rattle.tool_commands.specs.Works.{sources};
 
-use crate::plain::plan_within;
-use crate::sources::{load_graph, load_stack};
-use crate::status::Status;
 use edge_traits::Library;
 use nd_base::{Plan, Stack};
 use std::alloc::Global;
+use tool_commands::{Status, load_graph, load_stack, plan_within};
 
 /// Reads a graph and a stack that the graph may go over.
 pub(crate) fn load_run<L: Library>(

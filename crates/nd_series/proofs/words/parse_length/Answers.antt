@@ -11,4 +11,4 @@ in_range text (Some n) e = (number-spelled 4 1 4096 text n e).range
 
 pub returns-clause-range : goal.returns-clause-range
 returns-clause-range c =
-    subst (λ found. IfSome found (λ most. IsBetween 1 4096 most)) (sym c.number.ensures) (in_range c.args.text.now (length_in c.args.text.now) refl)
+    subst (λ found. IfSome found (λ most. IsBetween 1 4096 most)) (sym c.number.ensures.value) (in_range c.args.text.now (length_in c.args.text.now) refl)

@@ -1,4 +1,4 @@
-use Rattle.replay_top.proofs.Leads.{run_refused, run_asked}
+use Rattle.replay_top.proofs.RunLaws.{run_refused, run_asked}
 use Rattle.replay_top.proofs.laws.runs_are_refused_as_plain.Goals as goal
 
 pub returns-clause-refusals : goal.returns-clause-refusals

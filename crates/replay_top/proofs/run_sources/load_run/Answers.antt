@@ -1,7 +1,7 @@
 use Rattle.std.proofs.Common.{◌≡◌, ap, ◌∙◌}
 use Rattle.std.proofs.lemmas.Result.{err_from_is_err_and}
 use Rattle.nd_base.specs.declared.plan.Plan.{Plan}
-use Rattle.replay_top.proofs.Leads.{unread-graph, unread-stack, unread-limit, sources_read}
+use Rattle.tool_commands.proofs.Leads.{unread-graph, unread-stack, unread-limit, sources_read}
 use Rattle.replay_top.proofs.run_sources.load_run.Goals as goal
 
 pub returns-in_err-graph-clause-err : goal.returns-in_err-graph-clause-err

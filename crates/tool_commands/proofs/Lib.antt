@@ -1,0 +1,16 @@
+pub mod Files
+pub mod PlainRuns
+pub mod Copies
+pub mod Ids
+pub mod EachNode
+pub mod Inputs
+pub mod Outcomes
+pub mod Leads
+pub mod Loads
+pub mod FewFiles
+pub mod Sizes
+pub mod StackEnds
+pub mod StackFiles
+pub mod Stops
+pub mod Claims
+pub mod Commands

@@ -1,0 +1,36 @@
+use Rattle.std.proofs.Common.{◌≡◌, false, sym, subst, refl, ◌∙◌}
+use Rattle.std.specs.Prelude.{IfSome}
+use Rattle.std.proofs.lemmas.Result.{err_from_is_err_and}
+use Rattle.tool_commands.specs.Command.{Correct}
+use Rattle.tool_commands.specs.Works.{same_sizes}
+use Rattle.tool_commands.proofs.Leads.{correct_sizes, correct_to}
+use Rattle.tool_commands.proofs.Sizes.{dark_count}
+use Rattle.tool_commands.proofs.correct.correct.Goals as goal
+
+pub returns-in_err-dark-2-clause-ends : goal.returns-in_err-dark-2-clause-ends
+returns-in_err-dark-2-clause-ends g c =
+    let p = err_from_is_err_and c.from_residual-in_err-dark-2.result c.from_residual-in_err-dark-2.ensures.1 in
+    let s = c.in_ok-stack.stack in
+    let d = c.in_ok-dark.ensures.ok in
+    let read = (rw c.in_ok-dark.ensures.files at c.in_ok-stack.ensures.ok) in
+    let other = (rw (c.as_slice-dims.ensures, c.shape.ensures.value) at c.in_err-dark-2.ensures.err) in
+    rw (p.1, p.2, other.0) (
+      correct_sizes _ c.args.rule.now c.args.dark.now c.args.stack.now c.args.name.now d.0 d.1 s read
+          (subst (λ o. IfSome o (λ a. same_sizes a.dims s.shape.dims ≡ false)) d.3 other.1),
+      (refl, refl),
+    )
+
+pub write_changed-requires-clause-fits : goal.write_changed-requires-clause-fits
+write_changed-requires-clause-fits g c =
+    let d = c.in_ok-dark.ensures.ok in
+    let fits = (rw (c.as_slice-dims.ensures, c.shape.ensures.value) at c.in_ok-dark-2.ensures.ok) in
+    (c.requires, dark_count d.0 c.in_ok-dark-2.dark c.in_ok-stack.stack.shape.dims d.2 (sym d.3 ∙ fits.0) fits.1)
+
+pub returns-clause-ends : goal.returns-clause-ends
+returns-clause-ends g c =
+    let s = c.in_ok-stack.stack in
+    let d = c.in_ok-dark.ensures.ok in
+    let read = (rw c.in_ok-dark.ensures.files at c.in_ok-stack.ensures.ok) in
+    let fits = (rw (c.as_slice-dims.ensures, c.shape.ensures.value) at c.in_ok-dark-2.ensures.ok) in
+    c.write_changed.ensures.ends (g.L.Library.holds c.args.library.now) (Correct c.args.rule.now c.args.dark.now c.args.stack.now c.args.name.now)
+    (correct_to _ c.args.rule.now c.args.dark.now c.args.stack.now c.args.name.now d.0 d.1 s read c.in_ok-dark-2.dark (sym d.3 ∙ fits.0) fits.1)

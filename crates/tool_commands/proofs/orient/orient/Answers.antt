@@ -1,0 +1,21 @@
+use Rattle.std.proofs.Common.{◌≤◌, ◌<◌, length, refl, arith}
+use Rattle.stack_file.specs.TurnedShapes.{oriented-HasSmallDims}
+use Rattle.tool_commands.specs.Command.{Orient}
+use Rattle.tool_commands.proofs.Leads.{orient_one, orient_to}
+use Rattle.tool_commands.proofs.orient.orient.Goals as goal
+
+pub returns-then-dims-lt2-clause-ends : goal.returns-then-dims-lt2-clause-ends
+returns-then-dims-lt2-clause-ends g c =
+    let s = c.in_ok-stack.stack in
+    let few : length s.shape.dims < 2 = (rw (c.as_slice-dims.ensures, c.shape.ensures.value) at c.if-dims-lt2.true) in
+    (orient_one _ c.args.mode c.args.stack.now c.args.name.now s c.in_ok-stack.ensures.ok few, (refl, refl))
+
+pub write_changed-requires-clause-small : goal.write_changed-requires-clause-small
+write_changed-requires-clause-small g c = oriented-HasSmallDims c.args.mode c.in_ok-stack.stack.shape c.in_ok-stack.ensures.kept.dims
+
+pub returns-clause-ends : goal.returns-clause-ends
+returns-clause-ends g c =
+    let s = c.in_ok-stack.stack in
+    let two : 2 ≤ length s.shape.dims = omega (arith, (rw (c.as_slice-dims.ensures, c.shape.ensures.value) at c.if-dims-lt2.false)) in
+    c.write_changed.ensures.ends (g.L.Library.holds c.args.library.now) (Orient c.args.mode c.args.stack.now c.args.name.now)
+    (orient_to _ c.args.mode c.args.stack.now c.args.name.now s c.in_ok-stack.ensures.ok two)

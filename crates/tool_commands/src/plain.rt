@@ -1,0 +1,98 @@
+//! `plain GRAPH STACK PREFIX`: runs a graph over a stack in one thread, without drops.
+
+ghost use Rattle.std.specs.Prelude.{◌≡◌, None, Some, IfOk, OnOk, IfErr};
+ghost use Rattle.edge_traits.specs.Written.{with_written};
+ghost use Rattle.nd_base.specs.GraphRules.{IsGraph};
+ghost use Rattle.nd_stack.specs.KeptStacks.{IsKeptStack};
+ghost use Rattle.chain_plain.specs.Plans.{plan_of};
+ghost use Rattle.graph_conf.specs.Loads.{limit_fault};
+ghost use Rattle.tool_commands.specs.Answers.{objects_of, Ends, status_of};
+ghost use Rattle.tool_commands.specs.Causes.{IsCause};
+ghost use Rattle.tool_commands.specs.Command.{Plain};
+ghost use Rattle.graph_files.specs.OutFiles.{plain_files, with_files};
+ghost use Rattle.tool_commands.specs.PlainText.{plain_text};
+ghost use Rattle.tool_commands.specs.Stages.{PlanStops, SaveStops, PrintStops};
+
+use crate::printing::print;
+use crate::prints::plain_text;
+use crate::sources::{load_graph, load_stack};
+use crate::status::Status;
+use chain_plain::plan;
+use edge_traits::{Library, Shelf, Sink};
+use graph_conf::check_load;
+use nd_base::{Graph, Plan, Stack};
+use plain_saver::save_files;
+use std::alloc::Global;
+
+/// The plan of a graph over a stack that passes none of its limits.
+pub fn plan_within(alloc: Global, graph: Graph, stack: &Stack) -> Result<Plan, Status>
+    requires graph { IsGraph graph }
+    requires kept { IsKeptStack stack.now }
+    ensures plan { IfOk result (λ plan. plan ≡ plan_of graph stack.now) }
+    ensures within { OnOk result (limit_fault graph stack.now ≡ None) }
+    ensures err { IfErr result (λ s. PlanStops s graph stack.now) }
+{
+    let plan = plan(alloc, graph, stack)?;
+    check_load(&plan.graph, stack, &plan)?;
+    Ok(plan)
+}
+
+/// Writes the files of all nodes.
+pub(crate) fn save_plain<K: Shelf>(
+    alloc: Global,
+    shelf: &mut K,
+    prefix: &str,
+    plan: &Plan,
+    stack: &Stack,
+) -> Result<(), Status>
+    requires graph { IsGraph plan.now.graph }
+    requires plan { plan.now ≡ plan_of plan.now.graph stack.now }
+    requires kept { IsKeptStack stack.now }
+    requires within { limit_fault plan.now.graph stack.now ≡ None }
+    ensures ok { OnOk result (K.held shelf.new ≡ with_files (K.held shelf.old) (plain_files plan.now.graph stack.now prefix.now)) }
+    ensures stays { OnOk result (K.faults shelf.new ≡ K.faults shelf.old) }
+    ensures err { IfErr result (λ s. SaveStops s (K.held shelf.old) (plain_files plan.now.graph stack.now prefix.now) (K.held shelf.new) (K.faults shelf.old)
+        (K.faults shelf.new)) }
+{
+    Ok(save_files(alloc, shelf, prefix, plan, stack)?)
+}
+
+/// Prints how many frames there are, and how many arrays went out of each node.
+fn print_plain<T: Sink>(
+    alloc: Global,
+    out: &mut T,
+    plan: &Plan,
+    stack: &Stack,
+) -> Result<(), Status>
+    requires graph { IsGraph plan.now.graph }
+    ensures ok { OnOk result (T.written out.new ≡ with_written (T.written out.old) (plain_text plan.now.graph stack.now)) }
+    ensures stays { OnOk result (T.faults out.new ≡ T.faults out.old) }
+    ensures err { IfErr result
+        (λ s. PrintStops s (T.written out.old) (plain_text plan.now.graph stack.now) (T.written out.new) (T.faults out.old) (T.faults out.new)) }
+{
+    let text = plain_text(alloc, plan, stack)?;
+    print(out, text.as_str())
+}
+
+/// Runs a graph over a stack in one thread: writes the files of each node, and prints how many arrays went out of it.
+pub(crate) fn plain<L: Library, K: Shelf, T: Sink>(
+    alloc: Global,
+    graph: &str,
+    name: &str,
+    prefix: &str,
+    library: &mut L,
+    shelf: &mut K,
+    out: &mut T,
+) -> Result<(), Status>
+    ensures ends { Ends (status_of result) (Some (Plain graph.now name.now prefix.now))
+        (objects_of (L.holds library.old) (K.held shelf.old) (K.held shelf.new) (T.written out.old) (T.written out.new)) }
+    ensures cause { IsCause (status_of result) (record { library = L.faults library.old; shelf = K.faults shelf.old; sink = T.faults out.old })
+        (record { library = L.faults library.new; shelf = K.faults shelf.new; sink = T.faults out.new }) }
+    ensures library { L.holds library.new ≡ L.holds library.old }
+{
+    let graph = load_graph(alloc, library, graph)?;
+    let stack = load_stack(alloc, library, name)?;
+    let plan = plan_within(alloc, graph, &stack)?;
+    save_plain(alloc, shelf, prefix, &plan, &stack)?;
+    print_plain(alloc, out, &plan, &stack)
+}
