@@ -17,7 +17,7 @@ import sys
 import tomllib
 
 ROOT = os.path.dirname(os.path.dirname(os.path.realpath(__file__)))
-KINDS = ("roi", "stats", "circular", "file")
+KINDS = ("roi", "stats", "circular", "file", "scatter")
 WIDTHS_OF_SAMPLES = {"Int8": 1, "UInt8": 1, "Int16": 2, "UInt16": 2, "Int32": 4, "UInt32": 4}
 WIDTHS = {1: 1, 2: 1, 3: 2, 4: 4, 5: 4, 6: 8}
 TYPES = {1: "byte", 2: "char", 3: "short", 4: "int", 5: "float", 6: "double"}
