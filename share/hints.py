@@ -17,7 +17,8 @@ import sys
 import tomllib
 
 ROOT = os.path.dirname(os.path.dirname(os.path.realpath(__file__)))
-KINDS = ("roi", "stats", "circular", "file")
+KINDS = ("roi", "stats", "circular", "file", "scatter")
+KINDS_OF_ONE_THREAD = ("circular", "file", "scatter")
 WIDTHS_OF_SAMPLES = {"Int8": 1, "UInt8": 1, "Int16": 2, "UInt16": 2, "Int32": 4, "UInt32": 4}
 WIDTHS = {1: 1, 2: 1, 3: 2, 4: 4, 5: 4, 6: 8}
 TYPES = {1: "byte", 2: "char", 3: "short", 4: "int", 5: "float", 6: "double"}
@@ -577,9 +578,9 @@ def tell_losses(report, call):
         rows = [line.split() for line in file]
     try:
         graph = Graph(call["GRAPH"])
-        run, inputs = graph.run, {it.get("name"): it.get("input") for it in graph.nodes}
+        run, nodes = graph.run, {it.get("name"): it for it in graph.nodes}
     except (OSError, ValueError):
-        run, inputs = {}, {}
+        run, nodes = {}, {}
     frames = int(rows[0][1])
     pool = f"pool = 0 under [run], which is no limit, keeps them; one above {run.get('pool', 0)} may"
     for words in rows[1:]:
@@ -590,8 +591,10 @@ def tell_losses(report, call):
             say(f"{count('refused')} of {count('offered')} frames were refused at {name}: the pool was full. {pool} (docs/report.md)")
         if count("full"):
             queue = f"queue = {min(frames, LONGEST_QUEUE)} at {name}"
-            helps = f"{queue} keeps them, and more threads there take them faster"
-            if inputs.get(name, "driver") == "driver" and run.get("feed") != "wait":
+            node = nodes.get(name, {})
+            faster = "" if node.get("kind") in KINDS_OF_ONE_THREAD else ", and more threads there take them faster"
+            helps = f"{queue} keeps them{faster}"
+            if node.get("input", "driver") == "driver" and run.get("feed") != "wait":
                 helps = f'feed = "wait" under [run], or {queue}, keeps them'
             say(f"{count('full')} of {count('offered')} arrays were dropped at {name}: its queue was full. {helps} (docs/report.md)")
         if count("pool"):

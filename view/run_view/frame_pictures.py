@@ -78,7 +78,7 @@ def axis_of(graph: Graph, node: Node, layout: Layout, dimension: int) -> Axis:
     offset, step, reverse = layout.offset[dimension], layout.binning[dimension], layout.reverse[dimension]
     above = graph.above(node)
     regions = [other for other in above if other.kind == "roi"]
-    known = all(other.kind in ("roi", "stats", "circular") for other in above)
+    known = all(other.kind in ("roi", "stats", "circular", "scatter") for other in above)
     if known and not regions and not reverse:
         return Axis(offset, step, True)
     if known and len(regions) == 1 and _item(regions[0], "bin", dimension, 1) == step:

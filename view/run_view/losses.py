@@ -59,7 +59,7 @@ def _at(graph: Graph, node: Node, counters: Counters) -> list[Loss]:
     causes = {
         "full": (
             f"dropped at {node.name}: its queue, which takes {node.queue}, was full.",
-            f"{'a longer queue' if node.kind in ('circular', 'file') else 'more threads, a longer queue'}{wait}",
+            f"{'a longer queue' if node.kind in ('circular', 'file', 'scatter') else 'more threads, a longer queue'}{wait}",
         ),
         "pool": (f"dropped at {node.name}: the pool ({_pool(graph)}) had no room for what it makes of them.", _MORE_POOL),
         "sort": (
