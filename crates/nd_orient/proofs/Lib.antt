@@ -1,8 +1,10 @@
 pub mod Parts
 pub mod Turns
 pub mod Indices
+pub mod Bytes
 pub mod Composition
 pub mod Corrected
 pub mod Filled
 pub mod Lines
 pub mod Quotients
+pub mod Reversed

@@ -1,5 +1,5 @@
 -- Samples by their places, and what the walk over a plane of dimensions 0 and 1 reads.
-use Rattle.std.specs.Prelude.{ℕ, ℤ, ◌+◌, ◌*◌, List, take, drop, if◌then◌else◌}
+use Rattle.std.specs.Prelude.{◌≡◌, ℕ, ℤ, ◌-◌, ◌/◌, ◌%◌, ◌+◌, ◌*◌, List, take, drop, if◌then◌else◌}
 use Rattle.nd_base.specs.declared.array.SampleType.{SampleType}
 use Rattle.nd_base.specs.Samples.{width, number}
 use Rattle.nd_orient.specs.declared.samples.Plane.{Plane}
@@ -12,6 +12,10 @@ cell width bytes k = take width (drop (k * width) bytes)
 -- the number of sample k
 abbrev pub stored : SampleType → List ℕ → ℕ → ℤ
 stored kind bytes k = number kind (cell (width kind) bytes k)
+
+-- the byte that byte i of n samples is where the last of them comes first
+abbrev pub turned : (width n i : ℕ) → ℕ
+turned width n i = (n - 1 - i / width) * width + i % width
 
 -- the size of the output's dimension 0
 abbrev pub line_size : Plane → ℕ
@@ -32,3 +36,7 @@ row p x y = if p.turn.swaps then along p.turn.x_down p.rows x else along p.turn.
 -- its place in the plane
 abbrev pub source : Plane → (x y : ℕ) → ℕ
 source p x y = column p x y + p.columns * row p x y
+
+-- place k of the output's plane has the sample that it reads
+abbrev pub IsFilled : (width : ℕ) → Plane → (input out : List ℕ) → (k : ℕ) → Type 0
+IsFilled width p input out k = cell width out k ≡ cell width input (source p (k % line_size p) (k / line_size p))

@@ -93,7 +93,8 @@ fn corrected_bytes(
     requires rule { IsCorrectRule rule.now }
     requires sizes { sizes_of dark.now.dims ≡ sizes_of array.now.dims }
     ensures size { IfOk result (λ bytes. length bytes.items ≡ sample_count array.now.dims * width array.now.kind) }
-    ensures samples { IfOk result (λ bytes. samples_of array.now.kind bytes.items ≡ corrected_samples rule.now array.now.kind dark.now.samples array.now.samples) }
+    ensures samples { IfOk result (λ bytes. samples_of array.now.kind bytes.items
+        ≡ corrected_samples rule.now array.now.kind dark.now.samples array.now.samples) }
 {
     let input = samples_in(array);
     let dark = samples_in(dark);

@@ -7,6 +7,7 @@ mod correction;
 mod dims;
 mod laws;
 mod modes;
+mod reverse;
 mod rule;
 mod samples;
 mod scale;

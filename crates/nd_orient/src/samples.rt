@@ -1,14 +1,18 @@
 //! The samples of an oriented array.
 
-ghost use Rattle.std.specs.Prelude.{◌≡◌, ℕ, ◌+◌, ◌*◌, ◌<◌, ◌≤◌, length, IsTrue};
+ghost use Rattle.std.specs.Prelude.{◌≡◌, true, false, ℕ, ◌+◌, ◌*◌, ◌<◌, ◌≤◌, length, IsTrue};
 ghost use Rattle.nd_base.specs.Samples.{width, samples_of};
 ghost use Rattle.nd_base.specs.Shapes.{has_dimensions, sample_count, most_samples};
 ghost use Rattle.nd_orient.specs.Orientation.{along, turn_of, oriented_samples};
-ghost use Rattle.nd_orient.specs.Walk.{cell, line_size, line_count, column, row, source};
+ghost use Rattle.nd_orient.specs.Walk.{cell, line_size, line_count, column, row, source, IsFilled};
 
-use crate::cells::copy_sample;
+use crate::cells::{copy_sample, copy_samples};
+use crate::reverse::copy_down;
 use crate::turn::{Turn, turn_of};
-use nd_base::{Dim, SampleType};
+use nd_base::{Dim, MOST_SAMPLES, SampleType};
+
+/// The side of a block of samples that are read by columns.
+const SIDE: usize = 16;
 
 /// A plane of dimensions 0 and 1 of the input, and what a mode does to it.
 #[derive(Clone, Copy, Debug)]
@@ -98,21 +102,171 @@ impl Plane {
     }
 }
 
-/// Fills line `y` of the output's plane.
+/// What a plane is filled from: its samples have `width` bytes each.
+#[derive(Clone, Copy)]
+struct Job<'a> {
+    width: usize,
+    plane: Plane,
+    input: &'a [u8],
+}
+
+/// A block of the output's plane: lines `top` to `bottom - 1`, and of each the samples `left` to `right - 1`.
+#[derive(Clone, Copy)]
+struct Block {
+    left: usize,
+    right: usize,
+    top: usize,
+    bottom: usize,
+}
+
+/// Fills line `y` of a block, sample by sample.
 #[inline(always)]
-fn fill_line(width: usize, plane: Plane, input: &[u8], y: usize, out: &mut [u8])
-    requires few { plane.columns * plane.rows ≤ most_samples }
-    requires input { length input.now ≡ plane.columns * plane.rows * width }
-    requires y { y < line_count plane }
-    requires output { length out.old ≡ line_size plane * width }
-    ensures { (x : ℕ) → x < line_size plane → cell width out.new x ≡ cell width input.now (source plane x y) }
+fn fill_each(job: &Job, block: Block, y: usize, out: &mut [u8])
+    requires few { job.now.plane.columns * job.now.plane.rows ≤ most_samples }
+    requires input { length job.now.input.now ≡ job.now.plane.columns * job.now.plane.rows * job.now.width }
+    requires output { length out.old ≡ job.now.plane.columns * job.now.plane.rows * job.now.width }
+    requires right { block.right ≤ line_size job.now.plane }
+    requires y { y < line_count job.now.plane }
+    ensures line { (x : ℕ) → block.left ≤ x → x < block.right
+        → IsFilled job.now.width job.now.plane job.now.input.now out.new (y * line_size job.now.plane + x) }
+    ensures keeps { (k : ℕ) → IsFilled job.now.width job.now.plane job.now.input.now out.old k
+        → IsFilled job.now.width job.now.plane job.now.input.now out.new k }
 {
-    for x in 0..plane.line_size() {
-        copy_sample(width, input, plane.source(x, y), out, x);
+    let start = y * job.plane.line_size();
+    for x in block.left..block.right {
+        let from = job.plane.source(x, y);
+        copy_sample(job.width, job.input, from, out, start + x);
     }
 }
 
-/// Fills the output's plane.
+/// Fills line `y` of a block that is read as it stands.
+#[inline(always)]
+fn fill_forward(job: &Job, block: Block, y: usize, out: &mut [u8])
+    requires few { job.now.plane.columns * job.now.plane.rows ≤ most_samples }
+    requires input { length job.now.input.now ≡ job.now.plane.columns * job.now.plane.rows * job.now.width }
+    requires output { length out.old ≡ job.now.plane.columns * job.now.plane.rows * job.now.width }
+    requires right { block.right ≤ line_size job.now.plane }
+    requires y { y < line_count job.now.plane }
+    requires straight { job.now.plane.turn.swaps ≡ false }
+    requires forward { job.now.plane.turn.x_down ≡ false }
+    ensures line { (x : ℕ) → block.left ≤ x → x < block.right
+        → IsFilled job.now.width job.now.plane job.now.input.now out.new (y * line_size job.now.plane + x) }
+    ensures keeps { (k : ℕ) → IsFilled job.now.width job.now.plane job.now.input.now out.old k
+        → IsFilled job.now.width job.now.plane job.now.input.now out.new k }
+{
+    if block.left < block.right {
+        let to = y * job.plane.line_size() + block.left;
+        let from = job.plane.source(block.left, y);
+        copy_samples(
+            job.width,
+            block.right - block.left,
+            job.input,
+            from,
+            out,
+            to,
+        );
+    }
+}
+
+/// Fills line `y` of a block that is read down its line.
+#[inline(always)]
+fn fill_reversed(job: &Job, block: Block, y: usize, out: &mut [u8])
+    requires few { job.now.plane.columns * job.now.plane.rows ≤ most_samples }
+    requires input { length job.now.input.now ≡ job.now.plane.columns * job.now.plane.rows * job.now.width }
+    requires output { length out.old ≡ job.now.plane.columns * job.now.plane.rows * job.now.width }
+    requires right { block.right ≤ line_size job.now.plane }
+    requires y { y < line_count job.now.plane }
+    requires straight { job.now.plane.turn.swaps ≡ false }
+    requires down { job.now.plane.turn.x_down ≡ true }
+    ensures line { (x : ℕ) → block.left ≤ x → x < block.right
+        → IsFilled job.now.width job.now.plane job.now.input.now out.new (y * line_size job.now.plane + x) }
+    ensures keeps { (k : ℕ) → IsFilled job.now.width job.now.plane job.now.input.now out.old k
+        → IsFilled job.now.width job.now.plane job.now.input.now out.new k }
+{
+    if block.left < block.right {
+        let to = y * job.plane.line_size() + block.left;
+        let from = job.plane.source(block.right - 1, y);
+        copy_down(
+            job.width,
+            block.right - block.left,
+            job.input,
+            from,
+            out,
+            to,
+        );
+    }
+}
+
+/// Fills line `y` of a block.
+#[inline(always)]
+fn fill_line(job: &Job, block: Block, y: usize, out: &mut [u8])
+    requires few { job.now.plane.columns * job.now.plane.rows ≤ most_samples }
+    requires input { length job.now.input.now ≡ job.now.plane.columns * job.now.plane.rows * job.now.width }
+    requires output { length out.old ≡ job.now.plane.columns * job.now.plane.rows * job.now.width }
+    requires right { block.right ≤ line_size job.now.plane }
+    requires y { y < line_count job.now.plane }
+    ensures line { (x : ℕ) → block.left ≤ x → x < block.right
+        → IsFilled job.now.width job.now.plane job.now.input.now out.new (y * line_size job.now.plane + x) }
+    ensures keeps { (k : ℕ) → IsFilled job.now.width job.now.plane job.now.input.now out.old k
+        → IsFilled job.now.width job.now.plane job.now.input.now out.new k }
+{
+    let turn = job.plane.turn;
+    if turn.swaps {
+        fill_each(job, block, y, out);
+    } else if turn.x_down {
+        fill_reversed(job, block, y, out);
+    } else {
+        fill_forward(job, block, y, out);
+    }
+}
+
+/// Fills a block.
+#[inline(always)]
+fn fill_block(job: &Job, block: Block, out: &mut [u8])
+    requires few { job.now.plane.columns * job.now.plane.rows ≤ most_samples }
+    requires input { length job.now.input.now ≡ job.now.plane.columns * job.now.plane.rows * job.now.width }
+    requires output { length out.old ≡ job.now.plane.columns * job.now.plane.rows * job.now.width }
+    requires right { block.right ≤ line_size job.now.plane }
+    requires bottom { block.bottom ≤ line_count job.now.plane }
+    ensures block { (x y : ℕ) → block.left ≤ x → x < block.right → block.top ≤ y → y < block.bottom
+        → IsFilled job.now.width job.now.plane job.now.input.now out.new (y * line_size job.now.plane + x) }
+    ensures keeps { (k : ℕ) → IsFilled job.now.width job.now.plane job.now.input.now out.old k
+        → IsFilled job.now.width job.now.plane job.now.input.now out.new k }
+{
+    for y in block.top..block.bottom {
+        fill_line(job, block, y, out);
+    }
+}
+
+/// Fills lines `top` to `bottom - 1`, in blocks so many samples wide.
+#[inline(always)]
+fn fill_band(job: &Job, wide: usize, top: usize, bottom: usize, out: &mut [u8])
+    requires few { job.now.plane.columns * job.now.plane.rows ≤ most_samples }
+    requires input { length job.now.input.now ≡ job.now.plane.columns * job.now.plane.rows * job.now.width }
+    requires output { length out.old ≡ job.now.plane.columns * job.now.plane.rows * job.now.width }
+    requires wide { 0 < wide }
+    requires bottom { bottom ≤ line_count job.now.plane }
+    ensures band { (x y : ℕ) → x < line_size job.now.plane → top ≤ y → y < bottom
+        → IsFilled job.now.width job.now.plane job.now.input.now out.new (y * line_size job.now.plane + x) }
+    ensures keeps { (k : ℕ) → IsFilled job.now.width job.now.plane job.now.input.now out.old k
+        → IsFilled job.now.width job.now.plane job.now.input.now out.new k }
+{
+    let line = job.plane.line_size();
+    let mut left = 0;
+    while left < line {
+        let right = left + wide.min(line - left);
+        let block = Block {
+            left,
+            right,
+            top,
+            bottom,
+        };
+        fill_block(job, block, out);
+        left = right;
+    }
+}
+
+/// Fills the output's plane, block by block where it reads columns, so that what it reads and writes stays near.
 #[inline(always)]
 fn fill_plane(width: usize, plane: Plane, input: &[u8], out: &mut [u8])
     requires some { 0 < plane.columns * plane.rows }
@@ -123,10 +277,22 @@ fn fill_plane(width: usize, plane: Plane, input: &[u8], out: &mut [u8])
     ensures { (x y : ℕ) → x < line_size plane → y < line_count plane
         → cell width out.new (y * line_size plane + x) ≡ cell width input.now (source plane x y) }
 {
-    let size = plane.line_size() * width;
-    for y in 0..plane.line_count() {
-        let at = y * size;
-        fill_line(width, plane, input, y, &mut out[at..at + size]);
+    let job = Job {
+        width,
+        plane,
+        input,
+    };
+    let lines = plane.line_count();
+    let (wide, high) = if plane.turn.swaps {
+        (SIDE, SIDE)
+    } else {
+        (MOST_SAMPLES as usize, 1)
+    };
+    let mut top = 0;
+    while top < lines {
+        let bottom = top + high.min(lines - top);
+        fill_band(&job, wide, top, bottom, out);
+        top = bottom;
     }
 }
 

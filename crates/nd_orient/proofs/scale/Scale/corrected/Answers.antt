@@ -36,13 +36,16 @@ returns c =
     let difference : to_z w64 (of_z w64 (to_z w64 (of_z w64 c.args.sample) -ℤ to_z w64 (of_z w64 c.args.dark))) ≡ c.args.sample -ℤ c.args.dark =
     omega (arith, ints, c.requires.sample, c.requires.dark) in
     let quotient = c.scaled.ensures ∙ ap (λ x. nearest (negsuc 1099511627775) (pos 1099511627776) (int_div (x *ℤ rule.num) rule.den)) difference in
-    let sum : to_z w64 (of_z w64 (to_z w64 (of_z w64 c.scaled.result) +ℤ to_z w64 (of_z w64 c.from.result))) ≡ c.scaled.result +ℤ rule.offset = omega (arith, ints) in
+    let sum : to_z w64 (of_z w64 (to_z w64 (of_z w64 c.scaled.result) +ℤ to_z w64 (of_z w64 c.from.result))) ≡ c.scaled.result +ℤ rule.offset =
+    omega (arith, ints) in
     let high : to_z w64 (of_z w64 c.args.self.high) ≡ c.args.self.high = omega (arith, ints, c.requires.high) in
     let low : to_z w64 (of_z w64 c.args.self.low) ≡ c.args.self.low = omega (arith, ints, c.requires.low) in
     let least_fits : FitsSigned w64 c.min.result = search rules in
     let most_fits : FitsSigned w64 c.max.result = search rules in
-    let least = c.min.ensures.value ∙ ap (λ x. int_min x (to_z w64 (of_z w64 c.args.self.high))) sum ∙ ap (int_min (c.scaled.result +ℤ rule.offset)) high in
-    let most = c.max.ensures.value ∙ ap (λ x. int_max x (to_z w64 (of_z w64 c.args.self.low))) (to_z-of_z w64 c.min.result least_fits) ∙ ap (int_max c.min.result) low in
+    let least = c.min.ensures.value ∙ ap (λ x. int_min x (to_z w64 (of_z w64 c.args.self.high))) sum
+    ∙ ap (int_min (c.scaled.result +ℤ rule.offset)) high in
+    let most = c.max.ensures.value ∙ ap (λ x. int_max x (to_z w64 (of_z w64 c.args.self.low))) (to_z-of_z w64 c.min.result least_fits)
+    ∙ ap (int_max c.min.result) low in
     to_z-of_z w64 c.max.result most_fits
     ∙ limited c.args.self.low c.args.self.high (c.scaled.result +ℤ rule.offset) c.min.result c.max.result least most
     ∙ ap (λ x. nearest c.args.self.low c.args.self.high (x +ℤ rule.offset)) quotient
