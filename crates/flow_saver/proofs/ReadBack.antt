@@ -52,7 +52,7 @@ use Rattle.graph_files.specs.OutgoingLaws.{content-HasShape}
 use Rattle.flow_saver.specs.ReadBack.{GroupsReadBack}
 use Rattle.flow_saver.proofs.Puts.{puts-few, puts-named}
 
--- DIMENSIONS, as replay_top has them for a plain run, above this crate
+-- DIMENSIONS, as tool_commands has them for a plain run
 
 clamped_fits : (z : ℤ) → FitsSigned w32 (clamped_i32 z)
 clamped_fits z = omega (arith, ints, int_min_is z (pos 2147483647), int_max_is (negsuc 2147483647) (int_min z (pos 2147483647)))
