@@ -11,7 +11,7 @@ nanoseconds() {
 # The nanoseconds of processor time that a command takes, its system calls included.
 processor() {
     local TIMEFORMAT='%U %S'
-    { time "$@" > /dev/null; } 2>&1 | awk '{ printf "%d\n", ($1 + $2) * 1e9 }'
+    { time "$@" > /dev/null; } 2>&1 | awk '{ printf "%.0f\n", ($1 + $2) * 1e9 }'
 }
 
 # The median of the numbers on standard input, one a line.
