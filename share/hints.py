@@ -3,6 +3,7 @@
     hints.py refusal LINE COMMAND NAME=WORD ..       what can be done after the status that LINE tells
     hints.py losses REPORT COMMAND NAME=WORD ..      what a run lost by its report, and what keeps it
     hints.py time CALLED COMMAND NAME=WORD ..        how long a trial build takes for a stack
+    hints.py files PREFIX COMMAND NAME=WORD ..       the first file of each node of a graph that writes, each name ended by 00
 
 COMMAND is the program's command, and NAME=WORD are its words, each under the name that the help has for it. What a key of a graph may be is read from the
 tables of docs/graph.md."""
@@ -604,6 +605,18 @@ def tell_losses(report, call):
             say(f"{count('sort')} of {count('offered')} results were dropped at {name}: its sort list was full. {keeps}")
 
 
+# --- the files of a run
+
+ENDS_OF_FIRST_FILES = {"file": "_000.nc", "stats": ".txt"}
+
+
+def tell_files(prefix, call):
+    names = {f"{prefix}{it['name']}{ENDS_OF_FIRST_FILES[it['kind']]}" for it in Graph(call["GRAPH"]).nodes if it["kind"] in ENDS_OF_FIRST_FILES}
+    if call.command == "run-log":
+        names.add(f"{prefix}log.txt")
+    print(*sorted(names), sep="\0", end="\0")
+
+
 # --- the trial build
 
 
@@ -635,7 +648,7 @@ def tell_time(called, call):
 if __name__ == "__main__":
     what, of, *words = sys.argv[1:]
     try:
-        {"refusal": tell_refusal, "losses": tell_losses, "time": tell_time}[what](of, Call(*words))
+        {"refusal": tell_refusal, "losses": tell_losses, "time": tell_time, "files": tell_files}[what](of, Call(*words))
     except (OSError, ValueError, LookupError, TypeError, AttributeError):
         # What can't be told isn't told: the program's own line stands.
         said.clear()
