@@ -104,7 +104,7 @@ def main(program, runs="100", seed="1"):
         flags = [dice.randrange(5) for _ in range(frames)]
         (room / "stack.nc").write_bytes(stack_bytes(random_ids(dice, frames), flags, width, height))
         (room / "graph.toml").write_text(random_graph(dice, width * height))
-        run = subprocess.run([program, "run-log", "graph.toml", "stack.nc", "x_"], cwd=room, capture_output=True, text=True, check=False)
+        run = subprocess.run([Path(program).resolve(), "run-log", "graph.toml", "stack.nc", "x_"], cwd=room, capture_output=True, text=True, check=False)
         assert run.returncode == 0, (room, run.stderr)
         lines = (room / "x_log.txt").read_text().split("\n")[:-1]
         setting = Setting(room / "graph.toml", Stack(room / "stack.nc"))
