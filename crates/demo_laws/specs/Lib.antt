@@ -1,0 +1,5 @@
+pub mod Ample
+pub mod AmpleLaws
+pub mod Reports
+pub mod Demo
+pub mod DemoLaws
