@@ -22,8 +22,8 @@ use Rattle.tool_commands.specs.Outcomes.{Leads}
 use Rattle.tool_commands.specs.Printed.{IsCutShort}
 use Rattle.replay_top.specs.RunCommand.{RunCommand}
 use Rattle.replay_top.specs.RunFiles.{HoldsFiles, AreTorn, HaveGroupsBack}
-use Rattle.replay_top.specs.RunSources.{sources_of}
-use Rattle.tool_commands.specs.Works.{Source, sources}
+use Rattle.replay_top.specs.RunSources.{run_sources, sources_of}
+use Rattle.tool_commands.specs.Works.{Source}
 
 -- what the objects of a run tell: those of a command, and the clock its answers to come before the run and after it
 pub record RunObjects : Type 0 where
@@ -40,7 +40,7 @@ run_objects_of library shelf shelf_now sink sink_now coming later =
 -- The log is a finished history of the graph and the stack that were read, which pass no limit. Unless a role left for want of memory, each role
 -- has made its own moves; and each load was handed the clock's next answer.
 pub record IsLogOf (o : RunObjects) (c : RunCommand) (source : Source) (P : Past) : Type 0 where
-  pub read : Leads o.objects.library (sources c.graph c.stack) (Ok source)
+  pub read : Leads o.objects.library (run_sources c.source) (Ok source)
   pub within : limit_fault source.graph source.stack ≡ None
   pub run : IsFinishedRun (run_setting source.graph source.stack) P
   pub roles : AreOwnMoves (run_setting source.graph source.stack) P
