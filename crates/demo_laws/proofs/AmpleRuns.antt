@@ -1,7 +1,7 @@
 -- Where there is room for all frames nothing is dropped, and each node puts them out in their order.
-use Rattle.std.proofs.Common.{◌≡◌, ◌≢◌, ℕ, zero, suc, ◌+◌, ◌≤◌, ◌<◌, Bool, true, false, not, ◌&&◌, cond, eqb, ltb, leb, List, [], ◌∷◌, ◌++◌, length, map, refl}
+use Rattle.std.proofs.Common.{◌≡◌, ◌≢◌, ℕ, zero, suc, ◌+◌, ◌≤◌, ◌<◌, Bool, true, false, ◌&&◌, eqb, ltb, List, [], ◌∷◌, ◌++◌, length, refl}
 use Rattle.std.proofs.Common.{sym, ap, ◌∙◌, subst, arith, inl, inr, ◌⊎◌, Option, Some, None, length-append}
-use Rattle.std.specs.Prelude.{All, IsTrue, reverse, slice_get, filter, flat_map}
+use Rattle.std.specs.Prelude.{IsTrue, reverse, slice_get, flat_map}
 use Rattle.std.specs.List.{Contains, list_any}
 use Rattle.std.specs.Option.{option_map_or}
 use Rattle.std.proofs.lemmas.Bool.{and_parts, and_from, or_parts, false≢true, true≢false, eq-eqb, eqb-true, ltb-true, ltb-false, lt-ltb, cases_Bool}
@@ -15,47 +15,45 @@ use Rattle.nd_base.specs.declared.graph.Kind.{Kind}
 use Rattle.nd_base.specs.declared.graph.Kind.TheVariants.{Roi, Stats, Circular, File, Scatter}
 use Rattle.nd_base.specs.declared.graph.NodeRule.{NodeRule}
 use Rattle.nd_base.specs.declared.plan.Maker.{Maker}
-use Rattle.nd_base.specs.GraphRules.{IsGraph, IsNode, is_parallel, may_feed, is_source, rule_at}
+use Rattle.nd_base.specs.GraphRules.{IsNode, is_parallel, may_feed, is_source, rule_at}
 use Rattle.chain_plain.specs.OneThread.{kind_outputs, outputs}
-use Rattle.chain_plain.specs.PassingLaws.{rule_within}
 use Rattle.chain_plain.proofs.Depths.{depth}
 use Rattle.chain_plain.proofs.Rules.{stands}
-use Rattle.pool_ledger.specs.Grants.{Block, Answer, Granted, Refused, granted, fit_or_fresh, smallest_fit}
+use Rattle.pool_ledger.specs.Grants.{Block, Refused, granted, fit_or_fresh, smallest_fit}
 use Rattle.flow_journal.specs.declared.entry.Entry.{Entry}
 use Rattle.flow_journal.specs.declared.entry.Entry.TheVariants.{LoadRefused, Tick, Emit, Accept, Full, PoolDrop, Put, SortDrop, Save}
 use Rattle.flow_journal.specs.declared.entry.Why.TheVariants.{Late}
 use Rattle.flow_journal.specs.EntryTests.{is_sort_drop, is_refused_load}
-use Rattle.flow_journal.specs.Setting.{Setting, Node, node, is_node, may_sort, is_sorted, no_node, node_numbers, numbers_from}
+use Rattle.flow_journal.specs.Setting.{Setting, Node, node, may_sort, is_sorted, no_node, node_numbers, numbers_from}
 use Rattle.flow_journal.specs.Turns.{is_dealing, deals}
 use Rattle.flow_journal.specs.Pasts.{Past, frame, comes_at}
 use Rattle.flow_journal.specs.Ended.{now}
 use Rattle.flow_journal.specs.Hands.{standing, is_loaded}
 use Rattle.flow_journal.specs.Offered.{loads, offered}
-use Rattle.flow_journal.specs.Queued.{queued, has_room}
-use Rattle.flow_journal.specs.Unsaved.{saves, standing_saves, is_file}
-use Rattle.flow_journal.specs.Waiting.{Waiting, waiting}
+use Rattle.flow_journal.specs.Queued.{queued}
+use Rattle.flow_journal.specs.Unsaved.{saves, is_file}
+use Rattle.flow_journal.specs.Waiting.{waiting}
 use Rattle.flow_journal.specs.Accounts.{held, is_unplaced, known as known_blocks}
-use Rattle.flow_journal.specs.Breaks.{outs, breaks, breaks_of, out_at}
+use Rattle.flow_journal.specs.Breaks.{outs, breaks_of, out_at}
 use Rattle.flow_journal.specs.Accepted.{accepts, accepted, emitted}
 use Rattle.flow_journal.specs.Histories.{is_legal}
 use Rattle.flow_journal.specs.IndexLaws.{below}
 use Rattle.flow_journal.specs.RunSetting.{work_of, node_of, setting_of}
 use Rattle.flow_journal.proofs.Buckets.{AreBuckets, one_in_buckets}
 use Rattle.flow_journal.proofs.Changes.{offer_laws}
-use Rattle.flow_journal.proofs.Counts.{times_by, queued-by}
+use Rattle.flow_journal.proofs.Counts.{queued-by}
 use Rattle.flow_journal.proofs.Emissions.{sorted-outs}
-use Rattle.flow_journal.proofs.EntryCounts.{count, bit, count-cons, count-append, arrives-le, arrives_at, emits_at, puts_at, puts_of}
+use Rattle.flow_journal.proofs.EntryCounts.{count, bit, count-cons, arrives-le, arrives_at, emits_at, puts_at, puts_of}
 use Rattle.flow_journal.proofs.Histories.{legal-front}
 use Rattle.flow_journal.proofs.Issues.{takes-accepted}
 use Rattle.flow_journal.proofs.Jobs.{puts-taken}
 use Rattle.flow_journal.proofs.Lengths.{length_laws}
 use Rattle.flow_journal.proofs.Offers.{is_number, none_numbered_0, none_arrives}
 use Rattle.flow_journal.proofs.Once.{arrives-few, emitted-count}
-use Rattle.flow_journal.proofs.Outs.{of_index, waits, out_of}
 use Rattle.run_laws.specs.Drops.{load_index, drops, has_drop}
 use Rattle.run_laws.specs.OneThreadLaws.{KeepsOrder}
 use Rattle.run_laws.specs.PlainLaws.{IsSmooth}
-use Rattle.run_laws.specs.Results.{IsFinishedRun, put_out, indices}
+use Rattle.run_laws.specs.Results.{put_out, indices}
 use Rattle.run_laws.proofs.Breaks.{sorted-node}
 use Rattle.run_laws.proofs.Causes.{full-cause, pool-cause, load-cause}
 use Rattle.run_laws.proofs.Driver.{refusals-stand, all-came}
@@ -69,11 +67,11 @@ use Rattle.run_laws.proofs.Offers.{comes}
 use Rattle.run_laws.proofs.PlainRuns.{emitted-outs, accepted-all}
 use Rattle.run_laws.proofs.Runs.{Known, known, node-is, out-emitted, out-saved, outputs-are, parallel-passes, positions}
 use Rattle.run_laws.proofs.SortDrops.{drop-forced}
-use Rattle.demo_laws.specs.Ample.{keeps_all, IsAmpleNode, IsAmple, HasAmpleList}
+use Rattle.demo_laws.specs.Ample.{keeps_all, IsAmpleNode, HasAmpleList}
 use Rattle.demo_laws.specs.AmpleLaws.{IsAmpleRun}
 use Rattle.demo_laws.proofs.InStep.{once-below, length-below, none-breaks}
 use Rattle.demo_laws.proofs.Recorded.{waits-recorded, now-recorded, contains-more}
-use Rattle.demo_laws.proofs.SortedRuns.{IsWhole, whole-in_order}
+use Rattle.demo_laws.proofs.SortedRuns.{whole-in_order}
 
 -- COUNTS
 

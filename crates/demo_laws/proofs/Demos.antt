@@ -1,31 +1,29 @@
 -- The large workload is a graph that has room for all frames of its stack.
-use Rattle.std.proofs.Common.{◌≡◌, ◌≢◌, ℕ, zero, suc, ◌+◌, ◌≤◌, ◌<◌, Bool, true, false, List, [], ◌∷◌, length, map, refl, sym, ap, ◌∙◌, subst, arith, inl, inr}
-use Rattle.std.proofs.Common.{ℤ, pos}
-use Rattle.std.specs.Prelude.{All, AllPairs, IsTrue, ◌+ℤ◌, slice_index_or}
-use Rattle.std.specs.List.{range_with_len, count_by}
+use Rattle.std.proofs.Common.{◌≡◌, ◌≢◌, ℕ, zero, suc, ◌+◌, ◌≤◌, ◌<◌, [], ◌∷◌, length, refl, ap, ◌∙◌, arith, inl, inr}
+use Rattle.std.proofs.Common.{pos}
+use Rattle.std.specs.Prelude.{AllPairs, IsTrue}
+use Rattle.std.specs.List.{count_by}
 use Rattle.std.specs.Str.{bytes_eq}
-use Rattle.std.proofs.lemmas.Bool.{false≢true, true≢false}
+use Rattle.std.proofs.lemmas.Bool.{true≢false}
 use Rattle.std.proofs.lemmas.Int.{ints}
 use Rattle.std.proofs.lemmas.List.{get_or-map}
 use Rattle.std.proofs.lemmas.List.Elements.{All-nil, All-cons}
 use Rattle.std.proofs.lemmas.List.FromFn.{length-map-range_with_len, get_or-map-range_with_len}
 use Rattle.std.proofs.lemmas.List.Kept.{AllPairs-cons}
-use Rattle.nd_base.specs.Array.{Array, StackValue}
+use Rattle.nd_base.specs.Array.{Array}
 use Rattle.nd_base.specs.declared.array.SampleType.TheVariants.{UInt8}
-use Rattle.nd_base.specs.declared.graph.Graph.{Graph}
 use Rattle.nd_base.specs.declared.graph.NodeRule.{NodeRule}
 use Rattle.nd_base.specs.GraphRules.{IsGraph, IsNode, is_source, source_of}
 use Rattle.nd_stack.specs.Generated.{generated_array}
-use Rattle.chain_plain.specs.Plans.{makers_of, plan_of}
+use Rattle.chain_plain.specs.Plans.{makers_of}
 use Rattle.flow_journal.specs.EntryTests.{says_regrown}
 use Rattle.flow_journal.specs.Pasts.{Past}
 use Rattle.flow_journal.specs.RunSetting.{setting_of}
 use Rattle.run_laws.specs.Results.{IsFinishedRun}
-use Rattle.run_report.specs.Report.{report}
 use Rattle.demo_laws.specs.Ample.{IsAmpleNode, IsAmple, HasIdsInTurn, AreTicksWithin, id_of}
 use Rattle.demo_laws.specs.AmpleLaws.{IsAmpleRun}
 use Rattle.demo_laws.specs.Demo.{demo_stack, demo_span, demo_roi, demo_stats, demo_file, demo_graph}
-use Rattle.demo_laws.specs.DemoLaws.{DemosAreGraphs, IsWholeDemo, DemosAreWhole}
+use Rattle.demo_laws.specs.DemoLaws.{IsWholeDemo}
 use Rattle.demo_laws.specs.Reports.{whole_counters}
 use Rattle.demo_laws.proofs.AmpleRuns.{ample-smooth}
 use Rattle.demo_laws.proofs.Reports.{report-whole}

@@ -1,7 +1,7 @@
 -- Indices of frames whose ids go up by one: what goes out without a break, each index once, is those below a number, in their order.
-use Rattle.std.proofs.Common.{◌≡◌, ◌≢◌, ℕ, zero, suc, ◌+◌, ◌≤◌, ◌<◌, Bool, true, false, cond, eqb, ltb, List, [], ◌∷◌, length, refl, sym, ap, ◌∙◌, subst, arith}
+use Rattle.std.proofs.Common.{◌≡◌, ◌≢◌, ℕ, zero, suc, ◌+◌, ◌≤◌, ◌<◌, Bool, true, false, cond, eqb, ltb, List, [], ◌∷◌, length, refl, ap, ◌∙◌, arith}
 use Rattle.std.proofs.Common.{inl, inr, ◌⊎◌, ℤ, pos}
-use Rattle.std.specs.Prelude.{◌+ℤ◌, ◌-ℤ◌, All, slice_index_or}
+use Rattle.std.specs.Prelude.{◌+ℤ◌, All, slice_index_or}
 use Rattle.std.specs.Ordering.{int_eq}
 use Rattle.std.proofs.lemmas.Bool.{and_from, or_cases, or_right, eq-eqb, ne_eqb, ltb-true, ltb-false, lt-ltb, cases_Bool}
 use Rattle.std.proofs.lemmas.Bool.Decides.{Decides-int_eq}
@@ -11,7 +11,7 @@ use Rattle.flow_journal.specs.Setting.{Setting, id_at, first_prev}
 use Rattle.queue_sort.specs.Sorting.{keeps_step}
 use Rattle.flow_journal.specs.Breaks.{prev_of, breaks_of}
 use Rattle.flow_journal.specs.IndexLaws.{below}
-use Rattle.flow_journal.proofs.EntryCounts.{count, bit, count-cons}
+use Rattle.flow_journal.proofs.EntryCounts.{bit, count-cons}
 use Rattle.run_laws.proofs.Falling.{AreInStep, falls, falls_below, times_in}
 
 -- THE NUMBERS BELOW ONE

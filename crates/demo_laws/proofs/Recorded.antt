@@ -1,6 +1,6 @@
 -- What waits has the tick of an entry: nothing is put before the first tick.
-use Rattle.std.proofs.Common.{◌≡◌, ℕ, zero, suc, ◌+◌, ◌≤◌, Bool, true, false, ◌&&◌, cond, eqb, List, [], ◌∷◌, ◌++◌, map, drop, refl, sym, ap, ◌∙◌, subst, arith, inl, inr}
-use Rattle.std.proofs.Common.{◌⊎◌, Some}
+use Rattle.std.proofs.Common.{◌≡◌, ℕ, zero, suc, ◌+◌, ◌≤◌, Bool, true, false, ◌&&◌, cond, eqb, List, [], ◌∷◌, ◌++◌, drop, refl, ap, ◌∙◌, subst, arith, inl, inr}
+use Rattle.std.proofs.Common.{◌⊎◌}
 use Rattle.std.specs.List.{Contains}
 use Rattle.std.proofs.lemmas.Bool.{and_parts, and_from, false≢true, eq-eqb, cases_Bool}
 use Rattle.std.proofs.lemmas.List.Elements.{Contains-append_left, Contains-append_right, Contains-append_cases, Contains-push_cases}
@@ -10,13 +10,12 @@ use Rattle.flow_journal.specs.declared.entry.Entry.TheVariants.{Load, LoadRefuse
 use Rattle.flow_journal.specs.declared.entry.Entry.TheVariants.{SortDrop, Settle, Save, Saved, Close, Leave, Reclaim}
 use Rattle.flow_journal.specs.declared.entry.Why.{Why}
 use Rattle.flow_journal.specs.Setting.{Setting, is_sorted}
-use Rattle.flow_journal.specs.Pasts.{Past, frame, same, comes_at}
+use Rattle.flow_journal.specs.Pasts.{Past, frame, same}
 use Rattle.flow_journal.specs.EntryTests.{is_tick}
 use Rattle.flow_journal.specs.Ended.{now}
 use Rattle.flow_journal.specs.Hands.{let_go, standing, is_free}
-use Rattle.flow_journal.specs.Turns.{offered_to}
-use Rattle.flow_journal.specs.Waiting.{Waiting, waiting, not_waiting, least_first}
-use Rattle.flow_journal.specs.Following.{offer, calls_for, owed}
+use Rattle.flow_journal.specs.Waiting.{Waiting, waiting, not_waiting}
+use Rattle.flow_journal.specs.Following.{calls_for, owed}
 use Rattle.flow_journal.specs.Histories.{is_legal, answers}
 use Rattle.flow_journal.proofs.Counts.{hand-standing}
 use Rattle.flow_journal.proofs.EntryCounts.{count, bit, count-cons, count-append, count-drop, count-let_go, count-let_go-le, owed-first, owed-answered}

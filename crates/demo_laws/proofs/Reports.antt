@@ -1,6 +1,5 @@
 -- What the report of a run counts that has room for all its frames.
-use Rattle.std.proofs.Common.{◌≡◌, ℕ, zero, suc, ◌+◌, ◌-◌, ◌≤◌, ◌<◌, Bool, true, false, List, [], ◌∷◌, length, map, refl, sym, ap, ◌∙◌, arith, inl, inr}
-use Rattle.std.specs.Prelude.{filter}
+use Rattle.std.proofs.Common.{◌≡◌, ℕ, zero, suc, ◌+◌, ◌-◌, ◌≤◌, ◌<◌, Bool, false, List, [], ◌∷◌, length, map, refl, sym, ap, ◌∙◌, arith, inl, inr}
 use Rattle.std.specs.List.{count_by}
 use Rattle.std.proofs.lemmas.Bool.{or_parts, true≢false}
 use Rattle.std.proofs.lemmas.List.{length-map}
@@ -10,21 +9,19 @@ use Rattle.nd_base.specs.Array.{Array, StackValue}
 use Rattle.nd_base.specs.declared.graph.Graph.{Graph}
 use Rattle.nd_base.specs.declared.graph.NodeRule.{NodeRule}
 use Rattle.nd_base.specs.declared.plan.Plan.{Plan}
-use Rattle.nd_base.specs.GraphRules.{rule_at}
 use Rattle.chain_plain.specs.Plans.{plan_of, makers_of}
 use Rattle.flow_journal.specs.declared.entry.Entry.{Entry}
 use Rattle.flow_journal.specs.declared.entry.Entry.TheVariants.{LoadRefused, Full, PoolDrop, SortDrop}
 use Rattle.flow_journal.specs.EntryTests.{is_full, is_pool_drop, is_sort_drop, is_refused_load, says_regrown}
 use Rattle.flow_journal.specs.Setting.{Setting, numbers_from, node_numbers}
 use Rattle.flow_journal.specs.Pasts.{Past}
-use Rattle.flow_journal.specs.Breaks.{outs, breaks}
-use Rattle.flow_journal.specs.IndexLaws.{below}
+use Rattle.flow_journal.specs.Breaks.{breaks}
 use Rattle.flow_journal.specs.RunSetting.{node_of, setting_of}
 use Rattle.flow_journal.proofs.EntryCounts.{count, bit, count-cons}
 use Rattle.run_laws.specs.Drops.{drops, has_drop}
 use Rattle.run_laws.specs.PlainLaws.{IsSmooth}
 use Rattle.run_laws.proofs.Driver.{all-came}
-use Rattle.run_report.specs.Report.{is_offer, loaded, node_count, plan_setting, report}
+use Rattle.run_report.specs.Report.{loaded, node_count, plan_setting, report}
 use Rattle.run_report.specs.declared.counts.Counters.{Counters}
 use Rattle.run_report.specs.declared.counts.NodeCount.{NodeCount}
 use Rattle.run_report.proofs.Offers.{counts-run, counts-offers, counts-frames}

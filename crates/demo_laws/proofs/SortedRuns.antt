@@ -1,19 +1,18 @@
 -- A sorted node at which nothing is dropped or late, and which lets out every frame, lets them out in order.
-use Rattle.std.proofs.Common.{◌≡◌, ◌≢◌, ℕ, ◌+◌, ◌≤◌, ◌<◌, Bool, true, false, not, ◌&&◌, cond, eqb, ltb, List, [], ◌∷◌, ◌++◌, length, refl, sym, ap, ◌∙◌, subst}
-use Rattle.std.proofs.Common.{arith, inl, inr, ◌⊎◌, ℤ, pos}
-use Rattle.std.specs.Prelude.{All, ◌≤ℤ◌, reverse}
-use Rattle.std.proofs.lemmas.Bool.{and_parts, and_from, eq-eqb, eqb-true, ltb-true, ltb-false, lt-ltb, cases_Bool}
+use Rattle.std.proofs.Common.{◌≡◌, ◌≢◌, ℕ, ◌+◌, ◌≤◌, ◌<◌, true, false, eqb, ltb, List, [], ◌∷◌, ◌++◌, length, refl, sym, ap, ◌∙◌, subst}
+use Rattle.std.proofs.Common.{arith, inl, inr, ◌⊎◌, ℤ}
+use Rattle.std.specs.Prelude.{All, ◌≤ℤ◌}
+use Rattle.std.proofs.lemmas.Bool.{and_parts, and_from, eq-eqb, eqb-true, ltb-true, ltb-false, cases_Bool}
 use Rattle.std.proofs.lemmas.Int.{ints}
 use Rattle.std.proofs.lemmas.List.{append_assoc}
 use Rattle.std.proofs.lemmas.List.Elements.{All-head, All-tail}
 use Rattle.nd_base.specs.declared.frame.FrameName.{FrameName}
-use Rattle.flow_journal.specs.declared.entry.Entry.{Entry}
 use Rattle.flow_journal.specs.declared.entry.Entry.TheVariants.{Emit}
 use Rattle.flow_journal.specs.declared.entry.Why.{Why}
 use Rattle.flow_journal.specs.declared.entry.Why.TheVariants.{Late, Flush}
 use Rattle.flow_journal.specs.EntryTests.{is_sort_drop}
 use Rattle.flow_journal.specs.Setting.{Setting, node, id_at, is_sorted}
-use Rattle.flow_journal.specs.Pasts.{Past, frame}
+use Rattle.flow_journal.specs.Pasts.{Past}
 use Rattle.flow_journal.specs.Unsaved.{is_file}
 use Rattle.flow_journal.specs.Waiting.{Waiting, waiting, id_of}
 use Rattle.queue_sort.specs.Sorting.{keeps_step}
@@ -27,7 +26,7 @@ use Rattle.flow_journal.proofs.Histories.{legal-front}
 use Rattle.flow_journal.proofs.Leasts.{least_laws}
 use Rattle.flow_journal.proofs.Looks.{sorted_no_file}
 use Rattle.flow_journal.proofs.Once.{emits-few, emitted-count, bit-le}
-use Rattle.flow_journal.proofs.Outs.{out_of, of_index, waits}
+use Rattle.flow_journal.proofs.Outs.{of_index, waits}
 use Rattle.run_laws.specs.OrderLaws.{marked_breaks}
 use Rattle.run_laws.proofs.Breaks.{sorted-node, counted}
 use Rattle.run_laws.proofs.Falling.{AreInStep, falls, times_in, count-reverse, same_falling}

@@ -3,3 +3,4 @@ pub mod AmpleLaws
 pub mod Reports
 pub mod Demo
 pub mod DemoLaws
+pub mod WorkedAmple
