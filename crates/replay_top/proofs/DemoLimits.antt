@@ -1,5 +1,5 @@
 -- The large workload passes no limit.
-use Rattle.std.proofs.Common.{◌≡◌, ℕ, ◌+◌, ◌*◌, ◌≤◌, Bool, true, false, ltb, cond, List, [], ◌∷◌, length, refl, sym, ap, ◌∙◌, arith, inl, inr, pos}
+use Rattle.std.proofs.Common.{◌≡◌, ℕ, ◌*◌, ◌≤◌, Bool, false, ltb, cond, [], ◌∷◌, length, ap, arith, inl, inr, pos}
 use Rattle.std.specs.Prelude.{Option, None, Some, min}
 use Rattle.std.proofs.lemmas.Bool.{ltb-true, cases_Bool}
 use Rattle.std.proofs.Math.Nat.{min-le_left}
@@ -11,7 +11,7 @@ use Rattle.cdf_write.specs.LengthLaws.{header_length_is, row_length_is}
 use Rattle.cdf_write.specs.Layout.{header_length}
 use Rattle.cdf_write.specs.Lengths.{row_length, length_of}
 use Rattle.nd_stack.specs.Generated.{generated_array, generated_shape}
-use Rattle.graph_conf.specs.Loads.{arrivals, kept, file_bytes_at, first_too_long, limit_fault}
+use Rattle.graph_conf.specs.Loads.{arrivals, kept, first_too_long, limit_fault}
 use Rattle.graph_conf.specs.declared.load.LimitFault.{LimitFault}
 use Rattle.graph_conf.specs.declared.load.LimitFault.TheVariants.{FileTooLarge}
 use Rattle.demo_laws.specs.Demo.{demo_graph, demo_stack}

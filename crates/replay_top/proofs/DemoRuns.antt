@@ -1,24 +1,19 @@
 -- A run of the large workload whose ticks are near to each other prints the same at each run.
-use Rattle.std.proofs.Common.{◌≡◌, ℕ, ◌≤◌, List, Option, None, Some, Ok, Result, refl, sym, ap, subst, ◌∙◌}
-use Rattle.std.specs.List.{count_by}
+use Rattle.std.proofs.Common.{◌≡◌, ℕ, Option, None, Some, Ok, Result, ap, subst, ◌∙◌}
 use Rattle.edge_traits.specs.Files.{Files}
 use Rattle.edge_traits.specs.Written.{with_written}
-use Rattle.chain_plain.specs.Plans.{plan_of}
-use Rattle.flow_journal.specs.EntryTests.{says_regrown}
 use Rattle.flow_journal.specs.Journal.{Journal}
 use Rattle.flow_journal.specs.Pasts.{Past}
 use Rattle.board_rules.specs.RunMeasures.{run_setting}
 use Rattle.run_laws.specs.Results.{IsFinishedRun}
-use Rattle.run_report.specs.Report.{report}
 use Rattle.run_report.specs.Text.{report_text}
-use Rattle.demo_laws.specs.Ample.{AreTicksWithin}
-use Rattle.demo_laws.specs.Demo.{demo_graph, demo_stack, demo_span}
+use Rattle.demo_laws.specs.Demo.{demo_graph, demo_stack}
 use Rattle.demo_laws.specs.DemoLaws.{DemosAreWhole}
 use Rattle.tool_commands.specs.declared.status.Status.{Status}
 use Rattle.tool_commands.specs.declared.status.Status.TheVariants.{Done}
 use Rattle.tool_commands.specs.Outcomes.{Leads}
 use Rattle.tool_commands.specs.Works.{Source}
-use Rattle.replay_top.specs.DemoRuns.{demo_text, IsDemoDone, IsDemoSteady}
+use Rattle.replay_top.specs.DemoRuns.{IsDemoSteady}
 use Rattle.replay_top.specs.RunAnswers.{RunObjects, OfLog, IsRunDone, RunEnds, run_print}
 use Rattle.replay_top.specs.RunCommand.{RunCommand, RunSource, Demo, IsInRange}
 use Rattle.replay_top.specs.RunSources.{run_sources}

@@ -22,7 +22,7 @@ use Rattle.tool_commands.specs.declared.status.Status.TheVariants.{Done, Usage, 
 use Rattle.tool_commands.specs.declared.status.Status.TheVariants.{OutOfMemory}
 use Rattle.tool_commands.specs.Outcomes.{Leads}
 use Rattle.replay_top.specs.RunAnswers.{RunObjects, IsLogOf, RunEnds, IsRunCause, IsRunUntouched, run_print}
-use Rattle.replay_top.specs.RunCommand.{RunCommand}
+use Rattle.replay_top.specs.RunCommand.{RunCommand, IsRead}
 use Rattle.replay_top.specs.RunFiles.{later_files, HoldsFiles, HaveGroupsBack, AtGroups, AfterGroups}
 use Rattle.replay_top.specs.LogFiles.{log_files}
 use Rattle.replay_top.specs.RunSources.{run_sources, IsSourceRead}
@@ -34,18 +34,19 @@ use Rattle.tool_commands.specs.Works.{Source}
 
 -- what there is to run wasn't read
 pub RunEnds-unread : (status : Status) (c : RunCommand) (o : RunObjects) (before now : ℕ)
-    → ReadStops (λ s. Leads o.objects.library (run_sources c.source) (Err s)) status before now → IsRunUntouched o → RunEnds status None (Some c) o
-RunEnds-unread GraphText c o before now stops still = (refl, (stops.0, still))
-RunEnds-unread (GraphRule f) c o before now stops still = (refl, (stops.0, still))
-RunEnds-unread (StackBytes f) c o before now stops still = (refl, (stops.0, still))
-RunEnds-unread (Limit f) c o before now stops still = (refl, (stops.0, still))
-RunEnds-unread Sizes c o before now stops still = (refl, (stops.0, still))
-RunEnds-unread ReadFault c o before now stops still = (refl, (λ e. cc), still)
-RunEnds-unread OutOfMemory c o before now stops still = (refl, still.1)
-RunEnds-unread Done c o before now stops still = absurd stops
-RunEnds-unread Usage c o before now stops still = absurd stops
-RunEnds-unread ShelfFault c o before now stops still = absurd stops
-RunEnds-unread OutFault c o before now stops still = absurd stops
+    → ReadStops (λ s. Leads o.objects.library (run_sources c.source) (Err s)) status before now → (status ≡ ReadFault → IsRead c.source) → IsRunUntouched o
+    → RunEnds status None (Some c) o
+RunEnds-unread GraphText c o before now stops read still = (refl, (stops.0, still))
+RunEnds-unread (GraphRule f) c o before now stops read still = (refl, (stops.0, still))
+RunEnds-unread (StackBytes f) c o before now stops read still = (refl, (stops.0, still))
+RunEnds-unread (Limit f) c o before now stops read still = (refl, (stops.0, still))
+RunEnds-unread Sizes c o before now stops read still = (refl, (stops.0, still))
+RunEnds-unread ReadFault c o before now stops read still = (refl, read refl, still)
+RunEnds-unread OutOfMemory c o before now stops read still = (refl, still.1)
+RunEnds-unread Done c o before now stops read still = absurd stops
+RunEnds-unread Usage c o before now stops read still = absurd stops
+RunEnds-unread ShelfFault c o before now stops read still = absurd stops
+RunEnds-unread OutFault c o before now stops read still = absurd stops
 
 -- AFTER THE RUN
 

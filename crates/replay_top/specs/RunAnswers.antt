@@ -1,5 +1,5 @@
 -- What each status of a run says of its log and of the objects.
-use Rattle.std.specs.Prelude.{◌≡◌, ◌≢◌, ℕ, List, Option, None, Some, Ok, Err}
+use Rattle.std.specs.Prelude.{◌≡◌, ℕ, List, Option, None, Some, Ok, Err}
 use Rattle.edge_traits.specs.Files.{Files}
 use Rattle.edge_traits.specs.Ticks.{Coming}
 use Rattle.edge_traits.specs.Written.{with_written}
@@ -20,7 +20,7 @@ use Rattle.tool_commands.specs.Answers.{Objects, objects_of}
 use Rattle.tool_commands.specs.Causes.{Counts, IsCause}
 use Rattle.tool_commands.specs.Outcomes.{Leads}
 use Rattle.tool_commands.specs.Printed.{IsCutShort}
-use Rattle.replay_top.specs.RunCommand.{RunCommand}
+use Rattle.replay_top.specs.RunCommand.{RunCommand, ReadsFiles}
 use Rattle.replay_top.specs.RunFiles.{HoldsFiles, AreTorn, HaveGroupsBack}
 use Rattle.replay_top.specs.RunSources.{run_sources, sources_of}
 use Rattle.tool_commands.specs.Works.{Source}
@@ -112,7 +112,7 @@ RunEnds (GraphRule fault) log command o = (log ≡ None) × IsRunRefused command
 RunEnds (StackBytes fault) log command o = (log ≡ None) × IsRunRefused command (StackBytes fault) o
 RunEnds (Limit fault) log command o = (log ≡ None) × IsRunRefused command (Limit fault) o
 RunEnds Sizes log command o = (log ≡ None) × IsRunRefused command Sizes o
-RunEnds ReadFault log command o = (log ≡ None) × (command ≢ None) × IsRunUntouched o
+RunEnds ReadFault log command o = (log ≡ None) × ReadsFiles command × IsRunUntouched o
 RunEnds OutOfMemory log command o = (log ≡ None) × (o.objects.sink_after ≡ o.objects.sink_before)
 
 -- the counts rise as with a plain run, but that want of memory may come after the shelf has failed

@@ -9,6 +9,11 @@ pub data RunSource : Type 0 where
   Named : (graph stack : List ℕ) → RunSource
   Demo : (frames : ℕ) → RunSource
 
+-- it is read from files
+abbrev pub IsRead : RunSource → Type 0
+IsRead (Named graph stack) = Unit {0}
+IsRead (Demo frames) = ⊥
+
 -- the large workload has 1 to 4,096 frames
 abbrev pub IsInRange : RunSource → Type 0
 IsInRange (Named graph stack) = Unit {0}
@@ -19,6 +24,11 @@ pub record RunCommand : Type 0 where
   pub prefix : List ℕ
   -- the log's text is written, too
   pub logs : Bool
+
+-- the run reads files
+abbrev pub ReadsFiles : Option RunCommand → Type 0
+ReadsFiles None = ⊥
+ReadsFiles (Some c) = IsRead c.source
 
 abbrev pub named_run : (logs : Bool) → (graph stack prefix : List ℕ) → RunCommand
 named_run logs graph stack prefix = record { source = Named graph stack; prefix = prefix; logs = logs }

@@ -11,7 +11,7 @@ ghost use Rattle.tool_commands.specs.Claims.{Completes};
 ghost use Rattle.replay_top.specs.RunAnswers.{run_objects_of, RunEnds, IsRunCause, OfLog, HasFinished, IsRunDone, IsRunTorn, IsRunCutShort};
 ghost use Rattle.replay_top.specs.MeasuredFiles.{measured_files};
 ghost use Rattle.tool_commands.specs.Outcomes.{Leads};
-ghost use Rattle.replay_top.specs.RunCommand.{run_command_of, IsInRange};
+ghost use Rattle.replay_top.specs.RunCommand.{run_command_of, IsInRange, ReadsFiles};
 ghost use Rattle.replay_top.specs.DemoRuns.{IsDemoSteady};
 ghost use Rattle.replay_top.specs.RunSources.{sources_of};
 ghost use Rattle.replay_top.specs.LogFiles.{log_files};
@@ -195,9 +195,10 @@ pub fn run_top<
     ensures demo { result.status ≡ Status.Done → OfLog (IsDemoSteady (T.written out.old) (T.written out.new))
         (run_command_of (map string_bytes words.now)) result.log }
 
-    // Refusals: exactly where the words are no run; and where the files that were read, the graph first, lead to it.
+    // Refusals: exactly where the words are no run; and where the files that were read, the graph first, lead to it. The large workload reads none.
     ensures usage { (result.status ≡ Status.Usage) ↔ (run_command_of (map string_bytes words.now) ≡ None) }
     ensures refused { IsRefusal result.status → Leads (L.holds library.old) (sources_of (run_command_of (map string_bytes words.now))) (Err result.status) }
+    ensures read_fault { result.status ≡ Status.ReadFault → ReadsFiles (run_command_of (map string_bytes words.now)) }
     ensures untouched { IsRefusal result.status ⊎ (result.status ≡ Status.ReadFault)
         → (K.held shelf.new ≡ K.held shelf.old) × (T.written out.new ≡ T.written out.old) × (C.coming clock.new ≡ C.coming clock.old) }
     ensures memory { result.status ≡ Status.OutOfMemory → T.written out.new ≡ T.written out.old }

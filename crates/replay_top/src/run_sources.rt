@@ -3,7 +3,7 @@
 ghost use Rattle.std.specs.Prelude.{◌≡◌, Err, OnOk, IfOk, IfErr};
 ghost use Rattle.chain_plain.specs.Plans.{plan_of};
 ghost use Rattle.tool_commands.specs.Outcomes.{Leads};
-ghost use Rattle.replay_top.specs.RunCommand.{Named, IsInRange};
+ghost use Rattle.replay_top.specs.RunCommand.{Named, IsInRange, IsRead};
 ghost use Rattle.replay_top.specs.RunSources.{run_sources, IsSourceRead};
 ghost use Rattle.replay_top.specs.RunWords.{source_told};
 ghost use Rattle.tool_commands.specs.Stages.{ReadStops};
@@ -49,6 +49,7 @@ pub(crate) fn load_run<L: Library>(
     ensures files { L.holds library.new ≡ L.holds library.old }
     ensures err { IfErr result (λ s. ReadStops (λ status. Leads (L.holds library.old) (run_sources (source_told source.entry)) (Err status)) s
         (L.faults library.old) (L.faults library.new)) }
+    ensures read_fault { IfErr result (λ s. s ≡ Status.ReadFault → IsRead (source_told source.entry)) }
 {
     match source {
         RunSource::Named { graph, stack } => load_named(alloc, library, graph, stack),

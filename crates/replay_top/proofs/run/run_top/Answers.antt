@@ -2,7 +2,7 @@ use Rattle.std.proofs.Common.{sym, ap, ◌∙◌}
 use Rattle.std.specs.Option.{option_map}
 use Rattle.replay_top.specs.RunWords.{run_told}
 use Rattle.replay_top.proofs.DemoRuns.{RunEnds-steady}
-use Rattle.replay_top.proofs.RunClaims.{RunEnds-refused, RunEnds-untouched, answered_run}
+use Rattle.replay_top.proofs.RunClaims.{RunEnds-read, RunEnds-refused, RunEnds-untouched, answered_run}
 use Rattle.replay_top.proofs.run.run_top.Goals as goal
 
 pub returns-in-Some-clause-demo : goal.returns-in-Some-clause-demo
@@ -15,6 +15,11 @@ pub returns-in-Some-clause-refused : goal.returns-in-Some-clause-refused
 returns-in-Some-clause-refused g c =
     rw (sym c.run_in.ensures.told ∙ ap (option_map run_told) c.in-Some.is)
     (RunEnds-refused c.run_words.result.log (run_told c.in-Some.words) _ c.run_words.result.status c.run_words.ensures.ends)
+
+pub returns-in-Some-clause-read_fault : goal.returns-in-Some-clause-read_fault
+returns-in-Some-clause-read_fault g c =
+    rw (sym c.run_in.ensures.told ∙ ap (option_map run_told) c.in-Some.is)
+    (RunEnds-read c.run_words.result.log (run_told c.in-Some.words) _ c.run_words.result.status c.run_words.ensures.ends)
 
 pub returns-in-Some-clause-untouched : goal.returns-in-Some-clause-untouched
 returns-in-Some-clause-untouched g c =
