@@ -1,5 +1,5 @@
 -- The large workload is a graph that has room for all frames of its stack.
-use Rattle.std.proofs.Common.{◌≡◌, ◌≢◌, ℕ, zero, suc, ◌+◌, ◌≤◌, ◌<◌, [], ◌∷◌, length, refl, ap, ◌∙◌, arith, inl, inr}
+use Rattle.std.proofs.Common.{◌≡◌, ◌≢◌, ℕ, zero, suc, ◌+◌, ◌≤◌, ◌<◌, true, List, [], ◌∷◌, length, refl, sym, ap, ◌∙◌, arith, inl, inr}
 use Rattle.std.proofs.Common.{pos}
 use Rattle.std.specs.Prelude.{AllPairs, IsTrue}
 use Rattle.std.specs.List.{count_by}
@@ -13,16 +13,17 @@ use Rattle.std.proofs.lemmas.List.Kept.{AllPairs-cons}
 use Rattle.nd_base.specs.Array.{Array}
 use Rattle.nd_base.specs.declared.array.SampleType.TheVariants.{UInt8}
 use Rattle.nd_base.specs.declared.graph.NodeRule.{NodeRule}
-use Rattle.nd_base.specs.GraphRules.{IsGraph, IsNode, is_source, source_of}
+use Rattle.nd_base.specs.declared.graph.Kind.{Kind}
+use Rattle.nd_base.specs.GraphRules.{IsGraph, IsNode, IsKind, is_node_name, is_parallel, is_source, source_of}
 use Rattle.nd_stack.specs.Generated.{generated_array}
 use Rattle.chain_plain.specs.Plans.{makers_of}
 use Rattle.flow_journal.specs.EntryTests.{says_regrown}
 use Rattle.flow_journal.specs.Pasts.{Past}
 use Rattle.flow_journal.specs.RunSetting.{setting_of}
 use Rattle.run_laws.specs.Results.{IsFinishedRun}
-use Rattle.demo_laws.specs.Ample.{IsAmpleNode, IsAmple, HasIdsInTurn, AreTicksWithin, id_of}
+use Rattle.demo_laws.specs.Ample.{keeps_all, IsAmpleNode, IsAmple, HasIdsInTurn, AreTicksWithin, id_of}
 use Rattle.demo_laws.specs.AmpleLaws.{IsAmpleRun}
-use Rattle.demo_laws.specs.Demo.{demo_stack, demo_span, demo_roi, demo_stats, demo_file, demo_graph}
+use Rattle.demo_laws.specs.Demo.{demo_stack, demo_span, sorting_node, demo_roi, demo_stats, demo_file, demo_graph}
 use Rattle.demo_laws.specs.DemoLaws.{IsWholeDemo}
 use Rattle.demo_laws.specs.Reports.{whole_counters}
 use Rattle.demo_laws.proofs.AmpleRuns.{ample-smooth}
@@ -31,36 +32,37 @@ use Rattle.demo_laws.proofs.Reports.{report-whole}
 -- A GRAPH
 
 module _ (n : ℕ) (some : 1 ≤ n) (few : n ≤ 4096) where
-  roi-sound : IsNode (demo_roi n)
-  roi-sound = record {
-    name = refl;
-    kind = record { min = omega arith; size = omega arith; bin = omega arith; reverse = omega arith; auto = omega arith; scale = (omega arith, omega arith) };
+  sorting-sound : (name : List ℕ) (kind : Kind) (input : ℕ) → IsTrue (is_node_name name) → IsKind kind → is_parallel kind ≡ true
+      → IsNode (sorting_node name kind input n)
+  sorting-sound name kind input named sound parallel = record {
+    name = named;
+    kind = sound;
     queue = (some, omega (arith, few));
     threads = (omega arith, omega arith);
-    one_thread = λ alone. absurd (true≢false alone);
+    one_thread = λ alone. absurd (true≢false (sym parallel ∙ alone));
     sort = omega (arith, few);
-    unsorted = λ alone. absurd (true≢false alone);
+    unsorted = λ alone. absurd (true≢false (sym parallel ∙ alone));
     sort_time = omega arith;
   }
 
+  roi-sound : IsNode (demo_roi n)
+  roi-sound =
+      sorting-sound (demo_roi n).name (demo_roi n).kind 0 refl
+      (record { min = omega arith; size = omega arith; bin = omega arith; reverse = omega arith; auto = omega arith; scale = (omega arith, omega arith) })
+      refl
+
   stats-sound : IsNode (demo_stats n)
-  stats-sound = record {
-    name = refl;
-    kind = record {
-      threshold = (omega (arith, ints), omega (arith, ints));
-      border = omega arith;
-      hist_size = omega arith;
-      hist_lo = (omega (arith, ints), omega (arith, ints));
-      hist_hi = (omega (arith, ints), omega (arith, ints));
-      ordered = λ binned. absurd (binned refl);
-    };
-    queue = (some, omega (arith, few));
-    threads = (omega arith, omega arith);
-    one_thread = λ alone. absurd (true≢false alone);
-    sort = omega (arith, few);
-    unsorted = λ alone. absurd (true≢false alone);
-    sort_time = omega arith;
-  }
+  stats-sound =
+      sorting-sound (demo_stats n).name (demo_stats n).kind 1 refl
+      (record {
+        threshold = (omega (arith, ints), omega (arith, ints));
+        border = omega arith;
+        hist_size = omega arith;
+        hist_lo = (omega (arith, ints), omega (arith, ints));
+        hist_hi = (omega (arith, ints), omega (arith, ints));
+        ordered = λ binned. absurd (binned refl);
+      })
+      refl
 
   file-sound : IsNode (demo_file n)
   file-sound = record {
@@ -117,16 +119,9 @@ module _ (n : ℕ) (some : 1 ≤ n) (few : n ≤ 4096) where
   abbrev Ample : NodeRule → Type 0
   Ample = IsAmpleNode (length (demo_stack n).arrays) demo_span
 
-  roi-ample : Ample (demo_roi n)
-  roi-ample = record {
-    keeps = refl;
-    queue = omega (arith, frames-are);
-    order = inr (record { sorted = some; places = omega (arith, frames-are); time = omega arith });
-  }
-
-  stats-ample : Ample (demo_stats n)
-  stats-ample = record {
-    keeps = refl;
+  sorting-ample : (name : List ℕ) (kind : Kind) (input : ℕ) → keeps_all kind ≡ true → Ample (sorting_node name kind input n)
+  sorting-ample name kind input keeps = record {
+    keeps = keeps;
     queue = omega (arith, frames-are);
     order = inr (record { sorted = some; places = omega (arith, frames-are); time = omega arith });
   }
@@ -137,8 +132,8 @@ module _ (n : ℕ) (some : 1 ≤ n) (few : n ≤ 4096) where
   demo-ample : IsAmple (length (demo_stack n).arrays) demo_span (demo_graph n)
   demo-ample = record {
     unlimited = refl;
-    nodes = All-cons Ample (demo_roi n) (demo_stats n ∷ demo_file n ∷ []) roi-ample
-        (All-cons Ample (demo_stats n) (demo_file n ∷ []) stats-ample (All-cons Ample (demo_file n) [] file-ample (All-nil Ample)));
+    nodes = All-cons Ample (demo_roi n) (demo_stats n ∷ demo_file n ∷ []) (sorting-ample (demo_roi n).name (demo_roi n).kind 0 refl)
+        (All-cons Ample (demo_stats n) (demo_file n ∷ []) (sorting-ample (demo_stats n).name (demo_stats n).kind 1 refl) (All-cons Ample (demo_file n) [] file-ample (All-nil Ample)));
   }
 
   id-is : (k : ℕ) → k < n → id_of (demo_stack n).arrays k ≡ pos (k + 1)
