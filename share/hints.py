@@ -79,6 +79,7 @@ FORMS = {
         "KIND": (WIDTHS_OF_SAMPLES.__contains__, ", ".join(WIDTHS_OF_SAMPLES)),
         "START": number(10, 0, 2**31 - 1),
     },
+    "demo": {"N": number(4, 1, 4_096)},
     "orient": {"MODE": number(1, 0, 7)},
     "correct": {"OFFSET": WHOLE, "NUM": WHOLE, "DEN": number(10, 1, 2**31 - 1), "LOW": WHOLE, "HIGH": WHOLE},
     "series": {"LENGTH": number(4, 1, 4_096)},

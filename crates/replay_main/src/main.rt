@@ -18,6 +18,9 @@ const HELP: &str = "nd_replay: replays a stack of detector frames through a grap
                                            kept, what was dropped and what came out of order
     nd_replay run-log GRAPH STACK PREFIX   does the same, and writes the run's log to
                                            <PREFIX>log.txt
+    nd_replay demo N                       makes N frames and runs them through three plugins that
+                                           have room for all of them; needs no other file, and
+                                           writes demo_stats.txt and demo_file_000.nc
     nd_replay plain GRAPH STACK PREFIX     runs them in one thread; nothing is dropped
     nd_replay copy STACK PREFIX            writes the frames of STACK to <PREFIX>copy_000.nc
     nd_replay info STACK                   prints the sample type, the dimensions, the number of
@@ -52,7 +55,8 @@ mirror. DARK is such a file as STACK, and its frames have the sizes of those of 
 DEN, LOW and HIGH are whole numbers of 32 bits, DEN from 1 on and LOW at most HIGH. REGIONS is up to
 32 regions X,Y,W,H with ; between, as '0,0,100,100;50,50,10,10', and LENGTH 1 to 4,096. N is at most
 65,536, W and H are 1 to 8,192, KIND is Int8, UInt8, Int16, UInt16, Int32 or UInt32, and START, 0 to
-2,147,483,647, begins the samples. docs/formats.md and docs/outputs.md tell more.
+2,147,483,647, begins the samples; for demo N is 1 to 4,096. docs/formats.md and docs/outputs.md
+tell more.
 
 A file node writes <PREFIX>NODE_000.nc, <PREFIX>NODE_001.nc and so on, and a statistics node
 <PREFIX>NODE.txt. What stands under such a name, or under NAME, is replaced without a question, the
@@ -91,6 +95,11 @@ fn command_words(rt: &(impl Env + AllocGlobal)) -> Result<Vec<String>, Status> {
     }
 }
 
+/// Whether a command runs a graph with its threads.
+fn is_run(word: &str) -> bool {
+    word == "run" || word == "run-log" || word == "demo"
+}
+
 /// What became of a print that is no command's work.
 fn printed(done: io::Result<()>) -> Status {
     match done {
@@ -110,7 +119,7 @@ fn replay(
     let mut library = DiskLibrary::new(rt);
     let mut out = OutSink::new(rt);
     match words {
-        [word, ..] if word.as_str() == "run" || word.as_str() == "run-log" => {
+        [word, ..] if is_run(word.as_str()) => {
             let mut clock = RealClock::new(rt);
             let gate = OpenGate::new(rt);
             let exit = run_top(

@@ -1,3 +1,5 @@
+pub mod DemoLimits
+pub mod DemoRuns
 pub mod FileNames
 pub mod MeasuredRows
 pub mod MeasureRows

@@ -1,5 +1,5 @@
 -- What the end of a run says of its status.
-use Rattle.std.proofs.Common.{◌≡◌, ◌⊎◌, Option, None, Some, Ok, Err, refl, inl, inr}
+use Rattle.std.proofs.Common.{◌≡◌, ◌⊎◌, Option, None, Some, Ok, Err, refl, subst, inl, inr}
 use Rattle.flow_journal.specs.Journal.{Journal}
 use Rattle.tool_commands.specs.declared.status.Status.{Status}
 use Rattle.tool_commands.specs.declared.status.Status.TheVariants.{Done, Usage, GraphText, GraphRule, StackBytes, Limit, Sizes, ReadFault, ShelfFault, OutFault}
@@ -9,7 +9,7 @@ use Rattle.tool_commands.specs.Causes.{Counts}
 use Rattle.tool_commands.specs.Claims.{Completes}
 use Rattle.tool_commands.specs.Outcomes.{Leads}
 use Rattle.replay_top.specs.RunAnswers.{RunObjects, RunEnds, IsRunCause, IsRunUntouched}
-use Rattle.replay_top.specs.RunCommand.{RunCommand}
+use Rattle.replay_top.specs.RunCommand.{RunCommand, IsRead}
 use Rattle.replay_top.specs.RunSources.{sources_of}
 use Rattle.tool_commands.proofs.Outcomes.{Leads-Asks}
 
@@ -45,6 +45,10 @@ module _ (log : Option Journal) (c : RunCommand) (o : RunObjects) where
   RunEnds-untouched OutFault ends (inr never) = absurd (cc)
   RunEnds-untouched OutOfMemory ends (inl never) = absurd never
   RunEnds-untouched OutOfMemory ends (inr never) = absurd (cc)
+
+  -- the library fails only where files are read
+  pub RunEnds-read : (s : Status) → RunEnds s log (Some c) o → s ≡ ReadFault → IsRead c.source
+  RunEnds-read s ends is = let fault : RunEnds ReadFault log (Some c) o = subst (λ (t : Status). RunEnds t log (Some c) o) is ends in fault.1
 
 -- where no count rose, the files decide
 pub answered_run : (s : Status) (log : Option Journal) (c : RunCommand) (o : RunObjects) (before after : Counts) → RunEnds s log (Some c) o

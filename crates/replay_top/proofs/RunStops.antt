@@ -22,30 +22,31 @@ use Rattle.tool_commands.specs.declared.status.Status.TheVariants.{Done, Usage, 
 use Rattle.tool_commands.specs.declared.status.Status.TheVariants.{OutOfMemory}
 use Rattle.tool_commands.specs.Outcomes.{Leads}
 use Rattle.replay_top.specs.RunAnswers.{RunObjects, IsLogOf, RunEnds, IsRunCause, IsRunUntouched, run_print}
-use Rattle.replay_top.specs.RunCommand.{RunCommand}
+use Rattle.replay_top.specs.RunCommand.{RunCommand, IsRead}
 use Rattle.replay_top.specs.RunFiles.{later_files, HoldsFiles, HaveGroupsBack, AtGroups, AfterGroups}
 use Rattle.replay_top.specs.LogFiles.{log_files}
-use Rattle.replay_top.specs.RunSources.{IsSourceRead}
+use Rattle.replay_top.specs.RunSources.{run_sources, IsSourceRead}
 use Rattle.replay_top.specs.RunStages.{RestEnds, RestCause}
 use Rattle.tool_commands.specs.Stages.{ReadStops}
-use Rattle.tool_commands.specs.Works.{Source, sources}
+use Rattle.tool_commands.specs.Works.{Source}
 
 -- READING
 
 -- what there is to run wasn't read
 pub RunEnds-unread : (status : Status) (c : RunCommand) (o : RunObjects) (before now : ℕ)
-    → ReadStops (λ s. Leads o.objects.library (sources c.graph c.stack) (Err s)) status before now → IsRunUntouched o → RunEnds status None (Some c) o
-RunEnds-unread GraphText c o before now stops still = (refl, (stops.0, still))
-RunEnds-unread (GraphRule f) c o before now stops still = (refl, (stops.0, still))
-RunEnds-unread (StackBytes f) c o before now stops still = (refl, (stops.0, still))
-RunEnds-unread (Limit f) c o before now stops still = (refl, (stops.0, still))
-RunEnds-unread Sizes c o before now stops still = (refl, (stops.0, still))
-RunEnds-unread ReadFault c o before now stops still = (refl, (λ e. cc), still)
-RunEnds-unread OutOfMemory c o before now stops still = (refl, still.1)
-RunEnds-unread Done c o before now stops still = absurd stops
-RunEnds-unread Usage c o before now stops still = absurd stops
-RunEnds-unread ShelfFault c o before now stops still = absurd stops
-RunEnds-unread OutFault c o before now stops still = absurd stops
+    → ReadStops (λ s. Leads o.objects.library (run_sources c.source) (Err s)) status before now → (status ≡ ReadFault → IsRead c.source) → IsRunUntouched o
+    → RunEnds status None (Some c) o
+RunEnds-unread GraphText c o before now stops read still = (refl, (stops.0, still))
+RunEnds-unread (GraphRule f) c o before now stops read still = (refl, (stops.0, still))
+RunEnds-unread (StackBytes f) c o before now stops read still = (refl, (stops.0, still))
+RunEnds-unread (Limit f) c o before now stops read still = (refl, (stops.0, still))
+RunEnds-unread Sizes c o before now stops read still = (refl, (stops.0, still))
+RunEnds-unread ReadFault c o before now stops read still = (refl, read refl, still)
+RunEnds-unread OutOfMemory c o before now stops read still = (refl, still.1)
+RunEnds-unread Done c o before now stops read still = absurd stops
+RunEnds-unread Usage c o before now stops read still = absurd stops
+RunEnds-unread ShelfFault c o before now stops read still = absurd stops
+RunEnds-unread OutFault c o before now stops read still = absurd stops
 
 -- AFTER THE RUN
 
@@ -61,7 +62,7 @@ module _ (g : Graph) (stack : StackValue) (prefix : List ℕ) (P : Past) (held m
   holds-by true holds is = (rows, holds, is ∙ with_files-append mid (rows_files g stack prefix P) (log_files true prefix P))
 
 module _ (complete : RowsComplete) (reads : GroupsReadBack) (c : RunCommand) (o : RunObjects) (g : Graph) (stack : StackValue) (log : Journal)
-    (mid : Option Files) (read : IsSourceRead o.objects.library c.graph c.stack (record { graph = g; stack = stack }))
+    (mid : Option Files) (read : IsSourceRead o.objects.library c.source (record { graph = g; stack = stack }))
     (run : IsFinishedRun (run_setting g stack) log.past) (roles : AreOwnMoves (run_setting g stack) log.past)
     (ticks : IsFedByTheClock (run_setting g stack) log.past o.coming o.later) where
   abbrev held : Option Files

@@ -1,3 +1,4 @@
+pub mod DemoRuns
 pub mod FileNames
 pub mod LogFiles
 pub mod MeasuredFiles
@@ -9,3 +10,4 @@ pub mod RunSources
 pub mod RunStages
 pub mod RunWords
 pub mod SmoothRuns
+pub mod WorkedDemo

@@ -1,5 +1,5 @@
 -- What each status of a run says of its log and of the objects.
-use Rattle.std.specs.Prelude.{◌≡◌, ◌≢◌, ℕ, List, Option, None, Some, Ok, Err}
+use Rattle.std.specs.Prelude.{◌≡◌, ℕ, List, Option, None, Some, Ok, Err}
 use Rattle.edge_traits.specs.Files.{Files}
 use Rattle.edge_traits.specs.Ticks.{Coming}
 use Rattle.edge_traits.specs.Written.{with_written}
@@ -20,10 +20,10 @@ use Rattle.tool_commands.specs.Answers.{Objects, objects_of}
 use Rattle.tool_commands.specs.Causes.{Counts, IsCause}
 use Rattle.tool_commands.specs.Outcomes.{Leads}
 use Rattle.tool_commands.specs.Printed.{IsCutShort}
-use Rattle.replay_top.specs.RunCommand.{RunCommand}
+use Rattle.replay_top.specs.RunCommand.{RunCommand, ReadsFiles}
 use Rattle.replay_top.specs.RunFiles.{HoldsFiles, AreTorn, HaveGroupsBack}
-use Rattle.replay_top.specs.RunSources.{sources_of}
-use Rattle.tool_commands.specs.Works.{Source, sources}
+use Rattle.replay_top.specs.RunSources.{run_sources, sources_of}
+use Rattle.tool_commands.specs.Works.{Source}
 
 -- what the objects of a run tell: those of a command, and the clock its answers to come before the run and after it
 pub record RunObjects : Type 0 where
@@ -40,7 +40,7 @@ run_objects_of library shelf shelf_now sink sink_now coming later =
 -- The log is a finished history of the graph and the stack that were read, which pass no limit. Unless a role left for want of memory, each role
 -- has made its own moves; and each load was handed the clock's next answer.
 pub record IsLogOf (o : RunObjects) (c : RunCommand) (source : Source) (P : Past) : Type 0 where
-  pub read : Leads o.objects.library (sources c.graph c.stack) (Ok source)
+  pub read : Leads o.objects.library (run_sources c.source) (Ok source)
   pub within : limit_fault source.graph source.stack ≡ None
   pub run : IsFinishedRun (run_setting source.graph source.stack) P
   pub roles : AreOwnMoves (run_setting source.graph source.stack) P
@@ -112,7 +112,7 @@ RunEnds (GraphRule fault) log command o = (log ≡ None) × IsRunRefused command
 RunEnds (StackBytes fault) log command o = (log ≡ None) × IsRunRefused command (StackBytes fault) o
 RunEnds (Limit fault) log command o = (log ≡ None) × IsRunRefused command (Limit fault) o
 RunEnds Sizes log command o = (log ≡ None) × IsRunRefused command Sizes o
-RunEnds ReadFault log command o = (log ≡ None) × (command ≢ None) × IsRunUntouched o
+RunEnds ReadFault log command o = (log ≡ None) × ReadsFiles command × IsRunUntouched o
 RunEnds OutOfMemory log command o = (log ≡ None) × (o.objects.sink_after ≡ o.objects.sink_before)
 
 -- the counts rise as with a plain run, but that want of memory may come after the shelf has failed

@@ -1,6 +1,7 @@
 //! The top call that runs a graph with its threads, beside the one for the commands that wait for nobody (`tool_top`).
 #![tactic(auto)]
 
+mod demo;
 mod exit;
 mod histories;
 mod laws;

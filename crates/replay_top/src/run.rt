@@ -1,4 +1,4 @@
-//! `run GRAPH STACK PREFIX` and `run-log GRAPH STACK PREFIX`: runs a graph over a stack with its threads.
+//! `run GRAPH STACK PREFIX`, `run-log GRAPH STACK PREFIX` and `demo N`: runs a graph over a stack with its threads.
 
 ghost use Rattle.std.specs.Prelude.{◌≡◌, ◌⊎◌, ◌↔◌, ◌++◌, map, length, None, Some, Err, IsSome, IfOk, OnOk, IfErr, string_bytes};
 ghost use Rattle.edge_traits.specs.Written.{with_written};
@@ -11,10 +11,11 @@ ghost use Rattle.tool_commands.specs.Claims.{Completes};
 ghost use Rattle.replay_top.specs.RunAnswers.{run_objects_of, RunEnds, IsRunCause, OfLog, HasFinished, IsRunDone, IsRunTorn, IsRunCutShort};
 ghost use Rattle.replay_top.specs.MeasuredFiles.{measured_files};
 ghost use Rattle.tool_commands.specs.Outcomes.{Leads};
-ghost use Rattle.replay_top.specs.RunCommand.{run_command_of};
+ghost use Rattle.replay_top.specs.RunCommand.{run_command_of, IsInRange, ReadsFiles};
+ghost use Rattle.replay_top.specs.DemoRuns.{IsDemoSteady};
 ghost use Rattle.replay_top.specs.RunSources.{sources_of};
 ghost use Rattle.replay_top.specs.LogFiles.{log_files};
-ghost use Rattle.replay_top.specs.RunWords.{run_told};
+ghost use Rattle.replay_top.specs.RunWords.{run_told, source_told};
 ghost use Rattle.replay_top.specs.RunStages.{LaterStops, RestEnds, RestCause};
 ghost use Rattle.tool_commands.specs.Stages.{PrintStops};
 
@@ -23,6 +24,7 @@ use crate::histories::run_plan;
 use crate::run_rows::save_later;
 use crate::run_sources::load_run;
 use crate::run_words::{RunWords, run_in};
+use demo_laws::demos_are_whole;
 use edge_traits::{Clock, Gate, Library, Shelf, Sink};
 use flow_journal::Log;
 use flow_run::RunEnd;
@@ -125,6 +127,7 @@ fn run_words<
     clock: &mut C,
     gate: &G,
 ) -> Exit
+    requires { IsInRange (source_told words.source) }
     ensures ends { RunEnds result.status result.log (Some (run_told words.entry))
         (run_objects_of (L.holds library.old) (K.held shelf.old) (K.held shelf.new) (T.written out.old) (T.written out.new)
         (C.coming clock.old) (C.coming clock.new)) }
@@ -132,7 +135,7 @@ fn run_words<
         (record { library = L.faults library.new; shelf = K.faults shelf.new; sink = T.faults out.new }) }
     ensures library { L.holds library.new ≡ L.holds library.old }
 {
-    let (plan, stack) = match load_run(alloc, library, words.graph, words.stack) {
+    let (plan, stack) = match load_run(alloc, library, words.source) {
         Ok(loaded) => loaded,
         Err(status) => return unfinished(status),
     };
@@ -153,7 +156,8 @@ fn run_words<
 /// Runs a graph over a stack: feeds its frames, works on them in a thread for each thread of each node, writes the files of its nodes, and
 /// prints the report of its log. It waits for its threads.
 ///
-/// The commands are `run GRAPH STACK PREFIX`, and `run-log` with the same words, which writes the log's text to `<PREFIX>log.txt`, last.
+/// The commands are `run GRAPH STACK PREFIX`, and `run-log` with the same words, which writes the log's text to `<PREFIX>log.txt`, last; and `demo N`, which
+/// reads no file: it makes a stack of N frames and a graph that has room for all of them, and its prefix is `demo_`.
 pub fn run_top<
     L: Library,
     K: Shelf,
@@ -187,9 +191,14 @@ pub fn run_top<
         (C.coming clock.old) (C.coming clock.new)))
         (run_command_of (map string_bytes words.now)) result.log }
 
-    // Refusals: exactly where the words are no run; and where the files that were read, the graph first, lead to it.
+    // In the large workload nothing is dropped and nothing comes out of order, and so the report is the same each time.
+    ensures demo { result.status ≡ Status.Done → OfLog (IsDemoSteady (T.written out.old) (T.written out.new))
+        (run_command_of (map string_bytes words.now)) result.log }
+
+    // Refusals: exactly where the words are no run; and where the files that were read, the graph first, lead to it. The large workload reads none.
     ensures usage { (result.status ≡ Status.Usage) ↔ (run_command_of (map string_bytes words.now) ≡ None) }
     ensures refused { IsRefusal result.status → Leads (L.holds library.old) (sources_of (run_command_of (map string_bytes words.now))) (Err result.status) }
+    ensures read_fault { result.status ≡ Status.ReadFault → ReadsFiles (run_command_of (map string_bytes words.now)) }
     ensures untouched { IsRefusal result.status ⊎ (result.status ≡ Status.ReadFault)
         → (K.held shelf.new ≡ K.held shelf.old) × (T.written out.new ≡ T.written out.old) × (C.coming clock.new ≡ C.coming clock.old) }
     ensures memory { result.status ≡ Status.OutOfMemory → T.written out.new ≡ T.written out.old }
@@ -202,6 +211,7 @@ pub fn run_top<
         (record { library = L.faults library.old; shelf = K.faults shelf.old; sink = T.faults out.old })
         (record { library = L.faults library.new; shelf = K.faults shelf.new; sink = T.faults out.new }) }
 {
+    demos_are_whole();
     match run_in(words) {
         Some(words) => run_words(rt, alloc, words, library, shelf, out, clock, gate),
         None => unfinished(Status::Usage),

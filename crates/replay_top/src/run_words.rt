@@ -1,37 +1,87 @@
 //! The words of a run.
 
-ghost use Rattle.std.specs.Prelude.{◌≡◌, map, None, Some, string_bytes, MatchOption};
-ghost use Rattle.replay_top.specs.RunCommand.{run_command_of};
-ghost use Rattle.replay_top.specs.RunWords.{run_told};
+ghost use Rattle.std.specs.Prelude.{◌≡◌, map, Some, IfSome, length, string_bytes};
+ghost use Rattle.std.specs.Option.{option_map};
+ghost use Rattle.replay_top.specs.RunCommand.{run_command_of, IsInRange};
+ghost use Rattle.replay_top.specs.RunWords.{run_told, source_told};
+
+use decimal_words::number;
+
+/// What a run goes over.
+#[derive(Clone, Copy, Debug)]
+pub(crate) enum RunSource<'a> {
+    /// The graph and the stack of these names.
+    Named { graph: &'a str, stack: &'a str },
+    /// The large workload of so many frames.
+    Demo { frames: u32 },
+}
 
 /// The words of a run.
 #[derive(Clone, Copy, Debug)]
 pub(crate) struct RunWords<'a> {
-    pub graph: &'a str,
-    pub stack: &'a str,
+    pub source: RunSource<'a>,
     /// It begins the name of what is written.
     pub prefix: &'a str,
     /// The log's text is written, too.
     pub logs: bool,
 }
 
-/// The run that the words ask for, or None where they ask for none with its number of words.
-pub(crate) fn run_in(words: &[String]) -> Option<RunWords<'_>>
-    ensures { MatchOption result (run_command_of (map string_bytes words.now) ≡ None) (λ c. run_command_of (map string_bytes words.now) ≡ Some (run_told c)) }
+/// The run of four words.
+fn four_in(words: &[String]) -> Option<RunWords<'_>>
+    requires { length words.now ≡ 4 }
+    ensures told { option_map run_told result ≡ run_command_of (map string_bytes words.now) }
+    ensures sound { IfSome result (λ w. IsInRange (source_told w.source)) }
 {
     match words {
         [command, graph, stack, prefix] if command.as_str() == "run" => Some(RunWords {
-            graph: graph.as_str(),
-            stack: stack.as_str(),
+            source: RunSource::Named {
+                graph: graph.as_str(),
+                stack: stack.as_str(),
+            },
             prefix: prefix.as_str(),
             logs: false,
         }),
         [command, graph, stack, prefix] if command.as_str() == "run-log" => Some(RunWords {
-            graph: graph.as_str(),
-            stack: stack.as_str(),
+            source: RunSource::Named {
+                graph: graph.as_str(),
+                stack: stack.as_str(),
+            },
             prefix: prefix.as_str(),
             logs: true,
         }),
         _ => None,
+    }
+}
+
+/// The run of two words.
+fn two_in(words: &[String]) -> Option<RunWords<'_>>
+    requires { length words.now ≡ 2 }
+    ensures told { option_map run_told result ≡ run_command_of (map string_bytes words.now) }
+    ensures sound { IfSome result (λ w. IsInRange (source_told w.source)) }
+{
+    match words {
+        [command, frames] if command.as_str() == "demo" => Some(RunWords {
+            source: RunSource::Demo {
+                frames: number(frames.as_str(), 4, 1, 4096)?,
+            },
+            prefix: "demo_",
+            logs: false,
+        }),
+        _ => None,
+    }
+}
+
+/// The run that the words ask for, or None where they ask for none with its number of words, each spelled as it wants.
+pub(crate) fn run_in(words: &[String]) -> Option<RunWords<'_>>
+    ensures told { option_map run_told result ≡ run_command_of (map string_bytes words.now) }
+    ensures sound { IfSome result (λ w. IsInRange (source_told w.source)) }
+{
+    let count = words.len();
+    if count == 2 {
+        two_in(words)
+    } else if count == 4 {
+        four_in(words)
+    } else {
+        None
     }
 }

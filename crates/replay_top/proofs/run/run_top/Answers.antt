@@ -1,11 +1,25 @@
+use Rattle.std.proofs.Common.{sym, ap, ◌∙◌}
+use Rattle.std.specs.Option.{option_map}
 use Rattle.replay_top.specs.RunWords.{run_told}
-use Rattle.replay_top.proofs.RunClaims.{RunEnds-refused, RunEnds-untouched, answered_run}
+use Rattle.replay_top.proofs.DemoRuns.{RunEnds-steady}
+use Rattle.replay_top.proofs.RunClaims.{RunEnds-read, RunEnds-refused, RunEnds-untouched, answered_run}
 use Rattle.replay_top.proofs.run.run_top.Goals as goal
+
+pub returns-in-Some-clause-demo : goal.returns-in-Some-clause-demo
+returns-in-Some-clause-demo g c =
+    rw (sym c.run_in.ensures.told ∙ ap (option_map run_told) c.in-Some.is)
+    (RunEnds-steady c.demos_are_whole.ensures.whole _ (run_told c.in-Some.words) (rw c.in-Some.is at c.run_in.ensures.sound) c.run_words.result.status
+    c.run_words.result.log c.run_words.ensures.ends)
 
 pub returns-in-Some-clause-refused : goal.returns-in-Some-clause-refused
 returns-in-Some-clause-refused g c =
-    rw c.in-Some.ensures
+    rw (sym c.run_in.ensures.told ∙ ap (option_map run_told) c.in-Some.is)
     (RunEnds-refused c.run_words.result.log (run_told c.in-Some.words) _ c.run_words.result.status c.run_words.ensures.ends)
+
+pub returns-in-Some-clause-read_fault : goal.returns-in-Some-clause-read_fault
+returns-in-Some-clause-read_fault g c =
+    rw (sym c.run_in.ensures.told ∙ ap (option_map run_told) c.in-Some.is)
+    (RunEnds-read c.run_words.result.log (run_told c.in-Some.words) _ c.run_words.result.status c.run_words.ensures.ends)
 
 pub returns-in-Some-clause-untouched : goal.returns-in-Some-clause-untouched
 returns-in-Some-clause-untouched g c =
@@ -13,6 +27,6 @@ returns-in-Some-clause-untouched g c =
 
 pub returns-in-Some-clause-complete : goal.returns-in-Some-clause-complete
 returns-in-Some-clause-complete g c =
-    rw c.in-Some.ensures
+    rw (sym c.run_in.ensures.told ∙ ap (option_map run_told) c.in-Some.is)
     (answered_run c.run_words.result.status c.run_words.result.log
     (run_told c.in-Some.words) _ _ _ c.run_words.ensures.ends c.run_words.ensures.cause)

@@ -9,7 +9,8 @@ use Rattle.replay_top.proofs.run.run_words.Goals as goal
 
 pub returns-in-Err-clause-ends : goal.returns-in-Err-clause-ends
 returns-in-Err-clause-ends g c =
-    rw (c.unfinished.ensures.status, c.unfinished.ensures.log) (RunEnds-unread c.in-Err.status (run_told c.args.words) _ _ _ c.in-Err.ensures.err (refl, refl, refl))
+    rw (c.unfinished.ensures.status, c.unfinished.ensures.log) (RunEnds-unread c.in-Err.status (run_told c.args.words) _ _ _ c.in-Err.ensures.err
+    c.in-Err.ensures.read_fault (refl, refl, refl))
 
 pub finish-requires-clause-measures : goal.finish-requires-clause-measures
 finish-requires-clause-measures g c =

@@ -1,0 +1,7 @@
+pub mod Recorded
+pub mod Flushing
+pub mod InStep
+pub mod SortedRuns
+pub mod AmpleRuns
+pub mod Reports
+pub mod Demos

@@ -1,0 +1,6 @@
+//! Runs that have room for all their frames, and the large workload, which is one: laws over histories alone.
+#![tactic(auto)]
+
+mod laws;
+
+pub use laws::{ample_reports_are_whole, ample_runs_are_smooth, demos_are_whole};
