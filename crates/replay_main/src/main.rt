@@ -150,11 +150,28 @@ fn run(
     }
 }
 
+/// The line of a status without what it carries, which needs no memory.
+fn short_line(status: &Status) -> &'static str {
+    match status {
+        Status::Done => "nd_replay: status 0 Done",
+        Status::Usage => "nd_replay: status 1 Usage",
+        Status::GraphText => "nd_replay: status 2 GraphText",
+        Status::GraphRule(_) => "nd_replay: status 3 GraphRule",
+        Status::StackBytes(_) => "nd_replay: status 4 StackBytes",
+        Status::Limit(_) => "nd_replay: status 5 Limit",
+        Status::ReadFault => "nd_replay: status 6 ReadFault",
+        Status::ShelfFault => "nd_replay: status 7 ShelfFault",
+        Status::OutFault => "nd_replay: status 8 OutFault",
+        Status::OutOfMemory => "nd_replay: status 9 OutOfMemory",
+        Status::Sizes => "nd_replay: status 10 Sizes",
+    }
+}
+
 /// Says on standard error why the program didn't do its work.
 fn report(rt: &(impl Eprint + AllocGlobal), status: &Status) {
     let _ = match status_text(rt.alloc(), status) {
         Ok(text) => eprintln!(rt; "nd_replay: {text}"),
-        Err(_) => rt.eprintln("nd_replay: status 9 OutOfMemory"),
+        Err(_) => rt.eprintln(short_line(status)),
     };
 }
 
