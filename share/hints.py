@@ -615,7 +615,7 @@ def tell_files(prefix, call):
     names = {f"{prefix}{it['name']}{ENDS_OF_FIRST_FILES[it['kind']]}" for it in Graph(call["GRAPH"]).nodes if it["kind"] in ENDS_OF_FIRST_FILES}
     if call.command == "run-log":
         names.add(f"{prefix}log.txt")
-    print(*sorted(names), sep="\0", end="\0")
+    print("".join(f"{it}\0" for it in sorted(names)), end="")
 
 
 # --- the trial build
