@@ -13,7 +13,7 @@ use Rattle.lane_kernels.specs.Plain.{stored, total, squares, run, square_run}
 use Rattle.lane_kernels.proofs.Samples.{abs-add, total-more, squares-more}
 
 -- samples of so few bits
-narrow : (kind : SampleType) (v : ℤ) → IsSample kind v → width kind ≤ 2 → unsigned_abs v ≤ 65535
+pub narrow : (kind : SampleType) (v : ℤ) → IsSample kind v → width kind ≤ 2 → unsigned_abs v ≤ 65535
 narrow Int8 v h few = omega (arith, ints, h)
 narrow UInt8 v h few = omega (arith, ints, h)
 narrow Int16 v h few = omega (arith, ints, h)
@@ -28,7 +28,7 @@ narrow_stored kind bytes p fit few =
     narrow kind (stored kind bytes p) (number-IsSample kind (take (width kind) (drop (p * width kind) bytes))
     (All-take (λ b. b < 256) (width kind) (drop (p * width kind) bytes) (All-drop (λ b. b < 256) (p * width kind) bytes small))) few
 
-byte : (kind : SampleType) (v : ℤ) → IsSample kind v → width kind ≡ 1 → unsigned_abs v ≤ 255
+pub byte : (kind : SampleType) (v : ℤ) → IsSample kind v → width kind ≡ 1 → unsigned_abs v ≤ 255
 byte Int8 v h few = omega (arith, ints, h)
 byte UInt8 v h few = omega (arith, ints, h)
 byte Int16 v h few = absurd (omega arith)

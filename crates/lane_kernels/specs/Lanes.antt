@@ -1,22 +1,13 @@
--- Lanes of 32 and of 16 bits.
-use Rattle.std.specs.Prelude.{ℤ, pos}
+-- Lanes that stand for samples.
+use Rattle.std.specs.Prelude.{ℤ, pos, negsuc}
 use Rattle.nd_base.specs.declared.array.SampleType.{SampleType}
 use Rattle.nd_base.specs.declared.array.SampleType.TheVariants.{Int8, UInt8, Int16, UInt16, Int32, UInt32}
 
--- what a signed lane of 32 bits lacks of a sample
+-- what a lane lacks of its sample: lanes of 8 bits are without a sign, those of 16 and of 32 bits with one
 abbrev pub offset : SampleType → ℤ
-offset Int8 = pos 0
+offset Int8 = negsuc 127
 offset UInt8 = pos 0
 offset Int16 = pos 0
-offset UInt16 = pos 0
+offset UInt16 = pos 32768
 offset Int32 = pos 0
 offset UInt32 = pos 2147483648
-
--- what a signed lane of 16 bits lacks of a sample of at most 16
-abbrev pub narrow_offset : SampleType → ℤ
-narrow_offset Int8 = pos 0
-narrow_offset UInt8 = pos 0
-narrow_offset Int16 = pos 0
-narrow_offset UInt16 = pos 32768
-narrow_offset Int32 = pos 0
-narrow_offset UInt32 = pos 0

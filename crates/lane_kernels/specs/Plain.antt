@@ -19,6 +19,10 @@ abbrev pub squares : List ℤ → ℕ
 squares [] = 0
 squares (v ∷ vs) = unsigned_abs v * unsigned_abs v + squares vs
 
+-- the square of a value
+abbrev pub square : ℤ → ℤ
+square v = pos (unsigned_abs v * unsigned_abs v)
+
 -- the least of a value and others
 abbrev pub least_with : ℤ → List ℤ → ℤ
 least_with v [] = v
@@ -28,6 +32,16 @@ least_with v (w ∷ vs) = int_min v (least_with w vs)
 abbrev pub greatest_with : ℤ → List ℤ → ℤ
 greatest_with v [] = v
 greatest_with v (w ∷ vs) = int_max v (greatest_with w vs)
+
+-- the least value, where there is one
+abbrev pub least : List ℤ → Option ℤ
+least [] = None
+least (v ∷ vs) = Some (least_with v vs)
+
+-- the greatest value, where there is one
+abbrev pub greatest : List ℤ → Option ℤ
+greatest [] = None
+greatest (v ∷ vs) = Some (greatest_with v vs)
 
 -- the least and the greatest value, where there is one
 abbrev pub min_max : List ℤ → Option MinMax

@@ -7,6 +7,7 @@ ghost use Rattle.nd_base.specs.Samples.{width};
 ghost use Rattle.nd_base.specs.declared.array.SampleType.TheVariants.{UInt8, UInt16};
 ghost use Rattle.lane_kernels.specs.Plain.{stored, run};
 
+use crate::lanes::byte_lanes;
 use crate::sample::{low_word, sample_at};
 use nd_base::{SampleType, pair_at, word_at};
 use std::simd::prelude::*;
@@ -182,6 +183,53 @@ fn add_byte_pairs(input: &[u8], place: usize, sums: &mut [i64])
     );
 }
 
+/// The sums of each two of the sixteen samples of 8 bits from a place on, in 32 bits.
+#[inline(always)]
+fn low_pair_sums(kind: SampleType, line: &[u8], place: usize) -> i32x8
+    requires byte { width kind ≡ 1 }
+    requires room { place + 16 ≤ length line.now }
+    ensures { result ≡ map (λ k. run kind line.now 2 (place + k * 2)) (range_with_len 0 8) }
+{
+    let sums = pair_sums(byte_lanes(kind, line, place)).cast::<i32>();
+    match kind {
+        SampleType::Int8 => sums - i32x8::splat(256),
+        SampleType::UInt8 => sums,
+        _ => unreachable!(),
+    }
+}
+
+/// Adds two samples of 8 bits to each of eight sums of 32 bits, those from a place on to the first. The compiler adds them in lanes.
+#[inline(always)]
+#[tactic(auto, using(crate::proofs::Wraps::wrapping))]
+fn add_low_lanes(kind: SampleType, line: &[u8], place: usize, sums: &mut [i32])
+    requires byte { width kind ≡ 1 }
+    requires room { place + 16 ≤ length line.now }
+    requires lanes { length sums.old ≡ 8 }
+    ensures { (k : ℕ) → k < length sums.new
+        → slice_index_or sums.new k (pos 0) ≡ int_wrap w32 (slice_index_or sums.old k (pos 0) +ℤ run kind line.now 2 (place + k * 2)) }
+{
+    let more = low_pair_sums(kind, line, place).to_array();
+    for k in 0..LANES {
+        sums[k] = sums[k].wrapping_add(more[k]);
+    }
+}
+
+/// Adds two samples of 8 bits to each sum of 32 bits, those from the line's start on to the first.
+fn add_low_pairs(kind: SampleType, line: &[u8], sums: &mut [i32])
+    requires byte { width kind ≡ 1 }
+    requires within { length sums.old * 2 ≤ length line.now }
+    ensures { (k : ℕ) → k < length sums.new
+        → slice_index_or sums.new k (pos 0) ≡ int_wrap w32 (slice_index_or sums.old k (pos 0) +ℤ run kind line.now 2 (k * 2)) }
+{
+    let mut done = 0;
+    while sums.len() - done >= LANES {
+        let end = done + LANES;
+        add_low_lanes(kind, line, done * 2, &mut sums[done..end]);
+        done = end;
+    }
+    add_low_each(kind, &line[done * 2..], 2, &mut sums[done..]);
+}
+
 /// Adds `bin` samples to each sum. The usual bins have code of their own.
 #[inline(always)]
 pub(crate) fn add_runs(kind: SampleType, line: &[u8], bin: usize, sums: &mut [i64])
@@ -208,6 +256,7 @@ pub(crate) fn add_low_runs(kind: SampleType, line: &[u8], bin: usize, sums: &mut
 {
     match bin {
         1 => add_low_each(kind, line, 1, sums),
+        2 if kind.width() == 1 => add_low_pairs(kind, line, sums),
         2 => add_low_each(kind, line, 2, sums),
         3 => add_low_each(kind, line, 3, sums),
         4 => add_low_each(kind, line, 4, sums),

@@ -5,10 +5,11 @@ ghost use Rattle.std.specs.Prelude.{◌≡◌, ◌≢◌, ℕ, ◌*◌, ◌/◌,
 ghost use Rattle.std.specs.Int.{w32, w64, int_wrap};
 ghost use Rattle.nd_base.specs.Samples.{width, samples_of};
 ghost use Rattle.nd_base.specs.Shapes.{most_samples};
-ghost use Rattle.lane_kernels.specs.Plain.{total, squares, min_max, stored, run};
+ghost use Rattle.lane_kernels.specs.Plain.{total, squares, least, greatest, min_max, stored, run};
 
 mod binned;
 mod extremes;
+mod lanes;
 mod sample;
 mod sums;
 mod words;
@@ -44,7 +45,7 @@ pub fn squares_bytes(kind: SampleType, samples: &[u8]) -> u128
         SampleType::Int8 => sums::squares(SampleType::Int8, samples),
         SampleType::UInt8 => sums::squares(SampleType::UInt8, samples),
         SampleType::Int16 => sums::squares(SampleType::Int16, samples),
-        SampleType::UInt16 => sums::squares(SampleType::UInt16, samples),
+        SampleType::UInt16 => words::sum_and_squares(samples).1,
         SampleType::Int32 => sums::squares(SampleType::Int32, samples),
         SampleType::UInt32 => sums::squares(SampleType::UInt32, samples),
     }
@@ -78,6 +79,22 @@ pub fn min_max_bytes(kind: SampleType, samples: &[u8]) -> Option<MinMax>
         SampleType::Int32 => extremes::min_max(SampleType::Int32, samples),
         SampleType::UInt32 => extremes::min_max(SampleType::UInt32, samples),
     }
+}
+
+/// The least sample; None where there is none.
+pub fn min_bytes(kind: SampleType, samples: &[u8]) -> Option<i64>
+    ensures { result ≡ least (samples_of kind samples.now) }
+{
+    let both = min_max_bytes(kind, samples)?;
+    Some(both.min)
+}
+
+/// The greatest sample; None where there is none.
+pub fn max_bytes(kind: SampleType, samples: &[u8]) -> Option<i64>
+    ensures { result ≡ greatest (samples_of kind samples.now) }
+{
+    let both = min_max_bytes(kind, samples)?;
+    Some(both.max)
 }
 
 /// The place of the first sample with this value, and the number of samples where none has it.

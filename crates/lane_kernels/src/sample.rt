@@ -29,30 +29,6 @@ pub fn narrow_at(kind: SampleType, bytes: &[u8], place: usize) -> i32
     sample_at(kind, bytes, place) as i32
 }
 
-/// The size of the sample at a place, of 8 bits.
-#[inline(always)]
-#[tactic(auto, using(crate::proofs::Narrow::byte_stored))]
-fn byte_size(kind: SampleType, bytes: &[u8], place: usize) -> u32
-    requires place { place < length bytes.now / width kind }
-    requires narrow { width kind ≡ 1 }
-    ensures value { result ≡ unsigned_abs (stored kind bytes.now place) }
-    ensures bound { result ≤ 255 }
-{
-    (sample_at(kind, bytes, place) as i32).unsigned_abs()
-}
-
-/// The square of the sample at a place, of 8 bits.
-#[inline(always)]
-pub(crate) fn byte_square(kind: SampleType, bytes: &[u8], place: usize) -> u32
-    requires place { place < length bytes.now / width kind }
-    requires narrow { width kind ≡ 1 }
-    ensures value { result ≡ unsigned_abs (stored kind bytes.now place) * unsigned_abs (stored kind bytes.now place) }
-    ensures bound { result ≤ 65025 }
-{
-    let size = byte_size(kind, bytes, place);
-    size * size
-}
-
 /// The square of the sample at a place. In 64 bits a number's own bits have its square, so its size need not be taken.
 #[inline(always)]
 #[tactic(auto, using(crate::proofs::Squares::bits_squared))]

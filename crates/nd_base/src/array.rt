@@ -1,6 +1,6 @@
 //! Arrays.
 
-ghost use Rattle.std.specs.Prelude.{◌≡◌, ◌<◌, ◌≤◌, ◌*◌, length, slice_get, Some, None, IsTrue, nat_lt, IfOk, IfErr, IfSome, IfNone, OnOk, option_copied};
+ghost use Rattle.std.specs.Prelude.{◌≡◌, ◌<◌, ◌≤◌, ◌*◌, ◌↔◌, length, slice_get, Some, None, IsTrue, nat_lt, IfOk, IfErr, IfSome, IfNone, OnOk, option_copied};
 ghost use Rattle.std.specs.List.{list_all};
 ghost use Rattle.nd_base.specs.Samples.{width};
 ghost use Rattle.nd_base.specs.Shapes.{has_dimensions, sample_count, most_samples, shape_fault};
@@ -145,6 +145,14 @@ fn sample_count_within(dims: &[Dim]) -> Option<u64>
         }
     }
     Some(count)
+}
+
+/// Whether an array can have these dimensions: 1 to 10 of them, none empty, with at most 67,108,864 samples. Calls that
+/// take a list of dimensions require this of it.
+pub fn are_array_dims(dims: &[Dim]) -> bool
+    ensures { IsTrue result ↔ (IsTrue (has_dimensions dims.now) × (sample_count dims.now ≤ most_samples)) }
+{
+    are_dimensions(dims) && sample_count_within(dims).is_some()
 }
 
 /// The first refusal that holds of this type, these dimensions and so many bytes of samples.

@@ -25,7 +25,10 @@ mod stack;
 #[cfg(test)]
 mod tests;
 
-pub use array::{Dim, Head, MOST_SAMPLES, NdArray, SampleType, ShapeFault, frame_bytes, same_head};
+pub use array::{
+    Dim, Head, MOST_SAMPLES, NdArray, SampleType, ShapeFault, are_array_dims, frame_bytes,
+    same_head,
+};
 pub use attribute::{Attr, AttrColumn, AttrKind, AttrValue, Extra, FileShape};
 pub use attrs::{Attrs, Names};
 pub use bytes::Bytes;

@@ -1,9 +1,11 @@
 //! Stacks.
 
-ghost use Rattle.std.specs.Prelude.{◌≡◌, ◌<◌, ◌≤◌, ◌+◌, ◌*◌, length, take, drop, slice_get, Some, IfOk, IfSome};
+ghost use Rattle.std.specs.Prelude.{◌≡◌, ◌<◌, ◌≤◌, ◌+◌, ◌*◌, ◌↔◌, ℕ, IsTrue, length, take, drop, slice_get, Some, IfOk, IfSome};
 ghost use Rattle.nd_base.specs.SampleLaws.{AreBytes};
 
-use crate::{Bytes, FileShape, Head, NdArray, OutOfMemory, Seq, frame_bytes, same_head};
+use crate::{
+    Bytes, FileShape, Head, NdArray, OutOfMemory, Seq, are_array_dims, frame_bytes, same_head,
+};
 use std::alloc::Global;
 use std::marker::Model;
 
@@ -39,9 +41,35 @@ fn part(bytes: &[u8], place: usize, size: usize) -> &[u8]
     &bytes[place..place + size]
 }
 
+/// Whether so many frames of so many bytes, the first of which begins at `first` and each further one a step later, lie within
+/// `total` bytes.
+fn lie_within(frames: usize, size: usize, first: u64, step: u64, total: usize) -> bool
+    requires few { frames ≤ 65536 }
+    requires small { size ≤ 268435456 }
+    ensures { IsTrue result ↔ ((k : ℕ) → k < frames → first + k * step + size ≤ total) }
+{
+    let Some(last) = frames.checked_sub(1) else {
+        return true;
+    };
+    u128::from(first) + last as u128 * u128::from(step) + size as u128 <= total as u128
+}
+
 impl Stack {
     ghost use Rattle.nd_base.specs.Samples.{samples_of, bytes_of};
     ghost use Rattle.nd_base.specs.Stacks.{stack_at, frame_size, head_of, FitsFile, IsStack};
+
+    /// Whether these make a stack, as `new` requires: an array can have the shape's dimensions, there are at most 65,536
+    /// frames, and the samples of each lie within the bytes.
+    pub fn fits(shape: &FileShape, heads: &[Head], bytes: &[u8], first: u64, step: u64) -> bool
+        ensures { IsTrue result ↔ FitsFile shape.now heads.now bytes.now first step }
+    {
+        let dims = shape.dims.as_slice();
+        if !are_array_dims(dims) || heads.len() > 65_536 {
+            return false;
+        }
+        let size = frame_bytes(shape.kind, dims);
+        lie_within(heads.len(), size, first, step, bytes.len())
+    }
 
     /// The stack of these frames: frame k has head k, and its samples begin at place `first + k * step` of
     /// the bytes. It takes no memory.

@@ -45,12 +45,19 @@ fn run_threads<T: Threads + Wait + Sync>(
 }
 
 /// Runs a workload over an array. The words are its type, a rule and its sizes.
-fn run_over(alloc: Global, workload: &str, words: &[String], count: u32) -> Result<u64, Refusal> {
+fn run_over<T: Threads + Wait + Sync>(
+    rt: &T,
+    alloc: Global,
+    workload: &str,
+    words: &[String],
+    count: u32,
+) -> Result<u64, Refusal> {
     let [kind, rule @ .., sizes] = words else {
         return Err(Refusal::Usage);
     };
     let checksum = match workload {
         "stats" => stats::stats(alloc, kind.as_str(), rule, sizes.as_str(), count),
+        "chunks" => stats::chunks(rt, alloc, kind.as_str(), rule, sizes.as_str(), count),
         "region" => region::region(alloc, kind.as_str(), rule, sizes.as_str(), count),
         _ => None,
     };
@@ -72,7 +79,7 @@ fn run_words<T: Threads + Wait + Sync>(
     if more.is_empty() {
         run_threads(rt, alloc, workload.as_str(), count)
     } else {
-        run_over(alloc, workload.as_str(), more, count)
+        run_over(rt, alloc, workload.as_str(), more, count)
     }
 }
 

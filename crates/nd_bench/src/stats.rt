@@ -1,12 +1,14 @@
 //! Workload `stats TYPE BITS THRESHOLD BORDER BINS LOW HIGH PROFILES SIZES COUNT`: the measure of an array whose samples have so many bits, so many
-//! times.
+//! times; `chunks` with the same words measures it by as many threads as there are processors.
 
 ghost use Rattle.std.specs.Prelude.{IfSome};
 ghost use Rattle.nd_base.specs.GraphRules.{IsStats};
 
 use crate::given::{array_of, bound_of, kind_of, mixed};
 use nd_base::{Measure, NdArray, StatsRule};
+use nd_stats::{measure, measure_chunks};
 use std::alloc::Global;
+use std::thread::Threads;
 
 /// The lowest 64 bits of a wide number.
 fn low_bits(number: u128) -> u64 {
@@ -59,31 +61,58 @@ fn rule_of(words: &[String]) -> Option<StatsRule>
     })
 }
 
-/// Measures an array once.
-fn measure_one(alloc: Global, rule: &StatsRule, array: &NdArray) -> Option<u64>
-    requires { IsStats rule.now }
+/// The array whose samples have so many bits, and the rule.
+fn work_of(alloc: Global, kind: &str, words: &[String], sizes: &str) -> Option<(NdArray, StatsRule)>
+    ensures { IfSome result (λ work. IsStats work.1) }
 {
-    let m = nd_stats::measure(alloc, rule, 1, array.kind(), array.dims(), array.bytes()).ok()?;
-    Some(checksum(&m))
+    let [bits, rule @ ..] = words else {
+        return None;
+    };
+    let bits = bits.as_str().parse::<usize>().ok()?;
+    let array = array_of(alloc, kind_of(kind)?, bits, sizes)?;
+    Some((array, rule_of(rule)?))
 }
 
 /// Measures the array of these words `count` times.
 pub(crate) fn stats(
     alloc: Global,
     kind: &str,
-    rule: &[String],
+    words: &[String],
     sizes: &str,
     count: u32,
 ) -> Option<u64> {
-    let [bits, rule @ ..] = rule else {
-        return None;
-    };
-    let bits = bits.as_str().parse::<usize>().ok()?;
-    let array = array_of(alloc, kind_of(kind)?, bits, sizes)?;
-    let rule = rule_of(rule)?;
+    let (array, rule) = work_of(alloc, kind, words, sizes)?;
     let mut sum = 0;
     for _ in 0..count {
-        sum = mixed(sum, measure_one(alloc, &rule, &array)?);
+        let m = measure(alloc, &rule, 1, array.kind(), array.dims(), array.bytes()).ok()?;
+        sum = mixed(sum, checksum(&m));
+    }
+    Some(sum)
+}
+
+/// The same in chunks.
+pub(crate) fn chunks<T: Threads + Sync>(
+    rt: &T,
+    alloc: Global,
+    kind: &str,
+    words: &[String],
+    sizes: &str,
+    count: u32,
+) -> Option<u64> {
+    let (array, rule) = work_of(alloc, kind, words, sizes)?;
+    let mut sum = 0;
+    for _ in 0..count {
+        let m = measure_chunks(
+            rt,
+            alloc,
+            &rule,
+            1,
+            array.kind(),
+            array.dims(),
+            array.bytes(),
+        )
+        .ok()?;
+        sum = mixed(sum, checksum(&m));
     }
     Some(sum)
 }

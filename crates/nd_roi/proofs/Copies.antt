@@ -17,7 +17,8 @@ use Rattle.nd_base.specs.declared.array.SampleType.TheVariants.{Int8, UInt8, Int
 use Rattle.nd_base.specs.Samples.{width, number}
 use Rattle.nd_roi.specs.declared.cut.Cut.{Cut}
 use Rattle.nd_roi.specs.declared.walk.Axis.{Axis}
-use Rattle.nd_roi.specs.Region.{first_covered, low_bits}
+use Rattle.nd_roi.specs.Region.{low_bits}
+use Rattle.nd_roi.specs.Walk.{covers_from}
 use Rattle.nd_roi.specs.Walk.{stored, run, sum_below, lines_total, bins_of, bytes_of, line_total, line_bytes}
 use Rattle.nd_roi.proofs.Bounds.{get_or_take_small}
 use Rattle.nd_roi.proofs.Gather.{int_div-one}
@@ -120,7 +121,7 @@ samples_bytes kind bytes q k (suc n) fit within =
     ∙ sym (take-add w (n * w) (drop ((q + k) * w) bytes))
     ∙ ap (λ m. take m (drop ((q + k) * w) bytes)) (let s = suc-mul n w in let e : w + n * w ≡ suc n * w = omega (arith, s) in e)
 
-forward : (c : Cut) (out : ℕ) → c.bin ≡ 1 → c.reverse ≡ false → first_covered c out ≡ c.min + out
+forward : (c : Cut) (out : ℕ) → c.bin ≡ 1 → c.reverse ≡ false → covers_from c out ≡ c.min + out
 forward c out bin ahead =
     ap (λ r. c.min + (if r then c.size - 1 - out else out) * c.bin) ahead ∙ ap (λ b. c.min + out * b) bin
     ∙ (let e : c.min + out * 1 ≡ c.min + out = omega arith in e)
@@ -128,7 +129,7 @@ forward c out bin ahead =
 total_single : (kind : SampleType) (bytes : List ℕ) (line : Cut) (slower : List Axis) (base out : ℕ) → line.bin ≡ 1 → line.reverse ≡ false
     → bins_of slower ≡ 1 → line_total kind bytes line slower base out ≡ stored kind bytes (base + line.min + out)
 total_single kind bytes line slower base out bin ahead single =
-    let p = base + first_covered line out in
+    let p = base + covers_from line out in
     lines_single slower (run kind bytes line.bin) p single
     ∙ ap (λ b. run kind bytes b p) bin
     ∙ +ℤ_idl (stored kind bytes (p + 0))

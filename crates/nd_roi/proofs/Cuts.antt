@@ -9,14 +9,14 @@ use Rattle.std.proofs.lemmas.List.Sums.{sum_by-append}
 use Rattle.nd_base.specs.declared.array.Dim.{Dim}
 use Rattle.nd_base.specs.declared.graph.RoiRule.{RoiRule}
 use Rattle.nd_base.specs.Shapes.{sample_count}
-use Rattle.nd_roi.specs.declared.cut.Cut.{Cut}
+use Rattle.nd_roi.specs.Groups.{Groups}
 use Rattle.nd_roi.specs.declared.walk.Axis.{Axis}
 use Rattle.nd_roi.specs.Cut.{cut, dims_from, region_dims}
 use Rattle.nd_roi.specs.CutLaws.{IsWithin, cut-IsWithin}
-use Rattle.nd_roi.specs.Walk.{axes_from, first_reach, bin_reach, bins_of, for_lines}
+use Rattle.nd_roi.specs.Walk.{held, axes_from, first_reach, bin_reach, bins_of, for_lines}
 
 -- the last bin along an axis ends within the dimension
-pub axis_reach : (c : Cut) (n stride : ℕ) → IsWithin c n → (c.min + (c.size - 1) * c.bin) * stride + (c.bin - 1) * stride + stride ≤ stride * n
+pub axis_reach : (c : Groups) (n stride : ℕ) → IsWithin c n → (c.min + (c.size - 1) * c.bin) * stride + (c.bin - 1) * stride + stride ≤ stride * n
 axis_reach c n stride w =
     let one_more : suc (c.size - 1) ≡ c.size = let h = w.size in omega arith in
     let e : suc (c.size - 1) * c.bin ≡ c.size * c.bin = ap (λ m. m * c.bin) one_more in
@@ -35,7 +35,7 @@ reach_within rule k stride (dim ∷ dims) h =
     let rest = reach_within rule (suc k) (stride * dim.size) dims parts.1 in
     let here = axis_reach (cut rule k dim.size) dim.size stride (cut-IsWithin rule k dim.size (ltb-true 0 dim.size parts.0)) in
     let e = mul_assoc stride dim.size (sample_count dims) in
-    let a : Axis = record { cut = cut rule k dim.size; stride = stride } in
+    let a : Axis = record { cut = held (cut rule k dim.size); stride = stride } in
     let axes = axes_from rule (suc k) (stride * dim.size) dims in
     let f = sum_by-append first_reach (a ∷ []) axes in
     let g = sum_by-append bin_reach (a ∷ []) axes in
@@ -45,7 +45,7 @@ bins_of-append : (xs ys : List Axis) → bins_of (xs ++ ys) ≡ bins_of xs * bin
 bins_of-append [] ys = omega arith
 bins_of-append (x ∷ xs) ys = ap (λ n. x.cut.bin * n) (bins_of-append xs ys) ∙ sym (mul_assoc x.cut.bin (bins_of xs) (bins_of ys))
 
-bin_most : (c : Cut) (n : ℕ) → IsWithin c n → c.bin ≤ n
+bin_most : (c : Groups) (n : ℕ) → IsWithin c n → c.bin ≤ n
 bin_most c n w = let h = w.end in let g = mul-le-mul_right c.bin w.size in omega (arith, g)
 
 -- the bins cover no more lines than there are
@@ -55,7 +55,7 @@ bins_most rule k stride [] h = omega arith
 bins_most rule k stride (dim ∷ dims) h =
     let parts = and_parts (nat_lt 0 dim.size) (list_all (λ d. nat_lt 0 d.size) dims) h in
     let c = cut rule k dim.size in
-    let a : Axis = record { cut = c; stride = stride } in
+    let a : Axis = record { cut = held c; stride = stride } in
     let axes = axes_from rule (suc k) (stride * dim.size) dims in
     let rest = bins_most rule (suc k) (stride * dim.size) dims parts.1 in
     let here = bin_most c dim.size (cut-IsWithin rule k dim.size (ltb-true 0 dim.size parts.0)) in
@@ -74,7 +74,7 @@ pub for_lines-count : (rule : RoiRule) (k stride : ℕ) (dims : List Dim) (n : �
 for_lines-count rule k stride [] n = omega arith
 for_lines-count rule k stride (dim ∷ dims) n =
     let c = cut rule k dim.size in
-    let a : Axis = record { cut = c; stride = stride } in
+    let a : Axis = record { cut = held c; stride = stride } in
     let axes = axes_from rule (suc k) (stride * dim.size) dims in
     let count = sample_count (dims_from rule (suc k) dims) in
     ap (λ list. for_lines list n) (reverse-append (a ∷ []) axes) ∙ for_lines-append (reverse axes) (a ∷ []) n

@@ -10,7 +10,7 @@ use Rattle.std.proofs.lemmas.List.FromFn.{length-map-range_with_len, get_or-map-
 use Rattle.std.proofs.lemmas.List.Folds.{flat_map-map}
 use Rattle.nd_base.specs.declared.array.SampleType.{SampleType}
 use Rattle.nd_roi.specs.declared.cut.Cut.{Cut}
-use Rattle.nd_roi.specs.Region.{first_covered}
+use Rattle.nd_roi.specs.Walk.{covers_from}
 use Rattle.nd_roi.specs.Walk.{bytes_of}
 use Rattle.nd_roi.proofs.Bytes.{bytes_of-low}
 use Rattle.nd_roi.proofs.Places.{flat_map-cong}
@@ -22,11 +22,11 @@ from_zero z v e fits = let f : z +ℤ v ≡ v = omega (arith, ints) in ap (int_w
 pub low_from_zero : (z v : ℤ) → z ≡ pos 0 → int_wrap w32 (z +ℤ v) ≡ int_wrap w32 v
 low_from_zero z v e = let f : z +ℤ v ≡ v = omega (arith, ints) in ap (int_wrap w32) f
 
-pub first_covered-forward : (c : Cut) (out : ℕ) → c.reverse ≡ false → first_covered c out ≡ c.min + out * c.bin
-first_covered-forward c out h = rw h refl
+pub covers_from-forward : (c : Cut) (out : ℕ) → c.reverse ≡ false → covers_from c out ≡ c.min + out * c.bin
+covers_from-forward c out h = rw h refl
 
-pub first_covered-reversed : (c : Cut) (out : ℕ) → c.reverse ≡ true → first_covered c out ≡ c.min + (c.size - 1 - out) * c.bin
-first_covered-reversed c out h = rw h refl
+pub covers_from-reversed : (c : Cut) (out : ℕ) → c.reverse ≡ true → covers_from c out ≡ c.min + (c.size - 1 - out) * c.bin
+covers_from-reversed c out h = rw h refl
 
 -- where a bin begins
 pub bin_place : (base min bin first k m covered : ℕ) → first + k ≡ m → covered ≡ min + m * bin → base + min + first * bin + k * bin ≡ base + covered

@@ -13,7 +13,7 @@ use Rattle.nd_base.specs.Shapes.{sample_count}
 use Rattle.nd_base.specs.ShapeLaws.{sample_count-positive}
 use Rattle.nd_roi.specs.declared.cut.Cut.{Cut}
 use Rattle.nd_roi.specs.declared.walk.Axis.{Axis}
-use Rattle.nd_roi.specs.Region.{first_covered}
+use Rattle.nd_roi.specs.Walk.{covers_from}
 use Rattle.nd_roi.specs.Walk.{concat_below, line_bytes, line_total, bytes_of}
 use Rattle.nd_base.specs.PlaceLaws.{range-split}
 
@@ -50,8 +50,8 @@ most_of true low back out bin most f b = omega arith
 most_of false low back out bin most f b = omega arith
 
 -- no output index begins later than the last group
-pub first_covered-most : (c : Cut) (out : ℕ) → out < c.size → first_covered c out ≤ c.min + (c.size - 1) * c.bin
-first_covered-most c out h =
+pub covers_from-most : (c : Cut) (out : ℕ) → out < c.size → covers_from c out ≤ c.min + (c.size - 1) * c.bin
+covers_from-most c out h =
     let forward = mul-le-mul_right c.bin (below_last out c.size h) in
     let back = mul-le-mul_right c.bin (left_below_last out c.size) in
     most_of c.reverse c.min (c.size - 1 - out) out c.bin ((c.size - 1) * c.bin) forward back

@@ -7,13 +7,13 @@ use Rattle.std.proofs.lemmas.Grind.{flat_map-append}
 use Rattle.std.proofs.lemmas.List.Folds.{flat_map-map}
 use Rattle.nd_base.specs.declared.array.Dim.{Dim}
 use Rattle.nd_base.specs.declared.graph.RoiRule.{RoiRule}
-use Rattle.nd_roi.specs.declared.cut.Cut.{Cut}
+use Rattle.nd_roi.specs.Groups.{Groups}
 use Rattle.nd_roi.specs.declared.walk.Axis.{Axis}
 use Rattle.nd_roi.specs.Cut.{cut, cuts_from, dims_from}
 use Rattle.nd_base.specs.Places.{place, product_of, indices, sizes_of}
 use Rattle.nd_roi.specs.Region.{first_covered, covered_by, covered, sum_over}
 use Rattle.nd_base.specs.PlaceLaws.{range-split}
-use Rattle.nd_roi.specs.Walk.{sum_below, lines_total, concat_below, lines, axes_from}
+use Rattle.nd_roi.specs.Walk.{held, sum_below, lines_total, concat_below, lines, axes_from}
 
 -- sums
 
@@ -74,7 +74,7 @@ reverse-cons : {X : Type 0} (x : X) (xs ys : List X) → reverse (x ∷ xs) ++ y
 reverse-cons x xs ys = ap (λ z. z ++ ys) (reverse-append (x ∷ []) xs) ∙ append_assoc (reverse xs) (x ∷ []) ys
 
 -- the first covered index in each dimension
-abbrev pub starts : List Cut → List ℕ → List ℕ
+abbrev pub starts : List Groups → List ℕ → List ℕ
 starts [] index = []
 starts (c ∷ cs) [] = []
 starts (c ∷ cs) (out ∷ index) = first_covered c out ∷ starts cs index
@@ -87,8 +87,8 @@ total_is rule k t [] acc value base index long = omega (arith, ints)
 total_is rule k t (dim ∷ dims) acc value base [] long = absurd (omega arith)
 total_is rule k t (dim ∷ dims) acc value base (out ∷ index) long =
     let n = dim.size in
-    let c : Cut = cut rule k n in
-    let a : Axis = record { cut = c; stride = t } in
+    let c : Groups = cut rule k n in
+    let a : Axis = record { cut = held c; stride = t } in
     let cs = cuts_from rule (suc k) dims in
     let sizes = sizes_of dims in
     let from = first_covered c out in
@@ -112,8 +112,8 @@ pub lines_are : {X : Type 0} (rule : RoiRule) (k t : ℕ) (dims : List Dim) (acc
 lines_are {X = X} rule k t [] acc line base = ap (lines acc line) (omega arith) ∙ sym (append-nil (lines acc line (base + t * 0)))
 lines_are {X = X} rule k t (dim ∷ dims) acc line base =
     let n = dim.size in
-    let c : Cut = cut rule k n in
-    let a : Axis = record { cut = c; stride = t } in
+    let c : Groups = cut rule k n in
+    let a : Axis = record { cut = held c; stride = t } in
     let cs = cuts_from rule (suc k) dims in
     let sizes = sizes_of dims in
     let outs = indices (sizes_of (dims_from rule (suc k) dims)) in

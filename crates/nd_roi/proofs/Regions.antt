@@ -17,12 +17,13 @@ use Rattle.nd_base.specs.Samples.{width, number, numbers, samples_of}
 use Rattle.nd_base.specs.SampleLaws.{width-positive}
 use Rattle.nd_base.specs.Shapes.{sample_count}
 use Rattle.nd_roi.specs.declared.cut.Cut.{Cut}
+use Rattle.nd_roi.specs.Groups.{Groups}
 use Rattle.nd_roi.specs.declared.walk.Axis.{Axis}
 use Rattle.nd_roi.specs.Cut.{cut, cuts_from, dims_from, region_dims, cuts}
 use Rattle.nd_base.specs.Places.{place, indices, sizes_of}
 use Rattle.nd_roi.specs.RegionLaws.{low_bits-below_16, low_bits-below_32}
 use Rattle.nd_roi.specs.Region.{first_covered, covered_by, covered, sum_over, low_bits, reduced, out_type, sample_at, scaled, region_samples}
-use Rattle.nd_roi.specs.Walk.{stored, run, lines_total, lines, axes_from, bytes_of, line_bytes}
+use Rattle.nd_roi.specs.Walk.{held, stored, run, lines_total, lines, axes_from, bytes_of, line_bytes}
 use Rattle.nd_roi.proofs.Places.{starts, total_is, lines_are, product-cong, sum_over-flat_map, sum_over-map, sum_over-cong, sum_over-range, sum_below-cong}
 use Rattle.nd_roi.proofs.Places.{flat_map-cong, flat_map-flat_map}
 use Rattle.nd_roi.specs.CutLaws.{length-dims_from}
@@ -119,7 +120,7 @@ module _ (rule : RoiRule) (kind : SampleType) (dim : Dim) (dims : List Dim) (byt
   value_is [] long = absurd (omega arith)
   value_is (out ∷ index) long =
       let n = dim.size in
-      let c : Cut = cut rule 0 n in
+      let c : Groups = cut rule 0 n in
       let cs = cuts_from rule 1 dims in
       let sizes = sizes_of dims in
       let from = first_covered c out in
@@ -138,19 +139,19 @@ module _ (rule : RoiRule) (kind : SampleType) (dim : Dim) (dims : List Dim) (byt
 
   -- the bytes in the order of the output's indices
   pub lines_by_index : (out_kind : SampleType) →
-      lines (reverse (axes_from rule 1 dim.size dims)) (λ at. line_bytes kind bytes (cut rule 0 dim.size)
+      lines (reverse (axes_from rule 1 dim.size dims)) (λ at. line_bytes kind bytes (held (cut rule 0 dim.size))
       (reverse (axes_from rule 1 dim.size dims)) rule.scale out_kind at 0 (cut rule 0 dim.size).size) 0
       ≡ flat_map (λ index. bytes_of out_kind
       (int_div (lines_total (reverse (axes_from rule 1 dim.size dims)) (run kind bytes (cut rule 0 dim.size).bin)
       (place (sizes_of (dim ∷ dims)) (starts (cuts rule (dim ∷ dims)) index))) (pos rule.scale))) (indices (sizes_of (region_dims rule (dim ∷ dims))))
   lines_by_index out_kind =
       let n = dim.size in
-      let c : Cut = cut rule 0 n in
+      let c : Groups = cut rule 0 n in
       let cs = cuts_from rule 1 dims in
       let sizes = sizes_of dims in
       let axes = axes_from rule 1 n dims in
       let total : ℕ → ℤ = lines_total (reverse axes) (run kind bytes c.bin) in
-      let line : ℕ → List ℕ = λ at. line_bytes kind bytes c (reverse axes) rule.scale out_kind at 0 c.size in
+      let line : ℕ → List ℕ = λ at. line_bytes kind bytes (held c) (reverse axes) rule.scale out_kind at 0 c.size in
       let H : List ℕ → List ℕ = λ index. bytes_of out_kind (int_div (total (place (n ∷ sizes) (starts (c ∷ cs) index))) (pos rule.scale)) in
       let outs = indices (sizes_of (dims_from rule 1 dims)) in
       ap (λ list. lines list line 0) (sym (append-nil (reverse axes)))
@@ -165,7 +166,7 @@ module _ (rule : RoiRule) (kind : SampleType) (dim : Dim) (dims : List Dim) (byt
 
   -- the walk writes the region
   pub region_is :
-      samples_of (out_type rule kind) (walked kind bytes (cut rule 0 dim.size) (axes_from rule 1 dim.size dims) rule.scale (out_type rule kind))
+      samples_of (out_type rule kind) (walked kind bytes (held (cut rule 0 dim.size)) (axes_from rule 1 dim.size dims) rule.scale (out_type rule kind))
       ≡ region_samples rule kind (dim ∷ dims) (samples_of kind bytes)
   region_is =
       let out_kind = out_type rule kind in

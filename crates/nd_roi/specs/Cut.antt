@@ -4,7 +4,7 @@ use Rattle.std.specs.Prelude.{if◌then◌else◌}
 use Rattle.std.specs.Int.{int_max, int_min}
 use Rattle.nd_base.specs.declared.array.Dim.{Dim}
 use Rattle.nd_base.specs.declared.graph.RoiRule.{RoiRule}
-use Rattle.nd_roi.specs.declared.cut.Cut.{Cut}
+use Rattle.nd_roi.specs.Groups.{Groups}
 
 -- the number nearest to this one from low to high
 abbrev pub clamped : (low high : ℕ) → ℤ → ℕ
@@ -31,7 +31,7 @@ abbrev pub bin : RoiRule → ℕ → ℕ → ℕ
 bin rule k n = clamped 1 (span rule k n) (slice_index_or rule.bin k (pos 1))
 
 -- the cut of a dimension of n, the k-th of the array; a remainder at the high end isn't binned
-abbrev pub cut : RoiRule → ℕ → ℕ → Cut
+abbrev pub cut : RoiRule → ℕ → ℕ → Groups
 cut rule k n = record {
   min = first_index rule k n;
   bin = bin rule k n;
@@ -40,12 +40,12 @@ cut rule k n = record {
 }
 
 -- the cuts of these dimensions, the first of which is the k-th of the array
-abbrev pub cuts_from : RoiRule → ℕ → List Dim → List Cut
+abbrev pub cuts_from : RoiRule → ℕ → List Dim → List Groups
 cuts_from rule k [] = []
 cuts_from rule k (dim ∷ dims) = cut rule k dim.size ∷ cuts_from rule (suc k) dims
 
 -- the cuts of all dimensions
-abbrev pub cuts : RoiRule → List Dim → List Cut
+abbrev pub cuts : RoiRule → List Dim → List Groups
 cuts rule dims = cuts_from rule 0 dims
 
 -- the 32-bit number nearest to this one
@@ -53,7 +53,7 @@ abbrev pub clamped_i32 : ℤ → ℤ
 clamped_i32 z = int_max (negsuc 2147483647) (int_min z (pos 2147483647))
 
 -- what a cut leaves of a dimension
-abbrev pub cut_dim : Dim → Cut → Dim
+abbrev pub cut_dim : Dim → Groups → Dim
 cut_dim dim c = record {
   size = c.size;
   offset = clamped_i32 (dim.offset +ℤ pos c.min);

@@ -10,7 +10,7 @@ use Rattle.nd_base.specs.declared.array.Dim.{Dim}
 use Rattle.nd_base.specs.declared.graph.RoiRule.{RoiRule}
 use Rattle.nd_base.specs.Shapes.{sample_count, has_dimensions}
 use Rattle.nd_base.specs.ShapeLaws.{has_dimensions-none_empty}
-use Rattle.nd_roi.specs.declared.cut.Cut.{Cut}
+use Rattle.nd_roi.specs.Groups.{Groups}
 use Rattle.nd_roi.specs.Cut.{clamped, first_index, takes_rest, span, bin, cut, dims_from, region_dims}
 
 clamped-low : (low high : ℕ) (z : ℤ) → low ≤ high → low ≤ clamped low high z
@@ -33,7 +33,7 @@ end_by : (m s whole n : ℕ) → whole ≤ s → s ≤ n - m → m ≤ n - 1 →
 end_by m s whole n a b c d = omega arith
 
 -- the groups lie within the dimension, and none is empty
-pub record IsWithin (c : Cut) (n : ℕ) : Type 0 where
+pub record IsWithin (c : Groups) (n : ℕ) : Type 0 where
   pub end : c.min + c.size * c.bin ≤ n
   pub size : 1 ≤ c.size
   pub bin : 1 ≤ c.bin
@@ -58,7 +58,7 @@ cut-IsWithin rule k n h =
     }
 
 -- a cut has no more groups than the dimension has indices
-pub size_most : (c : Cut) (n : ℕ) → IsWithin c n → c.size ≤ n
+pub size_most : (c : Groups) (n : ℕ) → IsWithin c n → c.size ≤ n
 size_most c n w = let h = w.end in let g = mul-le-mul_left c.size w.bin in omega (arith, g)
 
 pub length-dims_from : (rule : RoiRule) (k : ℕ) (dims : List Dim) → length (dims_from rule k dims) ≡ length dims

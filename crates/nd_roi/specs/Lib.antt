@@ -1,4 +1,5 @@
 pub mod Cut
+pub mod Groups
 pub mod CutLaws
 pub mod Region
 pub mod RegionLaws

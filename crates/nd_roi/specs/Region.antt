@@ -10,25 +10,25 @@ use Rattle.nd_base.specs.declared.array.SampleType.TheVariants.{Int8, UInt8, Int
 use Rattle.nd_base.specs.declared.graph.RoiRule.{RoiRule}
 use Rattle.nd_base.specs.Array.{Array}
 use Rattle.nd_base.specs.Places.{place, product_of, indices, sizes_of}
-use Rattle.nd_roi.specs.declared.cut.Cut.{Cut}
+use Rattle.nd_roi.specs.Groups.{Groups}
 use Rattle.nd_roi.specs.Cut.{cuts, region_dims}
 
 -- the first index of one dimension that an output index covers
-abbrev pub first_covered : Cut → ℕ → ℕ
+abbrev pub first_covered : Groups → ℕ → ℕ
 first_covered c out = c.min + (if c.reverse then c.size - 1 - out else out) * c.bin
 
 -- all of them: there are bin
-abbrev pub covered_by : Cut → ℕ → List ℕ
+abbrev pub covered_by : Groups → ℕ → List ℕ
 covered_by c out = range_with_len (first_covered c out) c.bin
 
 -- those of each dimension
-abbrev pub covered_ranges : List Cut → List ℕ → List (List ℕ)
+abbrev pub covered_ranges : List Groups → List ℕ → List (List ℕ)
 covered_ranges [] index = []
 covered_ranges (c ∷ cs) [] = []
 covered_ranges (c ∷ cs) (out ∷ index) = covered_by c out ∷ covered_ranges cs index
 
 -- the indices of the array that an index of the output covers
-abbrev pub covered : List Cut → List ℕ → List (List ℕ)
+abbrev pub covered : List Groups → List ℕ → List (List ℕ)
 covered cs index = product_of (covered_ranges cs index)
 
 -- the sum of the values at these

@@ -4,6 +4,7 @@ ghost use Rattle.std.specs.Prelude.{◌≡◌, ◌<◌, ◌≤◌, IfOk, IsTrue,
 ghost use Rattle.nd_base.specs.GraphRules.{IsRoi};
 ghost use Rattle.nd_base.specs.Shapes.{has_dimensions, sample_count, most_samples};
 ghost use Rattle.nd_roi.specs.Cut.{clamped, clamped_i32, cut, cut_dim, region_dims};
+ghost use Rattle.nd_roi.specs.Walk.{held, kept};
 
 use nd_base::{Dim, OutOfMemory, RoiRule};
 use std::alloc::Global;
@@ -19,12 +20,12 @@ pub(crate) struct Cut {
 }
 
 impl Cut {
-    ghost use Rattle.nd_roi.specs.Region.{first_covered};
+    ghost use Rattle.nd_roi.specs.Walk.{covers_from};
 
     /// The first index that the output index `out` covers.
     pub fn first_covered(self, out: usize) -> usize
         requires { out < self.size }
-        ensures { result ≡ first_covered self out }
+        ensures { result ≡ covers_from self out }
     {
         let group = if self.reverse {
             self.size as usize - 1 - out
@@ -63,7 +64,7 @@ fn flagged(list: &[bool], k: usize, otherwise: bool) -> bool
 /// What the rule cuts out of dimension `k`, which has `size` elements.
 pub(crate) fn cut_of(rule: &RoiRule, k: usize, size: u32) -> Cut
     requires { 0 < size }
-    ensures { result ≡ cut rule.now k size }
+    ensures { result ≡ held (cut rule.now k size) }
 {
     let min = clamp_index(listed(rule.min.as_slice(), k, 0), 0, size - 1);
     let rest = size - min;
@@ -104,7 +105,7 @@ fn binning_by(binning: i32, bin: u32) -> i32
 
 /// What the cut leaves of the dimension.
 fn cut_dim(dim: &Dim, cut: Cut) -> Dim
-    ensures { result ≡ cut_dim dim.now cut }
+    ensures { result ≡ cut_dim dim.now (kept cut) }
 {
     Dim {
         size: cut.size,

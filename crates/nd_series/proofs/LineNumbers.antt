@@ -13,8 +13,8 @@ use Rattle.lane_kernels.specs.declared.extremes.MinMax.{MinMax}
 use Rattle.nd_roi.proofs.Gather.{in_order}
 use Rattle.nd_stats.specs.Samples.{Sample, placed, sum_of}
 use Rattle.nd_stats.proofs.Edges.{count_run, value_run}
-use Rattle.nd_stats.proofs.Firsts.{least_value, greatest_value, get_or-numbers}
-use Rattle.nd_stats.proofs.Parts.{stored_behind}
+use Rattle.nd_stats.proofs.Firsts.{least_value, greatest_value}
+use Rattle.lane_kernels.proofs.Slices.{get_or-numbers, stored_behind}
 use Rattle.nd_stats.proofs.Sums.{count-first, sum_where-first}
 use Rattle.nd_stats.proofs.Totals.{total_placed}
 use Rattle.nd_series.specs.declared.row.Part.{Part}

@@ -9,6 +9,7 @@ use Rattle.std.proofs.lemmas.List.{drop-drop}
 use Rattle.nd_base.specs.declared.array.SampleType.{SampleType}
 use Rattle.nd_base.specs.Samples.{width, number, numbers}
 use Rattle.nd_base.specs.SampleLaws.{length-numbers}
+use Rattle.lane_kernels.proofs.Slices.{get_or-numbers}
 use Rattle.lane_kernels.specs.Plain.{stored, least_with, greatest_with, min_max}
 use Rattle.lane_kernels.specs.declared.extremes.MinMax.{MinMax}
 use Rattle.nd_stats.specs.declared.tally.Extremes.{Extremes}
@@ -18,15 +19,6 @@ use Rattle.nd_stats.proofs.Sums.{least-both, greatest-both}
 
 abbrev one : ℕ → ℤ → Sample
 one p v = record { place = p; value = v }
-
-pub get_or-numbers : (kind : SampleType) (n k : ℕ) (bytes : List ℕ) → k < n → get_or (numbers kind n bytes) k (pos 0) ≡ stored kind bytes k
-get_or-numbers kind zero k bytes h = absurd (omega arith)
-get_or-numbers kind (suc n) zero bytes h = ap (λ m. number kind (take (width kind) (drop m bytes))) (sym (zero-mul (width kind)))
-get_or-numbers kind (suc n) (suc k) bytes h =
-    let w = width kind in
-    get_or-numbers kind n k (drop w bytes) (omega arith)
-    ∙ ap (λ rest. number kind (take w rest)) (drop-drop (k * w) w bytes
-    ∙ ap (λ m. drop m bytes) (let e : k * w + w ≡ suc k * w = (let s = suc-mul k w in omega arith) in let f : w + k * w ≡ suc k * w = omega arith in f))
 
 is_min : (v w : ℤ) → (if int_lt w v then w else v) ≡ int_min v w
 is_min v w = grind (arith, ints)

@@ -3,6 +3,7 @@ pub mod Bins
 pub mod BlockRooms
 pub mod Bounds
 pub mod Counts
+pub mod Cuts
 pub mod Edges
 pub mod Firsts
 pub mod Growth

@@ -20,7 +20,7 @@ use Rattle.nd_stats.specs.Samples.{Sample, placed}
 use Rattle.nd_stats.specs.Measured.{count_where, value_where}
 use Rattle.nd_stats.specs.Over.{IsOver, reaches, weighted}
 use Rattle.nd_stats.specs.Columns.{IsNarrowUnsigned, moment}
-use Rattle.nd_stats.proofs.Firsts.{get_or-numbers}
+use Rattle.lane_kernels.proofs.Slices.{get_or-numbers}
 use Rattle.nd_stats.proofs.Overs.{narrow_stored}
 use Rattle.nd_stats.proofs.Joinings.{part_count, over_join}
 use Rattle.nd_stats.proofs.Parts.{parts-more}

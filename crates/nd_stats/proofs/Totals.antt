@@ -19,7 +19,7 @@ use Rattle.nd_stats.specs.Measured.{count_where, square, has_histogram, is_on_bo
 use Rattle.nd_stats.specs.Running.{IsFrame, AreSums, IsEdge, IsHistogram}
 use Rattle.nd_stats.proofs.Places.{AreSizes}
 use Rattle.nd_stats.proofs.Sums.{sum_of-more}
-use Rattle.nd_stats.proofs.Parts.{stored_behind}
+use Rattle.lane_kernels.proofs.Slices.{stored_behind}
 use Rattle.nd_stats.proofs.Pieces.{length-piece, piece-more, sample_at}
 
 pub total_placed : (p : ℕ) (vs : List ℤ) → total vs ≡ sum_of (λ s. s.value) (placed p vs)

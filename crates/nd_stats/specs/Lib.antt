@@ -10,3 +10,4 @@ pub mod Row
 pub mod Merging
 pub mod Joined
 pub mod MergingLaws
+pub mod Chunks

@@ -7,6 +7,7 @@
 
 mod blocks;
 mod border;
+mod chunks;
 mod columns;
 mod extremes;
 mod histogram;
@@ -20,6 +21,7 @@ mod sample;
 mod spot;
 mod tally;
 
+pub use chunks::measure_chunks;
 pub use measures::{measure, measure_piece};
 pub use merge::Merge;
 pub use row::row_text;

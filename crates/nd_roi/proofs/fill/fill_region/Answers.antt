@@ -10,7 +10,7 @@ use Rattle.nd_base.specs.SampleLaws.{width-positive}
 use Rattle.nd_base.specs.Shapes.{sample_count}
 use Rattle.nd_roi.specs.Cut.{cut, region_dims}
 use Rattle.nd_roi.specs.Region.{out_type, region_samples}
-use Rattle.nd_roi.specs.Walk.{axes_from, first_reach, bin_reach, bins_of, for_lines}
+use Rattle.nd_roi.specs.Walk.{held, axes_from, first_reach, bin_reach, bins_of, for_lines}
 use Rattle.nd_roi.proofs.Regions.{walked, region_is}
 use Rattle.nd_roi.proofs.Cuts.{walk_within, walk_few, walk_room}
 use Rattle.nd_roi.proofs.fill.fill_region.Goals as goal
@@ -75,6 +75,6 @@ returns c =
     ∙ c.fill_lines.ensures.written
     ∙ ap (λ axes. walked kind input c.cut_of.result axes rule.scale c.unwrap_or.result) c.set_axes.ensures
     ∙ ap (λ line. walked kind input line axes rule.scale c.unwrap_or.result) c.cut_of.ensures
-    ∙ ap (λ out_kind. walked kind input (cut rule 0 first.size) axes rule.scale out_kind) c.unwrap_or.ensures)
+    ∙ ap (λ out_kind. walked kind input (held (cut rule 0 first.size)) axes rule.scale out_kind) c.unwrap_or.ensures)
     ∙ region_is rule kind first others input whole
     ∙ ap (λ dims. region_samples rule kind dims (samples_of kind input)) (sym c.in-Some.ensures.cases.0)

@@ -3,9 +3,9 @@ use Rattle.std.proofs.lemmas.List.{reverse-append}
 use Rattle.std.proofs.lemmas.List.Sums.{sum_by-append}
 use Rattle.std.proofs.Math.Nat.{mul-le-mul_right, suc-mul}
 use Rattle.nd_base.specs.Samples.{width}
-use Rattle.nd_roi.specs.Region.{first_covered}
+use Rattle.nd_roi.specs.Walk.{covers_from}
 use Rattle.nd_roi.specs.Walk.{line_bytes, lines, for_lines, first_reach, concat_below}
-use Rattle.nd_roi.proofs.Lines.{first_covered-most, concat_below-more}
+use Rattle.nd_roi.proofs.Lines.{covers_from-most, concat_below-more}
 use Rattle.nd_roi.proofs.Sums.{samples_most}
 use Rattle.nd_roi.proofs.walk.+fill_lines.Goals as goal
 use Rattle.nd_roi.proofs.walk.+fill_lines.Goals.{After-first_covered}
@@ -16,7 +16,7 @@ reaches : (t : ℕ) (c : After-first_covered t)
 reaches t c =
     let axis = c.in-Some.axis.now in
     let e = ap (sum_by first_reach) c.in-Some.ensures.cases.0 ∙ sum_by-append first_reach c.in-Some.faster.now (axis ∷ []) in
-    let most = first_covered-most axis.cut c.loop-index.index (omega arith) in
+    let most = covers_from-most axis.cut c.loop-index.index (omega arith) in
     let low : c.first_covered.result ≤ axis.cut.min + (axis.cut.size - 1) * axis.cut.bin = omega (arith, most, c.first_covered.ensures) in
     let reach = mul-le-mul_right axis.stride low in
     omega (arith, e, reach)
@@ -53,7 +53,7 @@ loop-index-preserved t c =
     let job = c.args.job.now in
     let line : ℕ → List ℕ = λ at. line_bytes job.kind c.args.input.now job.line (reverse job.slower.now) job.scale job.out_kind at 0 job.line.size in
     let axis = c.in-Some.axis.now in
-    let list : ℕ → List ℕ = λ index. lines (reverse c.in-Some.faster.now) line (c.args.base + first_covered axis.cut index * axis.stride) in
+    let list : ℕ → List ℕ = λ index. lines (reverse c.in-Some.faster.now) line (c.args.base + covers_from axis.cut index * axis.stride) in
     let step = suc-mul c.loop-index.index (for_lines (reverse c.in-Some.faster.now) (job.line.size * width job.out_kind)) in
     record {
       next = omega (arith, step, c.fill_lines-next.ensures.next, c.loop-index.invariant.next);

@@ -1,10 +1,10 @@
 use Rattle.std.proofs.Common.{rules, ◌≡◌, ℕ, ◌+◌, ◌-◌, ◌*◌, ◌<◌, ◌≤◌, ◌∙◌, ap, length, get_or, replicate, reverse, ℤ, pos, arith}
 use Rattle.std.proofs.Math.Nat.{mul-le-mul_right}
 use Rattle.std.proofs.lemmas.List.{get_or-replicate}
-use Rattle.nd_roi.specs.Region.{first_covered}
+use Rattle.nd_roi.specs.Walk.{covers_from}
 use Rattle.nd_roi.specs.Walk.{run, lines_total, line_total}
 use Rattle.nd_roi.proofs.Bounds.{total_fits}
-use Rattle.nd_roi.proofs.Gather.{from_zero, first_covered-forward, first_covered-reversed, bin_place, in_order, in_reverse}
+use Rattle.nd_roi.proofs.Gather.{from_zero, covers_from-forward, covers_from-reversed, bin_place, in_order, in_reverse}
 use Rattle.nd_roi.proofs.walk.gather.Goals as goal
 use Rattle.nd_roi.proofs.walk.gather.Goals.{After-add_lines}
 
@@ -17,7 +17,7 @@ add_lines-requires-clause-within c =
 
 -- each sum is that of the bin at its place
 gathered : (c : After-add_lines) (k m out : ℕ) → k < length c.args.sums.now → c.first_bin-first.result + k ≡ m
-    → first_covered c.args.job.now.line out ≡ c.args.job.now.line.min + m * c.args.job.now.line.bin →
+    → covers_from c.args.job.now.line out ≡ c.args.job.now.line.min + m * c.args.job.now.line.bin →
     get_or c.add_lines.new.sums k (pos 0)
     ≡ line_total c.args.job.now.kind c.args.input.now c.args.job.now.line (reverse c.args.job.now.slower.now) c.args.base out
 gathered c k m out h e f =
@@ -30,7 +30,7 @@ gathered c k m out h e f =
     c.add_lines.ensures k (omega arith)
     ∙ from_zero (get_or c.fill.new.self k (pos 0)) (total at) zero
     (total_fits c.args.input.now (λ i. (c.type_inv.input i).fits) c.args.job.now.kind line.bin (reverse c.args.job.now.slower.now) at c.requires.few)
-    ∙ ap total (bin_place c.args.base line.min line.bin c.first_bin-first.result k m (first_covered line out) e f)
+    ∙ ap total (bin_place c.args.base line.min line.bin c.first_bin-first.result k m (covers_from line out) e f)
 
 pub returns-else-line : goal.returns-else-line
 returns-else-line c =
@@ -39,7 +39,7 @@ returns-else-line c =
     in_order (line_total c.args.job.now.kind c.args.input.now line (reverse c.args.job.now.slower.now) c.args.base) c.args.done n c.add_lines.new.sums
     (omega arith)
     (λ k h. gathered ((goal.at.returns-else-line c).After-add_lines) k (c.args.done + k) (c.args.done + k) h (let at =
-    c.first_bin-first.ensures.forward c.if-line.false in omega (arith, at)) (first_covered-forward line (c.args.done + k) c.if-line.false))
+    c.first_bin-first.ensures.forward c.if-line.false in omega (arith, at)) (covers_from-forward line (c.args.done + k) c.if-line.false))
 
 pub returns-then-line : goal.returns-then-line
 returns-then-line c =
@@ -49,4 +49,4 @@ returns-then-line c =
     ∙ in_reverse (line_total c.args.job.now.kind c.args.input.now line (reverse c.args.job.now.slower.now) c.args.base) c.args.done n c.add_lines.new.sums
     (omega arith)
     (λ k h. gathered ((goal.at.returns-then-line c).After-add_lines) (n - 1 - k) (line.size - 1 - (c.args.done + k)) (c.args.done + k) (omega arith)
-    (let at = c.first_bin-first.ensures.reversed c.if-line.true in omega (arith, at)) (first_covered-reversed line (c.args.done + k) c.if-line.true))
+    (let at = c.first_bin-first.ensures.reversed c.if-line.true in omega (arith, at)) (covers_from-reversed line (c.args.done + k) c.if-line.true))

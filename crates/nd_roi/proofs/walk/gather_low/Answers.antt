@@ -2,9 +2,9 @@ use Rattle.std.proofs.Common.{rules, ◌≡◌, ℕ, ◌+◌, ◌-◌, ◌*◌, 
 use Rattle.std.proofs.Math.Nat.{mul-le-mul_right}
 use Rattle.std.proofs.lemmas.List.{get_or-replicate}
 use Rattle.std.specs.Int.{w32, int_wrap}
-use Rattle.nd_roi.specs.Region.{first_covered}
+use Rattle.nd_roi.specs.Walk.{covers_from}
 use Rattle.nd_roi.specs.Walk.{run, lines_total, line_total}
-use Rattle.nd_roi.proofs.Gather.{low_from_zero, first_covered-forward, first_covered-reversed, bin_place, in_order, in_reverse}
+use Rattle.nd_roi.proofs.Gather.{low_from_zero, covers_from-forward, covers_from-reversed, bin_place, in_order, in_reverse}
 use Rattle.nd_roi.proofs.walk.gather_low.Goals as goal
 use Rattle.nd_roi.proofs.walk.gather_low.Goals.{After-add_low_lines}
 
@@ -17,7 +17,7 @@ add_low_lines-requires-clause-within c =
 
 -- each sum is that of the bin at its place
 gathered : (c : After-add_low_lines) (k m out : ℕ) → k < length c.args.sums.now → c.first_bin-first.result + k ≡ m
-    → first_covered c.args.job.now.line out ≡ c.args.job.now.line.min + m * c.args.job.now.line.bin →
+    → covers_from c.args.job.now.line out ≡ c.args.job.now.line.min + m * c.args.job.now.line.bin →
     get_or c.add_low_lines.new.sums k (pos 0)
     ≡ int_wrap w32 (line_total c.args.job.now.kind c.args.input.now c.args.job.now.line (reverse c.args.job.now.slower.now) c.args.base out)
 gathered c k m out h e f =
@@ -29,7 +29,7 @@ gathered c k m out h e f =
     let at = c.args.base + line.min + c.first_bin-first.result * line.bin + k * line.bin in
     c.add_low_lines.ensures k (omega arith)
     ∙ low_from_zero (get_or c.fill.new.self k (pos 0)) (total at) zero
-    ∙ ap (λ p. int_wrap w32 (total p)) (bin_place c.args.base line.min line.bin c.first_bin-first.result k m (first_covered line out) e f)
+    ∙ ap (λ p. int_wrap w32 (total p)) (bin_place c.args.base line.min line.bin c.first_bin-first.result k m (covers_from line out) e f)
 
 pub returns-else-line : goal.returns-else-line
 returns-else-line c =
@@ -38,7 +38,7 @@ returns-else-line c =
     in_order (λ out. int_wrap w32 (line_total c.args.job.now.kind c.args.input.now line (reverse c.args.job.now.slower.now) c.args.base out)) c.args.done n
     c.add_low_lines.new.sums (omega arith)
     (λ k h. gathered ((goal.at.returns-else-line c).After-add_low_lines) k (c.args.done + k) (c.args.done + k) h (let at =
-    c.first_bin-first.ensures.forward c.if-line.false in omega (arith, at)) (first_covered-forward line (c.args.done + k) c.if-line.false))
+    c.first_bin-first.ensures.forward c.if-line.false in omega (arith, at)) (covers_from-forward line (c.args.done + k) c.if-line.false))
 
 pub returns-then-line : goal.returns-then-line
 returns-then-line c =
@@ -48,4 +48,4 @@ returns-then-line c =
     ∙ in_reverse (λ out. int_wrap w32 (line_total c.args.job.now.kind c.args.input.now line (reverse c.args.job.now.slower.now) c.args.base out))
     c.args.done n c.add_low_lines.new.sums (omega arith)
     (λ k h. gathered ((goal.at.returns-then-line c).After-add_low_lines) (n - 1 - k) (line.size - 1 - (c.args.done + k)) (c.args.done + k) (omega arith)
-    (let at = c.first_bin-first.ensures.reversed c.if-line.true in omega (arith, at)) (first_covered-reversed line (c.args.done + k) c.if-line.true))
+    (let at = c.first_bin-first.ensures.reversed c.if-line.true in omega (arith, at)) (covers_from-reversed line (c.args.done + k) c.if-line.true))

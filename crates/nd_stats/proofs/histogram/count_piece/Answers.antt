@@ -7,7 +7,8 @@ use Rattle.nd_stats.specs.declared.histogram.Ends.{Ends}
 use Rattle.nd_stats.specs.Samples.{placed}
 use Rattle.nd_stats.specs.Running.{IsCounted, HaveCountRooms}
 use Rattle.nd_stats.proofs.Counts.{can_count, counted_both}
-use Rattle.nd_stats.proofs.Parts.{side_counts, both_sides}
+use Rattle.lane_kernels.proofs.Slices.{side_counts}
+use Rattle.nd_stats.proofs.Parts.{both_sides}
 use Rattle.nd_stats.proofs.histogram.count_piece.Goals as goal
 
 -- the halves of a piece

@@ -2,7 +2,8 @@ use Rattle.std.proofs.Common.{◌≡◌, ◌≤◌, ◌+◌, ◌*◌, ◌-◌, d
 use Rattle.std.proofs.Math.Nat.{add-mul}
 use Rattle.std.proofs.lemmas.List.{length-take-le, length-drop}
 use Rattle.nd_base.specs.Samples.{width}
-use Rattle.nd_stats.proofs.Parts.{samples_of-take, part_within}
+use Rattle.lane_kernels.proofs.Slices.{samples_of-take}
+use Rattle.nd_stats.proofs.Parts.{part_within}
 use Rattle.nd_stats.proofs.sample.part.Goals as goal
 
 pub returns-clause-values : goal.returns-clause-values
