@@ -5,7 +5,7 @@ use Rattle.std.specs.List.{list_any, position_from}
 use Rattle.std.specs.Option.{option_map, option_map_or}
 use Rattle.std.specs.Str.{bytes_eq}
 use Rattle.std.proofs.lemmas.Option.{slice_get-get_or}
-use Rattle.graph_conf.specs.declared.node.NamedNode.{NamedNode}
+use Rattle.graph_conf.specs.Named.{Named}
 use Rattle.nd_base.specs.declared.graph.NodeRule.{NodeRule}
 use Rattle.nd_base.specs.GraphRules.{may_feed}
 use Rattle.toml.specs.Data.{Members}
@@ -16,7 +16,7 @@ use Rattle.graph_conf.specs.Nodes.{node_of}
 use Rattle.graph_conf.specs.Graphs.{is_double, first_place, has_name, nodes_from, input_number, input_numbers, known_input, source_of, input_of}
 use Rattle.graph_conf.specs.Graphs.{refused_node, is_circular, few_threads, with_inputs, linked}
 
-pub is_double-at : (ns : List NamedNode) (k : ℕ) (d : NamedNode) → k < length ns →
+pub is_double-at : (ns : List Named) (k : ℕ) (d : Named) → k < length ns →
     is_double ns k ≡ list_any (λ n. bytes_eq n.rule.name (get_or ns k d).rule.name) (take k ns)
 is_double-at ns k d within = ap (λ o. option_map_or (λ n. list_any (has_name n.rule.name) (take k ns)) o false) (slice_get-get_or ns k d within)
 
@@ -55,38 +55,38 @@ pub front_nil : {A : Type 0} (r : Result (List A) GraphFault) → in_front [] r 
 front_nil (Ok xs) = refl
 front_nil (Err e) = refl
 
-pub nodes_more : (front : List NamedNode) (v : ℕ) (t : Members) (ts : List Members) (n : NamedNode) → node_of v t ≡ Ok n →
+pub nodes_more : (front : List Named) (v : ℕ) (t : Members) (ts : List Members) (n : Named) → node_of v t ≡ Ok n →
     in_front front (nodes_from v (t ∷ ts)) ≡ in_front (front ++ n ∷ []) (nodes_from (v + 1) ts)
 nodes_more front v t ts n is =
     ap (λ r. in_front front (r >>= λ m. nodes_from (v + 1) ts >>= λ more. Ok (m ∷ more))) is ∙ front_cons front n (nodes_from (v + 1) ts)
 
-pub nodes_stop : (front : List NamedNode) (v : ℕ) (t : Members) (ts : List Members) (e : GraphFault) → node_of v t ≡ Err e
+pub nodes_stop : (front : List Named) (v : ℕ) (t : Members) (ts : List Members) (e : GraphFault) → node_of v t ≡ Err e
     → in_front front (nodes_from v (t ∷ ts)) ≡ Err e
 nodes_stop front v t ts e is = ap (λ r. in_front front (r >>= λ m. nodes_from (v + 1) ts >>= λ more. Ok (m ∷ more))) is
 
-pub inputs_more : (all : List NamedNode) (front : List ℕ) (v : ℕ) (n : NamedNode) (ns : List NamedNode) (k : ℕ) → input_number all n.input ≡ Some k →
+pub inputs_more : (all : List Named) (front : List ℕ) (v : ℕ) (n : Named) (ns : List Named) (k : ℕ) → input_number all n.input ≡ Some k →
     in_front front (input_numbers all v (n ∷ ns)) ≡ in_front (front ++ k ∷ []) (input_numbers all (v + 1) ns)
 inputs_more all front v n ns k is =
     ap (λ o. in_front front (known_input v o >>= λ m. input_numbers all (v + 1) ns >>= λ more. Ok (m ∷ more))) is
     ∙ front_cons front k (input_numbers all (v + 1) ns)
 
-pub inputs_stop : (all : List NamedNode) (front : List ℕ) (v : ℕ) (n : NamedNode) (ns : List NamedNode) → input_number all n.input ≡ None →
+pub inputs_stop : (all : List Named) (front : List ℕ) (v : ℕ) (n : Named) (ns : List Named) → input_number all n.input ≡ None →
     in_front front (input_numbers all v (n ∷ ns)) ≡ Err (UnknownInput v)
 inputs_stop all front v n ns is = ap (λ o. in_front front (known_input v o >>= λ m. input_numbers all (v + 1) ns >>= λ more. Ok (m ∷ more))) is
 
-pub input_number-node : (ns : List NamedNode) (name : List ℕ) → bytes_eq name (codes "driver") ≡ false →
+pub input_number-node : (ns : List Named) (name : List ℕ) → bytes_eq name (codes "driver") ≡ false →
     input_number ns name ≡ option_map (λ k. k + 1) (position_from (λ n. bytes_eq n.rule.name name && may_feed n.rule.kind) 0 ns)
 input_number-node ns name other =
     ap (λ b. cond b (Some 0) (position_from (λ n. has_name name n && may_feed n.rule.kind) 1 ns)) other
     ∙ position_from-suc (λ n. bytes_eq n.rule.name name && may_feed n.rule.kind) 0 ns
 
-pub length-with_inputs : (ns : List NamedNode) (ks : List ℕ) → length ks ≡ length ns → length (with_inputs ns ks) ≡ length ns
+pub length-with_inputs : (ns : List Named) (ks : List ℕ) → length ks ≡ length ns → length (with_inputs ns ks) ≡ length ns
 length-with_inputs [] ks same = refl
 length-with_inputs (n ∷ ns) [] same = absurd (omega arith)
 length-with_inputs (n ∷ ns) (k ∷ ks) same = ap suc (length-with_inputs ns ks (omega arith))
 
 -- once no name is double, each input is known and no inputs lead in a circle, the threads decide
-pub linked_by : (ns : List NamedNode) (ks : List ℕ) →
+pub linked_by : (ns : List Named) (ks : List ℕ) →
     refused_node DoubleName (first_place (is_double ns) 0 (length ns)) ≡ Ok tt →
     input_numbers ns 1 ns ≡ Ok ks →
     refused_node Cycle (first_place (is_circular ks) 0 (length ks)) ≡ Ok tt →

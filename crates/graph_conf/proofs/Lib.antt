@@ -2,6 +2,9 @@ pub mod Items
 pub mod Known
 pub mod Lists
 pub mod Joined
+pub mod Cycles
+pub mod NoCycles
+pub mod CycleFaults
 pub mod Refusals
 pub mod Sound
 pub mod Planned

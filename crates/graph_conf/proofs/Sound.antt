@@ -16,7 +16,7 @@ use Rattle.nd_base.specs.GraphRules.{IsNode, is_source, may_feed}
 use Rattle.nd_base.specs.GraphRules as graph_rules
 use Rattle.graph_conf.specs.declared.fault.GraphFault.{GraphFault}
 use Rattle.graph_conf.specs.declared.fault.GraphFault.TheVariants.{DoubleName, Cycle}
-use Rattle.graph_conf.specs.declared.node.NamedNode.{NamedNode}
+use Rattle.graph_conf.specs.Named.{Named}
 use Rattle.graph_conf.specs.Answers.{◌>>=◌}
 use Rattle.graph_conf.specs.Links.{AreLinked}
 use Rattle.graph_conf.specs.Graphs.{first_place, refused_node, is_double, has_name, input_number, input_numbers, known_input, input_of, source_of}
@@ -37,7 +37,7 @@ with_input r k h = record {
   sort_time = h.sort_time;
 }
 
-nodes_with : (ns : List NamedNode) (ks : List ℕ) → AllByRecursion (λ n. IsNode n.rule) ns → AllByRecursion IsNode (with_inputs ns ks)
+nodes_with : (ns : List Named) (ks : List ℕ) → AllByRecursion (λ n. IsNode n.rule) ns → AllByRecursion IsNode (with_inputs ns ks)
 nodes_with [] ks h = tt
 nodes_with (n ∷ ns) [] h = tt
 nodes_with (n ∷ ns) (k ∷ ks) h = (with_input n.rule k h.0, nodes_with ns ks h.1)
@@ -45,7 +45,7 @@ nodes_with (n ∷ ns) (k ∷ ks) h = (with_input n.rule k h.0, nodes_with ns ks 
 -- NAMES
 
 -- where no place is found, the test holds at none
-none_found : (test : ℕ → Bool) (k n : ℕ) → first_place test k n ≡ None → (j : ℕ) → k ≤ j → j < k + n → test j ≡ false
+pub none_found : (test : ℕ → Bool) (k n : ℕ) → first_place test k n ≡ None → (j : ℕ) → k ≤ j → j < k + n → test j ≡ false
 none_found test k zero h j from below = absurd (omega arith)
 none_found test k (suc n) h j from below =
     elim (cases_Bool (test k)) [
@@ -59,23 +59,23 @@ none_found test k (suc n) h j from below =
           ]
     ]
 
-not_refused : (fault : ℕ → GraphFault) (o : Option ℕ) → refused_node fault o ≡ Ok tt → o ≡ None
+pub not_refused : (fault : ℕ → GraphFault) (o : Option ℕ) → refused_node fault o ≡ Ok tt → o ≡ None
 not_refused fault None h = refl
 not_refused fault (Some k) h = absurd (cc)
 
-names_with : (ns : List NamedNode) (ks : List ℕ) → length ks ≡ length ns → map (λ r. r.name) (with_inputs ns ks) ≡ map (λ n. n.rule.name) ns
+names_with : (ns : List Named) (ks : List ℕ) → length ks ≡ length ns → map (λ r. r.name) (with_inputs ns ks) ≡ map (λ n. n.rule.name) ns
 names_with [] ks same = refl
 names_with (n ∷ ns) [] same = absurd (omega arith)
 names_with (n ∷ ns) (k ∷ ks) same = ap (λ names. n.rule.name ∷ names) (names_with ns ks (omega arith))
 
-some_named : (ns : List NamedNode) (i : ℕ) → i < length ns → NamedNode
+some_named : (ns : List Named) (i : ℕ) → i < length ns → Named
 some_named [] i within = absurd (omega arith)
 some_named (n ∷ ns) i within = n
 
 same_text : (xs ys : List ℕ) → xs ≡ ys → bytes_eq xs ys ≡ true
 same_text xs ys same = grind (arith, bytes_eq-Decides)
 
-distinct_names : (ns : List NamedNode) → ((k : ℕ) → k < length ns → is_double ns k ≡ false) → (i j : ℕ) (e : List ℕ) → i < j → j < length ns →
+distinct_names : (ns : List Named) → ((k : ℕ) → k < length ns → is_double ns k ≡ false) → (i j : ℕ) (e : List ℕ) → i < j → j < length ns →
     get_or (map (λ n. n.rule.name) ns) i e ≢ get_or (map (λ n. n.rule.name) ns) j e
 distinct_names ns single i j e before within same =
     let d = some_named ns j within in
@@ -89,11 +89,11 @@ distinct_names ns single i j e before within same =
     let none = sym (is_double-at ns j d within) ∙ single j within in
     absurd (cc)
 
-single_names : (ns : List NamedNode) → refused_node DoubleName (first_place (is_double ns) 0 (length ns)) ≡ Ok tt → (k : ℕ)
+single_names : (ns : List Named) → refused_node DoubleName (first_place (is_double ns) 0 (length ns)) ≡ Ok tt → (k : ℕ)
     → k < length ns → is_double ns k ≡ false
 single_names ns h k within = none_found (is_double ns) 0 (length ns) (not_refused DoubleName _ h) k (omega arith) (omega arith)
 
-names_differ : (ns : List NamedNode) (ks : List ℕ) → length ks ≡ length ns → ((k : ℕ) → k < length ns → is_double ns k ≡ false)
+names_differ : (ns : List Named) (ks : List ℕ) → length ks ≡ length ns → ((k : ℕ) → k < length ns → is_double ns k ≡ false)
     → AllPairs (λ m n. m.name ≢ n.name) (with_inputs ns ks)
 names_differ ns ks same single i j d before within =
     let rs = with_inputs ns ks in
@@ -106,19 +106,19 @@ names_differ ns ks same single i j d before within =
 
 -- INPUTS
 
-abbrev Fed : List NamedNode → ℕ → Type 0
+abbrev pub Fed : List Named → ℕ → Type 0
 Fed all k = (name : List ℕ) × (input_number all name ≡ Some k)
 
-known : (v : ℕ) (o : Option ℕ) (next : ℕ → Result (List ℕ) GraphFault) (ks : List ℕ) → (known_input v o >>= next) ≡ Ok ks
+pub known : (v : ℕ) (o : Option ℕ) (next : ℕ → Result (List ℕ) GraphFault) (ks : List ℕ) → (known_input v o >>= next) ≡ Ok ks
     → (k : ℕ) × (o ≡ Some k) × (next k ≡ Ok ks)
 known v None next ks h = absurd (cc)
 known v (Some k) next ks h = (k, refl, h)
 
-listed : (r : Result (List ℕ) GraphFault) (k : ℕ) (ks : List ℕ) → (r >>= λ more. Ok (k ∷ more)) ≡ Ok ks → (more : List ℕ) × (r ≡ Ok more) × (ks ≡ k ∷ more)
+pub listed : (r : Result (List ℕ) GraphFault) (k : ℕ) (ks : List ℕ) → (r >>= λ more. Ok (k ∷ more)) ≡ Ok ks → (more : List ℕ) × (r ≡ Ok more) × (ks ≡ k ∷ more)
 listed (Ok more) k ks h = (more, refl, cc)
 listed (Err e) k ks h = absurd (cc)
 
-all_fed : (all : List NamedNode) (v : ℕ) (ms : List NamedNode) (ks : List ℕ) → input_numbers all v ms ≡ Ok ks → AllByRecursion (Fed all) ks
+pub all_fed : (all : List Named) (v : ℕ) (ms : List Named) (ks : List ℕ) → input_numbers all v ms ≡ Ok ks → AllByRecursion (Fed all) ks
 all_fed all v [] ks h = let e : ks ≡ [] = cc in rw e tt
 all_fed all v (m ∷ ms) ks h =
     let (k, is, rest) = known v (input_number all m.input) _ ks h in
@@ -126,7 +126,7 @@ all_fed all v (m ∷ ms) ks h =
     rw e ((m.input, is), all_fed all (v + 1) ms more read)
 
 -- a node that is found by name and may have children is a source
-found_feeds : (name : List ℕ) (ns : List NamedNode) (ks : List ℕ) (i k : ℕ) → length ks ≡ length ns
+pub found_feeds : (name : List ℕ) (ns : List Named) (ks : List ℕ) (i k : ℕ) → length ks ≡ length ns
     → position_from (λ n. has_name name n && may_feed n.rule.kind) i ns ≡ Some k →
     (j : ℕ) × (k ≡ i + j) × (option_map_or (λ n. may_feed n.kind) (slice_get (with_inputs ns ks) j) false ≡ true)
 found_feeds name [] ks i k same h = absurd (cc)
@@ -144,7 +144,7 @@ found_feeds name (n ∷ ns) (x ∷ ks) i k same h =
           (suc j, omega arith, feeds)
     ]
 
-fed_is_source : (ns : List NamedNode) (ks : List ℕ) (k : ℕ) → length ks ≡ length ns → Fed ns k → IsTrue (is_source (with_inputs ns ks) k)
+fed_is_source : (ns : List Named) (ks : List ℕ) (k : ℕ) → length ks ≡ length ns → Fed ns k → IsTrue (is_source (with_inputs ns ks) k)
 fed_is_source ns ks k same fed =
     let name = fed.0 in
     let found = position_from (λ n. has_name name n && may_feed n.rule.kind) 1 ns in
@@ -159,7 +159,7 @@ fed_is_source ns ks k same fed =
           subst (λ v. IsTrue (is_source (with_inputs ns ks) v)) e feeds
     ]
 
-inputs_with : (P : ℕ → Type 0) (ns : List NamedNode) (ks : List ℕ) → AllByRecursion P ks → AllByRecursion (λ r. P r.input) (with_inputs ns ks)
+inputs_with : (P : ℕ → Type 0) (ns : List Named) (ks : List ℕ) → AllByRecursion P ks → AllByRecursion (λ r. P r.input) (with_inputs ns ks)
 inputs_with P [] ks h = tt
 inputs_with P (n ∷ ns) [] h = tt
 inputs_with P (n ∷ ns) (k ∷ ks) h = (h.0, inputs_with P ns ks h.1)
@@ -170,7 +170,7 @@ each P Q f (x ∷ xs) h = (f x h.0, each P Q f xs h.1)
 
 -- CYCLES
 
-input_at : (ns : List NamedNode) (ks : List ℕ) (j : ℕ) → length ks ≡ length ns
+input_at : (ns : List Named) (ks : List ℕ) (j : ℕ) → length ks ≡ length ns
     → option_map_or (λ r. r.input) (slice_get (with_inputs ns ks) j) 0 ≡ unwrap_or (slice_get ks j) 0
 input_at [] [] j same = refl
 input_at [] (k ∷ ks) j same = absurd (omega arith)
@@ -178,17 +178,17 @@ input_at (n ∷ ns) [] j same = absurd (omega arith)
 input_at (n ∷ ns) (k ∷ ks) zero same = refl
 input_at (n ∷ ns) (k ∷ ks) (suc j) same = input_at ns ks j (omega arith)
 
-same_input : (ns : List NamedNode) (ks : List ℕ) (v : ℕ) → length ks ≡ length ns → graph_rules.input_of (with_inputs ns ks) v ≡ input_of ks v
+same_input : (ns : List Named) (ks : List ℕ) (v : ℕ) → length ks ≡ length ns → graph_rules.input_of (with_inputs ns ks) v ≡ input_of ks v
 same_input ns ks zero same = refl
 same_input ns ks (suc j) same = input_at ns ks j same
 
-same_source : (ns : List NamedNode) (ks : List ℕ) (steps v : ℕ) → length ks ≡ length ns
+same_source : (ns : List Named) (ks : List ℕ) (steps v : ℕ) → length ks ≡ length ns
     → graph_rules.source_of (with_inputs ns ks) steps v ≡ source_of ks steps v
 same_source ns ks zero v same = refl
 same_source ns ks (suc steps) v same =
     ap (graph_rules.source_of (with_inputs ns ks) steps) (same_input ns ks v same) ∙ same_source ns ks steps (input_of ks v) same
 
-driver_stays : (ks : List ℕ) (steps : ℕ) → source_of ks steps 0 ≡ 0
+pub driver_stays : (ks : List ℕ) (steps : ℕ) → source_of ks steps 0 ≡ 0
 driver_stays ks zero = refl
 driver_stays ks (suc steps) = driver_stays ks steps
 
@@ -202,7 +202,7 @@ leads_up ks h (suc k) within =
     grind (arith, nat_tests)
 
 -- what the tests let through is a graph's nodes
-pub are_linked : (ns : List NamedNode) (ks : List ℕ) → All (λ n. IsNode n.rule) ns → length ns ≤ 32 → length ks ≡ length ns →
+pub are_linked : (ns : List Named) (ks : List ℕ) → All (λ n. IsNode n.rule) ns → length ns ≤ 32 → length ks ≡ length ns →
     refused_node DoubleName (first_place (is_double ns) 0 (length ns)) ≡ Ok tt →
     input_numbers ns 1 ns ≡ Ok ks →
     refused_node Cycle (first_place (is_circular ks) 0 (length ks)) ≡ Ok tt →

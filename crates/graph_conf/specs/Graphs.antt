@@ -11,7 +11,7 @@ use Rattle.graph_conf.specs.declared.fault.GraphFault.TheVariants.{Text, Range, 
 use Rattle.graph_conf.specs.Answers.{◌>>=◌}
 use Rattle.graph_conf.specs.Keys.{optional, formed, count, word_in, list_in, at_most, only_keys}
 use Rattle.nd_base.specs.declared.graph.NodeRule.{NodeRule}
-use Rattle.graph_conf.specs.declared.node.NamedNode.{NamedNode}
+use Rattle.graph_conf.specs.Named.{Named}
 use Rattle.nd_base.specs.declared.graph.Graph.{Graph}
 use Rattle.nd_base.specs.GraphRules.{may_feed}
 use Rattle.graph_conf.specs.Nodes.{node_of}
@@ -42,7 +42,7 @@ run_key table = optional (codes "run") run_table (false, 0) table
 -- EACH NODE BY ITSELF
 
 -- the nodes of these tables, from node v on
-abbrev pub nodes_from : ℕ → List Members → Result (List NamedNode) GraphFault
+abbrev pub nodes_from : ℕ → List Members → Result (List Named) GraphFault
 nodes_from v [] = Ok []
 nodes_from v (table ∷ tables) = do
   n ← node_of v table
@@ -54,7 +54,7 @@ node_tables d = do
   tables ← list_in (codes "node") as_table d
   at_most (codes "node") 32 tables
 
-unfoldable pub node_key : Members → Result (List NamedNode) GraphFault
+unfoldable pub node_key : Members → Result (List Named) GraphFault
 node_key table = do
   tables ← optional (codes "node") node_tables [] table
   nodes_from 1 tables
@@ -71,15 +71,15 @@ abbrev pub refused_node : (ℕ → GraphFault) → Option ℕ → Result (Unit {
 refused_node fault None = Ok tt
 refused_node fault (Some k) = Err (fault (k + 1))
 
-abbrev pub has_name : List ℕ → NamedNode → Bool
+abbrev pub has_name : List ℕ → Named → Bool
 has_name name n = bytes_eq n.rule.name name
 
 -- an earlier node has the name of the node at this place
-abbrev pub is_double : List NamedNode → ℕ → Bool
+abbrev pub is_double : List Named → ℕ → Bool
 is_double nodes k = option_map_or (λ n. list_any (has_name n.rule.name) (take k nodes)) (slice_get nodes k) false
 
 -- the number of the node that an input names, from 1; the driver is 0
-abbrev pub input_number : List NamedNode → List ℕ → Option ℕ
+abbrev pub input_number : List Named → List ℕ → Option ℕ
 input_number nodes name =
     if bytes_eq name (codes "driver") then Some 0
     else position_from (λ n. has_name name n && may_feed n.rule.kind) 1 nodes
@@ -89,7 +89,7 @@ known_input v None = Err (UnknownInput v)
 known_input v (Some k) = Ok k
 
 -- the numbers of the inputs of some of the nodes, from node v on
-abbrev pub input_numbers : List NamedNode → ℕ → List NamedNode → Result (List ℕ) GraphFault
+abbrev pub input_numbers : List Named → ℕ → List Named → Result (List ℕ) GraphFault
 input_numbers nodes v [] = Ok []
 input_numbers nodes v (n ∷ ns) = do
   k ← known_input v (input_number nodes n.input)
@@ -97,7 +97,7 @@ input_numbers nodes v (n ∷ ns) = do
   Ok (k ∷ ks)
 
 -- the nodes with these inputs
-abbrev pub with_inputs : List NamedNode → List ℕ → List NodeRule
+abbrev pub with_inputs : List Named → List ℕ → List NodeRule
 with_inputs [] ks = []
 with_inputs (n ∷ ns) [] = []
 with_inputs (n ∷ ns) (k ∷ ks) = record n.rule { input = k } ∷ with_inputs ns ks
@@ -122,7 +122,7 @@ abbrev pub few_threads : List NodeRule → Result (List NodeRule) GraphFault
 few_threads nodes =
     if nat_lt 64 (thread_count nodes) then Err (Range (codes "threads") (pos (thread_count nodes))) else Ok nodes
 
-unfoldable pub linked : List NamedNode → Result (List NodeRule) GraphFault
+unfoldable pub linked : List Named → Result (List NodeRule) GraphFault
 linked nodes = do
   distinct ← refused_node DoubleName (first_place (is_double nodes) 0 (length nodes))
   inputs ← input_numbers nodes 1 nodes

@@ -1,7 +1,10 @@
 pub mod Answers
+pub mod Cycles
 pub mod Graphs
 pub mod Keys
+pub mod KindNames
 pub mod Links
 pub mod Loads
+pub mod Named
 pub mod Nodes
 pub mod Worked

@@ -15,20 +15,18 @@ use Rattle.trig_window.specs.Expressions.{expression_of}
 use Rattle.toml.specs.Data.{Data, Members}
 use Rattle.graph_conf.specs.declared.fault.GraphFault.{GraphFault}
 use Rattle.graph_conf.specs.declared.fault.GraphFault.TheVariants.{KeyType, Range, UnknownKind, Threads}
-use Rattle.graph_conf.specs.declared.kind.KindName.{KindName}
-use Rattle.graph_conf.specs.declared.kind.KindName.TheVariants as kind
 use Rattle.graph_conf.specs.Answers.{◌>>=◌, need, or_calc}
 use Rattle.graph_conf.specs.Keys.{optional, required, number, count, truth, text_in, word_in, numbers, truths, meaning_in, only_keys}
 use Rattle.nd_base.specs.declared.graph.Kind.{Kind}
 use Rattle.nd_base.specs.declared.graph.CircularRule.{CircularRule}
-use Rattle.graph_conf.specs.declared.node.NamedNode.{NamedNode}
+use Rattle.graph_conf.specs.Named.{Named, KindWord, roi, stats, circular, file, scatter}
 use Rattle.nd_base.specs.declared.graph.Kind.TheVariants.{Roi, Stats, Circular, File, Scatter}
 
 -- WORDS
 
-abbrev pub kinds : List (List ℕ × KindName)
-kinds = (codes "roi", kind.Roi) ∷ (codes "stats", kind.Stats) ∷ (codes "circular", kind.Circular) ∷ (codes "file", kind.File)
-    ∷ (codes "scatter", kind.Scatter) ∷ []
+abbrev pub kinds : List (List ℕ × KindWord)
+kinds = (codes "roi", roi) ∷ (codes "stats", stats) ∷ (codes "circular", circular) ∷ (codes "file", file)
+    ∷ (codes "scatter", scatter) ∷ []
 
 abbrev pub sample_types : List (List ℕ × SampleType)
 sample_types =
@@ -43,24 +41,24 @@ modes = (codes "single", Single) ∷ (codes "capture", Capture) ∷ (codes "stre
 abbrev pub shared_keys : List (List ℕ)
 shared_keys = codes "name" ∷ codes "kind" ∷ codes "input" ∷ codes "queue" ∷ codes "threads" ∷ []
 
-abbrev pub keys_of : KindName → List (List ℕ)
-keys_of kind.Roi =
+abbrev pub keys_of : KindWord → List (List ℕ)
+keys_of roi =
     shared_keys ++ codes "sort" ∷ codes "sort_time" ∷ codes "min" ∷ codes "size" ∷ codes "bin" ∷ codes "reverse" ∷ codes "auto"
     ∷ codes "scale" ∷ codes "type" ∷ []
-keys_of kind.Stats =
+keys_of stats =
     shared_keys ++ codes "sort" ∷ codes "sort_time" ∷ codes "threshold" ∷ codes "border" ∷ codes "hist_size" ∷ codes "hist_lo"
     ∷ codes "hist_hi" ∷ codes "profiles" ∷ []
-keys_of kind.Circular = shared_keys ++ codes "pre" ∷ codes "post" ∷ codes "preset" ∷ codes "trigger" ∷ codes "a" ∷ codes "b" ∷ []
-keys_of kind.File = shared_keys ++ codes "mode" ∷ codes "count" ∷ codes "cdf" ∷ []
-keys_of kind.Scatter = shared_keys
+keys_of circular = shared_keys ++ codes "pre" ∷ codes "post" ∷ codes "preset" ∷ codes "trigger" ∷ codes "a" ∷ codes "b" ∷ []
+keys_of file = shared_keys ++ codes "mode" ∷ codes "count" ∷ codes "cdf" ∷ []
+keys_of scatter = shared_keys
 
 -- several threads, and sorting, are for region and statistics nodes, as the rules of graphs say of their kinds
-abbrev pub is_parallel : KindName → Bool
-is_parallel kind.Roi = true
-is_parallel kind.Stats = true
-is_parallel kind.Circular = false
-is_parallel kind.File = false
-is_parallel kind.Scatter = false
+abbrev pub is_parallel : KindWord → Bool
+is_parallel roi = true
+is_parallel stats = true
+is_parallel circular = false
+is_parallel file = false
+is_parallel scatter = false
 
 -- THE KEYS OF EVERY NODE
 
@@ -70,14 +68,14 @@ node_name d = do
   t ← text_in (codes "name") d
   if is_node_name t then Ok t else Err (KeyType (codes "name"))
 
-abbrev pub known_kind : ℕ → Option KindName → Result KindName GraphFault
+abbrev pub known_kind : ℕ → Option KindWord → Result KindWord GraphFault
 known_kind v None = Err (UnknownKind v)
 known_kind v (Some k) = Ok k
 
 abbrev pub name_key : Members → Result (List ℕ) GraphFault
 name_key table = required (codes "name") node_name table
 
-abbrev pub kind_key : ℕ → Members → Result KindName GraphFault
+abbrev pub kind_key : ℕ → Members → Result KindWord GraphFault
 kind_key v table = do
   word ← required (codes "kind") (text_in (codes "kind")) table
   known_kind v (meaning_in kinds word)
@@ -88,15 +86,15 @@ input_key table = required (codes "input") (text_in (codes "input")) table
 abbrev pub queue_key : Members → Result ℕ GraphFault
 queue_key table = count (codes "queue") 1 65535 20 table
 
-abbrev pub threads_key : ℕ → KindName → Members → Result ℕ GraphFault
+abbrev pub threads_key : ℕ → KindWord → Members → Result ℕ GraphFault
 threads_key v k table = do
   n ← count (codes "threads") 1 16 1 table
   if not (is_parallel k) && nat_lt 1 n then Err (Threads v) else Ok n
 
-abbrev pub sort_key : KindName → Members → Result ℕ GraphFault
+abbrev pub sort_key : KindWord → Members → Result ℕ GraphFault
 sort_key k table = if is_parallel k then count (codes "sort") 0 65535 0 table else Ok 0
 
-abbrev pub sort_time_key : KindName → Members → Result ℕ GraphFault
+abbrev pub sort_time_key : KindWord → Members → Result ℕ GraphFault
 sort_time_key k table = if is_parallel k then count (codes "sort_time") 0 2147483647 100 table else Ok 100
 
 -- THE KEYS OF EACH KIND
@@ -175,17 +173,17 @@ file_rule table = do
   form ← form_key table
   Ok (record { mode = mode; count = count; form = form })
 
-abbrev pub kind_rule : KindName → Members → Result Kind GraphFault
-kind_rule kind.Roi table = roi_rule table >>= λ r. Ok (Roi r)
-kind_rule kind.Stats table = stats_rule table >>= λ r. Ok (Stats r)
-kind_rule kind.Circular table = circular_rule table >>= λ r. Ok (Circular r)
-kind_rule kind.File table = file_rule table >>= λ r. Ok (File r)
-kind_rule kind.Scatter table = Ok Scatter
+abbrev pub kind_rule : KindWord → Members → Result Kind GraphFault
+kind_rule roi table = roi_rule table >>= λ r. Ok (Roi r)
+kind_rule stats table = stats_rule table >>= λ r. Ok (Stats r)
+kind_rule circular table = circular_rule table >>= λ r. Ok (Circular r)
+kind_rule file table = file_rule table >>= λ r. Ok (File r)
+kind_rule scatter table = Ok Scatter
 
 -- THE NODE
 
 -- node v, with its input as it is written
-unfoldable pub node_of : ℕ → Members → Result NamedNode GraphFault
+unfoldable pub node_of : ℕ → Members → Result Named GraphFault
 node_of v table = do
   name ← name_key table
   k ← kind_key v table

@@ -30,7 +30,7 @@ fn is_double(nodes: &[NamedNode], place: usize) -> bool
     requires { place < length nodes.now }
     ensures { result ≡ is_double nodes.now place }
 {
-    is_named(&nodes[..place], nodes[place].rule.name.text())
+    is_named(&nodes[..place], nodes[place].name())
 }
 
 /// No two nodes have one name.

@@ -3,6 +3,7 @@ ghost use Rattle.std.specs.Prelude.{◌≡◌, ◌≤◌, false, IsTrue, IfOk};
 ghost use Rattle.toml.specs.View.{table_view};
 ghost use Rattle.nd_base.specs.GraphRules.{IsNode, IsBetween, is_node_name};
 ghost use Rattle.graph_conf.specs.Answers.{Gives};
+ghost use Rattle.graph_conf.specs.KindNames.{kind_word};
 ghost use Rattle.graph_conf.specs.Nodes.{is_parallel, name_key, kind_key, input_key, threads_key, sort_key, sort_time_key, node_of};
 
 use crate::GraphFault;
@@ -12,6 +13,7 @@ use crate::rules::kind_rule;
 use crate::words::{is_node_name, keys_of, kind_named};
 use nd_base::{Name, NodeRule};
 use std::alloc::Global;
+use std::marker::Model;
 use toml::Table;
 
 /// A node whose input is still a name; its rule has 0 there.
@@ -19,6 +21,27 @@ use toml::Table;
 pub(crate) struct NamedNode {
     pub(crate) input: Name,
     pub(crate) rule: NodeRule,
+}
+
+impl Model for NamedNode {
+    ghost use Rattle.std.specs.Coded.{codes};
+    ghost use Rattle.nd_base.specs.TreeCodes.{tree_code};
+    ghost use Rattle.graph_conf.specs.Named.{Named};
+
+    ghost Value = { Named };
+
+    ghost coded = { Prim.hlevel (codes, tree_code) };
+
+    ghost view = { λ n. record { input = n.input; rule = n.rule } };
+}
+
+impl NamedNode {
+    /// The node's name.
+    pub(crate) fn name(&self) -> &str
+        ensures { result.now ≡ self.now.rule.name }
+    {
+        self.rule.name.text()
+    }
 }
 
 /// The node's name.
@@ -35,7 +58,7 @@ fn name_key(alloc: Global, table: &Table) -> Result<Name, GraphFault>
 
 /// The kind of node `node`.
 fn kind_key(alloc: Global, table: &Table, node: u32) -> Result<KindName, GraphFault>
-    ensures { Gives (λ kind. kind) result (kind_key node (table_view table.now)) }
+    ensures { Gives kind_word result (kind_key node (table_view table.now)) }
 {
     let word = text_in(alloc, "kind", present(alloc, table, "kind")?)?;
     match kind_named(word) {
@@ -54,16 +77,16 @@ fn input_key(alloc: Global, table: &Table) -> Result<Name, GraphFault>
 
 /// Nodes of this kind may have several threads, and sort.
 fn is_parallel(kind: KindName) -> bool
-    ensures { result ≡ is_parallel kind }
+    ensures { result ≡ is_parallel (kind_word kind) }
 {
     matches!(kind, KindName::Roi | KindName::Stats)
 }
 
 /// The threads of node `node`.
 fn threads_key(alloc: Global, table: &Table, node: u32, kind: KindName) -> Result<u32, GraphFault>
-    ensures gives { Gives (λ n. n) result (threads_key node kind (table_view table.now)) }
+    ensures gives { Gives (λ n. n) result (threads_key node (kind_word kind) (table_view table.now)) }
     ensures bound { IfOk result (IsBetween 1 16) }
-    ensures one { IfOk result (λ n. is_parallel kind ≡ false → n ≡ 1) }
+    ensures one { IfOk result (λ n. is_parallel (kind_word kind) ≡ false → n ≡ 1) }
 {
     let threads = count(alloc, table, "threads", 1, 16, 1)? as u32;
     if threads > 1 && !is_parallel(kind) {
@@ -74,9 +97,9 @@ fn threads_key(alloc: Global, table: &Table, node: u32, kind: KindName) -> Resul
 
 /// The size of the node's sort list.
 fn sort_key(alloc: Global, table: &Table, kind: KindName) -> Result<u32, GraphFault>
-    ensures gives { Gives (λ n. n) result (sort_key kind (table_view table.now)) }
+    ensures gives { Gives (λ n. n) result (sort_key (kind_word kind) (table_view table.now)) }
     ensures bound { IfOk result (λ n. n ≤ 65535) }
-    ensures none { IfOk result (λ n. is_parallel kind ≡ false → n ≡ 0) }
+    ensures none { IfOk result (λ n. is_parallel (kind_word kind) ≡ false → n ≡ 0) }
 {
     if !is_parallel(kind) {
         return Ok(0);
@@ -86,7 +109,7 @@ fn sort_key(alloc: Global, table: &Table, kind: KindName) -> Result<u32, GraphFa
 
 /// How many ticks a result waits for those before it.
 fn sort_time_key(alloc: Global, table: &Table, kind: KindName) -> Result<u64, GraphFault>
-    ensures gives { Gives (λ n. n) result (sort_time_key kind (table_view table.now)) }
+    ensures gives { Gives (λ n. n) result (sort_time_key (kind_word kind) (table_view table.now)) }
     ensures bound { IfOk result (λ n. n ≤ 2147483647) }
 {
     if !is_parallel(kind) {

@@ -1,11 +1,13 @@
 //! The graph of a text.
-ghost use Rattle.std.specs.Prelude.{◌≡◌, ◌≤◌, length, map, Option, Some, None, All, IfOk};
+ghost use Rattle.std.specs.Prelude.{◌≡◌, ◌≤◌, length, map, ℕ, Option, Some, None, Err, All, IfOk, IfErr};
 ghost use Rattle.std.specs.Option.{option_map};
 ghost use Rattle.toml.specs.Data.{as_table};
 ghost use Rattle.toml.specs.View.{view, array_view, table_view};
 ghost use Rattle.nd_base.specs.GraphRules.{IsNode, IsGraph};
 ghost use Rattle.graph_conf.specs.Answers.{Gives};
+ghost use Rattle.graph_conf.specs.Cycles.{IsCycle};
 ghost use Rattle.graph_conf.specs.Keys.{all_of};
+ghost use Rattle.graph_conf.specs.declared.fault.GraphFault.{GraphFault};
 ghost use Rattle.graph_conf.specs.Graphs.{feed_key, run_table, run_key, nodes_from, node_tables, node_key, graph_of, graph_of_bytes};
 
 use crate::GraphFault;
@@ -133,12 +135,8 @@ fn graph_of(alloc: Global, table: &Table) -> Result<Graph, GraphFault>
     Ok(Graph { wait, limit, nodes })
 }
 
-/// Reads the graph that bytes mean.
-///
-/// # Errors
-///
-/// The first fault, which no other answer replaces but want of memory.
-pub fn read_graph(alloc: Global, bytes: &[u8]) -> Result<Graph, GraphFault>
+/// The graph that bytes mean, or their first fault.
+fn graph_in(alloc: Global, bytes: &[u8]) -> Result<Graph, GraphFault>
     ensures exact { Gives (λ x. x) result (graph_of_bytes bytes.now) }
     ensures sound { IfOk result IsGraph }
 {
@@ -150,4 +148,20 @@ pub fn read_graph(alloc: Global, bytes: &[u8]) -> Result<Graph, GraphFault>
         Err(fault) if fault.is_memory() => Err(GraphFault::OutOfMemory),
         Err(_) => Err(GraphFault::Text),
     }
+}
+
+/// Reads the graph that bytes mean.
+///
+/// # Errors
+///
+/// The first fault, which no other answer replaces but want of memory.
+pub fn read_graph(alloc: Global, bytes: &[u8]) -> Result<Graph, GraphFault>
+    ensures exact { Gives (λ x. x) result (graph_of_bytes bytes.now) }
+    // The node of `Cycle` is the first that never reaches the driver.
+    ensures cycle { IfErr result (λ fault. (node : ℕ) → fault ≡ GraphFault.Cycle node → IsCycle bytes.now node) }
+    // Where no earlier rule is broken, such a node is refused, unless memory runs out.
+    ensures refused { (node : ℕ) → IsCycle bytes.now node → Gives (λ x. x) result (Err (GraphFault.Cycle node)) }
+    ensures sound { IfOk result IsGraph }
+{
+    graph_in(alloc, bytes)
 }

@@ -5,6 +5,7 @@ ghost use Rattle.nd_base.specs.GraphRules.{IsRoi, IsStats, IsCircular, IsFile, I
 ghost use Rattle.nd_base.specs.GraphRules as graph_rules;
 ghost use Rattle.graph_conf.specs.Answers.{Gives};
 ghost use Rattle.graph_conf.specs.Keys.{word_in};
+ghost use Rattle.graph_conf.specs.KindNames.{kind_word};
 ghost use Rattle.graph_conf.specs.Nodes.{is_parallel, sample_types, type_key, sample_bound, attribute_key, mode_key, form_key, roi_rule, stats_rule};
 ghost use Rattle.graph_conf.specs.Nodes.{circular_rule, file_rule, kind_rule};
 
@@ -179,9 +180,9 @@ fn file_rule(alloc: Global, table: &Table) -> Result<FileRule, GraphFault>
 
 /// What a node of this kind does.
 pub(crate) fn kind_rule(alloc: Global, kind: KindName, table: &Table) -> Result<Kind, GraphFault>
-    ensures gives { Gives (λ x. x) result (kind_rule kind (table_view table.now)) }
+    ensures gives { Gives (λ x. x) result (kind_rule (kind_word kind) (table_view table.now)) }
     ensures sound { IfOk result IsKind }
-    ensures parallel { IfOk result (λ rule. graph_rules.is_parallel rule ≡ is_parallel kind) }
+    ensures parallel { IfOk result (λ rule. graph_rules.is_parallel rule ≡ is_parallel (kind_word kind)) }
 {
     match kind {
         KindName::Roi => Ok(Kind::Roi(roi_rule(alloc, table)?)),

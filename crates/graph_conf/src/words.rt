@@ -5,6 +5,7 @@ ghost use Rattle.std.specs.Option.{option_map};
 ghost use Rattle.std.specs.Str.{bytes_eq};
 ghost use Rattle.toml.specs.View.{table_view};
 ghost use Rattle.graph_conf.specs.Keys.{meaning_in, first_unknown};
+ghost use Rattle.graph_conf.specs.KindNames.{kind_word};
 ghost use Rattle.nd_base.specs.GraphRules.{is_name_byte, is_node_name};
 ghost use Rattle.graph_conf.specs.Graphs.{feeds};
 ghost use Rattle.graph_conf.specs.Nodes.{kinds, sample_types, modes, keys_of};
@@ -15,7 +16,7 @@ use toml::Table;
 
 /// The kind of node that a word names.
 pub(crate) fn kind_named(word: &str) -> Option<KindName>
-    ensures { result ≡ meaning_in kinds word.now }
+    ensures { option_map kind_word result ≡ meaning_in kinds word.now }
 {
     match word {
         "roi" => Some(KindName::Roi),
@@ -67,7 +68,7 @@ pub(crate) fn feed_named(word: &str) -> Option<bool>
 
 /// The keys that the table of a node of this kind may have.
 pub(crate) fn keys_of(kind: KindName) -> &'static [&'static str]
-    ensures { map (λ k. k.now) result.now ≡ keys_of kind }
+    ensures { map (λ k. k.now) result.now ≡ keys_of (kind_word kind) }
 {
     match kind {
         KindName::Roi => &[

@@ -6,3 +6,6 @@ pub mod Signs
 pub mod Positions
 pub mod Spelling
 pub mod Respelling
+pub mod Going
+pub mod Failing
+pub mod Faulted

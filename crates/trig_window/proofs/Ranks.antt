@@ -1,7 +1,7 @@
 -- Which calls the grammar's functions may make of each other.
 use Rattle.std.proofs.Common.{ℕ}
-use Rattle.trig_window.specs.declared.expression.Level.{Level}
-use Rattle.trig_window.specs.declared.expression.Level.TheVariants as level
+use Rattle.trig_window.specs.Levels.{Level}
+use Rattle.trig_window.specs.Levels as level
 
 -- how loose a level is; three functions read it
 abbrev pub rank : Level → ℕ

@@ -3,8 +3,8 @@ use Rattle.std.proofs.Common.{◌≡◌, ◌≢◌, ℕ, zero, suc, ◌+◌, ◌
 use Rattle.std.proofs.Common.{◌∙◌, refl, arith}
 use Rattle.std.proofs.lemmas.Bool.{eq-eqb, ne_eqb, cond-true, cond-false}
 use Rattle.std.proofs.lemmas.List.{drop_more, drop-drop, drop_all, append_assoc}
-use Rattle.trig_window.specs.declared.symbols.Symbol.{Symbol}
-use Rattle.trig_window.specs.declared.symbols.Token.{Token}
+use Rattle.trig_window.specs.Marks.{Symbol}
+use Rattle.trig_window.specs.Marks.{Token}
 use Rattle.trig_window.specs.Symbols.{tokens_from, symbol_at}
 
 -- what belongs to the symbol before is skipped

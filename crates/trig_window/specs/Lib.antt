@@ -5,7 +5,11 @@ pub mod WatchFields
 pub mod Watching
 pub mod Firing
 pub mod Triggers
+pub mod Marks
+pub mod Levels
+pub mod Coded
 pub mod Symbols
 pub mod Expressions
 pub mod Grammar
+pub mod Faults
 pub mod Examples

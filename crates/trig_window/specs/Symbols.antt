@@ -5,9 +5,9 @@ use Rattle.std.specs.List.{prefix_len}
 use Rattle.std.specs.Char.{is_ascii_digit}
 use Rattle.nd_base.specs.declared.graph.Sign.{Sign}
 use Rattle.nd_base.specs.declared.graph.Sign.TheVariants.{Or, And, Equal, NotEqual, Below, AtMost, Above, AtLeast, Plus, Minus, Times}
-use Rattle.trig_window.specs.declared.symbols.Symbol.{Symbol}
-use Rattle.trig_window.specs.declared.symbols.Symbol.TheVariants as symbol
-use Rattle.trig_window.specs.declared.symbols.Token.{Token}
+use Rattle.trig_window.specs.Marks.{Symbol}
+use Rattle.trig_window.specs.Marks as symbol
+use Rattle.trig_window.specs.Marks.{Token}
 
 -- the number that digits spell
 abbrev pub number_of : List ℕ → ℕ

@@ -8,7 +8,7 @@ mod symbols;
 mod trigger;
 mod window;
 
-pub use expression::{CalcFault, parse_calc};
+pub use expression::{CalcFault, expression_or_fault, parse_calc};
 pub use firing::fires;
 pub use passing::passed_positions;
 pub use trigger::trigger_fires;

@@ -2,14 +2,16 @@
 ghost use Rattle.std.specs.Prelude.{◌≡◌, ◌≤◌, ◌<◌, ◌-◌, ◌^◌, min, length, take, IfOk, IsTrue, All};
 ghost use Rattle.std.specs.List.{prefix_len};
 ghost use Rattle.std.specs.Char.{is_ascii_digit};
+ghost use Rattle.trig_window.specs.Coded.{symbol_of};
 ghost use Rattle.trig_window.specs.Symbols.{tokens, symbol_at, mark_at, pair_of, single_of, digits_symbol, number_of};
 
 use nd_base::Sign;
 use std::alloc::{AllocError, Global};
+use std::marker::Model;
 
 /// A symbol of a text.
 #[derive(Clone, Copy, Debug)]
-pub enum Symbol {
+pub(crate) enum Symbol {
     Number(i64),
     A,
     B,
@@ -22,10 +24,19 @@ pub enum Symbol {
 }
 
 /// A symbol and the place of its first byte.
-#[derive(Clone, Copy, Debug)]
-pub struct Token {
-    pub symbol: Symbol,
-    pub at: u32,
+#[derive(Debug, Drop)]
+pub(crate) struct Token {
+    pub(crate) symbol: Symbol,
+    pub(crate) at: u32,
+}
+
+impl Model for Token {
+    ghost use Rattle.trig_window.specs.Coded.{symbol_of};
+    ghost use Rattle.trig_window.specs.Marks as marks;
+
+    ghost Value = { marks.Token };
+
+    ghost view = { λ t. record { symbol = symbol_of t.symbol; at = t.at } };
 }
 
 /// Two bytes that are one sign.
@@ -45,7 +56,7 @@ fn pair_of(first: u8, second: u8) -> Option<Sign>
 
 /// A byte by itself.
 fn single_of(byte: u8) -> Symbol
-    ensures { result ≡ single_of byte }
+    ensures { symbol_of result ≡ single_of byte }
 {
     match byte {
         b'<' => Symbol::Sign(Sign::Below),
@@ -64,7 +75,7 @@ fn single_of(byte: u8) -> Symbol
 
 /// The longest symbol of a text that doesn't begin with a digit, and how many bytes it has.
 fn mark_at(text: &[u8]) -> (Symbol, usize)
-    ensures mark { result ≡ mark_at text.now }
+    ensures mark { (symbol_of result.0, result.1) ≡ mark_at text.now }
     ensures positive { 1 ≤ result.1 }
     ensures within { 0 < length text.now → result.1 ≤ length text.now }
 {
@@ -94,7 +105,7 @@ fn capped_number(digits: &[u8]) -> u64
 
 fn digits_symbol(digits: &[u8]) -> Symbol
     requires { All (λ d. IsTrue (is_ascii_digit d)) digits.now }
-    ensures { result ≡ digits_symbol digits.now }
+    ensures { symbol_of result ≡ digits_symbol digits.now }
 {
     let number = capped_number(digits);
     if number <= i64::MAX as u64 {
@@ -116,7 +127,7 @@ fn digit_count(text: &[u8]) -> usize
 /// The longest symbol that a text begins with, and how many bytes it has.
 #[tactic(auto, unfolding(crate::specs::Symbols::symbol_at))]
 fn symbol_at(text: &[u8]) -> (Symbol, usize)
-    ensures symbol { result ≡ symbol_at text.now }
+    ensures symbol { (symbol_of result.0, result.1) ≡ symbol_at text.now }
     ensures positive { 1 ≤ result.1 }
     ensures within { 0 < length text.now → result.1 ≤ length text.now }
 {
@@ -129,7 +140,7 @@ fn symbol_at(text: &[u8]) -> (Symbol, usize)
 }
 
 /// The symbols of a text, each with its place.
-pub fn tokens(alloc: Global, text: &[u8]) -> Result<Vec<Token>, AllocError>
+pub(crate) fn tokens(alloc: Global, text: &[u8]) -> Result<Vec<Token>, AllocError>
     requires { length text.now ≤ 256 }
     ensures { IfOk result (λ v. v.items ≡ tokens text.now) }
 {

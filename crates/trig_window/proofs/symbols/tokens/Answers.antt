@@ -1,6 +1,7 @@
-use Rattle.std.proofs.Common.{◌≡◌, ◌+◌, ◌≤◌, ◌-◌, List, ◌++◌, length, take, drop, ap, sym, ◌∙◌, arith, length-drop}
+use Rattle.std.proofs.Common.{◌≡◌, ℕ, ◌+◌, ◌≤◌, ◌-◌, List, ◌++◌, length, take, drop, ap, sym, ◌∙◌, arith, length-drop}
 use Rattle.std.proofs.lemmas.List.{append-nil, take_rest}
-use Rattle.trig_window.specs.declared.symbols.Token.{Token}
+use Rattle.trig_window.specs.Coded.{symbol_of}
+use Rattle.trig_window.specs.Marks.{Symbol, Token}
 use Rattle.trig_window.specs.Symbols.{tokens, tokens_from, symbol_at}
 use Rattle.trig_window.proofs.Tokens.{at_space, at_symbol, tokens_from-end}
 use Rattle.trig_window.proofs.symbols.tokens.Goals as goal
@@ -10,7 +11,7 @@ pub loop-at-preserved : goal.loop-at-preserved
 loop-at-preserved c =
     let at = c.loop-at.at in
     let text = c.args.text.now in
-    let found = c.symbol_at-symbol.result in
+    let found : Symbol × ℕ = (symbol_of c.symbol_at-symbol.result.0, c.symbol_at-symbol.result.1) in
     let left : length (drop at text) ≡ length text - at = length-drop at text in
     let rest = take_rest text at in
     let symbol : found ≡ symbol_at (drop at text) = c.symbol_at-symbol.ensures.symbol ∙ ap symbol_at rest in
