@@ -14,5 +14,5 @@ mod word;
 pub use fault::CdfFault;
 pub use head::{HeadAttr, HeadDim, HeadVar, Header};
 pub use header::{faults_are_first, header_or_fault, read_header};
-pub use place::value_place;
+pub use place::{has_value, value_place};
 pub use size::size_of_value;

@@ -1,12 +1,12 @@
 //! Where the records and the values of a file stand.
 
-ghost use Rattle.std.specs.Prelude.{◌≡◌, ◌≤◌, length, slice_get, Some, All};
+ghost use Rattle.std.specs.Prelude.{◌≡◌, ◌<◌, ◌≤◌, ◌↔◌, length, slice_get, Some, All, IsTrue};
 ghost use Rattle.cdf_read.specs.declared.head.HeadVar.{HeadVar};
 ghost use Rattle.cdf_read.specs.Grammar.{IsOfFile};
 ghost use Rattle.cdf_read.specs.HeaderReading.{short_var};
-ghost use Rattle.cdf_read.specs.Places.{var_size, record_vars, record_size, first_record, record_count, values_end, place_of_value, HasValue};
+ghost use Rattle.cdf_read.specs.Places.{value_count, var_size, record_vars, record_size, first_record, record_count, values_end, place_of_value, HasValue};
 
-use crate::size::{is_in_records, size_of_value, size_of_var};
+use crate::size::{is_in_records, length_of, size_of_value, size_of_var};
 use crate::word::STREAMING;
 use crate::{HeadDim, HeadVar, Header};
 
@@ -69,6 +69,35 @@ pub(crate) fn short_var(total: usize, header: &Header) -> Option<u32>
         number += 1;
     }
     None
+}
+
+/// Whether dimensions of these numbers span more than `i` values, the record dimension left out.
+fn span_more_than(dims: &[HeadDim], numbers: &[u32], i: u64) -> bool
+    ensures { IsTrue result ↔ i < value_count dims.now numbers.now }
+{
+    let mut count = 1u128;
+    for number in numbers {
+        if count > u128::from(i) {
+            return true;
+        }
+        count *= u128::from(length_of(dims, *number).max(1));
+    }
+    count > u128::from(i)
+}
+
+/// Whether the variable of this number has a value `i` in record `rec`, as `value_place` requires. For a variable without
+/// the record dimension `rec` is not used.
+pub fn has_value(header: &Header, var: usize, rec: u64, i: u64) -> bool
+    ensures { IsTrue result ↔ HasValue header.now var rec i }
+{
+    let Some(var) = header.vars.as_slice().get(var) else {
+        return false;
+    };
+    let dims = header.dims.as_slice();
+    if is_in_records(dims, var) && header.records <= rec {
+        return false;
+    }
+    span_more_than(dims, var.dims.as_slice(), i)
 }
 
 /// The place in the file of value `i` of record `rec` of a variable. For a variable without the record

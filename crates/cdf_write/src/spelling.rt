@@ -1,7 +1,7 @@
 //! How the parts of a file are spelled: words of four bytes, the most significant first, and names and
 //! values padded to whole words.
 
-ghost use Rattle.std.specs.Prelude.{◌≡◌, ◌+◌, ◌<◌, ◌≤◌, ◌^◌, [], ◌∷◌, ◌++◌, pos, length, OnOk, IfOk, replicate};
+ghost use Rattle.std.specs.Prelude.{◌≡◌, ◌+◌, ◌<◌, ◌≤◌, ◌^◌, [], ◌∷◌, ◌++◌, pos, length, OnOk, OnErr, IfOk, replicate};
 ghost use Rattle.std.specs.List.{flat_map};
 ghost use Rattle.nd_base.specs.Forms.{longest_of};
 ghost use Rattle.cdf_write.specs.Spelling.{word, double_word, gap, padded, padded_length, name_field, dimension, attribute, int_attribute};
@@ -29,7 +29,8 @@ pub fn missing(bytes: usize) -> usize
 
 /// Appends zero bytes.
 pub fn push_zeros(out: &mut Vec<u8>, count: usize) -> Result<(), AllocError>
-    ensures { OnOk result (out.new.items ≡ out.old.items ++ replicate count 0) }
+    ensures bytes { OnOk result (out.new.items ≡ out.old.items ++ replicate count 0) }
+    ensures kept { OnErr result (out.new.items ≡ out.old.items) }
 {
     let length = out.len().checked_add(count).ok_or(AllocError)?;
     out.resize(length, 0)
@@ -37,14 +38,16 @@ pub fn push_zeros(out: &mut Vec<u8>, count: usize) -> Result<(), AllocError>
 
 /// Appends a word.
 pub fn push_word(out: &mut Vec<u8>, n: u32) -> Result<(), AllocError>
-    ensures { OnOk result (out.new.items ≡ out.old.items ++ word n) }
+    ensures bytes { OnOk result (out.new.items ≡ out.old.items ++ word n) }
+    ensures kept { OnErr result (out.new.items ≡ out.old.items) }
 {
     out.extend_from_slice(&n.to_be_bytes())
 }
 
 /// Appends a number of eight bytes.
 pub fn push_double_word(out: &mut Vec<u8>, n: u64) -> Result<(), AllocError>
-    ensures { OnOk result (out.new.items ≡ out.old.items ++ double_word n) }
+    ensures bytes { OnOk result (out.new.items ≡ out.old.items ++ double_word n) }
+    ensures kept { OnErr result (out.new.items ≡ out.old.items) }
 {
     out.extend_from_slice(&n.to_be_bytes())
 }

@@ -6,8 +6,8 @@ use Rattle.cdf_write.proofs.header.push_dimensions.Goals as goal
 pub returns : goal.returns
 returns c =
     let dims = c.as_slice-dims.ensures in
-    let tag = gains _ _ _ c.in_ok-push_word.ensures in
-    let count = gains _ _ _ (rw dims at c.in_ok-push_word-2.ensures) in
+    let tag = gains _ _ _ c.in_ok-push_word.ensures.bytes in
+    let count = gains _ _ _ (rw dims at c.in_ok-push_word-2.ensures.bytes) in
     let records = gains _ _ _ c.in_ok-push_dimension.ensures in
     let sizes = gains _ _ _ (rw dims at c.in_ok-push_sizes.ensures) in
     on_ok c.push_dimension-2.result

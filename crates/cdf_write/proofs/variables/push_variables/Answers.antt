@@ -9,8 +9,8 @@ use Rattle.cdf_write.proofs.variables.push_variables.Goals as goal
 
 pub returns : goal.returns
 returns c =
-    let tag = gains _ _ _ c.in_ok-push_word.ensures in
-    let count = gains _ _ _ (rw c.as_slice.ensures at c.in_ok-push_word-2.ensures) in
+    let tag = gains _ _ _ c.in_ok-push_word.ensures.bytes in
+    let count = gains _ _ _ (rw c.as_slice.ensures at c.in_ok-push_word-2.ensures.bytes) in
     let fixed = gains _ _ _ c.in_ok-begin.ensures.bytes in
     on_ok c.push_attrs.result
     (λ attrs. (then (then (then tag count) fixed) (gains _ _ _ attrs)).is

@@ -68,4 +68,4 @@ returns-clause-rows c =
     on_ok_weaker c.push_row.result (λ pushed. pushed
     ∙ ap (λ (a : Array). c.args.rows.now.items ++ row shape a) same
     ∙ ap (λ (old : List ℕ). old ++ row shape out.array) c.requires.rows
-    ∙ sym (rows-more g s c.args.node c.args.pass.now.gone shape c.args.ahead c.after-index.result out.array at out.made)) c.push_row.ensures
+    ∙ sym (rows-more g s c.args.node c.args.pass.now.gone shape c.args.ahead c.after-index.result out.array at out.made)) c.push_row.ensures.bytes

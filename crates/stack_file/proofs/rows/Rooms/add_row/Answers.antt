@@ -13,4 +13,4 @@ returns-clause-added g c =
     on_ok_weaker c.push_row.result (λ pushed. changed-IsAdded (g.C.Change.dims source.change.now) (g.C.Change.change source.change.now)
     source.stack.now source.shape.now c.requires.source c.args.k c.head.result.now c.frame.result.now out c.requires.frame c.head.ensures
     c.frame.ensures.samples c.shape.result.now c.bytes-samples.result.now rooms.rows.items c.push_row.new.out.items c.shape.ensures.value
-    filled c.bytes-samples.ensures.small c.fill.ensures.size c.fill.ensures.changed pushed) c.push_row.ensures
+    filled c.bytes-samples.ensures.small c.fill.ensures.size c.fill.ensures.changed pushed) c.push_row.ensures.bytes
