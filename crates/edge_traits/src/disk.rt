@@ -19,7 +19,8 @@ use kept_file::{KeptFile, NAME_LIMIT};
 pub use library::DiskLibrary;
 pub use shelf::DiskShelf;
 pub use sink::OutSink;
-use std::fs::OpenOptions;
+use std::fs::{OpenFile, OpenOptions};
+use std::io::ErrorKind;
 use std::os::unix::fs::FileTypeExt;
 use std::rt::Files;
 use std::{fs, io};
@@ -41,6 +42,18 @@ fn counted<T>(faults: &mut u64, done: io::Result<T>) -> Result<T, Failed>
     match done {
         Ok(value) => Ok(value),
         Err(_) => Err(fault(faults)),
+    }
+}
+
+/// Waits until the system has brought the bytes of a file to where they stay. What keeps none, as a terminal, has nothing to do.
+fn make_sure<F: OpenFile>(file: &F) -> io::Result<()> {
+    match file.sync_all() {
+        Err(error)
+            if matches!(
+                error.kind(),
+                ErrorKind::InvalidInput | ErrorKind::Unsupported
+            ) => { Ok(()) }
+        done => done,
     }
 }
 

@@ -1,6 +1,6 @@
 //! Groups of frames that are written as one file.
 
-ghost use Rattle.std.specs.Prelude.{◌≡◌, ◌≢◌, ◌≤◌, ℕ, List, length, All, OnOk, OnErr};
+ghost use Rattle.std.specs.Prelude.{◌≡◌, ◌≢◌, ◌≤◌, ◌↔◌, ℕ, List, length, All, OnOk, OnErr, IsTrue};
 ghost use Rattle.nd_base.specs.Forms.{longest_of};
 ghost use Rattle.edge_traits.specs.Files.{file_at, with_file};
 ghost use Rattle.cdf_write.specs.Layout.{layout};
@@ -11,8 +11,9 @@ ghost use Rattle.file_out.specs.Saving.{IsBegun, IsSaveCause};
 ghost use Rattle.file_out.specs.Groups.{arrays_of};
 
 use crate::{SaveFault, StreamFile};
+use cdf_write::has_columns;
 use edge_traits::Shelf;
-use nd_base::{Bytes, FileShape, Head};
+use nd_base::{Bytes, FileShape, Head, frame_bytes};
 use std::alloc::Global;
 
 /// A frame to be written: what it has beside its samples, and their bytes, the most significant byte of each
@@ -21,6 +22,15 @@ use std::alloc::Global;
 pub struct Row {
     pub head: Head,
     pub samples: Bytes,
+}
+
+/// Whether a frame with this head and these samples makes a row of a shape, as calls that write rows require.
+pub fn is_row(shape: &FileShape, head: &Head, samples: &[u8]) -> bool
+    requires { IsWritable shape.now }
+    ensures { IsTrue result ↔ IsRow shape.now head.now samples.now }
+{
+    let bytes = frame_bytes(shape.kind, shape.dims.as_slice());
+    has_columns(shape, &head.attrs) && samples.len() == bytes
 }
 
 /// Writes frames of one shape as a file in the file layout. Every other name stays as it was.

@@ -9,5 +9,5 @@ mod stream;
 mod tests;
 
 pub use fault::SaveFault;
-pub use group::{Row, save_group};
+pub use group::{Row, is_row, save_group};
 pub use stream::StreamFile;

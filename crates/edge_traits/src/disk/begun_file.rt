@@ -7,7 +7,6 @@ ghost use Rattle.edge_traits.specs.RealFiles.{GoesTo, Writes, closed};
 
 use super::interrupted;
 use crate::OutOfMemory;
-use std::alloc::Global;
 use std::io;
 use std::io::{ErrorKind, Seek, SeekFrom, Write};
 use std::marker::Model;
@@ -85,16 +84,17 @@ impl<F: Drop> Model for BegunFile<F> {
 }
 
 impl<F: Drop> BegunFile<F> {
-    /// An open file that is at its end. It takes the memory for the name.
+    /// An open file that is at its end. The name goes into a list whose memory is used again; it takes some where that is too little.
     pub fn at_end(
-        alloc: Global,
+        room: Vec<u8>,
         name: &str,
         file: F,
         ends: u64,
     ) -> Result<BegunFile<F>, OutOfMemory>
         ensures { IfOk result (λ b. b ≡ record { name = name.now; ends = ends; file = Some (file, ends) }) }
     {
-        let mut held = Vec::with_capacity(alloc, name.len())?;
+        let mut held = room;
+        held.clear();
         held.extend_from_slice(name.as_bytes())?;
         let place = ends;
         Ok(BegunFile {
@@ -102,6 +102,16 @@ impl<F: Drop> BegunFile<F> {
             ends,
             placed: Some(Placed { file, place }),
         })
+    }
+
+    /// Lets the file go: the list that has its name, and the file where it is open.
+    pub fn into_parts(self) -> (Vec<u8>, Option<F>) {
+        let BegunFile {
+            name,
+            ends: _,
+            placed,
+        } = self;
+        (name, placed.map(|it| it.file))
     }
 
     /// Whether it is the one of this name.

@@ -4,20 +4,24 @@ ghost use Rattle.std.specs.Prelude.{◌≡◌, ◌<◌, ◌+◌, ◌∷◌, ◌+
 ghost use Rattle.edge_traits.specs.RealFiles.{Begun, find_begun, without_begun, MayClose};
 
 use super::begun_file::BegunFile;
+use super::kept_file::NAME_LIMIT;
+use super::make_sure;
 use crate::OutOfMemory;
 use std::alloc::{AllocError, Global};
+use std::fs::OpenFile;
 use std::io;
-use std::io::Write;
 use std::marker::Model;
 
-/// How many files are open at once.
+/// How many files are open at once: more than a graph has nodes.
 const OPEN_LIMIT: usize = 64;
 
 /// Files by their names, the one that was used last first. There is memory from the start for as
-/// many as may be open.
+/// many as may be open, and for their names.
 #[derive(Drop)]
 pub struct FileTable<F: Drop> {
+    alloc: Global,
     files: Vec<BegunFile<F>>,
+    rooms: Vec<Vec<u8>>,
 }
 
 impl<F: Drop> Model for FileTable<F> {
@@ -34,9 +38,38 @@ impl<F: Drop> FileTable<F> {
     pub fn new(alloc: Global) -> Result<FileTable<F>, OutOfMemory>
         ensures { IfOk result (λ t. t ≡ []) }
     {
+        let mut rooms = Vec::with_capacity(alloc, OPEN_LIMIT)?;
+        for _ in 0..OPEN_LIMIT {
+            rooms.push(Vec::with_capacity(alloc, NAME_LIMIT)?)?;
+        }
         Ok(FileTable {
+            alloc,
             files: Vec::with_capacity(alloc, OPEN_LIMIT)?,
+            rooms,
         })
+    }
+
+    /// An open file that is at its end, under a name. Beyond as many as may be open it may want memory.
+    pub fn begun(&mut self, name: &str, file: F, ends: u64) -> Result<BegunFile<F>, OutOfMemory>
+        ensures begun { IfOk result (λ b. b ≡ record { name = name.now; ends = ends; file = Some (file, ends) }) }
+        ensures same { self.new ≡ self.old }
+    {
+        let room = match self.rooms.pop() {
+            Some(room) => room,
+            None => Vec::new(self.alloc),
+        };
+        BegunFile::at_end(room, name, file, ends)
+    }
+
+    /// Lets a file go that was taken out, and keeps the memory of its name. It is given back where it is open.
+    pub fn let_go(&mut self, file: BegunFile<F>) -> Option<F>
+        ensures same { self.new ≡ self.old }
+    {
+        let (room, open) = file.into_parts();
+        if self.rooms.len() < self.rooms.capacity() {
+            self.rooms.push_reserved(room);
+        }
+        open
     }
 
     fn index_of(&self, name: &str) -> Option<usize>
@@ -92,8 +125,8 @@ impl<F: Drop> FileTable<F> {
     }
 }
 
-impl<F: Write + Drop> FileTable<F> {
-    /// Where no more may be opened, closes the one that was used longest ago.
+impl<F: OpenFile + Drop> FileTable<F> {
+    /// Where no more may be opened, makes sure of the one that was used longest ago, and closes it.
     pub fn make_room(&mut self) -> io::Result<()>
         ensures { MayClose self.old self.new }
     {
@@ -101,7 +134,7 @@ impl<F: Write + Drop> FileTable<F> {
             return Ok(());
         };
         match self.files[index].close() {
-            Some(mut file) => file.flush(),
+            Some(file) => make_sure(&file),
             None => Ok(()),
         }
     }

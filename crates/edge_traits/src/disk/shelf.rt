@@ -6,25 +6,32 @@ ghost use Rattle.edge_traits.specs.RealFiles.{Begun, emptying, keeping, find_beg
 
 use super::begun_file::BegunFile;
 use super::file_table::FileTable;
-use super::{counted, fault, open};
+use super::{counted, fault, make_sure, open};
 use crate::{Failed, OutOfMemory, Shelf};
 use std::alloc::Global;
 use std::fs::OpenOptions;
-use std::io::{Seek, SeekFrom, Write};
+use std::io::{Seek, SeekFrom};
 use std::marker::Model;
 use std::rt::Files;
 
 /// The files of the running machine, by their paths. A name that was created stays open until it
 /// is finished, beside up to 63 others; of more names those that were used longest ago are closed,
 /// and opened again when they are written. A write goes to the place where the bytes end that this
-/// shelf gave the name, whatever others add to the file.
+/// shelf gave the name, whatever others add to the file. To finish a name makes sure of its bytes, of
+/// the first 64 names and of each that has 64 KiB or more; a smaller one is left to the system then.
 #[derive(Drop)]
 pub struct DiskShelf<'a, R: Files> {
     rt: &'a R,
-    alloc: Global,
     files: FileTable<R::File>,
+    unsure: u32,
     faults: u64,
 }
+
+/// How many names are made sure of whatever their size, and from which size on each is: to do it for thousands of small files
+/// would take many times as long as writing them.
+const SURE_NAMES: u32 = 64;
+
+const SURE_SIZE: u64 = 65_536;
 
 impl<'a, R: Files> Model for DiskShelf<'a, R> {
     ghost use Rattle.edge_traits.specs.RealFiles.{BegunFiles};
@@ -53,14 +60,14 @@ fn keeping() -> OpenOptions
 }
 
 impl<'a, R: Files> DiskShelf<'a, R> {
-    /// No call has failed yet. It takes the memory for 64 names.
+    /// No call has failed yet. It takes the memory for 64 names that are begun and not finished.
     pub fn new(alloc: Global, rt: &'a R) -> Result<DiskShelf<'a, R>, OutOfMemory>
         ensures { IfOk result (λ s. s ≡ record { files = []; faults = 0 }) }
     {
         Ok(DiskShelf {
             rt,
-            alloc,
             files: FileTable::new(alloc)?,
+            unsure: SURE_NAMES,
             faults: 0,
         })
     }
@@ -88,10 +95,19 @@ impl<'a, R: Files> DiskShelf<'a, R> {
         ensures files { self.new.files ≡ self.old.files }
         ensures cause { Counts self.old.faults self.new.faults result }
     {
-        match BegunFile::at_end(self.alloc, name, file, ends) {
+        match self.files.begun(name, file, ends) {
             Ok(begun) => Ok(begun),
             Err(_) => Err(fault(&mut self.faults)),
         }
+    }
+
+    /// Whether the next name that is finished with so many bytes is made sure of.
+    fn is_sure(&mut self, size: u64) -> bool
+        ensures same { self.new ≡ self.old }
+    {
+        let is_early = self.unsure > 0;
+        self.unsure = self.unsure.saturating_sub(1);
+        is_early || size >= SURE_SIZE
     }
 
     /// Keeps a file for the next call on its name.
@@ -201,7 +217,9 @@ impl<'a, R: Files> Shelf for DiskShelf<'a, R> {
             } ∷ others) × MayClose (without_begun self.old.files name.now) others) }
         ensures cause { Counts self.old.faults self.new.faults result }
     {
-        drop(self.files.take(name));
+        if let Some(file) = self.files.take(name) {
+            drop(self.files.let_go(file));
+        }
         let file = self.opened(&emptying(), name)?;
         let begun = self.begun(name, file, 0)?;
         self.kept(begun)
@@ -232,12 +250,13 @@ impl<'a, R: Files> Shelf for DiskShelf<'a, R> {
         ensures let_go { self.new.files ≡ without_begun self.old.files name.now }
         ensures cause { Counts self.old.faults self.new.faults result }
     {
-        let Some(mut file) = self.files.take(name) else {
+        let Some(file) = self.files.take(name) else {
             return Ok(());
         };
-        match file.close() {
-            Some(mut open) => counted(&mut self.faults, open.flush()),
-            None => Ok(()),
+        let is_sure = self.is_sure(file.ends());
+        match self.files.let_go(file) {
+            Some(open) if is_sure => counted(&mut self.faults, make_sure(&open)),
+            _ => Ok(()),
         }
     }
 }

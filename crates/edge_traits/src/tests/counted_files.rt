@@ -12,7 +12,7 @@ use std::sync::atomic::{AtomicU64, Ordering};
 pub struct Counts {
     pub moves: AtomicU64,
     pub seeks: AtomicU64,
-    pub flushes: AtomicU64,
+    pub syncs: AtomicU64,
     pub opens: AtomicU64,
     pub open: AtomicU64,
     pub most_open: AtomicU64,
@@ -23,7 +23,7 @@ impl Counts {
         Counts {
             moves: AtomicU64::new(0),
             seeks: AtomicU64::new(0),
-            flushes: AtomicU64::new(0),
+            syncs: AtomicU64::new(0),
             opens: AtomicU64::new(0),
             open: AtomicU64::new(0),
             most_open: AtomicU64::new(0),
@@ -36,12 +36,12 @@ fn value(count: &AtomicU64) -> u64 {
     count.load(Ordering::SeqCst)
 }
 
-/// How many files were opened, sought in and flushed, how many are open, and how many were at most.
+/// How many files were opened, sought in and made sure of, how many are open, and how many were at most.
 pub fn told(counts: &Counts) -> [u64; 5] {
     [
         value(&counts.opens),
         value(&counts.seeks),
-        value(&counts.flushes),
+        value(&counts.syncs),
         value(&counts.open),
         value(&counts.most_open),
     ]
@@ -93,7 +93,6 @@ impl<'a, F: Write + Drop> Write for CountedFile<'a, F> {
     }
 
     fn flush(&mut self) -> io::Result<()> {
-        add(&self.counts.flushes);
         self.file.flush()
     }
 }
@@ -115,6 +114,7 @@ impl<'a, F: OpenFile + Drop> OpenFile for CountedFile<'a, F> {
     }
 
     fn sync_all(&self) -> io::Result<()> {
+        add(&self.counts.syncs);
         self.file.sync_all()
     }
 

@@ -174,7 +174,7 @@ fn many_files_are_written_by_turns_with_64_open(rt: HostRuntime) -> Result<(), F
     for number in 0..70 {
         go_on(alloc, &mut shelf, number)?;
     }
-    assert_eq!(rt; told(&counts), [77, 7, 77, 0, 64]);
+    assert_eq!(rt; told(&counts), [77, 7, 71, 0, 64]);
     assert_eq!(rt; shelf.faults(), 0);
     assert!(rt; hold_many(&files));
     Ok(())
