@@ -17,13 +17,12 @@ use Rattle.flow_journal.specs.Ended.{was_reclaimed}
 use Rattle.board_rules.specs.declared.answers.Left.{Left}
 use Rattle.board_rules.specs.States.{BoardState, past, lent_to}
 use Rattle.board_rules.specs.Movers.{moves_by}
-use Rattle.board_rules.specs.InHand.{is_load_of, granted_size}
+use Rattle.board_rules.specs.InHand.{is_load_of, granted_size, IsOfHand}
 use Rattle.board_rules.specs.Leaving.{MayReclaim}
 use Rattle.board_rules.specs.RunMeasures.{run_setting}
 use Rattle.board_rules.proofs.Moves.{moves-tell}
 use Rattle.flow_roles.specs.Passes.{Pass}
 use Rattle.flow_roles.specs.RoleMoves.{feeder_logs, worker_logs, saver_logs}
-use Rattle.flow_roles.specs.RoleEnds.{IsOfHand}
 use Rattle.flow_roles.specs.TurnPasses.{HasMade}
 use Rattle.flow_roles.specs.Feeder.{name_of, parts_of}
 use Rattle.flow_roles.proofs.Reclaims.{comes-back}

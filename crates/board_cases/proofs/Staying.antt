@@ -14,13 +14,12 @@ use Rattle.flow_journal.specs.Hands.{hand}
 use Rattle.flow_journal.specs.Ended.{has_left}
 use Rattle.board_rules.specs.States.{BoardState, past, plain, lent_to}
 use Rattle.flow_journal.specs.MoveLists.{begun_by}
-use Rattle.board_rules.specs.InHand.{is_load_of, is_job_on, is_piece_on, granted_size}
+use Rattle.board_rules.specs.InHand.{is_load_of, is_job_on, is_piece_on, granted_size, IsOfHand}
 use Rattle.board_rules.specs.Leaving.{LeaveGives}
 use Rattle.flow_roles.specs.declared.last.Last.{Last}
 use Rattle.flow_roles.specs.declared.last.Last.TheVariants.{Gone}
 use Rattle.flow_roles.specs.Passes.{Pass, Called}
 use Rattle.flow_roles.specs.RoleMoves.{feeder_logs, worker_logs, saver_logs, HasNothing}
-use Rattle.flow_roles.specs.RoleEnds.{IsOfHand}
 use Rattle.flow_roles.specs.Feeder.{name_of, parts_of}
 use Rattle.flow_roles.proofs.Calls.{here, unmoved, moved, hand-before, role-after}
 use Rattle.board_cases.specs.declared.seats.LoadedFrame.{LoadedFrame}

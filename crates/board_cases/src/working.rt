@@ -15,7 +15,7 @@ use crate::printing::{settled_text, take_text};
 use crate::seats::{Job, Worker};
 use anyhow::{Result, bail};
 use board_rules::{Settled, Take};
-use flow_roles::{Desk, result_of};
+use flow_roles::{Alone, Desk, result_of};
 use frame_store::{Blank, Frame};
 use nd_base::{Plan, Run, Stack};
 use std::alloc::Global;
@@ -90,7 +90,7 @@ fn put_job<R: Run, D: Desk<Frame<R>>, W: Wait>(
     ensures ours { OnOk result (D.ours desk.now pass.new) }
     ensures put { OnOk result (HasNothing (worker_logs node) role (D.knows pass.new)) }
 {
-    let Ok(done) = result_of(alloc, plan, stack, node, input, blank) else {
+    let Ok(done) = result_of(&Alone, alloc, plan, stack, node, input, blank) else {
         bail!("out of memory");
     };
     match desk.put(rt, alloc, pass, role, done) {

@@ -1,5 +1,5 @@
 -- What a role has in hand, by the log, and what may come back of it.
-use Rattle.std.specs.Prelude.{◌≡◌, ◌^◌, IsSome, ℕ, ◌==◌, Bool, true, false, ◌&&◌, List, [], ◌∷◌, Option, Some, None}
+use Rattle.std.specs.Prelude.{◌≡◌, ◌^◌, IsSome, IsNone, ℕ, ◌==◌, Bool, true, false, ◌&&◌, List, [], ◌∷◌, Option, Some, None}
 use Rattle.nd_base.specs.declared.frame.FrameName.{FrameName}
 use Rattle.nd_base.specs.Parts.{Parts}
 use Rattle.flow_journal.specs.declared.entry.Entry.{Entry}
@@ -86,6 +86,31 @@ TellParts {F} parts = (f : F) → IsSome (parts f)
 abbrev pub OfSome : {X : Type 0} → (X → Type 0) → Option X → Type 0
 OfSome P None = Unit {0}
 OfSome P (Some x) = P x
+
+-- WHAT WAS HANDED OUT FOR A HAND
+
+-- storage of the granted size: as it was handed out, or sealed under this name
+abbrev pub IsStorage : {F B : Type 0} → (F → FrameName) → (F → Option Parts) → (B → ℕ) → FrameName → (size : ℕ) → Option F → Option B → Type 0
+IsStorage name_of parts bytes_of a n None (Some blank) = bytes_of blank ≡ n
+IsStorage name_of parts bytes_of a n (Some f) None = (name_of f ≡ a) × IsWholeOf n (parts f)
+IsStorage name_of parts bytes_of a n _ _ = ⊥
+
+-- the array of this name, by the part that was lent
+abbrev pub IsLent : {F : Type 0} → (F → FrameName) → (F → Option Parts) → FrameName → (lent : Option Parts) → Option F → Type 0
+IsLent name_of parts a lent (Some f) = (name_of f ≡ a) × (parts f ≡ lent)
+IsLent name_of parts a lent None = ⊥
+
+-- what was handed out for a hand, and no more: nothing without one
+abbrev pub IsOfHand : {F B : Type 0} → (F → FrameName) → (F → Option Parts) → (B → ℕ) → (lent : Option Parts) → Option Entry
+    → (input made : Option F) → (blank : Option B) → Type 0
+IsOfHand name_of parts bytes_of lent (Some (entry.Load r k b n f g x)) input made blank =
+    IsNone input × IsStorage name_of parts bytes_of (frame 0 k) n made blank
+IsOfHand name_of parts bytes_of lent (Some (entry.Take r v m k)) input made blank = IsLent name_of parts (frame m k) lent input × IsNone made × IsNone blank
+IsOfHand name_of parts bytes_of lent (Some (entry.TakeBlock f x r v m k b n g)) input made blank =
+    IsLent name_of parts (frame m k) lent input × IsStorage name_of parts bytes_of (frame v k) n made blank
+IsOfHand name_of parts bytes_of lent (Some (entry.Save r v m k g)) input made blank = IsLent name_of parts (frame m k) lent input × IsNone made × IsNone blank
+IsOfHand name_of parts bytes_of lent None input made blank = IsNone input × IsNone made × IsNone blank
+IsOfHand name_of parts bytes_of lent _ input made blank = ⊥
 
 -- WHAT A RESULT HAS TO BE, BY ITS NODE
 

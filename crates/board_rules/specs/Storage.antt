@@ -12,6 +12,7 @@ use Rattle.flow_journal.specs.EntryTests.{says_regrown}
 use Rattle.flow_journal.specs.Hands.{hands}
 use Rattle.flow_journal.specs.Accounts.{block_of}
 use Rattle.board_rules.specs.declared.answers.Left.{Left}
+use Rattle.board_rules.specs.declared.told.Told.{Told}
 use Rattle.board_rules.specs.States.{BoardState, past}
 use Rattle.board_rules.specs.InHand.{granted_block, TellParts}
 
@@ -97,3 +98,11 @@ is_some_lost (b ∷ bs) = true
 abbrev pub has_lost : BoardState → Bool
 has_lost [] = false
 has_lost (t ∷ b) = is_some_lost t.lost || has_lost b
+
+-- Nothing stayed away, and, where frames tell their parts, no storage was made anew.
+abbrev pub HasAllStorage : {F : Type 0} → (F → Option Parts) → BoardState → Type 0
+HasAllStorage parts b = (has_lost b ≡ false) × (TellParts parts → is_never_regrown (past b) ≡ true)
+
+-- so the entry leaves it: nothing stays away with it, and it makes no storage anew unless something had stayed away before
+abbrev pub KeepsStorage : BoardState → Told → Type 0
+KeepsStorage b t = (t.lost ≡ []) × (has_lost b ≡ false → says_regrown t.entry ≡ false)

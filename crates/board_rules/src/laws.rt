@@ -1,7 +1,7 @@
 //! What holds of every list of calls. Each function is a law: it does nothing, and its contract says what holds.
 
 ghost use Rattle.board_rules.specs.MoveLaws.{MovedIsLegal, MovedIsTheOnly, MovedIsOneMove, MovesAreAdded, OwnTellsHand, MovesTellHand};
-ghost use Rattle.board_rules.specs.RunLaws.{RunsAreLegal, RunsKeepStorage, CallsAddMoves};
+ghost use Rattle.board_rules.specs.RunLaws.{RunsAreLegal, CallsKeepStorage, RunsKeepStorage, LosslessRunsKeepStorage, CallsAddMoves};
 ghost use Rattle.board_rules.specs.AnswerLaws.{AnswersExist, LogsAreTold};
 
 use nd_base::Held;
@@ -10,7 +10,13 @@ use nd_base::Held;
 pub fn calls_keep_histories<F: Held>()
     ensures moves { MovedIsLegal }
     ensures runs { RunsAreLegal F F.Blank F.Of }
-    ensures storage { RunsKeepStorage F F.Blank F.Of }
+{}
+
+/// Where all that was handed out for a hand comes back with it, nothing stays away, and no storage is made anew.
+pub fn calls_keep_storage<F: Held>()
+    ensures call { CallsKeepStorage F F.Blank F.Of }
+    ensures runs { RunsKeepStorage F F.Blank F.Of }
+    ensures lossless { LosslessRunsKeepStorage F F.Blank F.Of }
 {}
 
 /// A legal move is the one that begins with its entry. What a call adds is nothing or one move of its caller, which

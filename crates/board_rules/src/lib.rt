@@ -11,6 +11,9 @@ mod told;
 
 pub use answers::{Done, HandName, Left, Load, NoReclaim, NoWhy, NotYours, Save, Settled, Take};
 pub use board::BoardCalls;
-pub use laws::{calls_add_moves, calls_have_answers, calls_keep_histories, own_entries_tell_hands};
+pub use laws::{
+    calls_add_moves, calls_have_answers, calls_keep_histories, calls_keep_storage,
+    own_entries_tell_hands,
+};
 pub use measures::Measures;
 pub use told::{LentParts, Told};

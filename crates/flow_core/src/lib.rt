@@ -12,3 +12,7 @@ mod storage;
 mod working;
 
 pub use board::Board;
+pub use board_rules::{
+    BoardCalls, Done, HandName, Left, Load, Measures, NoReclaim, NoWhy, NotYours, Save, Settled,
+    Take,
+};

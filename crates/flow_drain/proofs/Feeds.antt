@@ -27,9 +27,10 @@ use Rattle.board_rules.specs.declared.answers.Settled.TheVariants as settled
 use Rattle.board_rules.specs.declared.told.Told.{Told}
 use Rattle.board_rules.specs.States.{BoardState, past, plain}
 use Rattle.board_rules.specs.Moving.{moved_at}
-use Rattle.board_rules.specs.InHand.{is_load_of, granted_size}
+use Rattle.board_rules.specs.InHand.{is_load_of, granted_size, TellParts}
 use Rattle.board_rules.specs.Feeding.{is_sent_away, load_refusal, LoadAnswers, LoadGives, HasRoom, MayIssue, IssueGives, CloseGives, waits_to_close}
 use Rattle.board_rules.proofs.Legal.{load-by, issue-by, close-by}
+use Rattle.board_rules.proofs.Storage.{isnt-away}
 use Rattle.frame_store.specs.Sealed.{Sealed}
 use Rattle.flow_roles.specs.Feeder.{name_of, parts_of}
 use Rattle.flow_roles.proofs.Results.{issue-whole}
@@ -113,10 +114,12 @@ module _ {F B : Type 0} (parts : F → Option Parts) (bytes_of : B → ℕ) (s :
       → LoadGives parts bytes_of s old r tick a new → is_history s (past new) ≡ true
   load-legal pooled is h a c = load-by parts bytes_of s old new r tick _ _ a pooled h (omega (arith, is)) refl refl c
 
-  pub loaded-moves : r ≡ last_role s → (k : ℕ) (blank : B) → LoadGives parts bytes_of s old r tick (load.Loaded k blank) new → DrainMoves s tick old new
-  loaded-moves is k blank c =
+  pub loaded-moves : TellParts parts → r ≡ last_role s → (k : ℕ) (blank : B) → LoadGives parts bytes_of s old r tick (load.Loaded k blank) new
+      → DrainMoves s tick old new
+  loaded-moves tell is k blank c =
       let l = load-loaded parts bytes_of s old new r tick k blank (load_refusal s r (past old)) (grant s (past old) (s.need 0)) refl c in
-      one-of s tick tick (plain (Load r k l.b l.n l.f l.g l.x)) old new (eq-eqb r (last_role s) is) (λ e. refl) l.move
+      one-of s tick tick (plain (Load r k l.b l.n l.f l.g l.x)) old new (eq-eqb r (last_role s) is) (λ e. refl)
+      (refl, isnt-away parts old l.b l.f l.x l.regrown tell) l.move
 
   pub loaded-holds : s.pooled ≡ true → r ≡ last_role s → IsIdle s old → (k : ℕ) (blank : B) → LoadGives parts bytes_of s old r tick (load.Loaded k blank) new
       → HasRoom bytes_of s r (load.Loaded k blank) new → HasFrame s k (bytes_of blank) new
@@ -181,7 +184,7 @@ module _ (s : Setting) (old : BoardState) (r k size : ℕ) (is : r ≡ last_role
   pub issue-moves : {F E : Type 0} (name_of : F → FrameName) (f : F) (new : BoardState) (done : E) (tick : ℕ)
       → IssueGives {E = E} name_of s old r f (Ok done) new → DrainMoves s tick old new
   issue-moves name_of f new done tick c =
-      one-of s tick 0 (plain (Issue r (name_of f).index)) old new (eq-eqb r (last_role s) is) (λ e. absurd (false≢true e)) c.1
+      one-of s tick 0 (plain (Issue r (name_of f).index)) old new (eq-eqb r (last_role s) is) (λ e. absurd (false≢true e)) (refl, λ h. refl) c.1
 
 -- CLOSE
 
@@ -207,7 +210,7 @@ close-moves s r tick old new settled.NotYet is c = no-move s tick old new c.1
 close-moves s r tick old new settled.Done is c =
     elim (closed-by s r old new (is_closed (past old)) c.1) [
       | inl same_ ↦ no-move s tick old new same_.1
-      | inr move ↦ one-of s tick 0 (plain (Close r)) old new (eq-eqb r (last_role s) is) (λ e. absurd (false≢true e)) move
+      | inr move ↦ one-of s tick 0 (plain (Close r)) old new (eq-eqb r (last_role s) is) (λ e. absurd (false≢true e)) (refl, λ h. refl) move
     ]
 
 pub close-still : (s : Setting) (r : ℕ) (old new : BoardState) (a : Settled) → is_closed (past old) ≡ true → CloseGives s old r a new → new ≡ old
@@ -244,16 +247,16 @@ same-idle s old new is idle = subst (λ (b : BoardState). IsIdle s b) (sym is) i
 module _ {F B : Type 0} (parts : F → Option Parts)
     (bytes_of : B → ℕ) (s : Setting) (old mid : BoardState) (r tick : ℕ) (is : r ≡ last_role s) (idle : IsIdle s old) where
   -- a loaded frame
-  pub loaded-on : (k : ℕ) (blank : B) (new : BoardState) → LoadGives parts bytes_of s old r tick (load.Loaded k blank) mid
+  pub loaded-on : TellParts parts → (k : ℕ) (blank : B) (new : BoardState) → LoadGives parts bytes_of s old r tick (load.Loaded k blank) mid
       → DrainMoves s tick mid new → DrainMoves s tick old new
-  loaded-on k blank new c m = moves-on s tick old mid new (loaded-moves parts bytes_of s old mid r tick is k blank c) m
+  loaded-on tell k blank new c m = moves-on s tick old mid new (loaded-moves parts bytes_of s old mid r tick tell is k blank c) m
 
-  pub loaded-other : (k : ℕ) (blank : B) (new : BoardState) → LoadGives parts bytes_of s old r tick (load.Loaded k blank) mid
+  pub loaded-other : TellParts parts → (k : ℕ) (blank : B) (new : BoardState) → LoadGives parts bytes_of s old r tick (load.Loaded k blank) mid
       → DrainMoves s tick mid new → new ≡ old → ⊥
-  loaded-other k blank new c m same_ =
+  loaded-other tell k blank new c m same_ =
       let l = load-loaded parts bytes_of s old mid r tick k blank (load_refusal s r (past old)) (grant s (past old) (s.need 0)) refl c in
       other-board s tick (plain (Load r k l.b l.n l.f l.g l.x)) old mid old refl l.move
-      (squeezed s tick old mid new (loaded-moves parts bytes_of s old mid r tick is k blank c) m same_)
+      (squeezed s tick old mid new (loaded-moves parts bytes_of s old mid r tick tell is k blank c) m same_)
 
   pub loaded-unfed : (k : ℕ) (blank : B) → LoadGives parts bytes_of s old r tick (load.Loaded k blank) mid → IsFed s (past old) → ⊥
   loaded-unfed k blank c fed =
@@ -272,7 +275,7 @@ module _ {F B : Type 0} (parts : F → Option Parts)
   pub refused-on : (k z : ℕ) → LoadGives parts bytes_of s old r tick (load.Refused k z) mid → DrainMoves s tick old mid
   refused-on k z c =
       one-of s tick tick (plain (LoadRefused r k (s.need 0) z)) old mid (eq-eqb r (last_role s) is)
-      (λ e. refl) (refused-moves parts bytes_of s old mid r tick is idle.free k z c)
+      (λ e. refl) (refl, λ h. refl) (refused-moves parts bytes_of s old mid r tick is idle.free k z c)
 
   pub refused-other : (k z : ℕ) → LoadGives parts bytes_of s old r tick (load.Refused k z) mid → mid ≡ old → ⊥
   refused-other k z c =

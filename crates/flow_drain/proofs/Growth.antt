@@ -1,7 +1,8 @@
 -- A board only grows, and what moves leave of the hands.
-use Rattle.std.proofs.Common.{◌≡◌, ℕ, ◌<◌, ◌≤◌, true, false, [], ◌∷◌, ◌++◌, length, refl, sym, ap, ◌∙◌, subst, arith, Some, None}
+use Rattle.std.proofs.Common.{◌≡◌, ℕ, ◌<◌, ◌≤◌, true, false, [], ◌∷◌, ◌++◌, length, refl, sym, ap, ◌∙◌, subst, arith, Option, Some, None}
 use Rattle.std.specs.Prelude.{find}
 use Rattle.std.proofs.lemmas.List.{append_assoc, length-append}
+use Rattle.nd_base.specs.Parts.{Parts}
 use Rattle.flow_journal.specs.declared.entry.Entry.{Entry}
 use Rattle.flow_journal.specs.declared.entry.Entry.TheVariants.{Load, LoadRefused, Issue, Take, TakeBlock, PoolDrop, Put, Settle, Save, Saved, Close, Leave}
 use Rattle.flow_journal.specs.declared.entry.Entry.TheVariants.{Reclaim}
@@ -14,8 +15,10 @@ use Rattle.board_rules.specs.declared.told.Told.{Told}
 use Rattle.board_rules.specs.States.{BoardState, past}
 use Rattle.flow_journal.specs.MoveLists.{begun_by}
 use Rattle.board_rules.specs.Moving.{moved_at}
+use Rattle.board_rules.specs.Storage.{HasAllStorage, KeepsStorage}
 use Rattle.board_rules.proofs.Moves.{followers, one-move, GoOn}
 use Rattle.board_rules.proofs.Pasts.{past-append}
+use Rattle.board_rules.proofs.Storage.{move-keeps}
 use Rattle.flow_roles.specs.TurnPasses.{BeginsWith}
 use Rattle.flow_roles.proofs.Calls.{from-move}
 use Rattle.flow_drain.specs.Drains.{is_drains, is_load, DrainMoves}
@@ -32,11 +35,11 @@ longer s at t b new is =
 
 pub moves-longer : (s : Setting) (tick : ℕ) (old new : BoardState) → DrainMoves s tick old new → length (past old) ≤ length (past new)
 moves-longer s tick old _ (DrainMoves.none new is) = omega (arith, ap (λ (b : BoardState). length (past b)) is)
-moves-longer s tick old _ (DrainMoves.more b new t at m d l is) = omega (arith, moves-longer s tick old b m, longer s at t b new is)
+moves-longer s tick old _ (DrainMoves.more b new t at m d l k is) = omega (arith, moves-longer s tick old b m, longer s at t b new is)
 
 pub moves-same : (s : Setting) (tick : ℕ) (old new : BoardState) → DrainMoves s tick old new → length (past new) ≤ length (past old) → new ≡ old
 moves-same s tick old _ (DrainMoves.none new is) h = is
-moves-same s tick old _ (DrainMoves.more b new t at m d l is) h = absurd (omega (arith, moves-longer s tick old b m, longer s at t b new is, h))
+moves-same s tick old _ (DrainMoves.more b new t at m d l k is) h = absurd (omega (arith, moves-longer s tick old b m, longer s at t b new is, h))
 
 -- a board between two that are one is the same
 pub squeezed : (s : Setting) (tick : ℕ) (a b c : BoardState) → DrainMoves s tick a b → DrainMoves s tick b c → c ≡ a → b ≡ a
@@ -44,12 +47,12 @@ squeezed s tick a b c m n is = moves-same s tick a b m (omega (arith, moves-long
 
 pub moves-on : (s : Setting) (tick : ℕ) (a b c : BoardState) → DrainMoves s tick a b → DrainMoves s tick b c → DrainMoves s tick a c
 moves-on s tick a b _ m (DrainMoves.none c is) = subst (λ (x : BoardState). DrainMoves s tick a x) (sym is) m
-moves-on s tick a b _ m (DrainMoves.more d c t at n e l is) = DrainMoves.more d c t at (moves-on s tick a b d m n) e l is
+moves-on s tick a b _ m (DrainMoves.more d c t at n e l k is) = DrainMoves.more d c t at (moves-on s tick a b d m n) e l k is
 
 -- the old board stands at the beginning of the new one
 pub grown : (s : Setting) (tick : ℕ) (old new : BoardState) → DrainMoves s tick old new → BeginsWith new old
 grown s tick old _ (DrainMoves.none new is) = ([], is)
-grown s tick old _ (DrainMoves.more b new t at m d l is) =
+grown s tick old _ (DrainMoves.more b new t at m d l k is) =
     let g = grown s tick old b m in
     let f = followers s at t b in
     (f.more ++ t ∷ g.0, is ∙ (f.whole ∙ (ap (λ (x : BoardState). f.more ++ t ∷ x) g.1 ∙ sym (append_assoc f.more (t ∷ g.0) old))))
@@ -61,9 +64,16 @@ pub no-move : (s : Setting) (tick : ℕ) (old new : BoardState) → new ≡ old 
 no-move s tick old new is = DrainMoves.none new is
 
 pub one-of : (s : Setting) (tick at : ℕ) (t : Told) (old new : BoardState) → is_drains s t.entry ≡ true
-    → (is_load t.entry ≡ true → at ≡ tick) → new ≡ moved_at s at t old
+    → (is_load t.entry ≡ true → at ≡ tick) → KeepsStorage old t → new ≡ moved_at s at t old
     → DrainMoves s tick old new
-one-of s tick at t old new d l is = DrainMoves.more old new t at (DrainMoves.none old refl) d l is
+one-of s tick at t old new d l k is = DrainMoves.more old new t at (DrainMoves.none old refl) d l k is
+
+-- they leave all storage
+pub drain-keeps : {F : Type 0} (parts : F → Option Parts) (s : Setting) (tick : ℕ) (old new : BoardState) → DrainMoves s tick old new
+    → HasAllStorage parts old → HasAllStorage parts new
+drain-keeps parts s tick old _ (DrainMoves.none new is) h = subst (λ (b : BoardState). HasAllStorage parts b) (sym is) h
+drain-keeps parts s tick old _ (DrainMoves.more b new t at m d l k is) h =
+    move-keeps parts s at t b new k is (drain-keeps parts s tick old b m h)
 
 -- HANDS
 

@@ -8,3 +8,4 @@ pub mod Rounds
 pub mod TakingBack
 pub mod Quiet
 pub mod AllEnded
+pub mod Stored

@@ -34,13 +34,13 @@ use Rattle.flow_journal.specs.MoveLists.{begun_by}
 use Rattle.flow_journal.specs.ResultNames.{result_name}
 use Rattle.flow_journal.proofs.Found.{none_left-nil}
 use Rattle.board_rules.specs.Moving.{moved_at}
-use Rattle.board_rules.specs.InHand.{is_job_on, granted_size, IsWholeOf, OfSome}
+use Rattle.board_rules.specs.InHand.{is_job_on, granted_size, IsWholeOf, OfSome, IsOfHand}
 use Rattle.board_rules.specs.RunMeasures.{run_setting, run_measure}
 use Rattle.board_rules.specs.Feeding.{is_sent_away}
 use Rattle.board_rules.specs.Working.{take_refusal, asked, TakeAnswers, TakeGives, LendsJob, MayPut, PutGives, waits_to_settle, SettleGives}
+use Rattle.board_rules.proofs.Storage.{isnt-away}
 use Rattle.board_rules.proofs.Legal.{take-by, put-by, settle-by}
 use Rattle.run_laws.proofs.Runs.{node-is}
-use Rattle.flow_roles.specs.RoleEnds.{IsOfHand}
 use Rattle.flow_roles.specs.Feeder.{name_of, parts_of}
 use Rattle.flow_roles.specs.Worker.{IsJobDone}
 use Rattle.flow_roles.proofs.Named.{node-rule, hand-named}
@@ -216,10 +216,10 @@ module _ (O : Type 0) (g : Graph) (stack : StackValue) (old mid : BoardState) (r
       elim (take-job O name_of parts_of length (run_setting g stack) old mid r v is idle w input blank c) [
         | inl t ↦
             one-of (run_setting g stack) tick 0 (lends (take_block r v input.name t.b t.n t.f t.g t.x) (parts_of input)) old mid mine
-            (λ e. absurd (false≢true e)) t.move
+            (λ e. absurd (false≢true e)) (refl, isnt-away parts_of old t.b t.f t.x t.regrown (λ f. refl)) t.move
         | inr t ↦
             one-of (run_setting g stack) tick 0 (lends (Take r v input.name.maker input.name.index) (parts_of input)) old mid mine
-            (λ e. absurd (false≢true e)) t.move
+            (λ e. absurd (false≢true e)) (refl, λ h. refl) t.move
       ]
 
   pub job-longer : length (past old) < length (past mid)
@@ -246,7 +246,7 @@ module _ (O : Type 0) (g : Graph) (stack : StackValue) (old mid : BoardState) (r
       let d = take-drops O name_of parts_of length (run_setting g stack) old mid r v is idle k z c in
       one-of (run_setting g stack) tick 0 (plain (PoolDrop r v d.0.maker d.0.index ((run_setting g stack).need v) z)) old mid
       (eq-eqb r (last_role (run_setting g stack)) is)
-      (λ e. absurd (false≢true e)) d.2
+      (λ e. absurd (false≢true e)) (refl, λ h. refl) d.2
 
   pub drop-longer : length (past old) < length (past mid)
   drop-longer =
@@ -296,7 +296,7 @@ module _ (g : Graph) (stack : StackValue) (old : BoardState) (r v : ℕ) (is : r
   put-moves new x tick c =
       one-of (run_setting g stack) tick 0
       (plain (Put r done.node (result_name (run_setting g stack) done.node (name_of done.input)).maker (name_of done.input).index done.fired)) old new
-      (eq-eqb r (last_role (run_setting g stack)) is) (λ e. absurd (false≢true e)) c.1
+      (eq-eqb r (last_role (run_setting g stack)) is) (λ e. absurd (false≢true e)) (refl, λ h. refl) c.1
 
 -- SETTLE
 
@@ -326,7 +326,7 @@ settle-moves s r v tick old new settled.NotYet is c = no-move s tick old new c.1
 settle-moves s r v tick old new settled.Done is c =
     elim (settled-by s r v old new (is_settled v (past old)) c.1) [
       | inl same_ ↦ no-move s tick old new same_.1
-      | inr move ↦ one-of s tick 0 (plain (Settle r v)) old new (eq-eqb r (last_role s) is) (λ e. absurd (false≢true e)) move
+      | inr move ↦ one-of s tick 0 (plain (Settle r v)) old new (eq-eqb r (last_role s) is) (λ e. absurd (false≢true e)) (refl, λ h. refl) move
     ]
 
 pub settle-still : (s : Setting) (r v : ℕ) (old new : BoardState) (a : Settled) → is_settled v (past old) ≡ true → SettleGives s old r v a new → new ≡ old

@@ -13,9 +13,8 @@ use Rattle.flow_journal.specs.Offered.{next_index}
 use Rattle.flow_journal.specs.Queued.{queued, has_room}
 use Rattle.flow_journal.specs.Histories.{is_history}
 use Rattle.board_rules.specs.States.{BoardState, past, lent_to}
-use Rattle.board_rules.specs.InHand.{is_load_of, is_job_on, granted_size}
+use Rattle.board_rules.specs.InHand.{is_load_of, is_job_on, granted_size, IsOfHand}
 use Rattle.board_rules.specs.RunMeasures.{run_setting}
-use Rattle.flow_roles.specs.RoleEnds.{IsOfHand}
 use Rattle.flow_roles.specs.Feeder.{name_of, parts_of}
 use Rattle.flow_roles.specs.Worker.{ComesTo, FitsNode}
 

@@ -15,7 +15,7 @@ use Rattle.board_rules.specs.declared.told.Told.{Told}
 use Rattle.board_rules.specs.declared.answers.Left.{Left}
 use Rattle.board_rules.specs.States.{BoardState, past, loses}
 use Rattle.board_rules.specs.Moving.{moved, moved_at}
-use Rattle.board_rules.specs.Storage.{lost_of}
+use Rattle.board_rules.specs.Storage.{lost_of, KeepsStorage}
 
 -- the entry begins a move of the drain that feeds or works: it saves nothing, and doesn't leave
 abbrev pub is_drains : Setting → Entry → Bool
@@ -35,11 +35,11 @@ is_load (Load r k b n f g x) = true
 is_load (LoadRefused r k n h) = true
 is_load _ = false
 
--- such moves, one after the other, lead from the one board to the other, and each load was handed this tick
+-- Such moves, one after the other, lead from the one board to the other. Each load was handed this tick, and each entry keeps storage.
 pub data DrainMoves (s : Setting) (tick : ℕ) (old : BoardState) : (new : BoardState) → Type 0 where
   none : (new : BoardState) → new ≡ old → DrainMoves s tick old new
   more : (b new : BoardState) (t : Told) (at : ℕ) → DrainMoves s tick old b → is_drains s t.entry ≡ true → (is_load t.entry ≡ true → at ≡ tick)
-      → new ≡ moved_at s at t b → DrainMoves s tick old new
+      → KeepsStorage b t → new ≡ moved_at s at t b → DrainMoves s tick old new
 
 -- WHAT ROLES LEFT
 

@@ -13,7 +13,7 @@ ghost use Rattle.flow_drain.specs.Drains.{DrainMoves};
 ghost use Rattle.flow_drain.specs.DrainSteps.{IsIdle, HasFrame, HasWork, IsFed, Waits, IsQuiet};
 
 use board_rules::{BoardCalls, Load, Take};
-use flow_roles::{frame_on, result_of};
+use flow_roles::{Alone, frame_on, result_of};
 use frame_store::{Blank, Frame};
 use nd_base::{OutOfMemory, Plan, Run, Stack};
 use std::alloc::Global;
@@ -101,7 +101,7 @@ fn work_on<R: Run, B: BoardCalls<Frame<R>>>(
     ensures idle { OnOk result (IsIdle (run_setting R.graph R.stack) (B.shown board.new)) }
     ensures moves { (tick : ℕ) → DrainMoves (run_setting R.graph R.stack) tick (B.shown board.old) (B.shown board.new) }
 {
-    let Ok(done) = result_of(alloc, plan, stack, node, input, blank) else {
+    let Ok(done) = result_of(&Alone, alloc, plan, stack, node, input, blank) else {
         return Err(OutOfMemory);
     };
     let Ok(()) = board.put(role, done) else {

@@ -8,6 +8,7 @@ use Rattle.board_rules.specs.declared.told.Told.{Told}
 use Rattle.board_rules.specs.States.{BoardState, past}
 use Rattle.board_rules.specs.Movers.{moves_by}
 use Rattle.board_rules.specs.Runs.{Frames}
+use Rattle.board_rules.specs.Storage.{HasAllStorage}
 use Rattle.turn_lock.specs.Logs.{IsMove, moves_of}
 use Rattle.flow_roles.specs.declared.operation.DeskOp.{DeskOp}
 use Rattle.flow_roles.specs.declared.operation.DeskReply.{DeskReply}
@@ -29,6 +30,9 @@ module _ {F B O : Type 0} (fs : Frames F B) (s : Setting) (b new : BoardState) (
 
   pub drained_after : only_drain_saves s (past new) ≡ true
   drained_after = (replies_are_moves fs s b new o reply (moves_allow fs s b o (may_play fs s b o may)) c).2 drained
+
+  pub storage_after : HasAllStorage fs.parts b → HasAllStorage fs.parts new
+  storage_after = (replies_are_moves fs s b new o reply (moves_allow fs s b o (may_play fs s b o may)) c).3
 
   pub played : Lends fs s o reply new
       → (added : List Told) × (reverse new ≡ reverse b ++ added) × IsMove begins_of (role_of o) added × IsPlayed fs s (reverse b) o reply added

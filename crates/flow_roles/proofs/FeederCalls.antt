@@ -24,6 +24,7 @@ use Rattle.board_rules.specs.declared.answers.NotYours.{NotYours}
 use Rattle.board_rules.specs.declared.answers.Settled.TheVariants as settled
 use Rattle.board_rules.specs.States.{BoardState, past, plain}
 use Rattle.board_rules.specs.Moving.{moved_at}
+use Rattle.board_rules.specs.Storage.{IsRegrown}
 use Rattle.board_rules.specs.InHand.{is_load_of}
 use Rattle.board_rules.specs.Feeding.{is_sent_away, load_refusal, LoadAnswers, LoadGives, HasRoom, IssueGives, CloseGives}
 use Rattle.board_rules.proofs.Legal.{may_load}
@@ -109,26 +110,27 @@ load-refused parts bytes_of s old new r tick k z None pool.Refused c = inr c.2
 load-refused parts bytes_of s old new r tick k z None (Granted b n f g) c = absurd c
 
 -- what is known of a loaded frame
-pub record Loaded (s : Setting) (old new : BoardState) (r tick k size : ℕ) : Type 0 where
+pub record Loaded {F : Type 0} (parts : F → Option Parts) (s : Setting) (old new : BoardState) (r tick k size : ℕ) : Type 0 where
   pub n : ℕ
   pub b : ℕ
   pub f : Bool
   pub g : ℕ
   pub x : Bool
+  pub regrown : IsRegrown parts old b f x
   pub sized : size ≡ n
   pub there : k < length s.ids
   pub move : new ≡ moved_at s tick (plain (Load r k b n f g x)) old
 
 pub load-loaded : {F B : Type 0} (parts : F → Option Parts)
     (bytes_of : B → ℕ) (s : Setting) (old new : BoardState) (r tick k : ℕ) (blank : B) (o : Option (load_answer B)) (g : Answer)
-    → load_refusal s r (past old) ≡ o → LoadAnswers parts bytes_of s old r tick o g (load.Loaded k blank) new → Loaded s old new r tick k (bytes_of blank)
+    → load_refusal s r (past old) ≡ o → LoadAnswers parts bytes_of s old r tick o g (load.Loaded k blank) new → Loaded parts s old new r tick k (bytes_of blank)
 load-loaded {F} {B} parts bytes_of s old new r tick k blank (Some x) g is c =
     absurd (loaded-by {B = B} k blank (is_sent_away s r (past old)) (has_loaded (past old) || not (is_free r (past old)))
     (leb (length s.ids) (next_index (past old)))
     (s.wait && not (list_all (has_room s (past old)) (children s 0))) (ap Some c.0 ∙ sym is))
 load-loaded {F} {B} parts bytes_of s old new r tick k blank None (Granted b n f g) is c =
     let more = leb-false (length s.ids) (next_index (past old)) (may_load {B = B} s r (past old) is).more in
-    record { n = n; b = b; f = f; g = g; x = c.2.0; sized = c.1; there = omega (arith, more, c.0); move = c.2.2 }
+    record { n = n; b = b; f = f; g = g; x = c.2.0; regrown = c.2.1; sized = c.1; there = omega (arith, more, c.0); move = c.2.2 }
 load-loaded parts bytes_of s old new r tick k blank None pool.Refused is c = absurd c
 
 -- THE FEEDER'S LOADS

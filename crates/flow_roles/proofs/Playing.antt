@@ -17,10 +17,12 @@ use Rattle.board_rules.specs.Working.{IsResult, MayPut}
 use Rattle.board_rules.specs.Saving.{MaySaved}
 use Rattle.board_rules.specs.Runs.{Frames, Call, Loads, Issues, Takes, Puts, Settles, Saves as SavesOne, Saveds, Closes, Leaves, Asks, May, Gives, caller}
 use Rattle.board_rules.specs.Runs.{saver}
-use Rattle.board_rules.specs.RunLaws.{IsAddedBy, saves_as}
+use Rattle.board_rules.specs.RunLaws.{BringsAll, IsAddedBy, saves_as}
+use Rattle.board_rules.specs.Storage.{HasAllStorage}
 use Rattle.board_rules.proofs.Moves.{moves-tell}
 use Rattle.board_rules.proofs.Callers.{calls-add}
 use Rattle.board_rules.proofs.Legal.{runs-legal}
+use Rattle.board_rules.proofs.Storage.{calls-keep}
 use Rattle.flow_roles.specs.declared.operation.DeskOp.{DeskOp}
 use Rattle.flow_roles.specs.declared.operation.DeskOp.TheVariants as op
 use Rattle.flow_roles.specs.declared.operation.DeskReply.TheVariants as reply
@@ -93,17 +95,19 @@ move-of : (o : Option ℕ) (r : ℕ) (added : BoardState) → OfSome (λ q. q �
 move-of (Some q) r added h i = subst (λ (p : ℕ). IsMoveOf p added) h i
 move-of None r added h i = subst (λ (a : BoardState). IsMoveOf r a) (sym i) tt
 
-call-moves : {F B O : Type 0} (fs : Frames F B) (s : Setting) (old new : BoardState) (call : Call F B O) (r : ℕ) → IsOf s r call → May fs s old call
-    → Gives fs s old call new
+call-moves : {F B O : Type 0} (fs : Frames F B) (s : Setting) (old new : BoardState) (call : Call F B O) (r : ℕ) → IsOf s r call → BringsAll fs old call
+    → May fs s old call → Gives fs s old call new
     → ((added : BoardState) × (new ≡ added ++ old) × IsMoveOf r added)
     × (s.pooled ≡ true → is_history s (past old) ≡ true → is_history s (past new) ≡ true)
     × (only_drain_saves s (past old) ≡ true → only_drain_saves s (past new) ≡ true)
+    × (HasAllStorage fs.parts old → HasAllStorage fs.parts new)
 unfolding IsOf
-call-moves fs s old new call r of may c =
+call-moves fs s old new call r of all may c =
     let a = calls-add fs s old new call c in (
       (a.0, a.1, move-of (caller call) r a.0 of.0 a.2),
       λ pooled h. runs-legal fs s old new (call ∷ []) pooled h (may, (new, c, refl)),
       λ d. subst (λ (b : BoardState). only_drain_saves s (past b) ≡ true) (sym a.1) (drained-by s (saver call) a.0 old of.1 a.3 d),
+      λ h. calls-keep fs s old new call c all h,
     )
 
 pub below : (r n : ℕ) → r < n → r ≤ n
@@ -115,21 +119,21 @@ at_end r n h = omega arith
 pub replies_are_moves : {F B O : Type 0} → RepliesAreMoves F B O
 unfolding IsOf
 replies_are_moves {F} {B} {O} fs s old new (op.Load r tick) (reply.Load answer) m c =
-    call-moves {O = O} fs s old new (Loads r tick answer) r (refl, tt) (below r (last_role s) m) c
+    call-moves {O = O} fs s old new (Loads r tick answer) r (refl, tt) tt (below r (last_role s) m) c
 replies_are_moves {F} {B} {O} fs s old new (op.Issue r f) (reply.Issue answer) m c =
-    call-moves {O = O} fs s old new (Issues r f answer) r (refl, tt) (below r (last_role s) m.0, m.1) c
+    call-moves {O = O} fs s old new (Issues r f answer) r (refl, tt) tt (below r (last_role s) m.0, m.1) c
 replies_are_moves {F} {B} {O} fs s old new (op.Take r v) (reply.Take answer) m c =
-    call-moves {O = O} fs s old new (Takes r v answer) r (refl, tt) (below r (last_role s) m.0, m.1) c
+    call-moves {O = O} fs s old new (Takes r v answer) r (refl, tt) tt (below r (last_role s) m.0, m.1) c
 replies_are_moves {F} {B} {O} fs s old new (op.Put r done) (reply.Put answer) m c =
-    call-moves {O = O} fs s old new (Puts r done answer) r (refl, tt) (below r (last_role s) m.0, m.1, m.2) c
+    call-moves {O = O} fs s old new (Puts r done answer) r (refl, tt) tt (below r (last_role s) m.0, m.1, m.2) c
 replies_are_moves {F} {B} {O} fs s old new (op.Settle r v) (reply.Settle answer) m c =
-    call-moves {O = O} fs s old new (Settles r v answer) r (refl, tt) (below r (last_role s) m.0, m.1) c
+    call-moves {O = O} fs s old new (Settles r v answer) r (refl, tt) tt (below r (last_role s) m.0, m.1) c
 replies_are_moves {F} {B} {O} fs s old new (op.Close r) (reply.Close answer) m c =
-    call-moves {O = O} fs s old new (Closes r answer) r (refl, tt) (below r (last_role s) m) c
-replies_are_moves {F} {B} {O} fs s old new (op.Leave r) reply.Leave m c = call-moves {O = O} fs s old new (Leaves r) r (refl, tt) (below r (last_role s) m) c
+    call-moves {O = O} fs s old new (Closes r answer) r (refl, tt) tt (below r (last_role s) m) c
+replies_are_moves {F} {B} {O} fs s old new (op.Leave r) reply.Leave m c = call-moves {O = O} fs s old new (Leaves r) r (refl, tt) tt (below r (last_role s) m) c
 replies_are_moves {F} {B} {O} fs s old new (op.Save r v) (reply.Save answer) m c =
-    call-moves {O = O} fs s old new (SavesOne r v answer) r (refl, m.0) (at_end r (last_role s) m.0, m.1) c
+    call-moves {O = O} fs s old new (SavesOne r v answer) r (refl, m.0) tt (at_end r (last_role s) m.0, m.1) c
 replies_are_moves {F} {B} {O} fs s old new (op.Saved r f) (reply.Saved answer) m c =
-    call-moves {O = O} fs s old new (Saveds r f answer) r (refl, tt) (at_end r (last_role s) m.0, m.1) c
-replies_are_moves {F} {B} {O} fs s old new (op.Progress r) (reply.Progress answer) m c = call-moves {O = O} fs s old new (Asks answer) r (tt, tt) tt c
+    call-moves {O = O} fs s old new (Saveds r f answer) r (refl, tt) tt (at_end r (last_role s) m.0, m.1) c
+replies_are_moves {F} {B} {O} fs s old new (op.Progress r) (reply.Progress answer) m c = call-moves {O = O} fs s old new (Asks answer) r (tt, tt) tt tt c
 replies_are_moves {F} {B} {O} fs s old new _ _ m c = absurd c

@@ -21,7 +21,8 @@ use Rattle.flow_roles.specs.Passes.{Pass, Called}
 use Rattle.flow_roles.specs.RoleMoves.{feeder_logs, worker_logs, IsFresh, HasNothing}
 use Rattle.flow_roles.specs.declared.role_end.Round.{Round}
 use Rattle.flow_roles.specs.declared.role_end.Round.TheVariants.{Again, End}
-use Rattle.flow_roles.specs.RoleEnds.{IsOfHand, HasEnded, HasGone}
+use Rattle.board_rules.specs.InHand.{IsOfHand}
+use Rattle.flow_roles.specs.RoleEnds.{HasEnded, HasGone}
 use Rattle.flow_roles.proofs.Calls.{here, unmoved, moved, hand-before, role-after}
 
 pub feeder-quiet : (e : Entry) → begun_by e ≡ None → feeder_logs e ≡ true

@@ -13,7 +13,7 @@ use Rattle.frame_store.specs.Sealed.{Sealed}
 use Rattle.pool_ledger.specs.Grants.{Answer, Granted}
 use Rattle.pool_ledger.specs.Grants as pool
 use Rattle.flow_journal.specs.declared.entry.Entry.{Entry}
-use Rattle.flow_journal.specs.declared.entry.Entry.TheVariants.{Load, Take, TakeBlock, PoolDrop, Put, Settle}
+use Rattle.flow_journal.specs.declared.entry.Entry.TheVariants.{Load, Take, TakeBlock, PoolDrop, Put, Settle, Save}
 use Rattle.flow_journal.specs.Setting.{Setting, node, is_node, is_maker}
 use Rattle.flow_journal.specs.Pasts.{frame, same}
 use Rattle.flow_journal.specs.Hands.{hand, is_free, jobs, takes_up}
@@ -33,7 +33,8 @@ use Rattle.board_rules.specs.States.{BoardState, past, plain, lends, lent_to, ta
 use Rattle.flow_journal.specs.MoveLists.{begun_by}
 use Rattle.flow_journal.specs.ResultNames.{result_name}
 use Rattle.board_rules.specs.Moving.{moved_at}
-use Rattle.board_rules.specs.InHand.{is_job_on, granted_size, IsWholeOf, OfSome}
+use Rattle.board_rules.specs.Storage.{IsRegrown}
+use Rattle.board_rules.specs.InHand.{is_job_on, granted_size, IsWholeOf, OfSome, IsOfHand}
 use Rattle.board_rules.specs.RunMeasures.{run_setting, run_measure}
 use Rattle.board_rules.specs.Feeding.{is_sent_away}
 use Rattle.board_rules.specs.Working.{take_refusal, asked, TakeAnswers, TakeGives, LendsJob, MayPut, PutGives, SettleGives}
@@ -42,7 +43,7 @@ use Rattle.flow_roles.specs.declared.last.Last.TheVariants as last
 use Rattle.flow_roles.specs.Lasts.{last_take}
 use Rattle.flow_roles.specs.Passes.{Pass, Called}
 use Rattle.flow_roles.specs.RoleMoves.{worker_logs, HasNothing}
-use Rattle.flow_roles.specs.RoleEnds.{worker_ends, IsOfHand}
+use Rattle.flow_roles.specs.RoleEnds.{worker_ends}
 use Rattle.flow_roles.specs.Feeder.{name_of, parts_of}
 use Rattle.flow_roles.specs.Worker.{HasJob, IsJobDone}
 use Rattle.flow_roles.proofs.Calls.{here, unmoved, moved, hand-before, hand-after, role-after}
@@ -162,6 +163,7 @@ pub record WithBlock {F B : Type 0} (name_of : F → FrameName) (parts : F → O
   pub f : Bool
   pub g : ℕ
   pub x : Bool
+  pub regrown : IsRegrown parts old b f x
   pub given : B
   pub is : blank ≡ Some given
   pub maker : is_maker s v ≡ true
@@ -198,6 +200,7 @@ take-taken name_of parts bytes_of s old new r v w input (Some blank) None (Some 
       f = f;
       g = g;
       x = c.3.0;
+      regrown = c.3.1;
       given = blank;
       is = refl;
       maker = asked-some (is_maker s v) (grant s (past old) (s.need v)) (Granted b n f g) given;
@@ -360,6 +363,8 @@ granted-by lent (Some (Take q u m k)) input (Some b) (Some f) h w = absurd (true
 granted-by lent (Some (TakeBlock y x q u m k b n g)) input (Some blank) (Some f) h w = (w.0, w.1 ∙ h.1)
 granted-by lent (Some (TakeBlock y x q u m k b n g)) input None (Some f) h w = absurd h.1
 granted-by lent (Some (Load q k b n y g x)) input blank (Some f) h w = absurd (true≢false h.0)
+granted-by lent (Some (Save q u m k g)) input None (Some f) h w = w
+granted-by lent (Some (Save q u m k g)) input (Some b) (Some f) h w = absurd (true≢false h.2)
 granted-by lent (Some _) input blank (Some f) h w = absurd h
 
 pub lent-by : (lent : Option Parts) (o : Option Entry) (input : Sealed) (blank : Option (List ℕ))
@@ -368,6 +373,7 @@ lent-by lent None input blank h = absurd (true≢false h.0)
 lent-by lent (Some (Take q u m k)) input blank h = h.0.1
 lent-by lent (Some (TakeBlock y x q u m k b n g)) input blank h = h.0.1
 lent-by lent (Some (Load q k b n y g x)) input blank h = absurd (true≢false h.0)
+lent-by lent (Some (Save q u m k g)) input blank h = h.0.1
 lent-by lent (Some _) input blank h = absurd h
 
 module _ (g : Graph) (stack : StackValue) (r v : ℕ) (input : Sealed) (blank : Option (List ℕ)) (old new : Pass) (job : HasJob g stack r v input blank old) where

@@ -12,6 +12,7 @@ use Rattle.board_rules.specs.Movers.{moves_by, IsMoveOf}
 use Rattle.board_rules.specs.Feeding.{MayIssue, HasRoom}
 use Rattle.board_rules.specs.Working.{LendsJob, IsAtNode, MayPut}
 use Rattle.board_rules.specs.Saving.{LendsPiece, MaySaved}
+use Rattle.board_rules.specs.Storage.{HasAllStorage}
 use Rattle.board_rules.specs.Runs.{Frames, Call, Loads, Issues, Takes, Puts, Settles, Saves, Saveds, Closes, Leaves, Asks, Gives}
 use Rattle.flow_roles.specs.Passes.{only_drain_saves}
 use Rattle.flow_roles.specs.declared.operation.DeskOp.{DeskOp}
@@ -94,13 +95,15 @@ pub record IsPlayed {F B O : Type 0} (fs : Frames F B) (s : Setting) (old : List
 
 -- LAWS
 
--- An operation adds nothing or one move of its role; a legal history is legal after it; and where only the drain saved, so it is then.
+-- An operation adds nothing or one move of its role; a legal history is legal after it; and where only the drain saved and no storage stayed away, so it
+-- is then.
 abbrev pub RepliesAreMoves : (F B O : Type 0) → Type 0
 RepliesAreMoves F B O = (fs : Frames F B) (s : Setting) (old new : BoardState) (o : DeskOp F) (reply : DeskReply F B O) → MayPlay fs s old o
     → Replies fs s old o reply new
     → ((added : BoardState) × (new ≡ added ++ old) × IsMoveOf (role_of o) added)
     × (s.pooled ≡ true → is_history s (past old) ≡ true → is_history s (past new) ≡ true)
     × (only_drain_saves s (past old) ≡ true → only_drain_saves s (past new) ≡ true)
+    × (HasAllStorage fs.parts old → HasAllStorage fs.parts new)
 
 -- what a role may play by its own moves, it may play on the board
 abbrev pub MovesAllow : (F B : Type 0) → Type 0

@@ -1,11 +1,10 @@
 -- How a role ends, and what it leaves.
-use Rattle.std.specs.Prelude.{◌≡◌, ℕ, Bool, true, false, ◌&&◌, not, Option, Some, None, IsTrue, IsNone}
+use Rattle.std.specs.Prelude.{◌≡◌, ℕ, Bool, true, false, ◌&&◌, not, Option, IsTrue}
 use Rattle.std.specs.List.{list_all}
 use Rattle.nd_base.specs.Parts.{Parts}
 use Rattle.nd_base.specs.declared.frame.FrameName.{FrameName}
 use Rattle.flow_journal.specs.declared.entry.Entry.{Entry}
-use Rattle.flow_journal.specs.declared.entry.Entry.TheVariants as entry
-use Rattle.flow_journal.specs.Pasts.{Past, frame}
+use Rattle.flow_journal.specs.Pasts.{Past}
 use Rattle.flow_journal.specs.Hands.{hand}
 use Rattle.flow_journal.specs.Ended.{is_closed, is_settled, has_left_any}
 use Rattle.board_rules.specs.declared.answers.Left.{Left}
@@ -13,7 +12,7 @@ use Rattle.flow_journal.specs.Setting.{Setting}
 use Rattle.board_rules.specs.States.{BoardState, past, lent_to}
 use Rattle.board_rules.specs.Movers.{moves_by}
 use Rattle.board_rules.specs.Leaving.{MayReclaim}
-use Rattle.board_rules.specs.InHand.{IsWholeOf}
+use Rattle.board_rules.specs.InHand.{IsOfHand}
 use Rattle.flow_roles.specs.declared.last.Last.{Last}
 use Rattle.flow_roles.specs.declared.last.Last.TheVariants as last
 use Rattle.flow_roles.specs.declared.role_end.Round.{Round}
@@ -34,28 +33,6 @@ worker_ends v last.Left P want = not want && has_left_any P
 worker_ends v last.Ended P want = not want && is_settled v P
 worker_ends v last.Gone P want = want && has_left_any P
 worker_ends v _ P want = false
-
--- storage of the granted size: as it was handed out, or sealed under this name
-abbrev pub IsStorage : {F B : Type 0} → (F → FrameName) → (F → Option Parts) → (B → ℕ) → FrameName → (size : ℕ) → Option F → Option B → Type 0
-IsStorage name_of parts bytes_of a n None (Some blank) = bytes_of blank ≡ n
-IsStorage name_of parts bytes_of a n (Some f) None = (name_of f ≡ a) × IsWholeOf n (parts f)
-IsStorage name_of parts bytes_of a n _ _ = ⊥
-
--- the array of this name, by the part that was lent
-abbrev pub IsLent : {F : Type 0} → (F → FrameName) → (F → Option Parts) → FrameName → (lent : Option Parts) → Option F → Type 0
-IsLent name_of parts a lent (Some f) = (name_of f ≡ a) × (parts f ≡ lent)
-IsLent name_of parts a lent None = ⊥
-
--- what was handed out for a hand, and no more: nothing without one
-abbrev pub IsOfHand : {F B : Type 0} → (F → FrameName) → (F → Option Parts) → (B → ℕ) → (lent : Option Parts) → Option Entry
-    → (input made : Option F) → (blank : Option B) → Type 0
-IsOfHand name_of parts bytes_of lent (Some (entry.Load r k b n f g x)) input made blank =
-    IsNone input × IsStorage name_of parts bytes_of (frame 0 k) n made blank
-IsOfHand name_of parts bytes_of lent (Some (entry.Take r v m k)) input made blank = IsLent name_of parts (frame m k) lent input × IsNone made × IsNone blank
-IsOfHand name_of parts bytes_of lent (Some (entry.TakeBlock f x r v m k b n g)) input made blank =
-    IsLent name_of parts (frame m k) lent input × IsStorage name_of parts bytes_of (frame v k) n made blank
-IsOfHand name_of parts bytes_of lent None input made blank = IsNone input × IsNone made × IsNone blank
-IsOfHand name_of parts bytes_of lent _ input made blank = ⊥
 
 -- at every board on which the role has made just these moves, this may be reclaimed
 abbrev pub MayComeBack : {F B O : Type 0} → (F → FrameName) → (F → Option Parts) → (B → ℕ) → Setting → (r : ℕ) → (made : BoardState) → Left F B O → Type 0

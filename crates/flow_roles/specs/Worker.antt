@@ -11,12 +11,11 @@ use Rattle.flow_journal.specs.Setting.{is_maker}
 use Rattle.flow_journal.specs.Hands.{hand}
 use Rattle.board_rules.specs.declared.answers.Done.{Done}
 use Rattle.board_rules.specs.States.{past, lent_to}
-use Rattle.board_rules.specs.InHand.{is_job_on, IsWholeOf, OfSome}
+use Rattle.board_rules.specs.InHand.{is_job_on, IsWholeOf, OfSome, IsOfHand}
 use Rattle.board_rules.specs.RunMeasures.{run_setting, run_measure}
 use Rattle.board_rules.specs.Working.{IsResult}
 use Rattle.flow_roles.specs.Passes.{Pass}
 use Rattle.flow_roles.specs.RoleMoves.{worker_logs}
-use Rattle.flow_roles.specs.RoleEnds.{IsOfHand}
 use Rattle.flow_roles.specs.Feeder.{name_of, parts_of}
 
 -- the array has the name of the maker of what comes to the node

@@ -6,9 +6,10 @@ ghost use Rattle.nd_base.specs.Stacks.{frame_size};
 ghost use Rattle.chain_plain.specs.Content.{IsContent};
 ghost use Rattle.flow_journal.specs.Hands.{hand};
 ghost use Rattle.board_rules.specs.States.{past, lent_to};
+ghost use Rattle.board_rules.specs.InHand.{IsOfHand};
 ghost use Rattle.board_rules.specs.RunMeasures.{run_setting};
 ghost use Rattle.flow_roles.specs.RoleMoves.{feeder_logs, IsFresh, HasNothing};
-ghost use Rattle.flow_roles.specs.RoleEnds.{feeder_ends, IsOfHand, HasGone, MayComeBack};
+ghost use Rattle.flow_roles.specs.RoleEnds.{feeder_ends, HasGone, MayComeBack};
 ghost use Rattle.flow_roles.specs.Feeder.{name_of, parts_of, HasLoaded};
 ghost use Rattle.flow_roles.specs.FeederTicks.{GoesOn, FeedsByTheClock};
 
@@ -22,7 +23,7 @@ use std::alloc::Global;
 use std::sync::Wait;
 
 /// The feeder's role.
-const FEEDER: u32 = 0;
+pub(crate) const FEEDER: u32 = 0;
 
 /// The driver's number.
 const DRIVER: u32 = 0;

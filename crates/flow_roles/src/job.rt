@@ -16,6 +16,7 @@ ghost use Rattle.board_rules.specs.RunMeasures.{run_setting, run_measure};
 ghost use Rattle.trig_window.specs.Triggers.{trigger_fires};
 ghost use Rattle.flow_roles.specs.Worker.{ComesTo, FitsNode, IsJobDone};
 
+use crate::Measuring;
 use board_rules::{Done, Left};
 use chain_plain::maker_for;
 use frame_store::{Blank, Frame};
@@ -24,7 +25,6 @@ use nd_base::{
     Run, Stack, StatsRule, rule_at,
 };
 use nd_roi::fill_region;
-use nd_stats::measure;
 use std::alloc::Global;
 use trig_window::trigger_fires;
 
@@ -129,7 +129,8 @@ fn region_on<R: Run>(
 }
 
 /// The measure that a statistics node takes of an array. The frame's own samples are read.
-fn measured<R: Run>(
+fn measured<R: Run, M: Measuring>(
+    measuring: &M,
     alloc: Global,
     plan: &Plan,
     stack: &Stack,
@@ -138,6 +139,7 @@ fn measured<R: Run>(
     stats: &StatsRule,
     input: &Frame<R>,
 ) -> Result<Measure, OutOfMemory>
+    requires ready { M.ready measuring.now }
     requires plan { plan.now ≡ plan_of R.graph R.stack }
     requires graph { IsGraph R.graph }
     requires stack { stack.now ≡ R.stack }
@@ -148,7 +150,7 @@ fn measured<R: Run>(
 {
     let from = made_by::<R>(plan, stack, rule.input);
     let id = stack.head(index_of(input)).id;
-    measure(
+    measuring.measure(
         alloc,
         stats,
         id,
@@ -188,7 +190,8 @@ fn passed_on<F>(node: u32, input: F, fired: bool) -> Done<F>
 }
 
 /// The result of a job, or, where memory is wanting, what was handed out for it.
-pub fn result_of<R: Run>(
+pub fn result_of<R: Run, M: Measuring>(
+    measuring: &M,
     alloc: Global,
     plan: &Plan,
     stack: &Stack,
@@ -196,6 +199,7 @@ pub fn result_of<R: Run>(
     input: Frame<R>,
     blank: Option<Blank>,
 ) -> Result<Done<Frame<R>>, Left<Frame<R>>>
+    requires ready { M.ready measuring.now }
     requires plan { plan.now ≡ plan_of R.graph R.stack }
     requires graph { IsGraph R.graph }
     requires stack { stack.now ≡ R.stack }
@@ -221,7 +225,7 @@ pub fn result_of<R: Run>(
             })
         }
         Kind::Stats(stats) => {
-            match measured(alloc, plan, stack, node, rule, stats, &input) {
+            match measured(measuring, alloc, plan, stack, node, rule, stats, &input) {
                 Ok(numbers) => Ok(Done {
                     node,
                     input,

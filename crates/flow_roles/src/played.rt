@@ -3,6 +3,7 @@
 ghost use Rattle.std.specs.Prelude.{◌≡◌, true, []};
 ghost use Rattle.flow_journal.specs.Histories.{is_history};
 ghost use Rattle.board_rules.specs.States.{past};
+ghost use Rattle.board_rules.specs.Storage.{HasAllStorage};
 ghost use Rattle.board_rules.specs.RunMeasures.{run_setting};
 ghost use Rattle.flow_roles.specs.Passes.{only_drain_saves};
 
@@ -13,13 +14,14 @@ use std::alloc::Global;
 use std::marker::PhantomData;
 use turn_lock::Object;
 
-/// A board whose calls are operations. Its log is legal, and the drain alone has saved.
+/// A board whose calls are operations. Its log is legal, the drain alone has saved, and no storage has stayed away.
 #[derive(Drop)]
 pub struct Played<F: Held, B: BoardCalls<F>> {
     pub board: B,
     pub frames: PhantomData<F>,
     ghost legal: { is_history (run_setting F.Of.graph F.Of.stack) (past (B.shown board)) ≡ true },
     ghost drained: { only_drain_saves (run_setting F.Of.graph F.Of.stack) (past (B.shown board)) ≡ true },
+    ghost storage: { HasAllStorage F.parts (B.shown board) },
 }
 
 impl<F: Held, B: BoardCalls<F>> Played<F, B> {

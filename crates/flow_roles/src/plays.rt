@@ -36,7 +36,7 @@ pub fn play<F: Held, B: BoardCalls<F>>(board: &mut B, alloc: Global, op: DeskOp<
 }
 
 /// What holds of each operation that is played: it adds nothing or one move of its role, keeps histories legal, and leaves
-/// saving to the drain; and what a role has made allows what the board asks.
+/// saving to the drain, and nothing of the storage stays away; and what a role has made allows what the board asks.
 pub fn operations_are_moves<F: Held>()
     ensures moves { RepliesAreMoves F F.Blank F.Of }
     ensures allowed { MovesAllow F F.Blank }

@@ -5,6 +5,7 @@ ghost use Rattle.flow_journal.specs.Setting.{last_role};
 ghost use Rattle.flow_journal.specs.Histories.{is_history};
 ghost use Rattle.board_rules.specs.States.{past};
 ghost use Rattle.board_rules.specs.Movers.{moves_by};
+ghost use Rattle.board_rules.specs.Storage.{HasAllStorage};
 ghost use Rattle.board_rules.specs.RunMeasures.{run_setting, run_measure};
 ghost use Rattle.board_rules.specs.Working.{IsAtNode, MayPut, PutGives};
 ghost use Rattle.flow_roles.specs.Lasts.{last_given};
@@ -323,7 +324,7 @@ fn join_all<F: Held, B: BoardCalls<F>>(
 }
 
 /// The board again, once the passes of all roles are back. All that a pass has seen stands there, and of its role's moves just
-/// those that the pass made; and no other role has made any.
+/// those that the pass made; no other role has made any, and nothing of the storage has stayed away.
 pub fn take_back<F: Held, B: BoardCalls<F>>(
     desk: TurnLock<Played<F, B>>,
     passes: Vec<TurnPass<F, B>>,
@@ -335,6 +336,7 @@ pub fn take_back<F: Held, B: BoardCalls<F>>(
     ensures others { (r : ℕ) → desk.seats ≤ r → moves_by r (B.shown result) ≡ [] }
     ensures legal { is_history (run_setting F.Of.graph F.Of.stack) (past (B.shown result)) ≡ true }
     ensures drained { only_drain_saves (run_setting F.Of.graph F.Of.stack) (past (B.shown result)) ≡ true }
+    ensures storage { HasAllStorage F.parts (B.shown result) }
 {
     let keep = join_all(&desk, passes);
     match desk.close(keep) {

@@ -7,16 +7,18 @@ ghost use Rattle.chain_plain.specs.Plans.{plan_of};
 ghost use Rattle.flow_journal.specs.Setting.{is_node, last_role};
 ghost use Rattle.flow_journal.specs.Hands.{hand};
 ghost use Rattle.board_rules.specs.States.{past, lent_to};
+ghost use Rattle.board_rules.specs.InHand.{IsOfHand};
 ghost use Rattle.board_rules.specs.RunMeasures.{run_setting};
 ghost use Rattle.board_rules.specs.Working.{SettleGives};
 ghost use Rattle.flow_roles.specs.declared.last.Last.TheVariants.{Other};
 ghost use Rattle.flow_roles.specs.Passes.{Called};
 ghost use Rattle.flow_roles.specs.RoleMoves.{worker_logs, IsFresh, HasNothing};
-ghost use Rattle.flow_roles.specs.RoleEnds.{worker_ends, IsOfHand, HasGone, MayComeBack};
+ghost use Rattle.flow_roles.specs.RoleEnds.{worker_ends, HasGone, MayComeBack};
 ghost use Rattle.flow_roles.specs.Feeder.{name_of, parts_of};
 ghost use Rattle.flow_roles.specs.Worker.{HasJob};
 
 use crate::job::result_of;
+use crate::measuring::{Crew, has_spare};
 use crate::role_end::{Round, ended, nothing};
 use crate::{Desk, RoleEnd};
 use board_rules::{Settled, Take};
@@ -25,10 +27,11 @@ use frame_store::{Blank, Frame};
 use nd_base::{Named, Plan, Run, Stack};
 use std::alloc::Global;
 use std::sync::Wait;
+use std::thread::Threads;
 
 /// Works on a job and puts its result.
-fn work_on<R: Run, D: Desk<Frame<R>>, G: Gate, W: Wait>(
-    rt: &W,
+fn work_on<R: Run, D: Desk<Frame<R>>, G: Gate, W: Threads + Wait + Sync>(
+    crew: &Crew<'_, W>,
     alloc: Global,
     desk: &D,
     pass: &mut D::Pass,
@@ -52,17 +55,17 @@ fn work_on<R: Run, D: Desk<Frame<R>>, G: Gate, W: Wait>(
 {
     let index = input.name().index;
     gate.before(node, index);
-    let result = result_of(alloc, plan, stack, node, input, blank);
+    let result = result_of(crew, alloc, plan, stack, node, input, blank);
     gate.after(node, index);
     match result {
         Ok(done) => {
-            let Ok(()) = desk.put(rt, alloc, pass, role, done) else {
+            let Ok(()) = desk.put(crew.rt, alloc, pass, role, done) else {
                 unreachable!()
             };
             Round::Again
         }
         Err(left) => {
-            desk.leave(rt, alloc, pass, role);
+            desk.leave(crew.rt, alloc, pass, role);
             Round::End { left, want: true }
         }
     }
@@ -95,8 +98,8 @@ fn settle_or_wait<R: Run, D: Desk<Frame<R>>, G: Gate, W: Wait>(
 }
 
 /// One take, and what it asks for.
-fn work_round<R: Run, D: Desk<Frame<R>>, G: Gate, W: Wait>(
-    rt: &W,
+fn work_round<R: Run, D: Desk<Frame<R>>, G: Gate, W: Threads + Wait + Sync>(
+    crew: &Crew<'_, W>,
     alloc: Global,
     desk: &D,
     pass: &mut D::Pass,
@@ -116,17 +119,17 @@ fn work_round<R: Run, D: Desk<Frame<R>>, G: Gate, W: Wait>(
     ensures ours { D.ours desk.now pass.new }
     ensures gone { HasGone name_of parts_of length (worker_logs node) (worker_ends node) role (D.knows pass.new) result }
 {
-    match desk.take(rt, alloc, pass, role, node) {
+    match desk.take(crew.rt, alloc, pass, role, node) {
         Take::Left => ended(),
         Take::Ended => ended(),
         Take::Busy => unreachable!(),
         Take::Idle => {
-            settle_or_wait::<R, D, G, W>(rt, alloc, desk, pass, role, node, gate);
+            settle_or_wait::<R, D, G, W>(crew.rt, alloc, desk, pass, role, node, gate);
             Round::Again
         }
         Take::PoolDrop { .. } => Round::Again,
         Take::OutOfMemory => {
-            desk.leave(rt, alloc, pass, role);
+            desk.leave(crew.rt, alloc, pass, role);
             Round::End {
                 left: nothing(),
                 want: true,
@@ -137,14 +140,14 @@ fn work_round<R: Run, D: Desk<Frame<R>>, G: Gate, W: Wait>(
             input,
             blank,
         } => work_on(
-            rt, alloc, desk, pass, role, node, plan, stack, gate, input, blank,
+            crew, alloc, desk, pass, role, node, plan, stack, gate, input, blank,
         ),
     }
 }
 
 /// Works at a node: takes the next array of its queue, makes, measures or judges it outside the lock and puts the result, until
 /// the node is settled, another role has left, or memory is wanting. Where nothing is queued, it tries to settle the node.
-pub fn work_role<R: Run, D: Desk<Frame<R>>, G: Gate, W: Wait>(
+pub fn work_role<R: Run, D: Desk<Frame<R>>, G: Gate, W: Threads + Wait + Sync>(
     rt: &W,
     alloc: Global,
     desk: &D,
@@ -170,9 +173,13 @@ pub fn work_role<R: Run, D: Desk<Frame<R>>, G: Gate, W: Wait>(
         result.left.input result.left.made result.left.blank }
     ensures reclaimed { MayComeBack name_of parts_of length (run_setting R.graph R.stack) role (D.knows result.pass).made result.left }
 {
+    let crew = Crew {
+        rt,
+        spare: has_spare(rt, plan),
+    };
     let mut pass = pass;
     for _ in rt.forever() {
-        match work_round(rt, alloc, desk, &mut pass, role, node, plan, stack, gate) {
+        match work_round(&crew, alloc, desk, &mut pass, role, node, plan, stack, gate) {
             Round::Again => {}
             Round::End { left, want } => return RoleEnd { pass, left, want },
         }

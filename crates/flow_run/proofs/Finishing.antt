@@ -1,5 +1,5 @@
 -- What is left of a run, from the board on which all roles have ended to its end.
-use Rattle.std.proofs.Common.{◌≡◌, ℕ, ◌<◌, Bool, true, false, List, [], ◌∷◌, length, refl, sym, ◌∙◌, subst, arith, Option, Some}
+use Rattle.std.proofs.Common.{◌≡◌, ℕ, ◌+◌, ◌<◌, Bool, true, false, List, [], ◌∷◌, length, refl, sym, ◌∙◌, subst, arith, Option, Some}
 use Rattle.std.specs.Prelude.{slice_get, is_err, OnOk, OnErr, Result, Ok, Err}
 use Rattle.std.specs.List.{list_all}
 use Rattle.std.proofs.lemmas.Bool.{and_parts, false≢true}
@@ -12,9 +12,12 @@ use Rattle.frame_store.specs.Sealed.{Sealed}
 use Rattle.flow_journal.specs.declared.entry.Entry.{Entry}
 use Rattle.flow_journal.specs.declared.entry.Entry.TheVariants.{Save, Saved}
 use Rattle.flow_journal.specs.Setting.{Setting, last_role}
+use Rattle.flow_journal.specs.Hands.{hand}
 use Rattle.flow_journal.specs.Ended.{was_reclaimed}
 use Rattle.board_rules.specs.declared.answers.Left.{Left}
-use Rattle.board_rules.specs.States.{BoardState, past}
+use Rattle.board_rules.specs.States.{BoardState, past, lent_to}
+use Rattle.board_rules.specs.InHand.{IsOfHand}
+use Rattle.board_rules.specs.Storage.{is_never_regrown, HasAllStorage}
 use Rattle.flow_journal.specs.MoveLists.{begun_by, is_some_of}
 use Rattle.board_rules.specs.Movers.{moves_by}
 use Rattle.board_rules.specs.Leaving.{MayReclaim}
@@ -31,11 +34,14 @@ use Rattle.flow_saver.specs.Ending.{IsTornHistory}
 use Rattle.file_out.specs.declared.fault.SaveFault.{SaveFault}
 use Rattle.flow_journal.specs.Pasts.{Past}
 use Rattle.flow_run.specs.RunFiles.{HasSavedRun}
+use Rattle.flow_drain.proofs.Growth.{drain-keeps}
+use Rattle.flow_drain.proofs.Stored.{back-keeps}
 use Rattle.flow_saver.proofs.Handing.{rest-others, rest-reclaims, free-alone}
+use Rattle.flow_saver.proofs.Resting.{rest-keeps}
 use Rattle.flow_run.specs.Strangers.{AreOwnMoves}
 use Rattle.flow_run.specs.Ticks.{AfterMoves, IsFedByTheClock}
 use Rattle.flow_run.specs.Joined.{IsJoined, IsFedUntil}
-use Rattle.flow_run.proofs.Joined.{none-back, may-back}
+use Rattle.flow_run.proofs.Joined.{none-back, may-back, handed-back}
 use Rattle.flow_run.proofs.OwnMoves.{SavesOn, own-moves}
 use Rattle.flow_run.proofs.AfterAll.{after-all}
 
@@ -74,11 +80,25 @@ module _ {O : Type 0} (g : Graph) (stack : StackValue) (joined ready : BoardStat
   pub ready-left : (k : ℕ) (left : Left Sealed (List ℕ) O) → slice_get lefts k ≡ Some left → MayReclaim name_of parts_of length s ready k left
   ready-left k left at = may-back s joined passes lefts saver j ready below k left at
 
+  ready-handed : (k : ℕ) (left : Left Sealed (List ℕ) O) → slice_get lefts k ≡ Some left
+      → IsOfHand name_of parts_of length (lent_to (0 + k) ready) (hand (0 + k) (past ready)) left.input left.made left.blank
+  ready-handed k left at =
+      subst (λ (r : ℕ). IsOfHand name_of parts_of length (lent_to r ready) (hand r (past ready)) left.input left.made left.blank)
+      (let e : k ≡ 0 + k = omega arith in e) (handed-back s joined passes lefts saver j ready below k left at)
+
   module _ (tick : ℕ) (done ended : BoardState) (drain : DrainMoves s tick (taken_back name_of s 0 lefts ready) done) (rest : RestMoves s done ended) where
     after : AfterMoves s tick joined ended
     after =
         after-all name_of s tick lefts joined ready done ended
         (omega (arith, j.lefts_many)) (rest-saves s joined ready first) drain (rest-saves s done ended rest)
+
+    -- nothing stays away, and so no storage is made anew
+    pub run-storage : is_never_regrown (past ended) ≡ true
+    run-storage =
+        let first_ : HasAllStorage parts_of ready = rest-keeps parts_of s joined ready first j.storage in
+        let back : HasAllStorage parts_of (taken_back name_of s 0 lefts ready) = back-keeps name_of parts_of length s 0 lefts ready ready-handed first_ in
+        let done_ : HasAllStorage parts_of done = drain-keeps parts_of s tick (taken_back name_of s 0 lefts ready) done drain back in
+        (rest-keeps parts_of s done ended rest done_).1 (λ f. refl)
 
     pub run-own : IsGraph g → (prefix : List ℕ) (before : Option Files) (xs : List NodeFile) (fault : Bool) (held : Option Files)
         → IsSavingAlone g stack prefix before ready xs fault held

@@ -7,9 +7,11 @@ use Rattle.std.proofs.lemmas.Option.{slice_get_within}
 use Rattle.frame_store.specs.Sealed.{Sealed}
 use Rattle.flow_journal.specs.declared.entry.Entry.{Entry}
 use Rattle.flow_journal.specs.Setting.{Setting, last_role}
+use Rattle.flow_journal.specs.Hands.{hand}
 use Rattle.flow_journal.specs.Ended.{reclaims, was_reclaimed, closes, is_closed, settles, is_settled, leaves, has_left_any}
 use Rattle.board_rules.specs.declared.answers.Left.{Left}
-use Rattle.board_rules.specs.States.{BoardState, past}
+use Rattle.board_rules.specs.States.{BoardState, past, lent_to}
+use Rattle.board_rules.specs.InHand.{IsOfHand}
 use Rattle.board_rules.specs.Movers.{moves_by}
 use Rattle.board_rules.specs.Leaving.{MayReclaim}
 use Rattle.board_rules.proofs.Pasts.{past-append}
@@ -22,6 +24,7 @@ use Rattle.flow_run.specs.Seats.{post_logs}
 use Rattle.flow_run.specs.Joined.{IsJoined}
 use Rattle.flow_roles.proofs.Workers.{posts-length}
 use Rattle.flow_roles.proofs.Lists.{listed}
+use Rattle.flow_roles.proofs.Reclaims.{handed-at}
 use Rattle.flow_roles.proofs.TakenBack.{saver-none, none-such, not-back}
 use Rattle.flow_run.proofs.Ends.{feeder-closed, worker-settled, post-none}
 use Rattle.flow_run.proofs.Movers.{none-before, any-later}
@@ -84,6 +87,17 @@ module _ {O : Type 0} (s : Setting) (b : BoardState) (passes : List Pass) (lefts
       let v = post-of k low in
       let p = pass-of k low in
       (j.each k v.0 p.0 left v.1 p.1 at).1.1.reclaimed c (same k low ∙ made-by k v.0 p.0 left v.1 p.1 at)
+
+  -- and it is what was handed out for its hand there
+  pub handed-back : (c : BoardState) → ((k : ℕ) → k < last_role s → moves_by k c ≡ moves_by k b)
+      → (k : ℕ) (left : Left Sealed (List ℕ) O) → slice_get lefts k ≡ Some left
+      → IsOfHand name_of parts_of length (lent_to k c) (hand k (past c)) left.input left.made left.blank
+  handed-back c same k left at =
+      let low : k < last_role s = omega (arith, j.lefts_many, slice_get_within lefts k left at) in
+      let v = post-of k low in
+      let p = pass-of k low in
+      handed-at name_of parts_of length k p.0.made c left.input left.made left.blank (same k low ∙ made-by k v.0 p.0 left v.1 p.1 at)
+      (j.each k v.0 p.0 left v.1 p.1 at).1.1.handed
 
   seen-none : (p : Pass) → HasMade b p → has_left_any (past b) ≡ false → has_left_any (past p.seen) ≡ false
   seen-none p h none =

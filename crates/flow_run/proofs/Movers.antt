@@ -139,7 +139,7 @@ drains-after s e h = h
 -- what the drain does is of this kind
 pub after-drain : (s : Setting) (tick : ℕ) (old new : BoardState) → DrainMoves s tick old new → AfterMoves s tick old new
 after-drain s tick old _ (DrainMoves.none new is) = AfterMoves.none new is
-after-drain s tick old _ (DrainMoves.more b new t at m d l is) = AfterMoves.more b new t at (after-drain s tick old b m) (drains-after s t.entry d) l is
+after-drain s tick old _ (DrainMoves.more b new t at m d l k is) = AfterMoves.more b new t at (after-drain s tick old b m) (drains-after s t.entry d) l is
 
 -- and so it is where hands are taken back
 after-taken : {F B O : Type 0} (name_of : F → FrameName) (s : Setting) (tick r : ℕ) (left : Left F B O) (b : BoardState) → r < last_role s

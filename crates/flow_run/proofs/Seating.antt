@@ -7,7 +7,9 @@ use Rattle.frame_store.specs.Sealed.{Sealed}
 use Rattle.nd_base.specs.Array.{StackValue}
 use Rattle.nd_base.specs.declared.graph.Graph.{Graph}
 use Rattle.flow_journal.specs.Setting.{Setting, is_node, last_role}
-use Rattle.board_rules.specs.States.{past}
+use Rattle.flow_journal.specs.Hands.{hand}
+use Rattle.board_rules.specs.States.{past, lent_to}
+use Rattle.board_rules.specs.InHand.{IsOfHand}
 use Rattle.board_rules.specs.RunMeasures.{run_setting}
 use Rattle.flow_roles.specs.declared.role_end.RoleEnd.{RoleEnd}
 use Rattle.flow_roles.specs.Passes.{Pass}
@@ -88,12 +90,14 @@ module _ {O P : Type 0} (ours : P → Type 0) (knows : P → Pass) where
 pub worked : {O P : Type 0} (ours : P → Type 0) (knows : P → Pass) (s : Setting) (role node : ℕ) (begins : P) (end : RoleEnd Sealed P (List ℕ) O)
     → ours end.pass → (knows end.pass).role ≡ role
     → list_all (worker_logs node) (past (knows end.pass).made) ≡ true → worker_ends node (knows end.pass).last (past (knows end.pass).seen) end.want ≡ true
+    → IsOfHand name_of parts_of length (lent_to role (knows end.pass).made) (hand role (past (knows end.pass).made))
+    end.left.input end.left.made end.left.blank
     → MayComeBack name_of parts_of length s role (knows end.pass).made end.left → (r v : ℕ) → IsWorker {O = O} ours knows s r v (Ready role node begins)
     → IsBack ours knows s r v (Back end)
-worked ours knows s role zero begins end own is moves ends back r v w =
+worked ours knows s role zero begins end own is moves ends handed back r v w =
     absurd (let a = node-above s 0 (subst (λ (u : ℕ). is_node s u ≡ true) (sym w.3.1) w.2) in let b = a.0 in omega (arith, b))
-worked {O} {P} ours knows s role (suc node) begins end own is moves ends back r v w =
-    let here : IsBack {O = O} ours knows s role (suc node) (Back end) = (own, record { role = is; moves = moves; last = ends; reclaimed = back }) in
+worked {O} {P} ours knows s role (suc node) begins end own is moves ends handed back r v w =
+    let here : IsBack {O = O} ours knows s role (suc node) (Back end) = (own, record { role = is; moves = moves; last = ends; handed = handed; reclaimed = back }) in
     subst (λ (u : ℕ). IsBack {O = O} ours knows s r u (Back end)) w.3.1 (subst (λ (q : ℕ). IsBack {O = O} ours knows s q (suc node) (Back end)) w.3.0 here)
 
 module _ {O P : Type 0} (ours : P → Type 0) (knows : P → Pass) (g : Graph) (stack : StackValue) (xs : List (Seat Sealed P (List ℕ) O))
@@ -137,10 +141,12 @@ pub worked-from : {O P : Type 0} (ours : P → Type 0) (knows : P → Pass) (s :
     (role node : ℕ) (begins : P) (end : RoleEnd Sealed P (List ℕ) O) → x ≡ Ready role node begins
     → ours end.pass → (knows end.pass).role ≡ role
     → list_all (worker_logs node) (past (knows end.pass).made) ≡ true → worker_ends node (knows end.pass).last (past (knows end.pass).seen) end.want ≡ true
+    → IsOfHand name_of parts_of length (lent_to role (knows end.pass).made) (hand role (past (knows end.pass).made))
+    end.left.input end.left.made end.left.blank
     → MayComeBack name_of parts_of length s role (knows end.pass).made end.left → (r v : ℕ) → IsWorker {O = O} ours knows s r v x
     → IsBack ours knows s r v (Back end)
-worked-from {O} {P} ours knows s x role node begins end same own is moves ends back r v w =
-    worked ours knows s role node begins end own is moves ends back r v (subst (λ (y : Seat Sealed P (List ℕ) O). IsWorker {O = O} ours knows s r v y) same w)
+worked-from {O} {P} ours knows s x role node begins end same own is moves ends handed back r v w =
+    worked ours knows s role node begins end own is moves ends handed back r v (subst (λ (y : Seat Sealed P (List ℕ) O). IsWorker {O = O} ours knows s r v y) same w)
 
 -- THE FEEDER'S SEAT BEFORE THOSE OF THE WORKERS
 

@@ -14,6 +14,7 @@ use Rattle.flow_journal.specs.Histories.{is_history}
 use Rattle.board_rules.specs.declared.answers.Left.{Left}
 use Rattle.board_rules.specs.States.{BoardState, past}
 use Rattle.board_rules.specs.Movers.{moves_by}
+use Rattle.board_rules.specs.Storage.{HasAllStorage}
 use Rattle.board_rules.specs.RunMeasures.{run_setting}
 use Rattle.flow_roles.specs.declared.role_end.RoleEnd.{RoleEnd}
 use Rattle.flow_roles.specs.Passes.{Pass, only_drain_saves}
@@ -22,6 +23,7 @@ use Rattle.graph_files.specs.NodeFiles.{NodeFile}
 use Rattle.flow_saver.specs.declared.piece.DuePiece.{DuePiece}
 use Rattle.flow_saver.specs.Saver.{RoleLeaves}
 use Rattle.flow_roles.specs.RoleMoves.{saver_logs}
+use Rattle.flow_roles.specs.Feeder.{parts_of}
 use Rattle.flow_saver.proofs.Handing.{saving-alone, unsaved-alone}
 use Rattle.flow_run.specs.declared.seats.Seat.{Seat}
 use Rattle.flow_run.specs.declared.seats.Seat.TheVariants.{Back}
@@ -96,12 +98,13 @@ module _ {O P : Type 0} (ours : P → Type 0) (knows : P → Pass) (s : Setting)
         all-at (λ p. HasMade b (knows p)) back (length (map (λ (c : RoleEnd Sealed P (List ℕ) O). c.pass) ends)) pass made
         (at-end (map (λ (c : RoleEnd Sealed P (List ℕ) O). c.pass) ends) pass)
 
-    pub joined-from : is_history s (past b) ≡ true → only_drain_saves s (past b) ≡ true
+    pub joined-from : is_history s (past b) ≡ true → only_drain_saves s (past b) ≡ true → HasAllStorage parts_of b
         → ((r : ℕ) → last_role s + 1 ≤ r → moves_by r b ≡ []) → (knows pass).role ≡ last_role s
         → list_all saver_logs (past (knows pass).made) ≡ true → IsJoined s b passes lefts (knows pass)
-    joined-from legal drained others role moves = record {
+    joined-from legal drained storage others role moves = record {
       legal = legal;
       drained = drained;
+      storage = storage;
       passes_many = length-map ends (λ (d : RoleEnd Sealed P (List ℕ) O). knows d.pass) ∙ many;
       lefts_many = length-map ends (λ (d : RoleEnd Sealed P (List ℕ) O). d.left) ∙ many;
       each =

@@ -6,8 +6,10 @@ use Rattle.frame_store.specs.Sealed.{Sealed}
 use Rattle.flow_journal.specs.declared.entry.Entry.{Entry}
 use Rattle.flow_journal.specs.Setting.{Setting, is_node, last_role}
 use Rattle.flow_journal.specs.Pasts.{Past}
+use Rattle.flow_journal.specs.Hands.{hand}
 use Rattle.board_rules.specs.declared.answers.Left.{Left}
-use Rattle.board_rules.specs.States.{past}
+use Rattle.board_rules.specs.States.{past, lent_to}
+use Rattle.board_rules.specs.InHand.{IsOfHand}
 use Rattle.flow_roles.specs.declared.last.Last.{Last}
 use Rattle.flow_roles.specs.declared.role_end.RoleEnd.{RoleEnd}
 use Rattle.flow_roles.specs.Passes.{Pass}
@@ -28,11 +30,12 @@ abbrev pub post_ends : ℕ → Last → Past → (want : Bool) → Bool
 post_ends zero last P want = feeder_ends last P want
 post_ends (suc v) last P want = worker_ends (suc v) last P want
 
--- the role at this node has ended so, and this may come back of it
+-- the role at this node has ended so, and this comes back of it: what was handed out for its hand, which may be taken back
 pub record IsRoleEnd {O : Type 0} (s : Setting) (r v : ℕ) (p : Pass) (left : Left Sealed (List ℕ) O) (want : Bool) : Type 0 where
   pub role : p.role ≡ r
   pub moves : list_all (post_logs v) (past p.made) ≡ true
   pub last : IsTrue (post_ends v p.last (past p.seen) want)
+  pub handed : IsOfHand name_of parts_of length (lent_to r p.made) (hand r (past p.made)) left.input left.made left.blank
   pub reclaimed : MayComeBack name_of parts_of length s r p.made left
 
 -- seats for these passes, one each: role r and those after it, at these nodes

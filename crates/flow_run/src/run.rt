@@ -1,12 +1,13 @@
 //! A whole run.
 
-ghost use Rattle.std.specs.Prelude.{◌≡◌, ℕ, List, [], Option, IfOk, OnOk};
+ghost use Rattle.std.specs.Prelude.{◌≡◌, ℕ, true, List, [], Option, IfOk, OnOk};
 ghost use Rattle.nd_base.specs.GraphRules.{IsGraph};
 ghost use Rattle.nd_stack.specs.KeptStacks.{IsKeptStack};
 ghost use Rattle.chain_plain.specs.Plans.{plan_of};
 ghost use Rattle.run_laws.specs.Results.{IsFinishedRun};
 ghost use Rattle.board_rules.specs.RunMeasures.{run_setting, run_measure};
 ghost use Rattle.board_rules.specs.Ends.{measured};
+ghost use Rattle.board_rules.specs.Storage.{is_never_regrown};
 ghost use Rattle.graph_files.specs.OpenFiles.{file_nodes};
 ghost use Rattle.edge_traits.specs.Ticks.{Coming};
 ghost use Rattle.edge_traits.specs.Files.{Files};
@@ -111,6 +112,7 @@ fn finish_run<R: Run, B: BoardCalls<Frame<R>>, K: Shelf, C: Clock>(
     ensures roles { IfOk result (λ end. AreOwnMoves (run_setting R.graph R.stack) end.log.past) }
     ensures ticks { IfOk result (λ end. (old : Option Coming) → IsFedUntil (run_setting R.graph R.stack) (B.shown board) old (C.coming clock.old)
         → IsFedByTheClock (run_setting R.graph R.stack) end.log.past old (C.coming clock.new)) }
+    ensures storage { IfOk result (λ end. is_never_regrown end.log.past ≡ true) }
 {
     let mut board = board;
     let mut files = files;
@@ -173,6 +175,7 @@ pub fn play_run<
     ensures fault { IfOk result (λ end. CountsSo end.fault (K.faults shelf.old) (K.faults shelf.new)) }
     ensures roles { IfOk result (λ end. AreOwnMoves (run_setting R.graph R.stack) end.log.past) }
     ensures ticks { IfOk result (λ end. IsFedByTheClock (run_setting R.graph R.stack) end.log.past (C.coming clock.old) (C.coming clock.new)) }
+    ensures storage { IfOk result (λ end. is_never_regrown end.log.past ≡ true) }
 {
     let nodes = worker_nodes::<R>(alloc, plan)?;
     let role = nodes.len() as u32 + 1;

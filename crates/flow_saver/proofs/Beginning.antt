@@ -17,7 +17,7 @@ use Rattle.flow_journal.specs.declared.entry.Entry.TheVariants as entry
 use Rattle.flow_journal.specs.Pasts.{frame}
 use Rattle.flow_roles.specs.Feeder.{parts_of}
 use Rattle.flow_roles.specs.Feeder as feeder
-use Rattle.flow_roles.specs.RoleEnds.{IsLent}
+use Rattle.board_rules.specs.InHand.{IsLent}
 use Rattle.flow_journal.specs.Hands.{hand}
 use Rattle.flow_journal.specs.Unsaved.{saves}
 use Rattle.board_rules.specs.States.{BoardState, past}

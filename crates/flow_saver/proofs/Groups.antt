@@ -294,6 +294,7 @@ module _ (g : Graph) (stack : StackValue) (sound : IsGraph g) (prefix : List ℕ
   -- THE LAW: once all files have ended, the shelf holds the groups' files of the history
   pub groups-held : (now : Option Files) → AllEnded before xs (written_by g stack given) now → HoldsGroupsOf g stack prefix (past b) before now
   groups-held now ended = record {
+    told = ended.told;
     each = λ v i n bytes rule is.
         let r = file-kind g stack sound prefix before b xs false held h n v i bytes is in
         let f = files-of-rule g stack sound prefix before b xs false held h v n r.0 rule r.1 in

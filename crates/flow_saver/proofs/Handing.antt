@@ -197,7 +197,7 @@ drain-begins s _ h = absurd (false≢true h)
 
 pub drain-nothing : (s : Setting) (tick : ℕ) (old new : BoardState) → DrainMoves s tick old new → SavesNothing old new
 drain-nothing s tick old _ (DrainMoves.none new is) = nothing-first old new is
-drain-nothing s tick old _ (DrainMoves.more b new t at m d l is) =
+drain-nothing s tick old _ (DrainMoves.more b new t at m d l k is) =
     let e = drain-begins s t.entry d in
     nothing-on old b new (drain-nothing s tick old b m) (moved-nothing s at (last_role s) t b new e.0 e.1 is)
 

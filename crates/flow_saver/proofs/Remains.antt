@@ -158,7 +158,7 @@ module _ (g : Graph) (stack : StackValue) (sound : IsGraph g) (prefix : List ℕ
 
     pub next-moves : (new : BoardState) → RestMoves s mid new → RestMoves s b new
     next-moves new m =
-        rest-on s b mid new (rest-one s (lends (entry.Save r v input.name.maker input.name.index group) (parts_of input)) b mid (eq-eqb r r refl) next-logged) m
+        rest-on s b mid new (rest-one s (lends (entry.Save r v input.name.maker input.name.index group) (parts_of input)) b mid (eq-eqb r r refl) refl next-logged) m
 
 -- what was written can be given back
 pub to-give-alone : (g : Graph) (stack : StackValue) (prefix : List ℕ) (before : Option Files) (b : BoardState) (xs ys : List NodeFile)
@@ -189,4 +189,4 @@ unsaved-still g stack prefix before b xs ys fault torn held stands due h ok = re
 
 -- one that was given back was a save
 pub back-moves : (s : Setting) (b new : BoardState) (v : ℕ) (piece : Sealed) → new ≡ plain (back_of (last_role s) v piece.name) ∷ b → RestMoves s b new
-back-moves s b new v piece is = rest-one s (plain (back_of (last_role s) v piece.name)) b new (eq-eqb (last_role s) (last_role s) refl) is
+back-moves s b new v piece is = rest-one s (plain (back_of (last_role s) v piece.name)) b new (eq-eqb (last_role s) (last_role s) refl) refl is

@@ -1,12 +1,14 @@
 -- What a save and what follows it leave of a drained log.
 use Rattle.std.proofs.Common.{◌≡◌, ◌≢◌, ℕ, ◌+◌, ◌*◌, ◌/◌, ◌<◌, ◌≤◌, Bool, true, false, not, ◌&&◌, ◌||◌, leb, List, [], ◌∷◌, ◌++◌, length, map, refl, sym}
-use Rattle.std.proofs.Common.{ap, ◌∙◌, arith, inl, inr, Some, None}
+use Rattle.std.proofs.Common.{ap, ◌∙◌, subst, arith, inl, inr, Option, Some, None}
 use Rattle.std.specs.Prelude.{find, is_none, if◌then◌else◌}
-use Rattle.std.specs.List.{list_any}
-use Rattle.std.proofs.lemmas.Bool.{and_from, cases_Bool, false≢true, true≢false, eq-eqb, ne_eqb, lt-ltb, le-leb}
+use Rattle.std.specs.List.{list_all, list_any}
+use Rattle.std.proofs.lemmas.Bool.{and_parts, and_from, or_parts, cases_Bool, false≢true, true≢false, eq-eqb, ne_eqb, lt-ltb, le-leb}
 use Rattle.std.proofs.lemmas.List.{append_assoc}
+use Rattle.nd_base.specs.Parts.{Parts}
 use Rattle.nd_base.specs.declared.frame.FrameName.{FrameName}
 use Rattle.frame_store.specs.Sealed.{Sealed}
+use Rattle.flow_journal.specs.declared.entry.Entry.{Entry}
 use Rattle.flow_journal.specs.declared.entry.Entry.TheVariants as entry
 use Rattle.flow_journal.specs.Setting.{Setting, Work, Makes, Passes, Watches, Saves, node, is_node, last_role}
 use Rattle.flow_journal.specs.Pasts.{Past, frame, minus}
@@ -18,6 +20,7 @@ use Rattle.flow_journal.specs.Waiting.{Waiting, waiting}
 use Rattle.flow_journal.specs.Rings.{ring}
 use Rattle.flow_journal.specs.Puts.{puts}
 use Rattle.flow_journal.specs.Accounts.{arrays_at}
+use Rattle.flow_journal.specs.EntryTests.{says_regrown}
 use Rattle.flow_journal.specs.Finished.{none_left, is_done, is_finished}
 use Rattle.flow_journal.specs.Histories.{is_history}
 use Rattle.flow_journal.specs.Unsaved.{unsaved, saves, standing_saves, is_file, is_due}
@@ -25,6 +28,7 @@ use Rattle.flow_journal.proofs.Found.{none_left-nil}
 use Rattle.board_rules.specs.declared.answers.Save.TheVariants.{Busy, NotYet}
 use Rattle.board_rules.specs.declared.told.Told.{Told}
 use Rattle.board_rules.specs.States.{BoardState, past}
+use Rattle.board_rules.specs.Storage.{is_never_regrown, is_some_lost, has_lost, HasAllStorage}
 use Rattle.board_rules.specs.Saving.{has_due, SaveAnswers, SaveGives}
 use Rattle.flow_roles.specs.Feeder.{name_of, parts_of}
 use Rattle.flow_drain.specs.Drains.{IsDrained}
@@ -104,15 +108,45 @@ module _ (s : Setting) (b new : BoardState) (v : ℕ) (drained : IsDrained s (pa
 
 -- MOVES
 
+lost-both : (more b : BoardState) → has_lost more ≡ false → has_lost b ≡ false → has_lost (more ++ b) ≡ false
+lost-both [] b h i = i
+lost-both (t ∷ more) b h i =
+    let two = or_parts (is_some_lost t.lost) (has_lost more) h in
+    ap (λ (x : Bool). x || has_lost (more ++ b)) two.0 ∙ lost-both more b two.1 i
+
 pub rest-none : (s : Setting) (old new : BoardState) → new ≡ old → RestMoves s old new
-rest-none s old new is = ([], is, refl)
+rest-none s old new is = ([], is, refl, refl)
 
 pub rest-on : (s : Setting) (a b c : BoardState) → RestMoves s a b → RestMoves s b c → RestMoves s a c
-rest-on s a b c m n =
-    (n.0 ++ m.0, n.1 ∙ ap (λ (x : BoardState). n.0 ++ x) m.1 ∙ sym (append_assoc n.0 m.0 a), all-append (is_rest s) n.0 m.0 n.2 m.2)
+rest-on s a b c m n = (
+  n.0 ++ m.0,
+  n.1 ∙ ap (λ (x : BoardState). n.0 ++ x) m.1 ∙ sym (append_assoc n.0 m.0 a),
+  all-append (is_rest s) n.0 m.0 n.2 m.2,
+  lost-both n.0 m.0 n.3 m.3,
+)
 
-pub rest-one : (s : Setting) (t : Told) (old new : BoardState) → is_rest s t.entry ≡ true → new ≡ t ∷ old → RestMoves s old new
-rest-one s t old new is made = (t ∷ [], made, and_from _ _ is refl)
+pub rest-one : (s : Setting) (t : Told) (old new : BoardState) → is_rest s t.entry ≡ true → t.lost ≡ [] → new ≡ t ∷ old → RestMoves s old new
+rest-one s t old new is none_ made = (t ∷ [], made, and_from _ _ is refl, ap (λ (bs : List ℕ). is_some_lost bs || false) none_)
+
+rest-says : (s : Setting) (e : Entry) → is_rest s e ≡ true → says_regrown e ≡ false
+rest-says s (entry.Save r v m k g) h = refl
+rest-says s (entry.Saved r v m k) h = refl
+rest-says s _ h = absurd (false≢true h)
+
+rest-never : (s : Setting) (added old : BoardState) → list_all (is_rest s) (past added) ≡ true → is_never_regrown (past old) ≡ true
+    → is_never_regrown (past (added ++ old)) ≡ true
+rest-never s [] old h never = never
+rest-never s (t ∷ added) old h never =
+    let two = and_parts (is_rest s t.entry) (list_all (is_rest s) (past added)) h in
+    ap (λ (x : Bool). not (x || list_any says_regrown (past (added ++ old)))) (rest-says s t.entry two.0) ∙ rest-never s added old two.1 never
+
+-- they leave all storage
+pub rest-keeps : {F : Type 0} (parts : F → Option Parts) (s : Setting) (old new : BoardState) → RestMoves s old new → HasAllStorage parts old
+    → HasAllStorage parts new
+rest-keeps parts s old new m h = (
+  ap has_lost m.1 ∙ lost-both m.0 old m.3 h.0,
+  λ tell. subst (λ (b : BoardState). is_never_regrown (past b) ≡ true) (sym m.1) (rest-never s m.0 old m.2 (h.1 tell)),
+)
 
 -- FINISHED
 

@@ -1,6 +1,6 @@
 -- The files of rows, written one after the other.
 use Rattle.std.proofs.Common.{◌≡◌, ◌≢◌, ℕ, zero, suc, ◌+◌, ◌<◌, List, [], ◌∷◌, get_or, refl, sym, ap, subst, ◌∙◌, arith, Option, Some, None}
-use Rattle.std.specs.Prelude.{slice_get, AllPairs}
+use Rattle.std.specs.Prelude.{slice_get, AllPairs, is_some}
 use Rattle.std.proofs.lemmas.Option.{get_or_from_slice_get, slice_get_within, same_Some}
 use Rattle.nd_base.specs.Array.{StackValue}
 use Rattle.nd_base.specs.GraphRules.{IsGraph, rule_at}
@@ -12,8 +12,8 @@ use Rattle.flow_journal.specs.Pasts.{Past}
 use Rattle.graph_files.specs.BegunLaws.{with_files-append}
 use Rattle.graph_files.specs.NameLaws.{stats-differ, stats_names-differ}
 use Rattle.graph_files.specs.NodeFiles.{Wrote}
-use Rattle.graph_files.specs.NodeFileLaws.{changed-HasBytes}
-use Rattle.graph_files.specs.OutFiles.{group_name, stats_name, with_files}
+use Rattle.graph_files.specs.NodeFileLaws.{changed-HasBytes, with_file-told}
+use Rattle.graph_files.specs.OutFiles.{OutFile, group_name, stats_name, with_files}
 use Rattle.flow_saver.specs.HistoryFiles.{kind_rows, IsFileOf, Group, Rows, HoldsGroupsOf, HoldsFilesOf, RowsComplete, rows_file, rows_from, rows_files}
 
 rules-apart : (ns : List NodeRule) → AllPairs (λ (m n : NodeRule). m.name ≢ n.name) ns → (j k : ℕ) (m n : NodeRule) → slice_get ns j ≡ Some m
@@ -23,6 +23,10 @@ rules-apart ns pairs j k m n hm hn below =
     let is_n = get_or_from_slice_get ns k n m hn in
     subst (λ (r : NodeRule). m.name ≢ r.name) is_n
     (subst (λ (q : NodeRule). q.name ≢ (get_or ns k m).name) is_m (pairs j k m below (slice_get_within ns k n hn)))
+
+with_files-told : (held : Option Files) (fs : List OutFile) → is_some (with_files held fs) ≡ is_some held
+with_files-told held [] = refl
+with_files-told held (f ∷ fs) = with_files-told (with_file held f.name f.bytes) fs ∙ with_file-told held f.name f.bytes
 
 module _ (g : Graph) (stack : StackValue) (prefix : List ℕ) (P : Past) where
   -- the name is that of no rows of these nodes
@@ -128,6 +132,7 @@ module _ (g : Graph) (stack : StackValue) (prefix : List ℕ) (P : Past) where
 
     pub complete : HoldsFilesOf g stack prefix P before now
     complete = record {
+      told = with_files-told held (rows_files g stack prefix P) ∙ h.told;
       each = each-by;
       others = λ q away.
           rows-others 1 g.nodes held q (node-no q (λ v n bytes rule is. away (stats_name prefix n.name) bytes (Rows v n bytes rule is)))

@@ -205,6 +205,7 @@ module _ (g : Graph) (stack : StackValue) (sound : IsGraph g) (prefix : List ℕ
 
     pub torn-end : IsTornHistory g stack prefix (past b) before now
     torn-end = record {
+      told = e.stops.0.told;
       each = λ v i n r bytes rule kind is.
           let f = groups.files-of-rule g stack sound prefix before b xs false held h v n r rule kind in
           let x = f.files in

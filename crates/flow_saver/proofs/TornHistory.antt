@@ -543,6 +543,7 @@ module _ (g : Graph) (stack : StackValue) (sound : IsGraph g) (prefix : List ℕ
 
   pub torn-history : IsKeptStack stack → IsTornHistory g stack prefix (past b) before held
   torn-history kept = record {
+    told = t.stops.0.told;
     each = λ v i n r bytes rule kind is.
         let f = groups.files-of-rule g stack sound prefix before b xs true held h v n r rule kind in
         let x = f.files in

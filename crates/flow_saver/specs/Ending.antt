@@ -1,5 +1,5 @@
 -- What stands under the names of a run's groups after a fault of the shelf.
-use Rattle.std.specs.Prelude.{◌≡◌, ◌≢◌, ◌⊎◌, ℕ, ◌≤◌, Bool, true, false, List, [], ◌++◌, length, Option, None, Some, Result, Ok, Err}
+use Rattle.std.specs.Prelude.{◌≡◌, ◌≢◌, ◌⊎◌, ℕ, ◌≤◌, Bool, true, false, List, [], ◌++◌, length, Option, None, Some, is_some, Result, Ok, Err}
 use Rattle.nd_base.specs.Array.{Array, StackValue}
 use Rattle.nd_base.specs.declared.attribute.FileShape.{FileShape}
 use Rattle.nd_base.specs.declared.graph.FileRule.{FileRule}
@@ -44,6 +44,8 @@ IsTornAt late shape final written before (Some files) name = IsTornName late sha
 -- saved up to one place of the log was written, which are the first arrays of each node. But for the name on which the shelf failed, each group of
 -- which all were written is whole, any other of which some were has its header and their rows, and one of which none was is as before the run.
 pub record IsTornHistory (g : Graph) (stack : StackValue) (prefix : List ℕ) (P : Past) (before held : Option Files) : Type 0 where
+  -- the shelf tells its files as it did
+  pub told : is_some held ≡ is_some before
   pub each : (v i : ℕ) (n : NodeRule) (r : FileRule) (bytes : List ℕ) → rule_at g.nodes v ≡ Some n → n.kind ≡ File r
       → kind_group g stack P v n.kind i ≡ Some bytes
       → IsBegunAt (is_stream r.mode) bytes before held (group_name prefix n.name i)

@@ -1,6 +1,6 @@
 -- THE FILES OF A HISTORY: of each file node and group the file layout of the arrays that its Saves took in that order, and of each
 -- statistics node a row for each array that it emitted.
-use Rattle.std.specs.Prelude.{◌≡◌, ◌≢◌, ℕ, ◌+◌, false, List, [], ◌∷◌, ◌++◌, map, Option, None, Some}
+use Rattle.std.specs.Prelude.{◌≡◌, ◌≢◌, ℕ, ◌+◌, false, List, [], ◌∷◌, ◌++◌, map, Option, None, Some, is_some}
 use Rattle.std.specs.List.{flat_map}
 use Rattle.nd_base.specs.Array.{StackValue}
 use Rattle.nd_base.specs.declared.graph.Graph.{Graph}
@@ -41,15 +41,17 @@ pub data IsFileOf (g : Graph) (stack : StackValue) (prefix : List ℕ) (P : Past
   Rows : (v : ℕ) (n : NodeRule) (bytes : List ℕ) → rule_at g.nodes v ≡ Some n → kind_rows g stack P v n.kind ≡ Some bytes
       → IsFileOf g stack prefix P (stats_name prefix n.name) bytes
 
--- the shelf holds the files of the history, and every other name is as before
+-- the shelf holds the files of the history, and every other name is as before; it tells its files as it did
 pub record HoldsFilesOf (g : Graph) (stack : StackValue) (prefix : List ℕ) (P : Past) (before held : Option Files) : Type 0 where
+  pub told : is_some held ≡ is_some before
   pub each : (name bytes : List ℕ) → IsFileOf g stack prefix P name bytes → HasFile held name bytes
   pub others : (q : List ℕ) → ((name bytes : List ℕ) → IsFileOf g stack prefix P name bytes → q ≢ name) → file_at held q ≡ file_at before q
 
 -- THE GROUPS ALONE, AND THE ROWS AFTER THEM
 
--- the shelf holds the groups' files of the history, and every other name is as before
+-- the shelf holds the groups' files of the history, and every other name is as before; it tells its files as it did
 pub record HoldsGroupsOf (g : Graph) (stack : StackValue) (prefix : List ℕ) (P : Past) (before held : Option Files) : Type 0 where
+  pub told : is_some held ≡ is_some before
   pub each : (v i : ℕ) (n : NodeRule) (bytes : List ℕ) → rule_at g.nodes v ≡ Some n → kind_group g stack P v n.kind i ≡ Some bytes
       → HasFile held (group_name prefix n.name i) bytes
   pub others : (q : List ℕ)

@@ -12,6 +12,7 @@ use Rattle.flow_journal.specs.Histories.{is_history}
 use Rattle.flow_journal.specs.Unsaved.{unsaved}
 use Rattle.board_rules.specs.States.{BoardState, past}
 use Rattle.board_rules.specs.Movers.{moves_by}
+use Rattle.board_rules.specs.Storage.{has_lost}
 use Rattle.board_rules.specs.RunMeasures.{run_setting}
 use Rattle.flow_roles.specs.declared.last.Last.TheVariants.{Other}
 use Rattle.flow_roles.specs.Passes.{Pass, only_drain_saves}
@@ -30,9 +31,9 @@ is_rest s (Save r v m k g) = r == last_role s
 is_rest s (Saved r v m k) = r == last_role s
 is_rest s _ = false
 
--- such moves, and no others, lead from the one board to the other
+-- such moves, and no others, lead from the one board to the other, and nothing stays away with them
 abbrev pub RestMoves : Setting → (old new : BoardState) → Type 0
-RestMoves s old new = (added : BoardState) × (new ≡ added ++ old) × (list_all (is_rest s) (past added) ≡ true)
+RestMoves s old new = (added : BoardState) × (new ≡ added ++ old) × (list_all (is_rest s) (past added) ≡ true) × (has_lost added ≡ false)
 
 -- THE LAST ROLE ON A BOARD THAT IT HAS ALONE
 

@@ -23,7 +23,7 @@ use Rattle.board_rules.specs.States.{BoardState, past, lent_to}
 use Rattle.flow_roles.specs.declared.last.Last.{Last}
 use Rattle.flow_roles.specs.declared.last.Last.TheVariants as last
 use Rattle.flow_roles.specs.Passes.{Pass}
-use Rattle.flow_roles.specs.RoleEnds.{IsLent}
+use Rattle.board_rules.specs.InHand.{IsLent}
 use Rattle.flow_roles.specs.RoleMoves.{saver_logs}
 use Rattle.flow_roles.specs.Feeder.{name_of, parts_of}
 use Rattle.file_out.specs.Streams.{Stream}

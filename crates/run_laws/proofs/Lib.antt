@@ -27,3 +27,4 @@ pub mod PlainRuns
 pub mod SortDrops
 pub mod Causes
 pub mod EachOffer
+pub mod RunHolds

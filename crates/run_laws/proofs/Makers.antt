@@ -70,13 +70,13 @@ module _ (g : Graph) (makers : List Maker) (arrays : List Array) (P : Past) (sou
   right : (v k : ℕ) → wrong v (frame v k) ≡ false
   right v k = ap not (eq-eqb v v refl)
 
-  input-is : (v : ℕ) (n : NodeRule) → rule_at g.nodes v ≡ Some n → (node s v).input ≡ n.input
+  pub input-is : (v : ℕ) (n : NodeRule) → rule_at g.nodes v ≡ Some n → (node s v).input ≡ n.input
   input-is v n rule = ap (λ (m : Node). m.input) (node-is g makers arrays v n rule)
 
   work-is : (v : ℕ) (n : NodeRule) (k : Kind) → rule_at g.nodes v ≡ Some n → n.kind ≡ k → (node s v).work ≡ work_of k
   work-is v n k rule kind = ap (λ (m : Node). m.work) (node-is g makers arrays v n rule) ∙ ap work_of kind
 
-  at_node : (v : ℕ) (n : NodeRule) → rule_at g.nodes v ≡ Some n → v ≢ 0
+  pub at_node : (v : ℕ) (n : NodeRule) → rule_at g.nodes v ≡ Some n → v ≢ 0
   at_node zero n rule = cc
   at_node (suc k) n rule = omega arith
 

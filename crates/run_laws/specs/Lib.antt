@@ -7,6 +7,7 @@ pub mod OrderLaws
 pub mod BufferLaws
 pub mod FeedLaws
 pub mod PlainLaws
+pub mod RunHolds
 pub mod WorkedOutputs
 pub mod WorkedDrops
 pub mod WorkedOrder

@@ -9,6 +9,7 @@ ghost use Rattle.run_laws.specs.OneThreadLaws.{AcceptedAreOfTheInput, EmissionsP
 ghost use Rattle.run_laws.specs.OneThreadLaws.{OutputsAreOfTheNode, OutputsInOrder, OutputsInSomeOrder, WindowsEmitTheAccepted};
 ghost use Rattle.run_laws.specs.OrderLaws.{BreaksAreMarked, FlushesComeAtTheEnd, LateOnesHaveWaited, MarkedBreaksAreCounted};
 ghost use Rattle.run_laws.specs.PlainLaws.{SmoothRunsArePlain};
+ghost use Rattle.run_laws.specs.RunHolds.{FinishedRunsHold};
 
 /// Every array that was offered was accepted for good or dropped, and all that a node emitted and every frame were offered.
 pub fn arrays_are_accepted_or_dropped()
@@ -71,4 +72,9 @@ pub fn waiting_feeds_find_room()
 /// Without a drop and without a break, and with distinct ids, each node puts out what it does in the plain run.
 pub fn smooth_runs_are_plain()
     ensures { SmoothRunsArePlain }
+{}
+
+/// All this, point by point, of every finished run.
+pub fn finished_runs_hold()
+    ensures { FinishedRunsHold }
 {}

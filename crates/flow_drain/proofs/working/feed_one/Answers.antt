@@ -16,13 +16,13 @@ issue_frame-requires-clause-loaded g c =
 pub returns-in-Loaded-clause-moves : goal.returns-in-Loaded-clause-moves
 returns-in-Loaded-clause-moves g c =
     loaded-on parts_of length (run_setting g.R.Run.graph g.R.Run.stack) (g.B.BoardCalls.shown c.args.board.now)
-    (g.B.BoardCalls.shown c.load.new.self) c.args.role c.args.tick c.requires.role c.requires.idle c.in-Loaded.index c.in-Loaded.blank
+    (g.B.BoardCalls.shown c.load.new.self) c.args.role c.args.tick c.requires.role c.requires.idle (λ f. refl) c.in-Loaded.index c.in-Loaded.blank
     (g.B.BoardCalls.shown c.issue_frame.new.board) c.in-Loaded.ensures.gives (c.issue_frame.ensures.moves c.args.tick)
 
 pub returns-in-Loaded-clause-fed : goal.returns-in-Loaded-clause-fed
 returns-in-Loaded-clause-fed g c =
     λ same. absurd (loaded-other parts_of length (run_setting g.R.Run.graph g.R.Run.stack) (g.B.BoardCalls.shown c.args.board.now)
-    (g.B.BoardCalls.shown c.load.new.self) c.args.role c.args.tick c.requires.role c.requires.idle c.in-Loaded.index c.in-Loaded.blank
+    (g.B.BoardCalls.shown c.load.new.self) c.args.role c.args.tick c.requires.role c.requires.idle (λ f. refl) c.in-Loaded.index c.in-Loaded.blank
     (g.B.BoardCalls.shown c.issue_frame.new.board) c.in-Loaded.ensures.gives (c.issue_frame.ensures.moves c.args.tick) same)
 
 pub returns-in-Loaded-clause-still : goal.returns-in-Loaded-clause-still

@@ -10,10 +10,10 @@ pub loop-init : goal.loop-init
 loop-init g c = (c.requires.ours, fresh-nothing (worker_logs c.args.node) c.args.role (g.D.Desk.knows c.args.pass) c.requires.fresh)
 
 pub work_round-requires-clause-ours : goal.work_round-requires-clause-ours
-work_round-requires-clause-ours g c = c.loop.invariant.0
+work_round-requires-clause-ours g c κs within = c.loop.invariant.0
 
 pub work_round-requires-clause-nothing : goal.work_round-requires-clause-nothing
-work_round-requires-clause-nothing g c = c.loop.invariant.1
+work_round-requires-clause-nothing g c κs within = c.loop.invariant.1
 
 pub loop-preserved : goal.loop-preserved
 loop-preserved g c = (c.work_round.ensures.ours, c.in-Again.ensures.gone)

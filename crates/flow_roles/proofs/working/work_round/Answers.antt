@@ -51,7 +51,7 @@ returns-in-OutOfMemory-clause-gone g c =
     (λ P h. h) c.nothing.ensures c.leave.ensures.called
 
 pub work_on-requires-clause-job : goal.work_on-requires-clause-job
-work_on-requires-clause-job g c =
+work_on-requires-clause-job g c κs within =
     take-works g.R.Run.graph g.R.Run.stack c.args.role c.args.node c.in-Job.node c.in-Job.input _ _ c.requires.graph
     c.requires.node c.requires.nothing c.in-Job.blank
     c.in-Job.ensures.called c.in-Job.ensures.lent

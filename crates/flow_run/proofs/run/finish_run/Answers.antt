@@ -1,5 +1,6 @@
-use Rattle.std.proofs.Common.{sym, subst}
+use Rattle.std.proofs.Common.{◌≡◌, true, sym, subst}
 use Rattle.board_rules.specs.States.{past}
+use Rattle.board_rules.specs.Storage.{is_never_regrown}
 use Rattle.flow_journal.specs.Setting.{last_role}
 use Rattle.board_rules.specs.RunMeasures.{run_setting}
 use Rattle.flow_roles.specs.Feeder.{name_of}
@@ -9,7 +10,7 @@ use Rattle.flow_saver.proofs.Handing.{free-alone, drained-alone}
 use Rattle.flow_run.specs.Strangers.{AreOwnMoves}
 use Rattle.flow_run.specs.Ticks.{IsFedByTheClock}
 use Rattle.flow_run.specs.RunFiles.{HasSavedRun}
-use Rattle.flow_run.proofs.Finishing.{ready-once, ready-left, run-own, run-ticks, saved-run}
+use Rattle.flow_run.proofs.Finishing.{ready-once, ready-left, run-own, run-ticks, run-storage, saved-run}
 use Rattle.flow_run.proofs.run.finish_run.Goals as goal
 
 pub drain-requires-clause-free : goal.drain-requires-clause-free
@@ -89,3 +90,11 @@ returns-clause-ticks g c old fed =
     c.save_unsaved.ensures.moves c.tick-tick.result (g.B.BoardCalls.shown c.drain.new.board)
     (g.B.BoardCalls.shown c.save_rest.new.board) c.drain.ensures.moves c.save_rest.ensures.moves
     old (g.C.Clock.coming c.args.clock.now) (g.C.Clock.coming c.tick-tick.new.self) fed c.tick-tick.ensures)
+
+pub returns-clause-storage : goal.returns-clause-storage
+returns-clause-storage g c =
+    subst (λ P. is_never_regrown P ≡ true) (sym c.into_parts-log.ensures.log)
+    (run-storage g.R.Run.graph g.R.Run.stack (g.B.BoardCalls.shown c.args.board)
+    (g.B.BoardCalls.shown c.save_unsaved.new.board) c.requires.joined.0 c.args.lefts.items c.requires.joined.1.0 c.requires.joined.1.1
+    c.save_unsaved.ensures.moves c.tick-tick.result (g.B.BoardCalls.shown c.drain.new.board)
+    (g.B.BoardCalls.shown c.save_rest.new.board) c.drain.ensures.moves c.save_rest.ensures.moves)

@@ -126,7 +126,7 @@ finish_run-requires-clause-joined g c =
             (known_by c.run_roles-pass.result.pass.inner c.run_roles-pass.result.pass.last)) (sym c.gather-passes.ensures.lefts)
             (joined-from (λ p. IsPassOf c.in_ok-desk.desk.id p.inner) (λ p. known_by p.inner p.last) s
             (c.run_roles-pass.new.feeder ∷ c.run_roles-pass.new.workers.items) (ap suc many) came c.run_roles-pass.result.pass board made
-            c.take_back-board.ensures.legal c.take_back-board.ensures.drained
+            c.take_back-board.ensures.legal c.take_back-board.ensures.drained c.take_back-board.ensures.storage
             (λ r high. c.take_back-board.ensures.others r
             (omega (arith, high, c.in_ok-desk.ensures.seats.0, c.len.ensures, all, ap length c.in_ok-nodes.ensures, workers-many s)))
             e.end.1.role e.end.1.moves),

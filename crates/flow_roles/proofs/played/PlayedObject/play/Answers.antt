@@ -1,7 +1,7 @@
 use Rattle.std.proofs.Common.{refl}
 use Rattle.board_rules.specs.RunMeasures.{run_setting, run_measure}
 use Rattle.flow_roles.specs.Operations.{frames_of}
-use Rattle.flow_roles.proofs.Additions.{may_play, legal_after, drained_after, played}
+use Rattle.flow_roles.proofs.Additions.{may_play, legal_after, drained_after, storage_after, played}
 use Rattle.flow_roles.proofs.played.PlayedObject.play.Goals as goal
 
 pub play-requires : goal.play-requires
@@ -19,6 +19,7 @@ invariant_of-self g c =
     record {
       legal = legal_after fs s b new c.args.op c.play.result refl self.legal self.drained c.requires c.play.ensures.replies;
       drained = drained_after fs s b new c.args.op c.play.result refl self.legal self.drained c.requires c.play.ensures.replies;
+      storage = storage_after fs s b new c.args.op c.play.result refl self.legal self.drained c.requires c.play.ensures.replies self.storage;
     }
 
 pub returns : goal.returns
