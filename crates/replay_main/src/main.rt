@@ -60,7 +60,8 @@ tell more.
 
 A file node writes <PREFIX>NODE_000.nc, <PREFIX>NODE_001.nc and so on, and a statistics node
 <PREFIX>NODE.txt. What stands under such a name, or under NAME, is replaced without a question, the
-inputs too where they are named so. No folder is made.
+inputs too where they are named so. No folder is made. The system has made sure of the bytes of the
+first 64 files, and of each of 64 KiB or more, where the status is 0; smaller ones it writes soon.
 
 The status, which one line on standard error tells where it isn't 0:
 

@@ -1,14 +1,21 @@
 -- A run of the large workload whose ticks are near to each other prints the same at each run.
-use Rattle.std.proofs.Common.{◌≡◌, ℕ, Option, None, Some, Ok, Result, ap, subst, ◌∙◌}
+use Rattle.std.proofs.Common.{◌≡◌, ℕ, true, false, [], ◌∷◌, length, Option, None, Some, Ok, Result, refl, sym, ap, subst, ◌∙◌}
+use Rattle.std.specs.Prelude.{filter}
+use Rattle.std.specs.List.{list_any, count_by}
+use Rattle.std.proofs.lemmas.Bool.{or_parts, not-true}
+use Rattle.std.proofs.lemmas.List.Sums.{length-filter}
 use Rattle.edge_traits.specs.Files.{Files}
 use Rattle.edge_traits.specs.Written.{with_written}
 use Rattle.flow_journal.specs.Journal.{Journal}
+use Rattle.flow_journal.specs.EntryTests.{says_regrown}
 use Rattle.flow_journal.specs.Pasts.{Past}
 use Rattle.board_rules.specs.RunMeasures.{run_setting}
+use Rattle.board_rules.specs.Storage.{is_never_regrown}
 use Rattle.run_laws.specs.Results.{IsFinishedRun}
 use Rattle.run_report.specs.Text.{report_text}
 use Rattle.demo_laws.specs.Demo.{demo_graph, demo_stack}
 use Rattle.demo_laws.specs.DemoLaws.{DemosAreWhole}
+use Rattle.demo_laws.specs.Reports.{whole_counters}
 use Rattle.tool_commands.specs.declared.status.Status.{Status}
 use Rattle.tool_commands.specs.declared.status.Status.TheVariants.{Done}
 use Rattle.tool_commands.specs.Outcomes.{Leads}
@@ -26,6 +33,14 @@ made told from frames source is read =
     subst (λ (f : RunSource). Leads told (run_sources f) (Ok source)) is read in
     cc
 
+-- what no grant says isn't counted
+never-counted : (P : Past) → is_never_regrown P ≡ true → count_by says_regrown P ≡ 0
+never-counted P h = sym (length-filter says_regrown P) ∙ ap (λ (es : Past). length es) (none P (not-true (list_any says_regrown P) h))
+  where
+    none : (P : Past) → list_any says_regrown P ≡ false → filter says_regrown P ≡ []
+    none [] h = refl
+    none (e ∷ P) h = let both = or_parts (says_regrown e) (list_any says_regrown P) h in rw both.0 (none P both.1)
+
 module _ (whole : DemosAreWhole) (o : RunObjects) (c : RunCommand) (range : IsInRange c.source) where
   steady : (P : Past) → IsRunDone o c P → IsDemoSteady o.objects.sink_before o.objects.sink_after c P
   steady P done frames is ticks =
@@ -37,7 +52,8 @@ module _ (whole : DemosAreWhole) (o : RunObjects) (c : RunCommand) (range : IsIn
       record {
         smooth = w.smooth;
         printed = done.printed ∙ ap (with_written o.objects.sink_before) (ap (λ (s : Source). run_print s P) ours
-            ∙ ap (report_text (demo_graph frames)) w.counts);
+            ∙ ap (report_text (demo_graph frames))
+            (w.counts ∙ ap (λ (n : ℕ). whole_counters frames n (demo_graph frames)) (never-counted P done.log.storage)));
       }
 
   done-steady : (log : Option Journal) → OfLog (IsRunDone o) (Some c) log → OfLog (IsDemoSteady o.objects.sink_before o.objects.sink_after) (Some c) log

@@ -8,7 +8,7 @@ use Rattle.tool_commands.specs.Answers.{IsRefusal}
 use Rattle.tool_commands.specs.Causes.{Counts}
 use Rattle.tool_commands.specs.Claims.{Completes}
 use Rattle.tool_commands.specs.Outcomes.{Leads}
-use Rattle.replay_top.specs.RunAnswers.{RunObjects, RunEnds, IsRunCause, IsRunUntouched}
+use Rattle.replay_top.specs.RunAnswers.{RunObjects, RunEnds, IsRunCause, IsRunUntouched, OfLog, HasFinished, HasLog}
 use Rattle.replay_top.specs.RunCommand.{RunCommand, IsRead}
 use Rattle.replay_top.specs.RunSources.{sources_of}
 use Rattle.tool_commands.proofs.Outcomes.{Leads-Asks}
@@ -49,6 +49,24 @@ module _ (log : Option Journal) (c : RunCommand) (o : RunObjects) where
   -- the library fails only where files are read
   pub RunEnds-read : (s : Status) → RunEnds s log (Some c) o → s ≡ ReadFault → IsRead c.source
   RunEnds-read s ends is = let fault : RunEnds ReadFault log (Some c) o = subst (λ (t : Status). RunEnds t log (Some c) o) is ends in fault.1
+
+-- a run that has finished has its log
+pub RunEnds-log : (s : Status) (log : Option Journal) (c : RunCommand) (o : RunObjects) → RunEnds s log (Some c) o → HasFinished s
+    → OfLog (HasLog o) (Some c) log
+RunEnds-log Done (Some l) c o ends is = (ends.source, ends.log)
+RunEnds-log ShelfFault (Some l) c o ends is = (ends.source, ends.log)
+RunEnds-log OutFault (Some l) c o ends is = (ends.source, ends.log)
+RunEnds-log Done None c o ends is = absurd ends
+RunEnds-log ShelfFault None c o ends is = absurd ends
+RunEnds-log OutFault None c o ends is = absurd ends
+RunEnds-log Usage log c o ends is = absurd is
+RunEnds-log GraphText log c o ends is = absurd is
+RunEnds-log (GraphRule f) log c o ends is = absurd is
+RunEnds-log (StackBytes f) log c o ends is = absurd is
+RunEnds-log (Limit f) log c o ends is = absurd is
+RunEnds-log Sizes log c o ends is = absurd is
+RunEnds-log ReadFault log c o ends is = absurd is
+RunEnds-log OutOfMemory log c o ends is = absurd is
 
 -- where no count rose, the files decide
 pub answered_run : (s : Status) (log : Option Journal) (c : RunCommand) (o : RunObjects) (before after : Counts) → RunEnds s log (Some c) o

@@ -3,12 +3,15 @@ use Rattle.std.proofs.Common.{◌≡◌, ◌≢◌, ℕ, Bool, true, false, List
 use Rattle.std.proofs.lemmas.List.{append-nil}
 use Rattle.nd_base.specs.Array.{StackValue}
 use Rattle.nd_base.specs.declared.graph.Graph.{Graph}
+use Rattle.chain_plain.specs.Plans.{makers_of}
 use Rattle.edge_traits.specs.Faults.{Rose}
 use Rattle.edge_traits.specs.Files.{Files}
 use Rattle.flow_journal.specs.Journal.{Journal}
 use Rattle.flow_journal.specs.Pasts.{Past}
 use Rattle.board_rules.specs.RunMeasures.{run_setting}
+use Rattle.board_rules.specs.Storage.{is_never_regrown}
 use Rattle.run_laws.specs.Results.{IsFinishedRun}
+use Rattle.run_laws.specs.RunHolds.{FinishedRunsHold}
 use Rattle.graph_files.specs.BegunLaws.{with_files-append}
 use Rattle.graph_files.specs.OutFiles.{OutFile, with_files}
 use Rattle.flow_saver.specs.ReadBack.{GroupsReadBack}
@@ -61,10 +64,10 @@ module _ (g : Graph) (stack : StackValue) (prefix : List ℕ) (P : Past) (held m
       subst (λ (w : Option Files). HoldsFilesOf g stack prefix P held w) same holds
   holds-by true holds is = (rows, holds, is ∙ with_files-append mid (rows_files g stack prefix P) (log_files true prefix P))
 
-module _ (complete : RowsComplete) (reads : GroupsReadBack) (c : RunCommand) (o : RunObjects) (g : Graph) (stack : StackValue) (log : Journal)
-    (mid : Option Files) (read : IsSourceRead o.objects.library c.source (record { graph = g; stack = stack }))
+module _ (complete : RowsComplete) (reads : GroupsReadBack) (points : FinishedRunsHold) (c : RunCommand) (o : RunObjects) (g : Graph)
+    (stack : StackValue) (log : Journal) (mid : Option Files) (read : IsSourceRead o.objects.library c.source (record { graph = g; stack = stack }))
     (run : IsFinishedRun (run_setting g stack) log.past) (roles : AreOwnMoves (run_setting g stack) log.past)
-    (ticks : IsFedByTheClock (run_setting g stack) log.past o.coming o.later) where
+    (ticks : IsFedByTheClock (run_setting g stack) log.past o.coming o.later) (storage : is_never_regrown log.past ≡ true) where
   abbrev held : Option Files
   held = o.objects.shelf_before
 
@@ -81,7 +84,17 @@ module _ (complete : RowsComplete) (reads : GroupsReadBack) (c : RunCommand) (o 
   source = record { graph = g; stack = stack }
 
   is_log : IsLogOf o c source log.past
-  is_log = record { read = read.read; within = read.within; run = run; roles = roles; ticks = ticks }
+  is_log =
+      record {
+        read = read.read;
+        sound = read.sound;
+        within = read.within;
+        run = run;
+        roles = roles;
+        ticks = ticks;
+        storage = storage;
+        points = points g (makers_of g.nodes stack.shape) stack log.past read.sound run;
+      }
 
   back : HaveGroupsBack source log.past
   back v i n r at kind some = reads g stack log.past v i n r read.sound read.kept read.within run.legal at kind some

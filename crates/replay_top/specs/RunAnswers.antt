@@ -1,5 +1,6 @@
 -- What each status of a run says of its log and of the objects.
-use Rattle.std.specs.Prelude.{◌≡◌, ℕ, List, Option, None, Some, Ok, Err}
+use Rattle.std.specs.Prelude.{◌≡◌, ℕ, true, List, Option, None, Some, Ok, Err}
+use Rattle.nd_base.specs.GraphRules.{IsGraph}
 use Rattle.edge_traits.specs.Files.{Files}
 use Rattle.edge_traits.specs.Ticks.{Coming}
 use Rattle.edge_traits.specs.Written.{with_written}
@@ -7,7 +8,9 @@ use Rattle.chain_plain.specs.Plans.{plan_of}
 use Rattle.flow_journal.specs.Journal.{Journal}
 use Rattle.flow_journal.specs.Pasts.{Past}
 use Rattle.board_rules.specs.RunMeasures.{run_setting}
+use Rattle.board_rules.specs.Storage.{is_never_regrown}
 use Rattle.run_laws.specs.Results.{IsFinishedRun}
+use Rattle.run_laws.specs.RunHolds.{RunHolds}
 use Rattle.run_report.specs.Report.{report}
 use Rattle.run_report.specs.Text.{report_text}
 use Rattle.graph_conf.specs.Loads.{limit_fault}
@@ -37,14 +40,17 @@ abbrev pub run_objects_of : Option Files → Option Files → Option Files → O
 run_objects_of library shelf shelf_now sink sink_now coming later =
     record { objects = objects_of library shelf shelf_now sink sink_now; coming = coming; later = later }
 
--- The log is a finished history of the graph and the stack that were read, which pass no limit. Unless a role left for want of memory, each role
--- has made its own moves; and each load was handed the clock's next answer.
+-- The log is a finished history of the graph and the stack that were read, which meet the rules of graphs and pass no limit. Unless a role left for want of
+-- memory, each role has made its own moves; each load was handed the clock's next answer; and no storage was made anew. All points of finished runs hold of it.
 pub record IsLogOf (o : RunObjects) (c : RunCommand) (source : Source) (P : Past) : Type 0 where
   pub read : Leads o.objects.library (run_sources c.source) (Ok source)
+  pub sound : IsGraph source.graph
   pub within : limit_fault source.graph source.stack ≡ None
   pub run : IsFinishedRun (run_setting source.graph source.stack) P
   pub roles : AreOwnMoves (run_setting source.graph source.stack) P
   pub ticks : IsFedByTheClock (run_setting source.graph source.stack) P o.coming o.later
+  pub storage : is_never_regrown P ≡ true
+  pub points : RunHolds source.graph source.stack (run_setting source.graph source.stack) P
 
 -- what a run of this log prints
 abbrev pub run_print : Source → Past → List ℕ
@@ -72,6 +78,10 @@ pub record IsRunTorn (o : RunObjects) (c : RunCommand) (P : Past) : Type 0 where
   pub log : IsLogOf o c source P
   pub files : AreTorn c source P o.objects.shelf_before o.objects.shelf_after
   pub unprinted : o.objects.sink_after ≡ o.objects.sink_before
+
+-- whatever was written and printed: this is the log, of what was read
+abbrev pub HasLog : RunObjects → RunCommand → Past → Type 0
+HasLog o c P = (source : Source) × IsLogOf o c source P
 
 -- a run with one of these three statuses has finished, and has its log
 abbrev pub HasFinished : Status → Type 0

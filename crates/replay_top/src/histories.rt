@@ -1,12 +1,13 @@
 //! The run itself.
 
-ghost use Rattle.std.specs.Prelude.{◌≡◌, ℕ, List, None, IfOk};
+ghost use Rattle.std.specs.Prelude.{◌≡◌, ℕ, true, List, None, IfOk};
 ghost use Rattle.nd_base.specs.GraphRules.{IsGraph};
 ghost use Rattle.nd_stack.specs.KeptStacks.{IsKeptStack};
 ghost use Rattle.chain_plain.specs.Plans.{plan_of};
 ghost use Rattle.graph_conf.specs.Loads.{limit_fault};
 ghost use Rattle.board_rules.specs.Ends.{measured};
 ghost use Rattle.board_rules.specs.RunMeasures.{run_measure, run_setting};
+ghost use Rattle.board_rules.specs.Storage.{is_never_regrown};
 ghost use Rattle.run_laws.specs.Results.{IsFinishedRun};
 ghost use Rattle.graph_files.specs.OpenFiles.{file_nodes};
 ghost use Rattle.flow_saver.specs.Saver.{CountsSo};
@@ -50,6 +51,7 @@ fn play<R: Run + Send + Sync, K: Shelf, C: Clock + Send, G: Gate + Sync, W: Thre
     ensures fault { IfOk result (λ end. CountsSo end.fault (K.faults shelf.old) (K.faults shelf.new)) }
     ensures roles { IfOk result (λ end. AreOwnMoves (run_setting R.graph R.stack) end.log.past) }
     ensures ticks { IfOk result (λ end. IsFedByTheClock (run_setting R.graph R.stack) end.log.past (C.coming clock.old) (C.coming clock.new)) }
+    ensures storage { IfOk result (λ end. is_never_regrown end.log.past ≡ true) }
 {
     let board = Board::<Frame<R>>::start(alloc, plan)?;
     play_run(
@@ -78,6 +80,7 @@ pub(crate) fn run_plan<K: Shelf, C: Clock + Send, G: Gate + Sync, W: Threads + W
     ensures fault { IfOk result (λ end. CountsSo end.fault (K.faults shelf.old) (K.faults shelf.new)) }
     ensures roles { IfOk result (λ end. AreOwnMoves (run_setting plan.now.graph stack.now) end.log.past) }
     ensures ticks { IfOk result (λ end. IsFedByTheClock (run_setting plan.now.graph stack.now) end.log.past (C.coming clock.old) (C.coming clock.new)) }
+    ensures storage { IfOk result (λ end. is_never_regrown end.log.past ≡ true) }
 {
     let files = OpenFiles::new(alloc, prefix, plan, stack)?;
     play::<Brand, K, C, G, W>(rt, alloc, plan, stack, files, shelf, clock, gate)

@@ -8,7 +8,7 @@ ghost use Rattle.run_report.specs.Text.{report_text};
 ghost use Rattle.graph_files.specs.OutFiles.{with_files};
 ghost use Rattle.tool_commands.specs.Answers.{status_of, IsRefusal};
 ghost use Rattle.tool_commands.specs.Claims.{Completes};
-ghost use Rattle.replay_top.specs.RunAnswers.{run_objects_of, RunEnds, IsRunCause, OfLog, HasFinished, IsRunDone, IsRunTorn, IsRunCutShort};
+ghost use Rattle.replay_top.specs.RunAnswers.{run_objects_of, RunEnds, IsRunCause, OfLog, HasFinished, HasLog, IsRunDone, IsRunTorn, IsRunCutShort};
 ghost use Rattle.replay_top.specs.MeasuredFiles.{measured_files};
 ghost use Rattle.tool_commands.specs.Outcomes.{Leads};
 ghost use Rattle.replay_top.specs.RunCommand.{run_command_of, IsInRange, ReadsFiles};
@@ -30,6 +30,7 @@ use flow_journal::Log;
 use flow_run::RunEnd;
 use flow_saver::{groups_read_back, rows_complete_the_files};
 use nd_base::{OutOfMemory, Plan};
+use run_laws::finished_runs_hold;
 use run_report::{counters, report_text};
 use std::alloc::Global;
 use std::sync::Wait;
@@ -141,6 +142,7 @@ fn run_words<
     };
     groups_read_back();
     rows_complete_the_files();
+    finished_runs_hold();
     let Ok(history) = run_plan(rt, alloc, &plan, &stack, words.prefix, shelf, clock, gate) else {
         return unfinished(Status::OutOfMemory);
     };
@@ -175,9 +177,14 @@ pub fn run_top<
     clock: &mut C,
     gate: &G,
 ) -> Exit
-    // The log is there exactly where the run has finished, and is then a finished history of the graph and the stack that were read. With
-    // Done and OutFault the shelf holds its files, and the sink its report, or a proper front of it; with ShelfFault each file is as it was left.
+    // The log is there exactly where the run has finished, and is then a finished history of the graph and the stack that were read, of which all
+    // points of finished runs hold. With Done and OutFault the shelf holds its files, and the sink its report, or a proper front of it; with
+    // ShelfFault each file is as it was left.
     ensures logged { HasFinished result.status ↔ IsSome result.log }
+    ensures holds { HasFinished result.status → OfLog (HasLog
+        (run_objects_of (L.holds library.old) (K.held shelf.old) (K.held shelf.new) (T.written out.old) (T.written out.new)
+        (C.coming clock.old) (C.coming clock.new)))
+        (run_command_of (map string_bytes words.now)) result.log }
     ensures done { result.status ≡ Status.Done → OfLog (IsRunDone
         (run_objects_of (L.holds library.old) (K.held shelf.old) (K.held shelf.new) (T.written out.old) (T.written out.new)
         (C.coming clock.old) (C.coming clock.new)))

@@ -6,6 +6,7 @@ pub mod EachNode
 pub mod Inputs
 pub mod Outcomes
 pub mod Leads
+pub mod Lines
 pub mod Loads
 pub mod FewFiles
 pub mod Sizes

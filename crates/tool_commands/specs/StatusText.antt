@@ -1,6 +1,8 @@
 -- The number and the text of each status.
-use Rattle.std.specs.Prelude.{ℕ, List, ◌∷◌, ◌++◌, [], codes}
-use Rattle.std.specs.Fmt.{decimal, signed_decimal}
+use Rattle.std.specs.Prelude.{◌≡◌, ℕ, ◌==◌, false, List, ◌∷◌, ◌++◌, [], codes, flat_map, if◌then◌else◌, refl}
+use Rattle.std.specs.Char.{encode_utf8, is_ascii_control}
+use Rattle.std.specs.Fmt.{digits, decimal, signed_decimal}
+use Rattle.std.specs.Str.{chars}
 use Rattle.cdf_read.specs.declared.fault.CdfFault.{CdfFault}
 use Rattle.cdf_read.specs.declared.fault.CdfFault.TheVariants as cdf
 use Rattle.nd_stack.specs.declared.fault.StackFault.{StackFault}
@@ -97,3 +99,28 @@ status_words ShelfFault = codes "status 7 ShelfFault"
 status_words OutFault = codes "status 8 OutFault"
 status_words OutOfMemory = codes "status 9 OutOfMemory"
 status_words Sizes = codes "status 10 Sizes"
+
+-- LINES
+
+-- a backslash is doubled, and a control character stands as its number in hexadecimal
+abbrev pub shown_char : ℕ → List ℕ
+shown_char c =
+    if c == 92 then 92 ∷ 92 ∷ []
+    else if is_ascii_control c then codes "\\u{" ++ digits 16 false c ++ codes "}"
+    else encode_utf8 c
+
+-- a text in one line
+abbrev pub one_line : List ℕ → List ℕ
+one_line text = flat_map shown_char (chars text)
+
+-- The text of a status. Of what it carries only a key of a graph can have backslashes and control characters.
+abbrev pub status_line : Status → List ℕ
+status_line s = one_line (status_words s)
+
+a_name_stands_as_it_is : one_line (codes "status 3 GraphRule UnknownKey colour") ≡ codes "status 3 GraphRule UnknownKey colour"
+unfolding chars digits encode_utf8
+a_name_stands_as_it_is = refl
+
+a_line_feed_is_escaped : one_line (codes "UnknownKey a\nb\\") ≡ codes "UnknownKey a\\u{a}b\\\\"
+unfolding chars digits encode_utf8
+a_line_feed_is_escaped = refl

@@ -1,8 +1,8 @@
 //! What a command ends with.
 
-ghost use Rattle.std.specs.Prelude.{◌≡◌, Some, IfOk, string_bytes};
+ghost use Rattle.std.specs.Prelude.{◌≡◌, ◌≢◌, ◌++◌, Some, All, IfOk, OnOk, string_bytes};
 ghost use Rattle.tool_commands.specs.StatusText.{status_number, status_words, stack_fault_words, limit_fault_words, cdf_fault_words, calc_fault_words};
-ghost use Rattle.tool_commands.specs.StatusText.{graph_fault_words};
+ghost use Rattle.tool_commands.specs.StatusText.{graph_fault_words, shown_char, one_line, status_line};
 ghost use Rattle.tool_commands.specs.Answers.{status_of};
 
 use cdf_read::CdfFault;
@@ -292,13 +292,42 @@ pub fn status_of(answer: Result<(), Status>) -> Status
     }
 }
 
-/// The text of a status: `status`, its number, its name, and what it carries.
+/// A text in one line: a backslash is doubled, and a control character stands as its number.
+fn one_line(alloc: Global, text: &str) -> Result<String, AllocError>
+    ensures text { IfOk result (λ t. string_bytes t ≡ one_line text.now) }
+    ensures line { IfOk result (λ t. All (λ b. b ≢ 10) (string_bytes t)) }
+{
+    let mut line = String::new(alloc);
+    for character in text.chars() {
+        push_shown(alloc, &mut line, character)?;
+    }
+    Ok(line)
+}
+
+/// Adds a character to a line.
+fn push_shown(alloc: Global, line: &mut String, character: char) -> Result<(), AllocError>
+    ensures { OnOk result (string_bytes line.new ≡ string_bytes line.old ++ shown_char character) }
+{
+    if character == '\\' {
+        line.push_str("\\\\")?;
+    } else if character.is_ascii_control() {
+        let code = format!(in alloc; "\\u{{{:x}}}", character as u32)?;
+        line.push_str(&code)?;
+    } else {
+        line.push(character)?;
+    }
+    Ok(())
+}
+
+/// The text of a status in one line: `status`, its number, its name, and what it carries.
 ///
 /// # Errors
 ///
 /// `OutOfMemory` where memory is wanting.
 pub fn status_text(alloc: Global, status: &Status) -> Result<String, OutOfMemory>
-    ensures { IfOk result (λ t. string_bytes t ≡ status_words status.now) }
+    ensures text { IfOk result (λ t. string_bytes t ≡ status_line status.now) }
+    ensures line { IfOk result (λ t. All (λ b. b ≢ 10) (string_bytes t)) }
 {
-    Ok(format!(in alloc; "{status}")?)
+    let words = format!(in alloc; "{status}")?;
+    Ok(one_line(alloc, &words)?)
 }

@@ -2,8 +2,13 @@ use Rattle.std.proofs.Common.{sym, ap, ◌∙◌}
 use Rattle.std.specs.Option.{option_map}
 use Rattle.replay_top.specs.RunWords.{run_told}
 use Rattle.replay_top.proofs.DemoRuns.{RunEnds-steady}
-use Rattle.replay_top.proofs.RunClaims.{RunEnds-read, RunEnds-refused, RunEnds-untouched, answered_run}
+use Rattle.replay_top.proofs.RunClaims.{RunEnds-read, RunEnds-refused, RunEnds-untouched, RunEnds-log, answered_run}
 use Rattle.replay_top.proofs.run.run_top.Goals as goal
+
+pub returns-in-Some-clause-holds : goal.returns-in-Some-clause-holds
+returns-in-Some-clause-holds g c =
+    rw (sym c.run_in.ensures.told ∙ ap (option_map run_told) c.in-Some.is)
+    (RunEnds-log c.run_words.result.status c.run_words.result.log (run_told c.in-Some.words) _ c.run_words.ensures.ends)
 
 pub returns-in-Some-clause-demo : goal.returns-in-Some-clause-demo
 returns-in-Some-clause-demo g c =
