@@ -2,6 +2,7 @@
 
     hints.py refusal LINE COMMAND NAME=WORD ..       what can be done after the status that LINE tells
     hints.py losses REPORT COMMAND NAME=WORD ..      what a run lost by its report, and what keeps it
+    hints.py threads ROOM COMMAND NAME=WORD ..       that a run had too few threads, where so many could be started when it began
     hints.py time CALLED COMMAND NAME=WORD ..        how long a trial build takes for a stack
     hints.py files PREFIX COMMAND NAME=WORD ..       the first file of each node of a graph that writes, each name ended by 00
 
@@ -144,7 +145,7 @@ class Graph:
 
     def __init__(self, name):
         with open(name, "rb") as file:
-            self.name, self.text = name, file.read().decode()
+            self.name, self.text = name, file.read().decode("utf-8-sig")
         self.tables = tomllib.loads(self.text)
         nodes = self.tables.get("node", [])
         self.nodes = [it for it in nodes if isinstance(it, dict)] if isinstance(nodes, list) else []
@@ -211,20 +212,28 @@ def is_of_form(value, values):
     return bool(fits(value))
 
 
-def tell_unknown_key(graph, key):
+def as_given(key):
+    """Returns a key as the graph has it, for one whose backslashes and control characters are escaped."""
+    return re.sub(r"\\(?:\\|u\{([0-9a-f]+)\})", lambda it: chr(int(it[1], 16)) if it[1] else "\\", key)
+
+
+def tell_unknown_key(graph, shown):
+    key = as_given(shown)
     top = [it for it in graph.tables if it not in ("run", "node")]
     if key in top:
         is_table = isinstance(graph.tables[key], (dict, list))
         place = "the tables are [run] and [[node]]" if is_table else "a key of a node stands below a line [[node]], and one of the run below [run]"
-        return say(f"{graph.name}: {key} is no table of a graph: {place}{near(key, ['run', 'node'])}")
+        return say(f"{graph.name}: {shown} is no table of a graph: {place}{near(key, ['run', 'node'])}")
     for number, table in enumerate([graph.run, *graph.nodes]):
         kind = table.get("kind")
         known = read_keys().get("run", {}) if number == 0 else keys_of(kind)
         if key in table and key not in known:
+            if number > 0 and key in read_keys().get("run", {}):
+                return say(f"{graph.place(number, key)}: {shown} is no key of a node: it stands under a line [run]")
             others = [it for it in KINDS if key in keys_of(it)]
             hint = near(key, known) or (f", only {' and '.join(others)} nodes have it" if others else "")
             of = "[run]" if number == 0 else f"a {kind} node"
-            return say(f"{graph.place(number, key)}: {of} has no key {key}{hint}; it may have {', '.join(known)}")
+            return say(f"{graph.place(number, key)}: {of} has no key {shown}{hint}; it may have {', '.join(known)}")
     return None
 
 
@@ -321,7 +330,7 @@ def tell_graph_text(call):
     with open(name, "rb") as file:
         data = file.read()
     try:
-        text = data.decode()
+        text = data.decode("utf-8-sig")
         tables = tomllib.loads(text)
     except UnicodeDecodeError as error:
         if data[:3] == b"CDF" or data[:4] == b"\x89HDF":
@@ -606,6 +615,29 @@ def tell_losses(report, call):
             say(f"{count('sort')} of {count('offered')} results were dropped at {name}: its sort list was full. {keeps}")
 
 
+# --- threads
+
+THREADS_OF_DEMO = 9
+
+
+def roles_that_left(log):
+    """Returns how many threads left a run before its end, by its log."""
+    with open(log, encoding="utf-8") as file:
+        return sum(line.startswith("leave ") for line in file)
+
+
+def tell_threads(room, call):
+    workers = THREADS_OF_DEMO if call.command == "demo" else sum(it.get("threads", 1) for it in Graph(call["GRAPH"]).nodes)
+    asked = workers + 1
+    then = "so the first thread did the work alone, and all files stand. Take fewer threads, or raise the limit ('ulimit -u', or pids.max of the control group)"
+    if call.command == "run-log":
+        left = roles_that_left(f"{call['PREFIX']}log.txt")
+        if left:
+            say(f"{left} of the run's {asked} threads left it, as the system made no thread for them or had no memory: {then}")
+    elif room and int(room) < asked:
+        say(f"the run asks for {asked} threads beside the first one, and {max(0, int(room))} could be started: {then}")
+
+
 # --- the files of a run
 
 ENDS_OF_FIRST_FILES = {"file": "_000.nc", "stats": ".txt"}
@@ -649,7 +681,7 @@ def tell_time(called, call):
 if __name__ == "__main__":
     what, of, *words = sys.argv[1:]
     try:
-        {"refusal": tell_refusal, "losses": tell_losses, "time": tell_time, "files": tell_files}[what](of, Call(*words))
+        {"refusal": tell_refusal, "losses": tell_losses, "threads": tell_threads, "time": tell_time, "files": tell_files}[what](of, Call(*words))
     except (OSError, ValueError, LookupError, TypeError, AttributeError):
         # What can't be told isn't told: the program's own line stands.
         said.clear()

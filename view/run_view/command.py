@@ -33,8 +33,11 @@ def make_page(prefix: str, graph_path: str, report: Optional[str], stack: Option
     """Reads a run and writes its page; answers the exit status."""
     graph = read_graph(graph_path)
     # The libraries of pictures and files take a second to load, which no wrong word has to wait for.
-    from .outputs import read_outputs
-    from .page import page_text
+    try:
+        from .outputs import read_outputs
+        from .page import page_text
+    except ModuleNotFoundError as missing:
+        raise ViewFault(f"{sys.executable} has no package {missing.name}: install what view/requirements lists, or call python3 view/nd_view") from missing
 
     outputs = read_outputs(prefix, graph, report, stack)
     name = out if out is not None else prefix + "view.html"
