@@ -23,17 +23,17 @@ compare() {
     runs=7 alternate "$work" "$@" | awk -v label="$label" '{ printf "%s: %.1f ms, %.1f ms, ratio %.2f\n", label, $1 / 1e6, $2 / 1e6, $1 / $2 }'
 }
 
-# A hundred arrays of 1,024 by 1,024 samples: one_array LABEL WORD..
-one_array() {
+# Arrays of one size in chunks, beside one thread: arrays LABEL WORD..
+arrays() {
     local label=$1
     shift
-    compare "$label, in chunks beside one thread" "$bench" chunks "$@" 1024x1024 100 -- "$bench" stats "$@" 1024x1024 100
+    compare "$label, in chunks beside one thread" "$bench" chunks "$@" -- "$bench" stats "$@"
 }
 
 cd "$work"
 for kind in UInt8 UInt16 Int32; do
-    one_array "100 arrays of 1024 x 1024 $kind, no option" $kind 8 0 0 0 0 0 0
-    one_array "100 arrays of 1024 x 1024 $kind, all options" $kind 8 128 2 256 0 255 1
+    arrays "25 arrays of 2048 x 2048 $kind, no option" $kind 8 0 0 0 0 0 0 2048x2048 25
+    arrays "100 arrays of 1024 x 1024 $kind, all options" $kind 8 128 2 256 0 255 1 1024x1024 100
 done
 for kind in UInt8 UInt16; do
     make_stack 100 1024 $kind

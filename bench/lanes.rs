@@ -417,6 +417,12 @@ fn lane_bins(kind: Kind, bytes: &[u8], sums: &mut [i32]) {
             let first = simd_swizzle!(row, [0, 2, 4, 6, 8, 10, 12, 14]).cast::<u16>();
             let second = simd_swizzle!(row, [1, 3, 5, 7, 9, 11, 13, 15]).cast::<u16>();
             (first + second).cast::<i32>() - i32x8::splat(i32::from(turn) * 2)
+        } else if kind == Int16 {
+            let pair_sums = |at: usize| {
+                let row = i32x4::from_le_bytes(swapped_words(bytes, at));
+                ((row << i32x4::splat(16)) >> i32x4::splat(16)) + (row >> i32x4::splat(16))
+            };
+            simd_swizzle!(pair_sums(k * 32), pair_sums(k * 32 + 16), [0, 1, 2, 3, 4, 5, 6, 7])
         } else {
             let row = |place: usize| -> i32x8 {
                 if kind.width() == 2 {

@@ -1,5 +1,5 @@
 -- Samples of at most 16 bits, summed in 32 bits.
-use Rattle.std.proofs.Common.{◌≡◌, ℕ, zero, suc, ◌+◌, ◌*◌, ◌<◌, ◌≤◌, List, ap, sym, ◌∙◌, arith, ℤ, ◌+ℤ◌, w8, w64, Fits, FitsSigned, take, drop, get_or}
+use Rattle.std.proofs.Common.{◌≡◌, ℕ, zero, suc, ◌+◌, ◌*◌, ◌<◌, ◌≤◌, List, ap, sym, ◌∙◌, arith, ℤ, ◌+ℤ◌, w8, w32, w64, Fits, FitsSigned, take, drop, get_or}
 use Rattle.std.specs.Prelude.{unsigned_abs}
 use Rattle.std.proofs.Math.Numerals.{add-one}
 use Rattle.std.proofs.Math.IntN.{+ℤ_assoc, +ℤ_idr}
@@ -42,6 +42,13 @@ byte_stored kind bytes p fit one =
     let small = All-from_get_or (λ b. b < 256) bytes 0 (λ i _. (fit i).fits) in
     byte kind (stored kind bytes p) (number-IsSample kind (take (width kind) (drop (p * width kind) bytes))
     (All-take (λ b. b < 256) (width kind) (drop (p * width kind) bytes) (All-drop (λ b. b < 256) (p * width kind) bytes small))) one
+
+-- the sum of two samples fits
+pub two_fit : (kind : SampleType) (bytes : List ℕ) (p : ℕ) → ((i : ℕ) → Fits w8 (get_or bytes i 0)) → width kind ≤ 2 → FitsSigned w32 (run kind bytes 2 p)
+two_fit kind bytes p fit few =
+    let first = narrow_stored kind bytes (p + 0) fit few in
+    let second = narrow_stored kind bytes (p + 1) fit few in
+    fits_signed_from_abs w32 (run kind bytes 2 p) (omega (arith, ints, first, second))
 
 -- the sum of the samples before a place and of a run from there on
 pub total-run : (kind : SampleType) (k m : ℕ) (bytes : List ℕ) → total (numbers kind (k + m) bytes) ≡ total (numbers kind k bytes) +ℤ run kind bytes m k

@@ -1,13 +1,16 @@
 -- Two samples in one word or one pair.
-use Rattle.std.proofs.Common.{◌≡◌, ◌≢◌, ℕ, ◌+◌, ◌-◌, ◌*◌, ◌/◌, ◌%◌, ◌≤◌, ℤ, pos, ◌+ℤ◌, List, [], ◌∷◌, length, get_or, take, drop, Fits, FitsSigned, w8}
+use Rattle.std.proofs.Common.{◌≡◌, ◌≢◌, ℕ, ◌+◌, ◌-◌, ◌*◌, ◌/◌, ◌%◌, ◌≤◌, suc, inl, inr, ℤ, pos, negsuc, ◌+ℤ◌, List, [], ◌∷◌, length, get_or, take, drop, Fits, FitsSigned, w8}
 use Rattle.std.proofs.Common.{to_z, of_z, ap, sym, subst, refl, ◌∙◌, arith}
 use Rattle.std.specs.Int.{w16, w32, from_be_bytes, int_wrap}
+use Rattle.std.specs.Int.Signed.{shr_z}
 use Rattle.std.specs.Prelude.{unsigned_abs}
-use Rattle.std.proofs.Math.Facts.{of_z-to_z}
-use Rattle.std.proofs.lemmas.Int.{to_z_pos, wrapping_add_is, int_wrap-add_left, SFits-int_wrap, ints}
+use Rattle.std.proofs.Math.Facts.{of_z-to_z, to_z-neg}
+use Rattle.std.proofs.lemmas.Bool.{cases_lt}
+use Rattle.std.proofs.lemmas.Int.{to_z_pos, wrapping_add_is, int_wrap-add_left, int_wrap_fits, SFits-int_wrap, ints}
 use Rattle.std.proofs.lemmas.List.{drop-drop, length-drop}
 use Rattle.nd_base.specs.declared.array.SampleType.{SampleType}
-use Rattle.nd_base.specs.declared.array.SampleType.TheVariants.{UInt8, UInt16}
+use Rattle.nd_base.specs.declared.array.SampleType.TheVariants.{UInt8, Int16, UInt16}
+use Rattle.nd_base.specs.SampleLaws.{signed_16}
 use Rattle.lane_kernels.specs.Plain.{stored, run, square_run}
 use Rattle.lane_kernels.proofs.Narrow.{narrow_stored, byte_stored, square_run-more}
 use Rattle.lane_kernels.proofs.Wraps.{sum_below-more}
@@ -36,6 +39,40 @@ high_half word high low e h = omega (arith, e, h)
 
 low_half : (word high low : ℕ) → word ≡ high * 65536 + low → low ≤ 65535 → word % 65536 ≡ low
 low_half word high low e h = omega (arith, e, h)
+
+-- a shift by 16 leaves the high half, with its sign
+half : (high low : ℕ) → high ≤ 65535 → low ≤ 65535 → shr_z (to_z w32 (high * 65536 + low)) 65536 ≡ to_z w16 high
+half high low h k = elim (cases_lt high 32768) [
+  | inl l ↦
+      let e : (high * 65536 + low) / 65536 ≡ high = omega (arith, k) in
+      ap (λ z. shr_z z 65536) (to_z_pos w32 (high * 65536 + low) (omega (arith, l, k))) ∙ ap pos e ∙ sym (to_z_pos w16 high l)
+  | inr g ↦
+      let m = 65535 - high in
+      let r = 65535 - low in
+      let e : high * 65536 + low ≡ 4294967296 - suc (m * 65536 + r) = omega (arith, h, k) in
+      let f : high ≡ 65536 - suc m = omega (arith, h) in
+      let back : (m * 65536 + r) / 65536 ≡ m = omega arith in
+      ap (λ w. shr_z (to_z w32 w) 65536) e ∙ ap (λ z. shr_z z 65536) (to_z-neg w32 (m * 65536 + r) (omega (arith, g)))
+      ∙ ap negsuc back ∙ sym (ap (to_z w16) f ∙ to_z-neg w16 m (omega (arith, g)))
+]
+
+-- the two halves of a lane of 32 bits, each with its sign
+abbrev pub signed_halves : ℕ → ℤ
+signed_halves b = to_z w32 ((of_z w32 (shr_z (to_z w32 (b * 65536 % 4294967296)) 65536) + of_z w32 (shr_z (to_z w32 b) 65536)) % 4294967296)
+
+-- their sum
+signed_halves_sum : (word high low : ℕ) → word ≡ high * 65536 + low → high ≤ 65535 → low ≤ 65535 → signed_halves word ≡ pos 0 +ℤ to_z w16 high +ℤ to_z w16 low
+signed_halves_sum word high low e h k =
+    let one = ap (λ w. shr_z (to_z w32 w) 65536) e ∙ half high low h k in
+    let moved : word * 65536 % 4294967296 ≡ low * 65536 + 0 = omega (arith, e, h, k) in
+    let two = ap (λ w. shr_z (to_z w32 w) 65536) moved ∙ half low 0 k (omega arith) in
+    let f : FitsSigned w16 (to_z w16 high) = signed_16 high (omega (arith, h)) in
+    let g : FitsSigned w16 (to_z w16 low) = signed_16 low (omega (arith, k)) in
+    let turned : to_z w16 low +ℤ to_z w16 high ≡ pos 0 +ℤ to_z w16 high +ℤ to_z w16 low = omega (arith, ints) in
+    ap (λ z. to_z w32 ((of_z w32 z + of_z w32 (shr_z (to_z w32 word) 65536)) % 4294967296)) two
+    ∙ ap (λ z. to_z w32 ((of_z w32 (to_z w16 low) + of_z w32 z) % 4294967296)) one
+    ∙ wrapping_add_is w32 (to_z w16 low) (to_z w16 high) (omega (arith, ints, g)) (omega (arith, ints, f))
+    ∙ int_wrap_fits w32 (to_z w16 low +ℤ to_z w16 high) (omega (arith, ints, f, g)) ∙ turned
 
 -- the two numbers in the four bytes at a place
 module _ (input : List ℕ) (place : ℕ) (fit : (i : ℕ) → Fits w8 (get_or input i 0)) where
@@ -72,6 +109,15 @@ module _ (input : List ℕ) (place : ℕ) (fit : (i : ℕ) → Fits w8 (get_or i
         let low = narrow_stored UInt16 input (place + 1) fit (omega arith) in
         let both = halves_sum word first second split low in
         to_z_pos w32 (word / 65536 + word % 65536) (omega (arith, high, low, both)) ∙ two_of_word
+
+    -- the sum of the two with a sign
+    pub signed_two_of_word : signed_halves word ≡ run Int16 input 2 place
+    signed_two_of_word =
+        let high = narrow_stored UInt16 input place fit (omega arith) in
+        let low = narrow_stored UInt16 input (place + 1) fit (omega arith) in
+        let here : place ≡ place + 0 = omega arith in
+        signed_halves_sum word first second split high low
+        ∙ ap (λ p. pos 0 +ℤ stored Int16 input p +ℤ stored Int16 input (place + 1)) here
 
 pair_halves : (bs : List ℕ) → 2 ≤ length bs → from_be_bytes w16 (take 2 bs) ≡ from_be_bytes w8 (take 1 bs) * 256 + from_be_bytes w8 (take 1 (drop 1 bs))
 pair_halves [] h = absurd (omega arith)

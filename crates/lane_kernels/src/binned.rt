@@ -1,13 +1,13 @@
 //! Binned lines.
 
-ghost use Rattle.std.specs.Prelude.{◌≡◌, ℕ, ◌+◌, ◌*◌, ◌/◌, ◌<◌, ◌≤◌, length, pos, ◌+ℤ◌, slice_index_or, map, FitsSigned};
+ghost use Rattle.std.specs.Prelude.{◌≡◌, ◌≢◌, ℕ, ◌+◌, ◌*◌, ◌/◌, ◌<◌, ◌≤◌, length, pos, ◌+ℤ◌, slice_index_or, map, FitsSigned};
 ghost use Rattle.std.specs.Int.{w32, w64, int_wrap};
 ghost use Rattle.std.specs.List.{range_with_len};
 ghost use Rattle.nd_base.specs.Samples.{width};
-ghost use Rattle.nd_base.specs.declared.array.SampleType.TheVariants.{UInt8, UInt16};
+ghost use Rattle.nd_base.specs.declared.array.SampleType.TheVariants.{UInt8, Int16, UInt16};
 ghost use Rattle.lane_kernels.specs.Plain.{stored, run};
 
-use crate::lanes::byte_lanes;
+use crate::lanes::{byte_lanes, signed_words_at};
 use crate::sample::{low_word, sample_at};
 use nd_base::{SampleType, pair_at, word_at};
 use std::simd::prelude::*;
@@ -185,7 +185,7 @@ fn add_byte_pairs(input: &[u8], place: usize, sums: &mut [i64])
 
 /// The sums of each two of the sixteen samples of 8 bits from a place on, in 32 bits.
 #[inline(always)]
-fn low_pair_sums(kind: SampleType, line: &[u8], place: usize) -> i32x8
+fn byte_pair_sums(kind: SampleType, line: &[u8], place: usize) -> i32x8
     requires byte { width kind ≡ 1 }
     requires room { place + 16 ≤ length line.now }
     ensures { result ≡ map (λ k. run kind line.now 2 (place + k * 2)) (range_with_len 0 8) }
@@ -198,12 +198,42 @@ fn low_pair_sums(kind: SampleType, line: &[u8], place: usize) -> i32x8
     }
 }
 
-/// Adds two samples of 8 bits to each of eight sums of 32 bits, those from a place on to the first. The compiler adds them in lanes.
+/// The sums of each two of the eight samples of 16 bits with a sign from a place on. Shifts take the two out of each word, with their signs.
+#[inline(always)]
+fn signed_pair_sums(line: &[u8], place: usize) -> i32x4
+    requires { place * 2 + 16 ≤ length line.now }
+    ensures { result ≡ map (λ k. run Int16 line.now 2 (place + k * 2)) (range_with_len 0 4) }
+{
+    let row = signed_words_at(line, place * 2);
+    ((row << 16) >> 16) + (row >> 16)
+}
+
+/// The sums of each two of the sixteen samples from a place on, of 8 bits or of 16 with a sign, in 32 bits.
+#[inline(always)]
+fn low_pair_sums(kind: SampleType, line: &[u8], place: usize) -> i32x8
+    requires narrow { width kind ≤ 2 }
+    requires other { kind ≢ UInt16 }
+    requires room { place + 16 ≤ length line.now / width kind }
+    ensures { result ≡ map (λ k. run kind line.now 2 (place + k * 2)) (range_with_len 0 8) }
+{
+    match kind {
+        SampleType::Int16 => {
+            let first = signed_pair_sums(line, place);
+            let second = signed_pair_sums(line, place + 8);
+            first.shuffle(second, [0, 1, 2, 3, 4, 5, 6, 7])
+        }
+        _ => byte_pair_sums(kind, line, place),
+    }
+}
+
+/// Adds two samples of 8 bits, or of 16 with a sign, to each of eight sums of 32 bits, those from a place on to the first. The compiler
+/// adds them in lanes.
 #[inline(always)]
 #[tactic(auto, using(crate::proofs::Wraps::wrapping))]
 fn add_low_lanes(kind: SampleType, line: &[u8], place: usize, sums: &mut [i32])
-    requires byte { width kind ≡ 1 }
-    requires room { place + 16 ≤ length line.now }
+    requires narrow { width kind ≤ 2 }
+    requires other { kind ≢ UInt16 }
+    requires room { place + 16 ≤ length line.now / width kind }
     requires lanes { length sums.old ≡ 8 }
     ensures { (k : ℕ) → k < length sums.new
         → slice_index_or sums.new k (pos 0) ≡ int_wrap w32 (slice_index_or sums.old k (pos 0) +ℤ run kind line.now 2 (place + k * 2)) }
@@ -214,10 +244,11 @@ fn add_low_lanes(kind: SampleType, line: &[u8], place: usize, sums: &mut [i32])
     }
 }
 
-/// Adds two samples of 8 bits to each sum of 32 bits, those from the line's start on to the first.
+/// Adds two samples of 8 bits, or of 16 with a sign, to each sum of 32 bits, those from the line's start on to the first.
 fn add_low_pairs(kind: SampleType, line: &[u8], sums: &mut [i32])
-    requires byte { width kind ≡ 1 }
-    requires within { length sums.old * 2 ≤ length line.now }
+    requires narrow { width kind ≤ 2 }
+    requires other { kind ≢ UInt16 }
+    requires within { length sums.old * 2 ≤ length line.now / width kind }
     ensures { (k : ℕ) → k < length sums.new
         → slice_index_or sums.new k (pos 0) ≡ int_wrap w32 (slice_index_or sums.old k (pos 0) +ℤ run kind line.now 2 (k * 2)) }
 {
@@ -227,7 +258,7 @@ fn add_low_pairs(kind: SampleType, line: &[u8], sums: &mut [i32])
         add_low_lanes(kind, line, done * 2, &mut sums[done..end]);
         done = end;
     }
-    add_low_each(kind, &line[done * 2..], 2, &mut sums[done..]);
+    add_low_each(kind, &line[done * 2 * kind.width()..], 2, &mut sums[done..]);
 }
 
 /// Adds `bin` samples to each sum. The usual bins have code of their own.
@@ -256,7 +287,7 @@ pub(crate) fn add_low_runs(kind: SampleType, line: &[u8], bin: usize, sums: &mut
 {
     match bin {
         1 => add_low_each(kind, line, 1, sums),
-        2 if kind.width() == 1 => add_low_pairs(kind, line, sums),
+        2 if kind.width() == 1 || kind == SampleType::Int16 => add_low_pairs(kind, line, sums),
         2 => add_low_each(kind, line, 2, sums),
         3 => add_low_each(kind, line, 3, sums),
         4 => add_low_each(kind, line, 4, sums),

@@ -16,8 +16,11 @@ use rayon::prelude::*;
 use std::alloc::Global;
 use std::thread::Threads;
 
-/// How few samples are worth a thread of their own.
+/// How few samples are worth a thread of their own where they are counted in a histogram, which takes most of a measure's time.
 const LEAST: usize = 32_768;
+
+/// How few are where they aren't: a thread starts in the time in which some hundred thousand samples are measured.
+const LEAST_UNCOUNTED: usize = 1_048_576;
 
 /// How many samples a chunk has at least for each sum of its lists, of which each chunk has its own.
 const FOR_EACH_SUM: usize = 8;
@@ -38,7 +41,12 @@ fn sums_of(rule: &StatsRule, dims: &[Dim]) -> usize
 fn worth(rule: &StatsRule, dims: &[Dim], count: usize) -> usize
     requires { IsStats rule.now }
 {
-    count / LEAST.max(FOR_EACH_SUM * sums_of(rule, dims))
+    let least = if rule.hist_size == 0 {
+        LEAST_UNCOUNTED
+    } else {
+        LEAST
+    };
+    count / least.max(FOR_EACH_SUM * sums_of(rule, dims))
 }
 
 /// The bytes of chunk `k`, where a chunk has `size` samples.

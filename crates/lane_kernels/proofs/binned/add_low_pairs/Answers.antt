@@ -1,4 +1,4 @@
-use Rattle.std.proofs.Common.{◌≡◌, ℕ, ◌+◌, ◌-◌, ◌*◌, ◌<◌, ◌≤◌, inl, inr, List, length, drop, take, get_or, pos, ◌+ℤ◌, ℤ, arith, ap, sym, ◌∙◌}
+use Rattle.std.proofs.Common.{◌≡◌, ℕ, ◌+◌, ◌-◌, ◌*◌, ◌<◌, ◌≤◌, inl, inr, List, length, drop, take, get_or, pos, ◌+ℤ◌, ℤ, arith, ap, ◌∙◌}
 use Rattle.std.proofs.lemmas.Bool.{cases_lt}
 use Rattle.std.specs.Int.{w32, int_wrap}
 use Rattle.nd_base.specs.declared.array.SampleType.{SampleType}
@@ -9,11 +9,10 @@ use Rattle.lane_kernels.proofs.Slices.{slice_behind, stored_behind}
 use Rattle.lane_kernels.proofs.binned.add_low_pairs.Goals as goal
 
 -- the samples of a line from a place on
-run_behind : (kind : SampleType) (p q : ℕ) (line : List ℕ) → width kind ≡ 1 → run kind (drop p line) 2 q ≡ run kind line 2 (p + q)
-run_behind kind p q line one =
-    let there : p ≡ p * width kind = (let alone : p ≡ p * 1 = omega arith in alone) ∙ ap (λ w. p * w) (sym one) in
-    let sample : (j : ℕ) → stored kind (drop p line) (q + j) ≡ stored kind line (p + q + j) = λ j.
-    ap (λ at. stored kind (drop at line) (q + j)) there ∙ stored_behind kind p (q + j) line ∙ ap (stored kind line) (omega arith) in
+run_behind : (kind : SampleType) (p q : ℕ) (line : List ℕ) → run kind (drop (p * width kind) line) 2 q ≡ run kind line 2 (p + q)
+run_behind kind p q line =
+    let sample : (j : ℕ) → stored kind (drop (p * width kind) line) (q + j) ≡ stored kind line (p + q + j) = λ j.
+    stored_behind kind p (q + j) line ∙ ap (stored kind line) (omega arith) in
     λ i. pos 0 +ℤ sample 0 i +ℤ sample 1 i
 
 pub loop-sums-preserved : goal.loop-sums-preserved
@@ -50,8 +49,8 @@ returns c = λ i h.
     let same : length part ≡ n = omega arith in
     let at : (i : ℕ) → done * 2 + i * 2 ≡ 0 + done * 2 + i * 2 = λ i. omega arith in
     let each = λ (i : ℕ) (h : i < length part). c.add_low_each.ensures i h
-    ∙ ap (λ z. int_wrap w32 (get_or (take n (drop done sums)) i (pos 0) +ℤ z)) (ap (λ l. run kind l 2 (i * 2)) (slice_behind (done * 2) line)
-    ∙ run_behind kind (done * 2) (i * 2) line c.requires.byte ∙ ap more (at i)) in
+    ∙ ap (λ z. int_wrap w32 (get_or (take n (drop done sums)) i (pos 0) +ℤ z)) (ap (λ l. run kind l 2 (i * 2)) (slice_behind (done * 2 * c.width.result) line
+    ∙ ap (λ w. drop (done * 2 * w) line) c.width.ensures) ∙ run_behind kind (done * 2) (i * 2) line ∙ ap more (at i)) in
     let here : 0 + i * 2 ≡ i * 2 = omega arith in
     elim (cases_lt i done) [
       | inl b ↦ with_part-before done n sums part (pos 0) within same i b ∙ c.loop-sums.invariant.added i b
