@@ -23,6 +23,6 @@ pub use laws::{
     queues_are_in_order, queues_count, rings_are_windows, texts_tell_entries,
 };
 pub use log::Log;
-pub use progress::{Progress, Quiet, Watch};
+pub use progress::{KeptNotes, Progress, Quiet, Watch};
 pub use read::{LogFault, read_text};
 pub use write::write_text;

@@ -51,6 +51,14 @@ impl Log {
         self.entries.push_reserved(entry);
     }
 
+    /// How many entries there are.
+    pub fn len(&self) -> u32
+        ensures { result ≡ length self.now.past }
+    {
+        prove!(self.entries.len() <= self.room as usize);
+        self.entries.len() as u32
+    }
+
     /// The entries in their order, the oldest first.
     pub fn entries(&self) -> &[Entry]
         ensures { result.now ≡ reverse self.now.past }

@@ -1,8 +1,8 @@
-//! The worked log both ways, each kind of entry once, and texts that are none of a log.
+//! The worked log both ways, each kind of entry once, texts that are none of a log, and notes that are kept.
 
 ghost use Rattle.std.specs.Prelude.{◌≤◌, length};
 
-use crate::{Entry, Log, LogFault, Why, read_text, write_text};
+use crate::{Entry, KeptNotes, Log, LogFault, Progress, Watch, Why, read_text, write_text};
 use nd_base::OutOfMemory;
 use std::alloc::Global;
 use std::test::Fail;
@@ -298,5 +298,29 @@ fn the_first_bad_line_is_named(rt: HostRuntime) -> Result<(), Fail> {
             assert_eq!(rt; fault, LogFault::Line { n }, "{text}");
         }
     }
+    Ok(())
+}
+
+/// What is noted after `entries` entries.
+fn progress_at(entries: u32) -> Progress {
+    Progress {
+        entries,
+        offered: 0,
+        dropped: 0,
+        saved: 0,
+        left: false,
+        done: false,
+    }
+}
+
+#[test]
+fn notes_are_kept_in_their_order(rt: HostRuntime) -> Result<(), Fail> {
+    let mut watch = KeptNotes::new(rt.alloc());
+    for entries in [3, 8, 8] {
+        watch.note(rt.alloc(), &progress_at(entries))?;
+    }
+    let kept = [progress_at(3), progress_at(8), progress_at(8)];
+    assert_eq!(rt; watch.notes(), kept.as_slice());
+    assert_eq!(rt; watch.refused(), 0);
     Ok(())
 }

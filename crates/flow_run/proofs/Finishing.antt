@@ -1,8 +1,9 @@
 -- What is left of a run, from the board on which all roles have ended to its end.
-use Rattle.std.proofs.Common.{◌≡◌, ℕ, ◌+◌, ◌<◌, Bool, true, false, List, [], ◌∷◌, length, refl, sym, ◌∙◌, subst, arith, Option, Some}
+use Rattle.std.proofs.Common.{◌≡◌, ℕ, ◌+◌, ◌<◌, Bool, true, false, List, [], ◌∷◌, ◌++◌, length, refl, sym, ap, ◌∙◌, subst, arith, Option, Some}
 use Rattle.std.specs.Prelude.{slice_get, is_err, OnOk, OnErr, Result, Ok, Err}
 use Rattle.std.specs.List.{list_all}
 use Rattle.std.proofs.lemmas.Bool.{and_parts, false≢true}
+use Rattle.std.proofs.lemmas.List.{append_assoc}
 use Rattle.nd_base.specs.Array.{StackValue}
 use Rattle.nd_base.specs.GraphRules.{IsGraph}
 use Rattle.nd_base.specs.declared.graph.Graph.{Graph}
@@ -23,7 +24,7 @@ use Rattle.board_rules.specs.Movers.{moves_by}
 use Rattle.board_rules.specs.Leaving.{MayReclaim}
 use Rattle.board_rules.specs.RunMeasures.{run_setting}
 use Rattle.flow_roles.specs.Passes.{Pass}
-use Rattle.flow_roles.specs.TurnPasses.{BeginsWith}
+use Rattle.flow_roles.specs.TurnPasses.{BeginsWith, HasMade}
 use Rattle.flow_roles.specs.Feeder.{name_of, parts_of}
 use Rattle.flow_drain.specs.Drains.{IsDrained, DrainMoves, taken_back}
 use Rattle.graph_files.specs.NodeFiles.{NodeFile}
@@ -33,6 +34,10 @@ use Rattle.flow_saver.specs.HistoryFiles.{HoldsGroupsOf}
 use Rattle.flow_saver.specs.Ending.{IsTornHistory}
 use Rattle.file_out.specs.declared.fault.SaveFault.{SaveFault}
 use Rattle.flow_journal.specs.Pasts.{Past}
+use Rattle.flow_journal.specs.Notes.{Watched}
+use Rattle.board_rules.proofs.Pasts.{past-append}
+use Rattle.flow_saver.specs.Turns.{AreNotesOf}
+use Rattle.flow_run.specs.RunNotes.{HasNotesOf}
 use Rattle.flow_run.specs.RunFiles.{HasSavedRun}
 use Rattle.flow_drain.proofs.Growth.{drain-keeps}
 use Rattle.flow_drain.proofs.Stored.{back-keeps}
@@ -133,3 +138,33 @@ saved-run g stack P held Saving prefix before (Ok x) fault is a ok err =
     subst (λ (b : Bool). HasSavedRun g stack prefix P before b held) (sym is) (ok prefix before a)
 saved-run g stack P held Saving prefix before (Err e) fault is a ok err =
     subst (λ (b : Bool). HasSavedRun g stack prefix P before b held) (sym is) (err prefix before a)
+
+-- THE LOG
+
+-- it begins with what stood when all roles had ended
+pub run-begins : (s : Setting) (joined ready done ended : BoardState) → RestMoves s joined ready → BeginsWith done ready → RestMoves s done ended
+    → (newer : Past) × (past ended ≡ newer ++ past joined)
+run-begins s joined ready done ended first grown rest =
+    let more : BoardState = rest.0 ++ (grown.0 ++ first.0) in
+    let whole : ended ≡ more ++ joined =
+    rest.1
+    ∙ (ap (λ (b : BoardState). rest.0 ++ b)
+    (grown.1 ∙ (ap (λ (b : BoardState). grown.0 ++ b) first.1 ∙ sym (append_assoc grown.0 first.0 joined)))
+    ∙ sym (append_assoc rest.0 (grown.0 ++ first.0) joined)) in
+    (past more, ap past whole ∙ past-append more joined)
+
+-- and so with what the role that saves had seen
+pub run-notes : (s : Setting) (log : Past) (b : BoardState) (p : Pass) (want : Bool) (old new : Watched) → HasMade b p
+    → (newer : Past) × (log ≡ newer ++ past b) → AreNotesOf s (past p.seen) want old new → HasNotesOf s log old new
+run-notes s log b p want old new made h notes =
+    let grown = made.seen in
+    record {
+      seen = past p.seen;
+      newer = h.0 ++ past grown.0;
+      begins =
+          h.1
+          ∙ (ap (λ (P : Past). h.0 ++ P) (ap past grown.1 ∙ past-append grown.0 p.seen)
+          ∙ sym (append_assoc h.0 (past grown.0) (past p.seen)));
+      want = want;
+      notes = notes;
+    }

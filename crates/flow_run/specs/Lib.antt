@@ -4,3 +4,4 @@ pub mod Seats
 pub mod Joined
 pub mod RunFiles
 pub mod SaverEnds
+pub mod RunNotes

@@ -1,6 +1,6 @@
 //! A whole run.
 
-ghost use Rattle.std.specs.Prelude.{◌≡◌, ℕ, true, List, [], Option, IfOk, OnOk};
+ghost use Rattle.std.specs.Prelude.{◌≡◌, ◌++◌, ℕ, true, List, [], Option, IfOk, OnOk};
 ghost use Rattle.nd_base.specs.GraphRules.{IsGraph};
 ghost use Rattle.nd_stack.specs.KeptStacks.{IsKeptStack};
 ghost use Rattle.chain_plain.specs.Plans.{plan_of};
@@ -12,6 +12,8 @@ ghost use Rattle.graph_files.specs.OpenFiles.{file_nodes};
 ghost use Rattle.edge_traits.specs.Ticks.{Coming};
 ghost use Rattle.edge_traits.specs.Files.{Files};
 ghost use Rattle.flow_journal.specs.Setting.{last_role};
+ghost use Rattle.flow_journal.specs.Pasts.{Past};
+ghost use Rattle.board_rules.specs.States.{past};
 ghost use Rattle.flow_roles.specs.Passes.{Pass};
 ghost use Rattle.flow_saver.specs.Saver.{CountsSo, CountsStep};
 ghost use Rattle.flow_saver.specs.Remaining.{RestMoves, IsSavingAlone};
@@ -19,6 +21,7 @@ ghost use Rattle.flow_run.specs.Joined.{IsJoined, IsFedUntil};
 ghost use Rattle.flow_run.specs.Strangers.{AreOwnMoves};
 ghost use Rattle.flow_run.specs.Ticks.{IsFedByTheClock};
 ghost use Rattle.flow_run.specs.RunFiles.{SaverLeaves, HasSavedRun};
+ghost use Rattle.flow_run.specs.RunNotes.{HasNotesOf};
 
 use crate::seats::{Dealt, deal, gather};
 use crate::threads::run_roles;
@@ -113,6 +116,7 @@ fn finish_run<R: Run, B: BoardCalls<Frame<R>>, K: Shelf, C: Clock>(
     ensures ticks { IfOk result (λ end. (old : Option Coming) → IsFedUntil (run_setting R.graph R.stack) (B.shown board) old (C.coming clock.old)
         → IsFedByTheClock (run_setting R.graph R.stack) end.log.past old (C.coming clock.new)) }
     ensures storage { IfOk result (λ end. is_never_regrown end.log.past ≡ true) }
+    ensures begins { IfOk result (λ end. (newer : Past) × (end.log.past ≡ newer ++ past (B.shown board))) }
 {
     let mut board = board;
     let mut files = files;
@@ -176,6 +180,8 @@ pub fn play_run<
     ensures roles { IfOk result (λ end. AreOwnMoves (run_setting R.graph R.stack) end.log.past) }
     ensures ticks { IfOk result (λ end. IsFedByTheClock (run_setting R.graph R.stack) end.log.past (C.coming clock.old) (C.coming clock.new)) }
     ensures storage { IfOk result (λ end. is_never_regrown end.log.past ≡ true) }
+    ensures notes { IfOk result (λ end. HasNotesOf (run_setting R.graph R.stack) end.log.past (N.watched watch.old) (N.watched watch.new)) }
+    ensures home { N.home watch.new ≡ N.home watch.old }
 {
     let nodes = worker_nodes::<R>(alloc, plan)?;
     let role = nodes.len() as u32 + 1;

@@ -7,7 +7,9 @@ ghost use Rattle.chain_plain.specs.Plans.{plan_of};
 ghost use Rattle.flow_journal.specs.Setting.{last_role};
 ghost use Rattle.board_rules.specs.RunMeasures.{run_setting};
 ghost use Rattle.flow_roles.specs.TurnPasses.{known_by, IsPassOf, IsFreshOf};
+ghost use Rattle.board_rules.specs.States.{past};
 ghost use Rattle.flow_saver.specs.Saver.{CountsSo};
+ghost use Rattle.flow_saver.specs.Turns.{AreNotesOf};
 ghost use Rattle.flow_run.specs.SaverEnds.{SaverBegins, SaverEnds};
 ghost use Rattle.flow_roles.specs.Workers as roles;
 ghost use Rattle.flow_roles.specs.Workers.{workers};
@@ -154,6 +156,9 @@ fn save_at<R: Run, B: BoardCalls<Frame<R>>, K: Shelf, N: Watch, G: Gate, W: Wait
     ensures end { SaverEnds (λ p. IsPassOf desk.now.id p.inner) (λ p. known_by p.inner p.last) R.graph R.stack (K.held shelf.old) begins.old
         result.pass result.left result.files result.fault (K.held shelf.new) }
     ensures fault { CountsSo result.fault (K.faults shelf.old) (K.faults shelf.new) }
+    ensures notes { AreNotesOf (run_setting R.graph R.stack) (past (known_by result.pass.inner result.pass.last).seen) result.want
+        (N.watched watch.old) (N.watched watch.new) }
+    ensures home { N.home watch.new ≡ N.home watch.old }
 {
     let Some((pass, files)) = begins.take() else {
         unreachable!()
@@ -203,6 +208,9 @@ fn feed_and_save<
     ensures end { SaverEnds (λ p. IsPassOf desk.now.id p.inner) (λ p. known_by p.inner p.last) R.graph R.stack (K.held shelf.old) begins.old
         result.pass result.left result.files result.fault (K.held shelf.new) }
     ensures fault { CountsSo result.fault (K.faults shelf.old) (K.faults shelf.new) }
+    ensures notes { AreNotesOf (run_setting R.graph R.stack) (past (known_by result.pass.inner result.pass.last).seen) result.want
+        (N.watched watch.old) (N.watched watch.new) }
+    ensures home { N.home watch.new ≡ N.home watch.old }
 {
     let begins = lend_on(begins);
     let (_, end) = work_beside(
@@ -218,7 +226,10 @@ fn feed_and_save<
             ensures { SaverEnds (λ p. IsPassOf desk.entry.now.id p.inner) (λ p. known_by p.inner p.last) R.graph R.stack
                 (K.held shelf.entry.now) begins.entry.now
                 result.pass result.left result.files result.fault (K.held shelf.exit.now)
-                × CountsSo result.fault (K.faults shelf.entry.now) (K.faults shelf.exit.now) }
+                × CountsSo result.fault (K.faults shelf.entry.now) (K.faults shelf.exit.now)
+                × AreNotesOf (run_setting R.graph R.stack) (past (known_by result.pass.inner result.pass.last).seen) result.want
+                (N.watched watch.entry.now) (N.watched watch.exit.now)
+                × (N.home watch.exit.now ≡ N.home watch.entry.now) }
         { save_at(rt, alloc, desk, role, stack, gate, watch, shelf, begins) },
     );
     end
@@ -267,6 +278,9 @@ pub(crate) fn run_roles<
     ensures end { SaverEnds (λ p. IsPassOf desk.now.id p.inner) (λ p. known_by p.inner p.last) R.graph R.stack (K.held shelf.old) begins.old
         result.pass result.left result.files result.fault (K.held shelf.new) }
     ensures fault { CountsSo result.fault (K.faults shelf.old) (K.faults shelf.new) }
+    ensures notes { AreNotesOf (run_setting R.graph R.stack) (past (known_by result.pass.inner result.pass.last).seen) result.want
+        (N.watched watch.old) (N.watched watch.new) }
+    ensures home { N.home watch.new ≡ N.home watch.old }
 {
     let begins = lend_on(begins);
     work_all(
@@ -285,7 +299,10 @@ pub(crate) fn run_roles<
                 × SaverEnds (λ p. IsPassOf desk.entry.now.id p.inner) (λ p. known_by p.inner p.last) R.graph R.stack
                 (K.held shelf.entry.now) begins.entry.now
                 result.pass result.left result.files result.fault (K.held shelf.exit.now)
-                × CountsSo result.fault (K.faults shelf.entry.now) (K.faults shelf.exit.now) }
+                × CountsSo result.fault (K.faults shelf.entry.now) (K.faults shelf.exit.now)
+                × AreNotesOf (run_setting R.graph R.stack) (past (known_by result.pass.inner result.pass.last).seen) result.want
+                (N.watched watch.entry.now) (N.watched watch.exit.now)
+                × (N.home watch.exit.now ≡ N.home watch.entry.now) }
         {
             feed_and_save(
                 rt, alloc, desk, role, stack, gate, watch, shelf, begins, clock, feeder,

@@ -8,6 +8,7 @@ pub mod Steps
 pub mod Giving
 pub mod Writing
 pub mod SaveOne
+pub mod Turning
 pub mod Beginning
 pub mod Counting
 pub mod Alone

@@ -2,6 +2,7 @@ pub mod GivenBack
 pub mod HistoryFiles
 pub mod Pieces
 pub mod Saver
+pub mod Turns
 pub mod Remaining
 pub mod Ending
 pub mod ReadBack

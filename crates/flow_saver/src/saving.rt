@@ -1,11 +1,12 @@
 //! The role that saves.
 
-ghost use Rattle.std.specs.Prelude.{◌≡◌, ◌<◌, ℕ, List, [], Option, true, false, length, map, is_some, IsTrue};
+ghost use Rattle.std.specs.Prelude.{◌≡◌, ◌<◌, ℕ, List, [], Option, Some, true, false, length, map, is_some, slice_get, IsTrue};
 ghost use Rattle.std.specs.Option.{option_map};
 ghost use Rattle.std.specs.List.{list_all};
 ghost use Rattle.nd_base.specs.GraphRules.{IsGraph};
 ghost use Rattle.edge_traits.specs.Files.{Files};
 ghost use Rattle.nd_stack.specs.KeptStacks.{IsKeptStack};
+ghost use Rattle.graph_files.specs.NodeFiles.{NodeFile};
 ghost use Rattle.flow_journal.specs.Setting.{last_role};
 ghost use Rattle.flow_journal.specs.Hands.{hand};
 ghost use Rattle.flow_journal.specs.Unsaved.{standing_saves};
@@ -16,6 +17,7 @@ ghost use Rattle.graph_files.specs.OpenFiles.{closed, file_nodes};
 ghost use Rattle.flow_saver.specs.GivenBack.{given_back};
 ghost use Rattle.flow_saver.specs.Saver.{saver_ends, piece_of, IsPieceOfHand, AreSaved, CountsSo, Start, IsSaving, IsToGiveBack, StepLeaves, RoleLeaves};
 ghost use Rattle.flow_saver.specs.Saver.{CountsStep};
+ghost use Rattle.flow_saver.specs.Turns.{AreNotesOf, HasGoneOn, AreNone, AreAt, Falls};
 
 use crate::DuePiece;
 use crate::piece::write_due;
@@ -57,6 +59,7 @@ fn give_back<R: Run, D: Desk<Frame<R>>, W: Wait>(
     ensures ours { D.ours desk.now pass.new }
     ensures given { (start : Start) (held : Option Files) → IsToGiveBack R.graph R.stack start role (D.knows pass.old) files.now fault held piece
         → IsSaving R.graph R.stack start role (D.knows pass.new) files.now fault held }
+    ensures goes { HasGoneOn (run_setting R.graph R.stack) AreNone (D.knows pass.old) (D.knows pass.new) }
 {
     let Ok(()) = desk.saved(rt, alloc, pass, role, piece) else {
         unreachable!()
@@ -88,6 +91,9 @@ fn save_one<R: Run, D: Desk<Frame<R>>, K: Shelf, W: Wait>(
         → StepLeaves R.graph R.stack start role result (D.knows pass.new) files.new fault.new (K.held shelf.new) }
     ensures count { length files.new ≡ length files.old }
     ensures cause { CountsStep fault.old fault.new (K.faults shelf.old) (K.faults shelf.new) (K.held shelf.old) (K.held shelf.new) }
+    ensures goes { (start : Start) → IsSaving R.graph R.stack start role (D.knows pass.old) files.old fault.old (K.held shelf.old)
+        → (x : NodeFile) → slice_get (file_nodes R.graph R.stack start.prefix) at ≡ Some x
+        → HasGoneOn (run_setting R.graph R.stack) (AreAt x.node) (D.knows pass.old) (D.knows pass.new) }
 {
     let node = files.node(at);
     match desk.save(rt, alloc, pass, role, node) {
@@ -141,6 +147,9 @@ fn save_node<R: Run, D: Desk<Frame<R>>, K: Shelf, W: Wait>(
         → StepLeaves R.graph R.stack start role result (D.knows pass.new) files.new fault.new (K.held shelf.new) }
     ensures count { length files.new ≡ length files.old }
     ensures cause { CountsStep fault.old fault.new (K.faults shelf.old) (K.faults shelf.new) (K.held shelf.old) (K.held shelf.new) }
+    ensures goes { (start : Start) → IsSaving R.graph R.stack start role (D.knows pass.old) files.old fault.old (K.held shelf.old)
+        → (x : NodeFile) → slice_get (file_nodes R.graph R.stack start.prefix) at ≡ Some x
+        → HasGoneOn (run_setting R.graph R.stack) (AreAt x.node) (D.knows pass.old) (D.knows pass.new) }
 {
     let mut any = false;
     for _ in rt.forever() {
@@ -175,6 +184,8 @@ fn save_turn<R: Run, D: Desk<Frame<R>>, K: Shelf, W: Wait>(
     ensures leaves { (start : Start) → IsSaving R.graph R.stack start role (D.knows pass.old) files.old fault.old (K.held shelf.old)
         → StepLeaves R.graph R.stack start role result (D.knows pass.new) files.new fault.new (K.held shelf.new) }
     ensures cause { CountsStep fault.old fault.new (K.faults shelf.old) (K.faults shelf.new) (K.held shelf.old) (K.held shelf.new) }
+    ensures goes { (start : Start) → IsSaving R.graph R.stack start role (D.knows pass.old) files.old fault.old (K.held shelf.old)
+        → HasGoneOn (run_setting R.graph R.stack) Falls (D.knows pass.old) (D.knows pass.new) }
 {
     let mut any = false;
     for at in 0..files.count() {
@@ -234,6 +245,8 @@ pub fn save_role<R: Run, D: Desk<Frame<R>>, K: Shelf, N: Watch, G: Gate, W: Wait
         → RoleLeaves R.graph R.stack (record { prefix = prefix; made = []; held = K.held shelf.old }) role result.left
         (D.knows result.pass) result.files result.fault (K.held shelf.new) }
     ensures fault { CountsSo result.fault (K.faults shelf.old) (K.faults shelf.new) }
+    ensures notes { AreNotesOf (run_setting R.graph R.stack) (past (D.knows result.pass).seen) result.want (N.watched watch.old) (N.watched watch.new) }
+    ensures home { N.home watch.new ≡ N.home watch.old }
 {
     let mut pass = pass;
     let mut files = files;

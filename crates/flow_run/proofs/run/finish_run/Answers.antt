@@ -1,4 +1,5 @@
-use Rattle.std.proofs.Common.{◌≡◌, true, sym, subst}
+use Rattle.std.proofs.Common.{◌≡◌, ◌++◌, true, sym, subst}
+use Rattle.flow_journal.specs.Pasts.{Past}
 use Rattle.board_rules.specs.States.{past}
 use Rattle.board_rules.specs.Storage.{is_never_regrown}
 use Rattle.flow_journal.specs.Setting.{last_role}
@@ -10,7 +11,7 @@ use Rattle.flow_saver.proofs.Handing.{free-alone, drained-alone}
 use Rattle.flow_run.specs.Strangers.{AreOwnMoves}
 use Rattle.flow_run.specs.Ticks.{IsFedByTheClock}
 use Rattle.flow_run.specs.RunFiles.{HasSavedRun}
-use Rattle.flow_run.proofs.Finishing.{ready-once, ready-left, run-own, run-ticks, run-storage, saved-run}
+use Rattle.flow_run.proofs.Finishing.{ready-once, ready-left, run-own, run-ticks, run-storage, saved-run, run-begins}
 use Rattle.flow_run.proofs.run.finish_run.Goals as goal
 
 pub drain-requires-clause-free : goal.drain-requires-clause-free
@@ -98,3 +99,10 @@ returns-clause-storage g c =
     (g.B.BoardCalls.shown c.save_unsaved.new.board) c.requires.joined.0 c.args.lefts.items c.requires.joined.1.0 c.requires.joined.1.1
     c.save_unsaved.ensures.moves c.tick-tick.result (g.B.BoardCalls.shown c.drain.new.board)
     (g.B.BoardCalls.shown c.save_rest.new.board) c.drain.ensures.moves c.save_rest.ensures.moves)
+
+pub returns-clause-begins : goal.returns-clause-begins
+returns-clause-begins g c =
+    subst (λ P. (newer : Past) × (P ≡ newer ++ past (g.B.BoardCalls.shown c.args.board))) (sym c.into_parts-log.ensures.log)
+    (run-begins (run_setting g.R.Run.graph g.R.Run.stack) (g.B.BoardCalls.shown c.args.board) (g.B.BoardCalls.shown c.save_unsaved.new.board)
+    (g.B.BoardCalls.shown c.drain.new.board) (g.B.BoardCalls.shown c.save_rest.new.board) c.save_unsaved.ensures.moves c.drain.ensures.begins
+    c.save_rest.ensures.moves)

@@ -10,6 +10,7 @@ use Rattle.flow_run.specs.Seats.{is_back}
 use Rattle.flow_run.specs.Joined.{IsJoined}
 use Rattle.flow_roles.proofs.Workers.{workers-many}
 use Rattle.flow_run.proofs.Sharing.{came-back, first-fed, if-ok, back-many, back-ours, joined-from, fed-from, made-last, leaves-from, passes}
+use Rattle.flow_run.proofs.Finishing.{run-notes}
 use Rattle.flow_run.proofs.run.play_run.Goals as goal
 
 pub overflow_cast-role : goal.overflow_cast-role
@@ -212,3 +213,29 @@ returns-clause-ticks g c =
     (c.run_roles-pass.new.feeder ∷ c.run_roles-pass.new.workers.items) (ap suc many) came c.run_roles-pass.result.pass board made old now
     (first-fed (λ p. known_by p.inner p.last) s old now c.run_roles-pass.new.feeder c.run_roles-pass.new.workers.items e.ticks)))
     c.finish_run.ensures.ticks
+
+pub returns-clause-notes : goal.returns-clause-notes
+returns-clause-notes g c =
+    let s = run_setting g.R.Run.graph g.R.Run.stack in
+    let e = c.run_roles-pass.ensures in
+    let a = c.in_ok-feeder.workers-is in
+    let b = c.in_ok-feeder.ensures.seats in
+    let d = c.as_slice.ensures.value in
+    let f = c.in_ok-nodes.ensures in
+    let n : vec_len c.in_ok-feeder.field-0.workers ≡ length (workers s) = cc in
+    let few : length c.run_roles-pass.new.workers.items ≡ vec_len c.run_roles-pass.new.workers = search rules in
+    let many = few ∙ (e.many ∙ n) in
+    let came =
+    came-back (λ p. IsPassOf c.in_ok-desk.desk.id p.inner)
+    (λ p. known_by p.inner p.last) s c.run_roles-pass.new.feeder c.run_roles-pass.new.workers.items many e.fed e.back in
+    let board = g.B.BoardCalls.shown c.take_back-board.result in
+    let made = subst (λ ps. All (λ p. HasMade board (known_by p.inner p.last)) ps) c.gather-passes.ensures.passes c.take_back-board.ensures.moves in
+    let last =
+    made-last (λ p. IsPassOf c.in_ok-desk.desk.id p.inner) (λ p. known_by p.inner p.last) s
+    (c.run_roles-pass.new.feeder ∷ c.run_roles-pass.new.workers.items) (ap suc many) came c.run_roles-pass.result.pass board made in
+    if-ok c.finish_run.result _ _
+    (λ end h. run-notes s end.log.past board (known_by c.run_roles-pass.result.pass.inner c.run_roles-pass.result.pass.last)
+    c.run_roles-pass.result.want _ _ last h e.notes) c.finish_run.ensures.begins
+
+pub returns-clause-home : goal.returns-clause-home
+returns-clause-home g c = c.run_roles-pass.ensures.home

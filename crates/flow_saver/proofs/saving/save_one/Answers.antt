@@ -1,4 +1,7 @@
+use Rattle.board_rules.specs.RunMeasures.{run_setting}
+use Rattle.flow_saver.specs.Turns.{AreAt}
 use Rattle.flow_saver.proofs.SaveOne.{one-node, one-busy, one-nothing, one-taken}
+use Rattle.flow_saver.proofs.Turning.{gone-not_yet, gone-piece, gone-on}
 use Rattle.flow_saver.proofs.saving.save_one.Goals as goal
 
 pub save-requires-clause-node : goal.save-requires-clause-node
@@ -91,3 +94,34 @@ returns-in_default-clause-leaves g c =
     λ start st. c.in_default.ensures.err start c.args.role q
     (one-taken gr stack c.requires.graph start c.args.role c.requires.role p q xs c.args.fault.now held _ st c.args.at c.node-node.result c.node-node.ensures
     c.requires.at c.requires.kept.few c.in-Piece.input c.in-Piece.group c.in-Piece.place c.in-Piece.of c.in-Piece.ensures.called)
+
+pub returns-in-NotYet-clause-goes : goal.returns-in-NotYet-clause-goes
+returns-in-NotYet-clause-goes g c =
+    let gr = g.R.Run.graph in
+    let stack = g.R.Run.stack in
+    let p = g.D.Desk.knows c.args.pass.now in
+    let q = g.D.Desk.knows c.save.new.pass in
+    λ start st x at.
+    gone-not_yet gr stack start.prefix c.args.files.now st.nodes (run_setting gr stack) c.args.role p q _ c.args.at c.node-node.result
+    c.node-node.ensures c.requires.at x at c.in-NotYet.ensures.called
+
+pub returns-in-Ok-clause-goes : goal.returns-in-Ok-clause-goes
+returns-in-Ok-clause-goes g c =
+    let gr = g.R.Run.graph in
+    let stack = g.R.Run.stack in
+    let p = g.D.Desk.knows c.args.pass.now in
+    let q = g.D.Desk.knows c.save.new.pass in
+    λ start st x at. gone-on (run_setting gr stack) (AreAt x.node) p q (g.D.Desk.knows c.give_back.new.pass)
+    (gone-piece gr stack start.prefix c.args.files.now st.nodes (run_setting gr stack) c.args.role p q _ c.args.at c.node-node.result
+    c.node-node.ensures c.requires.at x at c.in-Piece.input c.in-Piece.group c.in-Piece.place c.in-Piece.of c.in-Piece.ensures.called)
+    c.give_back.ensures.goes
+
+pub returns-in_default-clause-goes : goal.returns-in_default-clause-goes
+returns-in_default-clause-goes g c =
+    let gr = g.R.Run.graph in
+    let stack = g.R.Run.stack in
+    let p = g.D.Desk.knows c.args.pass.now in
+    let q = g.D.Desk.knows c.save.new.pass in
+    λ start st x at.
+    gone-piece gr stack start.prefix c.args.files.now st.nodes (run_setting gr stack) c.args.role p q _ c.args.at c.node-node.result
+    c.node-node.ensures c.requires.at x at c.in-Piece.input c.in-Piece.group c.in-Piece.place c.in-Piece.of c.in-Piece.ensures.called

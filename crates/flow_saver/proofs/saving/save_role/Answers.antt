@@ -1,12 +1,15 @@
-use Rattle.std.proofs.Common.{[], sym, subst, refl, ◌∙◌, Option, None}
+use Rattle.std.proofs.Common.{[], ◌∷◌, sym, subst, refl, ◌∙◌, Option, None}
+use Rattle.std.proofs.lemmas.Bool.{true≢false}
 use Rattle.edge_traits.specs.Files.{Files}
 use Rattle.flow_journal.specs.declared.entry.Entry.{Entry}
 use Rattle.board_rules.specs.RunMeasures.{run_setting}
 use Rattle.board_rules.specs.States.{past, lent_to}
 use Rattle.flow_saver.specs.Saver.{AreSaved, IsPieceOfHand}
+use Rattle.flow_saver.specs.Turns.{Falls, AreNone}
 use Rattle.flow_saver.proofs.Steps.{saving-still, all-given}
 use Rattle.flow_saver.proofs.Beginning.{fresh-saving, all-since, saving-from, unsaved-from, hand-piece}
 use Rattle.flow_saver.proofs.Counting.{counts-then}
+use Rattle.flow_saver.proofs.Turning.{call-own, gone-nothing, gone-on, turns-first, turns-same, turns-next, noted-more}
 use Rattle.flow_saver.proofs.saving.save_role.Goals as goal
 
 pub loop-init : goal.loop-init
@@ -22,6 +25,11 @@ loop-init g c =
           fresh-saving g.R.Run.graph g.R.Run.stack files.0 (g.K.Shelf.held c.args.shelf.now) c.args.role
           (g.D.Desk.knows c.args.pass) c.args.files files.1 c.requires.fresh;
       cause = refl;
+      fronts = [];
+      noted = refl;
+      turns = λ q gone own. turns-first (run_setting g.R.Run.graph g.R.Run.stack) (g.D.Desk.knows c.args.pass) q
+          (c.requires.fresh.role ∙ c.requires.role) c.requires.fresh.made gone own;
+      home = refl;
     }
 
 pub returns-then-progress-clause-moves : goal.returns-then-progress-clause-moves
@@ -94,6 +102,11 @@ loop-preserved-in-Nothing g c =
     let still =
     saving-still gr stack inv.start c.args.role _ _ (g.D.Desk.knows c.loop.pass) (g.D.Desk.knows c.progress-progress.new.pass) c.loop.files c.loop.fault
     (g.K.Shelf.held c.loop.shelf) inv.saving c.progress-progress.ensures.called c.progress-progress.ensures.called.answer.1 in
+    let s = run_setting gr stack in
+    let q = g.D.Desk.knows c.progress-progress.new.pass in
+    let call = c.progress-progress.ensures.called in
+    let own = call-own s _ _ _ q call in
+    let before = inv.turns q (gone-nothing s AreNone _ _ _ q call call.answer.1 refl) own in
     record {
       ours = c.save_turn.ensures.ours;
       start = inv.start;
@@ -104,6 +117,12 @@ loop-preserved-in-Nothing g c =
       cause =
           counts-then c.loop.fault c.save_turn.new.fault _ (g.K.Shelf.faults c.loop.shelf) _ (g.K.Shelf.held c.loop.shelf)
           (g.K.Shelf.held c.save_turn.new.shelf) inv.cause c.save_turn.ensures.cause;
+      fronts = past q.seen ∷ inv.fronts;
+      noted = noted-more s inv.fronts _ _ _ c.note.result c.progress-progress.result _ q.seen call.answer.0 call.answer.1 inv.noted c.note.ensures.ok
+          c.note.ensures.err;
+      turns = λ r gone mine. turns-next s inv.fronts q r (still.role ∙ c.requires.role)
+          (gone-on s Falls q (g.D.Desk.knows c.save_turn.new.pass) r (c.save_turn.ensures.goes inv.start still) gone) own mine before;
+      home = c.note.ensures.home ∙ inv.home;
     }
 
 pub loop-preserved : goal.loop-preserved
@@ -114,6 +133,11 @@ loop-preserved g c =
     let still =
     saving-still gr stack inv.start c.args.role _ _ (g.D.Desk.knows c.loop.pass) (g.D.Desk.knows c.progress-progress.new.pass) c.loop.files c.loop.fault
     (g.K.Shelf.held c.loop.shelf) inv.saving c.progress-progress.ensures.called c.progress-progress.ensures.called.answer.1 in
+    let s = run_setting gr stack in
+    let q = g.D.Desk.knows c.progress-progress.new.pass in
+    let call = c.progress-progress.ensures.called in
+    let own = call-own s _ _ _ q call in
+    let before = inv.turns q (gone-nothing s AreNone _ _ _ q call call.answer.1 refl) own in
     record {
       ours = c.save_turn.ensures.ours;
       start = inv.start;
@@ -124,6 +148,12 @@ loop-preserved g c =
       cause =
           counts-then c.loop.fault c.save_turn.new.fault _ (g.K.Shelf.faults c.loop.shelf) _ (g.K.Shelf.held c.loop.shelf)
           (g.K.Shelf.held c.save_turn.new.shelf) inv.cause c.save_turn.ensures.cause;
+      fronts = past q.seen ∷ inv.fronts;
+      noted = noted-more s inv.fronts _ _ _ c.note.result c.progress-progress.result _ q.seen call.answer.0 call.answer.1 inv.noted c.note.ensures.ok
+          c.note.ensures.err;
+      turns = λ r gone mine. turns-next s inv.fronts q r (still.role ∙ c.requires.role)
+          (gone-on s Falls q (g.D.Desk.knows c.save_turn.new.pass) r (c.save_turn.ensures.goes inv.start still) gone) own mine before;
+      home = c.note.ensures.home ∙ inv.home;
     }
 
 pub returns-in-Wants-clause-role : goal.returns-in-Wants-clause-role
@@ -215,3 +245,51 @@ returns-in-Wants-clause-leaves g c =
     let end = c.in-Wants.ensures.leaves inv.start still in
     λ prefix is. unsaved-from gr stack inv.start prefix (g.K.Shelf.held c.args.shelf.now) c.args.role (g.D.Desk.knows c.save_turn.new.pass)
     c.save_turn.new.files c.save_turn.new.fault (g.K.Shelf.held c.save_turn.new.shelf) inv.began inv.first (inv.named ∙ is) c.in-Wants.due end
+
+pub returns-then-progress-clause-notes : goal.returns-then-progress-clause-notes
+returns-then-progress-clause-notes g c =
+    let gr = g.R.Run.graph in
+    let stack = g.R.Run.stack in
+    let inv = c.loop.invariant in
+    let s = run_setting gr stack in
+    let q = g.D.Desk.knows c.progress-progress.new.pass in
+    let call = c.progress-progress.ensures.called in
+    let own = call-own s _ _ _ q call in
+    let before = inv.turns q (gone-nothing s AreNone _ _ _ q call call.answer.1 refl) own in
+    record {
+      last = past q.seen;
+      earlier = inv.fronts;
+      noted = noted-more s inv.fronts _ _ _ c.note.result c.progress-progress.result _ q.seen call.answer.0 call.answer.1 inv.noted c.note.ensures.ok
+          c.note.ensures.err;
+      turns = turns-same s inv.fronts (past q.seen) before;
+      whole = λ fine. refl;
+    }
+
+pub returns-in-Wants-clause-notes : goal.returns-in-Wants-clause-notes
+returns-in-Wants-clause-notes g c =
+    let gr = g.R.Run.graph in
+    let stack = g.R.Run.stack in
+    let inv = c.loop.invariant in
+    let still =
+    saving-still gr stack inv.start c.args.role _ _ (g.D.Desk.knows c.loop.pass) (g.D.Desk.knows c.progress-progress.new.pass) c.loop.files c.loop.fault
+    (g.K.Shelf.held c.loop.shelf) inv.saving c.progress-progress.ensures.called c.progress-progress.ensures.called.answer.1 in
+    let s = run_setting gr stack in
+    let q = g.D.Desk.knows c.progress-progress.new.pass in
+    let call = c.progress-progress.ensures.called in
+    let own = call-own s _ _ _ q call in
+    let before = inv.turns q (gone-nothing s AreNone _ _ _ q call call.answer.1 refl) own in
+    let goes = c.save_turn.ensures.goes inv.start still in
+    record {
+      last = past q.seen;
+      earlier = inv.fronts;
+      noted = noted-more s inv.fronts _ _ _ c.note.result c.progress-progress.result _ q.seen call.answer.0 call.answer.1 inv.noted c.note.ensures.ok
+          c.note.ensures.err;
+      turns = turns-next s inv.fronts q (g.D.Desk.knows c.save_turn.new.pass) (still.role ∙ c.requires.role) goes own (goes.own own) before;
+      whole = λ fine. absurd (true≢false fine);
+    }
+
+pub returns-then-progress-clause-home : goal.returns-then-progress-clause-home
+returns-then-progress-clause-home g c = c.note.ensures.home ∙ c.loop.invariant.home
+
+pub returns-in-Wants-clause-home : goal.returns-in-Wants-clause-home
+returns-in-Wants-clause-home g c = c.note.ensures.home ∙ c.loop.invariant.home
