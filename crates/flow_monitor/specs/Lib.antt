@@ -1,0 +1,4 @@
+pub mod LastNotes
+pub mod NoteLogs
+pub mod Registers
+pub mod Monitors
