@@ -18,6 +18,8 @@ const HELP: &str = "nd_replay: replays a stack of detector frames through a grap
                                            kept, what was dropped and what came out of order
     nd_replay run-log GRAPH STACK PREFIX   does the same, and writes the run's log to
                                            <PREFIX>log.txt
+    nd_replay watch GRAPH STACK PREFIX     does what run does, and tells before the report how far
+                                           it had come while it went on
     nd_replay demo N                       makes N frames and runs them through three plugins that
                                            have room for all of them; needs no other file, and
                                            writes demo_stats.txt and demo_file_000.nc
@@ -98,7 +100,7 @@ fn command_words(rt: &(impl Env + AllocGlobal)) -> Result<Vec<String>, Status> {
 
 /// Whether a command runs a graph with its threads.
 fn is_run(word: &str) -> bool {
-    word == "run" || word == "run-log" || word == "demo"
+    matches!(word, "run" | "run-log" | "watch" | "demo")
 }
 
 /// What became of a print that is no command's work.

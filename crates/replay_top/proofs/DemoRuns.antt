@@ -1,5 +1,5 @@
 -- A run of the large workload whose ticks are near to each other prints the same at each run.
-use Rattle.std.proofs.Common.{◌≡◌, ℕ, true, false, [], ◌∷◌, length, Option, None, Some, Ok, Result, refl, sym, ap, subst, ◌∙◌}
+use Rattle.std.proofs.Common.{◌≡◌, ℕ, Bool, true, false, List, [], ◌∷◌, ◌++◌, length, Option, None, Some, Ok, Result, refl, sym, ap, subst, ◌∙◌}
 use Rattle.std.specs.Prelude.{filter}
 use Rattle.std.specs.List.{list_any, count_by}
 use Rattle.std.proofs.lemmas.Bool.{or_parts, not-true}
@@ -21,8 +21,8 @@ use Rattle.tool_commands.specs.declared.status.Status.TheVariants.{Done}
 use Rattle.tool_commands.specs.Outcomes.{Leads}
 use Rattle.tool_commands.specs.Works.{Source}
 use Rattle.replay_top.specs.DemoRuns.{IsDemoSteady}
-use Rattle.replay_top.specs.RunAnswers.{RunObjects, OfLog, IsRunDone, RunEnds, run_print}
-use Rattle.replay_top.specs.RunCommand.{RunCommand, RunSource, Demo, IsInRange}
+use Rattle.replay_top.specs.RunAnswers.{RunObjects, OfLog, IsRunDone, Prints, RunEnds, run_print}
+use Rattle.replay_top.specs.RunCommand.{RunCommand, RunSource, Demo, IsInRange, IsRead, IsReadWhereWatched}
 use Rattle.replay_top.specs.RunSources.{run_sources}
 
 -- the large workload leads to itself alone
@@ -41,7 +41,13 @@ never-counted P h = sym (length-filter says_regrown P) ∙ ap (λ (es : Past). l
     none [] h = refl
     none (e ∷ P) h = let both = or_parts (says_regrown e) (list_any says_regrown P) h in rw both.0 (none P both.1)
 
-module _ (whole : DemosAreWhole) (o : RunObjects) (c : RunCommand) (range : IsInRange c.source) where
+-- it isn't watched, so the report is all that it prints
+report-alone : (watched : Bool) (from : RunSource) (frames : ℕ) (source : Source) (P : Past) (text : List ℕ) → from ≡ Demo frames
+    → (watched ≡ true → IsRead from) → Prints watched source P text → text ≡ run_print source P
+report-alone true from frames source P text is read prints = absurd (subst IsRead is (read refl))
+report-alone false from frames source P text is read prints = prints.whole ∙ ap (λ (seen : List ℕ). seen ++ run_print source P) prints.before
+
+module _ (whole : DemosAreWhole) (o : RunObjects) (c : RunCommand) (range : IsInRange c.source) (read : IsReadWhereWatched c) where
   steady : (P : Past) → IsRunDone o c P → IsDemoSteady o.objects.sink_before o.objects.sink_after c P
   steady P done frames is ticks =
       let ours = made o.objects.library c.source frames done.source is done.log.read in
@@ -51,9 +57,10 @@ module _ (whole : DemosAreWhole) (o : RunObjects) (c : RunCommand) (range : IsIn
       let w = whole frames P within.0 within.1 run ticks in
       record {
         smooth = w.smooth;
-        printed = done.printed ∙ ap (with_written o.objects.sink_before) (ap (λ (s : Source). run_print s P) ours
+        printed = done.printed ∙ ap (with_written o.objects.sink_before) (report-alone c.watched c.source frames done.source P done.text is read done.prints
+            ∙ (ap (λ (s : Source). run_print s P) ours
             ∙ ap (report_text (demo_graph frames))
-            (w.counts ∙ ap (λ (n : ℕ). whole_counters frames n (demo_graph frames)) (never-counted P done.log.storage)));
+            (w.counts ∙ ap (λ (n : ℕ). whole_counters frames n (demo_graph frames)) (never-counted P done.log.storage))));
       }
 
   done-steady : (log : Option Journal) → OfLog (IsRunDone o) (Some c) log → OfLog (IsDemoSteady o.objects.sink_before o.objects.sink_after) (Some c) log

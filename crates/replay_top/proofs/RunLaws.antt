@@ -4,9 +4,9 @@ use Rattle.tool_commands.proofs.Outcomes.{map-refused, of-refused, map-asked, of
 use Rattle.replay_top.specs.RunLaws.{RunsAreRefusedAsPlain, RunsAskAsPlain}
 
 pub run_refused : RunsAreRefusedAsPlain
-run_refused told logs graph stack prefix status =
+run_refused told logs watched graph stack prefix status =
     (map-refused (plain_work prefix) told (sources graph stack) status, of-refused (plain_work prefix) told (sources graph stack) status)
 
 pub run_asked : RunsAskAsPlain
-run_asked told logs graph stack prefix status =
+run_asked told logs watched graph stack prefix status =
     (map-asked (plain_work prefix) told (sources graph stack) status, of-asked (plain_work prefix) told (sources graph stack) status)

@@ -24,7 +24,7 @@ use Rattle.tool_commands.specs.declared.status.Status.{Status}
 use Rattle.tool_commands.specs.declared.status.Status.TheVariants.{Done, Usage, GraphText, GraphRule, StackBytes, Limit, Sizes, ReadFault, ShelfFault, OutFault}
 use Rattle.tool_commands.specs.declared.status.Status.TheVariants.{OutOfMemory}
 use Rattle.tool_commands.specs.Outcomes.{Leads}
-use Rattle.replay_top.specs.RunAnswers.{RunObjects, IsLogOf, RunEnds, IsRunCause, IsRunUntouched, run_print}
+use Rattle.replay_top.specs.RunAnswers.{RunObjects, IsLogOf, RunEnds, IsRunCause, IsRunUntouched, IsSeen, Prints, run_print}
 use Rattle.replay_top.specs.RunCommand.{RunCommand, IsRead}
 use Rattle.replay_top.specs.RunFiles.{later_files, HoldsFiles, HaveGroupsBack, AtGroups, AfterGroups}
 use Rattle.replay_top.specs.LogFiles.{log_files}
@@ -104,38 +104,41 @@ module _ (complete : RowsComplete) (reads : GroupsReadBack) (points : FinishedRu
   holds groups is = holds-by g stack c.prefix log.past held mid now c.logs (complete g stack c.prefix log.past held mid read.sound groups) is
 
   -- what was left to write and to print, where the log is kept
-  ends : (status : Status) (fault : Bool) → HasSavedRun g stack c.prefix log.past held fault mid → status ≢ OutOfMemory
-      → RestEnds status fault (later_files c source log.past) (run_print source log.past) mid now written out → RunEnds status (Some log) (Some c) o
-  ends Done true groups some rest = absurd (let no : true ≡ false = rest.0 in cc)
-  ends Done false groups some rest = record { source = source; log = is_log; files = holds groups rest.1; back = back; printed = rest.2 }
-  ends ShelfFault true groups some rest =
+  ends : (status : Status) (fault : Bool) (text : List ℕ) → HasSavedRun g stack c.prefix log.past held fault mid → status ≢ OutOfMemory
+      → (fault ≡ false → Prints c.watched source log.past text)
+      → RestEnds status fault (later_files c source log.past) text mid now written out → RunEnds status (Some log) (Some c) o
+  ends Done true text groups some prints rest = absurd (let no : true ≡ false = rest.0 in cc)
+  ends Done false text groups some prints rest =
+      record { source = source; log = is_log; files = holds groups rest.1; back = back; text = text; prints = prints refl; printed = rest.2 }
+  ends ShelfFault true text groups some prints rest =
       record {
         source = source;
         log = is_log;
         files = AtGroups (subst (λ (w : Option Files). HasSavedRun g stack c.prefix log.past held true w) (sym rest.0) groups);
         unprinted = rest.1;
       }
-  ends ShelfFault false groups some rest = record { source = source; log = is_log; files = AfterGroups mid groups rest.0; unprinted = rest.1 }
-  ends OutFault true groups some rest = absurd (let no : true ≡ false = rest.0 in cc)
-  ends OutFault false groups some rest = record { source = source; log = is_log; files = holds groups rest.1; back = back; printed = rest.2 }
-  ends OutOfMemory fault groups some rest = absurd (some refl)
-  ends Usage fault groups some rest = absurd rest
-  ends GraphText fault groups some rest = absurd rest
-  ends (GraphRule f) fault groups some rest = absurd rest
-  ends (StackBytes f) fault groups some rest = absurd rest
-  ends (Limit f) fault groups some rest = absurd rest
-  ends Sizes fault groups some rest = absurd rest
-  ends ReadFault fault groups some rest = absurd rest
+  ends ShelfFault false text groups some prints rest = record { source = source; log = is_log; files = AfterGroups mid groups rest.0; unprinted = rest.1 }
+  ends OutFault true text groups some prints rest = absurd (let no : true ≡ false = rest.0 in cc)
+  ends OutFault false text groups some prints rest =
+      record { source = source; log = is_log; files = holds groups rest.1; back = back; text = text; prints = prints refl; printed = rest.2 }
+  ends OutOfMemory fault text groups some prints rest = absurd (some refl)
+  ends Usage fault text groups some prints rest = absurd rest
+  ends GraphText fault text groups some prints rest = absurd rest
+  ends (GraphRule f) fault text groups some prints rest = absurd rest
+  ends (StackBytes f) fault text groups some prints rest = absurd rest
+  ends (Limit f) fault text groups some prints rest = absurd rest
+  ends Sizes fault text groups some prints rest = absurd rest
+  ends ReadFault fault text groups some prints rest = absurd rest
 
   -- the same by what the nodes measured and what the plan says
-  pub RunEnds-rest : (status : Status) (fault : Bool) (files : List OutFile) (print : List ℕ)
+  pub RunEnds-rest : (status : Status) (fault : Bool) (files : List OutFile) (seen print : List ℕ)
       → HasSavedRun g stack c.prefix log.past held fault mid → status ≢ OutOfMemory
-      → files ≡ later_files c source log.past → print ≡ run_print source log.past → RestEnds status fault files print mid now written out
+      → files ≡ later_files c source log.past → print ≡ run_print source log.past
+      → (fault ≡ false → IsSeen c.watched (run_setting g stack) log.past seen) → RestEnds status fault files (seen ++ print) mid now written out
       → RunEnds status (Some log) (Some c) o
-  RunEnds-rest status fault files print groups some same_files same_print rest =
-      ends status fault groups some
-      (subst (λ (fs : List OutFile). RestEnds status fault fs (run_print source log.past) mid now written out) same_files
-      (subst (λ (t : List ℕ). RestEnds status fault files t mid now written out) same_print rest))
+  RunEnds-rest status fault files seen print groups some same_files same_print before rest =
+      ends status fault (seen ++ print) groups some (λ none. record { seen = seen; before = before none; whole = ap (λ t. seen ++ t) same_print })
+      (subst (λ (fs : List OutFile). RestEnds status fault fs (seen ++ print) mid now written out) same_files rest)
 
 -- the counts
 rose : (before mid now : ℕ) → mid ≡ before → Rose mid now → Rose before now

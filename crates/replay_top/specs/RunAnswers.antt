@@ -1,5 +1,5 @@
 -- What each status of a run says of its log and of the objects.
-use Rattle.std.specs.Prelude.{◌≡◌, ℕ, true, List, Option, None, Some, Ok, Err}
+use Rattle.std.specs.Prelude.{◌≡◌, ℕ, Bool, true, false, List, [], ◌++◌, Option, None, Some, Ok, Err}
 use Rattle.nd_base.specs.GraphRules.{IsGraph}
 use Rattle.edge_traits.specs.Files.{Files}
 use Rattle.edge_traits.specs.Ticks.{Coming}
@@ -16,6 +16,8 @@ use Rattle.run_report.specs.Text.{report_text}
 use Rattle.graph_conf.specs.Loads.{limit_fault}
 use Rattle.flow_run.specs.Strangers.{AreOwnMoves}
 use Rattle.flow_run.specs.Ticks.{IsFedByTheClock}
+use Rattle.flow_journal.specs.Setting.{Setting}
+use Rattle.flow_watch.specs.SeenLines.{AreSeenLines}
 use Rattle.tool_commands.specs.declared.status.Status.{Status}
 use Rattle.tool_commands.specs.declared.status.Status.TheVariants.{Done, Usage, GraphText, GraphRule, StackBytes, Limit, Sizes, ReadFault, ShelfFault, OutFault}
 use Rattle.tool_commands.specs.declared.status.Status.TheVariants.{OutOfMemory}
@@ -52,25 +54,40 @@ pub record IsLogOf (o : RunObjects) (c : RunCommand) (source : Source) (P : Past
   pub storage : is_never_regrown P ≡ true
   pub points : RunHolds source.graph source.stack (run_setting source.graph source.stack) P
 
--- what a run of this log prints
+-- the report of a run of this log
 abbrev pub run_print : Source → Past → List ℕ
 run_print source P = report_text source.graph (report (plan_of source.graph source.stack) P)
 
--- the files of the log were written, and its report, and nothing else
+-- what is told before it: how far the run had come while it went on, where it is watched, and else nothing
+abbrev pub IsSeen : (watched : Bool) → Setting → Past → List ℕ → Type 0
+IsSeen false s P seen = seen ≡ []
+IsSeen true s P seen = AreSeenLines s P seen
+
+-- what a run of this log prints
+pub record Prints (watched : Bool) (source : Source) (P : Past) (text : List ℕ) : Type 0 where
+  pub seen : List ℕ
+  pub before : IsSeen watched (run_setting source.graph source.stack) P seen
+  pub whole : text ≡ seen ++ run_print source P
+
+-- the files of the log were written, and what it prints, and nothing else
 pub record IsRunDone (o : RunObjects) (c : RunCommand) (P : Past) : Type 0 where
   pub source : Source
   pub log : IsLogOf o c source P
   pub files : HoldsFiles c.logs source c.prefix P o.objects.shelf_before o.objects.shelf_after
   pub back : HaveGroupsBack source P
-  pub printed : o.objects.sink_after ≡ with_written o.objects.sink_before (run_print source P)
+  pub text : List ℕ
+  pub prints : Prints c.watched source P text
+  pub printed : o.objects.sink_after ≡ with_written o.objects.sink_before text
 
--- the files of the log were written, and a proper front of its report
+-- the files of the log were written, and a proper front of what it prints
 pub record IsRunCutShort (o : RunObjects) (c : RunCommand) (P : Past) : Type 0 where
   pub source : Source
   pub log : IsLogOf o c source P
   pub files : HoldsFiles c.logs source c.prefix P o.objects.shelf_before o.objects.shelf_after
   pub back : HaveGroupsBack source P
-  pub printed : IsCutShort o.objects.sink_before (run_print source P) o.objects.sink_after
+  pub text : List ℕ
+  pub prints : Prints c.watched source P text
+  pub printed : IsCutShort o.objects.sink_before text o.objects.sink_after
 
 -- the shelf failed while the files of the log were written, and nothing was printed
 pub record IsRunTorn (o : RunObjects) (c : RunCommand) (P : Past) : Type 0 where

@@ -1,5 +1,5 @@
 -- The commands that run a graph with its threads, by the words of the command line.
-use Rattle.std.specs.Prelude.{ℕ, ◌≤◌, Bool, true, false, List, [], ◌∷◌, Option, None, Some, codes, if◌then◌else◌}
+use Rattle.std.specs.Prelude.{◌≡◌, ℕ, ◌≤◌, Bool, true, false, List, [], ◌∷◌, Option, None, Some, codes, if◌then◌else◌}
 use Rattle.std.specs.Option.{option_map}
 use Rattle.std.specs.Str.{bytes_eq}
 use Rattle.decimal_words.specs.Numbers.{number_of}
@@ -24,23 +24,30 @@ pub record RunCommand : Type 0 where
   pub prefix : List ℕ
   -- the log's text is written, too
   pub logs : Bool
+  -- a reader beside the run tells how far it has come
+  pub watched : Bool
 
 -- the run reads files
 abbrev pub ReadsFiles : Option RunCommand → Type 0
 ReadsFiles None = ⊥
 ReadsFiles (Some c) = IsRead c.source
 
-abbrev pub named_run : (logs : Bool) → (graph stack prefix : List ℕ) → RunCommand
-named_run logs graph stack prefix = record { source = Named graph stack; prefix = prefix; logs = logs }
+abbrev pub named_run : (logs watched : Bool) → (graph stack prefix : List ℕ) → RunCommand
+named_run logs watched graph stack prefix = record { source = Named graph stack; prefix = prefix; logs = logs; watched = watched }
 
 abbrev pub demo_run : (frames : ℕ) → RunCommand
-demo_run frames = record { source = Demo frames; prefix = codes "demo_"; logs = false }
+demo_run frames = record { source = Demo frames; prefix = codes "demo_"; logs = false; watched = false }
+
+-- the large workload isn't watched
+abbrev pub IsReadWhereWatched : RunCommand → Type 0
+IsReadWhereWatched c = c.watched ≡ true → IsRead c.source
 
 -- the command that the words are; None where they are none, or not as many words as it has, or a number isn't spelled in its range
 abbrev pub run_command_of : List (List ℕ) → Option RunCommand
 run_command_of (word ∷ frames ∷ []) = if bytes_eq word (codes "demo") then option_map demo_run (number_of 4 1 4096 frames) else None
 run_command_of (word ∷ graph ∷ stack ∷ prefix ∷ []) =
-    if bytes_eq word (codes "run") then Some (named_run false graph stack prefix)
-    else if bytes_eq word (codes "run-log") then Some (named_run true graph stack prefix)
+    if bytes_eq word (codes "run") then Some (named_run false false graph stack prefix)
+    else if bytes_eq word (codes "run-log") then Some (named_run true false graph stack prefix)
+    else if bytes_eq word (codes "watch") then Some (named_run false true graph stack prefix)
     else None
 run_command_of _ = None

@@ -11,11 +11,11 @@ use Rattle.replay_top.specs.RunSources.{sources_of}
 -- a run is refused as the plain run of the same words is
 abbrev pub RunsAreRefusedAsPlain : Type 0
 RunsAreRefusedAsPlain =
-    (told : Option Files) (logs : Bool) (graph stack prefix : List ℕ) (status : Status)
-    → Leads told (sources_of (Some (named_run logs graph stack prefix))) (Err status) ↔ Leads told (outcome_of (Some (Plain graph stack prefix))) (Err status)
+    (told : Option Files) (logs watched : Bool) (graph stack prefix : List ℕ) (status : Status)
+    → Leads told (sources_of (Some (named_run logs watched graph stack prefix))) (Err status) ↔ Leads told (outcome_of (Some (Plain graph stack prefix))) (Err status)
 
 -- and its files ask for the same status
 abbrev pub RunsAskAsPlain : Type 0
 RunsAskAsPlain =
-    (told : Option Files) (logs : Bool) (graph stack prefix : List ℕ) (status : Status)
-    → Asks told (sources_of (Some (named_run logs graph stack prefix))) status ↔ Asks told (outcome_of (Some (Plain graph stack prefix))) status
+    (told : Option Files) (logs watched : Bool) (graph stack prefix : List ℕ) (status : Status)
+    → Asks told (sources_of (Some (named_run logs watched graph stack prefix))) status ↔ Asks told (outcome_of (Some (Plain graph stack prefix))) status

@@ -9,4 +9,4 @@ source_told (source.Named graph stack) = Named graph.now stack.now
 source_told (source.Demo frames) = Demo frames
 
 abbrev pub run_told : RunWords → RunCommand
-run_told w = record { source = source_told w.source; prefix = w.prefix.now; logs = w.logs }
+run_told w = record { source = source_told w.source; prefix = w.prefix.now; logs = w.logs; watched = w.watched }

@@ -1,6 +1,6 @@
 //! The run itself.
 
-ghost use Rattle.std.specs.Prelude.{◌≡◌, ℕ, true, List, None, IfOk};
+ghost use Rattle.std.specs.Prelude.{◌≡◌, ℕ, true, false, List, None, IfOk, string_bytes};
 ghost use Rattle.nd_base.specs.GraphRules.{IsGraph};
 ghost use Rattle.nd_stack.specs.KeptStacks.{IsKeptStack};
 ghost use Rattle.chain_plain.specs.Plans.{plan_of};
@@ -14,12 +14,14 @@ ghost use Rattle.flow_saver.specs.Saver.{CountsSo};
 ghost use Rattle.flow_run.specs.RunFiles.{HasSavedRun};
 ghost use Rattle.flow_run.specs.Strangers.{AreOwnMoves};
 ghost use Rattle.flow_run.specs.Ticks.{IsFedByTheClock};
+ghost use Rattle.replay_top.specs.RunAnswers.{IsSeen};
 
 use board_rules::BoardCalls;
 use edge_traits::{Clock, Gate, Shelf};
 use flow_core::Board;
 use flow_journal::Quiet;
-use flow_run::{RunEnd, play_run};
+use flow_run::play_run;
+use flow_watch::{WatchEnd, watch_run};
 use frame_store::Frame;
 use graph_files::OpenFiles;
 use nd_base::{OutOfMemory, Plan, Run, Stack};
@@ -28,7 +30,7 @@ use std::marker::Brand;
 use std::sync::Wait;
 use std::thread::Threads;
 
-/// Runs the graph of a run over its stack.
+/// Runs the graph of a run over its stack, with a reader beside it where it is `watched`.
 fn play<R: Run + Send + Sync, K: Shelf, C: Clock + Send, G: Gate + Sync, W: Threads + Wait + Sync>(
     rt: &W,
     alloc: Global,
@@ -38,25 +40,34 @@ fn play<R: Run + Send + Sync, K: Shelf, C: Clock + Send, G: Gate + Sync, W: Thre
     shelf: &mut K,
     clock: &mut C,
     gate: &G,
-) -> Result<RunEnd, OutOfMemory>
+    watched: bool,
+) -> Result<WatchEnd, OutOfMemory>
     requires plan { plan.now ≡ plan_of R.graph R.stack }
     requires graph { IsGraph R.graph }
     requires stack { stack.now ≡ R.stack }
     requires kept { IsKeptStack R.stack }
     requires files { (prefix : List ℕ) × (files ≡ file_nodes R.graph R.stack prefix) }
-    ensures finished { IfOk result (λ end. IsFinishedRun (run_setting R.graph R.stack) end.log.past) }
-    ensures measures { IfOk result (λ end. end.measures ≡ measured (run_measure R.graph R.stack) (run_setting R.graph R.stack) end.log.past) }
+    ensures finished { IfOk result (λ end. IsFinishedRun (run_setting R.graph R.stack) end.run.log.past) }
+    ensures measures { IfOk result (λ end. end.run.measures ≡ measured (run_measure R.graph R.stack) (run_setting R.graph R.stack) end.run.log.past) }
     ensures files { IfOk result (λ end. (prefix : List ℕ) → files ≡ file_nodes R.graph R.stack prefix
-        → HasSavedRun R.graph R.stack prefix end.log.past (K.held shelf.old) end.fault (K.held shelf.new)) }
-    ensures fault { IfOk result (λ end. CountsSo end.fault (K.faults shelf.old) (K.faults shelf.new)) }
-    ensures roles { IfOk result (λ end. AreOwnMoves (run_setting R.graph R.stack) end.log.past) }
-    ensures ticks { IfOk result (λ end. IsFedByTheClock (run_setting R.graph R.stack) end.log.past (C.coming clock.old) (C.coming clock.new)) }
-    ensures storage { IfOk result (λ end. is_never_regrown end.log.past ≡ true) }
+        → HasSavedRun R.graph R.stack prefix end.run.log.past (K.held shelf.old) end.run.fault (K.held shelf.new)) }
+    ensures fault { IfOk result (λ end. CountsSo end.run.fault (K.faults shelf.old) (K.faults shelf.new)) }
+    ensures roles { IfOk result (λ end. AreOwnMoves (run_setting R.graph R.stack) end.run.log.past) }
+    ensures ticks { IfOk result (λ end. IsFedByTheClock (run_setting R.graph R.stack) end.run.log.past (C.coming clock.old) (C.coming clock.new)) }
+    ensures storage { IfOk result (λ end. is_never_regrown end.run.log.past ≡ true) }
+    ensures seen { IfOk result (λ end. end.run.fault ≡ false → IsSeen watched (run_setting R.graph R.stack) end.run.log.past (string_bytes end.seen)) }
 {
     let board = Board::<Frame<R>>::start(alloc, plan)?;
-    play_run(
+    if watched {
+        return watch_run(rt, alloc, board, plan, stack, files, shelf, clock, gate);
+    }
+    let run = play_run(
         rt, alloc, board, plan, stack, files, shelf, &mut Quiet, clock, gate,
-    )
+    )?;
+    Ok(WatchEnd {
+        run,
+        seen: String::new(alloc),
+    })
 }
 
 /// Runs a graph over a stack with all its roles, and writes the groups of its file nodes.
@@ -69,19 +80,21 @@ pub(crate) fn run_plan<K: Shelf, C: Clock + Send, G: Gate + Sync, W: Threads + W
     shelf: &mut K,
     clock: &mut C,
     gate: &G,
-) -> Result<RunEnd, OutOfMemory>
+    watched: bool,
+) -> Result<WatchEnd, OutOfMemory>
     requires graph { IsGraph plan.now.graph }
     requires plan { plan.now ≡ plan_of plan.now.graph stack.now }
     requires kept { IsKeptStack stack.now }
     requires within { limit_fault plan.now.graph stack.now ≡ None }
-    ensures finished { IfOk result (λ end. IsFinishedRun (run_setting plan.now.graph stack.now) end.log.past) }
-    ensures measures { IfOk result (λ end. end.measures ≡ measured (run_measure plan.now.graph stack.now) (run_setting plan.now.graph stack.now) end.log.past) }
-    ensures files { IfOk result (λ end. HasSavedRun plan.now.graph stack.now prefix.now end.log.past (K.held shelf.old) end.fault (K.held shelf.new)) }
-    ensures fault { IfOk result (λ end. CountsSo end.fault (K.faults shelf.old) (K.faults shelf.new)) }
-    ensures roles { IfOk result (λ end. AreOwnMoves (run_setting plan.now.graph stack.now) end.log.past) }
-    ensures ticks { IfOk result (λ end. IsFedByTheClock (run_setting plan.now.graph stack.now) end.log.past (C.coming clock.old) (C.coming clock.new)) }
-    ensures storage { IfOk result (λ end. is_never_regrown end.log.past ≡ true) }
+    ensures finished { IfOk result (λ end. IsFinishedRun (run_setting plan.now.graph stack.now) end.run.log.past) }
+    ensures measures { IfOk result (λ end. end.run.measures ≡ measured (run_measure plan.now.graph stack.now) (run_setting plan.now.graph stack.now) end.run.log.past) }
+    ensures files { IfOk result (λ end. HasSavedRun plan.now.graph stack.now prefix.now end.run.log.past (K.held shelf.old) end.run.fault (K.held shelf.new)) }
+    ensures fault { IfOk result (λ end. CountsSo end.run.fault (K.faults shelf.old) (K.faults shelf.new)) }
+    ensures roles { IfOk result (λ end. AreOwnMoves (run_setting plan.now.graph stack.now) end.run.log.past) }
+    ensures ticks { IfOk result (λ end. IsFedByTheClock (run_setting plan.now.graph stack.now) end.run.log.past (C.coming clock.old) (C.coming clock.new)) }
+    ensures storage { IfOk result (λ end. is_never_regrown end.run.log.past ≡ true) }
+    ensures seen { IfOk result (λ end. end.run.fault ≡ false → IsSeen watched (run_setting plan.now.graph stack.now) end.run.log.past (string_bytes end.seen)) }
 {
     let files = OpenFiles::new(alloc, prefix, plan, stack)?;
-    play::<Brand, K, C, G, W>(rt, alloc, plan, stack, files, shelf, clock, gate)
+    play::<Brand, K, C, G, W>(rt, alloc, plan, stack, files, shelf, clock, gate, watched)
 }

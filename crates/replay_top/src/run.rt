@@ -1,4 +1,4 @@
-//! `run GRAPH STACK PREFIX`, `run-log GRAPH STACK PREFIX` and `demo N`: runs a graph over a stack with its threads.
+//! `run GRAPH STACK PREFIX`, `run-log` and `watch` with the same words, and `demo N`: runs a graph over a stack with its threads.
 
 ghost use Rattle.std.specs.Prelude.{◌≡◌, ◌⊎◌, ◌↔◌, ◌++◌, map, length, None, Some, Err, IsSome, IfOk, OnOk, IfErr, string_bytes};
 ghost use Rattle.edge_traits.specs.Written.{with_written};
@@ -26,9 +26,9 @@ use crate::run_sources::load_run;
 use crate::run_words::{RunWords, run_in};
 use demo_laws::demos_are_whole;
 use edge_traits::{Clock, Gate, Library, Shelf, Sink};
-use flow_journal::Log;
 use flow_run::RunEnd;
 use flow_saver::{groups_read_back, rows_complete_the_files};
+use flow_watch::WatchEnd;
 use nd_base::{OutOfMemory, Plan};
 use run_laws::finished_runs_hold;
 use run_report::{counters, report_text};
@@ -66,48 +66,57 @@ fn save_rest<K: Shelf>(
     )?)
 }
 
-/// The text of a log's report.
-fn report_of(alloc: Global, plan: &Plan, log: &Log) -> Result<String, OutOfMemory>
-    ensures { IfOk result (λ text. string_bytes text ≡ report_text plan.now.graph (report plan.now log.now.past)) }
+/// What was seen of a run while it went on, and the report of its log.
+fn text_of(alloc: Global, plan: &Plan, ended: &WatchEnd) -> Result<String, OutOfMemory>
+    ensures { IfOk result (λ text. string_bytes text ≡ string_bytes ended.now.seen ++ report_text plan.now.graph (report plan.now ended.now.run.log.past)) }
 {
-    let counters = counters(alloc, plan, log)?;
-    report_text(alloc, &plan.graph, &counters)
+    let counters = counters(alloc, plan, &ended.run.log)?;
+    let report = report_text(alloc, &plan.graph, &counters)?;
+    let seen = ended.seen.as_str();
+    Ok(format!(in alloc; "{seen}{report}")?)
 }
 
-/// Prints the report of a log.
-fn print_report<T: Sink>(alloc: Global, out: &mut T, plan: &Plan, log: &Log) -> Result<(), Status>
-    ensures ok { OnOk result (T.written out.new ≡ with_written (T.written out.old) (report_text plan.now.graph (report plan.now log.now.past))) }
+/// Prints it.
+fn print_end<T: Sink>(
+    alloc: Global,
+    out: &mut T,
+    plan: &Plan,
+    ended: &WatchEnd,
+) -> Result<(), Status>
+    ensures ok { OnOk result (T.written out.new ≡ with_written (T.written out.old)
+        (string_bytes ended.now.seen ++ report_text plan.now.graph (report plan.now ended.now.run.log.past))) }
     ensures stays { OnOk result (T.faults out.new ≡ T.faults out.old) }
-    ensures err { IfErr result (λ s. PrintStops s (T.written out.old) (report_text plan.now.graph (report plan.now log.now.past)) (T.written out.new)
+    ensures err { IfErr result (λ s. PrintStops s (T.written out.old)
+        (string_bytes ended.now.seen ++ report_text plan.now.graph (report plan.now ended.now.run.log.past)) (T.written out.new)
         (T.faults out.old) (T.faults out.new)) }
 {
-    let text = report_of(alloc, plan, log)?;
+    let text = text_of(alloc, plan, ended)?;
     print(out, text.as_str())
 }
 
-/// Writes what there is to write once the groups stand, and prints the report. Where the shelf has failed it does neither.
+/// Writes what there is to write once the groups stand, and prints what was seen and the report. Where the shelf has failed it does neither.
 fn finish<K: Shelf, T: Sink>(
     alloc: Global,
     shelf: &mut K,
     out: &mut T,
     prefix: &str,
     plan: &Plan,
-    history: &RunEnd,
+    ended: &WatchEnd,
     logs: bool,
 ) -> Result<(), Status>
     requires graph { IsGraph plan.now.graph }
-    requires measures { length history.now.measures ≡ length plan.now.graph.nodes }
-    ensures ends { RestEnds (status_of result) history.now.fault
-        (measured_files prefix.now plan.now.graph.nodes history.now.measures ++ log_files logs prefix.now history.now.log.past)
-        (report_text plan.now.graph (report plan.now history.now.log.past))
+    requires measures { length ended.now.run.measures ≡ length plan.now.graph.nodes }
+    ensures ends { RestEnds (status_of result) ended.now.run.fault
+        (measured_files prefix.now plan.now.graph.nodes ended.now.run.measures ++ log_files logs prefix.now ended.now.run.log.past)
+        (string_bytes ended.now.seen ++ report_text plan.now.graph (report plan.now ended.now.run.log.past))
         (K.held shelf.old) (K.held shelf.new) (T.written out.old) (T.written out.new) }
-    ensures cause { RestCause (status_of result) history.now.fault (K.faults shelf.old) (K.faults shelf.new) (T.faults out.old) (T.faults out.new) }
+    ensures cause { RestCause (status_of result) ended.now.run.fault (K.faults shelf.old) (K.faults shelf.new) (T.faults out.old) (T.faults out.new) }
 {
-    if history.fault {
+    if ended.run.fault {
         return Err(Status::ShelfFault);
     }
-    save_rest(alloc, shelf, prefix, plan, history, logs)?;
-    print_report(alloc, out, plan, &history.log)
+    save_rest(alloc, shelf, prefix, plan, &ended.run, logs)?;
+    print_end(alloc, out, plan, ended)
 }
 
 /// Runs what the words of a run ask for.
@@ -128,7 +137,7 @@ fn run_words<
     clock: &mut C,
     gate: &G,
 ) -> Exit
-    requires { IsInRange (source_told words.source) }
+    requires range { IsInRange (source_told words.source) }
     ensures ends { RunEnds result.status result.log (Some (run_told words.entry))
         (run_objects_of (L.holds library.old) (K.held shelf.old) (K.held shelf.new) (T.written out.old) (T.written out.new)
         (C.coming clock.old) (C.coming clock.new)) }
@@ -143,14 +152,24 @@ fn run_words<
     groups_read_back();
     rows_complete_the_files();
     finished_runs_hold();
-    let Ok(history) = run_plan(rt, alloc, &plan, &stack, words.prefix, shelf, clock, gate) else {
+    let Ok(ended) = run_plan(
+        rt,
+        alloc,
+        &plan,
+        &stack,
+        words.prefix,
+        shelf,
+        clock,
+        gate,
+        words.watched,
+    ) else {
         return unfinished(Status::OutOfMemory);
     };
-    match status_of(finish(alloc, shelf, out, words.prefix, &plan, &history, words.logs)) {
+    match status_of(finish(alloc, shelf, out, words.prefix, &plan, &ended, words.logs)) {
         Status::OutOfMemory => unfinished(Status::OutOfMemory),
         status => Exit {
             status,
-            log: Some(history.log),
+            log: Some(ended.run.log),
         },
     }
 }
@@ -158,8 +177,9 @@ fn run_words<
 /// Runs a graph over a stack: feeds its frames, works on them in a thread for each thread of each node, writes the files of its nodes, and
 /// prints the report of its log. It waits for its threads.
 ///
-/// The commands are `run GRAPH STACK PREFIX`, and `run-log` with the same words, which writes the log's text to `<PREFIX>log.txt`, last; and `demo N`, which
-/// reads no file: it makes a stack of N frames and a graph that has room for all of them, and its prefix is `demo_`.
+/// The commands are `run GRAPH STACK PREFIX`; `run-log` with the same words, which writes the log's text to `<PREFIX>log.txt`, last; `watch` with the same
+/// words, which prints before the report how far the run had come while it went on, as a reader in a thread of its own saw it; and `demo N`, which reads no
+/// file: it makes a stack of N frames and a graph that has room for all of them, and its prefix is `demo_`.
 pub fn run_top<
     L: Library,
     K: Shelf,
@@ -178,8 +198,8 @@ pub fn run_top<
     gate: &G,
 ) -> Exit
     // The log is there exactly where the run has finished, and is then a finished history of the graph and the stack that were read, of which all
-    // points of finished runs hold. With Done and OutFault the shelf holds its files, and the sink its report, or a proper front of it; with
-    // ShelfFault each file is as it was left.
+    // points of finished runs hold. With Done and OutFault the shelf holds its files, and the sink its report, where it is watched behind lines
+    // of fronts of the log that grow and end with all of it, or a proper front of that; with ShelfFault each file is as it was left.
     ensures logged { HasFinished result.status ↔ IsSome result.log }
     ensures holds { HasFinished result.status → OfLog (HasLog
         (run_objects_of (L.holds library.old) (K.held shelf.old) (K.held shelf.new) (T.written out.old) (T.written out.new)

@@ -2,7 +2,7 @@
 
 ghost use Rattle.std.specs.Prelude.{◌≡◌, map, Some, IfSome, length, string_bytes};
 ghost use Rattle.std.specs.Option.{option_map};
-ghost use Rattle.replay_top.specs.RunCommand.{run_command_of, IsInRange};
+ghost use Rattle.replay_top.specs.RunCommand.{run_command_of, named_run, IsInRange, IsReadWhereWatched};
 ghost use Rattle.replay_top.specs.RunWords.{run_told, source_told};
 
 use decimal_words::number;
@@ -24,6 +24,29 @@ pub(crate) struct RunWords<'a> {
     pub prefix: &'a str,
     /// The log's text is written, too.
     pub logs: bool,
+    /// A reader beside the run tells how far it has come.
+    pub watched: bool,
+}
+
+/// The run of a graph and a stack that are read.
+fn named<'a>(
+    graph: &'a String,
+    stack: &'a String,
+    prefix: &'a String,
+    logs: bool,
+    watched: bool,
+) -> RunWords<'a>
+    ensures { run_told result ≡ named_run logs watched (string_bytes graph.now) (string_bytes stack.now) (string_bytes prefix.now) }
+{
+    RunWords {
+        source: RunSource::Named {
+            graph: graph.as_str(),
+            stack: stack.as_str(),
+        },
+        prefix: prefix.as_str(),
+        logs,
+        watched,
+    }
 }
 
 /// The run of four words.
@@ -31,24 +54,18 @@ fn four_in(words: &[String]) -> Option<RunWords<'_>>
     requires { length words.now ≡ 4 }
     ensures told { option_map run_told result ≡ run_command_of (map string_bytes words.now) }
     ensures sound { IfSome result (λ w. IsInRange (source_told w.source)) }
+    ensures watched { IfSome result (λ w. IsReadWhereWatched (run_told w)) }
 {
     match words {
-        [command, graph, stack, prefix] if command.as_str() == "run" => Some(RunWords {
-            source: RunSource::Named {
-                graph: graph.as_str(),
-                stack: stack.as_str(),
-            },
-            prefix: prefix.as_str(),
-            logs: false,
-        }),
-        [command, graph, stack, prefix] if command.as_str() == "run-log" => Some(RunWords {
-            source: RunSource::Named {
-                graph: graph.as_str(),
-                stack: stack.as_str(),
-            },
-            prefix: prefix.as_str(),
-            logs: true,
-        }),
+        [command, graph, stack, prefix] if command.as_str() == "run" => {
+            Some(named(graph, stack, prefix, false, false))
+        }
+        [command, graph, stack, prefix] if command.as_str() == "run-log" => {
+            Some(named(graph, stack, prefix, true, false))
+        }
+        [command, graph, stack, prefix] if command.as_str() == "watch" => {
+            Some(named(graph, stack, prefix, false, true))
+        }
         _ => None,
     }
 }
@@ -58,6 +75,7 @@ fn two_in(words: &[String]) -> Option<RunWords<'_>>
     requires { length words.now ≡ 2 }
     ensures told { option_map run_told result ≡ run_command_of (map string_bytes words.now) }
     ensures sound { IfSome result (λ w. IsInRange (source_told w.source)) }
+    ensures watched { IfSome result (λ w. IsReadWhereWatched (run_told w)) }
 {
     match words {
         [command, frames] if command.as_str() == "demo" => Some(RunWords {
@@ -66,6 +84,7 @@ fn two_in(words: &[String]) -> Option<RunWords<'_>>
             },
             prefix: "demo_",
             logs: false,
+            watched: false,
         }),
         _ => None,
     }
@@ -75,6 +94,7 @@ fn two_in(words: &[String]) -> Option<RunWords<'_>>
 pub(crate) fn run_in(words: &[String]) -> Option<RunWords<'_>>
     ensures told { option_map run_told result ≡ run_command_of (map string_bytes words.now) }
     ensures sound { IfSome result (λ w. IsInRange (source_told w.source)) }
+    ensures watched { IfSome result (λ w. IsReadWhereWatched (run_told w)) }
 {
     let count = words.len();
     if count == 2 {

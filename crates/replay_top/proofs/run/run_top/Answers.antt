@@ -13,7 +13,8 @@ returns-in-Some-clause-holds g c =
 pub returns-in-Some-clause-demo : goal.returns-in-Some-clause-demo
 returns-in-Some-clause-demo g c =
     rw (sym c.run_in.ensures.told ∙ ap (option_map run_told) c.in-Some.is)
-    (RunEnds-steady c.demos_are_whole.ensures.whole _ (run_told c.in-Some.words) (rw c.in-Some.is at c.run_in.ensures.sound) c.run_words.result.status
+    (RunEnds-steady c.demos_are_whole.ensures.whole _ (run_told c.in-Some.words) (rw c.in-Some.is at c.run_in.ensures.sound)
+    (rw c.in-Some.is at c.run_in.ensures.watched) c.run_words.result.status
     c.run_words.result.log c.run_words.ensures.ends)
 
 pub returns-in-Some-clause-refused : goal.returns-in-Some-clause-refused

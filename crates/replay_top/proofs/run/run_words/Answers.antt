@@ -14,23 +14,24 @@ returns-in-Err-clause-ends g c =
 
 pub finish-requires-clause-measures : goal.finish-requires-clause-measures
 finish-requires-clause-measures g c =
-    length-measured c.in-Ok.loaded.0.graph c.in-Ok.loaded.1 c.in-Ok-run_plan.history.log.past
-    c.in-Ok-run_plan.history.measures c.in-Ok-run_plan.ensures.measures
+    length-measured c.in-Ok.loaded.0.graph c.in-Ok.loaded.1 c.in-Ok-run_plan.ended.run.log.past
+    c.in-Ok-run_plan.ended.run.measures c.in-Ok-run_plan.ensures.measures
 
 pub returns : goal.returns
 returns g c =
     let graph = c.in-Ok.loaded.0.graph in
     let stack = c.in-Ok.loaded.1 in
-    let history = c.in-Ok-run_plan.history in
+    let ended = c.in-Ok-run_plan.ended in
+    let history = ended.run in
     let P = history.log.past in
     let h = c.in-Ok-run_plan.ensures in
     let words = run_told c.args.words in
     record {
       ends =
           RunEnds-rest c.rows_complete_the_files.ensures c.groups_read_back.ensures c.finished_runs_hold.ensures words _ graph stack
-          history.log (g.K.Shelf.held c.run_plan.new.shelf) c.in-Ok.ensures.read h.finished h.roles h.ticks h.storage c.status_of.result history.fault _ _ h.files c.in_default-status_of.not-OutOfMemory
+          history.log (g.K.Shelf.held c.run_plan.new.shelf) c.in-Ok.ensures.read h.finished h.roles h.ticks h.storage c.status_of.result history.fault _ _ _ h.files c.in_default-status_of.not-OutOfMemory
           (ap (λ fs. fs ++ log_files words.logs words.prefix P) (measured-rows graph stack words.prefix P history.measures h.measures))
-          (ap (λ p. report_text graph (report p P)) c.in-Ok.ensures.plan) (rw (sym c.status_of.ensures) at c.finish.ensures.ends);
+          (ap (λ p. report_text graph (report p P)) c.in-Ok.ensures.plan) h.seen (rw (sym c.status_of.ensures) at c.finish.ensures.ends);
       cause =
           rw c.in-Ok.ensures.stays
           (IsRunCause-rest c.status_of.result history.fault _ _ _ _ _ _ _ _

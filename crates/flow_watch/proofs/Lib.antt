@@ -1,0 +1,5 @@
+pub mod Telling
+pub mod ReadFronts
+pub mod LineFronts
+pub mod Backwards
+pub mod Watching

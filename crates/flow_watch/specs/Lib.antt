@@ -1,0 +1,3 @@
+pub mod SeenLines
+pub mod Reads
+pub mod Runs
