@@ -64,7 +64,7 @@ pub enum Choice<'a> {
     Clock(&'a str),
     /// `gate pair NODE FIRST SECOND` or `gate append NODE INDEX APPENDS`: which role is held, and until when.
     Gate(GateRule),
-    /// `show calls`, `show roles`, `show accepted` or `show refused`: what more is told.
+    /// `show calls`, `show roles`, `show accepted`, `show refused` or `show seen`: what more is told.
     Show(Question),
 }
 

@@ -58,7 +58,7 @@ fn sink(alloc: Global, setting: &Setting) -> Result<MemSink> {
 /// Whether the words are for the call that runs graphs in threads.
 fn is_run(words: &[String]) -> bool {
     let first = words.first().map(|word| word.as_str());
-    matches!(first, Some("run" | "run-log" | "demo"))
+    matches!(first, Some("run" | "run-log" | "watch" | "demo"))
 }
 
 impl<'a> Objects<'a> {

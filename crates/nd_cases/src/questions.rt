@@ -1,5 +1,6 @@
 //! What more is told of a command, where it is the same whatever the schedule of its threads.
 
+use crate::line::{first_word, number};
 use crate::outcome::Outcome;
 use anyhow::{Context, Result, bail};
 use flow_journal::{Entry, Log};
@@ -18,6 +19,8 @@ pub enum Question {
     Accepted,
     /// Which frames the pool refused, and how much was held then.
     Refused,
+    /// How far a watched run had come at the last of its lines, and whether these tell of fronts that grow and end with the log.
+    Seen,
 }
 
 impl Question {
@@ -28,6 +31,7 @@ impl Question {
             "roles" => Ok(Question::Roles),
             "accepted" => Ok(Question::Accepted),
             "refused" => Ok(Question::Refused),
+            "seen" => Ok(Question::Seen),
             _ => bail!("{word} isn't told"),
         }
     }
@@ -39,6 +43,7 @@ impl Question {
             Question::Roles => print_roles(rt, log_of(outcome)?)?,
             Question::Accepted => print_accepted(rt, log_of(outcome)?, outcome)?,
             Question::Refused => print_refused(rt, log_of(outcome)?)?,
+            Question::Seen => print_seen(rt, log_of(outcome)?, outcome)?,
         }
         Ok(())
     }
@@ -120,5 +125,57 @@ fn print_refused(rt: &impl Print, log: &Log) -> io::Result<()> {
             println!(rt; "frame {index} of {need} bytes refused with {held} held")?;
         }
     }
+    Ok(())
+}
+
+/// How far a watched run had come at one of its lines.
+#[derive(Clone, Copy)]
+struct Front {
+    entries: u64,
+    offered: u64,
+    dropped: u64,
+    saved: u64,
+}
+
+/// What a line tells behind its first word.
+fn front_of(told: &str) -> Result<Front> {
+    let (entries, rest) = first_word(told)?;
+    let (offered, rest) = first_word(rest)?;
+    let (dropped, saved) = first_word(rest)?;
+    Ok(Front {
+        entries: number(entries)?,
+        offered: number(offered)?,
+        dropped: number(dropped)?,
+        saved: number(saved)?,
+    })
+}
+
+/// Prints what the last line of a watched run tells behind its entries, and whether the lines are of fronts that grow and end with the log.
+fn print_seen(rt: &impl Print, log: &Log, outcome: &Outcome) -> Result<()> {
+    let text = str::from_utf8(&outcome.printed).context("what was printed is no text")?;
+    let mut last = Front {
+        entries: 0,
+        offered: 0,
+        dropped: 0,
+        saved: 0,
+    };
+    let mut grow = true;
+    for line in text.lines() {
+        if let Some(told) = line.strip_prefix("seen ") {
+            let front = front_of(told)?;
+            grow = grow && last.entries < front.entries;
+            last = front;
+        }
+    }
+    let Front {
+        entries,
+        offered,
+        dropped,
+        saved,
+    } = last;
+    let whole = entries == log.entries().len() as u64;
+    println!(rt;
+        "seen last: {offered} {dropped} {saved}; fronts that grow: {grow}; to the whole log: {whole}"
+    )?;
     Ok(())
 }
