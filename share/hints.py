@@ -193,6 +193,8 @@ def spelled(value):
     """Returns a value as a graph's text has it."""
     if isinstance(value, bool):
         return str(value).lower()
+    if isinstance(value, list):
+        return f"[{', '.join(map(spelled, value))}]"
     return f'"{value}"' if isinstance(value, str) else str(value)
 
 
@@ -287,8 +289,8 @@ def tell_trigger(graph, words):
             what = f"in the trigger {text!r} what stands at place {at}, {text[at:at + 8]!r}, isn't expected there"
             if at >= len(text):
                 what = f"the trigger {text!r} ends too early"
-        return say(f"{graph.place(number, 'trigger')}: {what}; it may have A, B, whole numbers, parentheses, and || && == != < <= > >= + - * !")
-    return say(f"a trigger may have A, B, whole numbers, parentheses, and || && == != < <= > >= + - * !")
+        return say(f"{graph.place(number, 'trigger')}: {what}; it may have A, B, whole numbers up to {2**63 - 1:,}, parentheses, and || && == != < <= > >= + - * !")
+    return say(f"a trigger may have A, B, whole numbers up to {2**63 - 1:,}, parentheses, and || && == != < <= > >= + - * !")
 
 
 def tell_node(graph, fault, number):
@@ -510,7 +512,9 @@ def tell_stack(call, words):
 
 def cutting(name):
     """Returns a command that cuts a stack along its first dimension."""
-    return f"'ncks -d {first_dimension(header_of(name))},0,999 {shlex.quote(name)} NEW.nc'"
+    header = header_of(name)
+    fewer = min(1_000, header.lengths()[0] // 2) if header and header.frames() else 1_000
+    return f"'ncks -d {first_dimension(header)},0,{max(0, fewer - 1)} {shlex.quote(name)} NEW.nc'"
 
 
 def tell_limit(call, words):
@@ -543,7 +547,8 @@ def tell_limit(call, words):
     what = f"node {node['name']}" if node else "copy"
     helps = ['cdf = 2, for up to 8,589,934,592 bytes'] if form == 1 and node and number <= LONGEST_FILES[2] else []
     if node.get("count", 1) > 1:
-        helps.append(f"a smaller count, as {max(1, node['count'] * LONGEST_FILES[form] // number * 9 // 10):,}")
+        arrays = min(node["count"], sizes_in(stack)[0])
+        helps.append(f"a smaller count, as {max(1, arrays * LONGEST_FILES[form] // number * 9 // 10):,}")
     if not node:
         helps.append("a graph with one file node in place of copy, with count or cdf = 2")
     return say(f"{what} would write a file of {number:,} bytes, and its form has at most {LONGEST_FILES[form]:,}: {', or '.join(helps) or 'smaller frames'}")
@@ -586,7 +591,7 @@ def tell_refusal(line, call):
 
 def tell_losses(report, call):
     with open(report, encoding="utf-8") as file:
-        rows = [line.split() for line in file]
+        rows = [line.split() for line in file if not line.startswith("seen ")]
     try:
         graph = Graph(call["GRAPH"])
         run, nodes = graph.run, {it.get("name"): it for it in graph.nodes}
@@ -628,7 +633,7 @@ def roles_that_left(log):
 
 def tell_threads(room, call):
     workers = THREADS_OF_DEMO if call.command == "demo" else sum(it.get("threads", 1) for it in Graph(call["GRAPH"]).nodes)
-    asked = workers + 1
+    asked = workers + (2 if call.command == "watch" else 1)
     then = "so the first thread did the work alone, and all files stand. Take fewer threads, or raise the limit ('ulimit -u', or pids.max of the control group)"
     if call.command == "run-log":
         left = roles_that_left(f"{call['PREFIX']}log.txt")

@@ -37,7 +37,7 @@ def make_page(prefix: str, graph_path: str, report: Optional[str], stack: Option
         from .outputs import read_outputs
         from .page import page_text
     except ModuleNotFoundError as missing:
-        raise ViewFault(f"{sys.executable} has no package {missing.name}: install what view/requirements lists, or call python3 view/nd_view") from missing
+        raise ViewFault(f"{sys.executable} has no package {missing.name}: install what view/requirements lists, or call view/nd_view by a Python that has it") from missing
 
     outputs = read_outputs(prefix, graph, report, stack)
     name = out if out is not None else prefix + "view.html"
