@@ -1,7 +1,7 @@
 #!/usr/bin/env bash
 # Times the statistics of one array in chunks, by as many threads as there are processors, beside those by the thread that asks for them.
 # Then `nd_replay run` of one statistics node over large frames: with one thread, whose arrays are measured in chunks where processors are
-# to spare, beside `plain` of the same graph, which measures in one thread; and with eight threads, by this program and by another one
+# to spare and they are counted in a histogram, beside `plain` of the same graph, which measures in one thread; and with eight threads, by this program and by another one
 # where its path is given, as bench/chunks.sh OTHER. With no option and with all, by wall clock, seven times each in turn. Compares the
 # rows, and prints medians and their ratios. It is no part of the gate.
 set -eu

@@ -60,6 +60,7 @@ COMMANDS = {
     "plain": "plain g.toml s.nc p_",
     "run": "run g.toml s.nc r_",
     "run-log": "run-log g.toml s.nc l_",
+    "watch": "watch g.toml s.nc w_",
     "demo": "demo 3",
 }
 SECONDS = 60
@@ -76,7 +77,9 @@ class Left:
 
     def __init__(self, folder, ended, given):
         self.status = "hung" if ended is None else ended.returncode
-        self.printed = b"" if ended is None else ended.stdout
+        # how far a watched run had come is another text at each run, too
+        lines = [] if ended is None else ended.stdout.splitlines(keepends=True)
+        self.printed = b"".join(line for line in lines if not line.startswith(b"seen "))
         self.told = b"" if ended is None else ended.stderr
         self.files = {p.name: p.read_bytes() for p in folder.iterdir() if p.name not in given}
         # its text is another one at each run
