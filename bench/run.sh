@@ -1,7 +1,7 @@
 #!/usr/bin/env bash
 # Times `nd_replay run` through a region of two by two, statistics and a file, both of them with several threads and sorted, beside
 # `plain` of the same graph, the C program of plain.c in one thread and in as many, and `watch`; at three sizes of frames, by wall clock, five
-# times each in turn. Compares the files of all three, prints ratios of medians, and the most memory that `run` takes with a limit of
+# times each in turn. Compares the files of all, prints ratios of medians, and the most memory that `run` takes with a limit of
 # the pool. It is no part of the gate.
 set -eu
 source "$(dirname "$0")/program.sh"

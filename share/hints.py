@@ -28,7 +28,7 @@ TYPES_OF_DETECTORS = {6: "Int64", 7: "UInt64", 8: "Float32", 9: "Float64"}
 SECONDS_OF_BYTE = {"copy": 2e-7, "info": 2e-7}
 SECONDS_OF_BYTE_AT_NODE = 4e-6
 LEAST_TIME = 2
-LONGEST_STACK = 1_073_741_824
+LONGEST_STACK, LONGEST_GRAPH = 1_073_741_824, 1_048_576
 LONGEST_FILES = {1: 2_147_483_647, 2: 8_589_934_592}
 MOST_GENERATED, MOST_REGIONS = 536_870_912, 32
 MOST_ARRIVALS, MOST_KEPT, LONGEST_QUEUE = 1_048_576, 67_108_864, 65_535
@@ -140,6 +140,11 @@ def keys_of(kind):
     return found
 
 
+def may_be_graph(name):
+    """Returns whether a graph may be read from a name: a file, and no longer than one."""
+    return os.path.isfile(name) and os.path.getsize(name) <= LONGEST_GRAPH
+
+
 class Graph:
     """A graph's text, its tables, and the lines at which they stand."""
 
@@ -233,7 +238,7 @@ def tell_unknown_key(graph, shown):
             if number > 0 and key in read_keys().get("run", {}):
                 return say(f"{graph.place(number, key)}: {shown} is no key of a node: it stands under a line [run]")
             others = [it for it in KINDS if key in keys_of(it)]
-            hint = near(key, known) or (f", only {' and '.join(others)} nodes have it" if others else "")
+            hint = f", only {' and '.join(others)} nodes have it" if others else near(key, known)
             of = "[run]" if number == 0 else f"a {kind} node"
             return say(f"{graph.place(number, key)}: {of} has no key {shown}{hint}; it may have {', '.join(known)}")
     return None
@@ -439,13 +444,18 @@ FIRST_BYTES = (
 )
 
 
+def quoted_name(name):
+    """Returns a file's name as a word of the shell that no tool takes for an option."""
+    return shlex.quote(f"./{name}" if name.startswith("-") else name)
+
+
 def tell_magic(call):
     name = call["STACK"]
     with open(name, "rb") as file:
         data = file.read(4096)
     for start, words in FIRST_BYTES:
         if data.startswith(start):
-            return say(f"{name}: {words.format(shlex.quote(name))}")
+            return say(f"{name}: {words.format(quoted_name(name))}")
     if b"[[node]]" in data:
         return say(f"{name} is a graph, and {call.order()}")
     return say(f"{name} isn't a netCDF file: it begins with neither CDF and a byte 1 or 2, nor as another form does")
@@ -453,7 +463,7 @@ def tell_magic(call):
 
 def tell_sample_type(name, number, header):
     kind = TYPES.get(header.frames()[2], "another") if header else "another"
-    quoted = shlex.quote(name)
+    quoted = quoted_name(name)
     if number in (-5, -6) or kind in ("float", "double"):
         drop = f"; 'ncatted -a dataType,global,d,, NEW.nc' drops dataType, which doesn't fit then" if number > 0 else ""
         what = "its samples are floating-point numbers, and only whole numbers of 8, 16 or 32 bits are read"
@@ -482,7 +492,7 @@ def tell_stack(call, words):
     fault, *rest = words if words[0] != "Cdf" else words[1:]
     header, number = header_of(name), int(rest[0]) if rest else None
     var = header.vars[number][0] if header and rest and 0 <= number < len(header.vars) else f"number {number}"
-    quoted, cut = shlex.quote(name), first_dimension(header)
+    quoted, cut = quoted_name(name), first_dimension(header)
     if not os.path.getsize(name):
         return say(f"{name} is empty")
     if fault == "Magic":
@@ -493,13 +503,15 @@ def tell_stack(call, words):
         return tell_sample_type(name, number, header)
     if fault == "NoArrayData":
         there = [it[0] for it in header.vars] if header else []
-        most = max(header.vars, key=lambda it: len(it[1]))[0] if there else "OLD"
-        has = f"it has {', '.join(there) or 'no variable'}"
-        return say(f"{name}: the frames have to be the variable array_data; {has}: 'ncrename -v {most},array_data {quoted}' renames one")
+        renames = ""
+        if there:
+            most = max(header.vars, key=lambda it: len(it[1]))[0]
+            renames = f": 'ncrename -v {most},array_data {quoted}' renames one"
+        return say(f"{name}: the frames have to be the variable array_data; it has {', '.join(there) or 'no variable'}{renames}")
     return say(f"{name}: " + {
         "RecordDimNotFirst": f"the variable {var} has the dimension without a fixed length in another place than the first, which the classic format "
         "doesn't allow: write it anew by a tool of the netCDF library",
-        "Overflow": f"the variable {var} has more than 4 GiB: cut the file into several, as with 'ncks -d {cut},0,999 {quoted} NEW.nc'",
+        "Overflow": f"the variable {var} would have more than 4 GiB by its header, and the file hasn't: it was cut off or is damaged; copy it anew",
         "DataShort": f"values of the variable {var} are missing at its end: it was cut off, or is still being written; copy it anew",
         "Rank": tell_rank(number, quoted) if rest else "",
         "TooManyFrames": f"it has {number:,} frames, and a stack at most 65,536: 'ncks -d {cut},0,65535 {quoted} NEW.nc' cuts it" if rest else "",
@@ -510,24 +522,25 @@ def tell_stack(call, words):
     }.get(fault, "see docs/formats.md"))
 
 
-def cutting(name):
-    """Returns a command that cuts a stack along its first dimension."""
+def cutting(name, parts=2):
+    """Returns a command that cuts the first of so many parts from a stack, along its first dimension."""
     header = header_of(name)
-    fewer = min(1_000, header.lengths()[0] // 2) if header and header.frames() else 1_000
-    return f"'ncks -d {first_dimension(header)},0,{max(0, fewer - 1)} {shlex.quote(name)} NEW.nc'"
+    frames = header.lengths()[0] // parts if header and header.frames() else 1_000
+    return f"'ncks -d {first_dimension(header)},0,{max(0, frames - 1)} {quoted_name(name)} NEW.nc'"
 
 
 def tell_limit(call, words):
     fault, *rest = words
     number, stack = int(rest[-1]), call["STACK"]
     if fault == "GraphBytes":
-        return say(f"{call['GRAPH']} has {number:,} bytes, and a graph at most 1,048,576; {call.order()}")
+        return say(f"{call['GRAPH']} has {number:,} bytes, and a graph at most {LONGEST_GRAPH:,}; {call.order()}")
     if fault == "StackFile":
         if call["DARK"] and os.path.getsize(call["DARK"]) == number:
             stack = call["DARK"]
-        parts = -(-number // LONGEST_STACK)
+        # a tenth less for what a part has beside its frames
+        parts = number // (LONGEST_STACK * 9 // 10) + 1
         what = f"{stack} has {number:,} bytes, and a stack at most {LONGEST_STACK:,}"
-        return say(f"{what}: cut it along its first dimension into {parts} or more, as with {cutting(stack)}")
+        return say(f"{what}: cut it along its first dimension into {parts} or more, as with {cutting(stack, parts)}")
     if fault == "GenBytes":
         frame = int(call["W"]) * int(call["H"]) * WIDTHS_OF_SAMPLES[call["KIND"]]
         fits = f"up to {MOST_GENERATED // frame:,} frames of these sizes, or smaller ones"
@@ -546,9 +559,9 @@ def tell_limit(call, words):
     form = node.get("cdf", 1) if node else 1
     what = f"node {node['name']}" if node else "copy"
     helps = ['cdf = 2, for up to 8,589,934,592 bytes'] if form == 1 and node and number <= LONGEST_FILES[2] else []
-    if node.get("count", 1) > 1:
-        arrays = min(node["count"], sizes_in(stack)[0])
-        helps.append(f"a smaller count, as {max(1, arrays * LONGEST_FILES[form] // number * 9 // 10):,}")
+    arrays = min(node.get("count", 1), sizes_in(stack)[0]) * LONGEST_FILES[form] // number
+    if arrays > 0 and node.get("count", 1) > 1:
+        helps.append(f"a smaller count, as {max(1, arrays * 9 // 10):,}")
     if not node:
         helps.append("a graph with one file node in place of copy, with count or cdf = 2")
     return say(f"{what} would write a file of {number:,} bytes, and its form has at most {LONGEST_FILES[form]:,}: {', or '.join(helps) or 'smaller frames'}")
@@ -649,6 +662,8 @@ ENDS_OF_FIRST_FILES = {"file": "_000.nc", "stats": ".txt"}
 
 
 def tell_files(prefix, call):
+    if not may_be_graph(call["GRAPH"]):
+        return
     names = {f"{prefix}{it['name']}{ENDS_OF_FIRST_FILES[it['kind']]}" for it in Graph(call["GRAPH"]).nodes if it["kind"] in ENDS_OF_FIRST_FILES}
     if call.command == "run-log":
         names.add(f"{prefix}log.txt")
@@ -661,7 +676,8 @@ def tell_files(prefix, call):
 def nodes_that_compute(graph):
     """Returns how many nodes of a graph go over the samples of each array: those of regions and statistics, or 1 where it can't be told."""
     try:
-        return max(1, sum(it.get("kind") in ("roi", "stats") for it in Graph(graph).nodes))
+        nodes = Graph(graph).nodes if may_be_graph(graph) else []
+        return max(1, sum(it.get("kind") in ("roi", "stats") for it in nodes))
     except (OSError, ValueError):
         return 1
 

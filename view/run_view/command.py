@@ -16,7 +16,8 @@ WHOLE, WITH_PROBLEMS, NO_PAGE = 0, 1, 2
 _EPILOG = """\
 PREFIX is the one that the run was given, and GRAPH its graph. The page is <PREFIX>view.html, which opens without a network.
 Exit status: 0, the page is there; 1, the page is there, and some files couldn't be read whole or don't fit together, each named
-on standard error and at the page's top; 2, no page was written, and an older one stays as it is."""
+on standard error and at the page's top; 2, no page was written, and an older one stays as it is.
+Names that begin with a hyphen stand behind --."""
 
 
 def main(arguments: Optional[Sequence[str]] = None) -> int:
