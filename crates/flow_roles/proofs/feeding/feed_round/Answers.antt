@@ -18,7 +18,7 @@ returns-in-Left-clause-gone g c =
     (load-goes parts_of length s c.args.tick _ _ n Left refl call) (load-left-seen parts_of length s c.args.tick _ _ n call)
 
 pub returns-in-Left-clause-calls : goal.returns-in-Left-clause-calls
-returns-in-Left-clause-calls g c = λ first before f. loads before _ _ c.args.tick Left f c.requires.nothing.free c.in-Left.ensures.called
+returns-in-Left-clause-calls g c = λ first before f. loads before _ _ c.args.tick Left f c.requires.nothing.free refl c.in-Left.ensures.called
 
 pub returns-in-Busy-clause-gone : goal.returns-in-Busy-clause-gone
 returns-in-Busy-clause-gone g c =
@@ -27,7 +27,7 @@ returns-in-Busy-clause-gone g c =
     (load-goes parts_of length s c.args.tick _ _ c.requires.nothing Busy refl c.in-Busy.ensures.called)
 
 pub returns-in-Busy-clause-calls : goal.returns-in-Busy-clause-calls
-returns-in-Busy-clause-calls g c = λ first before f. loads before _ _ c.args.tick Busy f c.requires.nothing.free c.in-Busy.ensures.called
+returns-in-Busy-clause-calls g c = λ first before f. loads before _ _ c.args.tick Busy f c.requires.nothing.free refl c.in-Busy.ensures.called
 
 pub returns-in-NotYet-clause-gone : goal.returns-in-NotYet-clause-gone
 returns-in-NotYet-clause-gone g c =
@@ -36,7 +36,7 @@ returns-in-NotYet-clause-gone g c =
     (load-goes parts_of length s c.args.tick _ _ c.requires.nothing NotYet refl c.in-NotYet.ensures.called)
 
 pub returns-in-NotYet-clause-calls : goal.returns-in-NotYet-clause-calls
-returns-in-NotYet-clause-calls g c = λ first before f. loads before _ _ c.args.tick NotYet f c.requires.nothing.free c.in-NotYet.ensures.called
+returns-in-NotYet-clause-calls g c = λ first before f. loads before _ _ c.args.tick NotYet f c.requires.nothing.free refl c.in-NotYet.ensures.called
 
 pub close_feed-requires-clause-nothing : goal.close_feed-requires-clause-nothing
 close_feed-requires-clause-nothing g c =
@@ -45,7 +45,7 @@ close_feed-requires-clause-nothing g c =
 
 pub returns-in-Ended-clause-calls : goal.returns-in-Ended-clause-calls
 returns-in-Ended-clause-calls g c =
-    λ first before f. c.close_feed.ensures.calls first _ (loads before _ _ c.args.tick Ended f c.requires.nothing.free c.in-Ended.ensures.called)
+    λ first before f. c.close_feed.ensures.calls first _ (loads before _ _ c.args.tick Ended f c.requires.nothing.free refl c.in-Ended.ensures.called)
 
 pub returns-in-Refused-clause-gone : goal.returns-in-Refused-clause-gone
 returns-in-Refused-clause-gone g c =
@@ -53,7 +53,7 @@ returns-in-Refused-clause-gone g c =
     load-refuses parts_of length s c.args.tick _ _ c.requires.nothing _ _ c.in-Refused.ensures.called
 
 pub returns-in-Refused-clause-calls : goal.returns-in-Refused-clause-calls
-returns-in-Refused-clause-calls g c = λ first before f. loads before _ _ c.args.tick _ f c.requires.nothing.free c.in-Refused.ensures.called
+returns-in-Refused-clause-calls g c = λ first before f. loads before _ _ c.args.tick _ f c.requires.nothing.free refl c.in-Refused.ensures.called
 
 pub returns-in-OutOfMemory-clause-gone : goal.returns-in-OutOfMemory-clause-gone
 returns-in-OutOfMemory-clause-gone g c =
@@ -63,7 +63,7 @@ returns-in-OutOfMemory-clause-gone g c =
 
 pub returns-in-OutOfMemory-clause-calls : goal.returns-in-OutOfMemory-clause-calls
 returns-in-OutOfMemory-clause-calls g c =
-    λ first before f. leaves _ _ _ (loads before _ _ c.args.tick OutOfMemory f c.requires.nothing.free c.in-OutOfMemory.ensures.called) c.leave.ensures.called
+    λ first before f. leaves before _ _ _ c.args.tick OutOfMemory f c.requires.nothing.free refl c.in-OutOfMemory.ensures.called c.leave.ensures.called
 
 pub issue_loaded-requires-clause-loaded : goal.issue_loaded-requires-clause-loaded
 issue_loaded-requires-clause-loaded g c =
@@ -72,4 +72,4 @@ issue_loaded-requires-clause-loaded g c =
 
 pub returns-in-Loaded-clause-calls : goal.returns-in-Loaded-clause-calls
 returns-in-Loaded-clause-calls g c =
-    λ first before f. c.issue_loaded.ensures.calls first _ (loads before _ _ c.args.tick _ f c.requires.nothing.free c.in-Loaded.ensures.called)
+    λ first before f. c.issue_loaded.ensures.calls first _ (loads before _ _ c.args.tick _ f c.requires.nothing.free refl c.in-Loaded.ensures.called)

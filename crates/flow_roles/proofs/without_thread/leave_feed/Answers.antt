@@ -3,7 +3,7 @@ use Rattle.board_rules.specs.RunMeasures.{run_setting}
 use Rattle.flow_roles.specs.RoleMoves.{feeder_logs}
 use Rattle.flow_roles.specs.RoleEnds.{feeder_ends}
 use Rattle.flow_roles.specs.Feeder.{name_of, parts_of}
-use Rattle.flow_roles.specs.FeederTicks.{none, leaves}
+use Rattle.flow_roles.specs.FeederTicks.{stays_away}
 use Rattle.flow_roles.proofs.RoleCalls.{fresh-nothing, leave-free, feeder-quiet}
 use Rattle.flow_roles.proofs.Reclaims.{comes-back}
 use Rattle.flow_roles.proofs.without_thread.leave_feed.Goals as goal
@@ -20,5 +20,5 @@ returns g c =
       last = gone.last;
       left = gone.handed;
       reclaimed = comes-back name_of parts_of length s 0 (g.D.Desk.knows c.leave.new.pass).made c.nothing.result gone.handed;
-      ticks = λ coming. ([], refl, leaves [] _ _ none c.leave.ensures.called);
+      ticks = λ coming. ([], refl, stays_away _ c.leave.ensures.called);
     }
