@@ -1,7 +1,7 @@
 //! The course of a run.
 
-ghost use Rattle.std.specs.Prelude.{◌≡◌, ◌≤◌, ◌<◌, ◌*◌, ◌+◌, ◌∷◌, ◌++◌, ℕ, [], true, false, length, drop, slice_get, slice_index_or, Some};
-ghost use Rattle.flow_journal.specs.Setting.{is_node, node};
+ghost use Rattle.std.specs.Prelude.{◌≡◌, ◌≤◌, ◌<◌, ◌*◌, ◌+◌, ◌∷◌, ◌++◌, ℕ, [], true, false, length, drop, reverse, slice_get, slice_index_or, Some};
+ghost use Rattle.flow_journal.specs.Setting.{is_node, is_role, node};
 ghost use Rattle.flow_journal.specs.Queued.{has_room, queued};
 ghost use Rattle.board_rules.specs.States.{past};
 ghost use Rattle.board_rules.specs.RunMeasures.{run_setting};
@@ -24,6 +24,7 @@ mod watching;
 
 use crate::{Facts, NodeState, RoleState, Rules};
 pub use ending::MeasureRoom;
+use flow_journal::Entry;
 use nd_base::{FrameName, Held};
 use pool_ledger::Pool;
 use std::collections::VecDeque;
@@ -111,5 +112,26 @@ impl<F: Held> Course<F> {
         ensures { result ≡ has_room (run_setting F.Of.graph F.Of.stack) (past self.now.told) node }
     {
         self.queued_at(node) < self.queue_of(node)
+    }
+
+    /// The entries so far, the oldest first.
+    pub fn entries(&self) -> &[Entry]
+        ensures { result.now ≡ reverse (past self.now.told) }
+    {
+        self.log.entries()
+    }
+
+    /// Whether the run has this role; the greatest one is the drain.
+    pub fn is_role(&self, role: u32) -> bool
+        ensures { result ≡ is_role (run_setting F.Of.graph F.Of.stack) role }
+    {
+        role <= self.rules.last_role()
+    }
+
+    /// Whether the graph has this node.
+    pub fn is_node(&self, node: u32) -> bool
+        ensures { result ≡ is_node (run_setting F.Of.graph F.Of.stack) node }
+    {
+        0 < node && node as usize <= self.rules.nodes.as_slice().len()
     }
 }

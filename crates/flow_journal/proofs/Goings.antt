@@ -181,13 +181,13 @@ wanted_no_tick s P (Accept c m k) t = elim (has_room s P c) as (λ b. is_tick (c
 wanted_no_tick s P (Tick u) t = absurd (true≢false t)
 wanted_no_tick s P _ t = refl
 
-comes_as : (s : Setting) (P : Past) (x d : Entry) → is_tick d ≡ false → answers s P x d ≡ true → wanted s P d ≡ x
+pub comes_as : (s : Setting) (P : Past) (x d : Entry) → is_tick d ≡ false → answers s P x d ≡ true → wanted s P d ≡ x
 comes_as s P x d t h = such_same x (wanted s P d) (wanted_no_tick s P d t) h
 
 answer_tick : (s : Setting) (P : Past) (x d : Entry) → is_tick d ≡ false → answers s P x d ≡ true → is_tick x ≡ false
 answer_tick s P x d t h = ap is_tick (sym (comes_as s P x d t h)) ∙ wanted_no_tick s P d t
 
-some_owed : (s : Setting) (P : Past) (e : Entry) (ds : List Entry) → (not (is_nothing ds) && next s P e ds) ≡ true
+pub some_owed : (s : Setting) (P : Past) (e : Entry) (ds : List Entry) → (not (is_nothing ds) && next s P e ds) ≡ true
     → (d : Entry) × (rest : List Entry) × (ds ≡ d ∷ rest) × (answers s P e d ≡ true)
 some_owed s P e [] h = absurd (false≢true h)
 some_owed s P e (d ∷ rest) h = (d, rest, refl, h)
@@ -205,7 +205,7 @@ pub record Quietly (s : Setting) (P : Past) (e : Entry) : Type 0 where
   pub no_tick : is_tick e ≡ false
   pub after : count is_tick (owed s (e ∷ P)) ≡ 0
 
-quietly : (s : Setting) (P : Past) (e d : Entry) (rest : List Entry) → count is_tick (owed s P) ≡ 0 → owed s P ≡ d ∷ rest → answers s P e d ≡ true
+pub quietly : (s : Setting) (P : Past) (e d : Entry) (rest : List Entry) → count is_tick (owed s P) ≡ 0 → owed s P ≡ d ∷ rest → answers s P e d ≡ true
     → (is_tick d ≡ false) × Quietly s P e
 quietly s P e d rest none is a =
     let all : count is_tick (owed s P) ≡ bit (is_tick d) + count is_tick rest = ap (count is_tick) is ∙ count-cons is_tick d rest in
@@ -254,12 +254,12 @@ one_follow s P (e ∷ es) (d ∷ ds) none h g =
     let rest : es ≡ ds = one_follow s (e ∷ P) es ds quiet.1.after p.1 g_e in
     cc
 
-is_Tick : (s : Setting) (P : Past) (e : Entry) (u : ℕ) → answers s P e (Tick u) ≡ true → (t : ℕ) × (e ≡ Tick t)
+pub is_Tick : (s : Setting) (P : Past) (e : Entry) (u : ℕ) → answers s P e (Tick u) ≡ true → (t : ℕ) × (e ≡ Tick t)
 is_Tick s P (Tick t) u h = (t, refl)
 is_Tick s P _ u h = absurd (false≢true h)
 
 -- after the tick of a load
-ticked : (s : Setting) (P : Past) (u : ℕ) (es : List Entry) → owed s P ≡ Tick u ∷ [] → follow s P es ≡ true
+pub ticked : (s : Setting) (P : Past) (u : ℕ) (es : List Entry) → owed s P ≡ Tick u ∷ [] → follow s P es ≡ true
     → (t : ℕ) × (rest : List Entry) × (es ≡ Tick t ∷ rest) × (follow s (Tick t ∷ P) rest ≡ true) × (now (onto es P) ≡ t)
     × (count is_tick (owed s (Tick t ∷ P)) ≡ 0)
 ticked s P u [] is h = absurd (false≢true (ap is_nothing (sym is) ∙ h))

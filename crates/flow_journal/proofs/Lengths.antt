@@ -383,7 +383,7 @@ driver-few s P k h =
     )
 
 -- what isn't numbered has no arrivals
-not_numbered : (s : Setting) (v : ℕ) → length s.nodes < v → count (is_number v) (node_numbers s) ≡ 0
+pub not_numbered : (s : Setting) (v : ℕ) → length s.nodes < v → count (is_number v) (node_numbers s) ≡ 0
 not_numbered s v high = beyond v 1 s.nodes (omega (arith, high))
   where
     beyond : (v u : ℕ) (ns : List Node) → length ns + u ≤ v → count (is_number v) (numbers_from u ns) ≡ 0

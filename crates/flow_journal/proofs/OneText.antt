@@ -20,7 +20,7 @@ one_entry e d fe fd same =
     ∙ (ap (λ (k : Kind). entry_of k (numbers_in (spelling d)) (why_in (spelling d))) one ∙ reads-spelling d fd))
 
 -- a text begins with one line
-same_line : (text : List ℕ) (e d : Entry) (back after : List ℕ) → Fits e → Fits d → text ≡ line e ++ back → text ≡ line d ++ after → (e ≡ d) × (back ≡ after)
+pub same_line : (text : List ℕ) (e d : Entry) (back after : List ℕ) → Fits e → Fits d → text ≡ line e ++ back → text ≡ line d ++ after → (e ≡ d) × (back ≡ after)
 same_line text e d back after fe fd he hd =
     let ends = line_end-line text e back fe he in
     let one : e ≡ d =

@@ -61,7 +61,7 @@ impl<F: Held> Course<F> {
     }
 
     /// The bytes of an array of the driver, which is 0, or of a node that makes arrays.
-    fn need(&self, node: u32) -> u32
+    pub fn need(&self, node: u32) -> u32
         requires { (node ≡ 0) ⊎ (is_maker (run_setting F.Of.graph F.Of.stack) node ≡ true) }
         ensures { result ≡ (run_setting F.Of.graph F.Of.stack).need node }
     {

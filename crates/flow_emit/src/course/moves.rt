@@ -144,7 +144,7 @@ impl<F: Held> Course<F> {
     }
 
     /// The group of the next piece of a node, or 0 where it saves nothing.
-    fn next_group(&self, node: u32) -> u32
+    pub fn next_group(&self, node: u32) -> u32
         requires { is_node (run_setting F.Of.graph F.Of.stack) node ≡ true }
         ensures { result ≡ group_of (node_of (run_setting F.Of.graph F.Of.stack) node).work (length (standing_saves node (past self.now.told))) }
     {

@@ -104,7 +104,7 @@ impl<F: Held> Course<F> {
     }
 
     /// The name of the result of a job.
-    pub(crate) fn result_name(&self, node: u32, name: FrameName) -> FrameName
+    pub fn result_name(&self, node: u32, name: FrameName) -> FrameName
         requires { is_node (run_setting F.Of.graph F.Of.stack) node ≡ true }
         ensures { result ≡ result_name (run_setting F.Of.graph F.Of.stack) node name }
     {

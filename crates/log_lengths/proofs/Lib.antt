@@ -1,0 +1,3 @@
+pub mod LineLengths
+pub mod LongLines
+pub mod LogTexts
