@@ -1,0 +1,4 @@
+pub mod Verdicts
+pub mod VerdictLaws
+pub mod Steps
+pub mod Tries
