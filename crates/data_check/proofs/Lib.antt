@@ -1,0 +1,11 @@
+pub mod Parts
+pub mod Fronts
+pub mod Positions
+pub mod Groups
+pub mod RowSteps
+pub mod Finds
+pub mod GroupFiles
+pub mod NodeFiles
+pub mod Verdicts
+pub mod Compared
+pub mod Alike
