@@ -4,12 +4,12 @@ use crate::choices::Object;
 use crate::files::CaseFile;
 use crate::gate::CaseGate;
 use crate::library::CaseLibrary;
-use crate::outcome::{Calls, Outcome, left_files};
+use crate::outcome::{Calls, Ending, Outcome, left_files};
 use crate::setting::Setting;
 use crate::shelf::NotedShelf;
 use anyhow::{Context, Result};
 use edge_traits::{MemClock, MemShelf, MemSink, Sink, ToldShelf};
-use replay_top::{Exit, run_top, tool_top};
+use replay_top::{CheckStatus, check_top, run_top, tool_top};
 use std::alloc::Global;
 use std::sync::Wait;
 use std::sync::atomic::AtomicU64;
@@ -61,6 +61,11 @@ fn is_run(words: &[String]) -> bool {
     matches!(first, Some("run" | "run-log" | "watch" | "demo"))
 }
 
+/// Whether the words are for the call that checks a log.
+fn is_check(words: &[String]) -> bool {
+    words.first().is_some_and(|word| word.as_str() == "check")
+}
+
 impl<'a> Objects<'a> {
     /// The objects that a setting says, over these files. The word counts the shelf's appends.
     pub fn new(
@@ -86,27 +91,33 @@ impl<'a> Objects<'a> {
         alloc: Global,
         words: &[String],
         run: bool,
-    ) -> Exit {
+    ) -> Ending {
         let library = &mut self.library;
         let shelf = &mut self.shelf;
         let sink = &mut self.sink;
         if run || is_run(words) {
             let clock = &mut self.clock;
-            return run_top(rt, alloc, words, library, shelf, sink, clock, &self.gate);
+            let exit = run_top(rt, alloc, words, library, shelf, sink, clock, &self.gate);
+            return Ending {
+                status: CheckStatus::Common(exit.status),
+                log: exit.log,
+            };
         }
-        Exit {
-            status: tool_top(alloc, words, library, shelf, sink),
-            log: None,
-        }
+        let status = if is_check(words) {
+            check_top(alloc, words, library, sink)
+        } else {
+            CheckStatus::Common(tool_top(alloc, words, library, shelf, sink))
+        };
+        Ending { status, log: None }
     }
 
     /// What a command left that ended so.
-    pub fn outcome(&self, alloc: Global, setting: &Setting, exit: Exit) -> Result<Outcome> {
+    pub fn outcome(&self, alloc: Global, setting: &Setting, ending: Ending) -> Result<Outcome> {
         let shelf_calls = self.shelf.shelf().calls();
         let sink_calls = self.sink.calls();
         Ok(Outcome {
-            status: exit.status,
-            log: exit.log,
+            status: ending.status,
+            log: ending.log,
             calls: Calls {
                 library: self.library.calls(),
                 shelf: shelf_calls.saturating_sub(setting.shelf_calls()),

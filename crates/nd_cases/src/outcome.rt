@@ -4,7 +4,7 @@ use crate::files::Files;
 use crate::shelf::NotedShelf;
 use anyhow::{Result, ensure};
 use flow_journal::{Log, write_text};
-use replay_top::{Status, status_text};
+use replay_top::{CheckStatus, Status, check_status_text};
 use std::alloc::Global;
 
 /// How many calls each object got.
@@ -22,10 +22,18 @@ pub struct LeftFile {
     pub bytes: Vec<u8>,
 }
 
+/// How a top call ended.
+#[derive(Drop)]
+pub struct Ending {
+    pub status: CheckStatus,
+    /// The log of a run that has finished.
+    pub log: Option<Log>,
+}
+
 /// What a command leaves.
 #[derive(Drop)]
 pub struct Outcome {
-    pub status: Status,
+    pub status: CheckStatus,
     /// The log of a run that has finished.
     pub log: Option<Log>,
     pub calls: Calls,
@@ -55,12 +63,12 @@ pub fn left_files(alloc: Global, shelf: &NotedShelf<'_>) -> Result<Vec<LeftFile>
 impl Outcome {
     /// The text of the status.
     pub fn status_text(&self, alloc: Global) -> Result<String> {
-        Ok(status_text(alloc, &self.status)?)
+        Ok(check_status_text(alloc, &self.status)?)
     }
 
     /// Whether the command did its work.
     pub fn is_done(&self) -> bool {
-        matches!(self.status, Status::Done)
+        matches!(self.status, CheckStatus::Common(Status::Done))
     }
 
     /// The text of the log.

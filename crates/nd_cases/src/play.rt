@@ -27,8 +27,8 @@ fn call<W: Threads + Wait + Sync>(
 ) -> Result<Outcome> {
     let word = AtomicU64::new(0);
     let mut objects = Objects::new(alloc, files, setting, &word)?;
-    let exit = objects.call(rt, alloc, words, setting.run);
-    objects.outcome(alloc, setting, exit)
+    let ending = objects.call(rt, alloc, words, setting.run);
+    objects.outcome(alloc, setting, ending)
 }
 
 /// Plays a table. It has the files of the case, and how the next command is called.

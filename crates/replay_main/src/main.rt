@@ -3,7 +3,7 @@
 #![tactic(auto)]
 
 use edge_traits::{DiskLibrary, DiskShelf, OpenGate, OutSink, RealClock};
-use replay_top::{Status, run_top, status_text, tool_top};
+use replay_top::{CheckStatus, Status, check_status_text, check_top, run_top, tool_top};
 use std::io::ErrorKind;
 use std::process::ExitCode;
 use std::rt::{Env, Files};
@@ -24,6 +24,9 @@ const HELP: &str = "nd_replay: replays a stack of detector frames through a grap
                                            have room for all of them; needs no other file, and
                                            writes demo_stats.txt and demo_file_000.nc
     nd_replay plain GRAPH STACK PREFIX     runs them in one thread; nothing is dropped
+    nd_replay check GRAPH STACK LOG PREFIX
+                                           prints yes where LOG is the log of a whole run of GRAPH
+                                           over STACK, and the files of PREFIX are those of it
     nd_replay copy STACK PREFIX            writes the frames of STACK to <PREFIX>copy_000.nc
     nd_replay info STACK                   prints the sample type, the dimensions, the number of
                                            frames, the ids and the attributes of STACK
@@ -50,7 +53,8 @@ variables uniqueId, timeStamp, epicsTSSec, epicsTSNsec and Attr_NAME are used wh
 'nccopy -k classic OLD NEW' makes one of other netCDF files whose types the classic format has.
 docs/formats.md has the rules.
 
-GRAPH is a TOML text of at most 1 MiB with up to 32 plugins. docs/graph.md lists its keys.
+GRAPH is a TOML text of at most 1 MiB with up to 32 plugins. docs/graph.md lists its keys. LOG is a
+text that run-log wrote, of at most 512 MiB; docs/log.md tells how the answers of check are read.
 
 MODE is 0 to 7: 0 to 3 turn by so many quarters clockwise, and 4 to 7 by four fewer and then
 mirror. DARK is such a file as STACK, and its frames have the sizes of those of STACK. OFFSET, NUM,
@@ -74,13 +78,17 @@ The status, which one line on standard error tells where it isn't 0:
     4  StackBytes   STACK or DARK isn't such a file; the fault is named: see docs/formats.md
     5  Limit        a file is too large, or a run or a file would be: cut the stack, keep
                     fewer bins, or write smaller groups of arrays
-    6  ReadFault    GRAPH, STACK or DARK isn't there or can't be read
+    6  ReadFault    GRAPH, STACK, DARK, LOG or a file to check isn't there or can't be read
     7  ShelfFault   a file can't be made or written, as where its folder isn't there or is full:
                     delete what wasn't finished, and run again
     8  OutFault     the files stand, but standard output failed
     9  OutOfMemory  out of memory: free some, or cut the stack
     10 Sizes        the frames to be turned have one dimension; or DARK has no frame, or frames
                     of other sizes than STACK
+    11 LogBytes     a line of LOG, whose number is told, is none of a log
+    12 LogRefused   LOG isn't that of a whole run: the number of the first entry that can't stand
+                    there is told, or it is unfinished
+    13 FileDiffers  a file isn't that of the run: the numbers of its plugin and its group are told
 ";
 
 const VERSION: &str = "nd_replay 0.1.0
@@ -141,20 +149,29 @@ fn replay(
     }
 }
 
+/// Does what the words of a check ask for, over real files and standard output.
+fn check(rt: &(impl Files + Print + AllocGlobal), words: &[String]) -> CheckStatus {
+    let mut library = DiskLibrary::new(rt);
+    let mut out = OutSink::new(rt);
+    check_top(rt.alloc(), words, &mut library, &mut out)
+}
+
 /// Does what the words ask for.
 fn run(
     rt: &(impl Files + Print + time::Clock + Threads + Wait + Sync + AllocGlobal),
     words: &[String],
-) -> Status {
-    match words {
+) -> CheckStatus {
+    let status = match words {
+        [word, ..] if word.as_str() == "check" => return check(rt, words),
         [word] if word.as_str() == "--help" || word.as_str() == "-h" => printed(rt.print(HELP)),
         [word] if word.as_str() == "--version" => printed(rt.print(VERSION)),
         _ => replay(rt, words),
-    }
+    };
+    CheckStatus::Common(status)
 }
 
-/// The line of a status without what it carries, which needs no memory.
-fn short_line(status: &Status) -> &'static str {
+/// The line of a status that other commands have, too, without what it carries.
+fn short_common_line(status: &Status) -> &'static str {
     match status {
         Status::Done => "nd_replay: status 0 Done",
         Status::Usage => "nd_replay: status 1 Usage",
@@ -170,9 +187,20 @@ fn short_line(status: &Status) -> &'static str {
     }
 }
 
+/// The line of a status without what it carries, which needs no memory.
+fn short_line(status: &CheckStatus) -> &'static str {
+    match status {
+        CheckStatus::Common(status) => short_common_line(status),
+        CheckStatus::LongLog { .. } => "nd_replay: status 5 Limit",
+        CheckStatus::LogBytes(_) => "nd_replay: status 11 LogBytes",
+        CheckStatus::LogRefused(_) => "nd_replay: status 12 LogRefused",
+        CheckStatus::FileDiffers(_) => "nd_replay: status 13 FileDiffers",
+    }
+}
+
 /// Says on standard error why the program didn't do its work.
-fn report(rt: &(impl Eprint + AllocGlobal), status: &Status) {
-    let _ = match status_text(rt.alloc(), status) {
+fn report(rt: &(impl Eprint + AllocGlobal), status: &CheckStatus) {
+    let _ = match check_status_text(rt.alloc(), status) {
         Ok(text) => eprintln!(rt; "nd_replay: {text}"),
         Err(_) => rt.eprintln(short_line(status)),
     };
@@ -182,9 +210,9 @@ fn report(rt: &(impl Eprint + AllocGlobal), status: &Status) {
 fn main(rt: HostRuntime) -> ExitCode {
     let status = match command_words(&rt) {
         Ok(words) => run(&rt, &words),
-        Err(status) => status,
+        Err(status) => CheckStatus::Common(status),
     };
-    if !matches!(status, Status::Done) {
+    if !matches!(status, CheckStatus::Common(Status::Done)) {
         report(&rt, &status);
     }
     ExitCode::from(status.number())

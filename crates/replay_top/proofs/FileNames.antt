@@ -60,7 +60,7 @@ group_names g prefix v w i j m n sound at_m at_n hi hj same =
 pub rows_names : RowsHaveOwnNames
 rows_names g prefix v w m n sound at_m at_n same = one_node g sound v w m n at_m at_n (stats_names-differ prefix m.name n.name same)
 
-log_is : (prefix : List ℕ) → stats_name prefix (codes "log") ≡ log_name prefix
+pub log_is : (prefix : List ℕ) → stats_name prefix (codes "log") ≡ log_name prefix
 log_is prefix = append_assoc prefix (codes "log") (codes ".txt")
 
 pub no_texts : GroupsAreNoTexts

@@ -1,17 +1,23 @@
 -- Where a stage of a run stopped, the run ends so.
-use Rattle.std.proofs.Common.{◌≡◌, ◌≢◌, ℕ, Bool, true, false, List, ◌++◌, Option, None, Some, Err, refl, ap, sym, subst, ◌∙◌}
+use Rattle.std.proofs.Common.{◌≡◌, ◌≢◌, ℕ, Bool, true, false, List, ◌++◌, length, reverse, All, Option, None, Some, Err, refl, ap, sym, subst, ◌∙◌}
+use Rattle.std.proofs.lemmas.Bool.{and_parts}
 use Rattle.std.proofs.lemmas.List.{append-nil}
 use Rattle.nd_base.specs.Array.{StackValue}
 use Rattle.nd_base.specs.declared.graph.Graph.{Graph}
 use Rattle.chain_plain.specs.Plans.{makers_of}
 use Rattle.edge_traits.specs.Faults.{Rose}
 use Rattle.edge_traits.specs.Files.{Files}
+use Rattle.flow_journal.specs.Following.{owed}
+use Rattle.flow_journal.specs.Histories.{is_legal, is_nothing}
 use Rattle.flow_journal.specs.Journal.{Journal}
 use Rattle.flow_journal.specs.Pasts.{Past}
+use Rattle.flow_journal.specs.TextFaults.{Fits}
+use Rattle.log_lengths.specs.TextLengths.{LogTextsAreShort}
 use Rattle.board_rules.specs.RunMeasures.{run_setting}
 use Rattle.board_rules.specs.Storage.{is_never_regrown}
 use Rattle.run_laws.specs.Results.{IsFinishedRun}
 use Rattle.run_laws.specs.RunHolds.{FinishedRunsHold}
+use Rattle.plain_saver.proofs.KeptStacks.{IsKeptStack-IsStack}
 use Rattle.graph_files.specs.BegunLaws.{with_files-append}
 use Rattle.graph_files.specs.OutFiles.{OutFile, with_files}
 use Rattle.flow_saver.specs.ReadBack.{GroupsReadBack}
@@ -27,9 +33,9 @@ use Rattle.tool_commands.specs.Outcomes.{Leads}
 use Rattle.replay_top.specs.RunAnswers.{RunObjects, IsLogOf, RunEnds, IsRunCause, IsRunUntouched, IsSeen, Prints, run_print}
 use Rattle.replay_top.specs.RunCommand.{RunCommand, IsRead}
 use Rattle.replay_top.specs.RunFiles.{later_files, HoldsFiles, HaveGroupsBack, AtGroups, AfterGroups}
-use Rattle.replay_top.specs.LogFiles.{log_files}
+use Rattle.replay_top.specs.LogFiles.{log_files, IsReadable}
 use Rattle.replay_top.specs.RunSources.{run_sources, IsSourceRead}
-use Rattle.replay_top.specs.RunStages.{RestEnds, RestCause}
+use Rattle.replay_top.specs.RunStages.{RestEnds, RestCause, WritesAll}
 use Rattle.tool_commands.specs.Stages.{ReadStops}
 use Rattle.tool_commands.specs.Works.{Source}
 
@@ -58,13 +64,13 @@ module _ (g : Graph) (stack : StackValue) (prefix : List ℕ) (P : Past) (held m
   rows = with_files mid (rows_files g stack prefix P)
 
   holds-by : (logs : Bool) → HoldsFilesOf g stack prefix P held rows → now ≡ with_files mid (rows_files g stack prefix P ++ log_files logs prefix P)
-      → HoldsFiles logs (record { graph = g; stack = stack }) prefix P held now
-  holds-by false holds is =
+      → (logs ≡ true → IsReadable P) → HoldsFiles logs (record { graph = g; stack = stack }) prefix P held now
+  holds-by false holds is text =
       let same : rows ≡ now = ap (with_files mid) (sym (append-nil (rows_files g stack prefix P))) ∙ sym is in
       subst (λ (w : Option Files). HoldsFilesOf g stack prefix P held w) same holds
-  holds-by true holds is = (rows, holds, is ∙ with_files-append mid (rows_files g stack prefix P) (log_files true prefix P))
+  holds-by true holds is text = (rows, holds, is ∙ with_files-append mid (rows_files g stack prefix P) (log_files true prefix P), text refl)
 
-module _ (complete : RowsComplete) (reads : GroupsReadBack) (points : FinishedRunsHold) (c : RunCommand) (o : RunObjects) (g : Graph)
+module _ (complete : RowsComplete) (reads : GroupsReadBack) (points : FinishedRunsHold) (short : LogTextsAreShort) (c : RunCommand) (o : RunObjects) (g : Graph)
     (stack : StackValue) (log : Journal) (mid : Option Files) (read : IsSourceRead o.objects.library c.source (record { graph = g; stack = stack }))
     (run : IsFinishedRun (run_setting g stack) log.past) (roles : AreOwnMoves (run_setting g stack) log.past)
     (ticks : IsFedByTheClock (run_setting g stack) log.past o.coming o.later) (storage : is_never_regrown log.past ≡ true) where
@@ -99,45 +105,54 @@ module _ (complete : RowsComplete) (reads : GroupsReadBack) (points : FinishedRu
   back : HaveGroupsBack source log.past
   back v i n r at kind some = reads g stack log.past v i n r read.sound read.kept read.within run.legal at kind some
 
+  readable : All Fits (reverse log.past) → IsReadable log.past
+  readable fits =
+      let legal = and_parts (is_legal (run_setting g stack) log.past) (is_nothing (owed (run_setting g stack) log.past)) run.legal in
+      let sound = IsKeptStack-IsStack stack read.kept in
+      record { fits = fits; within = short g (makers_of g.nodes stack.shape) stack log.past read.sound sound read.within legal.0 fits }
+
   holds : HoldsGroupsOf g stack c.prefix log.past held mid → now ≡ with_files mid (later_files c source log.past)
-      → HoldsFiles c.logs source c.prefix log.past held now
-  holds groups is = holds-by g stack c.prefix log.past held mid now c.logs (complete g stack c.prefix log.past held mid read.sound groups) is
+      → (c.logs ≡ true → All Fits (reverse log.past)) → HoldsFiles c.logs source c.prefix log.past held now
+  holds groups is fits =
+      holds-by g stack c.prefix log.past held mid now c.logs (complete g stack c.prefix log.past held mid read.sound groups) is
+      (λ logs. readable (fits logs))
 
   -- what was left to write and to print, where the log is kept
   ends : (status : Status) (fault : Bool) (text : List ℕ) → HasSavedRun g stack c.prefix log.past held fault mid → status ≢ OutOfMemory
-      → (fault ≡ false → Prints c.watched source log.past text)
+      → (fault ≡ false → Prints c.watched source log.past text) → (WritesAll status → c.logs ≡ true → All Fits (reverse log.past))
       → RestEnds status fault (later_files c source log.past) text mid now written out → RunEnds status (Some log) (Some c) o
-  ends Done true text groups some prints rest = absurd (let no : true ≡ false = rest.0 in cc)
-  ends Done false text groups some prints rest =
-      record { source = source; log = is_log; files = holds groups rest.1; back = back; text = text; prints = prints refl; printed = rest.2 }
-  ends ShelfFault true text groups some prints rest =
+  ends Done true text groups some prints fits rest = absurd (let no : true ≡ false = rest.0 in cc)
+  ends Done false text groups some prints fits rest =
+      record { source = source; log = is_log; files = holds groups rest.1 (fits tt); back = back; text = text; prints = prints refl; printed = rest.2 }
+  ends ShelfFault true text groups some prints fits rest =
       record {
         source = source;
         log = is_log;
         files = AtGroups (subst (λ (w : Option Files). HasSavedRun g stack c.prefix log.past held true w) (sym rest.0) groups);
         unprinted = rest.1;
       }
-  ends ShelfFault false text groups some prints rest = record { source = source; log = is_log; files = AfterGroups mid groups rest.0; unprinted = rest.1 }
-  ends OutFault true text groups some prints rest = absurd (let no : true ≡ false = rest.0 in cc)
-  ends OutFault false text groups some prints rest =
-      record { source = source; log = is_log; files = holds groups rest.1; back = back; text = text; prints = prints refl; printed = rest.2 }
-  ends OutOfMemory fault text groups some prints rest = absurd (some refl)
-  ends Usage fault text groups some prints rest = absurd rest
-  ends GraphText fault text groups some prints rest = absurd rest
-  ends (GraphRule f) fault text groups some prints rest = absurd rest
-  ends (StackBytes f) fault text groups some prints rest = absurd rest
-  ends (Limit f) fault text groups some prints rest = absurd rest
-  ends Sizes fault text groups some prints rest = absurd rest
-  ends ReadFault fault text groups some prints rest = absurd rest
+  ends ShelfFault false text groups some prints fits rest = record { source = source; log = is_log; files = AfterGroups mid groups rest.0; unprinted = rest.1 }
+  ends OutFault true text groups some prints fits rest = absurd (let no : true ≡ false = rest.0 in cc)
+  ends OutFault false text groups some prints fits rest =
+      record { source = source; log = is_log; files = holds groups rest.1 (fits tt); back = back; text = text; prints = prints refl; printed = rest.2 }
+  ends OutOfMemory fault text groups some prints fits rest = absurd (some refl)
+  ends Usage fault text groups some prints fits rest = absurd rest
+  ends GraphText fault text groups some prints fits rest = absurd rest
+  ends (GraphRule f) fault text groups some prints fits rest = absurd rest
+  ends (StackBytes f) fault text groups some prints fits rest = absurd rest
+  ends (Limit f) fault text groups some prints fits rest = absurd rest
+  ends Sizes fault text groups some prints fits rest = absurd rest
+  ends ReadFault fault text groups some prints fits rest = absurd rest
 
   -- the same by what the nodes measured and what the plan says
   pub RunEnds-rest : (status : Status) (fault : Bool) (files : List OutFile) (seen print : List ℕ)
       → HasSavedRun g stack c.prefix log.past held fault mid → status ≢ OutOfMemory
       → files ≡ later_files c source log.past → print ≡ run_print source log.past
-      → (fault ≡ false → IsSeen c.watched (run_setting g stack) log.past seen) → RestEnds status fault files (seen ++ print) mid now written out
+      → (fault ≡ false → IsSeen c.watched (run_setting g stack) log.past seen) → (WritesAll status → c.logs ≡ true → All Fits (reverse log.past))
+      → RestEnds status fault files (seen ++ print) mid now written out
       → RunEnds status (Some log) (Some c) o
-  RunEnds-rest status fault files seen print groups some same_files same_print before rest =
-      ends status fault (seen ++ print) groups some (λ none. record { seen = seen; before = before none; whole = ap (λ t. seen ++ t) same_print })
+  RunEnds-rest status fault files seen print groups some same_files same_print before fits rest =
+      ends status fault (seen ++ print) groups some (λ none. record { seen = seen; before = before none; whole = ap (λ t. seen ++ t) same_print }) fits
       (subst (λ (fs : List OutFile). RestEnds status fault fs (seen ++ print) mid now written out) same_files rest)
 
 -- the counts

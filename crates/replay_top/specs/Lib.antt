@@ -1,3 +1,4 @@
+pub mod CheckedRuns
 pub mod DemoRuns
 pub mod FileNames
 pub mod LogFiles

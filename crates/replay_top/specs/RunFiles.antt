@@ -15,7 +15,7 @@ use Rattle.graph_files.specs.Groups.{group_of}
 use Rattle.graph_files.specs.OutFiles.{OutFile, file_shape}
 use Rattle.flow_saver.specs.Ending.{IsTornHistory}
 use Rattle.flow_saver.specs.HistoryFiles.{HoldsFilesOf, HoldsGroupsOf, rows_files}
-use Rattle.replay_top.specs.LogFiles.{log_name, log_text, log_files}
+use Rattle.replay_top.specs.LogFiles.{log_name, log_text, log_files, IsReadable}
 use Rattle.replay_top.specs.RunCommand.{RunCommand}
 use Rattle.tool_commands.specs.Works.{Source}
 
@@ -23,11 +23,12 @@ use Rattle.tool_commands.specs.Works.{Source}
 abbrev pub later_files : RunCommand → Source → Past → List OutFile
 later_files c source P = rows_files source.graph source.stack c.prefix P ++ log_files c.logs c.prefix P
 
--- the files of the history, and for `run-log` the log's text after them, also where a statistics node is named `log`
+-- the files of the history, and for `run-log` the log's text after them, which reads back as the log, also where a statistics node is named `log`
 abbrev pub HoldsFiles : (logs : Bool) → Source → (prefix : List ℕ) → Past → (before held : Option Files) → Type 0
 HoldsFiles false source prefix P before held = HoldsFilesOf source.graph source.stack prefix P before held
 HoldsFiles true source prefix P before held =
     (rows : Option Files) × HoldsFilesOf source.graph source.stack prefix P before rows × (held ≡ with_file rows (log_name prefix) (log_text P))
+    × IsReadable P
 
 -- the file of each group reads back as the arrays that were saved there
 abbrev pub HaveGroupsBack : Source → Past → Type 0

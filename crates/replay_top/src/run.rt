@@ -1,7 +1,8 @@
 //! `run GRAPH STACK PREFIX`, `run-log` and `watch` with the same words, and `demo N`: runs a graph over a stack with its threads.
 
-ghost use Rattle.std.specs.Prelude.{◌≡◌, ◌⊎◌, ◌↔◌, ◌++◌, map, length, None, Some, Err, IsSome, IfOk, OnOk, IfErr, string_bytes};
+ghost use Rattle.std.specs.Prelude.{◌≡◌, ◌⊎◌, ◌↔◌, ◌++◌, true, map, length, reverse, All, None, Some, Err, IsSome, IfOk, OnOk, IfErr, string_bytes};
 ghost use Rattle.edge_traits.specs.Written.{with_written};
+ghost use Rattle.flow_journal.specs.TextFaults.{Fits};
 ghost use Rattle.nd_base.specs.GraphRules.{IsGraph};
 ghost use Rattle.run_report.specs.Report.{report};
 ghost use Rattle.run_report.specs.Text.{report_text};
@@ -16,7 +17,7 @@ ghost use Rattle.replay_top.specs.DemoRuns.{IsDemoSteady};
 ghost use Rattle.replay_top.specs.RunSources.{sources_of};
 ghost use Rattle.replay_top.specs.LogFiles.{log_files};
 ghost use Rattle.replay_top.specs.RunWords.{run_told, source_told};
-ghost use Rattle.replay_top.specs.RunStages.{LaterStops, RestEnds, RestCause};
+ghost use Rattle.replay_top.specs.RunStages.{LaterStops, RestEnds, RestCause, WritesAll};
 ghost use Rattle.tool_commands.specs.Stages.{PrintStops};
 
 use crate::exit::{Exit, unfinished};
@@ -29,6 +30,7 @@ use edge_traits::{Clock, Gate, Library, Shelf, Sink};
 use flow_run::RunEnd;
 use flow_saver::{groups_read_back, rows_complete_the_files};
 use flow_watch::WatchEnd;
+use log_lengths::log_texts_are_short;
 use nd_base::{OutOfMemory, Plan};
 use run_laws::finished_runs_hold;
 use run_report::{counters, report_text};
@@ -50,6 +52,7 @@ fn save_rest<K: Shelf>(
     requires measures { length history.now.measures ≡ length plan.now.graph.nodes }
     ensures ok { OnOk result (K.held shelf.new ≡ with_files (K.held shelf.old)
         (measured_files prefix.now plan.now.graph.nodes history.now.measures ++ log_files logs prefix.now history.now.log.past)) }
+    ensures fits { OnOk result (logs ≡ true → All Fits (reverse history.now.log.past)) }
     ensures stays { OnOk result (K.faults shelf.new ≡ K.faults shelf.old) }
     ensures err { IfErr result (λ s. LaterStops s (K.held shelf.old)
         (measured_files prefix.now plan.now.graph.nodes history.now.measures ++ log_files logs prefix.now history.now.log.past)
@@ -110,6 +113,7 @@ fn finish<K: Shelf, T: Sink>(
         (measured_files prefix.now plan.now.graph.nodes ended.now.run.measures ++ log_files logs prefix.now ended.now.run.log.past)
         (string_bytes ended.now.seen ++ report_text plan.now.graph (report plan.now ended.now.run.log.past))
         (K.held shelf.old) (K.held shelf.new) (T.written out.old) (T.written out.new) }
+    ensures fits { WritesAll (status_of result) → logs ≡ true → All Fits (reverse ended.now.run.log.past) }
     ensures cause { RestCause (status_of result) ended.now.run.fault (K.faults shelf.old) (K.faults shelf.new) (T.faults out.old) (T.faults out.new) }
 {
     if ended.run.fault {
@@ -152,6 +156,7 @@ fn run_words<
     groups_read_back();
     rows_complete_the_files();
     finished_runs_hold();
+    log_texts_are_short();
     let Ok(ended) = run_plan(
         rt,
         alloc,

@@ -1,11 +1,12 @@
 //! The files that a run writes once the groups of its file nodes stand: the rows of its statistics nodes, and the text of its log.
 
-ghost use Rattle.std.specs.Prelude.{◌≡◌, ◌++◌, length, OnOk, OnErr};
+ghost use Rattle.std.specs.Prelude.{◌≡◌, ◌++◌, true, length, reverse, All, OnOk, OnErr};
 ghost use Rattle.std.specs.List.{flat_map};
 ghost use Rattle.nd_base.specs.GraphRules.{IsGraph};
 ghost use Rattle.edge_traits.specs.Files.{with_file};
 ghost use Rattle.file_out.specs.Saving.{IsBegun, IsSaveCause};
 ghost use Rattle.nd_stats.specs.Row.{row};
+ghost use Rattle.flow_journal.specs.TextFaults.{Fits};
 ghost use Rattle.graph_files.specs.BegunFiles.{AreBegun};
 ghost use Rattle.graph_files.specs.OutFiles.{stats_name, with_files};
 ghost use Rattle.replay_top.specs.MeasuredFiles.{measured_rows, measured_files};
@@ -109,6 +110,7 @@ fn save_log<K: Shelf>(
     log: &Log,
 ) -> Result<(), SaveFault>
     ensures ok { OnOk result (K.held shelf.new ≡ with_file (K.held shelf.old) (log_name prefix.now) (log_text log.now.past)) }
+    ensures fits { OnOk result (All Fits (reverse log.now.past)) }
     ensures err { OnErr result (IsBegun (K.held shelf.old) (log_name prefix.now) (log_text log.now.past) (K.held shelf.new)) }
     ensures cause { IsSaveCause result (K.faults shelf.old) (K.faults shelf.new) }
 {
@@ -131,6 +133,7 @@ pub(crate) fn save_later<K: Shelf>(
     requires measures { length measures.now ≡ length graph.now.nodes }
     ensures ok { OnOk result (K.held shelf.new
         ≡ with_files (K.held shelf.old) (measured_files prefix.now graph.now.nodes measures.now ++ log_files logs prefix.now log.now.past)) }
+    ensures fits { OnOk result (logs ≡ true → All Fits (reverse log.now.past)) }
     ensures err { OnErr result
         (AreBegun (K.held shelf.old) (measured_files prefix.now graph.now.nodes measures.now ++ log_files logs prefix.now log.now.past) (K.held shelf.new)) }
     ensures cause { IsSaveCause result (K.faults shelf.old) (K.faults shelf.new) }

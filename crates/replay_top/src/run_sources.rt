@@ -3,38 +3,17 @@
 ghost use Rattle.std.specs.Prelude.{◌≡◌, Err, OnOk, IfOk, IfErr};
 ghost use Rattle.chain_plain.specs.Plans.{plan_of};
 ghost use Rattle.tool_commands.specs.Outcomes.{Leads};
-ghost use Rattle.replay_top.specs.RunCommand.{Named, IsInRange, IsRead};
+ghost use Rattle.replay_top.specs.RunCommand.{IsInRange, IsRead};
 ghost use Rattle.replay_top.specs.RunSources.{run_sources, IsSourceRead};
 ghost use Rattle.replay_top.specs.RunWords.{source_told};
 ghost use Rattle.tool_commands.specs.Stages.{ReadStops};
-ghost use Rattle.tool_commands.specs.Works.{sources};
 
 use crate::demo::make_demo;
 use crate::run_words::RunSource;
 use edge_traits::Library;
 use nd_base::{Plan, Stack};
 use std::alloc::Global;
-use tool_commands::{Status, load_graph, load_stack, plan_within};
-
-/// Reads a graph and a stack that the graph may go over.
-fn load_named<L: Library>(
-    alloc: Global,
-    library: &mut L,
-    graph: &str,
-    name: &str,
-) -> Result<(Plan, Stack), Status>
-    ensures read { IfOk result (λ r. IsSourceRead (L.holds library.old) (Named graph.now name.now) (record { graph = r.0.graph; stack = r.1 })) }
-    ensures plan { IfOk result (λ r. r.0 ≡ plan_of r.0.graph r.1) }
-    ensures stays { OnOk result (L.faults library.new ≡ L.faults library.old) }
-    ensures files { L.holds library.new ≡ L.holds library.old }
-    ensures err { IfErr result (λ s. ReadStops (λ status. Leads (L.holds library.old) (sources graph.now name.now) (Err status)) s
-        (L.faults library.old) (L.faults library.new)) }
-{
-    let graph = load_graph(alloc, library, graph)?;
-    let stack = load_stack(alloc, library, name)?;
-    let plan = plan_within(alloc, graph, &stack)?;
-    Ok((plan, stack))
-}
+use tool_commands::{Status, load_sources};
 
 /// Reads what a run goes over, or makes it, which reads no file.
 pub(crate) fn load_run<L: Library>(
@@ -52,7 +31,7 @@ pub(crate) fn load_run<L: Library>(
     ensures read_fault { IfErr result (λ s. s ≡ Status.ReadFault → IsRead (source_told source.entry)) }
 {
     match source {
-        RunSource::Named { graph, stack } => load_named(alloc, library, graph, stack),
+        RunSource::Named { graph, stack } => load_sources(alloc, library, graph, stack),
         RunSource::Demo { frames } => Ok(make_demo(alloc, frames)?),
     }
 }

@@ -6,8 +6,8 @@ ghost use Rattle.tool_commands.specs.Causes.{IsCause};
 ghost use Rattle.tool_commands.specs.Command.{Copy};
 ghost use Rattle.tool_commands.specs.Copy.{copy_graph};
 
-use crate::plain::{plan_within, save_plain};
-use crate::sources::load_stack;
+use crate::plain::save_plain;
+use crate::sources::{load_stack, plan_within};
 use crate::stack_files::print_frames;
 use crate::status::Status;
 use edge_traits::{Library, Shelf, Sink};

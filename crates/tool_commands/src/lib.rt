@@ -20,8 +20,8 @@ mod words;
 
 pub use graph_conf::LimitFault;
 pub use laws::{copies_are_one_file, plain_runs_go_by_inputs, works_are_of_what_was_read};
-pub use plain::plan_within;
 pub use printing::{print, save_text};
-pub use sources::{load_graph, load_stack};
+pub use reading::{ReadRefusal, read_file};
+pub use sources::load_sources;
 pub use status::{Status, status_of, status_text};
 pub use top::tool_top;

@@ -1,6 +1,6 @@
 //! `plain GRAPH STACK PREFIX`: runs a graph over a stack in one thread, without drops.
 
-ghost use Rattle.std.specs.Prelude.{◌≡◌, None, Some, IfOk, OnOk, IfErr};
+ghost use Rattle.std.specs.Prelude.{◌≡◌, None, Some, OnOk, IfErr};
 ghost use Rattle.edge_traits.specs.Written.{with_written};
 ghost use Rattle.nd_base.specs.GraphRules.{IsGraph};
 ghost use Rattle.nd_stack.specs.KeptStacks.{IsKeptStack};
@@ -11,31 +11,16 @@ ghost use Rattle.tool_commands.specs.Causes.{IsCause};
 ghost use Rattle.tool_commands.specs.Command.{Plain};
 ghost use Rattle.graph_files.specs.OutFiles.{plain_files, with_files};
 ghost use Rattle.tool_commands.specs.PlainText.{plain_text};
-ghost use Rattle.tool_commands.specs.Stages.{PlanStops, SaveStops, PrintStops};
+ghost use Rattle.tool_commands.specs.Stages.{SaveStops, PrintStops};
 
 use crate::printing::print;
 use crate::prints::plain_text;
-use crate::sources::{load_graph, load_stack};
+use crate::sources::load_sources;
 use crate::status::Status;
-use chain_plain::plan;
 use edge_traits::{Library, Shelf, Sink};
-use graph_conf::check_load;
-use nd_base::{Graph, Plan, Stack};
+use nd_base::{Plan, Stack};
 use plain_saver::save_files;
 use std::alloc::Global;
-
-/// The plan of a graph over a stack that passes none of its limits.
-pub fn plan_within(alloc: Global, graph: Graph, stack: &Stack) -> Result<Plan, Status>
-    requires graph { IsGraph graph }
-    requires kept { IsKeptStack stack.now }
-    ensures plan { IfOk result (λ plan. plan ≡ plan_of graph stack.now) }
-    ensures within { OnOk result (limit_fault graph stack.now ≡ None) }
-    ensures err { IfErr result (λ s. PlanStops s graph stack.now) }
-{
-    let plan = plan(alloc, graph, stack)?;
-    check_load(&plan.graph, stack, &plan)?;
-    Ok(plan)
-}
 
 /// Writes the files of all nodes.
 pub(crate) fn save_plain<K: Shelf>(
@@ -90,9 +75,7 @@ pub(crate) fn plain<L: Library, K: Shelf, T: Sink>(
         (record { library = L.faults library.new; shelf = K.faults shelf.new; sink = T.faults out.new }) }
     ensures library { L.holds library.new ≡ L.holds library.old }
 {
-    let graph = load_graph(alloc, library, graph)?;
-    let stack = load_stack(alloc, library, name)?;
-    let plan = plan_within(alloc, graph, &stack)?;
+    let (plan, stack) = load_sources(alloc, library, graph, name)?;
     save_plain(alloc, shelf, prefix, &plan, &stack)?;
     print_plain(alloc, out, &plan, &stack)
 }

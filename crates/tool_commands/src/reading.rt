@@ -12,7 +12,7 @@ const PIECE: usize = 262_144;
 
 /// Why a file wasn't read.
 #[derive(Clone, Copy, Debug, PartialEq, Eq)]
-pub(crate) enum ReadRefusal {
+pub enum ReadRefusal {
     /// It has more bytes than the limit; nothing was read.
     TooLong { bytes: u64 },
     /// The library failed.
@@ -43,7 +43,12 @@ impl From<Failed> for ReadRefusal {
 }
 
 /// Reads all of a file that has at most `limit` bytes. Room for them is reserved at once, and each byte of it is written once.
-pub(crate) fn read_file<L: Library>(
+///
+/// # Errors
+///
+/// `TooLong` with the file's size where that is past the limit, and then nothing was read; `Failed` where the library failed, whose count of
+/// faults rose; and `OutOfMemory`.
+pub fn read_file<L: Library>(
     alloc: Global,
     library: &mut L,
     name: &str,

@@ -1,17 +1,23 @@
 //! Reading the files of a command.
 
-ghost use Rattle.std.specs.Prelude.{◌≡◌, OnOk, IfOk, IfErr};
+ghost use Rattle.std.specs.Prelude.{◌≡◌, None, Ok, Err, OnOk, IfOk, IfErr};
+ghost use Rattle.nd_base.specs.GraphRules.{IsGraph};
 ghost use Rattle.nd_stack.specs.Answers.{Gives};
 ghost use Rattle.nd_stack.specs.KeptStacks.{IsKeptStack};
 ghost use Rattle.nd_stack.specs.StackRules.{stack_of};
 ghost use Rattle.tool_commands.specs.Inputs.{AsGraph, AsStack, IsReadAs, IsRefusedAs};
-ghost use Rattle.tool_commands.specs.Stages.{ReadStops, graph_read_status, stack_read_status};
+ghost use Rattle.chain_plain.specs.Plans.{plan_of};
+ghost use Rattle.graph_conf.specs.Loads.{limit_fault};
+ghost use Rattle.tool_commands.specs.Outcomes.{Leads};
+ghost use Rattle.tool_commands.specs.Stages.{PlanStops, ReadStops, graph_read_status, stack_read_status};
+ghost use Rattle.tool_commands.specs.Works.{sources};
 
 use crate::reading::{ReadRefusal, read_file};
 use crate::status::Status;
+use chain_plain::plan;
 use edge_traits::Library;
-use graph_conf::{LimitFault, read_graph};
-use nd_base::{Graph, Stack};
+use graph_conf::{LimitFault, check_load, read_graph};
+use nd_base::{Graph, Plan, Stack};
 use nd_stack::{StackFault, read_stack, stacks_read_back};
 use std::alloc::Global;
 
@@ -44,7 +50,7 @@ fn unread_stack(refusal: ReadRefusal) -> Status
 }
 
 /// Reads a graph.
-pub fn load_graph<L: Library>(alloc: Global, library: &mut L, name: &str) -> Result<Graph, Status>
+fn load_graph<L: Library>(alloc: Global, library: &mut L, name: &str) -> Result<Graph, Status>
     ensures ok { IfOk result (λ g. IsReadAs (L.holds library.old) AsGraph name.now g) }
     ensures stays { OnOk result (L.faults library.new ≡ L.faults library.old) }
     ensures files { L.holds library.new ≡ L.holds library.old }
@@ -70,7 +76,11 @@ fn stack_in(alloc: Global, bytes: Vec<u8>) -> Result<Stack, StackFault>
 }
 
 /// Reads a stack.
-pub fn load_stack<L: Library>(alloc: Global, library: &mut L, name: &str) -> Result<Stack, Status>
+pub(crate) fn load_stack<L: Library>(
+    alloc: Global,
+    library: &mut L,
+    name: &str,
+) -> Result<Stack, Status>
     ensures ok { IfOk result (λ stack. IsReadAs (L.holds library.old) AsStack name.now stack) }
     ensures kept { IfOk result IsKeptStack }
     ensures stays { OnOk result (L.faults library.new ≡ L.faults library.old) }
@@ -85,4 +95,45 @@ pub fn load_stack<L: Library>(alloc: Global, library: &mut L, name: &str) -> Res
         Ok(stack) => Ok(stack),
         Err(fault) => Err(Status::from(fault)),
     }
+}
+
+/// The plan of a graph over a stack that passes none of its limits.
+pub(crate) fn plan_within(alloc: Global, graph: Graph, stack: &Stack) -> Result<Plan, Status>
+    requires graph { IsGraph graph }
+    requires kept { IsKeptStack stack.now }
+    ensures plan { IfOk result (λ plan. plan ≡ plan_of graph stack.now) }
+    ensures within { OnOk result (limit_fault graph stack.now ≡ None) }
+    ensures err { IfErr result (λ s. PlanStops s graph stack.now) }
+{
+    let plan = plan(alloc, graph, stack)?;
+    check_load(&plan.graph, stack, &plan)?;
+    Ok(plan)
+}
+
+/// Reads a graph, and then a stack that the graph may go over.
+///
+/// # Errors
+///
+/// The first refusal of the two files, of which no count of faults rises; `ReadFault` where the library failed, whose count rose; and
+/// `OutOfMemory`.
+pub fn load_sources<L: Library>(
+    alloc: Global,
+    library: &mut L,
+    graph: &str,
+    stack: &str,
+) -> Result<(Plan, Stack), Status>
+    ensures read { IfOk result (λ r. Leads (L.holds library.old) (sources graph.now stack.now) (Ok (record { graph = r.0.graph; stack = r.1 }))) }
+    ensures sound { IfOk result (λ r. IsGraph r.0.graph) }
+    ensures kept { IfOk result (λ r. IsKeptStack r.1) }
+    ensures within { IfOk result (λ r. limit_fault r.0.graph r.1 ≡ None) }
+    ensures plan { IfOk result (λ r. r.0 ≡ plan_of r.0.graph r.1) }
+    ensures stays { OnOk result (L.faults library.new ≡ L.faults library.old) }
+    ensures files { L.holds library.new ≡ L.holds library.old }
+    ensures err { IfErr result (λ s. ReadStops (λ status. Leads (L.holds library.old) (sources graph.now stack.now) (Err status)) s
+        (L.faults library.old) (L.faults library.new)) }
+{
+    let graph = load_graph(alloc, library, graph)?;
+    let stack = load_stack(alloc, library, stack)?;
+    let plan = plan_within(alloc, graph, &stack)?;
+    Ok((plan, stack))
 }

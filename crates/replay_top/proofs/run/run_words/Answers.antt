@@ -28,10 +28,12 @@ returns g c =
     let words = run_told c.args.words in
     record {
       ends =
-          RunEnds-rest c.rows_complete_the_files.ensures c.groups_read_back.ensures c.finished_runs_hold.ensures words _ graph stack
+          RunEnds-rest c.rows_complete_the_files.ensures c.groups_read_back.ensures c.finished_runs_hold.ensures
+          c.log_texts_are_short.ensures words _ graph stack
           history.log (g.K.Shelf.held c.run_plan.new.shelf) c.in-Ok.ensures.read h.finished h.roles h.ticks h.storage c.status_of.result history.fault _ _ _ h.files c.in_default-status_of.not-OutOfMemory
           (ap (λ fs. fs ++ log_files words.logs words.prefix P) (measured-rows graph stack words.prefix P history.measures h.measures))
-          (ap (λ p. report_text graph (report p P)) c.in-Ok.ensures.plan) h.seen (rw (sym c.status_of.ensures) at c.finish.ensures.ends);
+          (ap (λ p. report_text graph (report p P)) c.in-Ok.ensures.plan) h.seen
+          (rw (sym c.status_of.ensures) at c.finish.ensures.fits) (rw (sym c.status_of.ensures) at c.finish.ensures.ends);
       cause =
           rw c.in-Ok.ensures.stays
           (IsRunCause-rest c.status_of.result history.fault _ _ _ _ _ _ _ _

@@ -1,0 +1,6 @@
+pub mod CheckAnswers
+pub mod CheckCommand
+pub mod CheckLaws
+pub mod CheckStages
+pub mod CheckWords
+pub mod StatusText
