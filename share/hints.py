@@ -4,7 +4,8 @@
     hints.py losses REPORT COMMAND NAME=WORD ..      what a run lost by its report, and what keeps it
     hints.py threads ROOM COMMAND NAME=WORD ..       that a run had too few threads, where so many could be started when it began
     hints.py time CALLED COMMAND NAME=WORD ..        how long a trial build takes for a stack
-    hints.py files PREFIX COMMAND NAME=WORD ..       the first file of each node of a graph that writes, each name ended by 00
+    hints.py files PREFIX COMMAND NAME=WORD ..       the first file of each node of a graph that writes; of a check each file that is compared; each
+                                                     name ended by 00
 
 COMMAND is the program's command, and NAME=WORD are its words, each under the name that the help has for it. What a key of a graph may be is read from the
 tables of docs/graph.md."""
@@ -28,7 +29,7 @@ TYPES_OF_DETECTORS = {6: "Int64", 7: "UInt64", 8: "Float32", 9: "Float64"}
 SECONDS_OF_BYTE = {"copy": 2e-7, "info": 2e-7}
 SECONDS_OF_BYTE_AT_NODE = 4e-6
 LEAST_TIME = 2
-LONGEST_STACK, LONGEST_GRAPH = 1_073_741_824, 1_048_576
+LONGEST_STACK, LONGEST_GRAPH, LONGEST_LOG = 1_073_741_824, 1_048_576, 536_870_912
 LONGEST_FILES = {1: 2_147_483_647, 2: 8_589_934_592}
 MOST_GENERATED, MOST_REGIONS = 536_870_912, 32
 MOST_ARRIVALS, MOST_KEPT, LONGEST_QUEUE = 1_048_576, 67_108_864, 65_535
@@ -458,6 +459,8 @@ def tell_magic(call):
             return say(f"{name}: {words.format(quoted_name(name))}")
     if b"[[node]]" in data:
         return say(f"{name} is a graph, and {call.order()}")
+    if re.match(rb"(load|loadrefused|close|settle) [0-9]", data):
+        return say(f"{name} is a log, and {call.order()}")
     return say(f"{name} isn't a netCDF file: it begins with neither CDF and a byte 1 or 2, nor as another form does")
 
 
@@ -534,6 +537,8 @@ def tell_limit(call, words):
     number, stack = int(rest[-1]), call["STACK"]
     if fault == "GraphBytes":
         return say(f"{call['GRAPH']} has {number:,} bytes, and a graph at most {LONGEST_GRAPH:,}; {call.order()}")
+    if fault == "LogFile":
+        return say(f"{call['LOG']} has {number:,} bytes, and a log at most {LONGEST_LOG:,}; {call.order()}")
     if fault == "StackFile":
         if call["DARK"] and os.path.getsize(call["DARK"]) == number:
             stack = call["DARK"]
@@ -583,6 +588,54 @@ def tell_sizes(call):
     return say(f"the frames of {call['DARK']} have {dark_sizes} samples, and those of {call['STACK']} {sizes}: the dark frame has to have the same sizes")
 
 
+LONGEST_LINE_SHOWN = 80
+
+
+def shown(line):
+    """Returns a line in quotes, cut where it is long, with each control character as its number."""
+    text = line.rstrip("\n")
+    cut = text[:LONGEST_LINE_SHOWN] + (" .." if len(text) > LONGEST_LINE_SHOWN else "")
+    return shlex.quote("".join(it if it.isprintable() else f"\\u{{{ord(it):x}}}" for it in cut))
+
+
+def lines_of(log):
+    """Gives the lines of a log, each as it stands, and of one that is too long for an entry its front alone."""
+    with open(log, encoding="utf-8", errors="replace", newline="\n") as file:
+        while line := file.readline(1000):
+            whole = line.endswith("\n")
+            while not whole and (rest := file.readline(1_000_000)):
+                whole = rest.endswith("\n")
+            yield line
+
+
+def tell_log_line(call, number, what):
+    """Says what stands at a line of a log, and what of that."""
+    line = next((it for count, it in enumerate(lines_of(call["LOG"]), 1) if count == number), "")
+    return say(f"line {number} of {call['LOG']} is {shown(line)}: {what(line)} (docs/log.md)")
+
+
+def why_no_entry(line):
+    if not line.endswith("\n") and len(line) < 1000:
+        return "it has no newline behind it, as where a log was cut off or is still being written"
+    return "it isn't spelled as an entry"
+
+
+def why_not_there(_):
+    return "no run of this graph over this stack goes on so after the lines before it"
+
+
+def tell_log(call, words):
+    if words[0] == "Unfinished":
+        return say(f"no line of {call['LOG']} is wrong, and the run isn't at its end: lines are missing behind the last one (docs/log.md)")
+    return tell_log_line(call, int(words[1]), why_not_there)
+
+
+def tell_difference(call, words):
+    node = Graph(call["GRAPH"]).nodes[int(words[0]) - 1]
+    end = ".txt" if node["kind"] == "stats" else f"_{int(words[1]):03}.nc"
+    return say(f"{call['PREFIX']}{node['name']}{end} isn't the file that this run wrote: its size or its bytes differ (docs/log.md)")
+
+
 def tell_refusal(line, call):
     words = line.partition("status ")[2].split()
     if words[0] == "1":
@@ -597,6 +650,12 @@ def tell_refusal(line, call):
         tell_limit(call, words[2:])
     elif words[0] == "10":
         tell_sizes(call)
+    elif words[0] == "11":
+        tell_log_line(call, int(words[3]), why_no_entry)
+    elif words[0] == "12":
+        tell_log(call, words[2:])
+    elif words[0] == "13":
+        tell_difference(call, words[2:])
 
 
 # --- losses
@@ -661,10 +720,20 @@ def tell_threads(room, call):
 ENDS_OF_FIRST_FILES = {"file": "_000.nc", "stats": ".txt"}
 
 
+def files_of_log(prefix, call):
+    """Returns the names of the files that a run of this log wrote, but for one under the log's own name."""
+    nodes = Graph(call["GRAPH"]).nodes
+    names = {f"{prefix}{it['name']}.txt" for it in nodes if it["kind"] == "stats" and it["name"] != "log"}
+    for words in map(str.split, lines_of(call["LOG"])):
+        if words[:1] == ["save"]:
+            names.add(f"{prefix}{nodes[int(words[2]) - 1]['name']}_{int(words[6]):03}.nc")
+    return names
+
+
 def tell_files(prefix, call):
     if not may_be_graph(call["GRAPH"]):
         return
-    names = {f"{prefix}{it['name']}{ENDS_OF_FIRST_FILES[it['kind']]}" for it in Graph(call["GRAPH"]).nodes if it["kind"] in ENDS_OF_FIRST_FILES}
+    names = files_of_log(prefix, call) if call.command == "check" else {f"{prefix}{it['name']}{ENDS_OF_FIRST_FILES[it['kind']]}" for it in Graph(call["GRAPH"]).nodes if it["kind"] in ENDS_OF_FIRST_FILES}
     if call.command == "run-log":
         names.add(f"{prefix}log.txt")
     print("".join(f"{it}\0" for it in sorted(names)), end="")

@@ -13,6 +13,7 @@ _nd_replay() {
     case $name in
         GRAPH) _nd_replay_files '!*.toml' "$word" ;;
         STACK | DARK) _nd_replay_files '!*.nc' "$word" ;;
+        LOG) _nd_replay_files '!*.txt' "$word" ;;
         PREFIX | NAME) _nd_replay_files '' "$word" ;;
         MODE) mapfile -t COMPREPLY < <(compgen -W "0 1 2 3 4 5 6 7" -- "$word") ;;
         KIND) mapfile -t COMPREPLY < <(compgen -W "Int8 UInt8 Int16 UInt16 Int32 UInt32" -- "$word") ;;

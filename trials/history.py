@@ -30,6 +30,7 @@ FORMS = {
     "leave": "role",
     "reclaim": "role",
 }
+FLAGS = ("fresh", "regrown", "fired")
 NAMED = {"block", "size", "fresh", "given", "regrown", "need", "held", "fired", "group"}
 WIDTHS = {"Int8": 1, "UInt8": 1, "Int16": 2, "UInt16": 2, "Int32": 4, "UInt32": 4}
 TYPES = ["Int8", "UInt8", "Int16", "UInt16", "Int32", "UInt32"]
@@ -51,7 +52,7 @@ class Entry:
                 raise ValueError(line)
             fields[name] = words.pop(0)
         entry = cls(kind, **{name: word if name == "why" else int(word) for name, word in fields.items()})
-        if words or entry.line() != line:
+        if words or entry.line() != line or any(fields.get(it, "0") not in "01" for it in FLAGS):
             raise ValueError(line)
         return entry
 

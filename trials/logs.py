@@ -1,9 +1,10 @@
 #!/usr/bin/env python3
-"""Runs a built program over random graphs and stacks, and reads each log by the rules of docs/history.md: logs.py PROGRAM [RUNS] [SEED]
+"""Runs a built program over random graphs and stacks, and reads each log twice, by the rules of docs/history.md and by the program's `check`:
+logs.py PROGRAM [RUNS] [SEED]
 
 Each log has to be `finished`, and each front of it `unfinished`. Of each log some lines are left out, doubled or exchanged with the next one, and some
-numbers are raised or lowered: what is then read is counted, and has to be `entry N` or `unfinished`, or `finished` where the changed log is one of another
-run. It ends with 1 at the first log that is read otherwise, which it leaves in the folder that it names."""
+numbers are raised or lowered. Both have to read each of these logs alike, down to the number of the entry, and the answers are counted. It ends with 1 at the
+first log that isn't read so, which it leaves in the folder that it names."""
 
 import random
 import struct
@@ -96,25 +97,39 @@ def read(setting, lines):
         return "no log"
 
 
+def checked(program, room, lines):
+    """What `check` says of a log of these lines, in the words of history.py. Files that are those of another run are no fault of the log."""
+    (room / "changed.txt").write_text("".join(f"{it}\n" for it in lines))
+    words = [program, "check", "graph.toml", "stack.nc", "changed.txt", "x_"]
+    run = subprocess.run(words, cwd=room, capture_output=True, text=True, check=False)
+    answer = run.stderr.removeprefix("nd_replay: ").split()
+    if run.returncode == 12:
+        return " ".join(answer[3:]).lower()
+    return {0: "finished", 6: "finished", 11: "no log", 13: "finished"}.get(run.returncode, f"status {run.returncode}")
+
+
 def main(program, runs="100", seed="1"):
-    seen, room = Counter(), Path(tempfile.mkdtemp(prefix="logs-"))
+    program, seen, room = Path(program).resolve(), Counter(), Path(tempfile.mkdtemp(prefix="logs-"))
     for number in range(int(runs)):
         dice = random.Random(f"{seed} {number}")
         width, height, frames = dice.randrange(1, 5), dice.randrange(1, 4), dice.randrange(8)
         flags = [dice.randrange(5) for _ in range(frames)]
         (room / "stack.nc").write_bytes(stack_bytes(random_ids(dice, frames), flags, width, height))
         (room / "graph.toml").write_text(random_graph(dice, width * height))
-        run = subprocess.run([Path(program).resolve(), "run-log", "graph.toml", "stack.nc", "x_"], cwd=room, capture_output=True, text=True, check=False)
+        words = [program, "run-log", "graph.toml", "stack.nc", "x_"]
+        run = subprocess.run(words, cwd=room, capture_output=True, text=True, check=False)
         assert run.returncode == 0, (room, run.stderr)
         lines = (room / "x_log.txt").read_text().split("\n")[:-1]
         setting = Setting(room / "graph.toml", Stack(room / "stack.nc"))
-        whole = read(setting, lines)
-        fronts = {read(setting, lines[:count]) for count in dice.sample(range(len(lines)), min(10, len(lines)))}
-        if whole != "finished" or not fronts <= {"unfinished"}:
-            print(f"run {number}: {whole}, and fronts {fronts}; it stands in {room}")
-            return 1
-        seen.update(f"a changed log is {read(setting, changed(dice, lines)).split(' ')[0]}" for _ in range(5))
-        seen.update(["logs"])
+        fronts = [lines[:count] for count in dice.sample(range(len(lines)), min(10, len(lines)))]
+        others = [changed(dice, lines) for _ in range(5)]
+        for log in [lines, *fronts, *others]:
+            answer, also = read(setting, log), checked(program, room, log)
+            wanted = {id(lines): "finished"} | {id(it): "unfinished" for it in fronts}
+            if answer != also or answer != wanted.get(id(log), answer):
+                print(f"run {number}: {answer} by the rules, {also} by the program; it stands in {room}")
+                return 1
+            seen[f"{'a log' if log is lines else 'a front' if log in fronts else 'a changed log'} is {answer.split(' ')[0]}"] += 1
         seen["entries"] += len(lines)
         for old in room.iterdir():
             old.unlink()

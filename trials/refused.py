@@ -62,6 +62,7 @@ COMMANDS = {
     "run-log": "run-log g.toml s.nc l_",
     "watch": "watch g.toml s.nc w_",
     "demo": "demo 3",
+    "check": "check g.toml s.nc c_log.txt c_",
 }
 SECONDS = 60
 CALLS = [
@@ -119,7 +120,8 @@ class Trials:
         self.work = pathlib.Path(tempfile.mkdtemp())
         (self.work / "g.toml").write_text(GRAPH)
         subprocess.run([self.program, "gen", "6", "8", "6", "UInt8", "1", "s.nc"], cwd=self.work, check=True)
-        self.given = {n: (self.work / n).read_bytes() for n in ("g.toml", "s.nc")}
+        subprocess.run([self.program, "run-log", "g.toml", "s.nc", "c_"], cwd=self.work, check=True, capture_output=True)
+        self.given = {it.name: it.read_bytes() for it in self.work.iterdir()}
         self.bad = 0
 
     def run(self, words, around=(), more=None):
