@@ -1,7 +1,7 @@
 -- Counts of faults over several calls.
-use Rattle.std.specs.Prelude.{ℕ, ◌+◌, ◌-◌, ◌^◌, ◌≤◌, min, Result, Ok, Err}
+use Rattle.std.specs.Prelude.{ℕ, ◌+◌, ◌-◌, ◌^◌, ◌≤◌, min, List, Result, Ok, Err}
 use Rattle.std.proofs.Common.{arith}
-use Rattle.edge_traits.specs.Faults.{Rose, Counts}
+use Rattle.edge_traits.specs.Faults.{Rose, Counts, CountsAt}
 
 -- a rise after calls that did not lower the count is a rise over all of them
 pub Rose-after : (before middle now : ℕ) → before ≤ middle → Rose middle now → Rose before now
@@ -23,3 +23,8 @@ Rose-strict before now small rose = omega arith
 pub Counts-stands : {T E : Type 0} (before now : ℕ) (r : Result T E) → Counts before now r → before ≤ now
 Counts-stands before now (Ok x) same = omega arith
 Counts-stands before now (Err e) counted = counted.0
+
+-- an object that counts all its failed calls together tells that count of each name
+pub Counts-at : {T E : Type 0} (name : List ℕ) (before now : ℕ) (r : Result T E) → Counts before now r → CountsAt name (λ _. before) (λ _. now) r
+Counts-at name before now (Ok x) same = λ other. same
+Counts-at name before now (Err e) counted = (λ other. counted.0, counted.1)

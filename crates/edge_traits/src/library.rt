@@ -1,14 +1,14 @@
 //! Files to read.
 
 ghost use Rattle.std.specs.Prelude.{◌≡◌, ◌<◌, ◌≤◌, ℕ, List, length, take, drop, IfOk, OnOk};
-ghost use Rattle.edge_traits.specs.Faults.{Counts};
+ghost use Rattle.edge_traits.specs.Faults.{Counts, CountsAt};
 ghost use Rattle.edge_traits.specs.Files.{Stands, IsTold};
 
 use crate::Failed;
 
 /// Files to read. No call changes them.
 pub trait Library {
-    ghost use Rattle.std.specs.Prelude.{ℕ, Option};
+    ghost use Rattle.std.specs.Prelude.{ℕ, List, Option};
     ghost use Rattle.edge_traits.specs.Files.{Files};
 
     /// The names with their bytes, where they are told.
@@ -16,6 +16,9 @@ pub trait Library {
 
     /// How often a call has failed, up to the greatest `u64`.
     ghost faults: { Self → ℕ };
+
+    /// How often a call at this name has failed, up to the greatest `u64`. A library that counts its failed calls together tells all of them at each name.
+    ghost faults_at: { Self → List ℕ → ℕ };
 
     /// The number of bytes under a name.
     ///
@@ -27,7 +30,8 @@ pub trait Library {
         ensures known { OnOk result (Stands (holds self.old) name.now) }
         ensures size { IfOk result (λ n. (file : List ℕ) →
             IsTold (holds self.old) name.now file → n ≡ length file) }
-        ensures cause { Counts (faults self.old) (faults self.new) result };
+        ensures cause { Counts (faults self.old) (faults self.new) result }
+        ensures at { CountsAt name.now (faults_at self.old) (faults_at self.new) result };
 
     /// Reads bytes of a name from `off` on into the front of `buf`, and gives their number, which
     /// may be less than there are. For a `buf` that isn't empty 0 means the end. What then stands
@@ -45,5 +49,6 @@ pub trait Library {
         ensures end { IfOk result (λ n. (file : List ℕ) →
             IsTold (holds self.old) name.now file → n ≡ 0 → 0 < length buf.new →
             length file ≤ off) }
-        ensures cause { Counts (faults self.old) (faults self.new) result };
+        ensures cause { Counts (faults self.old) (faults self.new) result }
+        ensures at { CountsAt name.now (faults_at self.old) (faults_at self.new) result };
 }

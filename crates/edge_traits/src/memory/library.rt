@@ -69,6 +69,8 @@ impl Library for MemLibrary {
 
     ghost faults = { λ s. s.calls.faults };
 
+    ghost faults_at = { λ s name. s.calls.faults };
+
     fn size(&mut self, name: &str) -> Result<u64, Failed>
         ensures files { told self.new.files ≡ told self.old.files }
         ensures known { OnOk result (Stands (told self.old.files) name.now) }
@@ -173,6 +175,8 @@ impl Library for SureLibrary {
     ghost holds = { λ s. told s.files };
 
     ghost faults = { λ s. s.faults };
+
+    ghost faults_at = { λ s name. s.faults };
 
     fn size(&mut self, name: &str) -> Result<u64, Failed>
         ensures files { told self.new.files ≡ told self.old.files }
