@@ -6,7 +6,7 @@ use Rattle.kept_blocks.specs.GrantLaws.{GrantLaws}
 use Rattle.kept_blocks.specs.MoveLaws.{MoveLaws}
 use Rattle.kept_blocks.proofs.Granting.{next-place, old-place, room-holds, room-keeps, room-of-lent, anew-law, fresh-anew, wants-law, home-of, used-of}
 use Rattle.kept_blocks.proofs.Granting.{refused-law, put-back-law, apart-from, lendable-law, refused-lent-law, forget-law}
-use Rattle.kept_blocks.proofs.Loads.{load-law, take-block-law, take-lent-law}
+use Rattle.kept_blocks.proofs.Loads.{emptied-law, load-law, take-block-law, take-lent-law}
 use Rattle.kept_blocks.proofs.Lending.{take-law, save-law}
 use Rattle.kept_blocks.proofs.Returns.{still-law, issue-law, saved-law}
 use Rattle.kept_blocks.proofs.Puts.{put-plain, put-made}
@@ -30,6 +30,7 @@ grant_laws parts =
       apart = λ s told t need b z f given v c a i next on. apart-from parts s told t need b z f given i v c a next on;
       lendable = lendable-law parts;
       refused_lent = refused-lent-law parts;
+      emptied = emptied-law parts;
       load = load-law parts;
       take = take-block-law parts;
       take_lent = take-lent-law parts;

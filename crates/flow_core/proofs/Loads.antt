@@ -13,6 +13,7 @@ use Rattle.flow_journal.specs.Hands.{hand}
 use Rattle.flow_journal.specs.Accounts.{grant, held}
 use Rattle.flow_journal.specs.Offered.{next_index}
 use Rattle.flow_journal.specs.Histories.{is_history}
+use Rattle.pool_account.specs.Account.{given_up_for}
 use Rattle.board_rules.specs.declared.answers.Load.{Load as load_answer}
 use Rattle.board_rules.specs.declared.answers.Load.TheVariants as load
 use Rattle.board_rules.specs.States.{BoardState, past, plain}
@@ -22,7 +23,7 @@ use Rattle.board_rules.specs.Storage.{wants_storage}
 use Rattle.board_rules.specs.Feeding.{load_refusal, LoadAnswers, LoadGives, HasRoom}
 use Rattle.board_rules.specs.Reusing.{ReusesStorage, LoadReuses}
 use Rattle.board_rules.proofs.Legal.{load-by}
-use Rattle.frame_table.specs.Kept.{Kept, Empty, with_kept, with_room}
+use Rattle.frame_table.specs.Kept.{Kept, without_kept, with_room}
 use Rattle.flow_emit.specs.Courses.{Coursed}
 use Rattle.kept_blocks.specs.Keeping.{HoldsBlocks}
 use Rattle.kept_blocks.specs.GrantLaws.{GrantLaws, IsGranted}
@@ -32,7 +33,7 @@ use Rattle.flow_core.specs.Boards.{IsBoard, IsRemade, IsSameStorage, with_storag
 use Rattle.flow_core.proofs.Answered.{enough}
 use Rattle.flow_core.proofs.Boarding.{board-moved, legal-of}
 use Rattle.flow_core.proofs.Places.{room-there}
-use Rattle.flow_core.proofs.Stored.{remade-regrown, storage-reused, roomy, emptied}
+use Rattle.flow_core.proofs.Stored.{remade-regrown, storage-reused, roomy, given-emptied}
 
 -- where this stands against a load, and the pool answers so
 pub load-gives : {F B : Type 0} (parts : F → Option Parts) (bytes_of : B → ℕ) (s : Setting) (old new : BoardState) (r tick : ℕ) (o : Option (load_answer B))
@@ -82,13 +83,13 @@ loaded-history {F} {B} parts bytes_of laws s w t r tick b z f g x blank l =
 pub loaded-board : {F B : Type 0} (parts : F → Option Parts) (bytes_of : B → ℕ) (laws : GrantLaws parts) (s : Setting) (w w' : Coursed) (t t' : List Kept)
     (r tick b z : ℕ) (f : Bool) (g : ℕ) (x : Bool) (blank : B) → LoadsOn parts bytes_of s w t r b z f g x blank
     → w' ≡ record w { told = moved_at s tick (plain (Load r (next_index (past w.told)) b z f g x)) w.told }
-    → t' ≡ with_kept (with_storage b f t) b Empty → IsBoard parts s w' t'
+    → t' ≡ without_kept (given_up_for s (past w.told) f g) (with_storage b f t) → IsBoard parts s w' t'
 loaded-board parts bytes_of laws s w w' t t' r tick b z f g x blank l is kept =
     let i = granting parts bytes_of s w t r b z f g x blank l in
     let new = moved_at s tick (plain (Load r (next_index (past w.told)) b z f g x)) w.told in
     let history = loaded-history parts bytes_of laws s w t r tick b z f g x blank l in
     board-moved parts s w w' new t t' l.board is history
-    (subst (λ (u : List Kept). HoldsBlocks parts s new u) (sym (kept ∙ emptied b f t))
+    (subst (λ (u : List Kept). HoldsBlocks parts s new u) (sym (kept ∙ given-emptied parts laws s w.told t t (s.need 0) b z f g i (λ e. e)))
     (laws.load s w.told (with_room t b) tick r (next_index (past w.told)) (s.need 0) b z f g x (roomy parts laws s w.told t (s.need 0) b z f g i)
     (room-there t b (laws.next s w.told t (s.need 0) b z f g i)) (legal-of s new history)))
 

@@ -10,8 +10,10 @@ room-there t b le = by (cases_Bool (ltb b (length t))) where
   by (inl there) = rw there (ltb-true b (length t) there)
   by (inr new_) = rw new_ (omega (arith, le, length-append t (Empty ∷ [])))
 
--- a place that is written again
-pub kept-again : (t : List Kept) (b : ℕ) (k l : Kept) → with_kept (with_kept t b k) b l ≡ with_kept t b l
-kept-again [] b k l = refl
-kept-again (x ∷ t) zero k l = refl
-kept-again (x ∷ t) (suc b) k l = ap (λ u. x ∷ u) (kept-again t b k l)
+-- two places that are emptied
+pub both-emptied : (t : List Kept) (b c : ℕ) → with_kept (with_kept t b Empty) c Empty ≡ with_kept (with_kept t c Empty) b Empty
+both-emptied [] b c = refl
+both-emptied (x ∷ t) zero zero = refl
+both-emptied (x ∷ t) zero (suc c) = refl
+both-emptied (x ∷ t) (suc b) zero = refl
+both-emptied (x ∷ t) (suc b) (suc c) = ap (λ u. x ∷ u) (both-emptied t b c)

@@ -16,6 +16,7 @@ use Rattle.flow_journal.specs.FirstEntries.{is_next}
 use Rattle.flow_journal.specs.Finished.{none_left}
 use Rattle.flow_journal.specs.Histories.{is_history}
 use Rattle.flow_journal.specs.Queued.{queued}
+use Rattle.pool_account.specs.Account.{given_up_for}
 use Rattle.board_rules.specs.declared.answers.Take.{Take as take_answer}
 use Rattle.board_rules.specs.declared.answers.Take.TheVariants as take
 use Rattle.board_rules.specs.States.{BoardState, past, plain, lends, lent_to, take_block}
@@ -26,7 +27,7 @@ use Rattle.board_rules.specs.Working.{take_refusal, asked, TakeAnswers, TakeGive
 use Rattle.board_rules.specs.Reusing.{IsReused, ReusesStorage, TakeReuses}
 use Rattle.board_rules.proofs.Legal.{take-by, may_take}
 use Rattle.frame_table.specs.Kept.{IsRefused, IsMadeAnew, IsAway, at_home, was_used, Kept, Empty, kept_at, with_kept, with_room, IsPartOf, MayLend}
-use Rattle.frame_table.specs.Kept.{MayGiveBack, less_one, united}
+use Rattle.frame_table.specs.Kept.{MayGiveBack, less_one, united, without_kept}
 use Rattle.flow_emit.specs.Courses.{Coursed}
 use Rattle.kept_blocks.specs.Keeping.{HoldsBlocks}
 use Rattle.kept_blocks.specs.GrantLaws.{GrantLaws, IsGranted}
@@ -37,7 +38,7 @@ use Rattle.flow_core.specs.Boards.{IsBoard, IsRemade, IsSameStorage, IsNotStored
 use Rattle.flow_core.proofs.Answered.{enough}
 use Rattle.flow_core.proofs.Boarding.{board-moved, legal-of}
 use Rattle.flow_core.proofs.Places.{room-there}
-use Rattle.flow_core.proofs.Stored.{roomy, emptied, storage-reused}
+use Rattle.flow_core.proofs.Stored.{roomy, given-emptied, storage-reused}
 use Rattle.flow_core.proofs.Lent.{LendsAt}
 
 -- where this stands against a take, and the pool is asked so
@@ -215,7 +216,7 @@ pub made-board : {F B : Type 0} (O : Type 0) (name_of : F → FrameName) (parts 
     (laws : GrantLaws parts) (s : Setting) (w w' : Coursed) (t t' : List Kept) (r v c b z : ℕ) (f : Bool) (g : ℕ) (x : Bool) (input : F) (blank : B)
     → Makes O name_of parts bytes_of s w t r v c b z f g x input blank
     → w' ≡ record w { told = made name_of parts s r v b z f g x input w.told }
-    → t' ≡ with_kept (with_storage b f (lent_out t c)) b Empty → IsBoard parts s w' t'
+    → t' ≡ without_kept (given_up_for s (past w.told) f g) (with_storage b f (lent_out t c)) → IsBoard parts s w' t'
 made-board {F} {B} O name_of parts bytes_of look laws s w w' t t' r v c b z f g x input blank i is kept =
     let new = made name_of parts s r v b z f g x input w.told in
     let T = with_room t b in
@@ -223,8 +224,12 @@ made-board {F} {B} O name_of parts bytes_of look laws s w w' t t' r v c b z f g 
     let history = made-history O name_of parts bytes_of look laws s w t r v c b z f g x input blank i in
     let part : IsPartOf (kept_at T c) (name_of input) (parts input) =
     subst (λ (k : Kept). IsPartOf k (name_of input) (parts input)) (sym (laws.room_keeps t b c)) i.part in
-    let table : t' ≡ with_kept (with_kept T c (less_one (kept_at T c))) b Empty =
-    kept ∙ (emptied b f (lent_out t c) ∙ ap (λ (u : List Kept). with_kept u b Empty) (laws.room_of_lent t b c i.lends.place)) in
+    let gs = given_up_for s (past w.told) f g in
+    let ne : c ≢ b = apart-from parts laws s w.told t v (s.need v) b z f g (name_of input) c beside in
+    let table : t' ≡ without_kept gs (with_kept (with_kept T c (less_one (kept_at T c))) b Empty) =
+    kept
+    ∙ (given-emptied parts laws s w.told t (lent_out t c) (s.need v) b z f g beside.granted (λ e. at-other t c b (less_one (kept_at t c)) (λ is. ne (sym is)) ∙ e)
+    ∙ ap (λ (u : List Kept). without_kept gs (with_kept u b Empty)) (laws.room_of_lent t b c i.lends.place)) in
     board-moved parts s w w' new t t' i.board is history
     (subst (λ (u : List Kept). HoldsBlocks parts s new u) (sym table)
     (laws.take_lent s w.told T r v c (s.need v) b z f g x (name_of input) (parts input) (roomy parts laws s w.told t (s.need v) b z f g beside.granted)

@@ -2,6 +2,7 @@
 use Rattle.std.specs.Prelude.{◌≡◌, ◌⊎◌, ℕ, Bool, true, false, List, [], length, Option, Some, None, if◌then◌else◌}
 use Rattle.nd_base.specs.Parts.{Parts}
 use Rattle.flow_journal.specs.Setting.{Setting}
+use Rattle.board_rules.specs.LastGrants.{LastGrant, Never, InMaking, Made, TakenBack}
 use Rattle.frame_table.specs.Kept.{Kept, Empty, kept_at, with_kept, with_room, at_home, IsMadeAnew, IsAsUsed, IsAway, IsRefused}
 use Rattle.flow_emit.specs.Courses.{Coursed}
 use Rattle.kept_blocks.specs.Keeping.{HoldsBlocks, IsRunOf}
@@ -36,3 +37,11 @@ IsNotStored size block false before after =
 -- the block of which nothing came back
 abbrev pub lost_block : (came : Bool) → ℕ → Option ℕ
 lost_block came b = if came then None else Some b
+
+-- Whether something is kept for a known block, by what became of its last grant: nothing while the array is in the making, then the array,
+-- and after a hand that was taken back its storage, where nothing of it stayed away.
+abbrev pub TellsKept : (away : Bool) → LastGrant → (kept : Bool) → Type 0
+TellsKept away Never kept = Unit {0}
+TellsKept away (InMaking r a n) kept = kept ≡ false
+TellsKept away (Made a n) kept = kept ≡ true
+TellsKept away (TakenBack n) kept = away ≡ false → kept ≡ true

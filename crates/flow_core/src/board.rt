@@ -1,5 +1,15 @@
 //! The board.
 
+ghost use Rattle.std.specs.Prelude.{◌≢◌, ◌≤◌, IsTrue};
+ghost use Rattle.pool_ledger.specs.Grants.{has_number, sizes};
+ghost use Rattle.flow_journal.specs.Accounts.{known};
+ghost use Rattle.board_rules.specs.States.{past};
+ghost use Rattle.board_rules.specs.RunMeasures.{run_setting};
+ghost use Rattle.board_rules.specs.InHand.{TellParts};
+ghost use Rattle.board_rules.specs.LastGrants.{last_grant};
+ghost use Rattle.board_rules.specs.Storage.{is_away};
+ghost use Rattle.flow_core.specs.Boards.{TellsKept};
+
 use flow_emit::{Course, MeasureRoom};
 use frame_table::FrameTable;
 use nd_base::Held;
@@ -24,4 +34,18 @@ impl<F: Held> Model for Board<F> {
     ghost view = { λ b. b.course.told };
 
     ghost invariant = { λ b. IsBoard F.parts (run_setting F.Of.graph F.Of.stack) b.course b.table };
+}
+
+impl<F: Held> Board<F> {
+    /// Whether a frame or storage is kept for the block with this number. Only of known blocks, whose sizes together are within the pool's
+    /// limit, anything is kept: where frames tell their parts, nothing while an array is in the making there, and then the array.
+    pub fn keeps(&self, number: u32) -> bool
+        ensures told { TellParts F.parts → IsTrue (has_number number (known (run_setting F.Of.graph F.Of.stack) (past self.now)))
+            → TellsKept (is_away number self.now) (last_grant number (past self.now)) result }
+        ensures known { IsTrue result → IsTrue (has_number number (known (run_setting F.Of.graph F.Of.stack) (past self.now))) }
+        ensures within { (run_setting F.Of.graph F.Of.stack).limit ≢ 0
+            → sizes (known (run_setting F.Of.graph F.Of.stack) (past self.now)) ≤ (run_setting F.Of.graph F.Of.stack).limit }
+    {
+        self.table.keeps(number)
+    }
 }

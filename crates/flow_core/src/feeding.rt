@@ -18,7 +18,7 @@ use pool_ledger::Grant;
 use std::alloc::Global;
 
 impl<F: Held> Board<F> {
-    /// Loads the next frame into the block that the pool grants.
+    /// Loads the next frame into the block that the pool grants. Its storage is taken before that of the blocks that are given up is let go.
     pub(crate) fn load_granted(
         &mut self,
         alloc: Global,
@@ -38,10 +38,12 @@ impl<F: Held> Board<F> {
             return Load::OutOfMemory;
         };
         let index = self.course.next_index();
-        let Ok(()) = self.course.load(alloc, role, tick, grant, regrown) else {
+        let Ok(()) = self
+            .course
+            .load(alloc, role, tick, grant, regrown, &mut self.table)
+        else {
             return Load::OutOfMemory;
         };
-        self.table.forget(grant.block);
         Load::Loaded { index, blank }
     }
 

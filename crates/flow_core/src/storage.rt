@@ -14,7 +14,7 @@ use pool_ledger::Grant;
 use std::alloc::Global;
 
 /// Storage for a block that the pool grants, and whether that of a known block was made anew. A new block may have the number of one that is
-/// given up for it: what is kept there stays until the log has the grant.
+/// given up for it: what is kept there stays until the log has the grant, and goes with the others then.
 ///
 /// # Errors
 ///

@@ -47,7 +47,8 @@ impl<F: Held> Board<F> {
         }
     }
 
-    /// The next array of the queue of a node that makes arrays, as a job with the block that the pool grants.
+    /// The next array of the queue of a node that makes arrays, as a job with the block that the pool grants. The storage of the block is
+    /// taken before that of the blocks that are given up is let go.
     pub(crate) fn take_granted(
         &mut self,
         alloc: Global,
@@ -76,12 +77,11 @@ impl<F: Held> Board<F> {
         };
         let Ok(()) = self
             .course
-            .take_block(alloc, role, node, &input, grant, regrown)
+            .take_block(alloc, role, node, &input, grant, regrown, &mut self.table)
         else {
             self.table.give_back(block, input);
             return Take::OutOfMemory;
         };
-        self.table.forget(grant.block);
         Take::Job {
             node,
             input,

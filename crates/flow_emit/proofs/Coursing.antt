@@ -11,7 +11,7 @@ use Rattle.pool_ledger.specs.Ledger as ledger
 use Rattle.flow_journal.specs.Setting.{Setting}
 use Rattle.flow_journal.specs.Accounts.{block_of}
 use Rattle.board_rules.specs.States.{plain}
-use Rattle.pool_account.specs.Account.{IsAccount, all_named}
+use Rattle.pool_account.specs.Account.{IsAccount}
 use Rattle.pool_account.proofs.Laws.{tell_laws, hold_laws, array_laws}
 use Rattle.flow_emit.specs.declared.rules.Rules.{Rules}
 use Rattle.flow_emit.specs.declared.node.NodeState.{NodeState}
@@ -89,15 +89,15 @@ pub next-block : (measure : Measuring) (s : Setting) (k : Parts) (a : FrameName)
 next-block measure s k a xs i is = All-head (HasBlock (log_of k)) a xs (subst (All (HasBlock (log_of k))) is i.standing)
 
 carrying : (measure : Measuring) (s : Setting) (k : Parts) (a : FrameName) (xs : List FrameName) (b : ℕ) → IsCourse measure s k → k.transit ≡ a ∷ xs
-    → block_of (log_of k) a ≡ b ∷ [] → IsAccount s (log_of k) (b ∷ flat_map (block_of (log_of k)) xs) (all_named k.pool)
+    → block_of (log_of k) a ≡ b ∷ [] → IsAccount s (log_of k) (b ∷ flat_map (block_of (log_of k)) xs) k.pool
 carrying measure s k a xs b i is has =
-    subst (λ ys. IsAccount s (log_of k) (ys ++ flat_map (block_of (log_of k)) xs) (all_named k.pool)) has
-    (subst (λ (ts : List FrameName). IsAccount s (log_of k) (flat_map (block_of (log_of k)) ts) (all_named k.pool)) is i.account)
+    subst (λ ys. IsAccount s (log_of k) (ys ++ flat_map (block_of (log_of k)) xs) k.pool) has
+    (subst (λ (ts : List FrameName). IsAccount s (log_of k) (flat_map (block_of (log_of k)) ts) k.pool) is i.account)
 
 pub next-held : (measure : Measuring) (s : Setting) (k : Parts) (a : FrameName) (xs : List FrameName) (b : ℕ) → IsCourse measure s k → k.transit ≡ a ∷ xs
     → block_of (log_of k) a ≡ b ∷ [] → 0 < ledger.refs k.pool b
 next-held measure s k a xs b i is has =
-    tell_laws.carried s (log_of k) b (all_named k.pool) (b ∷ flat_map (block_of (log_of k)) xs) (rw (eq-eqb b b refl) (omega arith))
+    tell_laws.carried s (log_of k) b k.pool (b ∷ flat_map (block_of (log_of k)) xs) (rw (eq-eqb b b refl) (omega arith))
     (carrying measure s k a xs b i is has)
 
 -- it lets its hold go
@@ -110,7 +110,7 @@ released measure s k a xs b i is has =
       legal = i.legal;
       nodes = i.nodes;
       roles = i.roles;
-      account = hold_laws.drop s (log_of k) b (all_named k.pool) (flat_map (block_of (log_of k)) xs) (carrying measure s k a xs b i is has);
+      account = hold_laws.drop s (log_of k) b k.pool (flat_map (block_of (log_of k)) xs) (carrying measure s k a xs b i is has);
       standing = All-tail (HasBlock (log_of k)) a xs (subst (All (HasBlock (log_of k))) is i.standing);
       blocks = i.blocks;
       facts = i.facts;
@@ -147,7 +147,7 @@ few-blocks P (x ∷ xs) = omega (arith, length-append (block_of P x) (flat_map (
 -- no block has so many holds that one more couldn't be counted
 pub holds-below : (measure : Measuring) (s : Setting) (k : Parts) (b : ℕ) → IsCourse measure s k → ledger.refs k.pool b < 4294967295
 holds-below measure s k b i =
-    tell_laws.holds_fit s (log_of k) b (all_named k.pool) (flat_map (block_of (log_of k)) k.transit) (subst (λ (ids : List ℤ). length ids ≤ 65536) i.ruled.ids
+    tell_laws.holds_fit s (log_of k) b k.pool (flat_map (block_of (log_of k)) k.transit) (subst (λ (ids : List ℤ). length ids ≤ 65536) i.ruled.ids
     i.ruled.few_frames) (omega (arith, i.ruled.few_nodes, ap length i.ruled.nodes, length-map k.rules.nodes as_node)) i.ruled.few_threads
     (omega (arith, i.moving, few-blocks (log_of k) k.transit)) i.legal i.account
 
@@ -214,7 +214,7 @@ ticked measure s k t i legal le =
       legal = legal;
       nodes = nodes-kept measure s P _ k.nodes i.nodes (λ v. same-tick s (suc v) t P legal le);
       roles = roles-kept s P _ k.roles i.roles (λ r. refl);
-      account = array_laws.others s P (Tick t) (all_named k.pool) (flat_map (block_of P) k.transit) refl legal i.account;
+      account = array_laws.others s P (Tick t) k.pool (flat_map (block_of P) k.transit) refl legal i.account;
       standing = i.standing;
       blocks = blocks-kept s P _ k.blocks i.blocks (λ a. refl);
       facts = ap (λ (f : Facts). record f { tick = t }) i.facts ∙ sym (facts-tick s t P legal);
@@ -234,7 +234,7 @@ refused measure s k r j n h i legal =
       legal = legal;
       nodes = nodes-kept measure s P _ k.nodes i.nodes (λ v. same-load_refused s (suc v) r j n h P legal);
       roles = roles-kept s P _ k.roles i.roles (λ r. refl);
-      account = array_laws.others s P (LoadRefused r j n h) (all_named k.pool) (flat_map (block_of P) k.transit) refl legal i.account;
+      account = array_laws.others s P (LoadRefused r j n h) k.pool (flat_map (block_of P) k.transit) refl legal i.account;
       standing = i.standing;
       blocks = blocks-kept s P _ k.blocks i.blocks (λ a. refl);
       facts = ap (λ (f : Facts). record f { offered = f.offered + 1 }) i.facts ∙ sym (facts-load_refused s r j n h P legal);
@@ -253,7 +253,7 @@ closed measure s k r i legal =
       legal = legal;
       nodes = nodes-kept measure s P _ k.nodes i.nodes (λ v. same-close s (suc v) r P legal);
       roles = roles-kept s P _ k.roles i.roles (λ r. refl);
-      account = array_laws.others s P (Close r) (all_named k.pool) (flat_map (block_of P) k.transit) refl legal i.account;
+      account = array_laws.others s P (Close r) k.pool (flat_map (block_of P) k.transit) refl legal i.account;
       standing = i.standing;
       blocks = blocks-kept s P _ k.blocks i.blocks (λ a. refl);
       facts = ap (λ (f : Facts). record f { closed = true }) i.facts ∙ sym (facts-close s r P legal);
@@ -282,8 +282,8 @@ accepted measure s k c m j b n i legal at room together has some =
           (together (suc c))) (λ v ne. same-accept s (suc v) (suc c) m j P legal (apart-more ne) (together (suc v)));
       roles = roles-kept s P _ k.roles i.roles (λ r. refl);
       account =
-          array_laws.accept s P (suc c) m j (with_refs b (ledger.refs k.pool b + 1) (all_named k.pool)) (b ∷ []) (flat_map (block_of P) k.transit) has legal
-          (hold_laws.hold s P b (all_named k.pool) (flat_map (block_of P) k.transit) some i.account);
+          array_laws.accept s P (suc c) m j (with_refs b (ledger.refs k.pool b + 1) k.pool) (b ∷ []) (flat_map (block_of P) k.transit) has legal
+          (hold_laws.hold s P b k.pool (flat_map (block_of P) k.transit) some i.account);
       standing = i.standing;
       blocks = blocks-kept s P _ k.blocks i.blocks (λ a. refl);
       facts = ap (λ (f : Facts). record f { came = f.came + 1 }) i.facts ∙ sym (facts-accept s (suc c) m j P legal);
@@ -306,7 +306,7 @@ filled measure s k v m j i legal together =
       legal = legal;
       nodes = nodes-kept measure s P _ k.nodes i.nodes (λ u. same-full s (suc u) v m j P legal (together (suc u)));
       roles = roles-kept s P _ k.roles i.roles (λ r. refl);
-      account = array_laws.others s P (Full v m j) (all_named k.pool) (flat_map (block_of P) k.transit) refl legal i.account;
+      account = array_laws.others s P (Full v m j) k.pool (flat_map (block_of P) k.transit) refl legal i.account;
       standing = i.standing;
       blocks = blocks-kept s P _ k.blocks i.blocks (λ a. refl);
       facts = ap (λ (f : Facts). record f { came = f.came + 1; dropped = f.dropped + 1 }) i.facts ∙ sym (facts-full s v m j P legal);
@@ -330,7 +330,7 @@ left_by measure s k r x i legal at =
       legal = legal;
       nodes = nodes-kept measure s P _ k.nodes i.nodes (λ v. same-leave s (suc v) r P legal);
       roles = role-leaves s r P k.roles x i.roles at;
-      account = array_laws.others s P (Leave r) (all_named k.pool) (flat_map (block_of P) k.transit) refl legal i.account;
+      account = array_laws.others s P (Leave r) k.pool (flat_map (block_of P) k.transit) refl legal i.account;
       standing = i.standing;
       blocks = blocks-kept s P _ k.blocks i.blocks (λ a. refl);
       facts = ap (λ (f : Facts). record f { left = true }) i.facts ∙ sym (facts-leave s r P legal);
@@ -356,8 +356,8 @@ issued measure s k r j x q b n f g w i legal at empty held =
       nodes = nodes-kept measure s P _ k.nodes i.nodes (λ v. same-issue s (suc v) r j (Load q j b n f g w) P legal held refl refl);
       roles = role-down s r (Issue r j) P k.roles x i.roles at (issue-of r j) legal (eq-eqb r r refl) refl refl;
       account =
-          array_laws.issue s P r j (all_named k.pool) (block_of P (frame 0 j)) [] refl legal
-          (subst (λ (ts : List FrameName). IsAccount s P (flat_map (block_of P) ts) (all_named k.pool)) empty i.account);
+          array_laws.issue s P r j k.pool (block_of P (frame 0 j)) [] refl legal
+          (subst (λ (ts : List FrameName). IsAccount s P (flat_map (block_of P) ts) k.pool) empty i.account);
       standing = All-cons (HasBlock P) (frame 0 j) [] (b, block_laws.in_hand_load s r q j b n f g w P i.legal held) (All-nil (HasBlock P));
       blocks = blocks-kept s P _ k.blocks i.blocks (λ a. refl);
       facts = ap (λ (f : Facts). record f { loaded = false }) i.facts ∙ sym (facts-issue s r j (Load q j b n f g w) P legal i.legal held refl);
@@ -377,7 +377,7 @@ emitted_by_driver measure s k m j why i legal =
       legal = legal;
       nodes = nodes-kept measure s P _ k.nodes i.nodes (λ v. same-emit s (suc v) 0 m j why P legal (λ e. absurd (omega (arith, e))));
       roles = roles-kept s P _ k.roles i.roles (λ r. refl);
-      account = array_laws.emit_unsorted s P 0 m j why (all_named k.pool) (flat_map (block_of P) k.transit) refl legal i.account;
+      account = array_laws.emit_unsorted s P 0 m j why k.pool (flat_map (block_of P) k.transit) refl legal i.account;
       standing = i.standing;
       blocks = blocks-kept s P _ k.blocks i.blocks (λ a. refl);
       facts = i.facts ∙ sym (facts-emit s 0 m j why P legal);
@@ -406,7 +406,7 @@ emitted_at_once measure s k c m j why n y i legal at plain_one same items room =
           ∙ (none-listed measure s (suc c) P plain_one ∙ sym (none-listed measure s (suc c) (Emit (suc c) m j why ∷ P) plain_one)))) items room)
           (λ v ne. same-emit s (suc v) (suc c) m j why P legal (apart-more ne));
       roles = roles-kept s P _ k.roles i.roles (λ r. refl);
-      account = array_laws.emit_unsorted s P (suc c) m j why (all_named k.pool) (flat_map (block_of P) k.transit) plain_one legal i.account;
+      account = array_laws.emit_unsorted s P (suc c) m j why k.pool (flat_map (block_of P) k.transit) plain_one legal i.account;
       standing = i.standing;
       blocks = blocks-kept s P _ k.blocks i.blocks (λ a. refl);
       facts = i.facts ∙ sym (facts-emit s (suc c) m j why P legal);
@@ -437,7 +437,7 @@ emitted_more measure s k c m j why n y i legal at sorted few has size last waits
           (size ∙ (i.nodes.each c n at).list_size) (λ h. last) waits items room) (λ v ne. same-emit s (suc v) (suc c) m j why P legal (apart-more ne));
       roles = roles-kept s P _ k.roles i.roles (λ r. refl);
       account =
-          array_laws.emit_sorted s P (suc c) m j why (all_named k.pool) (block_of P (frame m j)) (flat_map (block_of P) k.transit) sorted refl legal i.account;
+          array_laws.emit_sorted s P (suc c) m j why k.pool (block_of P (frame m j)) (flat_map (block_of P) k.transit) sorted refl legal i.account;
       standing = All-cons (HasBlock P) (frame m j) k.transit has i.standing;
       blocks = blocks-kept s P _ k.blocks i.blocks (λ a. refl);
       facts = i.facts ∙ sym (facts-emit s (suc c) m j why P legal);
@@ -483,7 +483,7 @@ took measure s k r c m j x n part i legal at here =
           nodes-set measure s P (Take r (suc c) m j ∷ P) k.nodes c _ i.nodes (here-take measure s r (suc c) m j P n (i.nodes.each c n here) legal)
           (λ v ne. same-take s (suc v) r (suc c) m j P legal (apart-more ne));
       roles = role-up s r (Take r (suc c) m j) P k.roles x i.roles at (take-of r (suc c) m j) (eq-eqb r r refl) refl refl;
-      account = array_laws.others s P (Take r (suc c) m j) (all_named k.pool) (flat_map (block_of P) k.transit) refl legal i.account;
+      account = array_laws.others s P (Take r (suc c) m j) k.pool (flat_map (block_of P) k.transit) refl legal i.account;
       standing = i.standing;
       blocks = blocks-kept s P _ k.blocks i.blocks (λ a. refl);
       facts = i.facts ∙ sym (facts-take s r (suc c) m j P legal);
@@ -511,8 +511,8 @@ dropped_by_pool measure s k r c m j need held n i legal here empty =
           (i.nodes.each c n here) legal) (λ v ne. same-pool_drop s (suc v) r (suc c) m j need held P legal (apart-more ne));
       roles = roles-kept s P _ k.roles i.roles (λ r. refl);
       account =
-          array_laws.pool_drop s P r (suc c) m j need held (all_named k.pool) (block_of P (frame m j)) [] refl legal
-          (subst (λ (ts : List FrameName). IsAccount s P (flat_map (block_of P) ts) (all_named k.pool)) empty i.account);
+          array_laws.pool_drop s P r (suc c) m j need held k.pool (block_of P (frame m j)) [] refl legal
+          (subst (λ (ts : List FrameName). IsAccount s P (flat_map (block_of P) ts) k.pool) empty i.account);
       standing =
           All-cons (HasBlock P) (frame m j) [] (queued-block s (suc c) P (frame m j) _ i.legal
           (queue_laws.pool_drop s r (suc c) m j need held P (row_of s (PoolDrop r (suc c) m j need held) P (λ d. refl) legal))) (All-nil (HasBlock P));
@@ -543,7 +543,7 @@ dropped_by_list measure s k c m j n y i legal here sorted has size last waits fe
           nodes-set measure s P (SortDrop (suc c) m j ∷ P) k.nodes c _ i.nodes (here-sort_drop measure s (suc c) m j P n y (i.nodes.each c n here) legal
           (size ∙ (i.nodes.each c n here).list_size) (λ h. last) waits) (λ v ne. same-sort_drop s (suc v) (suc c) m j P legal (apart-more ne));
       roles = roles-kept s P _ k.roles i.roles (λ r. refl);
-      account = array_laws.sort_drop s P (suc c) m j (all_named k.pool) (block_of P (frame m j)) (flat_map (block_of P) k.transit) sorted refl legal i.account;
+      account = array_laws.sort_drop s P (suc c) m j k.pool (block_of P (frame m j)) (flat_map (block_of P) k.transit) sorted refl legal i.account;
       standing = All-cons (HasBlock P) (frame m j) k.transit has i.standing;
       blocks = blocks-kept s P _ k.blocks i.blocks (λ a. refl);
       facts = ap (λ (f : Facts). record f { dropped = f.dropped + 1 }) i.facts ∙ sym (facts-sort_drop s (suc c) m j P legal);
@@ -571,8 +571,8 @@ settled_with measure s k r c n y i legal here empty none pending few =
           (λ v ne. same-settle s (suc v) r (suc c) P legal (apart-more ne));
       roles = roles-kept s P _ k.roles i.roles (λ r. refl);
       account =
-          subst (λ xs. IsAccount s (Settle r (suc c) ∷ P) xs (all_named k.pool)) (append-nil (flat_map (block_of P) (ring s (suc c) P))) (array_laws.settle s P
-          r (suc c) (all_named k.pool) [] legal (subst (λ (ts : List FrameName). IsAccount s P (flat_map (block_of P) ts) (all_named k.pool)) empty i.account));
+          subst (λ xs. IsAccount s (Settle r (suc c) ∷ P) xs k.pool) (append-nil (flat_map (block_of P) (ring s (suc c) P))) (array_laws.settle s P
+          r (suc c) k.pool [] legal (subst (λ (ts : List FrameName). IsAccount s P (flat_map (block_of P) ts) k.pool) empty i.account));
       standing = ring-blocks s (suc c) P i.legal;
       blocks = blocks-kept s P _ k.blocks i.blocks (λ a. refl);
       facts = i.facts ∙ sym (facts-settle s r (suc c) P legal);
@@ -600,7 +600,7 @@ saving_one measure s k r c m j g x n y part i legal at here items room =
           nodes-set measure s P (Save r (suc c) m j g ∷ P) k.nodes c _ i.nodes (here-save measure s r (suc c) m j g P n y
           (i.nodes.each c n here) i.legal legal items room) (λ v ne. same-save s (suc v) r (suc c) m j g P legal (apart-more ne));
       roles = role-up s r (Save r (suc c) m j g) P k.roles x i.roles at (save-of r (suc c) m j g) (eq-eqb r r refl) refl refl;
-      account = array_laws.others s P (Save r (suc c) m j g) (all_named k.pool) (flat_map (block_of P) k.transit) refl legal i.account;
+      account = array_laws.others s P (Save r (suc c) m j g) k.pool (flat_map (block_of P) k.transit) refl legal i.account;
       standing = i.standing;
       blocks = blocks-kept s P _ k.blocks i.blocks (λ a. refl);
       facts = i.facts ∙ sym (facts-save s r (suc c) m j g P legal);
@@ -631,8 +631,8 @@ saved_one measure s k r c m j q g x n i legal at here empty held =
           legal held) (λ v ne. same-saved s (suc v) r (suc c) m j (Save q (suc c) m j g) P legal held refl (ne_eqb (suc c) (suc v) (apart-more ne)));
       roles = role-down s r (Saved r (suc c) m j) P k.roles x i.roles at (saved-of r (suc c) m j) legal (eq-eqb r r refl) refl refl;
       account =
-          array_laws.saved s P r (suc c) m j (all_named k.pool) (block_of P (frame m j)) [] refl legal
-          (subst (λ (ts : List FrameName). IsAccount s P (flat_map (block_of P) ts) (all_named k.pool)) empty i.account);
+          array_laws.saved s P r (suc c) m j k.pool (block_of P (frame m j)) [] refl legal
+          (subst (λ (ts : List FrameName). IsAccount s P (flat_map (block_of P) ts) k.pool) empty i.account);
       standing = All-cons (HasBlock P) (frame m j) [] (hand-block s r (Save q (suc c) m j g) (frame m j) P i.legal held (λ h. h)) (All-nil (HasBlock P));
       blocks = blocks-kept s P _ k.blocks i.blocks (λ a. refl);
       facts = ap (λ (f : Facts). record f { saved = f.saved + 1 }) i.facts ∙ sym (facts-saved s r (suc c) m j (Save q (suc c) m j g) P legal held refl);

@@ -23,7 +23,6 @@ use Rattle.flow_journal.specs.Accounts.{block_of}
 use Rattle.flow_journal.specs.Histories.{is_legal}
 use Rattle.flow_journal.specs.Turns.{deals, turn, has_just_emitted, place_after, last_child, in_turn, round_from, offered_to, dealt_to, offered_child}
 use Rattle.board_rules.specs.States.{BoardState, past, plain}
-use Rattle.pool_account.specs.Account.{all_named}
 use Rattle.pool_account.proofs.Laws.{hold_laws, array_laws}
 use Rattle.queue_sort.specs.Inboxes.{with_last}
 use Rattle.std.proofs.lemmas.List.{length-map, length-set}
@@ -94,8 +93,8 @@ dealt-suc measure s k a c t m j b x n i legal at turned quiet child room has som
       nodes = nodes-dealt measure s P k.nodes a c t m j x n i.nodes at turned quiet child room;
       roles = roles-kept s P _ k.roles i.roles (λ r. refl);
       account =
-          array_laws.accept s P (suc c) m j (with_refs b (ledger.refs k.pool b + 1) (all_named k.pool)) (b ∷ []) (flat_map (block_of P) k.transit) has legal
-          (hold_laws.hold s P b (all_named k.pool) (flat_map (block_of P) k.transit) some i.account);
+          array_laws.accept s P (suc c) m j (with_refs b (ledger.refs k.pool b + 1) k.pool) (b ∷ []) (flat_map (block_of P) k.transit) has legal
+          (hold_laws.hold s P b k.pool (flat_map (block_of P) k.transit) some i.account);
       standing = i.standing;
       blocks = blocks-kept s P _ k.blocks i.blocks (λ a. refl);
       facts = ap (λ (f : Facts). record f { came = f.came + 1 }) i.facts ∙ sym (facts-accept s (suc c) m j P legal);
@@ -122,7 +121,7 @@ dealt-full-suc measure s k a v t m j x i legal at turned quiet =
           nodes-set measure s P (Full v m j ∷ P) k.nodes a _ i.nodes (node-turned measure s (suc a) P (Full v m j ∷ P) x t (facts-of-full s (suc a) v m j P)
           (λ d some. turned) (i.nodes.each a x at)) (λ u ne. same-full s (suc u) v m j P legal (quiet (suc u) (λ e. apart-more ne (sym e))));
       roles = roles-kept s P _ k.roles i.roles (λ r. refl);
-      account = array_laws.others s P (Full v m j) (all_named k.pool) (flat_map (block_of P) k.transit) refl legal i.account;
+      account = array_laws.others s P (Full v m j) k.pool (flat_map (block_of P) k.transit) refl legal i.account;
       standing = i.standing;
       blocks = blocks-kept s P _ k.blocks i.blocks (λ a. refl);
       facts = ap (λ (f : Facts). record f { came = f.came + 1; dropped = f.dropped + 1 }) i.facts ∙ sym (facts-full s v m j P legal);

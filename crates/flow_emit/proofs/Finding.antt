@@ -22,7 +22,7 @@ use Rattle.flow_emit.proofs.Coursing.{Measuring}
 use Rattle.flow_emit.proofs.Reading.{read-at, place-of, first-of}
 use Rattle.std.specs.List.{flat_map}
 use Rattle.pool_ledger.specs.Ledger as ledger
-use Rattle.pool_account.specs.Account.{IsAccount, all_named}
+use Rattle.pool_account.specs.Account.{IsAccount}
 use Rattle.pool_account.proofs.Laws.{tell_laws}
 use Rattle.queue_sort.specs.Inboxes.{InboxState}
 use Rattle.flow_journal.specs.Accounts.{block_of, held}
@@ -138,13 +138,13 @@ need-is measure s k v n i h makes is =
     sym (need-read k.rules.nodes (v - 1) n there is) ∙ (ap (need_of k.rules) p.0 ∙ i.ruled.needs v (inr makes))
 
 -- where nothing is on its way, the pool accounts for the log
-pub still-account : (measure : Measuring) (s : Setting) (k : Parts) → IsCourse measure s k → k.transit ≡ [] → IsAccount s (log_of k) [] (all_named k.pool)
+pub still-account : (measure : Measuring) (s : Setting) (k : Parts) → IsCourse measure s k → k.transit ≡ [] → IsAccount s (log_of k) [] k.pool
 still-account measure s k i still =
-    subst (λ (ts : List FrameName). IsAccount s (log_of k) (flat_map (block_of (log_of k)) ts) (all_named k.pool)) still i.account
+    subst (λ (ts : List FrameName). IsAccount s (log_of k) (flat_map (block_of (log_of k)) ts) k.pool) still i.account
 
 -- and tells how much is held
 pub held-is : (measure : Measuring) (s : Setting) (k : Parts) → IsCourse measure s k → k.transit ≡ [] → ledger.held k.pool ≡ held s (log_of k)
-held-is measure s k i still = tell_laws.held s (log_of k) (all_named k.pool) i.legal (still-account measure s k i still)
+held-is measure s k i still = tell_laws.held s (log_of k) k.pool i.legal (still-account measure s k i still)
 
 -- the first of an inbox is the next of the queue
 pub next-popped : (measure : Measuring) (s : Setting) (k : Parts) (v : ℕ) (n : NodeState) (a : FrameName) → IsCourse measure s k → is_node s v ≡ true
@@ -239,7 +239,7 @@ threads-node s v j h = elim (cases_Bool (is_node s v)) [
 
 -- what a request is granted
 pub grant-is : (measure : Measuring) (s : Setting) (k : Parts) (n : ℕ) → IsCourse measure s k → k.transit ≡ [] → grant_for n k.pool ≡ grant s (log_of k) n
-grant-is measure s k n i still = tell_laws.grants s (log_of k) n (all_named k.pool) i.ruled.pooled i.legal (still-account measure s k i still)
+grant-is measure s k n i still = tell_laws.grants s (log_of k) n k.pool i.ruled.pooled i.legal (still-account measure s k i still)
 
 -- a maker is there
 pub maker-node : (s : Setting) (v : ℕ) → is_maker s v ≡ true → is_node s v ≡ true

@@ -5,11 +5,11 @@ use Rattle.std.proofs.lemmas.Bool.{ne_eqb, eq-eqb}
 use Rattle.std.proofs.lemmas.List.Elements.{All-nil}
 use Rattle.nd_base.specs.Parts.{Parts as Parts_of}
 use Rattle.pool_ledger.specs.Ledger.{Ledger}
-use Rattle.pool_account.specs.Account.{IsAccount, all_named}
+use Rattle.pool_account.specs.Account.{IsAccount, all_named, given_up_for}
 use Rattle.queue_sort.specs.Inboxes.{without_front}
 use Rattle.flow_journal.specs.declared.entry.Entry.TheVariants.{Load, TakeBlock}
 use Rattle.flow_journal.specs.Setting.{Setting}
-use Rattle.flow_journal.specs.Pasts.{frame}
+use Rattle.flow_journal.specs.Pasts.{Past, frame}
 use Rattle.flow_journal.specs.Histories.{is_legal}
 use Rattle.flow_journal.proofs.Hands.{row_of}
 use Rattle.flow_journal.proofs.Rows.{row_laws}
@@ -63,7 +63,7 @@ take-short measure s k r v m j b z f g w i legal =
 
 pub loaded : (measure : Measuring) (s : Setting) (k : Parts) (r j b z : ℕ) (f : Bool) (g : ℕ) (w : Bool) (x : RoleState) (p : Ledger) → IsCourse measure s k
     → is_legal s (Load r j b z f g w ∷ log_of k) ≡ true → slice_get k.roles r ≡ Some x → k.transit ≡ []
-    → IsAccount s (Load r j b z f g w ∷ log_of k) [] (all_named p)
+    → IsAccount s (Load r j b z f g w ∷ log_of k) [] p
     → IsCourse measure s (record k {
       log = record k.log { told = plain (Load r j b z f g w) ∷ k.log.told };
       roles = set k.roles r (record x { hand = Loaded j (record { number = b; size = z }) });
@@ -94,7 +94,7 @@ loaded measure s k r j b z f g w x p i legal at still account =
 
 pub took_block : (measure : Measuring) (s : Setting) (k : Parts) (r c m j b z : ℕ) (f : Bool) (g : ℕ) (w : Bool) (x : RoleState) (n : NodeState) (p : Ledger)
     (part : Option Parts_of) → IsCourse measure s k → is_legal s (TakeBlock f w r (suc c) m j b z g ∷ log_of k) ≡ true → slice_get k.roles r ≡ Some x
-    → slice_get k.nodes c ≡ Some n → k.transit ≡ [] → IsAccount s (TakeBlock f w r (suc c) m j b z g ∷ log_of k) [] (all_named p)
+    → slice_get k.nodes c ≡ Some n → k.transit ≡ [] → IsAccount s (TakeBlock f w r (suc c) m j b z g ∷ log_of k) [] p
     → IsCourse measure s (record k {
       log = record k.log { told = lends (TakeBlock f w r (suc c) m j b z g) part ∷ k.log.told };
       nodes = set k.nodes c (record n { inbox = without_front n.inbox; jobs = n.jobs + 1 });
@@ -130,7 +130,7 @@ took_block measure s k r c m j b z f g w x n p part i legal at here still accoun
 -- The same of a node by its number, where its state stands at the place before.
 pub took_block_at : (measure : Measuring) (s : Setting) (k : Parts) (v : ℕ) (r c m j b z : ℕ) (f : Bool) (g : ℕ) (w : Bool) (x : RoleState) (n : NodeState)
     (p : Ledger) (part : Option Parts_of) → suc c ≡ v → IsCourse measure s k → is_legal s (TakeBlock f w r v m j b z g ∷ log_of k) ≡ true
-    → slice_get k.roles r ≡ Some x → slice_get k.nodes c ≡ Some n → k.transit ≡ [] → IsAccount s (TakeBlock f w r v m j b z g ∷ log_of k) [] (all_named p)
+    → slice_get k.roles r ≡ Some x → slice_get k.nodes c ≡ Some n → k.transit ≡ [] → IsAccount s (TakeBlock f w r v m j b z g ∷ log_of k) [] p
     → IsCourse measure s (record k {
       log = record k.log { told = lends (TakeBlock f w r v m j b z g) part ∷ k.log.told };
       nodes = set k.nodes c (record n { inbox = without_front n.inbox; jobs = n.jobs + 1 });
@@ -141,7 +141,7 @@ pub took_block_at : (measure : Measuring) (s : Setting) (k : Parts) (v : ℕ) (r
     })
 took_block_at measure s k v r c m j b z f g w x n p part is i =
     subst (λ u. is_legal s (TakeBlock f w r u m j b z g ∷ log_of k) ≡ true → slice_get k.roles r ≡ Some x → slice_get k.nodes c ≡ Some n → k.transit ≡ []
-    → IsAccount s (TakeBlock f w r u m j b z g ∷ log_of k) [] (all_named p)
+    → IsAccount s (TakeBlock f w r u m j b z g ∷ log_of k) [] p
     → IsCourse measure s (record k {
       log = record k.log { told = lends (TakeBlock f w r u m j b z g) part ∷ k.log.told };
       nodes = set k.nodes c (record n { inbox = without_front n.inbox; jobs = n.jobs + 1 });
@@ -154,7 +154,7 @@ took_block_at measure s k v r c m j b z f g w x n p part is i =
 -- THE POOL
 pub few-known : (measure : Measuring) (s : Setting) (k : Parts) → IsCourse measure s k → k.transit ≡ [] → length k.pool.known < 4294967295
 few-known measure s k i still =
-    tell_laws.known_fit s (log_of k) (all_named k.pool) [] (omega (arith, ap length i.ruled.ids, i.ruled.few_frames)) (omega (
+    tell_laws.known_fit s (log_of k) k.pool [] (omega (arith, ap length i.ruled.ids, i.ruled.few_frames)) (omega (
       arith,
       i.ruled.few_nodes,
       ap length i.ruled.nodes,
@@ -168,23 +168,38 @@ pub after-room : (p : Ledger) (x b n : ℕ) (f : Bool) (g : ℕ)
 after-room p x b n true g = refl
 after-room p x b n false g = refl
 
+pub after-unnamed : (p : Ledger) (x b n : ℕ) (f : Bool) (g : ℕ)
+    → (after (record p { room = x }) (Granted b n f g)).unnamed ≡ (after p (Granted b n f g)).unnamed
+after-unnamed p x b n true g = refl
+after-unnamed p x b n false g = refl
+
+-- nothing waits to be named, and what an answer gives up is what the log says
+pub still-named : (measure : Measuring) (s : Setting) (k : Parts) → IsCourse measure s k → k.pool.unnamed ≡ []
+still-named measure s k i = i.account.named
+
+pub given-is : (measure : Measuring) (s : Setting) (k : Parts) (P : Past) (b z : ℕ) (f : Bool) (g : ℕ) → IsCourse measure s k → k.transit ≡ []
+    → log_of k ≡ P → (after k.pool (Granted b z f g)).unnamed ≡ given_up_for s P f g
+given-is measure s k P b z true g i still same =
+    tell_laws.given s (log_of k) b z g k.pool (still-account measure s k i still) ∙ ap (λ (Q : Past). given_up_for s Q true g) same
+given-is measure s k P b z false g i still same = i.account.named
+
 pub load-account : (measure : Measuring) (s : Setting) (k : Parts) (r j b z : ℕ) (f : Bool) (g : ℕ) (w : Bool) (p : Ledger) → IsCourse measure s k
     → k.transit ≡ [] → is_legal s (Load r j b z f g w ∷ log_of k) ≡ true
-    → all_named p ≡ record (all_named (after (all_named k.pool) (Granted b z f g))) { room = p.room }
-    → IsAccount s (Load r j b z f g w ∷ log_of k) [] (all_named p)
+    → p ≡ record (all_named (after k.pool (Granted b z f g))) { room = p.room }
+    → IsAccount s (Load r j b z f g w ∷ log_of k) [] p
 load-account measure s k r j b z f g w p i still legal is =
     subst (IsAccount s (Load r j b z f g w ∷ log_of k) []) (sym is)
-    (hold_laws.room s (Load r j b z f g w ∷ log_of k) p.room (all_named (after (all_named k.pool) (Granted b z f g))) []
-    (grant_laws.load s (log_of k) r j b z f g w (all_named k.pool) i.ruled.pooled legal (still-account measure s k i still)))
+    (hold_laws.room s (Load r j b z f g w ∷ log_of k) p.room (all_named (after k.pool (Granted b z f g))) []
+    (grant_laws.load s (log_of k) r j b z f g w k.pool i.ruled.pooled legal (still-account measure s k i still)))
 
 pub block-account : (measure : Measuring) (s : Setting) (k : Parts) (r v m j b z : ℕ) (f : Bool) (g : ℕ) (w : Bool) (p : Ledger) → IsCourse measure s k
     → k.transit ≡ [] → is_legal s (TakeBlock f w r v m j b z g ∷ log_of k) ≡ true
-    → all_named p ≡ record (all_named (after (all_named k.pool) (Granted b z f g))) { room = p.room }
-    → IsAccount s (TakeBlock f w r v m j b z g ∷ log_of k) [] (all_named p)
+    → p ≡ record (all_named (after k.pool (Granted b z f g))) { room = p.room }
+    → IsAccount s (TakeBlock f w r v m j b z g ∷ log_of k) [] p
 block-account measure s k r v m j b z f g w p i still legal is =
     subst (IsAccount s (TakeBlock f w r v m j b z g ∷ log_of k) []) (sym is)
-    (hold_laws.room s (TakeBlock f w r v m j b z g ∷ log_of k) p.room (all_named (after (all_named k.pool) (Granted b z f g))) []
-    (grant_laws.take_block s (log_of k) r v m j b z f g w (all_named k.pool) i.ruled.pooled legal (still-account measure s k i still)))
+    (hold_laws.room s (TakeBlock f w r v m j b z g ∷ log_of k) p.room (all_named (after k.pool (Granted b z f g))) []
+    (grant_laws.take_block s (log_of k) r v m j b z f g w k.pool i.ruled.pooled legal (still-account measure s k i still)))
 
 -- a place among rows
 pub place-in : (v j n l : ℕ) → v ≤ n → j < l → v * l + j < (n + 1) * l

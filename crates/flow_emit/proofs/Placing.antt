@@ -26,7 +26,7 @@ use Rattle.flow_journal.proofs.Looks.{gone-again, sorted_no_file}
 use Rattle.flow_journal.specs.ResultNames.{result_name}
 use Rattle.chain_plain.specs.OneThread.{listed as listed_one}
 use Rattle.board_rules.specs.States.{plain}
-use Rattle.pool_account.specs.Account.{IsAccount, all_named}
+use Rattle.pool_account.specs.Account.{IsAccount}
 use Rattle.pool_account.proofs.Laws.{put_laws}
 use Rattle.flow_emit.specs.Courses.{Parts, log_of, IsCourse}
 use Rattle.flow_journal.specs.Having.{HasBlock}
@@ -85,30 +85,30 @@ list-keeps measure s v e P n l sorted i size last waits =
     }
 
 put-account : (s : Setting) (v r : ℕ) (a : FrameName) (f : Bool) (k : Parts) → JobOn s v r a (log_of k) → is_sorted s v ≡ true
-    → is_legal s (put_of s r v a f ∷ log_of k) ≡ true → IsAccount s (log_of k) [] (all_named k.pool)
-    → IsAccount s (put_of s r v a f ∷ log_of k) (flat_map (block_of (log_of k)) (inputs s v a)) (all_named k.pool)
+    → is_legal s (put_of s r v a f ∷ log_of k) ≡ true → IsAccount s (log_of k) [] k.pool
+    → IsAccount s (put_of s r v a f ∷ log_of k) (flat_map (block_of (log_of k)) (inputs s v a)) k.pool
 put-account s v r a f k job sorted legal account = by (is_maker s v) refl where
-  by : (b : Bool) → is_maker s v ≡ b → IsAccount s (put_of s r v a f ∷ log_of k) (flat_map (block_of (log_of k)) (inputs s v a)) (all_named k.pool)
+  by : (b : Bool) → is_maker s v ≡ b → IsAccount s (put_of s r v a f ∷ log_of k) (flat_map (block_of (log_of k)) (inputs s v a)) k.pool
   by false is =
       let P = log_of k in
       let name : result_name s v a ≡ a = rw is refl in
       let none : inputs s v a ≡ [] = rw is refl in
       let taken = taken-as s v r a P job is in
-      let there : IsAccount s (Put r v a.maker a.index f ∷ P) [] (all_named k.pool) =
-      put_laws.sorted s P r taken.0 v a.maker a.index f (all_named k.pool) [] taken.1 sorted
+      let there : IsAccount s (Put r v a.maker a.index f ∷ P) [] k.pool =
+      put_laws.sorted s P r taken.0 v a.maker a.index f k.pool [] taken.1 sorted
       (subst (λ (n : FrameName). is_legal s (Put r v n.maker a.index f ∷ P) ≡ true) name legal) account in
-      subst (λ (xs : List FrameName). IsAccount s (put_of s r v a f ∷ P) (flat_map (block_of P) xs) (all_named k.pool)) (sym none)
-      (subst (λ (n : FrameName). IsAccount s (Put r v n.maker a.index f ∷ P) [] (all_named k.pool)) (sym name) there)
+      subst (λ (xs : List FrameName). IsAccount s (put_of s r v a f ∷ P) (flat_map (block_of P) xs) k.pool) (sym none)
+      (subst (λ (n : FrameName). IsAccount s (Put r v n.maker a.index f ∷ P) [] k.pool) (sym name) there)
   by true is =
       let P = log_of k in
       let name : result_name s v a ≡ frame v a.index = rw is refl in
       let one : inputs s v a ≡ a ∷ [] = rw is refl in
       let g = granted-as s v r a P job is in
-      let there : IsAccount s (Put r v v a.index f ∷ P) (block_of P a ++ []) (all_named k.pool) =
-      put_laws.sorted_maker s P r g.role v g.maker a.index g.block g.size g.fresh g.given g.regrown f (all_named k.pool) (block_of P a) [] g.held sorted
+      let there : IsAccount s (Put r v v a.index f ∷ P) (block_of P a ++ []) k.pool =
+      put_laws.sorted_maker s P r g.role v g.maker a.index g.block g.size g.fresh g.given g.regrown f k.pool (block_of P a) [] g.held sorted
       (ap (block_of P) g.name) (subst (λ (n : FrameName). is_legal s (Put r v n.maker a.index f ∷ P) ≡ true) name legal) account in
-      subst (λ (xs : List FrameName). IsAccount s (put_of s r v a f ∷ P) (flat_map (block_of P) xs) (all_named k.pool)) (sym one)
-      (subst (λ (n : FrameName). IsAccount s (Put r v n.maker a.index f ∷ P) (block_of P a ++ []) (all_named k.pool)) (sym name) there)
+      subst (λ (xs : List FrameName). IsAccount s (put_of s r v a f ∷ P) (flat_map (block_of P) xs) k.pool) (sym one)
+      (subst (λ (n : FrameName). IsAccount s (Put r v n.maker a.index f ∷ P) (block_of P a ++ []) k.pool) (sym name) there)
 
 pub few-inputs : (s : Setting) (v : ℕ) (a : FrameName) → length (inputs s v a) ≤ 1
 few-inputs s v a = split (is_maker s v) where
@@ -132,7 +132,7 @@ put_in_list measure s k r c a f x n l i legal at here empty job sorted size last
     let v = suc c in
     put_with measure s k r c (result_name s v a).maker a.index f job.entry x n (record n { list = l }) (inputs s v a) i legal at here job.has
     (list-keeps measure s v (put_of s r v a f) P n l sorted (i.nodes.each c n here) size last waits)
-    (put-account s v r a f k job sorted legal (subst (λ (ts : List FrameName). IsAccount s P (flat_map (block_of P) ts) (all_named k.pool)) empty i.account))
+    (put-account s v r a f k job sorted legal (subst (λ (ts : List FrameName). IsAccount s P (flat_map (block_of P) ts) k.pool) empty i.account))
     (All-tail (HasBlock P) (result_name s v a) (inputs s v a) (has-arrays s v r a P job.entry i.legal job.has.held job.kind).standing)
     (omega (arith, few-inputs s v a))
 

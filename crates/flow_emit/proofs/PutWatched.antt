@@ -27,7 +27,7 @@ use Rattle.flow_journal.proofs.Changes.{ring_laws}
 use Rattle.flow_journal.proofs.Steps.{comes_here}
 use Rattle.flow_journal.specs.ResultNames.{result_name}
 use Rattle.board_rules.specs.States.{plain}
-use Rattle.pool_account.specs.Account.{IsAccount, SameTimes, all_named}
+use Rattle.pool_account.specs.Account.{IsAccount, SameTimes}
 use Rattle.pool_account.proofs.Carrying.{times-append}
 use Rattle.pool_account.proofs.Laws.{put_laws}
 use Rattle.flow_emit.specs.Courses.{Parts, log_of, IsCourse}
@@ -111,8 +111,8 @@ put_in_ring measure s k c r a f x n y out q i p =
     let rule = watch-rule s v p.kind in
     let then : y.window.ring ≡ ring s v Q = ring-after s v Q rule.pre rule.post rule.preset y.window rule.rule p.running ring_is in
     let whole : out ++ ring s v Q ≡ ring s v P ++ a ∷ [] = ap (λ xs. out ++ xs) (sym then) ∙ (w.whole ∙ ap (λ xs. xs ++ a ∷ []) at.ring) in
-    let account : IsAccount s P [] (all_named k.pool) =
-    subst (λ (ts : List FrameName). IsAccount s P (flat_map (block_of P) ts) (all_named k.pool)) p.empty i.account in
+    let account : IsAccount s P [] k.pool =
+    subst (λ (ts : List FrameName). IsAccount s P (flat_map (block_of P) ts) k.pool) p.empty i.account in
     let has : HasBlock P a = All-head (HasBlock P) a [] (subst (All (HasBlock P)) alone arrays.standing) in
     put_with measure s k r c a.maker a.index f p.job.entry x n (record n { window = y.window }) out i legal p.role p.here p.job.has
     (record {
@@ -123,7 +123,7 @@ put_in_ring measure s k c r a f x n y out q i p =
       kept = was.kept ∙ (none-unsaved s v P facts.2 ∙ sym (none-unsaved s v Q facts.2));
       room = was.unsaved_room;
     })
-    (put_laws.watched s P r v a.maker a.index f rule.pre rule.post rule.preset (Take taken.0 v a.maker a.index) (all_named k.pool) []
+    (put_laws.watched s P r v a.maker a.index f rule.pre rule.post rule.preset (Take taken.0 v a.maker a.index) k.pool []
     (flat_map (block_of P) out) taken.1 rule.rule (same-blocks P a out (ring s v Q) (ring s v P) whole) legal account)
     (All-front (HasBlock P) out (ring s v Q) (subst (All (HasBlock P)) (sym whole) (All-push (HasBlock P) (ring s v P) a (ring-blocks s v P i.legal) has)))
     (omega (arith, ap length w.whole, length-append out y.window.ring, length-append n.window.ring (a ∷ []), at.few))

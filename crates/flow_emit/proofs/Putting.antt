@@ -23,7 +23,7 @@ use Rattle.flow_journal.specs.Unsaved.{unsaved, is_file, standing_saves}
 use Rattle.flow_journal.specs.Puts.{puts}
 use Rattle.flow_journal.specs.Histories.{is_legal}
 use Rattle.board_rules.specs.States.{plain}
-use Rattle.pool_account.specs.Account.{IsAccount, all_named}
+use Rattle.pool_account.specs.Account.{IsAccount}
 use Rattle.pool_account.proofs.Laws.{put_laws}
 use Rattle.flow_emit.specs.declared.hand.Hand.TheVariants.{Free}
 use Rattle.flow_emit.specs.declared.hand.RoleState.{RoleState}
@@ -71,7 +71,7 @@ no-load v _ job = absurd (false≢true job)
 pub put_with : (measure : Measuring) (s : Setting) (k : Parts) (r c m j : ℕ) (f : Bool) (h : Entry) (x : RoleState) (n y : NodeState) (ts : List FrameName)
     → IsCourse measure s k → is_legal s (Put r (suc c) m j f ∷ log_of k) ≡ true → slice_get k.roles r ≡ Some x → slice_get k.nodes c ≡ Some n
     → HasJob (suc c) r (log_of k) h → Keeps measure s (suc c) (log_of k) (Put r (suc c) m j f ∷ log_of k) y
-    → IsAccount s (Put r (suc c) m j f ∷ log_of k) (flat_map (block_of (log_of k)) ts) (all_named k.pool) → All (HasBlock (log_of k)) ts → length ts ≤ 4097
+    → IsAccount s (Put r (suc c) m j f ∷ log_of k) (flat_map (block_of (log_of k)) ts) k.pool → All (HasBlock (log_of k)) ts → length ts ≤ 4097
     → IsCourse measure s (record k {
       log = record k.log { told = plain (Put r (suc c) m j f) ∷ k.log.told };
       nodes = set k.nodes c (record n { jobs = n.jobs - 1; puts = n.puts + 1; list = y.list; window = y.window; unsaved = y.unsaved });
@@ -160,9 +160,9 @@ put_at_once measure s k r c m j f h a x n i legal at here empty has goes plain_o
     let P = log_of k in
     let v = suc c in
     put_with measure s k r c m j f h x n n (job_arrays s v a) i legal at here has (keeps-none measure s v P _ n goes plain_one (i.nodes.each c n here))
-    (subst (λ bs. IsAccount s (Put r v m j f ∷ P) bs (all_named k.pool)) (append-nil (blocks_in_hand P h) ∙ sym arrays.blocks)
-    (put_laws.plain s P r v m j f h (all_named k.pool) [] has.held goes plain_one legal
-    (subst (λ (ts : List FrameName). IsAccount s P (flat_map (block_of P) ts) (all_named k.pool)) empty i.account)))
+    (subst (λ bs. IsAccount s (Put r v m j f ∷ P) bs k.pool) (append-nil (blocks_in_hand P h) ∙ sym arrays.blocks)
+    (put_laws.plain s P r v m j f h k.pool [] has.held goes plain_one legal
+    (subst (λ (ts : List FrameName). IsAccount s P (flat_map (block_of P) ts) k.pool) empty i.account)))
     arrays.standing
     (few-arrays s v a)
 
@@ -209,8 +209,8 @@ put_file measure s k r c m j f q x n y i legal at here empty held file items roo
       kept = items ∙ (ap (λ xs. xs ++ frame m j ∷ []) was.kept ∙ sym (save_laws.put s r v m j f P i.legal file));
       room = omega (arith, room, was.unsaved_room);
     })
-    (put_laws.file s P r q v m j f (all_named k.pool) [] held file legal
-    (subst (λ (ts : List FrameName). IsAccount s P (flat_map (block_of P) ts) (all_named k.pool)) empty i.account))
+    (put_laws.file s P r q v m j f k.pool [] held file legal
+    (subst (λ (ts : List FrameName). IsAccount s P (flat_map (block_of P) ts) k.pool) empty i.account))
     (All-nil (HasBlock P)) (omega arith))
 
 pub unsaved-short : (measure : Measuring) (s : Setting) (k : Parts) (v r m j : ℕ) (f : Bool) (n : NodeState) → IsCourse measure s k → is_node s v ≡ true

@@ -8,7 +8,7 @@ use Rattle.std.proofs.lemmas.List.Elements.{All-nil}
 use Rattle.nd_base.specs.declared.frame.FrameName.{FrameName}
 use Rattle.pool_ledger.specs.Ledger.{with_refs}
 use Rattle.pool_ledger.specs.Ledger as ledger
-use Rattle.pool_account.specs.Account.{IsAccount, all_named}
+use Rattle.pool_account.specs.Account.{IsAccount}
 use Rattle.pool_account.proofs.Laws.{tell_laws, hold_laws, array_laws}
 use Rattle.queue_sort.specs.Inboxes.{with_front}
 use Rattle.flow_journal.specs.declared.entry.Entry.{Entry}
@@ -119,24 +119,24 @@ role-back s r P rs x are at legal =
     ) refl)
 
 -- the pool, once it dropped the hold of a granted block
-dropped : (s : Setting) (P : Past) (k : Parts) (c : ℕ) → IsAccount s P (c ∷ []) (all_named k.pool)
-    → IsAccount s P [] (all_named (with_refs c (ledger.refs k.pool c - 1) k.pool))
-dropped s P k c a = hold_laws.drop s P c (all_named k.pool) [] a
+dropped : (s : Setting) (P : Past) (k : Parts) (c : ℕ) → IsAccount s P (c ∷ []) k.pool
+    → IsAccount s P [] (with_refs c (ledger.refs k.pool c - 1) k.pool)
+dropped s P k c a = hold_laws.drop s P c k.pool [] a
 
-pub granted-held : (s : Setting) (P : Past) (k : Parts) (c : ℕ) → IsAccount s P (c ∷ []) (all_named k.pool) → 0 < ledger.refs k.pool c
-granted-held s P k c a = tell_laws.carried s P c (all_named k.pool) (c ∷ []) (rw (eq-eqb c c refl) (omega arith)) a
+pub granted-held : (s : Setting) (P : Past) (k : Parts) (c : ℕ) → IsAccount s P (c ∷ []) k.pool → 0 < ledger.refs k.pool c
+granted-held s P k c a = tell_laws.carried s P c k.pool (c ∷ []) (rw (eq-eqb c c refl) (omega arith)) a
 
 -- WHAT IS TAKEN BACK
 pub load-carried : (measure : Measuring) (s : Setting) (k : Parts) (r q j b n : ℕ) (f : Bool) (g : ℕ) (w : Bool) → IsCourse measure s k → k.transit ≡ []
-    → is_legal s (Reclaim r ∷ log_of k) ≡ true → hand r (log_of k) ≡ Some (Load q j b n f g w) → IsAccount s (Reclaim r ∷ log_of k) (b ∷ []) (all_named k.pool)
+    → is_legal s (Reclaim r ∷ log_of k) ≡ true → hand r (log_of k) ≡ Some (Load q j b n f g w) → IsAccount s (Reclaim r ∷ log_of k) (b ∷ []) k.pool
 load-carried measure s k r q j b n f g w i still legal held =
-    array_laws.reclaim_load s (log_of k) r q j b n f g w (all_named k.pool) [] held legal (still-account measure s k i still)
+    array_laws.reclaim_load s (log_of k) r q j b n f g w k.pool [] held legal (still-account measure s k i still)
 
 pub block-carried : (measure : Measuring) (s : Setting) (k : Parts) (r q v m j b n : ℕ) (f : Bool) (g : ℕ) (w : Bool) → IsCourse measure s k → k.transit ≡ []
     → is_legal s (Reclaim r ∷ log_of k) ≡ true → hand r (log_of k) ≡ Some (TakeBlock f w q v m j b n g)
-    → IsAccount s (Reclaim r ∷ log_of k) (b ∷ []) (all_named k.pool)
+    → IsAccount s (Reclaim r ∷ log_of k) (b ∷ []) k.pool
 block-carried measure s k r q v m j b n f g w i still legal held =
-    array_laws.reclaim_block s (log_of k) r q v m j b n f g w (all_named k.pool) [] held legal (still-account measure s k i still)
+    array_laws.reclaim_block s (log_of k) r q v m j b n f g w k.pool [] held legal (still-account measure s k i still)
 
 pub back_loaded : (measure : Measuring) (s : Setting) (k : Parts) (r q j b n : ℕ) (f : Bool) (g : ℕ) (w : Bool) (x : RoleState) (lost : List ℕ)
     → IsCourse measure s k → is_legal s (Reclaim r ∷ log_of k) ≡ true → slice_get k.roles r ≡ Some x → k.transit ≡ []
@@ -187,7 +187,7 @@ back_taken measure s k r q c m j x n lost i legal at here still held =
           nodes-set measure s P (Reclaim r ∷ P) k.nodes c _ i.nodes (here-reclaim_take measure s r q (suc c) m j P n (i.nodes.each c n here) i.legal legal held)
           (λ v ne. same-reclaim s (suc v) r e P legal i.legal held (ne_eqb (suc c) (suc v) (apart-more ne)) refl);
       roles = role-back s r P k.roles x i.roles at legal;
-      account = array_laws.reclaim_other s P r e (all_named k.pool) [] held refl legal (still-account measure s k i still);
+      account = array_laws.reclaim_other s P r e k.pool [] held refl legal (still-account measure s k i still);
       standing = All-nil (HasBlock (Reclaim r ∷ P));
       blocks = blocks-reclaimed s P r e k.blocks i.blocks i.legal legal held;
       facts = i.facts ∙ sym (facts-reclaim_other s r e P legal i.legal held refl);
@@ -251,7 +251,7 @@ back_piece measure s k r q c m j g x n y lost i legal at here still held items r
           (here-reclaim_piece measure s r q (suc c) m j g P n y (i.nodes.each c n here) i.legal legal held (piece-file s r q (suc c) m j g P i.legal held) items
           (λ file. room)) (λ v ne. same-reclaim s (suc v) r e P legal i.legal held refl (ne_eqb (suc c) (suc v) (apart-more ne)));
       roles = role-back s r P k.roles x i.roles at legal;
-      account = array_laws.reclaim_other s P r e (all_named k.pool) [] held refl legal (still-account measure s k i still);
+      account = array_laws.reclaim_other s P r e k.pool [] held refl legal (still-account measure s k i still);
       standing = All-nil (HasBlock (Reclaim r ∷ P));
       blocks = blocks-reclaimed s P r e k.blocks i.blocks i.legal legal held;
       facts = i.facts ∙ sym (facts-reclaim_other s r e P legal i.legal held refl);

@@ -17,7 +17,7 @@ use Rattle.flow_journal.specs.Rings.{ring, ring_of}
 use Rattle.flow_journal.specs.Histories.{is_legal}
 use Rattle.flow_journal.proofs.Changes.{clock_laws}
 use Rattle.board_rules.specs.States.{plain}
-use Rattle.pool_account.specs.Account.{IsAccount, all_named}
+use Rattle.pool_account.specs.Account.{IsAccount}
 use Rattle.pool_account.proofs.Laws.{array_laws}
 use Rattle.flow_emit.specs.declared.rules.NodeWork.{NodeWork}
 use Rattle.flow_emit.specs.declared.rules.NodeWork.TheVariants as work
@@ -105,8 +105,8 @@ settled_here measure s k r c n i legal here empty kind =
           (λ v ne. same-settle s (suc v) r (suc c) P legal (apart-more ne));
       roles = roles-kept s P _ k.roles i.roles (λ r. refl);
       account =
-          subst (λ (xs : List FrameName). IsAccount s (e ∷ P) (flat_map (block_of P) xs ++ []) (all_named k.pool)) none
-          (array_laws.settle s P r (suc c) (all_named k.pool) [] legal (still-account measure s k i empty));
+          subst (λ (xs : List FrameName). IsAccount s (e ∷ P) (flat_map (block_of P) xs ++ []) k.pool) none
+          (array_laws.settle s P r (suc c) k.pool [] legal (still-account measure s k i empty));
       standing = All-nil (HasBlock P);
       blocks = blocks-kept s P _ k.blocks i.blocks (λ a. refl);
       facts = i.facts ∙ sym (facts-settle s r (suc c) P legal);

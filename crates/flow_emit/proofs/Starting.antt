@@ -8,7 +8,7 @@ use Rattle.nd_base.specs.declared.measure.Measure.{Measure}
 use Rattle.pool_ledger.specs.Ledger.{empty_ledger}
 use Rattle.flow_journal.specs.Setting.{Setting, Node, last_role}
 use Rattle.flow_journal.specs.LengthLaws.{most_entries}
-use Rattle.pool_account.specs.Account.{IsAccount, all_named}
+use Rattle.pool_account.specs.Account.{IsAccount}
 use Rattle.pool_account.proofs.Laws.{hold_laws}
 use Rattle.told_log.specs.ToldLogs.{ToldState}
 use Rattle.flow_emit.specs.declared.hand.Hand.TheVariants.{Free}
@@ -88,7 +88,7 @@ course-none measure s ru ns rs bs last ruled nodes is roles blocks =
       legal = refl;
       nodes = nodes;
       roles = roles-none s rs (last + 1) roles (ap (λ k. k + 1) l);
-      account = subst (λ n. IsAccount s [] [] (all_named (empty_ledger n 0))) (sym ruled.limit) (hold_laws.start s 0);
+      account = subst (λ n. IsAccount s [] [] (empty_ledger n 0)) (sym ruled.limit) (hold_laws.start s 0);
       standing = All-nil (HasBlock []);
       blocks =
           blocks-none s bs ((length ru.nodes + 1) * length ru.ids) blocks

@@ -10,7 +10,7 @@ use Rattle.flow_journal.specs.Accounts.{block_of}
 use Rattle.flow_journal.specs.Histories.{is_legal}
 use Rattle.flow_journal.specs.LengthLaws.{most_entries}
 use Rattle.board_rules.specs.States.{BoardState, past}
-use Rattle.pool_account.specs.Account.{IsAccount, all_named}
+use Rattle.pool_account.specs.Account.{IsAccount}
 use Rattle.told_log.specs.ToldLogs.{ToldState}
 use Rattle.flow_emit.specs.declared.rules.Rules.{Rules}
 use Rattle.flow_emit.specs.declared.node.NodeState.{NodeState}
@@ -49,7 +49,7 @@ pub record IsCourse (measure : ℕ → FrameName → Option Measure) (s : Settin
   pub legal : is_legal s (log_of k) ≡ true
   pub nodes : AreNodes measure s (log_of k) k.nodes
   pub roles : AreRoles s (log_of k) k.roles
-  pub account : IsAccount s (log_of k) (flat_map (block_of (log_of k)) k.transit) (all_named k.pool)
+  pub account : IsAccount s (log_of k) (flat_map (block_of (log_of k)) k.transit) k.pool
   pub standing : All (HasBlock (log_of k)) k.transit
   pub blocks : AreBlocks s (log_of k) k.blocks
   pub facts : k.facts ≡ facts_of (log_of k)

@@ -18,6 +18,16 @@ kept_at t block = slice_index_or t block Empty
 abbrev pub with_kept : List Kept → ℕ → Kept → List Kept
 with_kept t block k = slice_set t block k
 
+-- something is kept
+abbrev pub is_kept : Kept → Bool
+is_kept Empty = false
+is_kept _ = true
+
+-- the table with nothing at the places of these blocks, and all others as they were
+abbrev pub without_kept : List ℕ → List Kept → List Kept
+without_kept [] t = t
+without_kept (b ∷ bs) t = without_kept bs (with_kept t b Empty)
+
 -- the table with a place for the block, which has one or is the next
 abbrev pub with_room : List Kept → ℕ → List Kept
 with_room t block = if nat_lt block (length t) then t else t ++ Empty ∷ []

@@ -2,7 +2,7 @@
 
 ghost use Rattle.std.specs.Prelude.{◌≡◌, ◌<◌, ◌≤◌, [], length, IfOk, OnOk, OnErr};
 ghost use Rattle.frame_table.specs.Kept.{Empty, Frame, Storage, kept_at, with_kept, with_room, MayLend, IsPartOf, less_one, IsUntold, MayGiveBack, united};
-ghost use Rattle.frame_table.specs.Kept.{at_home, IsMadeAnew, IsAsUsed, IsAway, IsSized, IsRefused};
+ghost use Rattle.frame_table.specs.Kept.{is_kept, at_home, IsMadeAnew, IsAsUsed, IsAway, IsSized, IsRefused};
 
 use crate::place::Place;
 use nd_base::{Held, OutOfMemory};
@@ -81,13 +81,24 @@ impl<F: Held> FrameTable<F> {
         self.places[block as usize] = Place::Storage(blank);
     }
 
-    /// Drops what is kept of the block.
+    /// Drops what is kept of the block, if it has a place.
     #[tactic(auto, using(crate::proofs::Views::views))]
     pub fn forget(&mut self, block: u32)
-        requires { block < length self.old }
         ensures { self.new ≡ with_kept self.old block Empty }
     {
-        self.places[block as usize] = Place::Empty;
+        if (block as usize) < self.places.len() {
+            self.places[block as usize] = Place::Empty;
+        }
+    }
+
+    /// Whether anything is kept of the block.
+    pub fn keeps(&self, block: u32) -> bool
+        ensures { result ≡ is_kept (kept_at self.now block) }
+    {
+        match self.places.get(block as usize) {
+            Some(Place::Frame(_) | Place::Storage(_)) => true,
+            Some(Place::Empty) | None => false,
+        }
     }
 
     /// A part of the frame that is kept.

@@ -5,6 +5,7 @@ use Rattle.std.specs.Prelude.{IsSome}
 use Rattle.std.proofs.lemmas.Bool.{false≢true, true≢false, eqb-true, cases_Bool, or_parts}
 use Rattle.nd_base.specs.declared.frame.FrameName.{FrameName}
 use Rattle.nd_base.specs.Parts.{Parts}
+use Rattle.pool_ledger.specs.Grants.{has_number}
 use Rattle.flow_journal.specs.declared.entry.Entry.{Entry}
 use Rattle.flow_journal.specs.declared.entry.Entry.TheVariants.{Load, Take, TakeBlock, Save}
 use Rattle.flow_journal.specs.Setting.{Setting}
@@ -27,9 +28,9 @@ use Rattle.board_rules.specs.Storage.{is_among, grants, is_away, has_part, parts
 use Rattle.frame_table.specs.Kept.{Kept, Empty, Frame, Storage, kept_at, IsPartOf, one_part, together, united}
 use Rattle.board_rules.specs.LastGrants.{LastGrant, InMaking, Made, last_grant}
 use Rattle.kept_blocks.specs.Keeping.{IsRunOf, IsFrameOn, LoseFew}
-use Rattle.kept_blocks.proofs.Granted.{Makes, making-granted, alone-making, alone-from}
+use Rattle.kept_blocks.proofs.Granted.{Makes, making-granted, makes-block, makes-placed, alone-making, alone-from}
 use Rattle.kept_blocks.proofs.Tied.{is_array_of, tied}
-use Rattle.kept_blocks.proofs.Placing.{placed-on, hand-used}
+use Rattle.kept_blocks.proofs.Placing.{known-at, placed-on, hand-used}
 use Rattle.kept_blocks.proofs.Rest.{none-more}
 use Rattle.kept_blocks.proofs.Shares.{few-parts, same-parts}
 use Rattle.kept_blocks.proofs.Holding.{IsKeptIn, Holds, legal-of, keeps, frame-stays}
@@ -40,6 +41,11 @@ some-same : {X : Type 0} {x y : X} → Some x ≡ Some y → x ≡ y
 some-same h = cc
 
 -- NO PART
+
+one-of : (b : ℕ) (bs : List ℕ) → length bs ≤ 1 → is_among b bs ≡ true → bs ≡ b ∷ []
+one-of b [] few h = absurd (false≢true h)
+one-of b (c ∷ []) few h = ap (λ (i : ℕ). i ∷ []) (eqb-true c b (sym (among-one b c) ∙ h))
+one-of b (c ∷ d ∷ bs) few h = absurd (omega (arith, few))
 
 -- where arrays on the block are in no hand that has a part, no hand has one of the block
 none-of : (P : Past) (b : ℕ) (hs : List Entry)
@@ -54,15 +60,10 @@ none-of P b (e ∷ hs) none =
       ap bit (off e (λ x on. bit-none (holds_by no_frame (is_frame x) e) (omega (arith, none x on, count-cons (holds_by no_frame (is_frame x)) e hs)))),
     )
   where
-    one-block : (bs : List ℕ) → length bs ≤ 1 → is_among b bs ≡ true → bs ≡ b ∷ []
-    one-block [] few h = absurd (false≢true h)
-    one-block (c ∷ []) few h = ap (λ (i : ℕ). i ∷ []) (eqb-true c b (sym (among-one b c) ∙ h))
-    one-block (c ∷ d ∷ bs) few h = absurd (omega (arith, few))
-
     apart : (x : FrameName) → (block_of P x ≡ b ∷ [] → is_frame x x ≡ false) → is_among b (block_of P x) ≡ false
     apart x no_ =
         elim (cases_Bool (is_among b (block_of P x))) [
-          | inl is ↦ absurd (true≢false (sym (same_refl x) ∙ no_ (one-block (block_of P x) (block_laws.one P x) is)))
+          | inl is ↦ absurd (true≢false (sym (same_refl x) ∙ no_ (one-of b (block_of P x) (block_laws.one P x) is)))
           | inr other ↦ other
         ]
 
@@ -183,6 +184,26 @@ granted-making s P r b (TakeBlock f x q v m k c z g) pooled legal held is =
     let one : c ≡ b = eqb-true c b (sym (among-one b c) ∙ is) in
     (frame v k, z, making-granted s P r b z (frame v k) (TakeBlock f x q v m k c z g) pooled legal held (one, refl, refl), (one, refl, refl))
 granted-making s P r b _ pooled legal held is = absurd (false≢true is)
+
+-- so its block is known, and that of a part in the hand
+pub granted-known : (s : Setting) (P : Past) (r b : ℕ) (d : Entry) → s.pooled ≡ true → is_legal s P ≡ true → hand r P ≡ Some d
+    → is_among b (granted_block (Some d)) ≡ true → has_number b (known s P) ≡ true
+granted-known s P r b d pooled legal held is =
+    let m = granted-making s P r b d pooled legal held is in
+    known-at s P b m.0 pooled legal (makes-block s P r b m.1 m.0 d legal held m.3) (makes-placed s P r b m.1 m.0 d legal held m.3)
+
+pub part-known : (s : Setting) (P : Past) (r b : ℕ) (d : Entry) → s.pooled ≡ true → is_legal s P ≡ true → hand r P ≡ Some d
+    → has_part P b d ≡ true → has_number b (known s P) ≡ true
+part-known s P r b d pooled legal held is = by d held is
+  where
+    there : (x : FrameName) → has_part_of x (hand r P) ≡ true → is_among b (block_of P x) ≡ true → has_number b (known s P) ≡ true
+    there x has among = (placed-on s P b x pooled legal (one-of b (block_of P x) (block_laws.one P x) among) (hand-used s P r x has)).0
+
+    by : (d : Entry) → hand r P ≡ Some d → has_part P b d ≡ true → has_number b (known s P) ≡ true
+    by (Take q v m k) held is = there (frame m k) (ap (has_part_of (frame m k)) held ∙ same_refl (frame m k)) is
+    by (TakeBlock f x q v m k c n g) held is = there (frame m k) (ap (has_part_of (frame m k)) held ∙ same_refl (frame m k)) is
+    by (Save q v m k g) held is = there (frame m k) (ap (has_part_of (frame m k)) held ∙ same_refl (frame m k)) is
+    by _ held is = absurd (false≢true is)
 
 -- the array of the hand isn't on the block that was granted with it
 pub part-apart : (s : Setting) (P : Past) (r c n : ℕ) (a : FrameName) (d : Entry) → s.pooled ≡ true → is_legal s P ≡ true → hand r P ≡ Some d

@@ -31,7 +31,7 @@ use Rattle.kept_blocks.proofs.Granted.{held-making, makes-block, makes-placed, a
 use Rattle.kept_blocks.proofs.Tied.{made-block, size_in, is_sized, all-sized, missing-left, fit-there, fit-has}
 use Rattle.kept_blocks.proofs.Placing.{placed-on, hand-used, queued-used}
 use Rattle.kept_blocks.proofs.Shares.{few-parts, away-none, none-away}
-use Rattle.kept_blocks.proofs.Holding.{IsKeptIn, holds-in, holds-out, still-of, legal-of, at-other, same-length}
+use Rattle.kept_blocks.proofs.Holding.{IsKeptIn, holds-in, holds-out, still-of, legal-of, at-other, same-length, emptied-at}
 use Rattle.kept_blocks.proofs.Looks.{lendable}
 use Rattle.kept_blocks.proofs.Ending.{no-parts}
 
@@ -159,6 +159,7 @@ room-holds parts s B t b h = record {
   kept = λ i is. subst (λ (k : Kept). IsKeptBy parts s B i (last_grant i (past B)) k) (sym (room-keeps t b i)) (h.kept i is);
   lent = λ r i a has on. subst (λ (k : Kept). IsPartOf k a (lent_to r B)) (sym (room-keeps t b i)) (h.lent r i a has on);
   lost = h.lost;
+  only = λ i un. room-keeps t b i ∙ h.only i un;
 }
 
 set-more : (t : List Kept) (c : ℕ) (k : Kept) → c < length t → with_kept t c k ++ Empty ∷ [] ≡ with_kept (t ++ Empty ∷ []) c k
@@ -207,6 +208,9 @@ granted-size parts s B t need b z g i =
 
 suc-same : (m n : ℕ) → suc m ≡ suc n → m ≡ n
 suc-same m n e = omega (arith, e)
+
+apart-known : (bs : List Block) (j b : ℕ) → has_number j bs ≡ false → has_number b bs ≡ true → j ≢ b
+apart-known bs j b unknown is same_ = true≢false (sym is ∙ (ap (λ (m : ℕ). has_number m bs) (sym same_) ∙ unknown))
 
 -- what is kept of it, by what became of its last grant
 module _ {F : Type 0} (parts : F → Option Parts) (s : Setting) (B : BoardState) (t : List Kept)
@@ -259,6 +263,7 @@ module _ {F : Type 0} (parts : F → Option Parts) (s : Setting) (B : BoardState
         lent = λ r j a has on. subst (λ (x : Kept). IsPartOf x a (lent_to r B)) (sym (at-other t b j k (λ same_.
             hand-used s P r a has (alone-from s P a (on-block parts s B t need b z false g i a (on ∙ ap (λ (m : ℕ). m ∷ []) same_)))))) (h.lent r j a has on);
         lost = h.lost;
+        only = λ j un. at-other t b j k (apart-known (known s P) j b un known-block) ∙ h.only j un;
       })
     where
       by : (l : LastGrant) → last_grant b (past B) ≡ l → IsKeptIn parts s B b (last_grant b (past B)) (kept_at (with_kept t b k) b)
@@ -363,6 +368,7 @@ forget-law parts s B t b run h empty =
             (sym (at-other t b j Empty (apart j (placed-on s (past B) j a run.pooled (legal-of s B run) on (hand-used s (past B) r a has)).0 unknown)))
             (h.lent r j a has on);
         lost = h.lost;
+        only = λ j un. emptied-at t b j (h.only j un);
       }
     ]
   where

@@ -1,9 +1,9 @@
 -- What is kept of each block, while a move goes on: as `HoldsBlocks`, with nothing owed of an array that has no place.
-use Rattle.std.proofs.Common.{◌≡◌, ◌≢◌, ◌⊎◌, ℕ, ◌+◌, ◌-◌, ◌^◌, ◌≤◌, ◌<◌, Bool, true, false, not, List, [], ◌∷◌, length, refl, sym, ap, ◌∙◌, subst, arith}
+use Rattle.std.proofs.Common.{◌≡◌, ◌≢◌, ◌⊎◌, ℕ, zero, suc, eqb, ◌+◌, ◌-◌, ◌^◌, ◌≤◌, ◌<◌, Bool, true, false, not, List, [], ◌∷◌, length, refl, sym, ap, ◌∙◌, subst, arith}
 use Rattle.std.proofs.Common.{Option, Some, None, inl, inr}
 use Rattle.std.specs.Prelude.{IsSome}
 use Rattle.std.specs.List.{list_any}
-use Rattle.std.proofs.lemmas.Bool.{true≢false}
+use Rattle.std.proofs.lemmas.Bool.{true≢false, false≢true, eq-eqb, eqb-true, cases_Bool, or_cases, or_parts}
 use Rattle.std.proofs.lemmas.List.{length-set, get_or-set_same, get_or-set_other}
 use Rattle.nd_base.specs.declared.frame.FrameName.{FrameName}
 use Rattle.nd_base.specs.Parts.{Parts, MayPart}
@@ -26,7 +26,7 @@ use Rattle.flow_journal.proofs.Making.{is_frame, no_frame}
 use Rattle.board_rules.specs.States.{BoardState, past, lent_to}
 use Rattle.board_rules.specs.InHand.{has_part_of, TellParts, OfSome}
 use Rattle.board_rules.specs.Storage.{is_away, has_part, parts_in_hand, parts_away, parts_here}
-use Rattle.frame_table.specs.Kept.{Kept, Empty, kept_at, with_kept, MayLend, IsPartOf, IsUntold}
+use Rattle.frame_table.specs.Kept.{Kept, Empty, kept_at, with_kept, without_kept, MayLend, IsPartOf, IsUntold}
 use Rattle.board_rules.specs.LastGrants.{LastGrant, Never, InMaking, Made, TakenBack, last_grant}
 use Rattle.kept_blocks.specs.Keeping.{has_array, IsNowhere, IsFrameOn, IsHome, IsKeptBy, LoseFew, HoldsBlocks, IsRunOf}
 use Rattle.kept_blocks.proofs.Granted.{alone-from}
@@ -46,6 +46,7 @@ pub record Holds {F : Type 0} (parts : F → Option Parts) (s : Setting) (told :
   pub lent : (r b : ℕ) (a : FrameName) → has_part_of a (hand r (past told)) ≡ true → block_of (past told) a ≡ b ∷ []
       → IsPartOf (kept_at t b) a (lent_to r told)
   pub lost : LoseFew told
+  pub only : (b : ℕ) → has_number b (known s (past told)) ≡ false → kept_at t b ≡ Empty
 
 -- NOWHERE
 
@@ -101,6 +102,7 @@ holds-in parts s B t run h = record {
   kept = λ b is. into parts s B b (last_grant b (past B)) (kept_at t b) (still-of s B run) (h.kept b is);
   lent = h.lent;
   lost = h.lost;
+  only = h.only;
 }
 
 pub holds-out : {F : Type 0} (parts : F → Option Parts) (s : Setting) (B : BoardState) (t : List Kept) → Holds parts s B t → HoldsBlocks parts s B t
@@ -109,6 +111,7 @@ holds-out parts s B t h = record {
   kept = λ b is. out-of parts s B b (last_grant b (past B)) (kept_at t b) (h.kept b is);
   lent = h.lent;
   lost = h.lost;
+  only = h.only;
 }
 
 -- WHAT STAYS
@@ -159,6 +162,7 @@ rest-holds parts s B new t rest legal h = record {
       subst (λ (q : Option Parts). IsPartOf (kept_at t b) a q) (sym (rest.same_lent r))
       (h.lent r b a (ap (has_part_of a) (sym (hand-same (past B) (past new) r rest.same_hands)) ∙ has) (sym (rest.same_blocks a) ∙ on));
   lost = rest.few h.lost;
+  only = λ b un. h.only b (subst (λ bs. has_number b bs ≡ false) rest.same_known un);
 }
 
 -- THE TABLE
@@ -171,6 +175,59 @@ at-other t b c k ne = get_or-set_other t b c k Empty ne
 
 pub same-length : (t : List Kept) (b : ℕ) (k : Kept) → length (with_kept t b k) ≡ length t
 same-length t b k = length-set t b k
+
+-- a place that is emptied is empty, and one that is empty stays so where nothing is made of nothing
+pub emptied-there : (t : List Kept) (b : ℕ) → kept_at (with_kept t b Empty) b ≡ Empty
+emptied-there [] b = refl
+emptied-there (x ∷ t) zero = refl
+emptied-there (x ∷ t) (suc b) = emptied-there t b
+
+pub emptied-at : (t : List Kept) (b j : ℕ) → kept_at t j ≡ Empty → kept_at (with_kept t b Empty) j ≡ Empty
+emptied-at [] b j e = e
+emptied-at (x ∷ t) zero zero e = refl
+emptied-at (x ∷ t) zero (suc j) e = e
+emptied-at (x ∷ t) (suc b) zero e = e
+emptied-at (x ∷ t) (suc b) (suc j) e = emptied-at t b j e
+
+pub changed-at : (change : Kept → Kept) → change Empty ≡ Empty → (t : List Kept) (b j : ℕ) → kept_at t j ≡ Empty
+    → kept_at (with_kept t b (change (kept_at t b))) j ≡ Empty
+changed-at change none [] b j e = e
+changed-at change none (x ∷ t) zero zero e = ap change e ∙ none
+changed-at change none (x ∷ t) zero (suc j) e = e
+changed-at change none (x ∷ t) (suc b) zero e = e
+changed-at change none (x ∷ t) (suc b) (suc j) e = changed-at change none t b j e
+
+-- WHERE BLOCKS ARE GIVEN UP
+
+pub stays-empty : (gs : List ℕ) (t : List Kept) (j : ℕ) → kept_at t j ≡ Empty → kept_at (without_kept gs t) j ≡ Empty
+stays-empty [] t j e = e
+stays-empty (g ∷ gs) t j e = stays-empty gs (with_kept t g Empty) j (emptied-at t g j e)
+
+pub gone-empty : (gs : List ℕ) (t : List Kept) (j : ℕ) → list_any (λ c. eqb c j) gs ≡ true → kept_at (without_kept gs t) j ≡ Empty
+gone-empty [] t j h = absurd (false≢true h)
+gone-empty (g ∷ gs) t j h =
+    elim (or_cases (eqb g j) (list_any (λ c. eqb c j) gs) h) [
+      | inl here ↦
+          stays-empty gs (with_kept t g Empty) j
+          (subst (λ (m : ℕ). kept_at (with_kept t g Empty) m ≡ Empty) (eqb-true g j here) (emptied-there t g))
+      | inr there ↦ gone-empty gs (with_kept t g Empty) j there
+    ]
+
+off-without : (gs : List ℕ) (t : List Kept) (j : ℕ) → list_any (λ c. eqb c j) gs ≡ false → kept_at (without_kept gs t) j ≡ kept_at t j
+off-without [] t j h = refl
+off-without (g ∷ gs) t j h =
+    let off = or_parts (eqb g j) (list_any (λ c. eqb c j) gs) h in
+    off-without gs (with_kept t g Empty) j off.1 ∙ at-other t g j Empty (λ is. true≢false (sym (eq-eqb g j (sym is)) ∙ off.0))
+
+-- another place keeps what it did
+pub same-without : (gs : List ℕ) (t : List Kept) (j : ℕ) → (list_any (λ c. eqb c j) gs ≡ true → kept_at t j ≡ Empty)
+    → kept_at (without_kept gs t) j ≡ kept_at t j
+same-without gs t j empty =
+    elim (cases_Bool (list_any (λ c. eqb c j) gs)) [ inl is ↦ gone-empty gs t j is ∙ sym (empty is) | inr other ↦ off-without gs t j other ]
+
+pub length-without : (gs : List ℕ) (t : List Kept) → length (without_kept gs t) ≡ length t
+length-without [] t = refl
+length-without (g ∷ gs) t = length-without gs (with_kept t g Empty) ∙ same-length t g Empty
 
 -- LOOKS
 

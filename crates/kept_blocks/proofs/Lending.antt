@@ -33,7 +33,7 @@ use Rattle.kept_blocks.specs.Keeping.{HoldsBlocks, IsRunOf, IsFrameOn}
 use Rattle.kept_blocks.proofs.Placing.{placed-on, queued-used, unsaved-used}
 use Rattle.kept_blocks.proofs.Rest.{later, none-more}
 use Rattle.kept_blocks.proofs.Shares.{few-parts, same-parts, none-hold}
-use Rattle.kept_blocks.proofs.Holding.{IsKeptIn, Holds, holds-in, holds-out, legal-of, keeps, rest-holds, at-same, at-other, same-length, made-frame}
+use Rattle.kept_blocks.proofs.Holding.{changed-at, IsKeptIn, Holds, holds-in, holds-out, legal-of, keeps, rest-holds, at-same, at-other, same-length, made-frame}
 
 -- ONE PART LESS
 
@@ -187,6 +187,7 @@ lends-holds parts s B t r c a q e run h l g used on part =
       ]);
       lent = lent-lent parts s B t new no_frame r c a q e l (λ p_ x had. refl) on part less (λ p_ b x had was ne. at-other t c b (less_one (kept_at t c)) ne) h;
       lost = (omega arith, h.lost);
+      only = λ b un. changed-at less_one refl t c b (h.only b (subst (λ bs. has_number b bs ≡ false) g.same_known un));
     }
 
 same-frame : (m k : ℕ) (x : FrameName) → same x (frame m k) ≡ true → x ≡ frame m k

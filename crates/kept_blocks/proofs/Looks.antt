@@ -168,7 +168,7 @@ handed s B tick r t up =
 
 pub look_laws : {F : Type 0} (parts : F → Option Parts) → LookLaws parts
 look_laws parts = record {
-  start = λ s. record { places = λ b h. absurd (false≢true h); kept = λ b h. absurd (false≢true h); lent = λ r b a h on. absurd (false≢true h); lost = tt };
+  start = λ s. record { places = λ b h. absurd (false≢true h); kept = λ b h. absurd (false≢true h); lent = λ r b a h on. absurd (false≢true h); lost = tt; only = λ b un. refl };
   queued = λ s B t v a run h next. lendable parts s B t a run h (queued-used s (past B) v a next);
   unsaved = λ s B t v a run h next. lendable parts s B t a run h (unsaved-used s (past B) v a next);
   in_hand = λ s B t r a run h has. lent-of parts s B t r a run h has;

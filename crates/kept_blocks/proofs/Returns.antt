@@ -31,6 +31,7 @@ use Rattle.kept_blocks.proofs.Shares.{none-hold}
 use Rattle.kept_blocks.proofs.Holding.{IsKeptIn, Holds, holds-in, holds-out, legal-of, rest-holds, at-same, at-other, same-length, made-frame}
 use Rattle.kept_blocks.proofs.Lending.{among-one}
 use Rattle.kept_blocks.proofs.Ending.{EndsHand, ends, fewer-parts, gone-then, other-block, given-back, united-part, no-parts-making, lent-then}
+use Rattle.kept_blocks.proofs.Ending.{granted-known, part-known}
 
 -- A MOVE THAT TOUCHES NO HAND
 
@@ -76,6 +77,18 @@ ends-holds parts s B t new w r d e L run h l a =
       ];
       lent = lent-then parts s B t new w r d e L run l a.tables h;
       lost = (a.few, h.lost);
+      only = λ b un.
+          let was : has_number b (known s P) ≡ false = subst (λ bs. has_number b bs ≡ false) l.same_known un in
+          let legal = legal-of s B run in
+          let other : is_among b (granted_block (Some d)) ≡ false = elim (cases_Bool (is_among b (granted_block (Some d)))) [
+            | inl is ↦ absurd (true≢false (sym (granted-known s P r b d run.pooled legal l.held is) ∙ was))
+            | inr no_ ↦ no_
+          ] in
+          let none : has_part P b d ≡ false = elim (cases_Bool (has_part P b d)) [
+            | inl is ↦ absurd (true≢false (sym (part-known s P r b d run.pooled legal l.held is) ∙ was))
+            | inr no_ ↦ no_
+          ] in
+          a.others b other none ∙ h.only b was;
     }
 
 -- GRANTS THEN

@@ -9,13 +9,14 @@ use Rattle.flow_journal.specs.Queued.{queued}
 use Rattle.flow_journal.specs.Accounts.{block_of, known, grant}
 use Rattle.flow_journal.specs.FirstEntries.{is_next}
 use Rattle.flow_journal.specs.Histories.{is_legal}
+use Rattle.pool_account.specs.Account.{given_up_for}
 use Rattle.board_rules.specs.States.{BoardState, past, plain, lends, take_block}
 use Rattle.board_rules.specs.Moving.{moved, moved_at}
 use Rattle.board_rules.specs.InHand.{TellParts}
 use Rattle.board_rules.specs.LastGrants.{was_taken_back}
 use Rattle.board_rules.specs.Storage.{wants_storage, IsRegrown}
 use Rattle.frame_table.specs.Kept.{Kept, Empty, Storage, kept_at, with_kept, with_room, at_home, was_used, IsMadeAnew, IsAway, IsSized, IsRefused, IsPartOf}
-use Rattle.frame_table.specs.Kept.{less_one}
+use Rattle.frame_table.specs.Kept.{less_one, without_kept}
 use Rattle.kept_blocks.specs.Keeping.{HoldsBlocks, IsRunOf}
 use Rattle.kept_blocks.specs.LookLaws.{IsLendable}
 
@@ -68,20 +69,23 @@ pub record GrantLaws {F : Type 0} (parts : F → Option Parts) : Type 0 where
   -- the same want of memory once the part was lent: given back, it leaves a table that holds the blocks
   pub refused_lent : (s : Setting) (told : BoardState) (t new : List Kept) (need b z c : ℕ) (g : ℕ) → IsGranted parts s told t need b z false g
       → c ≢ b → IsRefused z b (with_kept t c (less_one (kept_at t c))) new → IsRefusedLent parts s told t new c
-  -- the moves, with the storage of the block taken, before or after the part was lent
+  -- what was kept at the place of a fresh block goes with what is given up, whatever becomes of other places
+  pub emptied : (s : Setting) (told : BoardState) (t u : List Kept) (need b z : ℕ) (g : ℕ) → IsGranted parts s told t need b z true g
+      → (kept_at t b ≡ Empty → kept_at u b ≡ Empty) → kept_at (without_kept (given_up_for s (past told) true g) u) b ≡ Empty
+  -- the moves, with the storage of the block taken, before or after the part was lent, and that of the blocks that are given up let go
   pub load : (s : Setting) (told : BoardState) (t : List Kept) (tick r k need b z : ℕ) (f : Bool) (g : ℕ) (x : Bool) → IsGranted parts s told t need b z f g
       → b < length t → is_legal s (past (moved_at s tick (plain (Load r k b z f g x)) told)) ≡ true
-      → HoldsBlocks parts s (moved_at s tick (plain (Load r k b z f g x)) told) (with_kept t b Empty)
+      → HoldsBlocks parts s (moved_at s tick (plain (Load r k b z f g x)) told) (without_kept (given_up_for s (past told) f g) (with_kept t b Empty))
   pub take : (s : Setting) (told : BoardState) (t : List Kept) (r v c need b z : ℕ) (f : Bool) (g : ℕ) (x : Bool) (a : FrameName) (q : Option Parts)
       → IsGranted parts s told t need b z f g → b < length t → block_of (past told) a ≡ c ∷ [] → IsPartOf (kept_at (with_kept t b Empty) c) a q
       → is_legal s (past (moved s (lends (take_block r v a b z f g x) q) told)) ≡ true
       → HoldsBlocks parts s (moved s (lends (take_block r v a b z f g x) q) told)
-      (with_kept (with_kept t b Empty) c (less_one (kept_at (with_kept t b Empty) c)))
+      (without_kept (given_up_for s (past told) f g) (with_kept (with_kept t b Empty) c (less_one (kept_at (with_kept t b Empty) c))))
   pub take_lent : (s : Setting) (told : BoardState) (t : List Kept) (r v c need b z : ℕ) (f : Bool) (g : ℕ) (x : Bool) (a : FrameName) (q : Option Parts)
       → IsGranted parts s told t need b z f g → b < length t → block_of (past told) a ≡ c ∷ [] → IsPartOf (kept_at t c) a q
       → is_legal s (past (moved s (lends (take_block r v a b z f g x) q) told)) ≡ true
       → HoldsBlocks parts s (moved s (lends (take_block r v a b z f g x) q) told)
-      (with_kept (with_kept t c (less_one (kept_at t c))) b Empty)
+      (without_kept (given_up_for s (past told) f g) (with_kept (with_kept t c (less_one (kept_at t c))) b Empty))
   -- what is kept of a block that isn't known, or of which nothing is kept, can be forgotten
   pub forget : (s : Setting) (told : BoardState) (t : List Kept) (b : ℕ) → IsRunOf s told → HoldsBlocks parts s told t
       → (has_number b (known s (past told)) ≡ true → kept_at t b ≡ Empty) → HoldsBlocks parts s told (with_kept t b Empty)

@@ -66,14 +66,15 @@ abbrev pub LoseFew : BoardState → Type 0
 LoseFew [] = Unit {0}
 LoseFew (t ∷ told) = (length t.lost ≤ most_lost t.entry) × LoseFew told
 
--- The table has a place for each known block, and there what the log says; and what a role was lent is one part of what is kept of its
--- array.
+-- The table has a place for each known block, and there what the log says; what a role was lent is one part of what is kept of its array;
+-- and of a number that names no known block nothing is kept.
 pub record HoldsBlocks {F : Type 0} (parts : F → Option Parts) (s : Setting) (told : BoardState) (t : List Kept) : Type 0 where
   pub places : (b : ℕ) → has_number b (known s (past told)) ≡ true → b < length t
   pub kept : (b : ℕ) → has_number b (known s (past told)) ≡ true → IsKeptBy parts s told b (last_grant b (past told)) (kept_at t b)
   pub lent : (r b : ℕ) (a : FrameName) → has_part_of a (hand r (past told)) ≡ true → block_of (past told) a ≡ b ∷ []
       → IsPartOf (kept_at t b) a (lent_to r told)
   pub lost : LoseFew told
+  pub only : (b : ℕ) → has_number b (known s (past told)) ≡ false → kept_at t b ≡ Empty
 
 -- the log is the history of a run whose blocks are accounted, with no more threads than a graph may have
 pub record IsRunOf (s : Setting) (told : BoardState) : Type 0 where

@@ -3,7 +3,8 @@
 ghost use Rattle.std.specs.Prelude.{◌≡◌, ◌≢◌, ◌⊎◌, ◌≤◌, ◌<◌, ◌∷◌, ◌&&◌, [], true, false, drop, length, slice_get, OnOk, OnErr, Some, None};
 ghost use Rattle.pool_ledger.specs.Grants.{Granted};
 ghost use Rattle.pool_ledger.specs.Ledger.{answered, after, grant_for};
-ghost use Rattle.pool_account.specs.Account.{all_named};
+ghost use Rattle.pool_account.specs.Account.{all_named, given_up_for};
+ghost use Rattle.frame_table.specs.Kept.{without_kept};
 ghost use Rattle.flow_journal.specs.declared.entry.Entry.TheVariants.{Load, TakeBlock};
 ghost use Rattle.flow_journal.specs.Setting.{is_maker, is_node, last_role};
 ghost use Rattle.flow_journal.specs.Accounts.{held, grant as granted_by};
@@ -19,33 +20,47 @@ ghost use Rattle.board_rules.specs.RunMeasures.{run_setting};
 
 use crate::{Block, Course, Hand};
 use flow_journal::Entry;
+use frame_table::FrameTable;
 use nd_base::{FrameName, Held, OutOfMemory};
 use pool_ledger::{Grant, Pool, Refused};
 use std::alloc::Global;
 
-/// Names all blocks that were given up.
-fn name_all(pool: &mut Pool)
-    ensures { pool.new ≡ all_named pool.old }
+/// Names all blocks that were given up, and forgets them in the table.
+fn forget_given<F: Held>(pool: &mut Pool, table: &mut FrameTable<F>)
+    ensures pool { pool.new ≡ all_named pool.old }
+    ensures table { table.new ≡ without_kept pool.old.unnamed table.old }
 {
-    while pool.given_next().is_some() {}
+    while let Some(block) = pool.given_next() {
+        table.forget(block);
+    }
 }
 
-/// Takes what the pool grants for so many bytes. The blocks that it gives up are named from then on.
-fn take_grant(pool: &mut Pool, alloc: Global, need: u32, grant: Grant) -> Result<(), OutOfMemory>
+/// Takes what the pool grants for so many bytes. The blocks that it gives up are forgotten in the table.
+fn take_grant<F: Held>(
+    pool: &mut Pool,
+    alloc: Global,
+    need: u32,
+    grant: Grant,
+    table: &mut FrameTable<F>,
+) -> Result<(), OutOfMemory>
     requires some { need ≢ 0 }
     requires few { length pool.old.known < 4294967295 }
+    requires named { pool.old.unnamed ≡ [] }
     requires granted { grant_for need pool.old ≡ Granted grant.block grant.size grant.fresh grant.given_up }
-    ensures taken { OnOk result (all_named pool.new
-        ≡ record (all_named (after (all_named pool.old) (Granted grant.block grant.size grant.fresh grant.given_up))) { room = pool.new.room }) }
+    ensures taken { OnOk result (pool.new
+        ≡ record (all_named (after pool.old (Granted grant.block grant.size grant.fresh grant.given_up))) { room = pool.new.room }) }
+    ensures given { OnOk result (table.new
+        ≡ without_kept (after pool.old (Granted grant.block grant.size grant.fresh grant.given_up)).unnamed table.old) }
     ensures refused { OnErr result ((pool.new ≡ pool.old) × (grant.fresh ≡ true)) }
+    ensures kept { OnErr result (table.new ≡ table.old) }
 {
     if grant.fresh {
         pool.make_room(alloc)?;
     }
-    name_all(pool);
     let Ok(_) = pool.ask(need) else {
         unreachable!()
     };
+    forget_given(pool, table);
     Ok(())
 }
 
@@ -72,6 +87,7 @@ impl<F: Held> Course<F> {
     }
 
     /// The next frame is loaded, into the block that the pool grants. With `regrown` the storage of a block that isn't fresh was made again.
+    /// The table forgets the blocks that are given up.
     ///
     /// # Errors
     ///
@@ -83,6 +99,7 @@ impl<F: Held> Course<F> {
         tick: u64,
         grant: Grant,
         regrown: bool,
+        table: &mut FrameTable<F>,
     ) -> Result<(), OutOfMemory>
         requires still { self.old.transit ≡ [] }
         requires role { role ≤ last_role (run_setting F.Of.graph F.Of.stack) }
@@ -95,9 +112,12 @@ impl<F: Held> Course<F> {
           told = moved_at (run_setting F.Of.graph F.Of.stack) tick
               (plain (Load role (next_index (past self.old.told)) grant.block grant.size grant.fresh grant.given_up regrown)) self.old.told;
         }) }
+        ensures given { OnOk result (table.new
+            ≡ without_kept (given_up_for (run_setting F.Of.graph F.Of.stack) (past self.old.told) grant.fresh grant.given_up) table.old) }
         ensures refused { OnErr result ((self.new ≡ self.old) × (grant.fresh ≡ true)) }
+        ensures kept { OnErr result (table.new ≡ table.old) }
     {
-        self.note_load(alloc, role, grant, regrown)?;
+        self.note_load(alloc, role, grant, regrown, table)?;
         self.tick(tick);
         Ok(())
     }
@@ -109,6 +129,7 @@ impl<F: Held> Course<F> {
         role: u32,
         grant: Grant,
         regrown: bool,
+        table: &mut FrameTable<F>,
     ) -> Result<(), OutOfMemory>
         requires still { self.old.transit ≡ [] }
         requires role { role ≤ last_role (run_setting F.Of.graph F.Of.stack) }
@@ -121,9 +142,12 @@ impl<F: Held> Course<F> {
           told =
               plain (Load role (next_index (past self.old.told)) grant.block grant.size grant.fresh grant.given_up regrown) ∷ self.old.told;
         }) }
+        ensures given { OnOk result (table.new
+            ≡ without_kept (given_up_for (run_setting F.Of.graph F.Of.stack) (past self.old.told) grant.fresh grant.given_up) table.old) }
         ensures refused { OnErr result ((self.new ≡ self.old) × (grant.fresh ≡ true)) }
+        ensures kept { OnErr result (table.new ≡ table.old) }
     {
-        take_grant(&mut self.pool, alloc, self.rules.need, grant)?;
+        take_grant(&mut self.pool, alloc, self.rules.need, grant, table)?;
         let Grant {
             block,
             size,
@@ -154,7 +178,7 @@ impl<F: Held> Course<F> {
     }
 
     /// The next array of the queue of a node that makes arrays goes out as a job, of which this is the part, with the block that the pool
-    /// grants. With `regrown` the storage of a block that isn't fresh was made again.
+    /// grants. With `regrown` the storage of a block that isn't fresh was made again. The table forgets the blocks that are given up.
     ///
     /// # Errors
     ///
@@ -167,6 +191,7 @@ impl<F: Held> Course<F> {
         part: &F,
         grant: Grant,
         regrown: bool,
+        table: &mut FrameTable<F>,
     ) -> Result<(), OutOfMemory>
         requires still { self.old.transit ≡ [] }
         requires role { role ≤ last_role (run_setting F.Of.graph F.Of.stack) }
@@ -183,11 +208,14 @@ impl<F: Held> Course<F> {
               (lends (TakeBlock grant.fresh regrown role node (F.name_of part.now).maker (F.name_of part.now).index
               grant.block grant.size grant.given_up) (F.parts part.now)) self.old.told;
         }) }
+        ensures given { OnOk result (table.new
+            ≡ without_kept (given_up_for (run_setting F.Of.graph F.Of.stack) (past self.old.told) grant.fresh grant.given_up) table.old) }
         ensures refused { OnErr result ((self.new ≡ self.old) × (grant.fresh ≡ true)) }
+        ensures kept { OnErr result (table.new ≡ table.old) }
     {
         let place = node as usize - 1;
         let need = self.rules.nodes.as_slice()[place].need;
-        take_grant(&mut self.pool, alloc, need, grant)?;
+        take_grant(&mut self.pool, alloc, need, grant, table)?;
         let name = part.name();
         let FrameName { maker, index } = name;
         let frames = self.rules.ids.as_slice().len();

@@ -1,6 +1,6 @@
 use Rattle.kept_blocks.proofs.Granting.{next-place, old-place, room-holds, room-keeps, room-of-lent, anew-law, fresh-anew, wants-law, home-of, used-of}
 use Rattle.kept_blocks.proofs.Granting.{refused-law, put-back-law, apart-from, lendable-law, refused-lent-law, forget-law}
-use Rattle.kept_blocks.proofs.Loads.{load-law, take-block-law, take-lent-law}
+use Rattle.kept_blocks.proofs.Loads.{emptied-law, load-law, take-block-law, take-lent-law}
 use Rattle.kept_blocks.proofs.grants_find_storage.Goals as goal
 
 pub returns : goal.returns
@@ -22,6 +22,7 @@ returns g c =
       apart = λ s told t need b z f given v c a i next on. apart-from parts s told t need b z f given i v c a next on;
       lendable = lendable-law parts;
       refused_lent = refused-lent-law parts;
+      emptied = emptied-law parts;
       load = load-law parts;
       take = take-block-law parts;
       take_lent = take-lent-law parts;

@@ -1,4 +1,4 @@
-use Rattle.std.proofs.Common.{◌≡◌, ◌≤◌, ◌<◌, ◌∙◌, List, length, Some, None, true, sym, ap, subst, arith}
+use Rattle.std.proofs.Common.{◌≡◌, ◌≤◌, ◌∙◌, List, length, Some, None, true, sym, ap, subst, arith}
 use Rattle.std.specs.Prelude.{IsTrue}
 use Rattle.nd_base.specs.declared.frame.FrameName.{FrameName}
 use Rattle.pool_ledger.specs.Grants.{Granted}
@@ -13,7 +13,8 @@ use Rattle.flow_journal.specs.Queued.{queued}
 use Rattle.flow_journal.specs.Accounts.{grant}
 use Rattle.flow_journal.specs.FirstEntries.{is_next}
 use Rattle.flow_emit.specs.Courses.{Coursed}
-use Rattle.frame_table.specs.Kept.{Kept, Empty, kept_at, with_kept, IsPartOf, less_one}
+use Rattle.pool_account.specs.Account.{given_up_for}
+use Rattle.frame_table.specs.Kept.{Kept, kept_at, without_kept, IsPartOf, less_one}
 use Rattle.kept_blocks.specs.Keeping.{HoldsBlocks}
 use Rattle.kept_blocks.specs.GrantLaws.{IsGranted}
 use Rattle.kept_blocks.proofs.Looks.{look_laws}
@@ -21,7 +22,6 @@ use Rattle.kept_blocks.proofs.Holding.{same-length}
 use Rattle.flow_core.specs.Boards.{IsRemade, IsSameStorage, IsNotStored, with_storage}
 use Rattle.flow_core.proofs.Laws.{grant_laws}
 use Rattle.flow_core.proofs.Boarding.{board-same}
-use Rattle.flow_core.proofs.Stored.{storage-there}
 use Rattle.flow_core.proofs.Lent.{Tells, LendsAt, lends-at, lent-name}
 use Rattle.flow_core.proofs.Takes.{LendsBeside, Makes, BackTo, lent_out, made, made-gives, made-board, made-lends, made-reuses, made-no_memory}
 use Rattle.flow_core.proofs.Takes.{not-stored-back, not-stored-lent-wants, fresh-back, back-again}
@@ -330,11 +330,11 @@ give_back-requires-in_default-take_block-clause-frame g c =
     let input = c.in-Ok.input in
     let named : name_of input ≡ a = lent-name parts_ w.told t a b (name_of input) (parts_ input) l c.in-Ok.ensures.part in
     let part : IsPartOf (kept_at t b) a (parts_ input) = subst (λ (x : FrameName). IsPartOf (kept_at t b) x (parts_ input)) named c.in-Ok.ensures.part in
-    let T = c.storage_for.new.table in
+    let T = c.take_block.new.table in
     let blank = c.in-Ok-storage_for.field-0.blank in
     let x = c.in-Ok-storage_for.field-0.regrown in
     let place : T ≡ with_storage gr.block gr.fresh (lent_out t b) =
-    c.in-Ok-storage_for.ensures.place ∙ ap (λ (u : List Kept). with_storage gr.block gr.fresh u) c.in-Ok.ensures.rest in
+    c.in_default-take_block.ensures.kept ∙ c.in-Ok-storage_for.ensures.place ∙ ap (λ (u : List Kept). with_storage gr.block gr.fresh u) c.in-Ok.ensures.rest in
     let refused = c.in_default-take_block.ensures.refused in
     let back : BackTo parts_ s w.told t T b =
     fresh-back parts_ (grant_laws parts_) s w.told t T v (s.need v) gr.block gr.size gr.fresh gr.given_up a b beside refused.1 place in
@@ -371,11 +371,11 @@ invariant_of-self-in_default-take_block g c =
     let input = c.in-Ok.input in
     let named : name_of input ≡ a = lent-name parts_ w.told t a b (name_of input) (parts_ input) l c.in-Ok.ensures.part in
     let part : IsPartOf (kept_at t b) a (parts_ input) = subst (λ (x : FrameName). IsPartOf (kept_at t b) x (parts_ input)) named c.in-Ok.ensures.part in
-    let T = c.storage_for.new.table in
+    let T = c.take_block.new.table in
     let blank = c.in-Ok-storage_for.field-0.blank in
     let x = c.in-Ok-storage_for.field-0.regrown in
     let place : T ≡ with_storage gr.block gr.fresh (lent_out t b) =
-    c.in-Ok-storage_for.ensures.place ∙ ap (λ (u : List Kept). with_storage gr.block gr.fresh u) c.in-Ok.ensures.rest in
+    c.in_default-take_block.ensures.kept ∙ c.in-Ok-storage_for.ensures.place ∙ ap (λ (u : List Kept). with_storage gr.block gr.fresh u) c.in-Ok.ensures.rest in
     let refused = c.in_default-take_block.ensures.refused in
     let back : BackTo parts_ s w.told t T b =
     fresh-back parts_ (grant_laws parts_) s w.told t T v (s.need v) gr.block gr.size gr.fresh gr.given_up a b beside refused.1 place in
@@ -383,47 +383,8 @@ invariant_of-self-in_default-take_block g c =
     board-same parts_ s w c.take_block.new.self t c.give_back-in_default-take_block.new.self c.self.invariant (refused.0 ∙ c.next_queued-name.ensures.same)
     (subst (λ (u : List Kept). HoldsBlocks parts_ s w.told u) (sym c.give_back-in_default-take_block.ensures) again.2)
 
-pub forget-requires : goal.forget-requires
-forget-requires g c =
-    let name_of = g.F.Named.name_of in
-    let parts_ = g.F.Held.parts in
-    let bytes = g.F.Held.bytes_of in
-    let O = g.row.F-Of.Denot in
-    let s = run_setting g.F.Of.Run.graph g.F.Of.Run.stack in
-    let w = c.self.inside.course in
-    let t = c.self.inside.table in
-    let r = c.args.role in
-    let v = c.args.node in
-    let gr = c.args.grant in
-    let a = c.next_queued-name.result in
-    let b = c.block-block.result in
-    let w0 = c.next_queued-name.new.self in
-    let allowed : take_refusal {F = g.row.F.Denot} {B = g.row.F-Blank.Denot} {O = g.row.F-Of.Denot} s r v (past w.told) ≡ None =
-    subst (λ (x : BoardState). take_refusal {F = g.row.F.Denot} {B = g.row.F-Blank.Denot} {O = g.row.F-Of.Denot} s r v (past x) ≡ None) (sym c.self.view_is)
-    c.requires.allowed in
-    let given : grant s (past w.told) (s.need v) ≡ Granted gr.block gr.size gr.fresh gr.given_up =
-    subst (λ (x : BoardState). grant s (past x) (s.need v) ≡ Granted gr.block gr.size gr.fresh gr.given_up) (sym c.self.view_is) c.requires.granted in
-    let i : IsGranted parts_ s w.told t (s.need v) gr.block gr.size gr.fresh gr.given_up =
-    record { run = c.self.invariant.run; holds = c.self.invariant.holds; granted = given } in
-    let l : LendsAt parts_ w.told t a b =
-    lends-at parts_ w.told t a b ((look_laws parts_).queued s w.told t v a c.self.invariant.run c.self.invariant.holds c.next_queued-name.ensures.next)
-    (subst (λ (x : Coursed). Tells x.told a b) c.next_queued-name.ensures.same c.block-block.ensures) in
-    let beside : LendsBeside parts_ s w.told t v (s.need v) gr.block gr.size gr.fresh gr.given_up a b =
-    record { granted = i; next = c.next_queued-name.ensures.next; lends = l } in
-    let input = c.in-Ok.input in
-    let named : name_of input ≡ a = lent-name parts_ w.told t a b (name_of input) (parts_ input) l c.in-Ok.ensures.part in
-    let part : IsPartOf (kept_at t b) a (parts_ input) = subst (λ (x : FrameName). IsPartOf (kept_at t b) x (parts_ input)) named c.in-Ok.ensures.part in
-    let T = c.storage_for.new.table in
-    let blank = c.in-Ok-storage_for.field-0.blank in
-    let x = c.in-Ok-storage_for.field-0.regrown in
-    let place : T ≡ with_storage gr.block gr.fresh (lent_out t b) =
-    c.in-Ok-storage_for.ensures.place ∙ ap (λ (u : List Kept). with_storage gr.block gr.fresh u) c.in-Ok.ensures.rest in
-    subst (λ (u : List Kept). gr.block < length u) (sym place)
-    (storage-there gr.block gr.fresh (lent_out t b)
-    (omega (arith, (grant_laws parts_).next s w.told t (s.need v) gr.block gr.size gr.fresh gr.given_up i, same-length t b (less_one (kept_at t b)))))
-
-pub invariant_of-self-2 : goal.invariant_of-self-2
-invariant_of-self-2 g c =
+pub invariant_of-self-in-Ok-take_block : goal.invariant_of-self-in-Ok-take_block
+invariant_of-self-in-Ok-take_block g c =
     let name_of = g.F.Named.name_of in
     let parts_ = g.F.Held.parts in
     let bytes = g.F.Held.bytes_of in
@@ -478,8 +439,10 @@ invariant_of-self-2 g c =
     ∙ ap (λ (y : Coursed). record y { told = made name_of parts_ s r v gr.block gr.size gr.fresh gr.given_up x input y.told })
     c.next_queued-name.ensures.same in
     made-board O name_of parts_ bytes (look_laws parts_)
-    (grant_laws parts_) s w c.take_block.new.self t c.forget.new.self r v b gr.block gr.size gr.fresh gr.given_up x input blank m told
-    (c.forget.ensures ∙ ap (λ (u : List Kept). with_kept u gr.block Empty) place)
+    (grant_laws parts_) s w c.take_block.new.self t c.take_block.new.table r v b gr.block gr.size gr.fresh gr.given_up x input blank m told
+    (c.in-Ok-take_block.ensures.given
+    ∙ ap (λ (y : Coursed). without_kept (given_up_for s (past y.told) gr.fresh gr.given_up) T) c.next_queued-name.ensures.same
+    ∙ ap (λ (u : List Kept). without_kept (given_up_for s (past w.told) gr.fresh gr.given_up) u) place)
 
 pub returns-clause-gives : goal.returns-clause-gives
 returns-clause-gives g c =

@@ -1,4 +1,4 @@
-use Rattle.std.proofs.Common.{◌≡◌, ◌∷◌, ◌+◌, ◌∙◌, [], refl, sym, ap, subst, set, true, arith, ℕ}
+use Rattle.std.proofs.Common.{◌≡◌, ◌∷◌, ◌+◌, ◌∙◌, [], refl, sym, ap, subst, set, true, arith, ℕ, List}
 use Rattle.board_rules.specs.RunMeasures.{run_setting, run_measure}
 use Rattle.board_rules.specs.States.{past, plain}
 use Rattle.flow_journal.specs.declared.entry.Entry.TheVariants.{Load}
@@ -16,7 +16,8 @@ use Rattle.pool_ledger.specs.Ledger.{Ledger}
 use Rattle.flow_journal.specs.Accounts.{grant}
 use Rattle.flow_emit.specs.FrameBlocks.{place_of}
 use Rattle.flow_emit.proofs.Finding.{grant-is}
-use Rattle.flow_emit.proofs.Granting.{few-known, loaded, load-account}
+use Rattle.frame_table.specs.Kept.{without_kept}
+use Rattle.flow_emit.proofs.Granting.{few-known, loaded, load-account, still-named, given-is}
 use Rattle.flow_emit.proofs.Begins.{may-load-block}
 use Rattle.flow_emit.proofs.course.Course.note_load.Goals as goal
 
@@ -111,3 +112,18 @@ invariant_of-self-2 g c =
     _ _ _ _ _ _ _ _ (sym c.push.ensures) refl refl refl (ap (λ (l : ℕ). set k.blocks l b) place) refl (sym still) refl
     (loaded m s k r j b z f y w x p i legal (role-found m s k r x i h.role c.index_mut-2.ensures.value) still
     (load-account m s k r j b z f y w p i still legal c.in_ok-take_grant.ensures.taken))
+
+pub take_grant-requires-clause-named : goal.take_grant-requires-clause-named
+take_grant-requires-clause-named g c =
+    still-named (run_measure g.F.Of.Run.graph g.F.Of.Run.stack) (run_setting g.F.Of.Run.graph g.F.Of.Run.stack) (parts c.self.inside) c.self.invariant
+
+pub returns-clause-given : goal.returns-clause-given
+returns-clause-given g c =
+    let m = run_measure g.F.Of.Run.graph g.F.Of.Run.stack in
+    let s = run_setting g.F.Of.Run.graph g.F.Of.Run.stack in
+    let k = parts c.self.inside in
+    let still : k.transit ≡ [] = ap (λ (w : Coursed). w.transit) c.self.view_is ∙ c.requires.still in
+    let same : log_of k ≡ past c.args.self.now.told = ap (λ (u : Coursed). past u.told) c.self.view_is in
+    c.in_ok-take_grant.ensures.given
+    ∙ ap (λ (bs : List ℕ). without_kept bs c.args.table.now)
+    (given-is m s k (past c.args.self.now.told) c.args.grant.block c.args.grant.size c.args.grant.fresh c.args.grant.given_up c.self.invariant still same)

@@ -19,7 +19,8 @@ use Rattle.pool_ledger.specs.Ledger.{Ledger}
 use Rattle.flow_journal.specs.Accounts.{grant}
 use Rattle.flow_emit.specs.FrameBlocks.{place_of}
 use Rattle.flow_emit.proofs.Finding.{grant-is}
-use Rattle.flow_emit.proofs.Granting.{few-known, took_block_at, take-short, block-account, place-in}
+use Rattle.frame_table.specs.Kept.{without_kept}
+use Rattle.flow_emit.proofs.Granting.{few-known, took_block_at, take-short, block-account, place-in, still-named, given-is}
 use Rattle.flow_emit.proofs.Begins.{may-take-block}
 use Rattle.std.proofs.Common.{inr}
 use Rattle.flow_emit.proofs.Finding.{few-jobs}
@@ -208,3 +209,18 @@ invariant_of-self-2 g c =
     (sym c.pop.ensures.rest)) refl refl (ap (λ (l : ℕ). set k.blocks (v * l + a.index) b) ids) refl (sym still) refl
     (took_block_at m s k v r (v - 1) a.maker a.index b z f y w x n p part (place-of s v h.node).0 i legal (role-found m s k r x i h.role
     c.index_mut-2.ensures.value) at still (block-account m s k r v a.maker a.index b z f y w p i still legal c.in_ok-take_grant.ensures.taken))
+
+pub take_grant-requires-clause-named : goal.take_grant-requires-clause-named
+take_grant-requires-clause-named g c =
+    still-named (run_measure g.F.Of.Run.graph g.F.Of.Run.stack) (run_setting g.F.Of.Run.graph g.F.Of.Run.stack) (parts c.self.inside) c.self.invariant
+
+pub returns-clause-given : goal.returns-clause-given
+returns-clause-given g c =
+    let m = run_measure g.F.Of.Run.graph g.F.Of.Run.stack in
+    let s = run_setting g.F.Of.Run.graph g.F.Of.Run.stack in
+    let k = parts c.self.inside in
+    let still : k.transit ≡ [] = ap (λ (w : Coursed). w.transit) c.self.view_is ∙ c.requires.still in
+    let same : log_of k ≡ past c.args.self.now.told = ap (λ (u : Coursed). past u.told) c.self.view_is in
+    c.in_ok-take_grant.ensures.given
+    ∙ ap (λ (bs : List ℕ). without_kept bs c.args.table.now)
+    (given-is m s k (past c.args.self.now.told) c.args.grant.block c.args.grant.size c.args.grant.fresh c.args.grant.given_up c.self.invariant still same)
