@@ -12,6 +12,7 @@ use crate::frame::{Name, Size};
 use crate::grants::{grants, refuses};
 use crate::source::Feed;
 use flow_emit::Course;
+use frame_table::FrameTable;
 use nd_base::{FrameName, OutOfMemory, Run};
 use pool_ledger::Grant;
 use std::alloc::Global;
@@ -49,7 +50,9 @@ pub(crate) fn try_load<R: Run>(
     if !may_load(course, feed.role, feed.index) || !grants(course, DRIVER, grant, regrown) {
         return Ok(false);
     }
-    course.load(alloc, feed.role, feed.tick, grant, regrown)?;
+    // A check keeps no storage.
+    let mut table = FrameTable::new(alloc);
+    course.load(alloc, feed.role, feed.tick, grant, regrown, &mut table)?;
     Ok(true)
 }
 

@@ -13,6 +13,7 @@ use crate::frame::Name;
 use crate::grants::{grants, refuses};
 use crate::source::Act;
 use flow_emit::Course;
+use frame_table::FrameTable;
 use nd_base::{OutOfMemory, Run};
 use pool_ledger::Grant;
 use std::alloc::Global;
@@ -68,6 +69,8 @@ pub(crate) fn try_take_block<R: Run>(
     {
         return Ok(false);
     }
+    // A check keeps no storage.
+    let mut table = FrameTable::new(alloc);
     course.take_block(
         alloc,
         act.role,
@@ -75,6 +78,7 @@ pub(crate) fn try_take_block<R: Run>(
         &Name::new(act.name),
         grant,
         regrown,
+        &mut table,
     )?;
     Ok(true)
 }
