@@ -89,8 +89,8 @@ pub fn deal<R: Run, B: BoardCalls<Frame<R>>>(
 ) -> Result<Seats<Frame<R>, TurnPass<Frame<R>, B>>, OutOfMemory>
     requires nodes { nodes.now ≡ roles.workers (run_setting R.graph R.stack) }
     requires many { vec_len passes ≡ length nodes.now + 2 }
-    requires fresh { (k : ℕ) (p : _) → slice_get passes.items k ≡ Some p → IsFreshOf desk.now.id k p.inner p.last }
-    ensures { IfOk result (λ seats. AreSeated (λ p. IsPassOf desk.now.id p.inner) (λ p. known_by p.inner p.last) R.graph R.stack seats) }
+    requires fresh { (k : ℕ) (p : _) → slice_get passes.items k ≡ Some p → IsFreshOf desk.now.id k p.inner p.said }
+    ensures { IfOk result (λ seats. AreSeated (λ p. IsPassOf desk.now.id p.inner) (λ p. known_by p.inner p.said) R.graph R.stack seats) }
 {
     let mut passes = passes;
     let last = passes.pop().unwrap();

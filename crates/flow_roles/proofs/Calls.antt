@@ -20,6 +20,7 @@ use Rattle.board_rules.specs.Movers.{moves_by, IsMoveOf}
 use Rattle.board_rules.specs.Moving.{moved_at}
 use Rattle.board_rules.proofs.Moves.{followers, one-move, moves-added, moves-tell, GoOn}
 use Rattle.flow_roles.specs.declared.last.Last.{Last}
+use Rattle.flow_roles.specs.Lasts.{is_owned}
 use Rattle.flow_roles.specs.Passes.{Pass, Called}
 
 -- WHAT FOLLOWS THE FIRST ENTRY OF A MOVE
@@ -112,6 +113,10 @@ module _ (s : Setting) (gives : BoardState → BoardState → Type 0) (answered 
 
   pub role-after : new.role ≡ r
   role-after = c.role ∙ is
+
+  -- no call was answered NotYours, and neither was this one
+  pub still-owned : is_owned answered ≡ true → old.owned ≡ true → new.owned ≡ true
+  still-owned mine all = c.owned ∙ and_from (is_owned answered) old.owned mine all
 
   -- a call that changed nothing
   pub unmoved : new.seen ≡ here → new.made ≡ old.made

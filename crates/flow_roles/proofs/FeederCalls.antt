@@ -144,35 +144,35 @@ module _ {F B : Type 0} (parts : F → Option Parts) (bytes_of : B → ℕ) (s :
       let same = load-still parts bytes_of s b new.seen 0 tick (load_refusal s 0 (past b)) (grant s (past b) (s.need 0)) a still c.answer in
       kept feeder_logs 0 old new (role-after s g (last_load a) old new 0 n.role c) (unmoved s g (last_load a) old new 0 n.role c same) n
 
-  pub load-left-seen : Called s (λ x y. LoadGives parts bytes_of s x 0 tick load.Left y) last.Left old new → feeder_ends new.last (past new.seen) false ≡ true
+  pub load-left-seen : Called s (λ x y. LoadGives parts bytes_of s x 0 tick load.Left y) last.LoadLeft old new → feeder_ends new.last (past new.seen) false ≡ true
   load-left-seen c =
       let g = λ (x y : BoardState). LoadGives parts bytes_of s x 0 tick load.Left y in
-      let b = here s g last.Left old new 0 n.role c in
+      let b = here s g last.LoadLeft old new 0 n.role c in
       let same = load-still parts bytes_of s b new.seen 0 tick (load_refusal s 0 (past b)) (grant s (past b) (s.need 0)) load.Left refl c.answer in
       let left = load-left parts bytes_of s b new.seen 0 tick (load_refusal s 0 (past b)) (grant s (past b) (s.need 0)) refl c.answer in
       ap (λ (l : Last). feeder_ends l (past new.seen) false) c.last ∙ (ap (λ (w : BoardState). has_left_any (past w)) same ∙ left)
 
-  pub load-refuses : (k z : ℕ) → Called s (λ x y. LoadGives parts bytes_of s x 0 tick (load.Refused k z) y) last.Other old new → HasNothing feeder_logs 0 new
+  pub load-refuses : (k z : ℕ) → Called s (λ x y. LoadGives parts bytes_of s x 0 tick (load.Refused k z) y) last.Load old new → HasNothing feeder_logs 0 new
   load-refuses k z c =
       let g = λ (x y : BoardState). LoadGives parts bytes_of s x 0 tick (load.Refused k z) y in
-      let b = here s g last.Other old new 0 n.role c in
-      let role_ = role-after s g last.Other old new 0 n.role c in
+      let b = here s g last.Load old new 0 n.role c in
+      let role_ = role-after s g last.Load old new 0 n.role c in
       elim (load-refused parts bytes_of s b new.seen 0 tick k z (load_refusal s 0 (past b)) (grant s (past b) (s.need 0)) c.answer) [
-        | inl same_ ↦ kept feeder_logs 0 old new role_ (unmoved s g last.Other old new 0 n.role c same_) n
+        | inl same_ ↦ kept feeder_logs 0 old new role_ (unmoved s g last.Load old new 0 n.role c same_) n
         | inr move ↦
-            let m = moved s g last.Other old new 0 n.role c feeder_logs tick (plain (LoadRefused 0 k (s.need 0) z)) move refl feeder-quiet refl n.moves in
-            record { role = role_; moves = m.moves; free = m.hand ∙ (hand-before s g last.Other old new 0 n.role c ∙ n.free) }
+            let m = moved s g last.Load old new 0 n.role c feeder_logs tick (plain (LoadRefused 0 k (s.need 0) z)) move refl feeder-quiet refl n.moves in
+            record { role = role_; moves = m.moves; free = m.hand ∙ (hand-before s g last.Load old new 0 n.role c ∙ n.free) }
       ]
 
-  pub load-loads : (k : ℕ) (blank : B) → Called s (λ x y. LoadGives parts bytes_of s x 0 tick (load.Loaded k blank) y) last.Other old new
+  pub load-loads : (k : ℕ) (blank : B) → Called s (λ x y. LoadGives parts bytes_of s x 0 tick (load.Loaded k blank) y) last.Load old new
       → HasRoom bytes_of s 0 (load.Loaded k blank) new.made → HasLoaded s k (bytes_of blank) new
   load-loads k blank c room =
       let g = λ (x y : BoardState). LoadGives parts bytes_of s x 0 tick (load.Loaded k blank) y in
-      let b = here s g last.Other old new 0 n.role c in
+      let b = here s g last.Load old new 0 n.role c in
       let l = load-loaded parts bytes_of s b new.seen 0 tick k blank (load_refusal s 0 (past b)) (grant s (past b) (s.need 0)) refl c.answer in
-      let m = moved s g last.Other old new 0 n.role c feeder_logs tick (plain (Load 0 k l.b l.n l.f l.g l.x)) l.move refl feeder-quiet refl n.moves in
+      let m = moved s g last.Load old new 0 n.role c feeder_logs tick (plain (Load 0 k l.b l.n l.f l.g l.x)) l.move refl feeder-quiet refl n.moves in
       record {
-        role = role-after s g last.Other old new 0 n.role c;
+        role = role-after s g last.Load old new 0 n.role c;
         moves = m.moves;
         loaded = ap (λ (o : Option Entry). is_load_of (frame 0 k) o) m.hand ∙ and_from _ _ (eq-eqb 0 0 refl) (eq-eqb k k refl);
         granted = sym room.1;

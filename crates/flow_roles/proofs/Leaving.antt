@@ -27,9 +27,11 @@ use Rattle.board_rules.specs.Leaving.{LeaveGives}
 use Rattle.flow_journal.specs.Notes.{progress_of}
 use Rattle.flow_roles.specs.declared.last.Last.{Last}
 use Rattle.flow_roles.specs.declared.last.Last.TheVariants as last
+use Rattle.flow_roles.specs.declared.last.Said.{Said}
 use Rattle.flow_roles.specs.declared.left_desk.LeftPass.{LeftPass}
 use Rattle.flow_roles.specs.declared.left_desk.Stage.{Stage}
 use Rattle.flow_roles.specs.declared.left_desk.Stage.TheVariants.{New, Told, Gone}
+use Rattle.flow_roles.specs.Lasts.{said_then}
 use Rattle.flow_roles.specs.Passes.{Called}
 use Rattle.flow_roles.specs.Leaving.{other_role, other_left, seen_at, pass_at, told_by, after_call, leaves_at}
 
@@ -60,9 +62,9 @@ gone-moves : (s : Setting) (r : ℕ) → moves_by r (plain (Leave r) ∷ other_l
 gone-moves s r = rw (eq-eqb r r refl, other-isnt s r) refl
 
 -- a call that adds nothing
-pub told_called : (s : Setting) (gives : BoardState → BoardState → Type 0) (answered before : Last) (r : ℕ) (stage : Stage) → r ≤ last_role s
-    → gives (seen_at s r (told_by stage)) (seen_at s r (told_by stage))
-    → Called s gives answered (pass_at s r stage before) (pass_at s r (told_by stage) answered)
+pub told_called : (s : Setting) (gives : BoardState → BoardState → Type 0) (answered : Last) (before : Said) (r : ℕ) (stage : Stage)
+    → r ≤ last_role s → gives (seen_at s r (told_by stage)) (seen_at s r (told_by stage))
+    → Called s gives answered (pass_at s r stage before) (pass_at s r (told_by stage) (said_then before answered))
 told_called s gives answered before r New h g =
     record {
       between = other_left s r;
@@ -74,6 +76,8 @@ told_called s gives answered before r New h g =
       exact = told-moves s r;
       role = refl;
       last = refl;
+      owned = refl;
+      loads = refl;
       legal = told-legal s r;
       drained = refl;
     }
@@ -88,6 +92,8 @@ told_called s gives answered before r Told h g =
       exact = told-moves s r;
       role = refl;
       last = refl;
+      owned = refl;
+      loads = refl;
       legal = told-legal s r;
       drained = refl;
     }
@@ -102,6 +108,8 @@ told_called s gives answered before r Gone h g =
       exact = gone-moves s r;
       role = refl;
       last = refl;
+      owned = refl;
+      loads = refl;
       legal = gone-legal s r h;
       drained = refl;
     }
@@ -110,8 +118,8 @@ leave-gives : (s : Setting) (r : ℕ) → LeaveGives s (other_left s r) r (plain
 leave-gives s r = rw (other-isnt s r) refl
 
 -- a leave
-pub gone_called : (s : Setting) (before : Last) (r : ℕ) (stage : Stage) → r ≤ last_role s
-    → Called s (λ old new. LeaveGives s old r new) last.Gone (pass_at s r stage before) (pass_at s r Gone last.Gone)
+pub gone_called : (s : Setting) (before : Said) (r : ℕ) (stage : Stage) → r ≤ last_role s
+    → Called s (λ old new. LeaveGives s old r new) last.Gone (pass_at s r stage before) (pass_at s r Gone (said_then before last.Gone))
 gone_called s before r New h =
     record {
       between = other_left s r;
@@ -123,6 +131,8 @@ gone_called s before r New h =
       exact = gone-moves s r;
       role = refl;
       last = refl;
+      owned = refl;
+      loads = refl;
       legal = gone-legal s r h;
       drained = refl;
     }
@@ -137,6 +147,8 @@ gone_called s before r Told h =
       exact = gone-moves s r;
       role = refl;
       last = refl;
+      owned = refl;
+      loads = refl;
       legal = gone-legal s r h;
       drained = refl;
     }
@@ -151,6 +163,8 @@ gone_called s before r Gone h =
       exact = gone-moves s r;
       role = refl;
       last = refl;
+      owned = refl;
+      loads = refl;
       legal = gone-legal s r h;
       drained = refl;
     }
@@ -258,14 +272,14 @@ some_ids g stack h = let same_ = length-map stack.arrays (λ (a : Array). a.id) 
 
 pub told_by_call : (s : Setting) (gives : BoardState → BoardState → Type 0) (answered : Last) (p q : LeftPass) (r : ℕ) → p.role ≡ r → r ≤ last_role s
     → q ≡ after_call p answered → gives (seen_at s r (told_by p.stage)) (seen_at s r (told_by p.stage))
-    → Called s gives answered (pass_at s p.role p.stage p.last) (pass_at s q.role q.stage q.last)
+    → Called s gives answered (pass_at s p.role p.stage p.said) (pass_at s q.role q.stage q.said)
 told_by_call s gives answered p q r role h e g =
-    subst (λ (w : LeftPass). Called s gives answered (pass_at s p.role p.stage p.last) (pass_at s w.role w.stage w.last)) (sym e)
-    (subst (λ (w : ℕ). Called s gives answered (pass_at s w p.stage p.last) (pass_at s w (told_by p.stage) answered)) (sym role)
-    (told_called s gives answered p.last r p.stage h g))
+    subst (λ (w : LeftPass). Called s gives answered (pass_at s p.role p.stage p.said) (pass_at s w.role w.stage w.said)) (sym e)
+    (subst (λ (w : ℕ). Called s gives answered (pass_at s w p.stage p.said) (pass_at s w (told_by p.stage) (said_then p.said answered))) (sym role)
+    (told_called s gives answered p.said r p.stage h g))
 
 pub gone_by_call : (s : Setting) (p : LeftPass) (r : ℕ) → p.role ≡ r → r ≤ last_role s
-    → Called s (λ old new. LeaveGives s old r new) last.Gone (pass_at s p.role p.stage p.last) (pass_at s p.role Gone last.Gone)
+    → Called s (λ old new. LeaveGives s old r new) last.Gone (pass_at s p.role p.stage p.said) (pass_at s p.role Gone (said_then p.said last.Gone))
 gone_by_call s p r role h =
-    subst (λ (w : ℕ). Called s (λ old new. LeaveGives s old r new) last.Gone (pass_at s w p.stage p.last) (pass_at s w Gone last.Gone))
-    (sym role) (gone_called s p.last r p.stage h)
+    subst (λ (w : ℕ). Called s (λ old new. LeaveGives s old r new) last.Gone (pass_at s w p.stage p.said) (pass_at s w Gone (said_then p.said last.Gone)))
+    (sym role) (gone_called s p.said r p.stage h)

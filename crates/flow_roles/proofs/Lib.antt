@@ -5,6 +5,7 @@ pub mod Additions
 pub mod Calls
 pub mod RoleCalls
 pub mod FeederCalls
+pub mod FeederTicks
 pub mod Named
 pub mod WorkerCalls
 pub mod Results

@@ -34,10 +34,12 @@ use Rattle.turn_lock.specs.Views.{adds}
 use Rattle.turn_lock.specs.Passes.{PassFacts, MayCall}
 use Rattle.turn_lock.specs.Passes as lock
 use Rattle.flow_roles.specs.declared.last.Last.{Last}
+use Rattle.flow_roles.specs.declared.last.Said.{Said}
 use Rattle.flow_roles.specs.declared.operation.DeskOp.{DeskOp}
 use Rattle.flow_roles.specs.declared.operation.DeskOp.TheVariants as op
 use Rattle.flow_roles.specs.declared.operation.DeskReply.{DeskReply}
 use Rattle.flow_roles.specs.declared.operation.DeskReply.TheVariants as reply
+use Rattle.flow_roles.specs.Lasts.{said_then}
 use Rattle.flow_roles.specs.Passes.{Pass, Called, only_drain_saves}
 use Rattle.flow_roles.specs.Operations.{role_of, begins_of, MayPlay, MayBePlayed, call_of, GivesCall, Replies, Lends, IsPlayed}
 use Rattle.flow_roles.specs.TurnPasses.{HasOneRole, role_in, moves_in, known_by}
@@ -95,10 +97,10 @@ module _ {F B O : Type 0} (fs : Frames F B) (s : Setting) where
       → lock.Called begins_of (role_of o) (λ before added. IsPlayed fs s before o answer added) old new → HasOneRole new.made
   calls-one o answer old new one c = subst (λ (ms : List (Moves Told)). HasOneRole ms) (sym c.5) (one-more c.1 old.made one).0
 
-  pub called : (o : DeskOp F) (answer : DeskReply F B O) (before answered : Last) (old new : PassFacts Told)
+  pub called : (o : DeskOp F) (answer : DeskReply F B O) (before : Said) (answered : Last) (old new : PassFacts Told)
       → HasOneRole old.made → role_in old.made ≡ role_of o
       → lock.Called begins_of (role_of o) (λ log added. IsPlayed fs s log o answer added) old new
-      → Called s (λ b d. Replies fs s b o answer d) answered (known_by old before) (known_by new answered)
+      → Called s (λ b d. Replies fs s b o answer d) answered (known_by old before) (known_by new (said_then before answered))
   called o answer before answered old new one is c =
       let more = one-more c.1 old.made one in
       let apart : reverse (old.seen ++ c.0) ≡ reverse c.0 ++ reverse old.seen = reverse-append old.seen c.0 in
@@ -115,6 +117,8 @@ module _ {F B O : Type 0} (fs : Frames F B) (s : Setting) where
             ∙ exact-one new.seen new.made (subst (λ (ms : List (Moves Told)). HasOneRole ms) (sym c.5) more.0) c.6;
         role = ap (λ (ms : List (Moves Told)). role_in ms) c.5 ∙ more.1;
         last = refl;
+        owned = refl;
+        loads = refl;
         legal = subst (λ (b : BoardState). is_history s (past b) ≡ true) back c.3.legal;
         drained = subst (λ (b : BoardState). only_drain_saves s (past b) ≡ true) back c.3.drained;
       }
@@ -268,6 +272,8 @@ pub progress-replied : {F B O : Type 0} (fs : Frames F B) (s : Setting) (r : ℕ
 progress-replied fs s r answer l old new not c = not-called fs s (op.Progress r) answer l old new (progress-other r answer not) c
 
 -- the pass keeps what was answered
-pub told-last : (s : Setting) (gives : BoardState → BoardState → Type 0) (answered l : Last) (old : Pass) (new : PassFacts Told) → l ≡ answered
-    → Called s gives answered old (known_by new answered) → Called s gives answered old (known_by new l)
-told-last s gives answered l old new is c = subst (λ (x : Last). Called s gives answered old (known_by new x)) (sym is) c
+pub told-last : (s : Setting) (gives : BoardState → BoardState → Type 0) (answered l : Last) (old : Pass) (new : PassFacts Told) (before after : Said)
+    → l ≡ answered → after ≡ said_then before l → Called s gives answered old (known_by new (said_then before answered))
+    → Called s gives answered old (known_by new after)
+told-last s gives answered l old new before after is adds c =
+    subst (λ (x : Said). Called s gives answered old (known_by new x)) (sym (adds ∙ ap (said_then before) is)) c

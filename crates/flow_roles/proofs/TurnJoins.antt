@@ -16,8 +16,8 @@ use Rattle.turn_lock.specs.Passes.{PassFacts, pass_facts, new_passes}
 use Rattle.board_rules.specs.declared.told.Told.{Told}
 use Rattle.board_rules.specs.States.{BoardState}
 use Rattle.board_rules.specs.Movers.{moves_by}
-use Rattle.flow_roles.specs.declared.last.Last.{Last}
-use Rattle.flow_roles.specs.declared.last.Last.TheVariants.{Fresh}
+use Rattle.flow_roles.specs.declared.last.Said.{Said}
+use Rattle.flow_roles.specs.Lasts.{fresh_said}
 use Rattle.flow_roles.specs.Operations.{begins_of}
 use Rattle.flow_roles.specs.TurnPasses.{HasOneRole, role_in, known_by, IsPassOf, IsFreshOf, IsPassWithin, HasMade}
 use Rattle.flow_roles.proofs.TurnCalls.{exact-one, moves-back}
@@ -34,11 +34,11 @@ dealt-at lock j (suc n) (suc k) p h =
     let role : suc j + k ≡ j + suc k = omega arith in
     dealt-at lock (suc j) n k p h ∙ ap (λ (r : ℕ). pass_facts {E = Told} lock [] (no_moves r ∷ [])) role
 
-pub dealt-fresh : (lock : TableId) (n k : ℕ) (p : PassFacts Told) → slice_get (new_passes lock 0 n) k ≡ Some p → IsFreshOf lock k p Fresh
+pub dealt-fresh : (lock : TableId) (n k : ℕ) (p : PassFacts Told) → slice_get (new_passes lock 0 n) k ≡ Some p → IsFreshOf lock k p fresh_said
 dealt-fresh lock n k p h =
     let role : 0 + k ≡ k = omega arith in
     let is : p ≡ pass_facts lock [] (no_moves k ∷ []) = dealt-at lock 0 n k p h ∙ ap (λ (r : ℕ). pass_facts {E = Told} lock [] (no_moves r ∷ [])) role in
-    subst (λ (q : PassFacts Told). IsFreshOf lock k q Fresh) (sym is) ((refl, tt), record { role = refl; last = refl; made = refl })
+    subst (λ (q : PassFacts Told). IsFreshOf lock k q fresh_said) (sym is) ((refl, tt), record { role = refl; last = refl; owned = refl; loads = refl; made = refl })
 
 -- JOINED
 
@@ -149,7 +149,7 @@ module _ {P : Type 0} (inner : P → PassFacts Told) (lock : TableId) (all : Lis
 -- WHAT IS SAID OF THE BOARD
 
 -- what a joined pass says of the log, the board's words say of the board
-pub has-made : (p keep : PassFacts Told) (l : Last) (b : BoardState) → HasOneRole p.made → IsPassWithin p keep → reverse b ≡ keep.seen
+pub has-made : (p keep : PassFacts Told) (l : Said) (b : BoardState) → HasOneRole p.made → IsPassWithin p keep → reverse b ≡ keep.seen
     → AreExact begins_of (reverse b) keep.made
     → HasMade b (known_by p l)
 has-made p keep l b one w is exact_ =
@@ -180,15 +180,15 @@ mapped f None y h = cc
 mapped f (Some x) y h = let is : f x ≡ y = cc in (x, refl, is)
 
 -- a pass that was dealt out, in the words of a desk
-pub fresh-at : {P : Type 0} (inner : P → PassFacts Told) (last : P → Last) (make : PassFacts Told → P) (lock : TableId) (n k : ℕ) (ps : List P)
+pub fresh-at : {P : Type 0} (inner : P → PassFacts Told) (said : P → Said) (make : PassFacts Told → P) (lock : TableId) (n k : ℕ) (ps : List P)
     (qs : List (PassFacts Told)) (p : P)
-    → ((q : PassFacts Told) → (inner (make q) ≡ q) × (last (make q) ≡ Fresh)) → qs ≡ new_passes lock 0 n → ps ≡ map make qs → slice_get ps k ≡ Some p
-    → IsFreshOf lock k (inner p) (last p)
-fresh-at {P} inner last make lock n k ps qs p made dealt is at =
+    → ((q : PassFacts Told) → (inner (make q) ≡ q) × (said (make q) ≡ fresh_said)) → qs ≡ new_passes lock 0 n → ps ≡ map make qs → slice_get ps k ≡ Some p
+    → IsFreshOf lock k (inner p) (said p)
+fresh-at {P} inner said make lock n k ps qs p made dealt is at =
     let found : option_map make (slice_get (new_passes lock 0 n) k) ≡ Some p =
     sym (slice_get-map make (new_passes lock 0 n) k)
     ∙ (ap (λ (xs : List (PassFacts Told)). slice_get (map make xs) k) (sym dealt) ∙ (ap (λ (xs : List P). slice_get xs k) (sym is) ∙ at)) in
     let q = mapped make (slice_get (new_passes lock 0 n) k) p found in
     let m = made q.0 in
-    subst (λ (x : P). IsFreshOf lock k (inner x) (last x)) q.2
-    (subst₂ (λ (x : PassFacts Told) (l : Last). IsFreshOf lock k x l) (sym m.0) (sym m.1) (dealt-fresh lock n k q.0 q.1))
+    subst (λ (x : P). IsFreshOf lock k (inner x) (said x)) q.2
+    (subst₂ (λ (x : PassFacts Told) (l : Said). IsFreshOf lock k x l) (sym m.0) (sym m.1) (dealt-fresh lock n k q.0 q.1))

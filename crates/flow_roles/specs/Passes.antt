@@ -1,5 +1,5 @@
 -- What a pass means, and what each call of a desk says of it.
-use Rattle.std.specs.Prelude.{◌≡◌, ℕ, ◌==◌, Bool, true, ◌++◌}
+use Rattle.std.specs.Prelude.{◌≡◌, ℕ, ◌==◌, Bool, true, ◌&&◌, ◌++◌}
 use Rattle.std.specs.List.{list_all}
 use Rattle.flow_journal.specs.declared.entry.Entry.{Entry}
 use Rattle.flow_journal.specs.declared.entry.Entry.TheVariants.{Save}
@@ -9,11 +9,15 @@ use Rattle.flow_journal.specs.Histories.{is_history}
 use Rattle.board_rules.specs.States.{BoardState, past}
 use Rattle.board_rules.specs.Movers.{moves_by, IsMoveOf}
 use Rattle.flow_roles.specs.declared.last.Last.{Last}
+use Rattle.flow_roles.specs.Lasts.{is_owned, loads_then}
 
--- a pass: its role, what its last call answered, the front of the log that it has seen, and the moves that its role made
+-- a pass: its role, what its last call answered, that no call was answered NotYours, how many calls were loads, the front of the log that it has
+-- seen, and the moves that its role made
 pub record Pass : Type 0 where
   pub role : ℕ
   pub last : Last
+  pub owned : Bool
+  pub loads : ℕ
   pub seen : BoardState
   pub made : BoardState
 
@@ -37,5 +41,7 @@ pub record Called (s : Setting) (gives : BoardState → BoardState → Type 0) (
   pub exact : moves_by old.role new.seen ≡ new.made
   pub role : new.role ≡ old.role
   pub last : new.last ≡ answered
+  pub owned : new.owned ≡ (is_owned answered && old.owned)
+  pub loads : new.loads ≡ loads_then old.loads answered
   pub legal : is_history s (past new.seen) ≡ true
   pub drained : only_drain_saves s (past new.seen) ≡ true

@@ -22,7 +22,7 @@ use Rattle.flow_roles.specs.RoleMoves.{HasNothing}
 
 -- The feeder ends with one of these last answers, once this has happened. Memory was wanting exactly where it left itself.
 abbrev pub feeder_ends : Last → Past → (want : Bool) → Bool
-feeder_ends last.Left P want = not want && has_left_any P
+feeder_ends last.LoadLeft P want = not want && has_left_any P
 feeder_ends last.Closed P want = not want && is_closed P
 feeder_ends last.Gone P want = want && has_left_any P
 feeder_ends _ P want = false

@@ -38,6 +38,8 @@ saver_logs e = is_none (begun_by e)
 pub record IsFresh (r : ℕ) (p : Pass) : Type 0 where
   pub role : p.role ≡ r
   pub last : p.last ≡ Fresh
+  pub owned : p.owned ≡ true
+  pub loads : p.loads ≡ 0
   pub made : p.made ≡ []
 
 -- the pass of this role, whose moves have such entries alone, and which has nothing in hand

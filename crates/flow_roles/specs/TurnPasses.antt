@@ -8,7 +8,7 @@ use Rattle.turn_lock.specs.Passes.{PassFacts}
 use Rattle.board_rules.specs.declared.told.Told.{Told}
 use Rattle.board_rules.specs.States.{BoardState}
 use Rattle.board_rules.specs.Movers.{moves_by}
-use Rattle.flow_roles.specs.declared.last.Last.{Last}
+use Rattle.flow_roles.specs.declared.last.Said.{Said}
 use Rattle.flow_roles.specs.Passes.{Pass}
 use Rattle.flow_roles.specs.Operations.{begins_of}
 use Rattle.flow_roles.specs.RoleMoves.{IsFresh}
@@ -27,17 +27,18 @@ abbrev pub moves_in : List (Moves Told) → List Told
 moves_in [] = []
 moves_in (m ∷ ms) = m.entries
 
--- what a pass of the lock says, after this answer
-abbrev pub known_by : PassFacts Told → Last → Pass
-known_by p last = record { role = role_in p.made; last = last; seen = reverse p.seen; made = reverse (moves_in p.made) }
+-- what a pass of the lock says, after these answers
+abbrev pub known_by : PassFacts Told → Said → Pass
+known_by p said =
+    record { role = role_in p.made; last = said.last; owned = said.owned; loads = said.loads; seen = reverse p.seen; made = reverse (moves_in p.made) }
 
 -- the pass is of this lock, and has one role
 abbrev pub IsPassOf : TableId → PassFacts Told → Type 0
 IsPassOf lock p = (p.lock ≡ lock) × HasOneRole p.made
 
 -- the pass of role k of this lock, which has made no call
-abbrev pub IsFreshOf : TableId → ℕ → PassFacts Told → Last → Type 0
-IsFreshOf lock k p last = IsPassOf lock p × IsFresh k (known_by p last)
+abbrev pub IsFreshOf : TableId → ℕ → PassFacts Told → Said → Type 0
+IsFreshOf lock k p said = IsPassOf lock p × IsFresh k (known_by p said)
 
 -- the one begins with the other
 abbrev pub BeginsWith : BoardState → BoardState → Type 0

@@ -89,6 +89,7 @@ fn issue_loaded<R: Run, D: Desk<Frame<R>>, G: Gate, W: Wait>(
     requires loaded { HasLoaded (run_setting R.graph R.stack) index (length blank) (D.knows pass.old) }
     ensures ours { D.ours desk.now pass.new }
     ensures issued { HasNothing feeder_logs 0 (D.knows pass.new) }
+    ensures owned { (D.knows pass.old).owned ≡ true → (D.knows pass.new).owned ≡ true }
     ensures calls { GoesOn (run_setting R.graph R.stack) (D.knows pass.old) [] (D.knows pass.new) }
 {
     gate.before(DRIVER, index);
@@ -111,6 +112,7 @@ fn close_feed<R: Run, D: Desk<Frame<R>>, G: Gate, W: Wait>(
     requires nothing { HasNothing feeder_logs 0 (D.knows pass.old) }
     ensures ours { D.ours desk.now pass.new }
     ensures gone { HasGone name_of parts_of length feeder_logs feeder_ends 0 (D.knows pass.new) result }
+    ensures owned { (D.knows pass.old).owned ≡ true → (D.knows pass.new).owned ≡ true }
     ensures calls { GoesOn (run_setting R.graph R.stack) (D.knows pass.old) [] (D.knows pass.new) }
 {
     match desk.close(rt, alloc, pass, FEEDER) {
@@ -134,6 +136,7 @@ fn feed_round<R: Run, D: Desk<Frame<R>>, G: Gate, W: Wait>(
     requires nothing { HasNothing feeder_logs 0 (D.knows pass.old) }
     ensures ours { D.ours desk.now pass.new }
     ensures gone { HasGone name_of parts_of length feeder_logs feeder_ends 0 (D.knows pass.new) result }
+    ensures owned { (D.knows pass.old).owned ≡ true → (D.knows pass.new).owned ≡ true }
     ensures calls { GoesOn (run_setting R.graph R.stack) (D.knows pass.old) (tick ∷ []) (D.knows pass.new) }
 {
     match desk.load(rt, alloc, pass, FEEDER, tick) {
@@ -173,6 +176,7 @@ pub fn feed_role<R: Run, D: Desk<Frame<R>>, C: Clock, G: Gate, W: Wait>(
     ensures ours { D.ours desk.now result.pass }
     ensures role { (D.knows result.pass).role ≡ 0 }
     ensures moves { list_all feeder_logs (past (D.knows result.pass).made) ≡ true }
+    ensures owned { (D.knows result.pass).owned ≡ true }
     ensures last { IsTrue (feeder_ends (D.knows result.pass).last (past (D.knows result.pass).seen) result.want) }
     ensures left { IsOfHand name_of parts_of length (lent_to 0 (D.knows result.pass).made) (hand 0 (past (D.knows result.pass).made))
         result.left.input result.left.made result.left.blank }

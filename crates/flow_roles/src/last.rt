@@ -1,7 +1,7 @@
 //! What the last call of a role answered.
 
 ghost use Rattle.std.specs.Prelude.{◌≡◌};
-ghost use Rattle.flow_roles.specs.Lasts.{last_load, last_given, last_take, last_close, last_progress};
+ghost use Rattle.flow_roles.specs.Lasts.{said_then, last_load, last_given, last_take, last_close, last_progress};
 
 use board_rules::{Load, NotYours, Settled, Take};
 use flow_journal::Progress;
@@ -12,7 +12,11 @@ use nd_base::Held;
 pub enum Last {
     /// There was no call yet.
     Fresh,
-    /// `Left`, or a progress that says so.
+    /// `Left` of `load`.
+    LoadLeft,
+    /// Any other answer of `load`.
+    Load,
+    /// `Left` of `take`, or a progress that says so.
     Left,
     /// `Ended`, or a progress that says that the run is done.
     Ended,
@@ -26,14 +30,37 @@ pub enum Last {
     Other,
 }
 
+/// What the calls of a role answered.
+#[derive(Clone, Copy, Debug, PartialEq, Eq)]
+pub struct Said {
+    pub last: Last,
+    /// No call was answered `NotYours`.
+    pub owned: bool,
+    /// How many of the calls were loads. It stands still at `u64::MAX`.
+    pub loads: u64,
+}
+
+impl Said {
+    /// One answer more.
+    pub fn add(&mut self, last: Last)
+        ensures { self.new ≡ said_then self.old last }
+    {
+        self.last = last;
+        match last {
+            Last::NotYours => self.owned = false,
+            Last::LoadLeft | Last::Load => self.loads = self.loads.saturating_add(1),
+            _ => {}
+        }
+    }
+}
+
 /// After `load`.
 pub fn after_load<B>(answer: &Load<B>) -> Last
     ensures { result ≡ last_load answer.now }
 {
     match answer {
-        Load::Left => Last::Left,
-        Load::Ended => Last::Ended,
-        _ => Last::Other,
+        Load::Left => Last::LoadLeft,
+        _ => Last::Load,
     }
 }
 

@@ -8,7 +8,7 @@ ghost use Rattle.board_rules.specs.Working.{PutGives};
 ghost use Rattle.flow_roles.specs.Lasts.{last_given};
 ghost use Rattle.flow_roles.specs.Passes.{Called};
 
-use crate::{Desk, Last};
+use crate::{Desk, Last, Said};
 use board_rules::{Done, HandName, Load, NotYours, Save, Settled, Take};
 use flow_journal::Progress;
 use nd_base::Held;
@@ -30,7 +30,7 @@ pub enum Stage {
 pub struct LeftPass {
     pub role: u32,
     pub stage: Stage,
-    pub last: Last,
+    pub said: Said,
 }
 
 impl LeftPass {
@@ -41,7 +41,7 @@ impl LeftPass {
         if self.stage == Stage::New {
             self.stage = Stage::Told;
         }
-        self.last = last;
+        self.said.add(last);
     }
 }
 
@@ -65,7 +65,7 @@ impl<F: Held> Desk<F> for LeftDesk {
 
     ghost ours = { λ d p. 0 < length F.Of.stack.arrays };
 
-    ghost knows = { λ p. pass_at (run_setting F.Of.graph F.Of.stack) p.role p.stage p.last };
+    ghost knows = { λ p. pass_at (run_setting F.Of.graph F.Of.stack) p.role p.stage p.said };
 
     fn load<W: Wait>(
         &self,
@@ -75,7 +75,7 @@ impl<F: Held> Desk<F> for LeftDesk {
         role: u32,
         tick: u64,
     ) -> Load<F::Blank> {
-        pass.answered(Last::Left);
+        pass.answered(Last::LoadLeft);
         Load::Left
     }
 
@@ -121,8 +121,8 @@ impl<F: Held> Desk<F> for LeftDesk {
         ensures called { Called (run_setting F.Of.graph F.Of.stack)
             (λ old new. PutGives F.name_of (run_setting F.Of.graph F.Of.stack) old role done result new)
             (last_given result)
-            (pass_at (run_setting F.Of.graph F.Of.stack) pass.old.role pass.old.stage pass.old.last)
-            (pass_at (run_setting F.Of.graph F.Of.stack) pass.new.role pass.new.stage pass.new.last) }
+            (pass_at (run_setting F.Of.graph F.Of.stack) pass.old.role pass.old.stage pass.old.said)
+            (pass_at (run_setting F.Of.graph F.Of.stack) pass.new.role pass.new.stage pass.new.said) }
     {
         pass.answered(Last::NotYours);
         let given = HandName {
@@ -155,7 +155,7 @@ impl<F: Held> Desk<F> for LeftDesk {
 
     fn leave<W: Wait>(&self, rt: &W, alloc: Global, pass: &mut LeftPass, role: u32) {
         pass.stage = Stage::Gone;
-        pass.last = Last::Gone;
+        pass.said.add(Last::Gone);
     }
 
     fn save<W: Wait>(

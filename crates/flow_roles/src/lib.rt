@@ -22,7 +22,7 @@ mod working;
 pub use desk::Desk;
 pub use feeding::{feed_role, frame_on};
 pub use job::result_of;
-pub use last::{Last, after_close, after_issue, after_load, after_progress, after_take};
+pub use last::{Last, Said, after_close, after_issue, after_load, after_progress, after_take};
 pub use left_desk::{LeftDesk, LeftPass, Stage};
 pub use measuring::{Alone, Measuring};
 pub use nodes::worker_nodes;

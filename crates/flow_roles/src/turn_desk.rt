@@ -8,15 +8,16 @@ ghost use Rattle.board_rules.specs.Movers.{moves_by};
 ghost use Rattle.board_rules.specs.Storage.{HasAllStorage};
 ghost use Rattle.board_rules.specs.RunMeasures.{run_setting, run_measure};
 ghost use Rattle.board_rules.specs.Working.{IsAtNode, MayPut, PutGives};
-ghost use Rattle.flow_roles.specs.Lasts.{last_given};
+ghost use Rattle.flow_roles.specs.Lasts.{fresh_said, said_then, last_given};
 ghost use Rattle.flow_roles.specs.declared.last.Last.{Last};
+ghost use Rattle.flow_roles.specs.declared.last.Said.{Said};
 ghost use Rattle.flow_roles.specs.Passes.{Called, only_drain_saves};
 ghost use Rattle.flow_roles.specs.Operations.{frames_of, role_of, MayPlay, Replies, Lends};
 ghost use Rattle.flow_roles.specs.TurnPasses.{role_in, moves_in, known_by, IsPassOf, IsFreshOf, IsPassWithin, HasMade};
 
 use crate::{
-    Desk, DeskOp, DeskReply, Last, Played, after_close, after_issue, after_load, after_progress,
-    after_take,
+    Desk, DeskOp, DeskReply, Last, Played, Said, after_close, after_issue, after_load,
+    after_progress, after_take,
 };
 use board_rules::{BoardCalls, Done, Load, NotYours, Save, Settled, Take};
 use flow_journal::Progress;
@@ -29,7 +30,7 @@ use turn_lock::{Pass, TurnLock};
 #[derive(Drop)]
 pub struct TurnPass<F: Held, B: BoardCalls<F>> {
     pub inner: Pass<Played<F, B>>,
-    pub last: Last,
+    pub said: Said,
 }
 
 /// One call of the board, in the role's turn.
@@ -45,9 +46,9 @@ fn make<F: Held, B: BoardCalls<F>, W: Wait>(
     requires may { MayPlay (frames_of F.name_of F.parts F.bytes_of (run_measure F.Of.graph F.Of.stack)) (run_setting F.Of.graph F.Of.stack)
         (reverse (moves_in pass.old.made)) op }
     ensures ours { IsPassOf desk.now.id pass.new }
-    ensures called { (before answered : Last) → Called (run_setting F.Of.graph F.Of.stack)
+    ensures called { (before : Said) (answered : Last) → Called (run_setting F.Of.graph F.Of.stack)
         (λ old new. Replies (frames_of F.name_of F.parts F.bytes_of (run_measure F.Of.graph F.Of.stack)) (run_setting F.Of.graph F.Of.stack) old op result new)
-        answered (known_by pass.old before) (known_by pass.new answered) }
+        answered (known_by pass.old before) (known_by pass.new (said_then before answered)) }
     ensures lends { Lends (frames_of F.name_of F.parts F.bytes_of (run_measure F.Of.graph F.Of.stack)) (run_setting F.Of.graph F.Of.stack) op result
         (reverse (moves_in pass.new.made)) }
 {
@@ -59,7 +60,7 @@ impl<F: Held, B: BoardCalls<F>> Desk<F> for TurnLock<Played<F, B>> {
 
     ghost ours = { λ l p. IsPassOf l.id p.inner };
 
-    ghost knows = { λ p. known_by p.inner p.last };
+    ghost knows = { λ p. known_by p.inner p.said };
 
     fn load<W: Wait>(
         &self,
@@ -77,7 +78,7 @@ impl<F: Held, B: BoardCalls<F>> Desk<F> for TurnLock<Played<F, B>> {
             DeskOp::Load { role, tick },
         ) {
             DeskReply::Load(answer) => {
-                pass.last = after_load(&answer);
+                pass.said.add(after_load(&answer));
                 answer
             }
             _ => unreachable!(),
@@ -100,7 +101,7 @@ impl<F: Held, B: BoardCalls<F>> Desk<F> for TurnLock<Played<F, B>> {
             DeskOp::Issue { role, frame },
         ) {
             DeskReply::Issue(answer) => {
-                pass.last = after_issue(&answer);
+                pass.said.add(after_issue(&answer));
                 answer
             }
             _ => unreachable!(),
@@ -123,7 +124,7 @@ impl<F: Held, B: BoardCalls<F>> Desk<F> for TurnLock<Played<F, B>> {
             DeskOp::Take { role, node },
         ) {
             DeskReply::Take(answer) => {
-                pass.last = after_take(&answer);
+                pass.said.add(after_take(&answer));
                 answer
             }
             _ => unreachable!(),
@@ -138,19 +139,19 @@ impl<F: Held, B: BoardCalls<F>> Desk<F> for TurnLock<Played<F, B>> {
         role: u32,
         done: Done<F>,
     ) -> Result<(), NotYours<F>>
-        requires pass { IsPassOf self.now.id pass.old.inner × ((known_by pass.old.inner pass.old.last).role ≡ role) }
+        requires pass { IsPassOf self.now.id pass.old.inner × ((known_by pass.old.inner pass.old.said).role ≡ role) }
         requires role { role < last_role (run_setting F.Of.graph F.Of.stack) }
         requires node { IsAtNode (run_setting F.Of.graph F.Of.stack) done }
         requires of_job { MayPut F.name_of F.parts (run_measure F.Of.graph F.Of.stack) (run_setting F.Of.graph F.Of.stack)
-            (known_by pass.old.inner pass.old.last).made role done }
+            (known_by pass.old.inner pass.old.said).made role done }
         ensures ours { IsPassOf self.now.id pass.new.inner }
         ensures called { Called (run_setting F.Of.graph F.Of.stack)
             (λ old new. PutGives F.name_of (run_setting F.Of.graph F.Of.stack) old role done result new)
-            (last_given result) (known_by pass.old.inner pass.old.last) (known_by pass.new.inner pass.new.last) }
+            (last_given result) (known_by pass.old.inner pass.old.said) (known_by pass.new.inner pass.new.said) }
     {
         match make(self, rt, alloc, &mut pass.inner, DeskOp::Put { role, done }) {
             DeskReply::Put(answer) => {
-                pass.last = after_issue(&answer);
+                pass.said.add(after_issue(&answer));
                 answer
             }
             _ => unreachable!(),
@@ -173,7 +174,7 @@ impl<F: Held, B: BoardCalls<F>> Desk<F> for TurnLock<Played<F, B>> {
             DeskOp::Settle { role, node },
         ) {
             DeskReply::Settle(answer) => {
-                pass.last = Last::Other;
+                pass.said.add(Last::Other);
                 answer
             }
             _ => unreachable!(),
@@ -189,7 +190,7 @@ impl<F: Held, B: BoardCalls<F>> Desk<F> for TurnLock<Played<F, B>> {
     ) -> Settled {
         match make(self, rt, alloc, &mut pass.inner, DeskOp::Close { role }) {
             DeskReply::Close(answer) => {
-                pass.last = after_close(answer);
+                pass.said.add(after_close(answer));
                 answer
             }
             _ => unreachable!(),
@@ -198,7 +199,7 @@ impl<F: Held, B: BoardCalls<F>> Desk<F> for TurnLock<Played<F, B>> {
 
     fn leave<W: Wait>(&self, rt: &W, alloc: Global, pass: &mut TurnPass<F, B>, role: u32) {
         match make(self, rt, alloc, &mut pass.inner, DeskOp::Leave { role }) {
-            DeskReply::Leave => pass.last = Last::Gone,
+            DeskReply::Leave => pass.said.add(Last::Gone),
             _ => unreachable!(),
         }
     }
@@ -219,7 +220,7 @@ impl<F: Held, B: BoardCalls<F>> Desk<F> for TurnLock<Played<F, B>> {
             DeskOp::Save { role, node },
         ) {
             DeskReply::Save(answer) => {
-                pass.last = Last::Other;
+                pass.said.add(Last::Other);
                 answer
             }
             _ => unreachable!(),
@@ -242,7 +243,7 @@ impl<F: Held, B: BoardCalls<F>> Desk<F> for TurnLock<Played<F, B>> {
             DeskOp::Saved { role, frame },
         ) {
             DeskReply::Saved(answer) => {
-                pass.last = after_issue(&answer);
+                pass.said.add(after_issue(&answer));
                 answer
             }
             _ => unreachable!(),
@@ -258,7 +259,7 @@ impl<F: Held, B: BoardCalls<F>> Desk<F> for TurnLock<Played<F, B>> {
     ) -> Progress {
         match make(self, rt, alloc, &mut pass.inner, DeskOp::Progress { role }) {
             DeskReply::Progress(answer) => {
-                pass.last = after_progress(answer);
+                pass.said.add(after_progress(answer));
                 answer
             }
             _ => unreachable!(),
@@ -271,13 +272,17 @@ fn fresh_passes<F: Held, B: BoardCalls<F>>(
     alloc: Global,
     inners: Vec<Pass<Played<F, B>>>,
 ) -> Result<Vec<TurnPass<F, B>>, AllocError>
-    ensures { IfOk result (λ passes. passes.items ≡ map (λ p. record { inner = p; last = Last.Fresh }) inners.items) }
+    ensures { IfOk result (λ passes. passes.items ≡ map (λ p. record { inner = p; said = fresh_said }) inners.items) }
 {
     inners
         .into_iter()
         .map(|inner| TurnPass {
             inner,
-            last: Last::Fresh,
+            said: Said {
+                last: Last::Fresh,
+                owned: true,
+                loads: 0,
+            },
         })
         .collect(alloc)
 }
@@ -295,7 +300,7 @@ pub fn share_board<F: Held, B: BoardCalls<F>>(
     requires started { B.shown board ≡ [] }
     requires some { 0 < roles }
     ensures seats { IfOk result (λ r. (r.0.seats ≡ roles) × (vec_len r.1 ≡ roles)) }
-    ensures fresh { IfOk result (λ r. (k : ℕ) (p : _) → slice_get r.1.items k ≡ Some p → IsFreshOf r.0.id k p.inner p.last) }
+    ensures fresh { IfOk result (λ r. (k : ℕ) (p : _) → slice_get r.1.items k ≡ Some p → IsFreshOf r.0.id k p.inner p.said) }
 {
     let (desk, inners) = TurnLock::new(alloc, Played::new(board), roles)?;
     let passes = fresh_passes(alloc, inners)?;
@@ -314,10 +319,10 @@ fn join_all<F: Held, B: BoardCalls<F>>(
     ensures each { All (λ p. IsPassWithin p.inner result) passes.items }
     ensures seen { Any (λ p. p.inner.seen ≡ result.seen) passes.items }
 {
-    let TurnPass { inner, last: _ } = passes.pop().unwrap();
+    let TurnPass { inner, said: _ } = passes.pop().unwrap();
     let mut keep = inner;
     while let Some(pass) = passes.pop() {
-        let TurnPass { inner, last: _ } = pass;
+        let TurnPass { inner, said: _ } = pass;
         desk.join(&mut keep, inner);
     }
     keep
@@ -331,8 +336,8 @@ pub fn take_back<F: Held, B: BoardCalls<F>>(
 ) -> B
     requires ours { All (λ p. IsPassOf desk.id p.inner) passes.items }
     requires all { (0 < vec_len passes) × (vec_len passes ≡ desk.seats) }
-    ensures moves { All (λ p. HasMade (B.shown result) (known_by p.inner p.last)) passes.items }
-    ensures seen { Any (λ p. (known_by p.inner p.last).seen ≡ B.shown result) passes.items }
+    ensures moves { All (λ p. HasMade (B.shown result) (known_by p.inner p.said)) passes.items }
+    ensures seen { Any (λ p. (known_by p.inner p.said).seen ≡ B.shown result) passes.items }
     ensures others { (r : ℕ) → desk.seats ≤ r → moves_by r (B.shown result) ≡ [] }
     ensures legal { is_history (run_setting F.Of.graph F.Of.stack) (past (B.shown result)) ≡ true }
     ensures drained { only_drain_saves (run_setting F.Of.graph F.Of.stack) (past (B.shown result)) ≡ true }

@@ -33,6 +33,7 @@ pub fn leave_feed<R: Run, D: Desk<Frame<R>>, W: Wait>(
     ensures ours { D.ours desk.now result.pass }
     ensures role { (D.knows result.pass).role ≡ 0 }
     ensures moves { list_all feeder_logs (past (D.knows result.pass).made) ≡ true }
+    ensures owned { (D.knows result.pass).owned ≡ true }
     ensures last { IsTrue (feeder_ends (D.knows result.pass).last (past (D.knows result.pass).seen) result.want) }
     ensures left { IsOfHand name_of parts_of length (lent_to 0 (D.knows result.pass).made) (hand 0 (past (D.knows result.pass).made))
         result.left.input result.left.made result.left.blank }
@@ -63,6 +64,7 @@ pub fn leave_work<R: Run, D: Desk<Frame<R>>, W: Wait>(
     ensures ours { D.ours desk.now result.pass }
     ensures role { (D.knows result.pass).role ≡ role }
     ensures moves { list_all (worker_logs node) (past (D.knows result.pass).made) ≡ true }
+    ensures owned { (D.knows result.pass).owned ≡ true }
     ensures last { IsTrue (worker_ends node (D.knows result.pass).last (past (D.knows result.pass).seen) result.want) }
     ensures left { IsOfHand name_of parts_of length (lent_to role (D.knows result.pass).made) (hand role (past (D.knows result.pass).made))
         result.left.input result.left.made result.left.blank }

@@ -52,6 +52,7 @@ fn work_on<R: Run, D: Desk<Frame<R>>, G: Gate, W: Threads + Wait + Sync>(
     requires job { HasJob R.graph R.stack role node input blank (D.knows pass.old) }
     ensures ours { D.ours desk.now pass.new }
     ensures gone { HasGone name_of parts_of length (worker_logs node) (worker_ends node) role (D.knows pass.new) result }
+    ensures owned { (D.knows pass.old).owned ≡ true → (D.knows pass.new).owned ≡ true }
 {
     let index = input.name().index;
     gate.before(node, index);
@@ -118,6 +119,7 @@ fn work_round<R: Run, D: Desk<Frame<R>>, G: Gate, W: Threads + Wait + Sync>(
     requires nothing { HasNothing (worker_logs node) role (D.knows pass.old) }
     ensures ours { D.ours desk.now pass.new }
     ensures gone { HasGone name_of parts_of length (worker_logs node) (worker_ends node) role (D.knows pass.new) result }
+    ensures owned { (D.knows pass.old).owned ≡ true → (D.knows pass.new).owned ≡ true }
 {
     match desk.take(crew.rt, alloc, pass, role, node) {
         Take::Left => ended(),
@@ -168,6 +170,7 @@ pub fn work_role<R: Run, D: Desk<Frame<R>>, G: Gate, W: Threads + Wait + Sync>(
     ensures ours { D.ours desk.now result.pass }
     ensures role { (D.knows result.pass).role ≡ role }
     ensures moves { list_all (worker_logs node) (past (D.knows result.pass).made) ≡ true }
+    ensures owned { (D.knows result.pass).owned ≡ true }
     ensures last { IsTrue (worker_ends node (D.knows result.pass).last (past (D.knows result.pass).seen) result.want) }
     ensures left { IsOfHand name_of parts_of length (lent_to role (D.knows result.pass).made) (hand role (past (D.knows result.pass).made))
         result.left.input result.left.made result.left.blank }

@@ -41,7 +41,7 @@ pub take_back-board-requires-clause-ours : goal.take_back-board-requires-clause-
 take_back-board-requires-clause-ours g c =
     subst (λ ps. All (λ p. IsPassOf c.in_ok-desk.desk.id p.inner) ps) (sym c.in_ok-passes.ensures.passes)
     (all-ours (λ p. IsPassOf c.in_ok-desk.desk.id p.inner)
-    (λ p. known_by p.inner p.last) g.R.Run.graph g.R.Run.stack c.make_all.new.seats c.in_ok-make_all.ensures)
+    (λ p. known_by p.inner p.said) g.R.Run.graph g.R.Run.stack c.make_all.new.seats c.in_ok-make_all.ensures)
 
 pub take_back-board-requires-clause-all : goal.take_back-board-requires-clause-all
 take_back-board-requires-clause-all g c =
@@ -49,7 +49,7 @@ take_back-board-requires-clause-all g c =
     let all : length c.in_ok-nodes.nodes.items ≡ vec_len c.in_ok-nodes.nodes = search rules in
     let many =
     passes-many (λ p. IsPassOf c.in_ok-desk.desk.id p.inner)
-    (λ p. known_by p.inner p.last) g.R.Run.graph g.R.Run.stack c.make_all.new.seats c.in_ok-make_all.ensures in
+    (λ p. known_by p.inner p.said) g.R.Run.graph g.R.Run.stack c.make_all.new.seats c.in_ok-make_all.ensures in
     let is = ap length c.in_ok-passes.ensures.passes in
     let len : length c.in_ok-passes.passes.items ≡ vec_len c.in_ok-passes.passes = search rules in
     let some : 0 < vec_len c.in_ok-passes.passes = omega (arith, many, is, len) in
@@ -62,7 +62,7 @@ finish-requires-clause-ends g c =
     let s = run_setting g.R.Run.graph g.R.Run.stack in
     let all : length c.in_ok-nodes.nodes.items ≡ vec_len c.in_ok-nodes.nodes = search rules in
     drain-from (λ p. IsPassOf c.in_ok-desk.desk.id p.inner)
-    (λ p. known_by p.inner p.last) g.R.Run.graph g.R.Run.stack c.make_all.new.seats c.in_ok-make_all.ensures
+    (λ p. known_by p.inner p.said) g.R.Run.graph g.R.Run.stack c.make_all.new.seats c.in_ok-make_all.ensures
     _ c.in_ok-passes.passes.items c.in_ok-passes.lefts.items c.in_ok-passes.ensures.passes c.in_ok-passes.ensures.lefts c.take_back-board.ensures.moves
     (λ r high. c.take_back-board.ensures.others r
     (omega (arith, high, c.in_ok-desk.ensures.seats.0, c.len.ensures, all, ap length c.in_ok-nodes.ensures, workers-many s)))

@@ -21,6 +21,6 @@ returns g c =
     let rest : length c.remove-first.new.self.items ≡ length (workers s) =
     omega (arith, left, c.requires.many, ap length c.requires.nodes, c.remove-first.ensures.len, c.pop.ensures.len, one) in
     seated (λ p. IsPassOf c.args.desk.now.id p.inner)
-    (λ p. known_by p.inner p.last) g.R.Run.graph g.R.Run.stack c.args.passes.items c.pop.new.self.items c.remove-first.new.self.items
+    (λ p. known_by p.inner p.said) g.R.Run.graph g.R.Run.stack c.args.passes.items c.pop.new.self.items c.remove-first.new.self.items
     c.remove-first.result c.unwrap-last.result whole begins rest c.requires.fresh _ refl
     (c.in_ok-seat_workers.ensures ∙ ap (λ ns. workers_of ns c.remove-first.new.self.items) c.requires.nodes) refl

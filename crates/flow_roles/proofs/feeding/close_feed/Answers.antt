@@ -1,10 +1,11 @@
-use Rattle.std.proofs.Common.{length}
+use Rattle.std.proofs.Common.{refl, length}
 use Rattle.board_rules.specs.declared.answers.Settled.TheVariants.{Done, NotYet}
 use Rattle.board_rules.specs.RunMeasures.{run_setting}
 use Rattle.flow_roles.specs.RoleMoves.{feeder_logs}
 use Rattle.flow_roles.specs.RoleEnds.{feeder_ends}
 use Rattle.flow_roles.specs.Feeder.{name_of, parts_of}
 use Rattle.flow_roles.specs.FeederTicks.{closes}
+use Rattle.flow_roles.proofs.Calls.{still-owned}
 use Rattle.flow_roles.proofs.RoleCalls.{gone-again, gone-free}
 use Rattle.flow_roles.proofs.FeederCalls.{close-goes, close-ends}
 use Rattle.flow_roles.proofs.feeding.close_feed.Goals as goal
@@ -26,3 +27,9 @@ returns-in-NotYet-clause-gone g c =
 
 pub returns-in-NotYet-clause-calls : goal.returns-in-NotYet-clause-calls
 returns-in-NotYet-clause-calls g c = λ first before f. closes before _ _ NotYet f c.in-NotYet.ensures.called
+
+pub returns-in-Done-clause-owned : goal.returns-in-Done-clause-owned
+returns-in-Done-clause-owned g c = still-owned _ _ _ _ _ 0 c.requires.nothing.role c.in-Done.ensures.called refl
+
+pub returns-in-NotYet-clause-owned : goal.returns-in-NotYet-clause-owned
+returns-in-NotYet-clause-owned g c = still-owned _ _ _ _ _ 0 c.requires.nothing.role c.in-NotYet.ensures.called refl

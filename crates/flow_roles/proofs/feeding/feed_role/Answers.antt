@@ -8,7 +8,7 @@ use Rattle.flow_roles.proofs.Reclaims.{comes-back}
 use Rattle.flow_roles.proofs.feeding.feed_role.Goals as goal
 
 pub loop-init : goal.loop-init
-loop-init g c = (c.requires.ours, fresh-nothing feeder_logs 0 (g.D.Desk.knows c.args.pass) c.requires.fresh, ([], refl, none))
+loop-init g c = (c.requires.ours, fresh-nothing feeder_logs 0 (g.D.Desk.knows c.args.pass) c.requires.fresh, c.requires.fresh.owned, ([], refl, none))
 
 pub feed_round-requires-clause-ours : goal.feed_round-requires-clause-ours
 feed_round-requires-clause-ours g c = c.loop.invariant.0
@@ -18,9 +18,10 @@ feed_round-requires-clause-nothing g c = c.loop.invariant.1
 
 pub loop-preserved : goal.loop-preserved
 loop-preserved g c =
-    let clock = c.loop.invariant.2 in (
+    let clock = c.loop.invariant.3 in (
       c.feed_round.ensures.ours,
       c.in-Again.ensures.gone,
+      c.feed_round.ensures.owned c.loop.invariant.2,
       (c.tick-tick.result ∷ clock.0, (_, clock.1, c.tick-tick.ensures), c.feed_round.ensures.calls _ clock.0 clock.2),
     )
 
@@ -29,6 +30,9 @@ returns-in-End-clause-role g c = c.in-End.ensures.gone.role
 
 pub returns-in-End-clause-moves : goal.returns-in-End-clause-moves
 returns-in-End-clause-moves g c = c.in-End.ensures.gone.moves
+
+pub returns-in-End-clause-owned : goal.returns-in-End-clause-owned
+returns-in-End-clause-owned g c = c.feed_round.ensures.owned c.loop.invariant.2
 
 pub returns-in-End-clause-last : goal.returns-in-End-clause-last
 returns-in-End-clause-last g c = c.in-End.ensures.gone.last
@@ -43,5 +47,5 @@ returns-in-End-clause-reclaimed g c =
 
 pub returns-in-End-clause-ticks : goal.returns-in-End-clause-ticks
 returns-in-End-clause-ticks g c =
-    let clock = c.loop.invariant.2 in
+    let clock = c.loop.invariant.3 in
     (c.tick-tick.result ∷ clock.0, (_, clock.1, c.tick-tick.ensures), c.feed_round.ensures.calls _ clock.0 clock.2)

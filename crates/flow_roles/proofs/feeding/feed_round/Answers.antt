@@ -5,6 +5,7 @@ use Rattle.flow_roles.specs.RoleMoves.{feeder_logs}
 use Rattle.flow_roles.specs.RoleEnds.{feeder_ends}
 use Rattle.flow_roles.specs.Feeder.{name_of, parts_of}
 use Rattle.flow_roles.specs.FeederTicks.{loads, leaves}
+use Rattle.flow_roles.proofs.Calls.{still-owned, role-after}
 use Rattle.flow_roles.proofs.RoleCalls.{gone-again, gone-free, leave-free, feeder-quiet}
 use Rattle.flow_roles.proofs.FeederCalls.{load-goes, load-left-seen, load-refuses, load-loads}
 use Rattle.flow_roles.proofs.feeding.feed_round.Goals as goal
@@ -73,3 +74,29 @@ issue_loaded-requires-clause-loaded g c =
 pub returns-in-Loaded-clause-calls : goal.returns-in-Loaded-clause-calls
 returns-in-Loaded-clause-calls g c =
     λ first before f. c.issue_loaded.ensures.calls first _ (loads before _ _ c.args.tick _ f c.requires.nothing.free refl c.in-Loaded.ensures.called)
+
+pub returns-in-Left-clause-owned : goal.returns-in-Left-clause-owned
+returns-in-Left-clause-owned g c = still-owned _ _ _ _ _ 0 c.requires.nothing.role c.in-Left.ensures.called refl
+
+pub returns-in-Busy-clause-owned : goal.returns-in-Busy-clause-owned
+returns-in-Busy-clause-owned g c = still-owned _ _ _ _ _ 0 c.requires.nothing.role c.in-Busy.ensures.called refl
+
+pub returns-in-NotYet-clause-owned : goal.returns-in-NotYet-clause-owned
+returns-in-NotYet-clause-owned g c = still-owned _ _ _ _ _ 0 c.requires.nothing.role c.in-NotYet.ensures.called refl
+
+pub returns-in-Refused-clause-owned : goal.returns-in-Refused-clause-owned
+returns-in-Refused-clause-owned g c = still-owned _ _ _ _ _ 0 c.requires.nothing.role c.in-Refused.ensures.called refl
+
+pub returns-in-Ended-clause-owned : goal.returns-in-Ended-clause-owned
+returns-in-Ended-clause-owned g c =
+    λ all. c.close_feed.ensures.owned (still-owned _ _ _ _ _ 0 c.requires.nothing.role c.in-Ended.ensures.called refl all)
+
+pub returns-in-OutOfMemory-clause-owned : goal.returns-in-OutOfMemory-clause-owned
+returns-in-OutOfMemory-clause-owned g c =
+    let role = c.requires.nothing.role in
+    let call = c.in-OutOfMemory.ensures.called in
+    λ all. still-owned _ _ _ _ _ 0 (role-after _ _ _ _ _ 0 role call) c.leave.ensures.called refl (still-owned _ _ _ _ _ 0 role call refl all)
+
+pub returns-in-Loaded-clause-owned : goal.returns-in-Loaded-clause-owned
+returns-in-Loaded-clause-owned g c =
+    λ all. c.issue_loaded.ensures.owned (still-owned _ _ _ _ _ 0 c.requires.nothing.role c.in-Loaded.ensures.called refl all)

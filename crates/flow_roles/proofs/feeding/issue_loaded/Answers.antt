@@ -1,8 +1,8 @@
-use Rattle.std.proofs.Common.{length}
-use Rattle.std.specs.Prelude.{Ok}
+use Rattle.std.proofs.Common.{refl, length, Ok}
 use Rattle.board_rules.specs.RunMeasures.{run_setting}
 use Rattle.flow_roles.specs.Feeder.{name_of}
 use Rattle.flow_roles.specs.FeederTicks.{issues}
+use Rattle.flow_roles.proofs.Calls.{still-owned}
 use Rattle.flow_roles.proofs.FeederCalls.{issue-goes, issue-takes}
 use Rattle.flow_roles.proofs.Results.{frame-index, frame-room, issue-whole}
 use Rattle.flow_roles.proofs.feeding.issue_loaded.Goals as goal
@@ -30,3 +30,6 @@ returns-clause-issued g c =
 
 pub returns-clause-calls : goal.returns-clause-calls
 returns-clause-calls g c = λ first before f. issues before _ _ c.frame_on-frame.result (Ok c.in-Ok.field-0) f c.in-Ok.ensures.called
+
+pub returns-clause-owned : goal.returns-clause-owned
+returns-clause-owned g c = still-owned _ _ _ _ _ 0 c.requires.loaded.role c.in-Ok.ensures.called refl

@@ -4,7 +4,7 @@ use Rattle.flow_roles.proofs.turn_desk.take_back.Goals as goal
 
 pub returns-clause-moves : goal.returns-clause-moves
 returns-clause-moves g c = λ k d low.
-    has-made (get_or c.args.passes.items k d).inner c.join_all-keep.result (get_or c.args.passes.items k d).last
+    has-made (get_or c.args.passes.items k d).inner c.join_all-keep.result (get_or c.args.passes.items k d).said
     (g.B.BoardCalls.shown c.in-Ok.played.board) (c.requires.ours k d low).1
     (c.join_all-keep.ensures.each k d low) c.in-Ok.ensures.state.0 c.in-Ok.ensures.state.1
 

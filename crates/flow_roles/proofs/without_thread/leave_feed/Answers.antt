@@ -4,6 +4,7 @@ use Rattle.flow_roles.specs.RoleMoves.{feeder_logs}
 use Rattle.flow_roles.specs.RoleEnds.{feeder_ends}
 use Rattle.flow_roles.specs.Feeder.{name_of, parts_of}
 use Rattle.flow_roles.specs.FeederTicks.{stays_away}
+use Rattle.flow_roles.proofs.Calls.{still-owned}
 use Rattle.flow_roles.proofs.RoleCalls.{fresh-nothing, leave-free, feeder-quiet}
 use Rattle.flow_roles.proofs.Reclaims.{comes-back}
 use Rattle.flow_roles.proofs.without_thread.leave_feed.Goals as goal
@@ -17,6 +18,7 @@ returns g c =
       ours = c.leave.ensures.ours;
       role = gone.role;
       moves = gone.moves;
+      owned = still-owned _ _ _ _ _ 0 c.requires.fresh.role c.leave.ensures.called refl c.requires.fresh.owned;
       last = gone.last;
       left = gone.handed;
       reclaimed = comes-back name_of parts_of length s 0 (g.D.Desk.knows c.leave.new.pass).made c.nothing.result gone.handed;

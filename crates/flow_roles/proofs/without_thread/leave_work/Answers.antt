@@ -3,6 +3,7 @@ use Rattle.board_rules.specs.RunMeasures.{run_setting}
 use Rattle.flow_roles.specs.RoleMoves.{worker_logs}
 use Rattle.flow_roles.specs.RoleEnds.{worker_ends}
 use Rattle.flow_roles.specs.Feeder.{name_of, parts_of}
+use Rattle.flow_roles.proofs.Calls.{still-owned}
 use Rattle.flow_roles.proofs.RoleCalls.{fresh-nothing, leave-free, worker-quiet}
 use Rattle.flow_roles.proofs.Reclaims.{comes-back}
 use Rattle.flow_roles.proofs.without_thread.leave_work.Goals as goal
@@ -20,6 +21,7 @@ returns g c =
       ours = c.leave.ensures.ours;
       role = gone.role;
       moves = gone.moves;
+      owned = still-owned _ _ _ _ _ r c.requires.fresh.role c.leave.ensures.called refl c.requires.fresh.owned;
       last = gone.last;
       left = gone.handed;
       reclaimed = comes-back name_of parts_of length s r (g.D.Desk.knows c.leave.new.pass).made c.nothing.result gone.handed;

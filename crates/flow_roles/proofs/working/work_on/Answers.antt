@@ -3,6 +3,7 @@ use Rattle.board_rules.specs.RunMeasures.{run_setting}
 use Rattle.flow_roles.specs.RoleMoves.{worker_logs}
 use Rattle.flow_roles.specs.RoleEnds.{worker_ends}
 use Rattle.flow_roles.specs.Feeder.{name_of, parts_of}
+use Rattle.flow_roles.proofs.Calls.{still-owned}
 use Rattle.flow_roles.proofs.RoleCalls.{worker-quiet, leave-ends}
 use Rattle.flow_roles.proofs.WorkerCalls.{job-may-put, put-goes, put-takes, job-left}
 use Rattle.flow_roles.proofs.working.work_on.Goals as goal
@@ -30,3 +31,9 @@ returns-in-Err-clause-gone g c =
     leave-ends name_of parts_of length s (worker_logs v) (worker_ends v) r _ _ c.in-Err.left c.requires.job.role
     (worker-quiet v) refl (λ P h. h) c.requires.job.moves
     (job-left g.R.Run.graph g.R.Run.stack r v c.args.input c.args.blank _ c.in-Err.left c.requires.job c.in-Err.ensures.left) c.leave.ensures.called
+
+pub returns-in-Ok-put-clause-owned : goal.returns-in-Ok-put-clause-owned
+returns-in-Ok-put-clause-owned g c = still-owned _ _ _ _ _ c.args.role c.requires.job.role c.in-Ok-put.ensures.called refl
+
+pub returns-in-Err-clause-owned : goal.returns-in-Err-clause-owned
+returns-in-Err-clause-owned g c = still-owned _ _ _ _ _ c.args.role c.requires.job.role c.leave.ensures.called refl

@@ -7,7 +7,7 @@ use Rattle.flow_roles.proofs.Reclaims.{comes-back}
 use Rattle.flow_roles.proofs.working.work_role.Goals as goal
 
 pub loop-init : goal.loop-init
-loop-init g c = (c.requires.ours, fresh-nothing (worker_logs c.args.node) c.args.role (g.D.Desk.knows c.args.pass) c.requires.fresh)
+loop-init g c = (c.requires.ours, fresh-nothing (worker_logs c.args.node) c.args.role (g.D.Desk.knows c.args.pass) c.requires.fresh, c.requires.fresh.owned)
 
 pub work_round-requires-clause-ours : goal.work_round-requires-clause-ours
 work_round-requires-clause-ours g c κs within = c.loop.invariant.0
@@ -16,13 +16,16 @@ pub work_round-requires-clause-nothing : goal.work_round-requires-clause-nothing
 work_round-requires-clause-nothing g c κs within = c.loop.invariant.1
 
 pub loop-preserved : goal.loop-preserved
-loop-preserved g c = (c.work_round.ensures.ours, c.in-Again.ensures.gone)
+loop-preserved g c = (c.work_round.ensures.ours, c.in-Again.ensures.gone, c.work_round.ensures.owned c.loop.invariant.2)
 
 pub returns-in-End-clause-role : goal.returns-in-End-clause-role
 returns-in-End-clause-role g c = c.in-End.ensures.gone.role
 
 pub returns-in-End-clause-moves : goal.returns-in-End-clause-moves
 returns-in-End-clause-moves g c = c.in-End.ensures.gone.moves
+
+pub returns-in-End-clause-owned : goal.returns-in-End-clause-owned
+returns-in-End-clause-owned g c = c.work_round.ensures.owned c.loop.invariant.2
 
 pub returns-in-End-clause-last : goal.returns-in-End-clause-last
 returns-in-End-clause-last g c = c.in-End.ensures.gone.last

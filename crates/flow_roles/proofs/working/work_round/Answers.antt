@@ -4,6 +4,7 @@ use Rattle.board_rules.specs.RunMeasures.{run_setting}
 use Rattle.flow_roles.specs.RoleMoves.{worker_logs}
 use Rattle.flow_roles.specs.RoleEnds.{worker_ends}
 use Rattle.flow_roles.specs.Feeder.{name_of, parts_of}
+use Rattle.flow_roles.proofs.Calls.{still-owned, role-after}
 use Rattle.flow_roles.proofs.RoleCalls.{gone-free, leave-free, worker-quiet}
 use Rattle.flow_roles.proofs.WorkerCalls.{take-goes, take-left-seen, take-ended-seen, take-isnt-busy, take-drops, take-works}
 use Rattle.flow_roles.proofs.working.work_round.Goals as goal
@@ -55,3 +56,30 @@ work_on-requires-clause-job g c κs within =
     take-works g.R.Run.graph g.R.Run.stack c.args.role c.args.node c.in-Job.node c.in-Job.input _ _ c.requires.graph
     c.requires.node c.requires.nothing c.in-Job.blank
     c.in-Job.ensures.called c.in-Job.ensures.lent
+
+pub returns-in-Left-clause-owned : goal.returns-in-Left-clause-owned
+returns-in-Left-clause-owned g c = still-owned _ _ _ _ _ c.args.role c.requires.nothing.role c.in-Left.ensures.called refl
+
+pub returns-in-Ended-clause-owned : goal.returns-in-Ended-clause-owned
+returns-in-Ended-clause-owned g c = still-owned _ _ _ _ _ c.args.role c.requires.nothing.role c.in-Ended.ensures.called refl
+
+pub returns-in-PoolDrop-clause-owned : goal.returns-in-PoolDrop-clause-owned
+returns-in-PoolDrop-clause-owned g c = still-owned _ _ _ _ _ c.args.role c.requires.nothing.role c.in-PoolDrop.ensures.called refl
+
+pub returns-in-Idle-clause-owned : goal.returns-in-Idle-clause-owned
+returns-in-Idle-clause-owned g c =
+    let r = c.args.role in
+    let role = c.requires.nothing.role in
+    let call = c.in-Idle.ensures.called in
+    λ all. still-owned _ _ _ _ _ r (role-after _ _ _ _ _ r role call) c.settle_or_wait.ensures.tried refl (still-owned _ _ _ _ _ r role call refl all)
+
+pub returns-in-OutOfMemory-clause-owned : goal.returns-in-OutOfMemory-clause-owned
+returns-in-OutOfMemory-clause-owned g c =
+    let r = c.args.role in
+    let role = c.requires.nothing.role in
+    let call = c.in-OutOfMemory.ensures.called in
+    λ all. still-owned _ _ _ _ _ r (role-after _ _ _ _ _ r role call) c.leave.ensures.called refl (still-owned _ _ _ _ _ r role call refl all)
+
+pub returns-in-Job-clause-owned : goal.returns-in-Job-clause-owned
+returns-in-Job-clause-owned g c =
+    λ all. c.work_on.ensures.owned (still-owned _ _ _ _ _ c.args.role c.requires.nothing.role c.in-Job.ensures.called refl all)

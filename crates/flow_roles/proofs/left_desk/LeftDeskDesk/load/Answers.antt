@@ -2,7 +2,7 @@ use Rattle.flow_journal.specs.Setting.{last_role}
 use Rattle.board_rules.specs.declared.answers.Load.TheVariants.{Left}
 use Rattle.board_rules.specs.RunMeasures.{run_setting}
 use Rattle.board_rules.specs.Feeding.{LoadGives}
-use Rattle.flow_roles.specs.declared.last.Last.TheVariants.{Left as last_left}
+use Rattle.flow_roles.specs.declared.last.Last.TheVariants.{LoadLeft as last_left}
 use Rattle.flow_roles.proofs.Leaving.{told_by_call, load_left}
 use Rattle.flow_roles.proofs.Playing.{below}
 use Rattle.flow_roles.proofs.left_desk.LeftDeskDesk.load.Goals as goal

@@ -1,14 +1,17 @@
+use Rattle.std.proofs.Common.{refl}
 use Rattle.board_rules.specs.RunMeasures.{run_setting, run_measure}
 use Rattle.flow_roles.specs.declared.last.Last.TheVariants.{Fresh, Gone}
 use Rattle.flow_roles.specs.Operations.{frames_of}
-use Rattle.flow_roles.proofs.TurnCalls.{leave-replied}
+use Rattle.flow_roles.proofs.TurnCalls.{leave-replied, told-last}
 use Rattle.flow_roles.proofs.turn_desk.TurnLockPlayedDesk.leave.Goals as goal
 
 pub unreachable-requires : goal.unreachable-requires
 unreachable-requires g c =
     leave-replied (frames_of g.F.Named.name_of g.F.Held.parts g.F.Held.bytes_of (run_measure g.F.Of.Run.graph g.F.Of.Run.stack))
     (run_setting g.F.Of.Run.graph g.F.Of.Run.stack)
-    c.args.role c.make.result Fresh _ _ c.in_default.not-Leave (c.make.ensures.called Fresh Fresh)
+    c.args.role c.make.result Fresh _ _ c.in_default.not-Leave (c.make.ensures.called c.args.pass.now.said Fresh)
 
 pub returns-clause-called : goal.returns-clause-called
-returns-clause-called g c = c.in-Leave.ensures.called c.args.pass.now.last Gone
+returns-clause-called g c =
+    told-last (run_setting g.F.Of.Run.graph g.F.Of.Run.stack) _ _ _ _ c.make.new.pass c.args.pass.now.said _ refl c.add.ensures
+    (c.in-Leave.ensures.called c.args.pass.now.said Gone)

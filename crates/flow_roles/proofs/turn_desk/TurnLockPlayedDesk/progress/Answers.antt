@@ -8,9 +8,9 @@ pub unreachable-requires : goal.unreachable-requires
 unreachable-requires g c =
     progress-replied (frames_of g.F.Named.name_of g.F.Held.parts g.F.Held.bytes_of (run_measure g.F.Of.Run.graph g.F.Of.Run.stack))
     (run_setting g.F.Of.Run.graph g.F.Of.Run.stack)
-    c.args.role c.make.result Fresh _ _ c.in_default.not-Progress (c.make.ensures.called Fresh Fresh)
+    c.args.role c.make.result Fresh _ _ c.in_default.not-Progress (c.make.ensures.called c.args.pass.now.said Fresh)
 
 pub returns-clause-called : goal.returns-clause-called
 returns-clause-called g c =
-    told-last (run_setting g.F.Of.Run.graph g.F.Of.Run.stack) _ _ _ _ c.make.new.pass c.after_progress-pass.ensures
-    (c.in-Progress.ensures.called c.args.pass.now.last _)
+    told-last (run_setting g.F.Of.Run.graph g.F.Of.Run.stack) _ _ _ _ c.make.new.pass c.args.pass.now.said _ c.after_progress.ensures c.add.ensures
+    (c.in-Progress.ensures.called c.args.pass.now.said _)
