@@ -1,9 +1,9 @@
 -- A file that was begun, as a front of its final bytes.
-use Rattle.std.proofs.Common.{◌≡◌, ◌≢◌, ℕ, zero, suc, ◌+◌, ◌-◌, ◌*◌, ◌/◌, ◌%◌, ◌≤◌, Bool, true, false, List, [], ◌∷◌, ◌++◌, length, take, drop, refl, sym}
+use Rattle.std.proofs.Common.{◌≡◌, ◌≢◌, ℕ, zero, suc, ◌+◌, ◌-◌, ◌*◌, ◌/◌, ◌%◌, ◌<◌, ◌≤◌, Bool, true, false, List, [], ◌∷◌, ◌++◌, length, take, drop, refl, sym}
 use Rattle.std.proofs.Common.{ap, ◌∙◌, arith, inl, inr, Option, Some, None}
 use Rattle.std.specs.List.{flat_map}
 use Rattle.std.proofs.Math.Seq.{take-append-add}
-use Rattle.std.proofs.Math.Nat.{add-mul, mul-le-mul_right}
+use Rattle.std.proofs.Math.Nat.{add-mul, mod-lt, mul-le-mul_right}
 use Rattle.std.proofs.lemmas.Nat.{div-add-mod'}
 use Rattle.std.proofs.lemmas.Bool.{cases_lt}
 use Rattle.std.proofs.lemmas.List.{append_assoc, append-nil, length-append, length-take, length-take-le, length-drop, take_all, drop_all, take-append-le}
@@ -17,13 +17,13 @@ use Rattle.cdf_write.specs.Layout.{header, row, layout}
 use Rattle.cdf_write.specs.LengthLaws.{header_length_is, length-header}
 use Rattle.cdf_write.specs.Spelling.{word}
 use Rattle.file_out.specs.Streams.{Stream, begun_file, count_place}
-use Rattle.file_out.specs.StreamLaws.{overwritten-count}
+use Rattle.file_out.specs.StreamLaws.{begun_file-rows, overwritten-count}
 use Rattle.graph_files.specs.BegunFiles.{open_count, unended_bytes}
 use Rattle.graph_files.specs.Interrupted.{IsCountOf, IsBegunAs, Unended, Ended}
 use Rattle.graph_files.specs.Interrupted as begun
 use Rattle.graph_files.specs.Groups.{group_of, whole_file, file_of}
 use Rattle.graph_files.specs.GroupLaws.{group-later, length-group}
-use Rattle.graph_files.specs.NodeFiles.{NodeFile, IsTorn, Untouched, Front, Miscounted, IsOpenAfter, IsPlaceAfter, group_file}
+use Rattle.graph_files.specs.NodeFiles.{NodeFile, IsTorn, Untouched, Header, Rows, Miscounted, IsOpenAfter, IsPlaceAfter, group_file, open_at}
 use Rattle.graph_files.specs.NodeFileLaws.{cases_eq, none-open, open-here, open-elsewhere, empty}
 use Rattle.graph_files.proofs.Writes.{next-place}
 
@@ -64,14 +64,6 @@ layout-late shape arrays =
     ∙ ap (λ count. overwritten (begun_file shape None arrays) count_place count) (sym (open_is shape rows))
     ∙ overwritten-same (begun_file shape None arrays) count_place 4 (header_long shape None rows)
 
-overwritten-front : (file more bytes : List ℕ) (off : ℕ) → off + length bytes ≤ length file
-    → overwritten (file ++ more) off bytes ≡ overwritten file off bytes ++ more
-overwritten-front file more bytes off within =
-    ap (λ front. front ++ (bytes ++ drop (off + length bytes) (file ++ more))) (take-append-le off file more (omega (arith, within)))
-    ∙ ap (λ rest. take off file ++ (bytes ++ rest)) (drop-append-le (off + length bytes) file more within)
-    ∙ ap (λ rest. take off file ++ rest) (sym (append_assoc bytes (drop (off + length bytes) file) more))
-    ∙ sym (append_assoc (take off file) (bytes ++ drop (off + length bytes) file) more)
-
 -- there is one such number
 pub count-one : (late : Bool) (n : ℕ) (a c : Option ℕ) → IsCountOf late n a → IsCountOf late n c → a ≡ c
 count-one true n a c h k = h ∙ sym k
@@ -103,24 +95,37 @@ module _ (shape : FileShape) (arrays rest full : List Array) (is : full ≡ arra
   begun-front late numrecs front tail now count whole made =
       Unended front (tail ++ flat_map (row shape) rest) (unended-front shape arrays rest full is late numrecs front tail count whole) made
 
-  miscounted : (late : Bool) (numrecs : Option ℕ) (any : List ℕ) (now : Option (List ℕ)) → IsCountOf late (length full) numrecs → numrecs ≡ None
-      → length any ≡ 4 → now ≡ Some (overwritten (begun_file shape numrecs arrays) count_place any)
+  miscounted : (late : Bool) (numrecs : Option ℕ) (any : List ℕ) (now : Option (List ℕ)) → rest ≡ [] → IsCountOf late (length full) numrecs
+      → numrecs ≡ None → length any ≡ 4 → now ≡ Some (overwritten (begun_file shape numrecs arrays) count_place any)
       → IsBegunAs late (layout shape full) before now
-  miscounted false numrecs any now count none_ four made = let clash : Some (length full) ≡ None = sym count ∙ none_ in absurd (cc)
-  miscounted true numrecs any now count none_ four made =
-      let long = header_long shape None (flat_map (row shape) arrays) in
-      begun.Miscounted refl any (overwritten (begun_file shape None arrays) count_place any) (rows shape arrays rest full is) four
-      (layout-overwritten shape full any four ∙ ap (λ bytes. overwritten bytes count_place any) (longer shape arrays rest full is None)
-      ∙ overwritten-front (begun_file shape None arrays) (rows shape arrays rest full is) any count_place (omega (arith, long, four)))
-      (made ∙ ap (λ n. Some (overwritten (begun_file shape n arrays) count_place any)) none_)
+  miscounted false numrecs any now last count none_ four made = let clash : Some (length full) ≡ None = sym count ∙ none_ in absurd (cc)
+  miscounted true numrecs any now last count none_ four made =
+      let all : arrays ≡ full = sym (is ∙ ap (λ (zs : List Array). arrays ++ zs) last ∙ append-nil arrays) in
+      begun.Miscounted refl any four
+      (made ∙ ap (λ n. Some (overwritten (begun_file shape n arrays) count_place any)) none_
+      ∙ ap (λ (zs : List Array). Some (overwritten (begun_file shape None zs) count_place any)) all ∙ ap Some (sym (layout-overwritten shape full any four)))
 
+module _ (shape : FileShape) (had more rest full : List Array) (is : full ≡ (had ++ more) ++ rest) (before : Option (List ℕ)) where
   -- whatever a call that failed left
-  pub begun-torn : (late : Bool) (numrecs : Option ℕ) (was now : Option (List ℕ)) → IsCountOf late (length full) numrecs
-      → (now ≡ was → IsBegunAs late (layout shape full) before now) → IsTorn was shape numrecs arrays now
-      → IsBegunAs late (layout shape full) before now
-  begun-torn late numrecs was now count still (Untouched same) = still same
-  begun-torn late numrecs was now count still (Front front tail whole made) = begun-front late numrecs front tail now count whole made
-  begun-torn late numrecs was now count still (Miscounted none_ any four made) = miscounted late numrecs any now count none_ four made
+  pub begun-torn : (begun : Bool) (size : ℕ) (late : Bool) (numrecs : Option ℕ) (was now : Option (List ℕ)) → (size ≤ length (had ++ more) → rest ≡ [])
+      → IsCountOf late (length full) numrecs → (now ≡ was → IsBegunAs late (layout shape full) before now)
+      → IsTorn begun size was shape numrecs had more now → IsBegunAs late (layout shape full) before now
+  begun-torn begun size late numrecs was now last count still (Untouched same) = still same
+  begun-torn begun size late numrecs was now last count still (Header fresh front tail whole made) =
+      let rows = flat_map (row shape) (had ++ more) in
+      begun-front shape (had ++ more) rest full is before late numrecs front (tail ++ rows) now count
+      (ap (λ bytes. bytes ++ rows) whole ∙ append_assoc front tail rows) made
+  begun-torn begun size late numrecs was now last count still (Rows front tail whole made) =
+      let done = begun_file shape numrecs had in
+      begun-front shape (had ++ more) rest full is before late numrecs (done ++ front) tail now count
+      (begun_file-rows shape numrecs had more ∙ ap (λ bytes. done ++ bytes) whole ∙ sym (append_assoc done front tail)) made
+  begun-torn begun size late numrecs was now last count still (Miscounted none_ all any four made) =
+      miscounted shape (had ++ more) rest full is before late numrecs any now (last all) count none_ four made
+
+-- a group that is all there has no more arrays
+pub none-behind : (count i : ℕ) (xs had rest : List Array) → group_of count i xs ≡ had ++ rest → count ≤ length had → rest ≡ []
+none-behind count i xs had rest is full =
+    empty rest (omega (arith, length-take count (drop (i * count) xs), ap (λ (zs : List Array). length zs) is, length-append had rest, full))
 
 -- a whole file
 pub begun-whole : (late : Bool) (final : List ℕ) (before now : Option (List ℕ)) → now ≡ Some final → IsBegunAs late final before now
@@ -216,3 +221,20 @@ module _ (x : NodeFile) (arrays : List Array) (some : 1 ≤ x.count) where
 
   pub group-apart : (i : ℕ) → i ≢ n / x.count → GroupHas x arrays i
   group-apart i apart = closed-has i apart
+
+-- a group that has an array has a file
+pub file-some : (o : Option Stream) (shape : FileShape) (zs : List Array) → 1 ≤ length zs → file_of o shape zs ≡ None → ⊥
+file-some None shape [] some h = absurd (omega (arith, some))
+file-some None shape (a ∷ zs) some h = let clash : Some (layout shape (a ∷ zs)) ≡ None = h in absurd (cc)
+file-some (Some f) shape zs some h = let clash : Some (begun_file shape f.numrecs zs) ≡ None = h in absurd (cc)
+
+-- a full group is a whole file
+pub full-file : (x : NodeFile) (arrays : List Array) (i : ℕ) → 1 ≤ x.count → length (group_of x.count i arrays) ≡ x.count → GroupHas x arrays i
+    → group_file x arrays i ≡ Some (layout x.shape (group_of x.count i arrays))
+full-file x arrays i some full (Nothing none_) =
+    absurd (file-some (open_at x (length arrays) i) x.shape (group_of x.count i arrays) (omega (arith, full, some)) none_)
+full-file x arrays i some full (Whole also is) = is
+full-file x arrays i some full (Opened f open_ here is) =
+    let long = length-group x.count arrays (length arrays / x.count) (length arrays % x.count) (next-place x.count arrays some) in
+    let low = mod-lt (length arrays) (let e : 0 < x.count = omega (arith, some) in e) in
+    absurd (omega (arith, long, low, full, ap (λ (w : ℕ). length (group_of x.count w arrays)) here))

@@ -1,5 +1,5 @@
 -- What an end at one node does to the files of all, and what ends at all nodes come to.
-use Rattle.std.proofs.Common.{◌≡◌, ◌≢◌, ℕ, zero, suc, ◌+◌, ◌/◌, ◌^◌, ◌<◌, ◌≤◌, List, [], ◌∷◌, length, map, set, Option, None, Some, Result, Ok, Err, inl}
+use Rattle.std.proofs.Common.{◌≡◌, ◌≢◌, ◌⊎◌, ℕ, zero, suc, ◌+◌, ◌/◌, ◌^◌, ◌<◌, ◌≤◌, true, List, [], ◌∷◌, length, map, set, Option, None, Some, Result, Ok, Err, inl}
 use Rattle.std.proofs.Common.{inr, refl, sym, ap, subst, ◌∙◌, arith}
 use Rattle.std.specs.Prelude.{slice_get, IsSome, OnErr}
 use Rattle.std.proofs.lemmas.Bool.{cases_lt}
@@ -44,6 +44,15 @@ ended_to-step : (n : ℕ) (xs : List NodeFile) (x : NodeFile) → slice_get xs n
 ended_to-step n [] x h = let none_ : None ≡ Some x = h in absurd (cc)
 ended_to-step zero (y ∷ xs) x h = ap (λ (z : NodeFile). closed z ∷ xs) (sym (some-same h))
 ended_to-step (suc n) (y ∷ xs) x h = ap (λ (zs : List NodeFile). closed y ∷ zs) (ended_to-step n xs x h)
+
+-- a node's files among those that have ended so far
+pub ended-at : (n : ℕ) (xs : List NodeFile) (j : ℕ) (x : NodeFile) → slice_get xs j ≡ Some x
+    → ((j < n) × (slice_get (ended_to n xs) j ≡ Some (closed x))) ⊎ ((n ≤ j) × (slice_get (ended_to n xs) j ≡ Some x))
+ended-at n [] j x at = let none_ : None ≡ Some x = at in absurd (cc)
+ended-at zero (y ∷ xs) j x at = inr (omega arith, at)
+ended-at (suc n) (y ∷ xs) zero x at = inl (omega arith, ap (λ (z : NodeFile). Some (closed z)) (some-same {X = NodeFile} {x = y} {y = x} at))
+ended-at (suc n) (y ∷ xs) (suc j) x at =
+    elim (ended-at n xs j x at) [ inl ended ↦ inl (omega (arith, ended.0), ended.1) | inr open_ ↦ inr (omega (arith, open_.0), open_.1) ]
 
 ended_to-all : (xs : List NodeFile) → ended_to (length xs) xs ≡ map closed xs
 ended_to-all [] = refl
@@ -214,7 +223,8 @@ torn-from : (o : Option Stream) (x : NodeFile) (i : ℕ) (arrays : List Array) (
     → file_at t (name_of x i) ≡ file_at first (name_of x i) → EndTorn o x i arrays t u
     → EndTorn o x i arrays first u
 torn-from None x i arrays first t u same torn = torn
-torn-from (Some f) x i arrays first t u same torn = subst (λ (b : Option (List ℕ)). IsTorn b x.shape f.numrecs arrays (file_at u (name_of x i))) same torn
+torn-from (Some f) x i arrays first t u same torn =
+    subst (λ (b : Option (List ℕ)). IsTorn true (length arrays) b x.shape f.numrecs arrays [] (file_at u (name_of x i))) same torn
 
 pub stops-then : (before : Option Files) (xs zs : List NodeFile) (written : ℕ → List Array) (n : ℕ) (x : NodeFile) (first t u : Option Files)
     → slice_get xs n ≡ Some x

@@ -1,28 +1,28 @@
 -- What a write of several rows in one piece makes of the files of a node: what one write for each of them would.
 use Rattle.std.proofs.Common.{◌≡◌, ℕ, suc, ◌+◌, ◌^◌, ◌<◌, ◌≤◌, Bool, true, false, ltb, List, [], ◌∷◌, ◌++◌, length}
 use Rattle.std.proofs.Common.{Option, None, Some, Ok, Err, Result, inl, inr}
-use Rattle.std.proofs.Common.{OnOk, OnErr, IfErr, refl, sym, ap, subst, ◌∙◌, arith, append_assoc, append-nil, take, drop}
+use Rattle.std.proofs.Common.{OnOk, OnErr, IfErr, refl, sym, ap, subst, ◌∙◌, arith, append-nil, take}
 use Rattle.std.specs.List.{flat_map}
 use Rattle.std.specs.Option.{ForSome}
+use Rattle.std.specs.Prelude.{is_some}
 use Rattle.std.proofs.lemmas.Bool.{lt-ltb}
-use Rattle.std.proofs.lemmas.List.{take-append-drop}
 use Rattle.nd_base.specs.Array.{Array}
 use Rattle.nd_base.specs.declared.attribute.FileShape.{FileShape}
-use Rattle.edge_traits.specs.Files.{Files, file_at, with_file, with_more, HasFile, MayAppend}
-use Rattle.edge_traits.specs.FileLaws.{with_more-with_more, file_at-with_file_same, file_at-with_more_same}
+use Rattle.edge_traits.specs.Files.{Files, file_at, with_file, with_more, HasFile}
+use Rattle.edge_traits.specs.FileLaws.{with_more-with_more}
 use Rattle.cdf_write.specs.Layout.{header, layout, row}
 use Rattle.file_out.specs.declared.fault.SaveFault.{SaveFault}
 use Rattle.file_out.specs.declared.fault.SaveFault.TheVariants.{Failed, OutOfMemory}
 use Rattle.file_out.specs.Saving.{BeginStops}
-use Rattle.file_out.specs.Streams.{Stream, HasRows, begun_file}
-use Rattle.file_out.specs.StreamLaws.{HasRows-with_more, HasRows-rows, begun_file-rows}
+use Rattle.file_out.specs.Streams.{Stream, HasRows}
+use Rattle.file_out.specs.StreamLaws.{HasRows-with_more, HasRows-rows}
 use Rattle.graph_files.specs.Groups.{group_of}
 use Rattle.graph_files.specs.GroupLaws.{length-group}
 use Rattle.graph_files.specs.InTurn.{Goes, GoInTurn, TurnStops, GoOrStop, RowsGo, RowsStop}
-use Rattle.graph_files.specs.NodeFiles.{NodeFile, IsChangedAt, Wrote, IsTorn, Untouched, Front, Miscounted, IsPlaceAfter, AreWritten, RowGoes}
+use Rattle.graph_files.specs.NodeFiles.{NodeFile, IsChangedAt, Wrote, IsTorn, IsPlaceAfter, AreWritten, RowGoes}
 use Rattle.graph_files.specs.NodeFiles.{first_count, name_of, stream_of, IsSized}
 use Rattle.graph_files.specs.NodeFileLaws.{changed-then, changed-more, open-is, open-has, none-is, empty}
-use Rattle.graph_files.proofs.Torn.{torn-begin, torn-ended, changed-begin, changed-may}
+use Rattle.graph_files.proofs.Torn.{rows-torn, torn-begin, torn-ended, torn-then, changed-begin, changed-may}
 use Rattle.graph_files.proofs.Writes.{numrecs-after, ended-by, some-goes, none-goes}
 
 -- ONE ROW OF SEVERAL
@@ -78,7 +78,7 @@ module _ (x : NodeFile) (of : Option ℕ) (g p : ℕ) (small : g < 2 ^ 64) (a : 
       → HasRows t f rows
       → IsChangedAt t f.name u → ((rows : List Array) → HasRows t f rows → RowGoes (ltb (p + 1) x.count) f (rows ++ a ∷ []) o u) → Goes x of g p a o t u
   goes-some t u is this numrecs rows has changed given = record {
-    numrecs = numrecs-after {T = Bool} (Ok true) (ltb (p + 1) x.count) f rows a o t u (first_count x.late of) numrecs has given tt;
+    numrecs = numrecs-after {T = Bool} (Ok true) (ltb (p + 1) x.count) 0 f rows a o t u (first_count x.late of) numrecs has given tt;
     changed = subst (λ (k : Stream). IsChangedAt t k.name u) this changed;
     written = λ arrays place h. some-goes x (record x { current = o }) g p small (λ shape. a) t u refl arrays place h f is changed x.count refl given;
     ended = λ last. ended-by (ltb (p + 1) x.count) f (rows ++ a ∷ []) o u (p + 1) x.count refl last (given rows has);
@@ -88,7 +88,7 @@ module _ (x : NodeFile) (of : Option ℕ) (g p : ℕ) (small : g < 2 ^ 64) (a : 
       → v ≡ with_file t (name_of x g) (header x.shape (first_count x.late of)) → HasRows v f []
       → IsChangedAt v f.name u → ((rows : List Array) → HasRows v f rows → RowGoes (ltb (p + 1) x.count) f (rows ++ a ∷ []) o u) → Goes x of g p a o t u
   goes-none t v u none_ this made has changed given = record {
-    numrecs = numrecs-after {T = Bool} (Ok true) (ltb (p + 1) x.count) f [] a o v u (first_count x.late of) (ap (λ (k : Stream). k.numrecs) this) has given tt;
+    numrecs = numrecs-after {T = Bool} (Ok true) (ltb (p + 1) x.count) 0 f [] a o v u (first_count x.late of) (ap (λ (k : Stream). k.numrecs) this) has given tt;
     changed =
         changed-then t v u (name_of x g) (Wrote (header x.shape (first_count x.late of)) made) (subst (λ (k : Stream). IsChangedAt v k.name u) this changed);
     written = λ arrays place h.
@@ -177,54 +177,36 @@ module _ (of : Option ℕ) (g : ℕ) (small : g < 2 ^ 64) where
 
 -- A WRITE THAT STOPPED
 
--- rows of which a front was added
-rows-torn : (t u : Option Files) (f : Stream) (arrays more : List Array) → HasRows t f arrays → MayAppend t f.name (flat_map (row f.shape) more) u
-    → IsTorn (file_at t f.name) f.shape f.numrecs (arrays ++ more) (file_at u f.name)
-rows-torn None u f arrays more has may = Untouched (ap (λ w. file_at w f.name) may.1)
-rows-torn (Some m) u f arrays more has may =
-    let piece = flat_map (row f.shape) more in
-    let done = begun_file f.shape f.numrecs arrays in
-    Front (done ++ take may.0 piece) (drop may.0 piece)
-    (begun_file-rows f.shape f.numrecs arrays more ∙ ap (λ p. done ++ p) (sym (take-append-drop may.0 piece))
-    ∙ sym (append_assoc done (take may.0 piece) (drop may.0 piece)))
-    (ap (λ w. file_at w f.name) may.1 ∙ file_at-with_more_same (Some m) f.name (take may.0 piece) done has.bytes)
-
-torn-rows : (t u : Option Files) (f : Stream) (arrays more : List Array) → HasRows t f arrays
-    → RowsStop f (length more) (flat_map (row f.shape) more) t u → IsTorn (file_at t f.name) f.shape f.numrecs (arrays ++ more) (file_at u f.name)
-torn-rows t u f arrays more has (inl may) = rows-torn t u f arrays more has may
-torn-rows t u f arrays more has (inr ended) =
-    torn-ended t ended.0 u f (f.count + length more) (flat_map (row f.shape) more) (arrays ++ more) ended.1
+torn-rows : (size : ℕ) (t u : Option Files) (f : Stream) (arrays more : List Array) → HasRows t f arrays
+    → RowsStop size f (length more) (flat_map (row f.shape) more) t u
+    → IsTorn true size (file_at t f.name) f.shape f.numrecs arrays more (file_at u f.name)
+torn-rows size t u f arrays more has (inl may) = rows-torn size t u f arrays more has may
+torn-rows size t u f arrays more has (inr ended) =
+    torn-ended size t ended.0 u f (f.count + length more) (flat_map (row f.shape) more) arrays more ended.2 ended.1
     (subst (λ (w : Option Files). HasRows w (record f { count = f.count + length more }) (arrays ++ more)) (sym ended.1) (HasRows-rows t f arrays more has))
-    ended.2
+    ended.3
 
-changed-rows : (t u : Option Files) (f : Stream) (n : ℕ) (rows : List ℕ) → RowsStop f n rows t u → IsChangedAt t f.name u
-changed-rows t u f n rows (inl may) = changed-more t u f.name (take may.0 rows) may.1
-changed-rows t u f n rows (inr ended) =
-    changed-then t ended.0 u f.name (changed-more t ended.0 f.name rows ended.1) (changed-may ended.0 u f.name f.numrecs (f.count + n) ended.2)
-
--- a file that was begun and torn was torn
-torn-then : (t v w : Option Files) (name : List ℕ) (shape : FileShape) (numrecs : Option ℕ) (more : List Array) → v ≡ with_file t name (header shape numrecs)
-    → IsTorn (file_at v name) shape numrecs more (file_at w name) → IsTorn (file_at t name) shape numrecs more (file_at w name)
-torn-then None v w name shape numrecs more made (Untouched same) = Untouched (same ∙ ap (λ (k : Option Files). file_at k name) made)
-torn-then (Some m) v w name shape numrecs more made (Untouched same) =
-    Front (header shape numrecs) (flat_map (row shape) more) refl
-    (same ∙ ap (λ (k : Option Files). file_at k name) made ∙ file_at-with_file_same m name (header shape numrecs))
-torn-then t v w name shape numrecs more made (Front front rest parts now) = Front front rest parts now
-torn-then t v w name shape numrecs more made (Miscounted late any four now) = Miscounted late any four now
+changed-rows : (size : ℕ) (t u : Option Files) (f : Stream) (n : ℕ) (rows : List ℕ) → RowsStop size f n rows t u → IsChangedAt t f.name u
+changed-rows size t u f n rows (inl may) = changed-more t u f.name (take may.0 rows) may.1
+changed-rows size t u f n rows (inr ended) =
+    changed-then t ended.0 u f.name (changed-more t ended.0 f.name rows ended.1) (changed-may ended.0 u f.name f.numrecs (f.count + n) ended.3)
 
 module _ (x : NodeFile) (of : Option ℕ) (g p : ℕ) (more : List Array) where
   pub stops-some : (o : Option Stream) (f : Stream) (t u : Option Files) → x.current ≡ Some f → f ≡ stream_of x g p f.numrecs
-      → f.numrecs ≡ first_count x.late of → o ≡ None → RowsStop f (length more) (flat_map (row f.shape) more) t u → TurnStops Failed x of g p more o t u
+      → f.numrecs ≡ first_count x.late of → o ≡ None → RowsStop x.count f (length more) (flat_map (row f.shape) more) t u
+      → TurnStops Failed x of g p more o t u
   stops-some o f t u is this numrecs ended stops = (
     ended,
-    subst (λ (k : Stream). IsChangedAt t k.name u) this (changed-rows t u f (length more) (flat_map (row f.shape) more) stops),
+    subst (λ (k : Stream). IsChangedAt t k.name u) this (changed-rows x.count t u f (length more) (flat_map (row f.shape) more) stops),
     λ arrays place h.
+        let zs = group_of x.count g arrays in
         let here : f ≡ stream_of x g p f.numrecs = open-is x arrays g p t place h f is in
-        let rows =
-        subst (λ (k : Stream). HasRows t k (group_of x.count g arrays)) (sym here) (open-has x arrays g p t place h f is) in
-        subst (λ (n : Option ℕ). IsTorn (file_at t (name_of x g)) x.shape n (group_of x.count g arrays ++ more) (file_at u (name_of x g))) numrecs
-        (subst (λ (k : Stream). IsTorn (file_at t k.name) k.shape k.numrecs (group_of x.count g arrays ++ more) (file_at u k.name)) here
-        (torn-rows t u f (group_of x.count g arrays) more rows stops)),
+        let rows = subst (λ (k : Stream). HasRows t k zs) (sym here) (open-has x arrays g p t place h f is) in
+        subst (λ (d : Option Stream). IsTorn (is_some d) x.count (file_at t (name_of x g)) x.shape (first_count x.late of) zs more (file_at u (name_of x g)))
+        (sym is)
+        (subst (λ (n : Option ℕ). IsTorn true x.count (file_at t (name_of x g)) x.shape n zs more (file_at u (name_of x g))) numrecs
+        (subst (λ (k : Stream). IsTorn true x.count (file_at t k.name) k.shape k.numrecs zs more (file_at u k.name)) here
+        (torn-rows x.count t u f zs more rows stops))),
   )
 
   no-rows : (t : Option Files) (arrays : List Array) → x.current ≡ None → IsPlaceAfter x.count arrays g p → AreWritten x arrays t
@@ -233,16 +215,19 @@ module _ (x : NodeFile) (of : Option ℕ) (g p : ℕ) (more : List Array) where
 
   pub stops-none : (o : Option Stream) (f : Stream) (t v u : Option Files) → x.current ≡ None → f ≡ stream_of x g 0 (first_count x.late of)
       → v ≡ with_file t (name_of x g) (header x.shape (first_count x.late of)) → HasRows v f [] → o ≡ None
-      → RowsStop f (length more) (flat_map (row f.shape) more) v u → TurnStops Failed x of g p more o t u
+      → RowsStop x.count f (length more) (flat_map (row f.shape) more) v u → TurnStops Failed x of g p more o t u
   stops-none o f t v u none_ this made has ended stops = (
     ended,
     changed-then t v u (name_of x g) (Wrote (header x.shape (first_count x.late of)) made)
-        (subst (λ (k : Stream). IsChangedAt v k.name u) this (changed-rows v u f (length more) (flat_map (row f.shape) more) stops)),
+        (subst (λ (k : Stream). IsChangedAt v k.name u) this (changed-rows x.count v u f (length more) (flat_map (row f.shape) more) stops)),
     λ arrays place h.
-        subst (λ (zs : List Array). IsTorn (file_at t (name_of x g)) x.shape (first_count x.late of) (zs ++ more) (file_at u (name_of x g)))
+        subst (λ (d : Option Stream). IsTorn (is_some d) x.count (file_at t (name_of x g)) x.shape (first_count x.late of) (group_of x.count g arrays) more
+        (file_at u (name_of x g))) (sym none_)
+        (subst (λ (zs : List Array). IsTorn false x.count (file_at t (name_of x g)) x.shape (first_count x.late of) zs more (file_at u (name_of x g)))
         (sym (no-rows t arrays none_ place h))
-        (torn-then t v u (name_of x g) x.shape (first_count x.late of) more made
-        (subst (λ (k : Stream). IsTorn (file_at v k.name) k.shape k.numrecs more (file_at u k.name)) this (torn-rows v u f [] more has stops))),
+        (torn-then x.count t v u (name_of x g) x.shape (first_count x.late of) more made
+        (subst (λ (k : Stream). IsTorn true x.count (file_at v k.name) k.shape k.numrecs [] more (file_at u k.name)) this
+        (torn-rows x.count v u f [] more has stops)))),
   )
 
   pub stops-begin : (fault : SaveFault) (o : Option Stream) (t u : Option Files) → x.current ≡ None → o ≡ None
@@ -251,7 +236,10 @@ module _ (x : NodeFile) (of : Option ℕ) (g p : ℕ) (more : List Array) where
   stops-begin Failed o t u none_ ended stops = (
     ended,
     changed-begin Failed t u (name_of x g) (header x.shape (first_count x.late of)) stops,
-    λ arrays place h. torn-begin t u (name_of x g) x.shape (first_count x.late of) (group_of x.count g arrays ++ more) stops,
+    λ arrays place h.
+        subst (λ (d : Option Stream). IsTorn (is_some d) x.count (file_at t (name_of x g)) x.shape (first_count x.late of) (group_of x.count g arrays) more
+        (file_at u (name_of x g))) (sym none_)
+        (torn-begin x.count t u (name_of x g) x.shape (first_count x.late of) (group_of x.count g arrays) more stops),
   )
 
 -- BY THE ANSWER
@@ -283,14 +271,15 @@ module _ {T : Type 0} (r : Result T SaveFault) (x : NodeFile) (of : Option ℕ) 
       (subst (λ (w : List ℕ). RowsGo (ltb (p + n) m) f n w o v u) (is ∙ ap (λ (s : FileShape). flat_map (row s) more) (sym shape)) go))
 
   these-stop : (v u : Option Files) (more : List Array) → length more ≡ n → bytes ≡ flat_map (row x.shape) more → f.shape ≡ x.shape
-      → RowsStop f n bytes v u → RowsStop f (length more) (flat_map (row f.shape) more) v u
+      → RowsStop m f n bytes v u → RowsStop x.count f (length more) (flat_map (row f.shape) more) v u
   these-stop v u more many is shape stop =
-      subst (λ (k : ℕ). RowsStop f k (flat_map (row f.shape) more) v u) (sym many)
-      (subst (λ (w : List ℕ). RowsStop f n w v u) (is ∙ ap (λ (s : FileShape). flat_map (row s) more) (sym shape)) stop)
+      subst (λ (k : ℕ). RowsStop x.count f k (flat_map (row f.shape) more) v u) (sym many)
+      (subst (λ (k : ℕ). RowsStop k f n (flat_map (row f.shape) more) v u) counted
+      (subst (λ (w : List ℕ). RowsStop m f n w v u) (is ∙ ap (λ (s : FileShape). flat_map (row s) more) (sym shape)) stop))
 
   -- to a file that is open
   pub go-some : (t u : Option Files) → x.current ≡ Some f → f ≡ stream_of x g p f.numrecs → f.numrecs ≡ first_count x.late of → (rows : List Array)
-      → HasRows t f rows → OnOk r (RowsGo (ltb (p + n) m) f n bytes o t u) → OnErr r (o ≡ None) → OnErr r (RowsStop f n bytes t u)
+      → HasRows t f rows → OnOk r (RowsGo (ltb (p + n) m) f n bytes o t u) → OnErr r (o ≡ None) → OnErr r (RowsStop m f n bytes t u)
       → IfErr r (λ fault. fault ≡ Failed) → (more : List Array) → length more ≡ n → bytes ≡ flat_map (row x.shape) more → GoOrStop r x of g p more o t u
   go-some t u is this numrecs rows has ok ended err failed [] many parts = absurd (omega (arith, many, some))
   go-some t u is this numrecs rows has ok ended err failed (a ∷ more) many parts =
@@ -302,7 +291,7 @@ module _ {T : Type 0} (r : Result T SaveFault) (x : NodeFile) (of : Option ℕ) 
   -- to a file that was begun with them
   pub go-none : (t v u : Option Files) → x.current ≡ None → p ≡ 0 → f ≡ stream_of x g 0 (first_count x.late of)
       → v ≡ with_file t (name_of x g) (header x.shape (first_count x.late of)) → HasRows v f []
-      → OnOk r (RowsGo (ltb (p + n) m) f n bytes o v u) → OnErr r (o ≡ None) → OnErr r (RowsStop f n bytes v u)
+      → OnOk r (RowsGo (ltb (p + n) m) f n bytes o v u) → OnErr r (o ≡ None) → OnErr r (RowsStop m f n bytes v u)
       → IfErr r (λ fault. fault ≡ Failed) → (more : List Array) → length more ≡ n → bytes ≡ flat_map (row x.shape) more → GoOrStop r x of g p more o t u
   go-none t v u none_ first this made has ok ended err failed [] many parts = absurd (omega (arith, many, some))
   go-none t v u none_ first this made has ok ended err failed (a ∷ more) many parts =

@@ -1,26 +1,25 @@
 -- What a write and an end make of the files of a node.
 use Rattle.std.proofs.Common.{◌≡◌, ℕ, ◌+◌, ◌/◌, ◌%◌, ◌^◌, ◌<◌, ◌≤◌, Bool, true, false, ltb, List, [], ◌∷◌, ◌++◌, length, Option, None, Some, Result, Ok}
 use Rattle.std.proofs.Common.{Err, inl, inr, OnOk, IfErr, refl, sym, ap, subst, ◌∙◌, arith}
-use Rattle.std.specs.List.{flat_map}
+use Rattle.std.specs.Prelude.{is_some}
 use Rattle.std.proofs.lemmas.Bool.{ltb-true, ltb-false}
 use Rattle.std.proofs.Math.Nat.{mod-lt, div-le_self}
 use Rattle.std.proofs.lemmas.Nat.{div-add-mod'}
 use Rattle.nd_base.specs.Array.{Array}
 use Rattle.nd_base.specs.declared.attribute.FileShape.{FileShape}
 use Rattle.edge_traits.specs.Files.{Files, file_at, with_file, HasFile}
-use Rattle.edge_traits.specs.FileLaws.{file_at-with_file_same}
-use Rattle.cdf_write.specs.Layout.{header, row, layout}
+use Rattle.cdf_write.specs.Layout.{header, layout}
 use Rattle.file_out.specs.declared.fault.SaveFault.{SaveFault}
 use Rattle.file_out.specs.declared.fault.SaveFault.TheVariants.{Failed, OutOfMemory}
 use Rattle.file_out.specs.Saving.{BeginStops}
 use Rattle.file_out.specs.Streams.{Stream, HasRows, MayCount, begun_file}
 use Rattle.graph_files.specs.Groups.{group_of, whole_file, HasBytes, file_of}
 use Rattle.graph_files.specs.GroupLaws.{length-group}
-use Rattle.graph_files.specs.NodeFiles.{NodeFile, IsChangedAt, Wrote, IsTorn, Untouched, Front, Miscounted, IsPlaceAfter, AreWritten, AreWrittenBut}
+use Rattle.graph_files.specs.NodeFiles.{NodeFile, IsChangedAt, Wrote, IsTorn, IsPlaceAfter, AreWritten, AreWrittenBut}
 use Rattle.graph_files.specs.NodeFiles.{AreEnded, HasNumrecs, IsHeldBack, WriteStops, EndStops, EndTorn, RowGoes, RowStops, name_of, stream_of}
 use Rattle.graph_files.specs.NodeFileLaws.{open-is, open-has, none-is, empty, written-begun, written-more, written-whole, written-but, open-but, none-open}
 use Rattle.graph_files.specs.NodeFileLaws.{cases_eq, changed-then}
-use Rattle.graph_files.proofs.Torn.{torn-begin, torn-count, changed-begin}
+use Rattle.graph_files.proofs.Torn.{torn-begin, torn-count, torn-then, changed-begin}
 
 pub either : {T : Type 0} {P C : Type 0} {Q : SaveFault → Type 0} (r : Result T SaveFault) → OnOk r P → IfErr r Q → (P → C)
     → ((fault : SaveFault) → Q fault → C) → C
@@ -33,17 +32,18 @@ numrecs-goes : (b : Bool) (f : Stream) (rows : List Array) (o : Option Stream) (
 numrecs-goes true f rows o u numrecs is goes = subst (HasNumrecs numrecs) (sym goes.0) is
 numrecs-goes false f rows o u numrecs is goes = subst (HasNumrecs numrecs) (sym goes.0) tt
 
-numrecs-stops : (fault : SaveFault) (f : Stream) (a : Array) (o : Option Stream) (t u : Option Files) (numrecs : Option ℕ) → f.numrecs ≡ numrecs
-    → RowStops fault f a o t u → HasNumrecs numrecs o
-numrecs-stops OutOfMemory f a o t u numrecs is stops = subst (HasNumrecs numrecs) (sym stops.0) is
-numrecs-stops Failed f a o t u numrecs is stops = subst (HasNumrecs numrecs) (sym stops.0) tt
+numrecs-stops : (fault : SaveFault) (size : ℕ) (f : Stream) (a : Array) (o : Option Stream) (t u : Option Files) (numrecs : Option ℕ) → f.numrecs ≡ numrecs
+    → RowStops fault size f a o t u → HasNumrecs numrecs o
+numrecs-stops OutOfMemory size f a o t u numrecs is stops = subst (HasNumrecs numrecs) (sym stops.0) is
+numrecs-stops Failed size f a o t u numrecs is stops = subst (HasNumrecs numrecs) (sym stops.0) tt
 
-pub numrecs-after : {T : Type 0} (r : Result T SaveFault) (b : Bool) (f : Stream) (rows : List Array) (a : Array) (o : Option Stream) (t u : Option Files)
-    (numrecs : Option ℕ) → f.numrecs ≡ numrecs
+pub numrecs-after : {T : Type 0} (r : Result T SaveFault) (b : Bool) (size : ℕ) (f : Stream) (rows : List Array) (a : Array) (o : Option Stream)
+    (t u : Option Files) (numrecs : Option ℕ) → f.numrecs ≡ numrecs
     → HasRows t f rows → OnOk r ((arrays : List Array) → HasRows t f arrays → RowGoes b f (arrays ++ a ∷ []) o u)
-    → IfErr r (λ fault. RowStops fault f a o t u) → HasNumrecs numrecs o
-numrecs-after r b f rows a o t u numrecs is has ok err =
-    either r ok err (λ goes. numrecs-goes b f (rows ++ a ∷ []) o u numrecs is (goes rows has)) (λ fault stops. numrecs-stops fault f a o t u numrecs is stops)
+    → IfErr r (λ fault. RowStops fault size f a o t u) → HasNumrecs numrecs o
+numrecs-after r b size f rows a o t u numrecs is has ok err =
+    either r ok err (λ goes. numrecs-goes b f (rows ++ a ∷ []) o u numrecs is (goes rows has))
+    (λ fault stops. numrecs-stops fault size f a o t u numrecs is stops)
 
 pub ended-by : (b : Bool) (f : Stream) (rows : List Array) (o : Option Stream) (u : Option Files) (n count : ℕ) → ltb n count ≡ b
     → n ≡ count → RowGoes b f rows o u → o ≡ None
@@ -96,20 +96,23 @@ module _ (x y : NodeFile) (g p : ℕ) (small : g < 2 ^ 64) (make : FileShape →
         (subst (λ (k : Stream). RowGoes (ltb (p + 1) x.count) k (group_of x.count g arrays ++ make k.shape ∷ []) y.current u) this
         (ok (group_of x.count g arrays) rows))
 
-    pub some-stops : (fault : SaveFault) (numrecs : Option ℕ) → f.numrecs ≡ numrecs → RowStops fault f (make f.shape) y.current t u
-        → WriteStops fault x arrays g numrecs (make x.shape) y t u
-    some-stops OutOfMemory numrecs given stops =
+    pub some-stops : (fault : SaveFault) (n : ℕ) → n ≡ x.count → (numrecs : Option ℕ) → f.numrecs ≡ numrecs
+        → RowStops fault n f (make f.shape) y.current t u → WriteStops fault x arrays g numrecs (make x.shape) y t u
+    some-stops OutOfMemory n many numrecs given stops =
         let same : y ≡ x = node ∙ ap (λ o. record x { current = o }) (stops.0 ∙ sym is) in (
           subst (λ (z : NodeFile). AreWritten z arrays u) (sym same) (subst (λ (w : Option Files). AreWritten x arrays w) (sym stops.1) h),
           subst (λ (o : Option Stream). IsHeldBack o y.current t u) (sym is) (stops.0, stops.1),
         )
-    some-stops Failed numrecs given stops =
-        let zs : List Array = group_of x.count g arrays ++ make x.shape ∷ [] in (
+    some-stops Failed n many numrecs given stops =
+        let zs : List Array = group_of x.count g arrays in (
           stops.0,
           but stops.0 changed-here,
-          subst (λ (n : Option ℕ). IsTorn (file_at t (name_of x g)) x.shape n zs (file_at u (name_of x g))) given
-              (subst (λ (k : Stream). IsTorn (file_at t k.name) k.shape k.numrecs (group_of x.count g arrays ++ make k.shape ∷ []) (file_at u k.name)) this
-              (stops.1 (group_of x.count g arrays) rows)),
+          subst (λ (o : Option Stream). IsTorn (is_some o) x.count (file_at t (name_of x g)) x.shape numrecs zs (make x.shape ∷ []) (file_at u (name_of x g)))
+              (sym is)
+              (subst (λ (m : Option ℕ). IsTorn true x.count (file_at t (name_of x g)) x.shape m zs (make x.shape ∷ []) (file_at u (name_of x g))) given
+              (subst (λ (k : Stream). IsTorn true x.count (file_at t k.name) k.shape k.numrecs zs (make k.shape ∷ []) (file_at u k.name)) this
+              (subst (λ (c : ℕ). IsTorn true c (file_at t f.name) f.shape f.numrecs zs (make f.shape ∷ []) (file_at u f.name)) many
+              (stops.1 zs rows)))),
         )
 
   -- with a file that has to be begun
@@ -130,7 +133,9 @@ module _ (x y : NodeFile) (g p : ℕ) (small : g < 2 ^ 64) (make : FileShape →
     begin-stops Failed still stops = (
       still,
       but still (changed-begin Failed t u (name_of x g) (header x.shape numrecs) stops),
-      torn-begin t u (name_of x g) x.shape numrecs (group_of x.count g arrays ++ make x.shape ∷ []) stops,
+      subst (λ (o : Option Stream). IsTorn (is_some o) x.count (file_at t (name_of x g)) x.shape numrecs (group_of x.count g arrays) (make x.shape ∷ [])
+          (file_at u (name_of x g))) (sym none_)
+          (torn-begin x.count t u (name_of x g) x.shape numrecs (group_of x.count g arrays) (make x.shape ∷ []) stops),
     )
 
     module _ (f : Stream) (is : f ≡ stream_of x g 0 numrecs) (v : Option Files)
@@ -148,21 +153,9 @@ module _ (x y : NodeFile) (g p : ℕ) (small : g < 2 ^ 64) (make : FileShape →
           (subst (λ (k : Stream). RowGoes (ltb (p + 1) x.count) k (group_of x.count g arrays ++ make k.shape ∷ []) y.current u) at
           (subst (λ (zs : List Array). RowGoes (ltb (p + 1) x.count) f (zs ++ make f.shape ∷ []) y.current u) (sym no_rows) (ok [] has)))
 
-      torn-then : (w : Option Files) → IsTorn (file_at v (name_of x g)) x.shape numrecs (make x.shape ∷ []) (file_at w (name_of x g))
-          → IsTorn (file_at t (name_of x g)) x.shape numrecs (make x.shape ∷ []) (file_at w (name_of x g))
-      torn-then w (Untouched same) = header-torn t same made
-        where
-          header-torn : (s : Option Files) → file_at w (name_of x g) ≡ file_at v (name_of x g) → v ≡ with_file s (name_of x g) (header x.shape numrecs)
-              → IsTorn (file_at s (name_of x g)) x.shape numrecs (make x.shape ∷ []) (file_at w (name_of x g))
-          header-torn None same made_ = Untouched (same ∙ ap (λ (k : Option Files). file_at k (name_of x g)) made_)
-          header-torn (Some m) same made_ =
-              Front (header x.shape numrecs) (flat_map (row x.shape) (make x.shape ∷ [])) refl
-              (same ∙ ap (λ (k : Option Files). file_at k (name_of x g)) made_ ∙ file_at-with_file_same m (name_of x g) (header x.shape numrecs))
-      torn-then w (Front front rest parts now) = Front front rest parts now
-      torn-then w (Miscounted late any four now) = Miscounted late any four now
-
-      pub none-stops : (fault : SaveFault) → RowStops fault f (make f.shape) y.current v u → WriteStops fault x arrays g numrecs (make x.shape) y t u
-      none-stops OutOfMemory stops =
+      pub none-stops : (fault : SaveFault) (n : ℕ) → n ≡ x.count → RowStops fault n f (make f.shape) y.current v u
+          → WriteStops fault x arrays g numrecs (make x.shape) y t u
+      none-stops OutOfMemory n many stops =
           let f_ = stream_of x g 0 numrecs in
           let same : y ≡ record x { current = Some f_ } = node ∙ ap (λ o. record x { current = o }) (stops.0 ∙ ap Some is) in (
             subst (λ (z : NodeFile). AreWritten z arrays u) (sym same)
@@ -171,12 +164,16 @@ module _ (x y : NodeFile) (g p : ℕ) (small : g < 2 ^ 64) (make : FileShape →
                 (subst (λ (k : Stream). HasRows v k []) is has).bytes)),
             subst (λ (o : Option Stream). IsHeldBack o y.current t u) (sym none_) (subst (λ (o : Option Stream). IsHeldBack None o t u) (sym stops.0) tt),
           )
-      none-stops Failed stops =
-          let torn = subst (λ (k : Stream). IsTorn (file_at v k.name) k.shape k.numrecs (make k.shape ∷ []) (file_at u k.name)) is (stops.1 [] has) in (
+      none-stops Failed n many stops =
+          let torn =
+          subst (λ (k : Stream). IsTorn true x.count (file_at v k.name) k.shape k.numrecs [] (make k.shape ∷ []) (file_at u k.name)) is
+          (subst (λ (c : ℕ). IsTorn true c (file_at v f.name) f.shape f.numrecs [] (make f.shape ∷ []) (file_at u f.name)) many (stops.1 [] has)) in (
             stops.0,
             but stops.0 all-changed,
-            subst (λ (zs : List Array). IsTorn (file_at t (name_of x g)) x.shape numrecs (zs ++ make x.shape ∷ []) (file_at u (name_of x g)))
-                (sym no_rows) (torn-then u torn),
+            subst (λ (o : Option Stream). IsTorn (is_some o) x.count (file_at t (name_of x g)) x.shape numrecs (group_of x.count g arrays)
+                (make x.shape ∷ []) (file_at u (name_of x g))) (sym none_)
+                (subst (λ (zs : List Array). IsTorn false x.count (file_at t (name_of x g)) x.shape numrecs zs (make x.shape ∷ []) (file_at u (name_of x g)))
+                (sym no_rows) (torn-then x.count t v u (name_of x g) x.shape numrecs (make x.shape ∷ []) made torn)),
           )
 
 -- THE END
@@ -236,7 +233,8 @@ module _ (x : NodeFile) (t u : Option Files) (some : 1 ≤ x.count) (arrays : Li
     pub end-stops : length arrays < 2 ^ 64 → MayCount t f.name f.numrecs f.count u → EndStops x arrays t u
     end-stops few may =
         let torn =
-        subst (λ (k : Stream). IsTorn (file_at t k.name) k.shape k.numrecs (group_of x.count g arrays) (file_at u k.name)) end-this
+        subst (λ (k : Stream). IsTorn true (length (group_of x.count g arrays)) (file_at t k.name) k.shape k.numrecs (group_of x.count g arrays) []
+        (file_at u k.name)) end-this
         (torn-count t u f (group_of x.count g arrays) f.count end-rows may) in (
           open-but x arrays g p t u place (small-group x.count arrays few) h end-changed,
           subst (λ (o : Option Stream). EndTorn o x g (group_of x.count g arrays) t u) (sym is) torn,

@@ -1,5 +1,5 @@
 -- Arrays that go into the files of a file node one after the other, where their rows are written in one piece.
-use Rattle.std.specs.Prelude.{◌≡◌, ◌⊎◌, ℕ, ◌+◌, ◌-◌, ◌≤◌, Bool, true, false, List, [], ◌∷◌, ◌++◌, length, Option, None, Some, Result, Ok, Err}
+use Rattle.std.specs.Prelude.{◌≡◌, ◌⊎◌, ℕ, ◌+◌, ◌-◌, ◌≤◌, Bool, true, false, List, [], ◌∷◌, ◌++◌, length, Option, None, Some, Result, Ok, Err, is_some}
 use Rattle.std.specs.List.{flat_map}
 use Rattle.nd_base.specs.Array.{Array}
 use Rattle.edge_traits.specs.Files.{Files, file_at, with_more, HasFile, MayAppend}
@@ -30,7 +30,8 @@ TurnStops OutOfMemory x of group place more o held now = (o ≡ x.current) × (n
 TurnStops Failed x of group place more o held now =
     (o ≡ None) × IsChangedAt held (name_of x group) now
     × ((arrays : List Array) → IsPlaceAfter x.count arrays group place → AreWritten x arrays held
-    → IsTorn (file_at held (name_of x group)) x.shape (first_count x.late of) (group_of x.count group arrays ++ more) (file_at now (name_of x group)))
+    → IsTorn (is_some x.current) x.count (file_at held (name_of x group)) x.shape (first_count x.late of) (group_of x.count group arrays) more
+    (file_at now (name_of x group)))
 
 -- what a write of these leaves, by its answer
 abbrev pub GoOrStop : {T : Type 0} → Result T SaveFault → NodeFile → (of : Option ℕ) → (group place : ℕ) → List Array → (o : Option Stream)
@@ -56,8 +57,8 @@ RowsGo false f count rows current held now =
     (current ≡ None) × ((added : Option Files) × (added ≡ with_more held f.name rows) × IsChangedAt added f.name now
     × ((arrays : List Array) → HasRows added (record f { count = f.count + count }) arrays → HasFile now f.name (layout f.shape arrays)))
 
--- these rows were not all added, or the file wasn't ended
-abbrev pub RowsStop : Stream → (count : ℕ) → (rows : List ℕ) → (held now : Option Files) → Type 0
-RowsStop f count rows held now =
+-- these rows were not all added, or the file has as many as it ends with, and wasn't ended
+abbrev pub RowsStop : (size : ℕ) → Stream → (count : ℕ) → (rows : List ℕ) → (held now : Option Files) → Type 0
+RowsStop size f count rows held now =
     MayAppend held f.name rows now
-    ⊎ ((added : Option Files) × (added ≡ with_more held f.name rows) × MayCount added f.name f.numrecs (f.count + count) now)
+    ⊎ ((added : Option Files) × (added ≡ with_more held f.name rows) × (size ≤ f.count + count) × MayCount added f.name f.numrecs (f.count + count) now)

@@ -7,13 +7,12 @@ use Rattle.graph_files.specs.BegunFiles.{unended_bytes}
 use Rattle.graph_files.specs.OutFiles.{OutFile}
 
 -- What was there before, the final bytes, or a front of the file as it is before it ends. A count of records that is put in at the end may be any four
--- bytes, after a patch that failed.
+-- bytes in the whole file, after a patch that failed.
 pub data IsBegunAs (late : Bool) (final : List ℕ) (before now : Option (List ℕ)) : Type 0 where
   AsBefore : now ≡ before → IsBegunAs late final before now
   Unended : (front rest : List ℕ) → unended_bytes late final ≡ front ++ rest → now ≡ Some front → IsBegunAs late final before now
   Ended : now ≡ Some final → IsBegunAs late final before now
-  Miscounted : late ≡ true → (count front rest : List ℕ) → length count ≡ 4 → overwritten final count_place count ≡ front ++ rest → now ≡ Some front
-      → IsBegunAs late final before now
+  Miscounted : late ≡ true → (count : List ℕ) → length count ≡ 4 → now ≡ Some (overwritten final count_place count) → IsBegunAs late final before now
 
 -- where the shelf tells its files
 abbrev pub IsBegunAt : (late : Bool) → (final : List ℕ) → (before held : Option Files) → (name : List ℕ) → Type 0
@@ -25,10 +24,6 @@ abbrev pub IsCountOf : (late : Bool) → ℕ → Option ℕ → Type 0
 IsCountOf true n numrecs = numrecs ≡ None
 IsCountOf false n numrecs = numrecs ≡ Some n
 
--- and the number that stands in the header of a group of which these were written: that, or how many arrays the group has, where all of them were
-abbrev pub StandsAsCount : (late : Bool) → (final written : List Array) → Option ℕ → Type 0
-StandsAsCount late final written numrecs = IsCountOf late (length final) numrecs ⊎ ((written ≡ final) × (numrecs ≡ Some (length final)))
-
 -- what was there before, a front of the file as it is before it ends, or the whole file
 pub data IsStanding (late : Bool) (final : List ℕ) (before now : Option (List ℕ)) : Type 0 where
   Kept : now ≡ before → IsStanding late final before now
@@ -36,8 +31,8 @@ pub data IsStanding (late : Bool) (final : List ℕ) (before now : Option (List 
   Whole : now ≡ Some final → IsStanding late final before now
 
 -- What is left where these files were written together and not all to their ends: each name is as before, has a front of its file as it is before it
--- ends, or the whole file. On one name the shelf may have failed, and there a count of records that is put in at the end may be any four bytes. Every
--- other name is as before, and the shelf tells its files as it did.
+-- ends, or the whole file. On one name the shelf may have failed, and there a count of records that is put in at the end may be any four bytes in the
+-- whole file. Every other name is as before, and the shelf tells its files as it did.
 pub record AreInterrupted (before : Option Files) (files : List OutFile) (now : Option Files) : Type 0 where
   pub told : is_some now ≡ is_some before
   pub torn : List ℕ

@@ -14,3 +14,4 @@ pub mod InTurn
 pub mod OpenFiles
 pub mod OpenFileLaws
 pub mod EndedFiles
+pub mod TornGroups

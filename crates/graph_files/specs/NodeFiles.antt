@@ -1,6 +1,7 @@
 -- The files of one file node while they are written: those of whole groups, and at most one that is open.
 use Rattle.std.specs.Prelude.{◌≡◌, ◌≢◌, ℕ, ◌+◌, ◌*◌, ◌/◌, ◌%◌, ◌<◌, ◌≤◌, ◌==◌, Bool, true, false, List, ◌∷◌, ◌++◌, [], length, min, Option, Some, None}
-use Rattle.std.specs.Prelude.{codes, if◌then◌else◌}
+use Rattle.std.specs.Prelude.{codes, is_some, if◌then◌else◌}
+use Rattle.std.specs.List.{flat_map}
 use Rattle.std.specs.Option.{ForSome}
 use Rattle.nd_base.specs.Array.{Array, StackValue}
 use Rattle.nd_base.specs.Forms.{longest_of}
@@ -8,7 +9,7 @@ use Rattle.nd_base.specs.declared.attribute.FileShape.{FileShape}
 use Rattle.nd_base.specs.declared.graph.Graph.{Graph}
 use Rattle.nd_base.specs.declared.graph.FileRule.{FileRule}
 use Rattle.edge_traits.specs.Files.{Files, HasFile, file_at, overwritten, with_file}
-use Rattle.cdf_write.specs.Layout.{layout}
+use Rattle.cdf_write.specs.Layout.{header, layout, row}
 use Rattle.cdf_write.specs.Lengths.{length_of}
 use Rattle.cdf_write.specs.Writable.{IsWritable}
 use Rattle.file_out.specs.declared.fault.SaveFault.{SaveFault}
@@ -99,13 +100,18 @@ abbrev pub HasNumrecs : (numrecs : Option ℕ) → Option Stream → Type 0
 HasNumrecs numrecs None = Unit {0}
 HasNumrecs numrecs (Some f) = f.numrecs ≡ numrecs
 
--- What a name may have once the shelf has failed on it: what it had, a front of the header and the rows that were handed in, or these
+-- What a name may have once the shelf has failed on it, in a call that came with these rows: what it had; a front of the header, where the file
+-- wasn't begun before; the header, the rows that it had and a front of those that came; or, once it has as many rows as it ends with, all of this
 -- with any four bytes for a number of records that was open.
-pub data IsTorn (before : Option (List ℕ)) (shape : FileShape) (numrecs : Option ℕ) (arrays : List Array) (now : Option (List ℕ)) : Type 0 where
-  Untouched : now ≡ before → IsTorn before shape numrecs arrays now
-  Front : (front rest : List ℕ) → begun_file shape numrecs arrays ≡ front ++ rest → now ≡ Some front → IsTorn before shape numrecs arrays now
-  Miscounted : numrecs ≡ None → (any : List ℕ) → length any ≡ 4 → now ≡ Some (overwritten (begun_file shape numrecs arrays) count_place any)
-      → IsTorn before shape numrecs arrays now
+pub data IsTorn (begun : Bool) (size : ℕ) (before : Option (List ℕ)) (shape : FileShape) (numrecs : Option ℕ) (had more : List Array)
+    (now : Option (List ℕ)) : Type 0 where
+  Untouched : now ≡ before → IsTorn begun size before shape numrecs had more now
+  Header : begun ≡ false → (front rest : List ℕ) → header shape numrecs ≡ front ++ rest → now ≡ Some front
+      → IsTorn begun size before shape numrecs had more now
+  Rows : (front rest : List ℕ) → flat_map (row shape) more ≡ front ++ rest → now ≡ Some (begun_file shape numrecs had ++ front)
+      → IsTorn begun size before shape numrecs had more now
+  Miscounted : numrecs ≡ None → size ≤ length (had ++ more) → (any : List ℕ) → length any ≡ 4
+      → now ≡ Some (overwritten (begun_file shape numrecs (had ++ more)) count_place any) → IsTorn begun size before shape numrecs had more now
 
 -- these arrays are in the node's files, but for the group whose name the shelf has failed on
 abbrev pub AreWrittenBut : NodeFile → List Array → (group : ℕ) → Option Files → Type 0
@@ -123,7 +129,8 @@ abbrev pub WriteStops : SaveFault → (x : NodeFile) → List Array → (group :
 WriteStops OutOfMemory x arrays group numrecs a y held now = AreWritten y arrays now × IsHeldBack x.current y.current held now
 WriteStops Failed x arrays group numrecs a y held now =
     (y.current ≡ None) × AreWrittenBut y arrays group now
-    × IsTorn (file_at held (name_of x group)) x.shape numrecs (group_of x.count group arrays ++ a ∷ []) (file_at now (name_of x group))
+    × IsTorn (is_some x.current) x.count (file_at held (name_of x group)) x.shape numrecs (group_of x.count group arrays) (a ∷ [])
+    (file_at now (name_of x group))
 
 -- each group of these arrays is a whole file
 abbrev pub AreEnded : NodeFile → List Array → Option Files → Type 0
@@ -131,7 +138,8 @@ AreEnded x arrays held = (i : ℕ) → HasBytes held (name_of x i) (whole_file x
 
 abbrev pub EndTorn : Option Stream → NodeFile → (group : ℕ) → List Array → (held now : Option Files) → Type 0
 EndTorn None x i arrays held now = ⊥
-EndTorn (Some f) x i arrays held now = IsTorn (file_at held (name_of x i)) x.shape f.numrecs arrays (file_at now (name_of x i))
+EndTorn (Some f) x i arrays held now =
+    IsTorn true (length arrays) (file_at held (name_of x i)) x.shape f.numrecs arrays [] (file_at now (name_of x i))
 
 -- what an end that failed leaves: all other groups, and the open file's name as it is torn
 abbrev pub EndStops : NodeFile → List Array → (held now : Option Files) → Type 0
@@ -151,8 +159,9 @@ abbrev pub RowGoes : (more : Bool) → Stream → List Array → (current : Opti
 RowGoes true f arrays current held = (current ≡ Some (record f { count = f.count + 1 })) × HasRows held (record f { count = f.count + 1 }) arrays
 RowGoes false f arrays current held = (current ≡ None) × HasFile held f.name (layout f.shape arrays)
 
--- a row that wasn't written whole
-abbrev pub RowStops : SaveFault → Stream → (a : Array) → (current : Option Stream) → (held now : Option Files) → Type 0
-RowStops OutOfMemory f a current held now = (current ≡ Some f) × (now ≡ held)
-RowStops Failed f a current held now =
-    (current ≡ None) × ((arrays : List Array) → HasRows held f arrays → IsTorn (file_at held f.name) f.shape f.numrecs (arrays ++ a ∷ []) (file_at now f.name))
+-- a row that wasn't written whole, to a file that ends with so many
+abbrev pub RowStops : SaveFault → (size : ℕ) → Stream → (a : Array) → (current : Option Stream) → (held now : Option Files) → Type 0
+RowStops OutOfMemory size f a current held now = (current ≡ Some f) × (now ≡ held)
+RowStops Failed size f a current held now =
+    (current ≡ None) × ((arrays : List Array) → HasRows held f arrays
+    → IsTorn true size (file_at held f.name) f.shape f.numrecs arrays (a ∷ []) (file_at now f.name))

@@ -97,29 +97,35 @@ module _ (g : Graph) (s : StackValue) (prefix : List ℕ) where
   of_node v [] k x h = let none_ : None ≡ Some x = h in absurd (cc)
   of_node v (n ∷ ns) k x h = by_kind v n ns (λ j y is. of_node (v + 1) ns j y is) n.kind refl k x h
 
-  abbrev Apart : List NodeFile → Type 0
-  Apart xs = (j k : ℕ) (x y : NodeFile) → slice_get xs j ≡ Some x → slice_get xs k ≡ Some y → j ≢ k → x.node ≢ y.node
+  abbrev Ordered : List NodeFile → Type 0
+  Ordered xs = (j k : ℕ) (x y : NodeFile) → slice_get xs j ≡ Some x → slice_get xs k ≡ Some y → j < k → x.node < y.node
 
-  apart-kind : (v : ℕ) (n : NodeRule) (ns : List NodeRule) → Apart (nodes_from g s prefix (v + 1) ns) → (c : Kind)
-      → Apart (kind_node g s prefix v n.name c ++ nodes_from g s prefix (v + 1) ns)
-  apart-kind v n ns rest (File r) zero zero x y hx hy ne = absurd (ne refl)
-  apart-kind v n ns rest (File r) zero (suc k) x y hx hy ne =
+  ordered-kind : (v : ℕ) (n : NodeRule) (ns : List NodeRule) → Ordered (nodes_from g s prefix (v + 1) ns) → (c : Kind)
+      → Ordered (kind_node g s prefix v n.name c ++ nodes_from g s prefix (v + 1) ns)
+  ordered-kind v n ns rest (File r) j zero x y hx hy less = absurd (omega (arith, less))
+  ordered-kind v n ns rest (File r) zero (suc k) x y hx hy less =
       let same : v ≡ x.node = ap (λ (z : NodeFile). z.node) (some-same {X = NodeFile} {x = node_file g s prefix v r n.name} {y = x} hx) in
       let above = (of_node (v + 1) ns k y hy).node in
-      (λ e. absurd (omega (arith, same, above, e)))
-  apart-kind v n ns rest (File r) (suc j) zero x y hx hy ne =
-      let same : v ≡ y.node = ap (λ (z : NodeFile). z.node) (some-same {X = NodeFile} {x = node_file g s prefix v r n.name} {y = y} hy) in
-      let above = (of_node (v + 1) ns j x hx).node in
-      (λ e. absurd (omega (arith, same, above, e)))
-  apart-kind v n ns rest (File r) (suc j) (suc k) x y hx hy ne = rest j k x y hx hy (λ e. ne (ap suc e))
-  apart-kind v n ns rest (Roi r) j k x y hx hy ne = rest j k x y hx hy ne
-  apart-kind v n ns rest (Stats r) j k x y hx hy ne = rest j k x y hx hy ne
-  apart-kind v n ns rest (Circular r) j k x y hx hy ne = rest j k x y hx hy ne
-  apart-kind v n ns rest Scatter j k x y hx hy ne = rest j k x y hx hy ne
+      omega (arith, same, above)
+  ordered-kind v n ns rest (File r) (suc j) (suc k) x y hx hy less = rest j k x y hx hy (omega (arith, less))
+  ordered-kind v n ns rest (Roi r) j k x y hx hy less = rest j k x y hx hy less
+  ordered-kind v n ns rest (Stats r) j k x y hx hy less = rest j k x y hx hy less
+  ordered-kind v n ns rest (Circular r) j k x y hx hy less = rest j k x y hx hy less
+  ordered-kind v n ns rest Scatter j k x y hx hy less = rest j k x y hx hy less
 
-  nodes-apart : (v : ℕ) (ns : List NodeRule) → Apart (nodes_from g s prefix v ns)
-  nodes-apart v [] j k x y hx hy ne = let none_ : None ≡ Some x = hx in absurd (cc)
-  nodes-apart v (n ∷ ns) j k x y hx hy ne = apart-kind v n ns (λ a b z w hz hw off. nodes-apart (v + 1) ns a b z w hz hw off) n.kind j k x y hx hy ne
+  -- the files come in the order of their nodes
+  pub nodes-ordered : (v : ℕ) (ns : List NodeRule) → Ordered (nodes_from g s prefix v ns)
+  nodes-ordered v [] j k x y hx hy less = let none_ : None ≡ Some x = hx in absurd (cc)
+  nodes-ordered v (n ∷ ns) j k x y hx hy less =
+      ordered-kind v n ns (λ a b z w hz hw below. nodes-ordered (v + 1) ns a b z w hz hw below) n.kind j k x y hx hy less
+
+  nodes-apart : (v : ℕ) (ns : List NodeRule) (j k : ℕ) (x y : NodeFile) → slice_get (nodes_from g s prefix v ns) j ≡ Some x
+      → slice_get (nodes_from g s prefix v ns) k ≡ Some y → j ≢ k → x.node ≢ y.node
+  nodes-apart v ns j k x y hx hy ne e =
+      elim (cases_lt j k) [
+        | inl below ↦ absurd (omega (arith, e, nodes-ordered v ns j k x y hx hy below))
+        | inr above ↦ absurd (omega (arith, e, nodes-ordered v ns k j y x hy hx (omega (arith, above, ne))))
+      ]
 
 -- no two nodes have one name
 pub rules-apart : (ns : List NodeRule) → AllPairs (λ (m n : NodeRule). m.name ≢ n.name) ns → (j k : ℕ) (m n : NodeRule) → slice_get ns j ≡ Some m

@@ -83,4 +83,5 @@ abbrev pub AllStops : SaveFault → (before : Option Files) → (x : NodeFile) �
 AllStops OutOfMemory before x ys written group numrecs a held now = AllWritten before ys written now
 AllStops Failed before x ys written group numrecs a held now =
     AllWrittenBut before ys written x group now
-    × IsTorn (file_at held (name_of x group)) x.shape numrecs (group_of x.count group (written x.node) ++ a ∷ []) (file_at now (name_of x group))
+    × IsTorn (is_some x.current) x.count (file_at held (name_of x group)) x.shape numrecs (group_of x.count group (written x.node)) (a ∷ [])
+    (file_at now (name_of x group))

@@ -190,7 +190,7 @@ impl NodeFiles {
         ensures ok { OnOk result ((arrays : List Array) → HasRows (K.held shelf.old) file arrays
             → RowGoes (nat_lt (place + 1) self.old.count) file
             (arrays ++ array_of head.now file.shape.kind file.shape.dims samples.now ∷ []) self.new.current (K.held shelf.new)) }
-        ensures err { IfErr result (λ fault. RowStops fault file (array_of head.now file.shape.kind file.shape.dims samples.now) self.new.current
+        ensures err { IfErr result (λ fault. RowStops fault self.old.count file (array_of head.now file.shape.kind file.shape.dims samples.now) self.new.current
             (K.held shelf.old) (K.held shelf.new)) }
         ensures changed { IsChangedAt (K.held shelf.old) file.name (K.held shelf.new) }
         ensures cause { IsSaveCause result (K.faults shelf.old) (K.faults shelf.new) }
@@ -220,8 +220,9 @@ impl NodeFiles {
     /// # Errors
     ///
     /// After want of memory the array isn't written, and may be written again. `Failed` where the shelf failed: its count of faults
-    /// rose. The files are then as they were, but for the group's own, which isn't open any more: its name is as before, has a front
-    /// of the header and the rows, or these with any number of records where the header left it open.
+    /// rose. The files are then as they were, but for the group's own, which isn't open any more: its name has what it had, a front of the
+    /// header where the file wasn't begun, or the header, the rows and a front of the new one. With the group's last row it may have all
+    /// of these, with any number of records where the header left it open.
     pub fn write<K: Shelf>(
         &mut self,
         alloc: Global,
@@ -277,7 +278,7 @@ impl NodeFiles {
         ensures ok { OnOk result
             (RowsGo (nat_lt (place + count) self.old.count) file count rows.now self.new.current (K.held shelf.old) (K.held shelf.new)) }
         ensures ended { OnErr result (self.new.current ≡ None) }
-        ensures err { OnErr result (RowsStop file count rows.now (K.held shelf.old) (K.held shelf.new)) }
+        ensures err { OnErr result (RowsStop self.old.count file count rows.now (K.held shelf.old) (K.held shelf.new)) }
         ensures failed { IfErr result (λ fault. fault ≡ faults.Failed) }
         ensures cause { IsSaveCause result (K.faults shelf.old) (K.faults shelf.new) }
     {
@@ -299,8 +300,9 @@ impl NodeFiles {
     /// # Errors
     ///
     /// After want of memory nothing has changed. `Failed` where the shelf failed: its count of faults rose. The files are then as they
-    /// were, but for the group's own, which isn't open any more: its name is as before, has a front of the header and the rows, or
-    /// these with any number of records where the header left it open.
+    /// were, but for the group's own, which isn't open any more: its name has what it had, a front of the header where the file wasn't
+    /// begun, or the header, the rows and a front of the new ones. With the group's last row it may have all of these, with any number
+    /// of records where the header left it open.
     pub fn write_rows<K: Shelf>(
         &mut self,
         alloc: Global,

@@ -1,4 +1,6 @@
-use Rattle.std.proofs.Common.{sym, subst, ◌≡◌, ◌+◌, ◌++◌, ◌∷◌, []}
+use Rattle.std.proofs.Common.{sym, subst, ◌≡◌, ◌+◌, ◌≤◌, ◌∷◌, [], false, arith, rules}
+use Rattle.std.specs.Prelude.{nat_lt}
+use Rattle.std.proofs.lemmas.Bool.{ltb-false}
 use Rattle.nd_base.specs.Shapes.{array_of}
 use Rattle.file_out.specs.declared.fault.SaveFault.{SaveFault}
 use Rattle.file_out.specs.StreamLaws.{HasRange-HasRows}
@@ -9,7 +11,7 @@ use Rattle.graph_files.proofs.node_files.NodeFiles.add_row.Goals as goal
 
 pub returns-in-Err-Failed-clause-err : goal.returns-in-Err-Failed-clause-err
 returns-in-Err-Failed-clause-err g c =
-    (c.requires.none, λ arrays has. torn-add _ _ c.args.file arrays _ c.in-Err-Failed.field-0 c.in-Err-Failed.field-0-is has c.in-Err-Failed.ensures.err)
+    (c.requires.none, λ arrays has. torn-add _ _ _ c.args.file arrays _ c.in-Err-Failed.field-0 c.in-Err-Failed.field-0-is has c.in-Err-Failed.ensures.err)
 
 pub returns-in-Err-Failed-clause-changed : goal.returns-in-Err-Failed-clause-changed
 returns-in-Err-Failed-clause-changed g c = changed-add c.in-Err-Failed.field-0 _ _ c.args.file.name _ c.in-Err-Failed.ensures.err
@@ -32,10 +34,13 @@ returns-in-Err-clause-err g c =
     let file : c.add.new.self ≡ record c.args.file { count = c.args.file.count + 1 } = c.in-Ok.ensures.counted in
     let may = (rw file at c.in-Err.ensures.err) in
     let a = array_of c.args.head.now c.args.file.shape.kind c.args.file.shape.dims c.args.samples.now in
-    subst (λ (f : SaveFault). RowStops f c.args.file a c.args.self.now.current (g.K.Shelf.held c.args.shelf.now) (g.K.Shelf.held c.end.new.shelf))
+    let size = c.args.self.now.count in
+    let last : nat_lt (c.args.place + 1) size ≡ false = search rules in
+    let full : size ≤ c.args.file.count + 1 = omega (arith, ltb-false (c.args.place + 1) size last, c.requires.room.1) in
+    subst (λ (f : SaveFault). RowStops f size c.args.file a c.args.self.now.current (g.K.Shelf.held c.args.shelf.now) (g.K.Shelf.held c.end.new.shelf))
     (sym c.in-Err.ensures.failed) (
       c.requires.none,
-      λ arrays has. torn-ended _ _ _ c.args.file (c.args.file.count + 1) _ (arrays ++ a ∷ []) c.in-Ok.ensures.ok
+      λ arrays has. torn-ended size _ _ _ c.args.file (c.args.file.count + 1) _ arrays (a ∷ []) full c.in-Ok.ensures.ok
           (rw file at (c.in-Ok.ensures.rows arrays has)) may,
     )
 

@@ -1,5 +1,6 @@
-use Rattle.std.proofs.Common.{◌≡◌, ◌+◌, false, sym, subst, rules}
+use Rattle.std.proofs.Common.{◌≡◌, ◌+◌, false, inr, sym, subst, arith, rules}
 use Rattle.std.specs.Prelude.{nat_lt, Bool}
+use Rattle.std.proofs.lemmas.Bool.{ltb-false}
 use Rattle.file_out.specs.StreamLaws.{HasRange-HasRows}
 use Rattle.graph_files.specs.InTurn.{RowsGo}
 use Rattle.graph_files.proofs.Torn.{changed-count}
@@ -25,4 +26,16 @@ returns-in-Ok-clause-ok g c =
         changed-count _ _ f.name f.numrecs (f.count + c.args.count) (rw file at c.in-Ok.ensures.ok),
         (rw file at c.in-Ok.ensures.layout),
       ),
+    )
+
+pub returns-in-Err-clause-err : goal.returns-in-Err-clause-err
+returns-in-Err-clause-err g c =
+    let f = c.args.file in
+    let file : c.add_rows.new.self ≡ record f { count = f.count + c.args.count } = c.in_ok-add_rows.ensures.counted in
+    let last : nat_lt (c.args.place + c.args.count) c.args.self.now.count ≡ false = search rules in
+    inr (
+      g.K.Shelf.held c.add_rows.new.shelf,
+      c.in_ok-add_rows.ensures.ok,
+      omega (arith, ltb-false (c.args.place + c.args.count) c.args.self.now.count last, c.requires.room.1),
+      (rw file at c.in-Err.ensures.err),
     )

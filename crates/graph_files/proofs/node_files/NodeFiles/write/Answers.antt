@@ -43,7 +43,7 @@ returns-in-Some-clause-numrecs g c =
     subst (λ (k : Stream). HasRows (g.K.Shelf.held c.args.shelf.now) k (group_of x.count c.args.group w.0)) (sym f)
     (open-has x w.0 c.args.group c.args.place _ w.1 w.2 c.in-Some.file is) in
     let given : c.in-Some.file.numrecs ≡ first_count x.late c.args.of = subst (HasNumrecs (first_count x.late c.args.of)) is c.requires.numrecs in
-    numrecs-after c.add_row.result _ c.in-Some.file _ _ _ _ _ (first_count x.late c.args.of) given rows c.add_row.ensures.ok c.add_row.ensures.err
+    numrecs-after c.add_row.result _ _ c.in-Some.file _ _ _ _ _ (first_count x.late c.args.of) given rows c.add_row.ensures.ok c.add_row.ensures.err
 
 pub returns-in-Some-clause-ok : goal.returns-in-Some-clause-ok
 returns-in-Some-clause-ok g c =
@@ -62,12 +62,13 @@ returns-in-Some-clause-err g c =
     let x = c.args.self.now in
     let is : x.current ≡ Some c.in-Some.file = search rules in
     let node : c.add_row.new.self ≡ record x { current = c.add_row.new.self.current } = search rules in
+    let many : c.self.inside.count ≡ x.count = search rules in
     let small : c.args.group < 2 ^ 64 = omega arith in
     let make : FileShape → Array = λ shape. array_of c.args.head.now shape.kind shape.dims c.args.samples.now in
     let given : c.in-Some.file.numrecs ≡ first_count x.late c.args.of = subst (HasNumrecs (first_count x.late c.args.of)) is c.requires.numrecs in
     if-err c.add_row.result c.add_row.ensures.err (λ fault stops arrays place h.
     some-stops x c.add_row.new.self c.args.group c.args.place small make _ _ node arrays place h c.in-Some.file is c.add_row.ensures.changed fault
-    (first_count x.late c.args.of) given stops)
+    c.self.inside.count many (first_count x.late c.args.of) given stops)
 
 pub returns-in-Some-clause-changed : goal.returns-in-Some-clause-changed
 returns-in-Some-clause-changed g c =
@@ -117,7 +118,7 @@ returns-in_ok-file-in-None-clause-numrecs g c =
     let x = c.args.self.now in
     let f = c.in_ok-file-in-None.file in
     let value = subst (λ (k : NodeFile). f ≡ stream_of k c.args.group 0 (first_count k.late c.args.of)) c.self.view_is c.in_ok-file-in-None.ensures.value in
-    numrecs-after c.add_row-in-None.result _ f [] _ _ _ _ (first_count x.late c.args.of)
+    numrecs-after c.add_row-in-None.result _ _ f [] _ _ _ _ (first_count x.late c.args.of)
     (ap (λ (k : Stream). k.numrecs) value) c.in_ok-file-in-None.ensures.rows
     c.add_row-in-None.ensures.ok c.add_row-in-None.ensures.err
 
@@ -146,6 +147,7 @@ returns-in_ok-file-in-None-clause-err g c =
     let x = c.args.self.now in
     let none_ : x.current ≡ None = search rules in
     let node : c.add_row-in-None.new.self ≡ record x { current = c.add_row-in-None.new.self.current } = search rules in
+    let many : c.self.inside.count ≡ x.count = search rules in
     let small : c.args.group < 2 ^ 64 = omega arith in
     let make : FileShape → Array = λ shape. array_of c.args.head.now shape.kind shape.dims c.args.samples.now in
     let f = c.in_ok-file-in-None.file in
@@ -158,7 +160,7 @@ returns-in_ok-file-in-None-clause-err g c =
     if-err c.add_row-in-None.result c.add_row-in-None.ensures.err (λ fault stops arrays place h.
     none-stops x c.add_row-in-None.new.self c.args.group c.args.place small make t _ node arrays place h none_
     (first_count x.late c.args.of) f value v made c.in_ok-file-in-None.ensures.rows
-    c.add_row-in-None.ensures.changed fault stops)
+    c.add_row-in-None.ensures.changed fault c.self.inside.count many stops)
 
 pub returns-in_ok-file-in-None-clause-changed : goal.returns-in_ok-file-in-None-clause-changed
 returns-in_ok-file-in-None-clause-changed g c =
