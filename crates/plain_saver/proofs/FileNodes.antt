@@ -103,7 +103,7 @@ one-node g sound (suc j) (suc k) m n at_m at_n same =
 
 module _ (g : Graph) (s : StackValue) (prefix : List ℕ) (sound : IsGraph g) (xs : List NodeFile) (nodes : map closed xs ≡ file_nodes g s prefix) where
   -- the files of a list are those of the graph, whatever is open
-  in-graph : (j : ℕ) (x : NodeFile) → slice_get xs j ≡ Some x → slice_get (file_nodes g s prefix) j ≡ Some (closed x)
+  pub in-graph : (j : ℕ) (x : NodeFile) → slice_get xs j ≡ Some x → slice_get (file_nodes g s prefix) j ≡ Some (closed x)
   in-graph j x at = ap (λ (ys : List NodeFile). slice_get ys j) (sym nodes) ∙ slice_get-map closed xs j ∙ ap (option_map closed) at
 
   -- each of these is of a file node

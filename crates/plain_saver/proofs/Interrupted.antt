@@ -114,6 +114,27 @@ module _ (g : Graph) (s : StackValue) (prefix : List ℕ) (sound : IsGraph g) (k
 
   -- AS IT IS
 
+  -- a group's name that has nothing is as before
+  pub saved-fresh : (k i : ℕ) (x : NodeFile) → slice_get xs k ≡ Some x → IsFilledGroup g s x i → group_file x (W x.node) i ≡ None
+      → file_at t (name_of x i) ≡ file_at before (name_of x i)
+  saved-fresh k i x at filled none =
+      h.others (name_of x i) (none-elsewhere g s prefix sound xs h.nodes W (λ j y is. few y) k x at i (low x i (file k x at) filled) none)
+      (group-no_rows g s prefix sound xs h.nodes k x at i)
+
+  -- a group whose file is open has an array
+  pub open-row : (k i : ℕ) (x : NodeFile) (at : slice_get xs k ≡ Some x) (o : Stream) → x.current ≡ Some o → i ≡ length (W x.node) / x.count
+      → 1 ≤ length (group_of x.count i (W x.node))
+  open-row k i x at o is here =
+      let f = file k x at in
+      let place = next-place x.count (W x.node) f.some in
+      let long = length-group x.count (W x.node) (length (W x.node) / x.count) (length (W x.node) % x.count) place in
+      let rows = ap (λ (n : ℕ). n % x.count) (long-written x f) in
+      let row : 1 ≤ gone x.node % x.count = elim (cases_eq (gone x.node % x.count) 0) [
+        | inl none ↦ let clash : Some o ≡ None = sym is ∙ (h.groups k x at).between none in absurd (cc)
+        | inr some ↦ omega (arith, some)
+      ] in
+      subst (λ (w : ℕ). 1 ≤ length (group_of x.count w (W x.node))) (sym here) (omega (arith, long, rows, row))
+
   -- each group's name has a front of its file, or all of it
   pub saved-group : (k i : ℕ) (x : NodeFile) → slice_get xs k ≡ Some x → IsFilledGroup g s x i
       → IsStanding x.late (layout x.shape (group_of x.count i (all_out g s x.node))) (file_at before (name_of x i)) (file_at t (name_of x i))
@@ -122,8 +143,7 @@ module _ (g : Graph) (s : StackValue) (prefix : List ℕ) (sound : IsGraph g) (k
       let group = h.groups k x at in
       standing-by x.late (layout x.shape (group_of x.count i (all_out g s x.node))) (name_of x i) before t h.told (λ told.
       standing-has g s prefix kept ps h.passes x f i (file_at before (name_of x i)) t told (group.written.each i) group.numrecs
-      (λ none. interrupted.Kept (h.others (name_of x i) (none-elsewhere g s prefix sound xs h.nodes W (λ j y is. few y) k x at i (low x i f filled) none)
-      (group-no_rows g s prefix sound xs h.nodes k x at i)))
+      (λ none. interrupted.Kept (saved-fresh k i x at filled none))
       (group-has x (W x.node) f.some group.written.begun i))
 
   -- a name that stands is one of a group that has an array in the end
@@ -134,25 +154,11 @@ module _ (g : Graph) (s : StackValue) (prefix : List ℕ) (sound : IsGraph g) (k
       f : FileOf g s prefix x
       f = file k x at
 
-      -- an open file has a row
-      between : (o : Stream) → x.current ≡ Some o → 1 ≤ gone x.node % x.count
-      between o is =
-          elim (cases_eq (gone x.node % x.count) 0) [
-            | inl none ↦ let clash : Some o ≡ None = sym is ∙ (h.groups k x at).between none in absurd (cc)
-            | inr some ↦ omega (arith, some)
-          ]
-
       -- by what the name has
       long-by : GroupHas x (W x.node) i → IsFilledGroup g s x i
       long-by (Nothing is) = absurd (false≢true (sym (ap (λ (o : Option (List ℕ)). is_some o) is) ∙ named))
       long-by (Whole full is) = group-longer g s prefix kept ps h.passes x.count i x.node (omega (arith, full, f.some))
-      long-by (Opened o open_ here is) =
-          let place = next-place x.count (W x.node) f.some in
-          let long = length-group x.count (W x.node) (length (W x.node) / x.count) (length (W x.node) % x.count) place in
-          let rows = ap (λ (n : ℕ). n % x.count) (long-written x f) in
-          let row = between o open_ in
-          group-longer g s prefix kept ps h.passes x.count i x.node
-          (subst (λ (w : ℕ). 1 ≤ length (group_of x.count w (W x.node))) (sym here) (omega (arith, long, rows, row)))
+      long-by (Opened o open_ here is) = group-longer g s prefix kept ps h.passes x.count i x.node (open-row k i x at o open_ here)
 
   -- the rows of the arrays that have gone are a front of all rows
   pub saved-row : (v : ℕ) (n : NodeRule) (r : StatsRule) → rule_at g.nodes v ≡ Some n → n.kind ≡ Stats r

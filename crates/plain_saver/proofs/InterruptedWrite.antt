@@ -1,8 +1,8 @@
 -- What is left of a plain run's files where a write of the next array at a file node stopped.
-use Rattle.std.proofs.Common.{◌≡◌, ◌≢◌, inl, inr, ℕ, ◌/◌, ◌%◌, ◌^◌, ◌<◌, true, false, List, [], ◌∷◌, ◌++◌, length, map, set, refl, sym, ap, subst, ◌∙◌}
+use Rattle.std.proofs.Common.{◌≡◌, ◌≢◌, ◌⊎◌, inl, inr, ℕ, ◌*◌, ◌/◌, ◌%◌, ◌^◌, ◌<◌, true, false, List, [], ◌∷◌, ◌++◌, length, drop, map, set, refl, sym, ap, subst, ◌∙◌}
 use Rattle.std.proofs.Common.{arith, Option, None, Some}
 use Rattle.std.specs.Prelude.{slice_get, IsSome, is_some}
-use Rattle.std.proofs.Common.{length-append}
+use Rattle.std.proofs.Common.{length-append, length-take}
 use Rattle.std.proofs.lemmas.Option.{same_Some}
 use Rattle.nd_base.specs.Array.{Array, StackValue}
 use Rattle.nd_base.specs.GraphRules.{IsGraph}
@@ -12,30 +12,35 @@ use Rattle.cdf_write.specs.Layout.{layout}
 use Rattle.nd_stack.specs.KeptStacks.{IsKeptStack}
 use Rattle.file_out.specs.declared.fault.SaveFault.{SaveFault}
 use Rattle.file_out.specs.declared.fault.SaveFault.TheVariants.{Failed, OutOfMemory}
-use Rattle.file_out.specs.Streams.{Stream}
+use Rattle.file_out.specs.Streams.{Stream, begun_file}
 use Rattle.chain_plain.specs.Content.{content}
 use Rattle.chain_plain.specs.ContentLaws.{frame}
 use Rattle.chain_plain.specs.OneThread.{arrays_out, listed}
 use Rattle.chain_plain.specs.PlainRun.{passed}
-use Rattle.graph_files.specs.Groups.{group_of, HasBytes, file_of}
-use Rattle.graph_files.specs.GroupLaws.{group-more}
-use Rattle.graph_files.specs.Interrupted.{IsCountOf, IsBegunAs, AreInterrupted}
+use Rattle.graph_files.specs.Groups.{group_of, whole_file, file_of, HasBytes}
+use Rattle.graph_files.specs.GroupLaws.{group-more, length-group}
+use Rattle.graph_files.specs.Interrupted.{IsBegunAs, AreInterrupted}
 use Rattle.graph_files.specs.NodeFiles.{NodeFile, IsPlaceAfter, IsTorn, first_count, group_file, name_of}
-use Rattle.graph_files.specs.NodeFileLaws.{cases_eq, groups-differ, open-elsewhere, written-but}
+use Rattle.graph_files.specs.NodeFileLaws.{cases_eq, empty, groups-differ, none-is, open-elsewhere, open-here, written-but}
 use Rattle.graph_files.specs.OpenFiles.{closed, file_nodes, AllWrittenBut, IsElsewhere}
 use Rattle.graph_files.specs.InTurn.{TurnStops}
 use Rattle.graph_files.specs.OpenFileLaws.{get-set_same, get-set_other, all-but}
 use Rattle.graph_files.specs.OutFiles.{plain_files, stats_name}
-use Rattle.graph_files.proofs.BegunBytes.{begun-torn, group-front}
+use Rattle.graph_files.specs.TornGroups.{HasStood, IsTornName, IsTornAt, AreTornGroups}
+use Rattle.graph_files.proofs.BegunBytes.{begun-torn, group-front, none-behind}
+use Rattle.graph_files.proofs.Torn.{torn-at, torn-sized}
 use Rattle.graph_files.proofs.Writes.{next-place}
 use Rattle.plain_saver.specs.Passes.{pass_at, is_next}
 use Rattle.plain_saver.specs.Saved.{IsSaved, written, rows_of, group_size}
+use Rattle.plain_saver.specs.TornRuns.{IsTornRun}
 use Rattle.plain_saver.specs.declared.passes.Pass.{Pass}
-use Rattle.plain_saver.proofs.FileNodes.{FileOf, file-of, apart, closed-set, group-apart_stats, stats-elsewhere, none-elsewhere}
-use Rattle.plain_saver.proofs.Fronts.{length-written, written-few, next-out, group-low, group-sized, count-of}
+use Rattle.plain_saver.proofs.FileNodes.{FileOf, file-of, apart, closed-set, group-apart_stats, one-index, stats-elsewhere, none-elsewhere}
+use Rattle.plain_saver.proofs.Fronts.{length-written, written-few, next-out, group-low, has-numrecs}
 use Rattle.graph_files.proofs.PlainNames.{all_out, rows_file}
-use Rattle.plain_saver.proofs.Standing.{begun-of, standing-by, standing-then, StandsIn, stands-in, IsFilledGroup, group_record, IsNoName, interrupted-by}
-use Rattle.plain_saver.proofs.Interrupted.{same-file, saved-group, saved-long, saved-row, saved-away, saved-written, interrupted-saved}
+use Rattle.plain_saver.proofs.Standing.{begun-of, told-file, standing-by, standing-then, StandsIn, stands-in, IsFilledGroup, group_record, IsNoName, interrupted-by}
+use Rattle.plain_saver.proofs.Interrupted.{same-file, saved-fresh, saved-group, saved-long, saved-row, saved-away, saved-written}
+use Rattle.plain_saver.proofs.TornGroups.{torn-groups}
+use Rattle.plain_saver.proofs.TornSaved.{count-here, names-have, torn-saved}
 
 module _ (g : Graph) (s : StackValue) (prefix : List ℕ) (sound : IsGraph g) (kept : IsKeptStack s) (before : Option Files) (ps : List Pass)
     (xs : List NodeFile) (t : Option Files) {ts : List (List ℕ)} (h : IsSaved g s prefix before ps ts xs t) where
@@ -217,37 +222,123 @@ module _ (g : Graph) (s : StackValue) (prefix : List ℕ) (sound : IsGraph g) (k
                     (in-node i (subst (λ (w : NodeFile). IsFilledGroup g s w i) same filled))
               ]
 
+      -- each other group has what was written of it
+      has-but : (j i : ℕ) (y : NodeFile) → slice_get xs j ≡ Some y → (y.node ≢ x.node) ⊎ (i ≢ G) → HasBytes now (name_of y i) (group_file y (W y.node) i)
+      has-but j i y was off =
+          elim (cases_eq j at) [
+            | inr ne ↦ but.each j y i (get-set_other xs at j z ne ∙ was) (inl (apart g s prefix sound xs h.nodes j at y x was is ne).0)
+            | inl e ↦
+                let same : y ≡ x = same_Some y x (sym was ∙ ap (slice_get xs) e ∙ is) in
+                let ne : i ≢ G = elim off [ inl other ↦ absurd (other (ap (λ (w : NodeFile). w.node) same)) | inr far ↦ far ] in
+                subst (λ (w : NodeFile). HasBytes now (name_of w i) (group_file w (W w.node) i)) (sym same)
+                (subst (HasBytes now (name_of x i)) (same-group i ne) (but.each at z i (get-set_same xs at x z is) (inr ne)))
+          ]
+
+      still-but : (j i : ℕ) (y : NodeFile) → slice_get xs j ≡ Some y → (y.node ≢ x.node) ⊎ (i ≢ G) → IsFilledGroup g s y i
+          → group_file y (W y.node) i ≡ None → file_at now (name_of y i) ≡ file_at before (name_of y i)
+      still-but j i y was off filled none =
+          let smaller = low y i (file j y was) filled in
+          let kept_ : file_at now (name_of y i) ≡ file_at t (name_of y i) = elim (cases_eq j at) [
+            | inr ne ↦
+                let r = apart g s prefix sound xs h.nodes j at y x was is ne in
+                let there : slice_get ys j ≡ Some y = get-set_other xs at j z ne ∙ was in
+                but.others (name_of y i) (r.1 i G smaller small)
+                (none-elsewhere g s prefix sound ys nodes W (λ l w listed_w. few w) j y there i smaller none)
+            | inl e ↦
+                let same : y ≡ x = same_Some y x (sym was ∙ ap (slice_get xs) e ∙ is) in
+                let ne : i ≢ G = elim off [ inl other ↦ absurd (other (ap (λ (w : NodeFile). w.node) same)) | inr far ↦ far ] in
+                let none_ : group_file z (W x.node) i ≡ None =
+                same-group i ne ∙ subst (λ (w : NodeFile). group_file w (W w.node) i ≡ None) same none in
+                subst (λ (w : NodeFile). file_at now (name_of w i) ≡ file_at t (name_of w i)) (sym same)
+                (but.others (name_of x i) (λ eq. ne (groups-differ x i G smaller small eq))
+                (none-elsewhere g s prefix sound ys nodes W (λ l w listed_w. few w) at z (get-set_same xs at x z is) i smaller none_))
+          ] in
+          kept_ ∙ saved-fresh g s prefix sound kept before ps xs t h j i y was filled none
+
+      -- all groups by what the torn name has
+      groups-but : (zs : List Array)
+          → (is_some now ≡ true → IsTornName x.late x.shape (group_of x.count G (all_out g s x.node)) (group_of x.count G (W x.node)) zs
+          (file_at before (name_of x G)) (file_at now (name_of x G)))
+          → AreTornGroups g s prefix (λ v. all_out g s v) W before now
+      groups-but zs named =
+          torn-groups g s prefix sound xs h.nodes W before now x.node G zs false
+          (names-have g s prefix sound kept before ps xs t h now x.node G zs has-but still-but
+          (λ j y was node.
+          let same : y ≡ x = same_Some y x (sym was ∙ ap (slice_get xs) (one-index g s prefix sound xs h.nodes j at y x was is node) ∙ is) in
+          subst (λ (w : NodeFile). IsTornAt w.late w.shape (group_of w.count G (all_out g s w.node)) (group_of w.count G (W w.node)) zs before now (name_of w G))
+          (sym same)
+          (torn-at x.late x.shape (group_of x.count G (all_out g s x.node)) (group_of x.count G (W x.node)) zs before now (name_of x G) named)))
+
+    -- what the group's name had
+    file-here : (o : Option Stream) → x.current ≡ o → group_file x (W x.node) G ≡ file_of o x.shape (group_of x.count G (W x.node))
+    file-here o open_ =
+        ap (λ (w : Option Stream). file_of w x.shape (group_of x.count G (W x.node))) (open-here x (length (W x.node)) G (sym group-here) ∙ open_)
+
+    stood-by : is_some t ≡ true → (o : Option Stream) → x.current ≡ o
+        → HasStood (is_some o) x.shape (first_count x.late (Some (size x))) (group_of x.count G (W x.node)) (file_at before (name_of x G))
+        (file_at t (name_of x G))
+    stood-by told None open_ =
+        let long = length-group x.count (W x.node) G (gone x.node % x.count) place in
+        let first = none-is x (W x.node) G (gone x.node % x.count) t place (h.groups at x is).written open_ in
+        let empty_ : group_of x.count G (W x.node) ≡ [] = empty (group_of x.count G (W x.node)) (long ∙ first) in
+        (empty_, saved-fresh g s prefix sound kept before ps xs t h at G x is filled-here (file-here None open_ ∙ ap (whole_file x.shape) empty_))
+    stood-by told (Some f) open_ =
+        let zs = group_of x.count G (W x.node) in
+        let has = subst (HasBytes t (name_of x G)) (file-here (Some f) open_) ((h.groups at x is).written.each G) in
+        let same : f.numrecs ≡ first_count x.late (Some (size x)) = has-numrecs _ x.current f (h.groups at x is).numrecs open_ in
+        told-file t (name_of x G) (begun_file x.shape f.numrecs zs) told has ∙ ap (λ (m : Option ℕ). Some (begun_file x.shape m zs)) same
+
     -- a fault of the shelf on the group's name, while the rows of these were written
-    pub interrupted-rows : (zs rest : List Array) → group_of x.count G (all_out g s x.node) ≡ (group_of x.count G (W x.node) ++ zs) ++ rest
+    interrupted-rows : (zs rest : List Array) → group_of x.count G (all_out g s x.node) ≡ (group_of x.count G (W x.node) ++ zs) ++ rest
         → (now : Option Files)
         → AllWrittenBut t (set xs at (record x { current = None })) W x G now
-        → IsTorn (file_at t (name_of x G)) x.shape (first_count x.late (Some (size x))) (group_of x.count G (W x.node) ++ zs) (file_at now (name_of x G))
+        → IsTorn (is_some x.current) x.count (file_at t (name_of x G)) x.shape (first_count x.late (Some (size x))) (group_of x.count G (W x.node)) zs
+        (file_at now (name_of x G))
         → AreInterrupted before (plain_files g s prefix) now
     interrupted-rows zs rest parts now but torn =
         let full = group_of x.count G (all_out g s x.node) in
-        let count : IsCountOf x.late (length full) (first_count x.late (Some (size x))) =
-        subst (λ (n : ℕ). IsCountOf x.late n (first_count x.late (Some (size x))))
-        (sym (group-sized g s prefix kept ps h.passes x.count G x.node here.rule here.at (sym group-here))) (count-of x.late (size x) _ refl) in
+        let count = count-here g s prefix sound kept before ps xs t h at x is G (first_count x.late (Some (size x))) (sym group-here) refl in
         let was : IsBegunAs x.late (layout x.shape full) (file_at before (name_of x G)) (file_at t (name_of x G)) =
         begun-of x.late (layout x.shape full) (file_at before (name_of x G)) (file_at t (name_of x G))
         (saved-group g s prefix sound kept before ps xs t h at G x is filled-here) in
         interrupted-but None now but (name_of x G) (
           (λ away. absurd (away refl)),
-          begun-torn x.shape (group_of x.count G (W x.node) ++ zs) rest full parts (file_at before (name_of x G)) x.late
-              (first_count x.late (Some (size x))) (file_at t (name_of x G)) (file_at now (name_of x G)) count
+          begun-torn x.shape (group_of x.count G (W x.node)) zs rest full parts (file_at before (name_of x G)) (is_some x.current) x.count x.late
+              (first_count x.late (Some (size x))) (file_at t (name_of x G)) (file_at now (name_of x G))
+              (none-behind x.count G (all_out g s x.node) (group_of x.count G (W x.node) ++ zs) rest parts) count
               (λ same. subst (IsBegunAs x.late (layout x.shape full) (file_at before (name_of x G))) (sym same) was) torn,
         )
 
     -- a write of the rows of the next arrays that stopped
-    pub interrupted-turns : (fault : SaveFault) (zs rest : List Array) → group_of x.count G (all_out g s x.node) ≡ (group_of x.count G (W x.node) ++ zs) ++ rest
+    pub torn-turns : (fault : SaveFault) (zs rest : List Array) → group_of x.count G (all_out g s x.node) ≡ (group_of x.count G (W x.node) ++ zs) ++ rest
         → (o : Option Stream) (now : Option Files) → TurnStops fault x (Some (size x)) G (gone x.node % x.count) zs o t now
-        → AreInterrupted before (plain_files g s prefix) now
-    interrupted-turns OutOfMemory zs rest parts o now stops =
-        subst (AreInterrupted before (plain_files g s prefix)) (sym stops.1) (interrupted-saved g s prefix sound kept before ps xs t h)
-    interrupted-turns Failed zs rest parts o now stops =
+        → IsTornRun g s prefix before now
+    torn-turns OutOfMemory zs rest parts o now stops =
+        subst (IsTornRun g s prefix before) (sym stops.1) (torn-saved g s prefix sound kept before ps xs t h)
+    torn-turns Failed zs rest parts o now stops =
+        let full = group_of x.count G (all_out g s x.node) in
+        let numrecs = first_count x.late (Some (size x)) in
         let written_ = (h.groups at x is).written in
-        interrupted-rows zs rest parts now
-        (all-but xs at x None is (apart g s prefix sound xs h.nodes) G small t t now W (saved-written g s prefix sound kept before ps xs t h) stops.1
+        let torn = stops.2 (W x.node) place written_ in
+        let but =
+        all-but xs at x None is (apart g s prefix sound xs h.nodes) G small t t now W (saved-written g s prefix sound kept before ps xs t h) stops.1
         (written-but x (W x.node) G (gone x.node % x.count) t now place small written_ stops.1)
-        (λ i ne named. subst (λ (w : Option (List ℕ)). IsSome w) (sym (same-but None i ne)) named))
-        (stops.2 (W x.node) place written_)
+        (λ i ne named. subst (λ (w : Option (List ℕ)). IsSome w) (sym (same-but None i ne)) named) in
+        record {
+          files = interrupted-rows zs rest parts now but torn;
+          groups = (
+            W,
+            groups-but None now but zs (λ told. record {
+              rest = rest;
+              next = parts;
+              numrecs = numrecs;
+              count = count-here g s prefix sound kept before ps xs t h at x is G numrecs (sym group-here) refl;
+              begun = is_some x.current;
+              was = file_at t (name_of x G);
+              stood = stood-by (sym but.told ∙ told) x.current refl;
+              torn =
+                  torn-sized (is_some x.current) x.count (length full) (file_at t (name_of x G)) (file_at now (name_of x G)) x.shape numrecs
+                  (group_of x.count G (W x.node)) zs (omega (arith, length-take x.count (drop (G * x.count) (all_out g s x.node)))) torn;
+            }),
+          );
+        }

@@ -24,3 +24,5 @@ pub mod Writing
 pub mod KeptStacks
 pub mod Kept
 pub mod Dealt
+pub mod TornGroups
+pub mod TornSaved

@@ -77,7 +77,7 @@ same_piece i xs name q shape sh count c late l names shapes counts lates =
     ∙ ap (λ (w : ℕ). piece i xs q sh w late) counts ∙ ap (piece i xs q sh c) lates
 
 -- one kind has one rule
-file-same : (m q : FileRule) → File m ≡ File q → m ≡ q
+pub file-same : (m q : FileRule) → File m ≡ File q → m ≡ q
 file-same m q e = cc
 
 -- the group has an array in the end

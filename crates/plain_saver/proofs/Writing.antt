@@ -15,11 +15,10 @@ use Rattle.nd_stack.specs.KeptStacks.{IsKeptStack}
 use Rattle.chain_plain.specs.PlainRun.{passed}
 use Rattle.chain_plain.specs.PassedLaws.{passed-few}
 use Rattle.file_out.specs.declared.fault.SaveFault.{SaveFault}
-use Rattle.graph_files.specs.Interrupted.{AreInterrupted}
 use Rattle.graph_files.specs.NodeFiles.{NodeFile, IsPlaceAfter, IsSized, HasNumrecs, first_count}
-use Rattle.graph_files.specs.OutFiles.{plain_files}
 use Rattle.plain_saver.specs.declared.passes.Pass.{Pass}
 use Rattle.plain_saver.specs.Saved.{written, group_size, IsSaved, IsCounted, IsNextPlace}
+use Rattle.plain_saver.specs.TornRuns.{IsTornRun}
 use Rattle.cdf_write.specs.Layout.{row}
 use Rattle.chain_plain.specs.Content.{content}
 use Rattle.chain_plain.specs.ContentLaws.{frame}
@@ -36,7 +35,7 @@ use Rattle.plain_saver.proofs.Ahead.{content-of, length-from}
 use Rattle.plain_saver.proofs.ArraySteps.{place}
 use Rattle.plain_saver.proofs.FileNodes.{FileOf, file-of}
 use Rattle.plain_saver.proofs.Gone.{at-next, gone-below}
-use Rattle.plain_saver.proofs.InterruptedWrite.{interrupted-turns}
+use Rattle.plain_saver.proofs.InterruptedWrite.{torn-turns}
 use Rattle.plain_saver.proofs.TurnSteps.{IsPlaced, saved-turns}
 
 -- what is read of the list at a node is what is known of the node
@@ -185,9 +184,9 @@ module _ (g : Graph) (s : StackValue) (sound : IsGraph g) (kept : IsKeptStack s)
 
       -- a write that stopped
       pub stopped : (fault : SaveFault) (o : Option Stream) (now : Option Files) → TurnStops fault x (Some of) group at_group next o t now
-          → AreInterrupted before (plain_files g s prefix) now
+          → IsTornRun g s prefix before now
       stopped fault o now stops =
-          interrupted-turns g s prefix sound kept before ps xs t saved at k x is goes.next array.0 array.1 fault next next-front.0 next-front.1 o now
+          torn-turns g s prefix sound kept before ps xs t saved at k x is goes.next array.0 array.1 fault next next-front.0 next-front.1 o now
           (subst (λ m. TurnStops fault x (Some m) (gone / x.count) (gone % x.count) next o t now) size-is
           (subst (λ m. TurnStops fault x (Some of) (gone / x.count) m next o t now) goes.place_is
           (subst (λ m. TurnStops fault x (Some of) m at_group next o t now) goes.group_is stops)))

@@ -5,3 +5,4 @@ pub mod Saved
 pub mod BegunRows
 pub mod Rooms
 pub mod Sources
+pub mod TornRuns

@@ -6,13 +6,13 @@ ghost use Rattle.nd_base.specs.GraphRules.{rule_at};
 ghost use Rattle.nd_base.specs.declared.graph.Kind.TheVariants.{Stats};
 ghost use Rattle.edge_traits.specs.Files.{Files};
 ghost use Rattle.file_out.specs.Saving.{IsSaveCause};
-ghost use Rattle.graph_files.specs.Interrupted.{AreInterrupted};
 ghost use Rattle.graph_files.specs.NodeFiles.{NodeFile};
 ghost use Rattle.graph_files.specs.OutFiles.{plain_files, with_files};
 ghost use Rattle.plain_saver.specs.Passes.{IsAsked, is_next, pass_at, stepped, stepped_rows, with_gone};
 ghost use Rattle.plain_saver.specs.Rooms.{AreRooms};
 ghost use Rattle.plain_saver.specs.Saved.{IsSaved, AreLeftFrom, IsCounted, IsNextPlace, group_size};
 ghost use Rattle.plain_saver.specs.Texts.{AreEmptyTo, emptied, with_text};
+ghost use Rattle.plain_saver.specs.TornRuns.{IsTornRun};
 
 use crate::gathering::gather;
 use crate::passes::{Pass, passes};
@@ -73,7 +73,7 @@ impl Saver {
             IsSaved source.now.graph source.now.stack prefix.now (K.held shelf.old) x.passes.items x.texts x.files (K.held shelf.new)) }
         ensures left { IfOk result (λ x. AreLeftFrom source.now.graph x.passes.items x.files 0 0) }
         ensures rooms { IfOk result (λ x. AreRooms source.now.graph source.now.stack x.rooms) }
-        ensures err { OnErr result (AreInterrupted (K.held shelf.old) (plain_files source.now.graph source.now.stack prefix.now) (K.held shelf.new)) }
+        ensures err { OnErr result (IsTornRun source.now.graph source.now.stack prefix.now (K.held shelf.old) (K.held shelf.new)) }
         ensures cause { IsSaveCause result (K.faults shelf.old) (K.faults shelf.new) }
     {
         let plan = source.plan();
@@ -141,7 +141,7 @@ impl Saver {
             → IsSaved source.now.graph source.now.stack prefix before self.new.passes.items self.new.texts self.new.files (K.held shelf.new)) }
         ensures err { OnErr result ((prefix : List ℕ) (before : Option Files)
             → IsSaved source.now.graph source.now.stack prefix before self.old.passes.items self.old.texts self.old.files (K.held shelf.old)
-            → AreInterrupted before (plain_files source.now.graph source.now.stack prefix) (K.held shelf.new)) }
+            → IsTornRun source.now.graph source.now.stack prefix before (K.held shelf.new)) }
         ensures cause { IsSaveCause result (K.faults shelf.old) (K.faults shelf.new) }
     {
         source.known();
@@ -227,7 +227,7 @@ impl Saver {
             → IsSaved source.now.graph source.now.stack prefix.now before self.new.passes.items self.new.texts self.new.files (K.held shelf.new)) }
         ensures err { OnErr result ((before : Option Files)
             → IsSaved source.now.graph source.now.stack prefix.now before self.old.passes.items self.old.texts self.old.files (K.held shelf.old)
-            → AreInterrupted before (plain_files source.now.graph source.now.stack prefix.now) (K.held shelf.new)) }
+            → IsTornRun source.now.graph source.now.stack prefix.now before (K.held shelf.new)) }
         ensures cause { IsSaveCause result (K.faults shelf.old) (K.faults shelf.new) }
     {
         source.known();
@@ -263,7 +263,7 @@ impl Saver {
             → IsSaved source.now.graph source.now.stack prefix.now before self.new.passes.items self.new.texts self.new.files (K.held shelf.new)) }
         ensures err { OnErr result ((before : Option Files)
             → IsSaved source.now.graph source.now.stack prefix.now before self.old.passes.items self.old.texts self.old.files (K.held shelf.old)
-            → AreInterrupted before (plain_files source.now.graph source.now.stack prefix.now) (K.held shelf.new)) }
+            → IsTornRun source.now.graph source.now.stack prefix.now before (K.held shelf.new)) }
         ensures cause { IsSaveCause result (K.faults shelf.old) (K.faults shelf.new) }
     {
         source.known();
@@ -298,7 +298,7 @@ impl Saver {
             → IsSaved source.now.graph source.now.stack prefix.now before self.new.passes.items self.new.texts self.new.files (K.held shelf.new)) }
         ensures err { OnErr result ((before : Option Files)
             → IsSaved source.now.graph source.now.stack prefix.now before self.old.passes.items self.old.texts self.old.files (K.held shelf.old)
-            → AreInterrupted before (plain_files source.now.graph source.now.stack prefix.now) (K.held shelf.new)) }
+            → IsTornRun source.now.graph source.now.stack prefix.now before (K.held shelf.new)) }
         ensures cause { IsSaveCause result (K.faults shelf.old) (K.faults shelf.new) }
     {
         match &rule.kind {
@@ -336,7 +336,7 @@ impl Saver {
             → IsSaved source.now.graph source.now.stack prefix before self.new.passes.items self.new.texts self.new.files (K.held shelf.new)) }
         ensures err { OnErr result ((prefix : List ℕ) (before : Option Files)
             → IsSaved source.now.graph source.now.stack prefix before self.old.passes.items self.old.texts self.old.files (K.held shelf.old)
-            → AreInterrupted before (plain_files source.now.graph source.now.stack prefix) (K.held shelf.new)) }
+            → IsTornRun source.now.graph source.now.stack prefix before (K.held shelf.new)) }
         ensures cause { IsSaveCause result (K.faults shelf.old) (K.faults shelf.new) }
     {
         source.known();
@@ -367,7 +367,7 @@ impl Saver {
             → IsSaved source.now.graph source.now.stack prefix.now before self.new.passes.items self.new.texts self.new.files (K.held shelf.new)) }
         ensures err { OnErr result ((before : Option Files)
             → IsSaved source.now.graph source.now.stack prefix.now before self.old.passes.items self.old.texts self.old.files (K.held shelf.old)
-            → AreInterrupted before (plain_files source.now.graph source.now.stack prefix.now) (K.held shelf.new)) }
+            → IsTornRun source.now.graph source.now.stack prefix.now before (K.held shelf.new)) }
         ensures cause { IsSaveCause result (K.faults shelf.old) (K.faults shelf.new) }
     {
         let rules = source.rules();
@@ -399,7 +399,7 @@ impl Saver {
             → IsSaved source.now.graph source.now.stack prefix.now before self.new.passes.items self.new.texts self.new.files (K.held shelf.new)) }
         ensures err { OnErr result ((before : Option Files)
             → IsSaved source.now.graph source.now.stack prefix.now before self.old.passes.items self.old.texts self.old.files (K.held shelf.old)
-            → AreInterrupted before (plain_files source.now.graph source.now.stack prefix.now) (K.held shelf.new)) }
+            → IsTornRun source.now.graph source.now.stack prefix.now before (K.held shelf.new)) }
         ensures cause { IsSaveCause result (K.faults shelf.old) (K.faults shelf.new) }
     {
         match &rule.kind {
@@ -428,7 +428,7 @@ impl Saver {
             → IsSaved source.now.graph source.now.stack prefix.now before self.new.passes.items self.new.texts self.new.files (K.held shelf.new)) }
         ensures err { OnErr result ((before : Option Files)
             → IsSaved source.now.graph source.now.stack prefix.now before self.old.passes.items self.old.texts self.old.files (K.held shelf.old)
-            → AreInterrupted before (plain_files source.now.graph source.now.stack prefix.now) (K.held shelf.new)) }
+            → IsTornRun source.now.graph source.now.stack prefix.now before (K.held shelf.new)) }
         ensures cause { IsSaveCause result (K.faults shelf.old) (K.faults shelf.new) }
     {
         let rules = source.rules();
@@ -456,7 +456,7 @@ impl Saver {
             → K.held shelf.new ≡ with_files before (plain_files source.now.graph source.now.stack prefix.now)) }
         ensures err { OnErr result ((before : Option Files)
             → IsSaved source.now.graph source.now.stack prefix.now before self.passes.items self.texts self.files (K.held shelf.old)
-            → AreInterrupted before (plain_files source.now.graph source.now.stack prefix.now) (K.held shelf.new)) }
+            → IsTornRun source.now.graph source.now.stack prefix.now before (K.held shelf.new)) }
         ensures cause { IsSaveCause result (K.faults shelf.old) (K.faults shelf.new) }
     {
         let Saver {
@@ -487,7 +487,7 @@ impl Saver {
             → K.held shelf.new ≡ with_files before (plain_files source.now.graph source.now.stack prefix.now)) }
         ensures err { OnErr result ((before : Option Files)
             → IsSaved source.now.graph source.now.stack prefix.now before self.passes.items self.texts self.files (K.held shelf.old)
-            → AreInterrupted before (plain_files source.now.graph source.now.stack prefix.now) (K.held shelf.new)) }
+            → IsTornRun source.now.graph source.now.stack prefix.now before (K.held shelf.new)) }
         ensures cause { IsSaveCause result (K.faults shelf.old) (K.faults shelf.new) }
     {
         let mut saver = self;

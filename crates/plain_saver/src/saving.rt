@@ -6,8 +6,8 @@ ghost use Rattle.nd_stack.specs.KeptStacks.{IsKeptStack};
 ghost use Rattle.chain_plain.specs.Plans.{plan_of};
 ghost use Rattle.graph_conf.specs.Loads.{limit_fault};
 ghost use Rattle.file_out.specs.Saving.{IsSaveCause};
-ghost use Rattle.graph_files.specs.Interrupted.{AreInterrupted};
 ghost use Rattle.graph_files.specs.OutFiles.{plain_files, with_files};
+ghost use Rattle.plain_saver.specs.TornRuns.{IsTornRun};
 
 use crate::saver::Saver;
 use crate::source::Source;
@@ -36,7 +36,7 @@ pub fn save_files<K: Shelf>(
     requires kept { IsKeptStack stack.now }
     requires within { limit_fault plan.now.graph stack.now ≡ None }
     ensures ok { OnOk result (K.held shelf.new ≡ with_files (K.held shelf.old) (plain_files plan.now.graph stack.now prefix.now)) }
-    ensures err { OnErr result (AreInterrupted (K.held shelf.old) (plain_files plan.now.graph stack.now prefix.now) (K.held shelf.new)) }
+    ensures err { OnErr result (IsTornRun plan.now.graph stack.now prefix.now (K.held shelf.old) (K.held shelf.new)) }
     ensures cause { IsSaveCause result (K.faults shelf.old) (K.faults shelf.new) }
 {
     let source = Source { plan, stack };

@@ -1,4 +1,4 @@
-use Rattle.std.proofs.Common.{◌≡◌, List, sym, ap, subst, ◌∙◌, length}
+use Rattle.std.proofs.Common.{◌≡◌, List, refl, sym, ap, subst, ◌∙◌, length}
 use Rattle.std.proofs.lemmas.Result.{err_from_is_err_and}
 use Rattle.nd_base.specs.Array.{StackValue}
 use Rattle.nd_base.specs.declared.plan.Plan.{Plan}
@@ -6,13 +6,37 @@ use Rattle.graph_files.specs.NodeFiles.{NodeFile}
 use Rattle.graph_files.specs.OpenFiles.{file_nodes}
 use Rattle.plain_saver.specs.Saved.{IsSaved}
 use Rattle.plain_saver.proofs.Begins.{saved-none}
-use Rattle.plain_saver.proofs.Interrupted.{interrupted-begin}
+use Rattle.plain_saver.proofs.TornSaved.{torn-begin, torn-none}
 use Rattle.plain_saver.proofs.saver.Saver.begin.Goals as goal
+
+pub returns-in_err-new-clause-err : goal.returns-in_err-new-clause-err
+returns-in_err-new-clause-err g c =
+    let p = err_from_is_err_and c.from_residual.result c.from_residual.ensures.1 in
+    rw p.1 (torn-none c.args.source.now.graph c.args.source.now.stack c.args.prefix.now (g.K.Shelf.held c.args.shelf.now) (g.K.Shelf.held c.args.shelf.now)
+    c.plan-plan.ensures.known.graph refl)
+
+pub returns-in_err-passes-clause-err : goal.returns-in_err-passes-clause-err
+returns-in_err-passes-clause-err g c =
+    let p = err_from_is_err_and c.from_residual-in_err-passes.result c.from_residual-in_err-passes.ensures.1 in
+    rw p.1 (torn-none c.args.source.now.graph c.args.source.now.stack c.args.prefix.now (g.K.Shelf.held c.args.shelf.now) (g.K.Shelf.held c.args.shelf.now)
+    c.plan-plan.ensures.known.graph refl)
+
+pub returns-in_err-new-2-clause-err : goal.returns-in_err-new-2-clause-err
+returns-in_err-new-2-clause-err g c =
+    let p = err_from_is_err_and c.from_residual-in_err-new-2.result c.from_residual-in_err-new-2.ensures.1 in
+    rw p.1 (torn-none c.args.source.now.graph c.args.source.now.stack c.args.prefix.now (g.K.Shelf.held c.args.shelf.now) (g.K.Shelf.held c.args.shelf.now)
+    c.plan-plan.ensures.known.graph refl)
+
+pub returns-in_err-new-3-clause-err : goal.returns-in_err-new-3-clause-err
+returns-in_err-new-3-clause-err g c =
+    let p = err_from_is_err_and c.from_residual-in_err-new-3.result c.from_residual-in_err-new-3.ensures.1 in
+    rw p.1 (torn-none c.args.source.now.graph c.args.source.now.stack c.args.prefix.now (g.K.Shelf.held c.args.shelf.now) (g.K.Shelf.held c.args.shelf.now)
+    c.plan-plan.ensures.known.graph refl)
 
 pub returns-in_err-begin_rows-clause-err : goal.returns-in_err-begin_rows-clause-err
 returns-in_err-begin_rows-clause-err g c =
     let p = err_from_is_err_and c.from_residual-in_err-begin_rows.result c.from_residual-in_err-begin_rows.ensures.1 in
-    rw p.1 (interrupted-begin c.args.source.now.graph c.args.source.now.stack c.args.prefix.now (g.K.Shelf.held c.args.shelf.now)
+    rw p.1 (torn-begin c.args.source.now.graph c.args.source.now.stack c.args.prefix.now (g.K.Shelf.held c.args.shelf.now)
     (g.K.Shelf.held c.begin_rows.new.shelf) c.plan-plan.ensures.known.graph c.in_err-begin_rows.ensures.err)
 
 pub returns-clause-saved : goal.returns-clause-saved

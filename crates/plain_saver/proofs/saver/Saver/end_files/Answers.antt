@@ -2,13 +2,13 @@ use Rattle.std.proofs.Common.{sym, subst}
 use Rattle.std.specs.Prelude.{Option}
 use Rattle.std.proofs.lemmas.Result.{err_from_is_err_and, on_ok_weaker, on_err_weaker}
 use Rattle.edge_traits.specs.Files.{Files}
-use Rattle.graph_files.specs.Interrupted.{AreInterrupted}
 use Rattle.graph_files.specs.OpenFiles.{AllWritten}
-use Rattle.graph_files.specs.OutFiles.{plain_files}
 use Rattle.plain_saver.specs.Saved.{written}
+use Rattle.plain_saver.specs.TornRuns.{IsTornRun}
 use Rattle.plain_saver.proofs.Ended.{filled, saved-ended}
-use Rattle.plain_saver.proofs.Interrupted.{interrupted-saved, saved-written}
-use Rattle.plain_saver.proofs.InterruptedEnd.{interrupted-end}
+use Rattle.plain_saver.proofs.Interrupted.{saved-written}
+use Rattle.plain_saver.proofs.TornSaved.{torn-saved}
+use Rattle.plain_saver.proofs.InterruptedEnd.{torn-end}
 use Rattle.plain_saver.proofs.Standing.{HasFile-Stands}
 use Rattle.plain_saver.proofs.saver.Saver.end_files.Goals as goal
 
@@ -20,8 +20,8 @@ returns-in_err-finish_rows-clause-err g c =
     let p = err_from_is_err_and c.from_residual.result c.from_residual.ensures.1 in
     let graph = c.args.source.now.graph in
     let s = c.args.source.now.stack in
-    rw p.1 (λ before h. subst (AreInterrupted before (plain_files graph s c.args.prefix.now)) (sym c.finish_rows.ensures.still)
-    (interrupted-saved graph s c.args.prefix.now c.known.ensures.graph c.known.ensures.kept before c.args.self.passes.items c.args.self.files
+    rw p.1 (λ before h. subst (IsTornRun graph s c.args.prefix.now before) (sym c.finish_rows.ensures.still)
+    (torn-saved graph s c.args.prefix.now c.known.ensures.graph c.known.ensures.kept before c.args.self.passes.items c.args.self.files
     (g.K.Shelf.held c.args.shelf.now) h))
 
 pub end-requires-clause-written : goal.end-requires-clause-written
@@ -59,7 +59,7 @@ returns-clause-err g c =
     let t = g.K.Shelf.held c.args.shelf.now in
     let ps = c.args.self.passes.items in
     on_err_weaker c.end.result (λ stops before h.
-    interrupted-end graph s c.args.prefix.now c.known.ensures.graph c.known.ensures.kept before ps c.args.self.files t h c.requires.left
+    torn-end graph s c.args.prefix.now c.known.ensures.graph c.known.ensures.kept before ps c.args.self.files t h c.requires.left
     (g.K.Shelf.held c.end.new.shelf) (rw c.finish_rows.ensures.still at (stops t (written graph s ps)
     (subst (λ (w : Option Files). AllWritten t c.args.self.files (written graph s ps) w) (sym c.finish_rows.ensures.still)
     (saved-written graph s c.args.prefix.now c.known.ensures.graph c.known.ensures.kept before ps c.args.self.files t h))))) c.end.ensures.err

@@ -4,7 +4,7 @@ use Rattle.edge_traits.specs.Files.{MayAppend, Stands, with_more}
 use Rattle.graph_files.specs.OutFiles.{stats_name}
 use Rattle.plain_saver.specs.Saved.{IsSaved}
 use Rattle.plain_saver.specs.Texts.{text_at}
-use Rattle.plain_saver.proofs.Interrupted.{interrupted-saved, interrupted-row}
+use Rattle.plain_saver.proofs.TornSaved.{torn-saved, torn-row}
 use Rattle.plain_saver.proofs.Standing.{HasFile-Stands}
 use Rattle.plain_saver.proofs.RowSteps.{saved-put}
 use Rattle.plain_saver.proofs.Pushed.{node-place}
@@ -14,7 +14,7 @@ pub returns-in_err-file-clause-err : goal.returns-in_err-file-clause-err
 returns-in_err-file-clause-err g c =
     let p = err_from_is_err_and c.from_residual.result c.from_residual.ensures.1 in
     rw p.1 (λ before h.
-    interrupted-saved c.args.source.now.graph c.args.source.now.stack c.args.prefix.now c.known.ensures.graph c.known.ensures.kept before
+    torn-saved c.args.source.now.graph c.args.source.now.stack c.args.prefix.now c.known.ensures.graph c.known.ensures.kept before
     c.args.self.now.passes.items c.args.self.now.files (g.K.Shelf.held c.args.shelf.now) h)
 
 pub text-requires : goal.text-requires
@@ -45,7 +45,7 @@ returns-in_err-append-clause-err g c =
     let r = c.requires.rule in
     let name : c.as_str.result.now ≡ stats_name prefix r.0.name = c.as_str.ensures.value ∙ c.in_ok-file.ensures ∙ ap (stats_name prefix) (sym r.1.1.1) in
     rw w.1 (λ before h.
-    interrupted-row graph s prefix c.known.ensures.graph c.known.ensures.kept before c.args.self.now.passes.items c.args.self.now.files t h v r.0 r.1.0 r.1.1.0
+    torn-row graph s prefix c.known.ensures.graph c.known.ensures.kept before c.args.self.now.passes.items c.args.self.now.files t h v r.0 r.1.0 r.1.1.0
     r.1.1.2 u (subst (λ (n : List ℕ). MayAppend t n (text_at ts v) u) name
     (subst (λ (b : List ℕ). MayAppend t c.as_str.result.now b u) c.text.ensures c.in_err-append.ensures.err)))
 

@@ -16,7 +16,7 @@ use Rattle.plain_saver.specs.declared.passes.Pass.{Pass}
 use Rattle.plain_saver.specs.Ahead.{arrays_from}
 use Rattle.plain_saver.specs.Passes.{pass_at, with_gone}
 use Rattle.plain_saver.specs.Saved.{IsSaved}
-use Rattle.plain_saver.proofs.Interrupted.{interrupted-saved}
+use Rattle.plain_saver.proofs.TornSaved.{torn-saved}
 use Rattle.plain_saver.proofs.FileNodes.{file-of}
 use Rattle.plain_saver.proofs.Writing.{pass-read, counted, one-left, all-left, next-low, next-length, ready, stopped, written-then}
 use Rattle.plain_saver.proofs.saver.Saver.write_array.Goals as goal
@@ -137,7 +137,7 @@ pub returns-in_err-count-clause-err : goal.returns-in_err-count-clause-err
 returns-in_err-count-clause-err g c =
     let p = err_from_is_err_and c.from_residual.result c.from_residual.ensures.1 in
     rw p.1 (λ prefix before h.
-    interrupted-saved c.args.source.now.graph c.args.source.now.stack prefix c.known.ensures.graph c.known.ensures.kept before
+    torn-saved c.args.source.now.graph c.args.source.now.stack prefix c.known.ensures.graph c.known.ensures.kept before
     c.args.self.now.passes.items c.args.self.now.files (g.K.Shelf.held c.args.shelf.now) h)
 
 pub write_rows-requires-clause-ready : goal.write_rows-requires-clause-ready

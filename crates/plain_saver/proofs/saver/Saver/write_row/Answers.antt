@@ -1,6 +1,6 @@
 use Rattle.std.proofs.Common.{◌≤◌, sym, subst}
 use Rattle.std.proofs.lemmas.Result.{err_from_is_err_and}
-use Rattle.plain_saver.proofs.Interrupted.{interrupted-saved}
+use Rattle.plain_saver.proofs.TornSaved.{torn-saved}
 use Rattle.plain_saver.proofs.Pushed.{node-place}
 use Rattle.plain_saver.proofs.saver.Saver.write_row.Goals as goal
 
@@ -9,7 +9,7 @@ returns-in_err-keep_row-clause-err g c =
     let p = err_from_is_err_and c.from_residual.result c.from_residual.ensures.1 in
     let t = g.K.Shelf.held c.args.shelf.now in
     rw p.1 (λ before h.
-    interrupted-saved c.args.source.now.graph c.args.source.now.stack c.args.prefix.now c.known.ensures.graph c.known.ensures.kept before
+    torn-saved c.args.source.now.graph c.args.source.now.stack c.args.prefix.now c.known.ensures.graph c.known.ensures.kept before
     c.keep_row.new.self.passes.items c.keep_row.new.self.files t (c.in_err-keep_row.ensures.saved c.args.prefix.now before t h))
 
 pub keep_row-requires-clause-rule : goal.keep_row-requires-clause-rule
