@@ -56,6 +56,8 @@ module _ (s : Setting) (b new : BoardState) (pooled : s.pooled ≡ true) (legal 
     exact = refl;
     role = refl;
     last = refl;
+    owned = refl;
+    loads = refl;
     legal = a.legal;
     drained = a.drained;
   }

@@ -3,7 +3,7 @@ use Rattle.std.proofs.Common.{◌≡◌, ◌≢◌, ◌⊎◌, ℕ, ◌*◌, ◌
 use Rattle.std.proofs.Common.{subst, ◌∙◌, arith, inl, inr, Option, Some, None}
 use Rattle.std.specs.Prelude.{slice_get, IsSome, is_some, if◌then◌else◌}
 use Rattle.std.specs.Option.{option_map}
-use Rattle.std.proofs.Math.Nat.{mod-lt, mul-le-mul}
+use Rattle.std.proofs.Math.Nat.{mul-le-mul}
 use Rattle.std.proofs.lemmas.Bool.{and_parts, cases_Bool, cases_lt, eq-eqb, ne_eqb, false≢true}
 use Rattle.std.proofs.lemmas.Option.{slice_get-map, same_Some}
 use Rattle.std.proofs.lemmas.List.{append_assoc, append-nil, length-append, length-take, length-drop, length-map}
@@ -35,19 +35,21 @@ use Rattle.run_laws.specs.Results.{contents}
 use Rattle.graph_files.specs.Groups.{group_of, whole_file, file_of, HasBytes}
 use Rattle.graph_files.specs.GroupLaws.{group-is, group-more, length-group}
 use Rattle.graph_files.specs.NodeFiles.{NodeFile, IsOpenAfter, name_of, group_file, open_at}
-use Rattle.graph_files.specs.NodeFileLaws.{cases_eq, groups-differ}
+use Rattle.graph_files.specs.NodeFileLaws.{cases_eq, empty, groups-differ, none-is, open-here}
 use Rattle.graph_files.specs.OpenFiles.{closed, file_nodes, IsElsewhere}
 use Rattle.graph_files.specs.OpenFileLaws.{file_nodes-apart, far-none}
 use Rattle.graph_files.specs.OutFiles.{file_shape, group_name, is_stream}
 use Rattle.graph_files.proofs.Writes.{small-group, next-place}
 use Rattle.flow_saver.specs.GivenBack.{given_back, written_by}
 use Rattle.flow_saver.specs.HistoryFiles.{kind_group}
-use Rattle.graph_files.specs.Interrupted.{IsCountOf, StandsAsCount, IsBegunAs, AsBefore, IsBegunAt}
-use Rattle.flow_saver.specs.Ending.{IsTornName, IsTornAt, IsTornHistory}
+use Rattle.graph_files.specs.Interrupted.{IsCountOf, IsBegunAs, AsBefore, IsBegunAt}
+use Rattle.graph_files.specs.TornGroups.{HasStood, IsTornName}
+use Rattle.flow_saver.specs.Ending.{IsTornHistory}
 use Rattle.flow_saver.specs.Saver.{IsTornSince, IsFirstCount, back_of}
 use Rattle.flow_saver.specs.Remaining.{IsSavingAlone}
 use Rattle.graph_files.proofs.BegunBytes.{count-one, begun-front, begun-torn, begun-whole, group-front, group-full, GroupHas, Nothing, Whole, Opened}
-use Rattle.graph_files.proofs.BegunBytes.{group-has, group-apart}
+use Rattle.graph_files.proofs.BegunBytes.{file-some, full-file, group-has, group-apart, none-behind}
+use Rattle.graph_files.proofs.Torn.{torn-at, torn-sized}
 use Rattle.flow_saver.proofs.Groups as groups
 use Rattle.flow_saver.proofs.Groups.{some-is}
 use Rattle.flow_saver.proofs.Puts.{puts-few}
@@ -87,10 +89,6 @@ pub whole-some : (shape : FileShape) (zs : List Array) → 1 ≤ length zs → I
 whole-some shape [] some = absurd (omega arith)
 whole-some shape (a ∷ zs) some = refl
 
-pub file-some : (o : Option Stream) (shape : FileShape) (zs : List Array) → 1 ≤ length zs → file_of o shape zs ≡ None → ⊥
-file-some None shape zs some h = let clash : false ≡ true = sym (ap (λ (w : Option (List ℕ)). is_some w) h) ∙ whole-some shape zs some in false≢true clash
-file-some (Some f) shape zs some h = false≢true (sym (ap (λ (w : Option (List ℕ)). is_some w) h))
-
 none-some : (o : Option (List ℕ)) → o ≡ None → IsSome o → ⊥
 none-some None h s = false≢true s
 none-some (Some x) h s = false≢true (sym (ap (λ (w : Option (List ℕ)). is_some w) h))
@@ -111,21 +109,10 @@ open-count : (y : NodeFile) (n : ℕ) (o : Option Stream) (f : Stream) → o ≡
 open-count y n None f is begun = let none_ : None ≡ Some f = is in absurd (cc)
 open-count y n (Some e) f is begun = ap (λ (d : Stream). d.count) (same_Some f e (sym is) ∙ begun)
 
--- a full group is a whole file
-pub full-file : (x : NodeFile) (arrays : List Array) (i : ℕ) → 1 ≤ x.count → length (group_of x.count i arrays) ≡ x.count → GroupHas x arrays i
-    → group_file x arrays i ≡ Some (layout x.shape (group_of x.count i arrays))
-full-file x arrays i some full (Nothing none_) =
-    absurd (file-some (open_at x (length arrays) i) x.shape (group_of x.count i arrays) (omega (arith, full, some)) none_)
-full-file x arrays i some full (Whole also is) = is
-full-file x arrays i some full (Opened f open_ here is) =
-    let long = length-group x.count arrays (length arrays / x.count) (length arrays % x.count) (next-place x.count arrays some) in
-    let low = mod-lt (length arrays) (let e : 0 < x.count = omega (arith, some) in e) in
-    absurd (omega (arith, long, low, full, ap (λ (w : ℕ). length (group_of x.count w arrays)) here))
-
 -- NAMES OF GROUPS
 
 module _ (g : Graph) (stack : StackValue) (sound : IsGraph g) (prefix : List ℕ) (xs : List NodeFile) (nodes : map closed xs ≡ file_nodes g stack prefix) where
-  in-graph : (j : ℕ) (x : NodeFile) → slice_get xs j ≡ Some x → slice_get (file_nodes g stack prefix) j ≡ Some (closed x)
+  pub in-graph : (j : ℕ) (x : NodeFile) → slice_get xs j ≡ Some x → slice_get (file_nodes g stack prefix) j ≡ Some (closed x)
   in-graph j x at = ap (λ (ys : List NodeFile). slice_get ys j) (sym nodes) ∙ slice_get-map closed xs j ∙ ap (option_map closed) at
 
   apart-names : (j k : ℕ) (x y : NodeFile) → slice_get xs j ≡ Some x → slice_get xs k ≡ Some y → j ≢ k
@@ -251,6 +238,12 @@ module _ (g : Graph) (stack : StackValue) (sound : IsGraph g) (prefix : List ℕ
   torn-group : length (W t.node.node) / t.node.count ≡ t.group
   torn-group = group-is t.node.count (W t.node.node) t.group t.place t.place_is
 
+  torn-file : (o : Option Stream) → t.node.current ≡ o
+      → group_file t.node (W t.node.node) t.group ≡ file_of o t.node.shape (group_of t.node.count t.group (W t.node.node))
+  torn-file o is =
+      ap (λ (w : Option Stream). file_of w t.node.shape (group_of t.node.count t.group (W t.node.node)))
+      (open-here t.node (length (W t.node.node)) t.group (sym torn-group) ∙ is)
+
   torn-here : (j : ℕ) (x : NodeFile) → slice_get xs j ≡ Some x → j ≡ t.at → closed x ≡ closed t.node
   torn-here j x at here = ap closed (same_Some x now-at.files (sym at ∙ ap (λ (w : ℕ). slice_get xs w) here ∙ now-at.listed)) ∙ now-at.same
 
@@ -357,9 +350,11 @@ module _ (g : Graph) (stack : StackValue) (sound : IsGraph g) (prefix : List ℕ
         let all : F t.node.node ≡ (W t.node.node ++ t.array ∷ []) ++ r.0 = r.1 ∙ ap (λ zs. zs ++ r.0) back-here in
         let front = group-front t.node.count t.group (W t.node.node ++ t.array ∷ []) r.0 in
         let more = group-more t.node.count (W t.node.node) t.array t.group t.place t.place_is in
-        begun-torn t.node.shape (group_of t.node.count t.group (W t.node.node) ++ t.array ∷ []) front.0 (group_of t.node.count t.group (F t.node.node))
-        (ap (group_of t.node.count t.group) all ∙ front.1 ∙ ap (λ zs. zs ++ front.0) more) (file_at before (name_of t.node t.group)) t.node.late t.numrecs
+        let parts = ap (group_of t.node.count t.group) all ∙ front.1 ∙ ap (λ zs. zs ++ front.0) more in
+        begun-torn t.node.shape (group_of t.node.count t.group (W t.node.node)) (t.array ∷ []) front.0 (group_of t.node.count t.group (F t.node.node))
+        parts (file_at before (name_of t.node t.group)) (is_some t.node.current) t.node.count t.node.late t.numrecs
         (file_at t.then_held (name_of t.node t.group)) (file_at held (name_of t.node t.group))
+        (none-behind t.node.count t.group (F t.node.node) (group_of t.node.count t.group (W t.node.node) ++ t.array ∷ []) front.0 parts)
         (count-by (past b) t.node t.group (F t.node.node) t.node.late t.numrecs torn-node t.first)
         (then-goal (group-has t.node (W t.node.node) torn-some (t.written.each t.at t.node t.listed).begun t.group) (file_at held (name_of t.node t.group)))
         t.stops.1
@@ -452,24 +447,21 @@ module _ (g : Graph) (stack : StackValue) (sound : IsGraph g) (prefix : List ℕ
       let least : i * 1 ≤ i * x.count = mul-le-mul (let same : i ≤ i = omega arith in same) (some-at j x at) in
       omega (arith, some, taken, dropped, all-written j x at, put, ids, kept.few, least)
 
-  -- the number in the header of a group that has an array
+  -- the number in the header of a group that has an array, and not as many as a group takes
   begun-count : (j : ℕ) (x : NodeFile) (at : slice_get xs j ≡ Some x) (i : ℕ) → (j ≢ t.at) ⊎ (i ≢ t.group)
-      → 1 ≤ length (group_of x.count i (W x.node)) → GroupHas x (W x.node) i
-      → (numrecs : Option ℕ) × StandsAsCount x.late (group_of x.count i (F x.node)) (group_of x.count i (W x.node)) numrecs
+      → 1 ≤ length (group_of x.count i (W x.node)) → length (group_of x.count i (W x.node)) < x.count → GroupHas x (W x.node) i
+      → (numrecs : Option ℕ) × IsCountOf x.late (length (group_of x.count i (F x.node))) numrecs
       × (group_file x (W x.node) i ≡ Some (begun_file x.shape numrecs (group_of x.count i (W x.node))))
-  begun-count j x at i off some (Nothing none_) = absurd (file-some (open_at x (length (W x.node)) i) x.shape (group_of x.count i (W x.node)) some none_)
-  begun-count j x at i off some (Whole full is) =
-      let r = fronts x.node in
-      let same : group_of x.count i (F x.node) ≡ group_of x.count i (W x.node) =
-      ap (group_of x.count i) r.1 ∙ group-full x.count i (W x.node) r.0 (some-at j x at) full in
-      (Some (length (group_of x.count i (W x.node))), inr (sym same, ap (λ (zs : List Array). Some (length zs)) (sym same)), is)
-  begun-count j x at i off some (Opened f open_ here is) =
+  begun-count j x at i off some short (Nothing none_) =
+      absurd (file-some (open_at x (length (W x.node)) i) x.shape (group_of x.count i (W x.node)) some none_)
+  begun-count j x at i off some short (Whole full is) = absurd (omega (arith, full, short))
+  begun-count j x at i off some short (Opened f open_ here is) =
       let ne : j ≢ t.at = elim off [
         | inl other ↦ other
         | inr apart ↦ (λ e. apart (here ∙ ap (λ (z : NodeFile). length (W z.node) / z.count) (torn-here j x at e) ∙ torn-group))
       ] in
       let first = subst (λ (w : ℕ). IsFirstCount (past b) x.node x.count w x.late f.numrecs) (sym here) (t.begun j x f (others-before j x at ne) open_) in
-      (f.numrecs, inl (count-by (past b) x i (F x.node) x.late f.numrecs (all-written j x at) first), is)
+      (f.numrecs, count-by (past b) x i (F x.node) x.late f.numrecs (all-written j x at) first, is)
 
   -- a group that has none is untouched
   none-touched : (j : ℕ) (x : NodeFile) (at : slice_get xs j ≡ Some x) (i : ℕ) → i < 2 ^ 64 → (off : (j ≢ t.at) ⊎ (i ≢ t.group))
@@ -491,25 +483,31 @@ module _ (g : Graph) (stack : StackValue) (sound : IsGraph g) (prefix : List ℕ
       absurd (omega (arith, long, begun, row, none_))
 
   -- the torn name
-  stood-by : is_some held ≡ true → GroupHas t.node (W t.node.node) t.group
-      → (file_at t.then_held (name_of t.node t.group) ≡ file_at before (name_of t.node t.group))
-      ⊎ (file_at t.then_held (name_of t.node t.group) ≡ Some (begun_file t.node.shape t.numrecs (group_of t.node.count t.group (W t.node.node))))
-  stood-by told (Nothing none_) =
-      inl (t.written.others (name_of t.node t.group)
-      (none-elsewhere g stack sound prefix t.files (sym t.nodes ∙ nodes) W t.written.few t.at t.node t.listed t.group torn-small none_))
-  stood-by told (Whole full e) = absurd (omega (arith, full, length-group t.node.count (W t.node.node) t.group t.place t.place_is, t.place_is.within))
-  stood-by told (Opened f open_ here e) =
-      let has = subst (HasBytes t.then_held (name_of t.node t.group)) e ((t.written.each t.at t.node t.listed).each t.group) in
-      let first = subst (λ (w : ℕ). IsFirstCount (past b) t.node.node t.node.count w t.node.late f.numrecs) (sym here) (t.begun t.at t.node f t.listed open_) in
+  stood-by : is_some held ≡ true → (o : Option Stream) → t.node.current ≡ o
+      → HasStood (is_some o) t.node.shape t.numrecs (group_of t.node.count t.group (W t.node.node))
+      (file_at before (name_of t.node t.group)) (file_at t.then_held (name_of t.node t.group))
+  stood-by told None is =
+      let long = length-group t.node.count (W t.node.node) t.group t.place t.place_is in
+      let first = none-is t.node (W t.node.node) t.group t.place t.then_held t.place_is (t.written.each t.at t.node t.listed) is in
+      let none_ : group_of t.node.count t.group (W t.node.node) ≡ [] = empty (group_of t.node.count t.group (W t.node.node)) (long ∙ first) in
+      let file_ : group_file t.node (W t.node.node) t.group ≡ None = torn-file None is ∙ ap (whole_file t.node.shape) none_ in (
+        none_,
+        t.written.others (name_of t.node t.group)
+            (none-elsewhere g stack sound prefix t.files (sym t.nodes ∙ nodes) W t.written.few t.at t.node t.listed t.group torn-small file_),
+      )
+  stood-by told (Some f) is =
+      let has = subst (HasBytes t.then_held (name_of t.node t.group)) (torn-file (Some f) is) ((t.written.each t.at t.node t.listed).each t.group) in
+      let first =
+      subst (λ (w : ℕ). IsFirstCount (past b) t.node.node t.node.count w t.node.late f.numrecs) torn-group (t.begun t.at t.node f t.listed is) in
       let n = length (group_of t.node.count t.group (F t.node.node)) in
       let same : f.numrecs ≡ t.numrecs =
       count-one t.node.late n f.numrecs t.numrecs (count-by (past b) t.node t.group (F t.node.node) t.node.late f.numrecs (torn-node told) first)
       (count-by (past b) t.node t.group (F t.node.node) t.node.late t.numrecs (torn-node told) t.first) in
-      inr (told-file t.then_held (name_of t.node t.group) (begun_file t.node.shape f.numrecs (group_of t.node.count t.group (W t.node.node)))
-      (told-then told) has ∙ ap (λ (m : Option ℕ). Some (begun_file t.node.shape m (group_of t.node.count t.group (W t.node.node)))) same)
+      told-file t.then_held (name_of t.node t.group) (begun_file t.node.shape f.numrecs (group_of t.node.count t.group (W t.node.node)))
+      (told-then told) has ∙ ap (λ (m : Option ℕ). Some (begun_file t.node.shape m (group_of t.node.count t.group (W t.node.node)))) same
 
   torn-name : is_some held ≡ true
-      → IsTornName t.node.late t.node.shape (group_of t.node.count t.group (F t.node.node)) (group_of t.node.count t.group (W t.node.node))
+      → IsTornName t.node.late t.node.shape (group_of t.node.count t.group (F t.node.node)) (group_of t.node.count t.group (W t.node.node)) (t.array ∷ [])
       (file_at before (name_of t.node t.group)) (file_at held (name_of t.node t.group))
   torn-name told =
       let r = back-then t.node.node in
@@ -517,23 +515,19 @@ module _ (g : Graph) (stack : StackValue) (sound : IsGraph g) (prefix : List ℕ
       let front = group-front t.node.count t.group (W t.node.node ++ t.array ∷ []) r.0 in
       let more = group-more t.node.count (W t.node.node) t.array t.group t.place t.place_is in
       record {
-        piece = Some t.array;
         rest = front.0;
         next = ap (group_of t.node.count t.group) all ∙ front.1 ∙ ap (λ zs. zs ++ front.0) more;
         numrecs = t.numrecs;
         count = count-by (past b) t.node t.group (F t.node.node) t.node.late t.numrecs (torn-node told) t.first;
+        begun = is_some t.node.current;
         was = file_at t.then_held (name_of t.node t.group);
-        stood = stood-by told (group-has t.node (W t.node.node) (omega (arith, t.place_is.within)) (t.written.each t.at t.node t.listed).begun t.group);
-        torn = t.stops.1;
+        stood = stood-by told t.node.current refl;
+        torn =
+            torn-sized (is_some t.node.current) t.node.count (length (group_of t.node.count t.group (F t.node.node)))
+            (file_at t.then_held (name_of t.node t.group)) (file_at held (name_of t.node t.group)) t.node.shape t.numrecs
+            (group_of t.node.count t.group (W t.node.node)) (t.array ∷ [])
+            (omega (arith, length-take t.node.count (drop (t.group * t.node.count) (F t.node.node)))) t.stops.1;
       }
-
-  torn-at : (late : Bool) (shape : FileShape) (final written : List Array) (name : List ℕ)
-      → (is_some held ≡ true → IsTornName late shape final written (file_at before name) (file_at held name)) → (o : Option Files) → held ≡ o
-      → IsTornAt late shape final written before o name
-  torn-at late shape final written name goal None is = tt
-  torn-at late shape final written name goal (Some m) is =
-      subst (λ (o : Option Files). IsTornName late shape final written (file_at before name) (file_at o name)) is
-      (goal (ap (λ (o : Option Files). is_some o) is))
 
   -- where the shelf failed
   place : GivenAt b t.front
@@ -566,90 +560,97 @@ module _ (g : Graph) (stack : StackValue) (sound : IsGraph g) (prefix : List ℕ
     log = ap past place.board ∙ past-append place.later place.before;
     written = W;
     given = λ v. ap (λ (ns : List FrameName). contents g.nodes stack.arrays ns) (sym (place.given v));
-    first = λ v. let r = fronts v in (r.0, sym (groups.written-is g stack sound prefix before b xs true held h v) ∙ r.1);
-    node = t.node.node;
-    group = t.group;
-    whole = λ v i n r rule kind off full.
-        let f = groups.files-of-rule g stack sound prefix before b xs true held h v n r rule kind in
-        let x = f.files in
-        let off_ : (x.node ≢ t.node.node) ⊎ (i ≢ t.group) = elim off [ inl ne ↦ inl (λ e. ne (sym f.node ∙ e)) | inr ne ↦ inr ne ] in
-        let full_ : length (group_of x.count i (W x.node)) ≡ x.count =
-        ap (λ (c : ℕ). length (group_of c i (W x.node))) f.count ∙ ap (λ (w : ℕ). length (group_of r.count i (W w))) f.node ∙ full ∙ sym f.count in
-        let off_at : (f.at ≢ t.at) ⊎ (i ≢ t.group) = elim off_ [
-          | inl ne ↦ inl (λ e. ne (ap (λ (z : NodeFile). z.node) (torn-here f.at x f.listed e)))
-          | inr ne ↦ inr ne
-        ] in
-        let is = full-file x (W x.node) i (some-at f.at x f.listed) full_ (has-at f.at x f.listed i off_at) in
-        let has = subst (HasBytes held (name_of x i)) is (t.stops.0.each f.at x i f.listed off_) in
-        subst (λ (name : List ℕ). HasFile held name (layout (file_shape g stack v) (group_of r.count i (W v)))) (f.named i)
-        (subst (λ (sh : FileShape). HasFile held (name_of x i) (layout sh (group_of r.count i (W v)))) f.shape
-        (subst (λ (c : ℕ). HasFile held (name_of x i) (layout x.shape (group_of c i (W v)))) f.count
-        (subst (λ (w : ℕ). HasFile held (name_of x i) (layout x.shape (group_of x.count i (W w)))) f.node has)));
-    begun = λ v i n r rule kind off some.
-        let f = groups.files-of-rule g stack sound prefix before b xs true held h v n r rule kind in
-        let x = f.files in
-        let off_ : (x.node ≢ t.node.node) ⊎ (i ≢ t.group) = elim off [ inl ne ↦ inl (λ e. ne (sym f.node ∙ e)) | inr ne ↦ inr ne ] in
-        let same : group_of x.count i (W x.node) ≡ group_of r.count i (W v) =
-        ap (λ (c : ℕ). group_of c i (W x.node)) f.count ∙ ap (λ (w : ℕ). group_of r.count i (W w)) f.node in
-        let off_at : (f.at ≢ t.at) ⊎ (i ≢ t.group) = elim off_ [
-          | inl ne ↦ inl (λ e. ne (ap (λ (z : NodeFile). z.node) (torn-here f.at x f.listed e)))
-          | inr ne ↦ inr ne
-        ] in
-        let some_ = subst (λ (zs : List Array). 1 ≤ length zs) (sym same) some in
-        let is = begun-count f.at x f.listed i off_at some_ (has-at f.at x f.listed i off_at) in
-        let all : group_of x.count i (F x.node) ≡ group_of r.count i (contents g.nodes stack.arrays (standing_saves v (past b))) =
-        ap (λ (c : ℕ). group_of c i (F x.node)) f.count ∙ ap (λ (w : ℕ). group_of r.count i (F w)) f.node
-        ∙ ap (group_of r.count i) (groups.written-is g stack sound prefix before b xs true held h v) in
-        let has = subst (HasBytes held (name_of x i)) is.2 (t.stops.0.each f.at x i f.listed off_) in (
-          is.0,
-          subst (λ (late : Bool). StandsAsCount late (group_of r.count i (contents g.nodes stack.arrays (standing_saves v (past b))))
-              (group_of r.count i (W v)) is.0) f.late
-              (subst (λ (zs : List Array). StandsAsCount x.late zs (group_of r.count i (W v)) is.0) all
-              (subst (λ (zs : List Array). StandsAsCount x.late (group_of x.count i (F x.node)) zs is.0) same is.1)),
-          subst (λ (name : List ℕ). HasFile held name (begun_file (file_shape g stack v) is.0 (group_of r.count i (W v)))) (f.named i)
-              (subst (λ (sh : FileShape). HasFile held (name_of x i) (begun_file sh is.0 (group_of r.count i (W v)))) f.shape
-              (subst (λ (zs : List Array). HasFile held (name_of x i) (begun_file x.shape is.0 zs)) same has)),
-        );
-    untouched = λ v i n r bytes rule kind is off none_.
-        let f = groups.files-of-rule g stack sound prefix before b xs true held h v n r rule kind in
-        let x = f.files in
-        let off_ : (x.node ≢ t.node.node) ⊎ (i ≢ t.group) = elim off [ inl ne ↦ inl (λ e. ne (sym f.node ∙ e)) | inr ne ↦ inr ne ] in
-        let off_at : (f.at ≢ t.at) ⊎ (i ≢ t.group) = elim off_ [
-          | inl ne ↦ inl (λ e. ne (ap (λ (z : NodeFile). z.node) (torn-here f.at x f.listed e)))
-          | inr ne ↦ inr ne
-        ] in
-        let same : group_of x.count i (W x.node) ≡ group_of r.count i (W v) =
-        ap (λ (c : ℕ). group_of c i (W x.node)) f.count ∙ ap (λ (w : ℕ). group_of r.count i (W w)) f.node in
-        let file_ : whole_file x.shape (group_of x.count i (F x.node)) ≡ Some bytes =
-        sym (groups.group-is g stack sound prefix before b xs true held h f.at x f.listed n i f.rule)
-        ∙ ap (λ (w : ℕ). kind_group g stack (past b) w n.kind i) f.node ∙ is in
-        let small = group-low kept f.at x f.listed i (whole-bytes x.shape (group_of x.count i (F x.node)) bytes file_).1 in
-        subst (λ (name : List ℕ). file_at held name ≡ file_at before name) (f.named i)
-        (none-touched f.at x f.listed i small off_at (same ∙ none_) (has-at f.at x f.listed i off_at));
-    torn = λ n r rule kind.
-        let f = groups.files-of-rule g stack sound prefix before b xs true held h t.node.node n r rule kind in
-        let x = f.files in
-        let here =
-        torn-here f.at x f.listed
-        (one-index g stack sound prefix xs nodes f.at t.at x now-at.files f.listed now-at.listed (f.node ∙ sym (ap (λ (z : NodeFile). z.node) now-at.same))) in
-        let final = ap (group_of r.count t.group) (groups.written-is g stack sound prefix before b xs true held h t.node.node) in
-        torn-at (is_stream r.mode) (file_shape g stack t.node.node)
-        (group_of r.count t.group (contents g.nodes stack.arrays (standing_saves t.node.node (past b)))) (group_of r.count t.group (W t.node.node))
-        (group_name prefix n.name t.group) (λ told.
-        let Q : NodeFile → Type 0 =
-        λ z. IsTornName z.late z.shape (group_of z.count t.group (F z.node)) (group_of z.count t.group (W z.node)) (file_at before (name_of z t.group))
-        (file_at held (name_of z t.group)) in
-        let q = subst Q (sym here) (torn-name told) in
-        subst (λ (name : List ℕ). IsTornName (is_stream r.mode) (file_shape g stack t.node.node) (group_of r.count t.group (contents g.nodes stack.arrays
-        (standing_saves t.node.node (past b)))) (group_of r.count t.group (W t.node.node)) (file_at before name) (file_at held name)) (f.named t.group)
-        (subst (λ (zs : List Array). IsTornName (is_stream r.mode) (file_shape g stack t.node.node) zs (group_of r.count t.group (W t.node.node))
-        (file_at before (name_of x t.group)) (file_at held (name_of x t.group))) final
-        (subst (λ (w : ℕ). IsTornName (is_stream r.mode) (file_shape g stack t.node.node) (group_of r.count t.group (F w)) (group_of r.count t.group (W w))
-        (file_at before (name_of x t.group)) (file_at held (name_of x t.group))) f.node
-        (subst (λ (c : ℕ). IsTornName (is_stream r.mode) (file_shape g stack t.node.node) (group_of c t.group (F x.node)) (group_of c t.group (W x.node))
-        (file_at before (name_of x t.group)) (file_at held (name_of x t.group))) f.count
-        (subst (λ (sh : FileShape). IsTornName (is_stream r.mode) sh (group_of x.count t.group (F x.node)) (group_of x.count t.group (W x.node))
-        (file_at before (name_of x t.group)) (file_at held (name_of x t.group))) f.shape
-        (subst (λ (late : Bool). IsTornName late x.shape (group_of x.count t.group (F x.node)) (group_of x.count t.group (W x.node))
-        (file_at before (name_of x t.group)) (file_at held (name_of x t.group))) f.late q)))))) held refl;
+    groups = record {
+      first = λ v. let r = fronts v in (r.0, sym (groups.written-is g stack sound prefix before b xs true held h v) ∙ r.1);
+      node = t.node.node;
+      group = t.group;
+      coming = t.array ∷ [];
+      ending = false;
+      all = λ clash. absurd (false≢true clash);
+      ended = λ clash. absurd (false≢true clash);
+      whole = λ v i n r rule kind off full.
+          let f = groups.files-of-rule g stack sound prefix before b xs true held h v n r rule kind in
+          let x = f.files in
+          let off_ : (x.node ≢ t.node.node) ⊎ (i ≢ t.group) = elim off [ inl ne ↦ inl (λ e. ne (sym f.node ∙ e)) | inr ne ↦ inr ne ] in
+          let full_ : length (group_of x.count i (W x.node)) ≡ x.count =
+          ap (λ (c : ℕ). length (group_of c i (W x.node))) f.count ∙ ap (λ (w : ℕ). length (group_of r.count i (W w))) f.node ∙ full ∙ sym f.count in
+          let off_at : (f.at ≢ t.at) ⊎ (i ≢ t.group) = elim off_ [
+            | inl ne ↦ inl (λ e. ne (ap (λ (z : NodeFile). z.node) (torn-here f.at x f.listed e)))
+            | inr ne ↦ inr ne
+          ] in
+          let is = full-file x (W x.node) i (some-at f.at x f.listed) full_ (has-at f.at x f.listed i off_at) in
+          let has = subst (HasBytes held (name_of x i)) is (t.stops.0.each f.at x i f.listed off_) in
+          subst (λ (name : List ℕ). HasFile held name (layout (file_shape g stack v) (group_of r.count i (W v)))) (f.named i)
+          (subst (λ (sh : FileShape). HasFile held (name_of x i) (layout sh (group_of r.count i (W v)))) f.shape
+          (subst (λ (c : ℕ). HasFile held (name_of x i) (layout x.shape (group_of c i (W v)))) f.count
+          (subst (λ (w : ℕ). HasFile held (name_of x i) (layout x.shape (group_of x.count i (W w)))) f.node has)));
+      begun = λ v i n r rule kind off behind some short.
+          let f = groups.files-of-rule g stack sound prefix before b xs true held h v n r rule kind in
+          let x = f.files in
+          let off_ : (x.node ≢ t.node.node) ⊎ (i ≢ t.group) = elim off [ inl ne ↦ inl (λ e. ne (sym f.node ∙ e)) | inr ne ↦ inr ne ] in
+          let same : group_of x.count i (W x.node) ≡ group_of r.count i (W v) =
+          ap (λ (c : ℕ). group_of c i (W x.node)) f.count ∙ ap (λ (w : ℕ). group_of r.count i (W w)) f.node in
+          let off_at : (f.at ≢ t.at) ⊎ (i ≢ t.group) = elim off_ [
+            | inl ne ↦ inl (λ e. ne (ap (λ (z : NodeFile). z.node) (torn-here f.at x f.listed e)))
+            | inr ne ↦ inr ne
+          ] in
+          let some_ = subst (λ (zs : List Array). 1 ≤ length zs) (sym same) some in
+          let short_ : length (group_of x.count i (W x.node)) < x.count = omega (arith, ap (λ (zs : List Array). length zs) same, short, f.count) in
+          let is = begun-count f.at x f.listed i off_at some_ short_ (has-at f.at x f.listed i off_at) in
+          let all : group_of x.count i (F x.node) ≡ group_of r.count i (contents g.nodes stack.arrays (standing_saves v (past b))) =
+          ap (λ (c : ℕ). group_of c i (F x.node)) f.count ∙ ap (λ (w : ℕ). group_of r.count i (F w)) f.node
+          ∙ ap (group_of r.count i) (groups.written-is g stack sound prefix before b xs true held h v) in
+          let has = subst (HasBytes held (name_of x i)) is.2 (t.stops.0.each f.at x i f.listed off_) in (
+            is.0,
+            subst (λ (late : Bool). IsCountOf late (length (group_of r.count i (contents g.nodes stack.arrays (standing_saves v (past b))))) is.0) f.late
+                (subst (λ (zs : List Array). IsCountOf x.late (length zs) is.0) all is.1),
+            subst (λ (name : List ℕ). HasFile held name (begun_file (file_shape g stack v) is.0 (group_of r.count i (W v)))) (f.named i)
+                (subst (λ (sh : FileShape). HasFile held (name_of x i) (begun_file sh is.0 (group_of r.count i (W v)))) f.shape
+                (subst (λ (zs : List Array). HasFile held (name_of x i) (begun_file x.shape is.0 zs)) same has)),
+          );
+      untouched = λ v i n r rule kind off some none_.
+          let f = groups.files-of-rule g stack sound prefix before b xs true held h v n r rule kind in
+          let x = f.files in
+          let off_ : (x.node ≢ t.node.node) ⊎ (i ≢ t.group) = elim off [ inl ne ↦ inl (λ e. ne (sym f.node ∙ e)) | inr ne ↦ inr ne ] in
+          let off_at : (f.at ≢ t.at) ⊎ (i ≢ t.group) = elim off_ [
+            | inl ne ↦ inl (λ e. ne (ap (λ (z : NodeFile). z.node) (torn-here f.at x f.listed e)))
+            | inr ne ↦ inr ne
+          ] in
+          let same : group_of x.count i (W x.node) ≡ group_of r.count i (W v) =
+          ap (λ (c : ℕ). group_of c i (W x.node)) f.count ∙ ap (λ (w : ℕ). group_of r.count i (W w)) f.node in
+          let all : group_of x.count i (F x.node) ≡ group_of r.count i (contents g.nodes stack.arrays (standing_saves v (past b))) =
+          ap (λ (c : ℕ). group_of c i (F x.node)) f.count ∙ ap (λ (w : ℕ). group_of r.count i (F w)) f.node
+          ∙ ap (group_of r.count i) (groups.written-is g stack sound prefix before b xs true held h v) in
+          let small = group-low kept f.at x f.listed i (subst (λ (zs : List Array). 1 ≤ length zs) (sym all) some) in
+          subst (λ (name : List ℕ). file_at held name ≡ file_at before name) (f.named i)
+          (none-touched f.at x f.listed i small off_at (same ∙ none_) (has-at f.at x f.listed i off_at));
+      torn = λ n r rule kind.
+          let f = groups.files-of-rule g stack sound prefix before b xs true held h t.node.node n r rule kind in
+          let x = f.files in
+          let here =
+          torn-here f.at x f.listed
+          (one-index g stack sound prefix xs nodes f.at t.at x now-at.files f.listed now-at.listed (f.node ∙ sym (ap (λ (z : NodeFile). z.node) now-at.same))) in
+          let final = ap (group_of r.count t.group) (groups.written-is g stack sound prefix before b xs true held h t.node.node) in
+          torn-at (is_stream r.mode) (file_shape g stack t.node.node)
+          (group_of r.count t.group (contents g.nodes stack.arrays (standing_saves t.node.node (past b)))) (group_of r.count t.group (W t.node.node))
+          (t.array ∷ []) before held (group_name prefix n.name t.group) (λ told.
+          let Q : NodeFile → Type 0 =
+          λ z. IsTornName z.late z.shape (group_of z.count t.group (F z.node)) (group_of z.count t.group (W z.node)) (t.array ∷ [])
+          (file_at before (name_of z t.group)) (file_at held (name_of z t.group)) in
+          let q = subst Q (sym here) (torn-name told) in
+          subst (λ (name : List ℕ). IsTornName (is_stream r.mode) (file_shape g stack t.node.node) (group_of r.count t.group (contents g.nodes stack.arrays
+          (standing_saves t.node.node (past b)))) (group_of r.count t.group (W t.node.node)) (t.array ∷ []) (file_at before name) (file_at held name))
+          (f.named t.group)
+          (subst (λ (zs : List Array). IsTornName (is_stream r.mode) (file_shape g stack t.node.node) zs (group_of r.count t.group (W t.node.node)) (t.array ∷ [])
+          (file_at before (name_of x t.group)) (file_at held (name_of x t.group))) final
+          (subst (λ (w : ℕ). IsTornName (is_stream r.mode) (file_shape g stack t.node.node) (group_of r.count t.group (F w)) (group_of r.count t.group (W w)) (t.array ∷ [])
+          (file_at before (name_of x t.group)) (file_at held (name_of x t.group))) f.node
+          (subst (λ (c : ℕ). IsTornName (is_stream r.mode) (file_shape g stack t.node.node) (group_of c t.group (F x.node)) (group_of c t.group (W x.node)) (t.array ∷ [])
+          (file_at before (name_of x t.group)) (file_at held (name_of x t.group))) f.count
+          (subst (λ (sh : FileShape). IsTornName (is_stream r.mode) sh (group_of x.count t.group (F x.node)) (group_of x.count t.group (W x.node)) (t.array ∷ [])
+          (file_at before (name_of x t.group)) (file_at held (name_of x t.group))) f.shape
+          (subst (λ (late : Bool). IsTornName late x.shape (group_of x.count t.group (F x.node)) (group_of x.count t.group (W x.node)) (t.array ∷ [])
+          (file_at before (name_of x t.group)) (file_at held (name_of x t.group))) f.late q))))));
+    };
+    one = let e : 1 ≤ 1 = omega arith in e;
   }
