@@ -46,7 +46,7 @@ use Rattle.flow_saver.proofs.Resting.{rest-keeps}
 use Rattle.flow_run.specs.Strangers.{AreOwnMoves}
 use Rattle.flow_run.specs.Ticks.{AfterMoves, IsFedByTheClock}
 use Rattle.flow_run.specs.Joined.{IsJoined, IsFedUntil}
-use Rattle.flow_run.proofs.Joined.{none-back, may-back, handed-back}
+use Rattle.flow_run.proofs.Joined.{none-back, may-back, handed-back, only-fed}
 use Rattle.flow_run.proofs.OwnMoves.{SavesOn, own-moves}
 use Rattle.flow_run.proofs.AfterAll.{after-all}
 
@@ -116,6 +116,7 @@ module _ {O : Type 0} (g : Graph) (stack : StackValue) (joined ready : BoardStat
     pub run-ticks : (old mid new : Option Coming) → IsFedUntil s joined old mid → Ticks mid tick new → IsFedByTheClock s (past ended) old new
     run-ticks old mid new fed answered = record {
       joined = joined;
+      alone = only-fed s joined passes lefts saver j;
       first = fed.first;
       fresh = fed.fresh;
       last = fed.last;

@@ -1,8 +1,9 @@
 -- The clock of a run: the ticks that its loads were handed.
-use Rattle.std.specs.Prelude.{◌≡◌, ℕ, ◌==◌, Bool, true, nat_lt, Option}
+use Rattle.std.specs.Prelude.{◌≡◌, ◌≢◌, ℕ, ◌==◌, Bool, true, false, nat_lt, Option}
+use Rattle.std.specs.List.{list_any}
 use Rattle.edge_traits.specs.Ticks.{Coming, Ticks}
 use Rattle.flow_journal.specs.declared.entry.Entry.{Entry}
-use Rattle.flow_journal.specs.declared.entry.Entry.TheVariants.{Save, Saved, Reclaim}
+use Rattle.flow_journal.specs.declared.entry.Entry.TheVariants.{Load, LoadRefused, Save, Saved, Reclaim}
 use Rattle.flow_journal.specs.Setting.{Setting, last_role}
 use Rattle.flow_journal.specs.Pasts.{Past}
 use Rattle.board_rules.specs.declared.told.Told.{Told}
@@ -21,6 +22,12 @@ is_after s (Save r v m k g) = r == last_role s
 is_after s (Saved r v m k) = r == last_role s
 is_after s e = is_drains s e
 
+-- this role loads, or the pool refuses it
+abbrev pub loads_by : ℕ → Entry → Bool
+loads_by r (Load q k b n f g x) = q == r
+loads_by r (LoadRefused q k n h) = q == r
+loads_by r e = false
+
 -- such moves, one after the other, lead from the one board to the other, and each load was handed this tick
 pub data AfterMoves (s : Setting) (tick : ℕ) (old : BoardState) : (new : BoardState) → Type 0 where
   none : (new : BoardState) → new ≡ old → AfterMoves s tick old new
@@ -30,8 +37,9 @@ pub data AfterMoves (s : Setting) (tick : ℕ) (old : BoardState) : (new : Board
 -- Each load of the feeder was handed the clock's next answer, and each load after it the one after these: a load keeps the greater of the number
 -- that it was handed and the Tick before it.
 pub record IsFedByTheClock (s : Setting) (P : Past) (old new : Option Coming) : Type 0 where
-  -- what stood on the board when all roles had ended, of which the feeder had made these calls
+  -- what stood on the board when all roles had ended: nobody but the feeder, which is role 0, had loaded, and the feeder had made these calls
   pub joined : BoardState
+  pub alone : (r : ℕ) → r ≢ 0 → list_any (loads_by r) (past joined) ≡ false
   pub first : Pass
   pub fresh : IsFresh 0 first
   pub last : Pass

@@ -126,11 +126,11 @@ pub(crate) fn deal<R: Run, B: BoardCalls<Frame<R>>>(
     nodes: &[u32],
 ) -> Result<Dealt<Frame<R>, TurnPass<Frame<R>, B>>, OutOfMemory>
     requires many { (vec_len passes ≡ length nodes.now + 2) × (length nodes.now + 2 < 2 ^ 32) }
-    requires fresh { (k : ℕ) (p : _) → slice_get passes.items k ≡ Some p → IsFreshOf desk.now.id k p.inner p.last }
-    ensures feeder { IfOk result (λ d. IsReady (λ p. IsPassOf desk.now.id p.inner) (λ p. known_by p.inner p.last) 0 0 d.feeder) }
+    requires fresh { (k : ℕ) (p : _) → slice_get passes.items k ≡ Some p → IsFreshOf desk.now.id k p.inner p.said }
+    ensures feeder { IfOk result (λ d. IsReady (λ p. IsPassOf desk.now.id p.inner) (λ p. known_by p.inner p.said) 0 0 d.feeder) }
     ensures seats { IfOk result (λ d. vec_len d.workers ≡ length nodes.now) }
-    ensures workers { IfOk result (λ d. AreReady (λ p. IsPassOf desk.now.id p.inner) (λ p. known_by p.inner p.last) 1 nodes.now d.workers.items) }
-    ensures last { IfOk result (λ d. IsFreshOf desk.now.id (length nodes.now + 1) d.last.inner d.last.last) }
+    ensures workers { IfOk result (λ d. AreReady (λ p. IsPassOf desk.now.id p.inner) (λ p. known_by p.inner p.said) 1 nodes.now d.workers.items) }
+    ensures last { IfOk result (λ d. IsFreshOf desk.now.id (length nodes.now + 1) d.last.inner d.last.said) }
 {
     let mut passes = passes;
     let last = passes.pop().unwrap();

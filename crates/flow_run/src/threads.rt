@@ -43,9 +43,9 @@ fn feed_at<R: Run, B: BoardCalls<Frame<R>>, C: Clock, G: Gate, W: Wait>(
     seat: &mut Seat<Frame<R>, TurnPass<Frame<R>, B>>,
 )
     requires stack { stack.now ≡ R.stack }
-    requires ready { IsReady (λ p. IsPassOf desk.now.id p.inner) (λ p. known_by p.inner p.last) 0 0 seat.old }
-    ensures back { IsBack (λ p. IsPassOf desk.now.id p.inner) (λ p. known_by p.inner p.last) (run_setting R.graph R.stack) 0 0 seat.new }
-    ensures ticks { HasFed (λ p. known_by p.inner p.last) (run_setting R.graph R.stack) (C.coming clock.old) (C.coming clock.new) seat.new }
+    requires ready { IsReady (λ p. IsPassOf desk.now.id p.inner) (λ p. known_by p.inner p.said) 0 0 seat.old }
+    ensures back { IsBack (λ p. IsPassOf desk.now.id p.inner) (λ p. known_by p.inner p.said) (run_setting R.graph R.stack) 0 0 seat.new }
+    ensures ticks { HasFed (λ p. known_by p.inner p.said) (run_setting R.graph R.stack) (C.coming clock.old) (C.coming clock.new) seat.new }
 {
     match mem::replace(seat, Seat::Away) {
         Seat::Ready {
@@ -79,8 +79,8 @@ fn work_at<R: Run, B: BoardCalls<Frame<R>>, G: Gate, W: Threads + Wait + Sync>(
     requires plan { plan.now ≡ plan_of R.graph R.stack }
     requires graph { IsGraph R.graph }
     requires stack { stack.now ≡ R.stack }
-    requires ready { SomeWorker (λ p. IsPassOf desk.now.id p.inner) (λ p. known_by p.inner p.last) (run_setting R.graph R.stack) seat.old }
-    ensures back { HasWorked (λ p. IsPassOf desk.now.id p.inner) (λ p. known_by p.inner p.last) (run_setting R.graph R.stack) seat.old seat.new }
+    requires ready { SomeWorker (λ p. IsPassOf desk.now.id p.inner) (λ p. known_by p.inner p.said) (run_setting R.graph R.stack) seat.old }
+    ensures back { HasWorked (λ p. IsPassOf desk.now.id p.inner) (λ p. known_by p.inner p.said) (run_setting R.graph R.stack) seat.old seat.new }
 {
     match mem::replace(seat, Seat::Away) {
         Seat::Ready { role, node, pass } => {
@@ -118,17 +118,17 @@ fn work_all<
     requires graph { IsGraph R.graph }
     requires stack { stack.now ≡ R.stack }
     requires seats { length seats.old ≡ length (workers (run_setting R.graph R.stack)) }
-    requires ready { AreReady (λ p. IsPassOf desk.now.id p.inner) (λ p. known_by p.inner p.last) 1 (workers (run_setting R.graph R.stack)) seats.old }
+    requires ready { AreReady (λ p. IsPassOf desk.now.id p.inner) (λ p. known_by p.inner p.said) 1 (workers (run_setting R.graph R.stack)) seats.old }
     requires rest { F.pre rest.old }
     ensures seats { length seats.new ≡ length seats.old }
-    ensures back { AreBack (λ p. IsPassOf desk.now.id p.inner) (λ p. known_by p.inner p.last) (run_setting R.graph R.stack) 1
+    ensures back { AreBack (λ p. IsPassOf desk.now.id p.inner) (λ p. known_by p.inner p.said) (run_setting R.graph R.stack) 1
         (workers (run_setting R.graph R.stack)) seats.new }
     ensures rest { F.step rest.old result rest.new }
 {
     let work = |has_thread: bool, seat: &mut Seat<Frame<R>, TurnPass<Frame<R>, B>>|
         requires { (plan.now ≡ plan_of R.graph R.stack) × IsGraph R.graph × (stack.now ≡ R.stack)
-            × SomeWorker (λ p. IsPassOf desk.now.id p.inner) (λ p. known_by p.inner p.last) (run_setting R.graph R.stack) seat.now }
-        ensures { HasWorked (λ p. IsPassOf desk.entry.now.id p.inner) (λ p. known_by p.inner p.last) (run_setting R.graph R.stack)
+            × SomeWorker (λ p. IsPassOf desk.now.id p.inner) (λ p. known_by p.inner p.said) (run_setting R.graph R.stack) seat.now }
+        ensures { HasWorked (λ p. IsPassOf desk.entry.now.id p.inner) (λ p. known_by p.inner p.said) (run_setting R.graph R.stack)
             seat.entry.now seat.exit.now }
     {
         work_at(rt, alloc, desk, plan, stack, gate, has_thread, seat);
@@ -152,11 +152,11 @@ fn save_at<R: Run, B: BoardCalls<Frame<R>>, K: Shelf, N: Watch, G: Gate, W: Wait
     requires graph { IsGraph R.graph }
     requires stack { stack.now ≡ R.stack }
     requires kept { IsKeptStack R.stack }
-    requires begins { SaverBegins (λ p. IsFreshOf desk.now.id role p.inner p.last) R.graph R.stack begins.old }
-    ensures end { SaverEnds (λ p. IsPassOf desk.now.id p.inner) (λ p. known_by p.inner p.last) R.graph R.stack (K.held shelf.old) begins.old
+    requires begins { SaverBegins (λ p. IsFreshOf desk.now.id role p.inner p.said) R.graph R.stack begins.old }
+    ensures end { SaverEnds (λ p. IsPassOf desk.now.id p.inner) (λ p. known_by p.inner p.said) R.graph R.stack (K.held shelf.old) begins.old
         result.pass result.left result.files result.fault (K.held shelf.new) }
     ensures fault { CountsSo result.fault (K.faults shelf.old) (K.faults shelf.new) }
-    ensures notes { AreNotesOf (run_setting R.graph R.stack) (past (known_by result.pass.inner result.pass.last).seen) result.want
+    ensures notes { AreNotesOf (run_setting R.graph R.stack) (past (known_by result.pass.inner result.pass.said).seen) result.want
         (N.watched watch.old) (N.watched watch.new) }
     ensures home { N.home watch.new ≡ N.home watch.old }
 {
@@ -201,14 +201,14 @@ fn feed_and_save<
     requires graph { IsGraph R.graph }
     requires stack { stack.now ≡ R.stack }
     requires kept { IsKeptStack R.stack }
-    requires begins { SaverBegins (λ p. IsFreshOf desk.now.id role p.inner p.last) R.graph R.stack begins.old }
-    requires feeder { IsReady (λ p. IsPassOf desk.now.id p.inner) (λ p. known_by p.inner p.last) 0 0 feeder.old }
-    ensures fed { IsBack (λ p. IsPassOf desk.now.id p.inner) (λ p. known_by p.inner p.last) (run_setting R.graph R.stack) 0 0 feeder.new }
-    ensures ticks { HasFed (λ p. known_by p.inner p.last) (run_setting R.graph R.stack) (C.coming clock.old) (C.coming clock.new) feeder.new }
-    ensures end { SaverEnds (λ p. IsPassOf desk.now.id p.inner) (λ p. known_by p.inner p.last) R.graph R.stack (K.held shelf.old) begins.old
+    requires begins { SaverBegins (λ p. IsFreshOf desk.now.id role p.inner p.said) R.graph R.stack begins.old }
+    requires feeder { IsReady (λ p. IsPassOf desk.now.id p.inner) (λ p. known_by p.inner p.said) 0 0 feeder.old }
+    ensures fed { IsBack (λ p. IsPassOf desk.now.id p.inner) (λ p. known_by p.inner p.said) (run_setting R.graph R.stack) 0 0 feeder.new }
+    ensures ticks { HasFed (λ p. known_by p.inner p.said) (run_setting R.graph R.stack) (C.coming clock.old) (C.coming clock.new) feeder.new }
+    ensures end { SaverEnds (λ p. IsPassOf desk.now.id p.inner) (λ p. known_by p.inner p.said) R.graph R.stack (K.held shelf.old) begins.old
         result.pass result.left result.files result.fault (K.held shelf.new) }
     ensures fault { CountsSo result.fault (K.faults shelf.old) (K.faults shelf.new) }
-    ensures notes { AreNotesOf (run_setting R.graph R.stack) (past (known_by result.pass.inner result.pass.last).seen) result.want
+    ensures notes { AreNotesOf (run_setting R.graph R.stack) (past (known_by result.pass.inner result.pass.said).seen) result.want
         (N.watched watch.old) (N.watched watch.new) }
     ensures home { N.home watch.new ≡ N.home watch.old }
 {
@@ -216,18 +216,18 @@ fn feed_and_save<
     let (_, end) = work_beside(
         rt,
         &mut |has_thread: bool|
-            requires { (stack.now ≡ R.stack) × IsReady (λ p. IsPassOf desk.now.id p.inner) (λ p. known_by p.inner p.last) 0 0 feeder.now }
-            ensures { IsBack (λ p. IsPassOf desk.entry.now.id p.inner) (λ p. known_by p.inner p.last) (run_setting R.graph R.stack) 0 0 feeder.exit.now
-                × HasFed (λ p. known_by p.inner p.last) (run_setting R.graph R.stack) (C.coming clock.entry.now) (C.coming clock.exit.now) feeder.exit.now }
+            requires { (stack.now ≡ R.stack) × IsReady (λ p. IsPassOf desk.now.id p.inner) (λ p. known_by p.inner p.said) 0 0 feeder.now }
+            ensures { IsBack (λ p. IsPassOf desk.entry.now.id p.inner) (λ p. known_by p.inner p.said) (run_setting R.graph R.stack) 0 0 feeder.exit.now
+                × HasFed (λ p. known_by p.inner p.said) (run_setting R.graph R.stack) (C.coming clock.entry.now) (C.coming clock.exit.now) feeder.exit.now }
         { feed_at(rt, alloc, desk, stack, gate, has_thread, clock, feeder) },
         &mut || -> SaveEnd<Frame<R>, TurnPass<Frame<R>, B>>
             requires { (role ≡ last_role (run_setting R.graph R.stack)) × IsGraph R.graph × (stack.now ≡ R.stack) × IsKeptStack R.stack
-                × SaverBegins (λ p. IsFreshOf desk.now.id role p.inner p.last) R.graph R.stack begins.now }
-            ensures { SaverEnds (λ p. IsPassOf desk.entry.now.id p.inner) (λ p. known_by p.inner p.last) R.graph R.stack
+                × SaverBegins (λ p. IsFreshOf desk.now.id role p.inner p.said) R.graph R.stack begins.now }
+            ensures { SaverEnds (λ p. IsPassOf desk.entry.now.id p.inner) (λ p. known_by p.inner p.said) R.graph R.stack
                 (K.held shelf.entry.now) begins.entry.now
                 result.pass result.left result.files result.fault (K.held shelf.exit.now)
                 × CountsSo result.fault (K.faults shelf.entry.now) (K.faults shelf.exit.now)
-                × AreNotesOf (run_setting R.graph R.stack) (past (known_by result.pass.inner result.pass.last).seen) result.want
+                × AreNotesOf (run_setting R.graph R.stack) (past (known_by result.pass.inner result.pass.said).seen) result.want
                 (N.watched watch.entry.now) (N.watched watch.exit.now)
                 × (N.home watch.exit.now ≡ N.home watch.entry.now) }
         { save_at(rt, alloc, desk, role, stack, gate, watch, shelf, begins) },
@@ -265,20 +265,20 @@ pub(crate) fn run_roles<
     requires graph { IsGraph R.graph }
     requires stack { stack.now ≡ R.stack }
     requires kept { IsKeptStack R.stack }
-    requires begins { SaverBegins (λ p. IsFreshOf desk.now.id role p.inner p.last) R.graph R.stack begins.old }
-    requires feeder { IsReady (λ p. IsPassOf desk.now.id p.inner) (λ p. known_by p.inner p.last) 0 0 feeder.old }
+    requires begins { SaverBegins (λ p. IsFreshOf desk.now.id role p.inner p.said) R.graph R.stack begins.old }
+    requires feeder { IsReady (λ p. IsPassOf desk.now.id p.inner) (λ p. known_by p.inner p.said) 0 0 feeder.old }
     requires many { vec_len workers.old ≡ length (roles.workers (run_setting R.graph R.stack)) }
-    requires ready { AreReady (λ p. IsPassOf desk.now.id p.inner) (λ p. known_by p.inner p.last) 1
+    requires ready { AreReady (λ p. IsPassOf desk.now.id p.inner) (λ p. known_by p.inner p.said) 1
         (roles.workers (run_setting R.graph R.stack)) workers.old.items }
-    ensures fed { IsBack (λ p. IsPassOf desk.now.id p.inner) (λ p. known_by p.inner p.last) (run_setting R.graph R.stack) 0 0 feeder.new }
-    ensures ticks { HasFed (λ p. known_by p.inner p.last) (run_setting R.graph R.stack) (C.coming clock.old) (C.coming clock.new) feeder.new }
+    ensures fed { IsBack (λ p. IsPassOf desk.now.id p.inner) (λ p. known_by p.inner p.said) (run_setting R.graph R.stack) 0 0 feeder.new }
+    ensures ticks { HasFed (λ p. known_by p.inner p.said) (run_setting R.graph R.stack) (C.coming clock.old) (C.coming clock.new) feeder.new }
     ensures many { vec_len workers.new ≡ vec_len workers.old }
-    ensures back { AreBack (λ p. IsPassOf desk.now.id p.inner) (λ p. known_by p.inner p.last) (run_setting R.graph R.stack) 1
+    ensures back { AreBack (λ p. IsPassOf desk.now.id p.inner) (λ p. known_by p.inner p.said) (run_setting R.graph R.stack) 1
         (roles.workers (run_setting R.graph R.stack)) workers.new.items }
-    ensures end { SaverEnds (λ p. IsPassOf desk.now.id p.inner) (λ p. known_by p.inner p.last) R.graph R.stack (K.held shelf.old) begins.old
+    ensures end { SaverEnds (λ p. IsPassOf desk.now.id p.inner) (λ p. known_by p.inner p.said) R.graph R.stack (K.held shelf.old) begins.old
         result.pass result.left result.files result.fault (K.held shelf.new) }
     ensures fault { CountsSo result.fault (K.faults shelf.old) (K.faults shelf.new) }
-    ensures notes { AreNotesOf (run_setting R.graph R.stack) (past (known_by result.pass.inner result.pass.last).seen) result.want
+    ensures notes { AreNotesOf (run_setting R.graph R.stack) (past (known_by result.pass.inner result.pass.said).seen) result.want
         (N.watched watch.old) (N.watched watch.new) }
     ensures home { N.home watch.new ≡ N.home watch.old }
 {
@@ -292,15 +292,15 @@ pub(crate) fn run_roles<
         gate,
         &mut || -> SaveEnd<Frame<R>, TurnPass<Frame<R>, B>>
             requires { (role ≡ last_role (run_setting R.graph R.stack)) × IsGraph R.graph × (stack.now ≡ R.stack) × IsKeptStack R.stack
-                × SaverBegins (λ p. IsFreshOf desk.now.id role p.inner p.last) R.graph R.stack begins.now
-                × IsReady (λ p. IsPassOf desk.now.id p.inner) (λ p. known_by p.inner p.last) 0 0 feeder.now }
-            ensures { IsBack (λ p. IsPassOf desk.entry.now.id p.inner) (λ p. known_by p.inner p.last) (run_setting R.graph R.stack) 0 0 feeder.exit.now
-                × HasFed (λ p. known_by p.inner p.last) (run_setting R.graph R.stack) (C.coming clock.entry.now) (C.coming clock.exit.now) feeder.exit.now
-                × SaverEnds (λ p. IsPassOf desk.entry.now.id p.inner) (λ p. known_by p.inner p.last) R.graph R.stack
+                × SaverBegins (λ p. IsFreshOf desk.now.id role p.inner p.said) R.graph R.stack begins.now
+                × IsReady (λ p. IsPassOf desk.now.id p.inner) (λ p. known_by p.inner p.said) 0 0 feeder.now }
+            ensures { IsBack (λ p. IsPassOf desk.entry.now.id p.inner) (λ p. known_by p.inner p.said) (run_setting R.graph R.stack) 0 0 feeder.exit.now
+                × HasFed (λ p. known_by p.inner p.said) (run_setting R.graph R.stack) (C.coming clock.entry.now) (C.coming clock.exit.now) feeder.exit.now
+                × SaverEnds (λ p. IsPassOf desk.entry.now.id p.inner) (λ p. known_by p.inner p.said) R.graph R.stack
                 (K.held shelf.entry.now) begins.entry.now
                 result.pass result.left result.files result.fault (K.held shelf.exit.now)
                 × CountsSo result.fault (K.faults shelf.entry.now) (K.faults shelf.exit.now)
-                × AreNotesOf (run_setting R.graph R.stack) (past (known_by result.pass.inner result.pass.last).seen) result.want
+                × AreNotesOf (run_setting R.graph R.stack) (past (known_by result.pass.inner result.pass.said).seen) result.want
                 (N.watched watch.entry.now) (N.watched watch.exit.now)
                 × (N.home watch.exit.now ≡ N.home watch.entry.now) }
         {

@@ -48,7 +48,7 @@ gather-passes-requires-clause-back g c =
     let n : vec_len c.in_ok-feeder.field-0.workers ≡ length (workers s) = cc in
     let few : length c.run_roles-pass.new.workers.items ≡ vec_len c.run_roles-pass.new.workers = search rules in
     let came =
-    came-back (λ p. IsPassOf c.in_ok-desk.desk.id p.inner) (λ p. known_by p.inner p.last) s c.run_roles-pass.new.feeder c.run_roles-pass.new.workers.items
+    came-back (λ p. IsPassOf c.in_ok-desk.desk.id p.inner) (λ p. known_by p.inner p.said) s c.run_roles-pass.new.feeder c.run_roles-pass.new.workers.items
     (few ∙ (e.many ∙ n)) e.fed e.back in
     and_parts (is_back c.run_roles-pass.new.feeder) (list_all is_back c.run_roles-pass.new.workers.items) came.all
 
@@ -65,9 +65,9 @@ take_back-board-requires-clause-ours g c =
     let many = few ∙ (e.many ∙ n) in
     let came =
     came-back (λ p. IsPassOf c.in_ok-desk.desk.id p.inner)
-    (λ p. known_by p.inner p.last) s c.run_roles-pass.new.feeder c.run_roles-pass.new.workers.items many e.fed e.back in
+    (λ p. known_by p.inner p.said) s c.run_roles-pass.new.feeder c.run_roles-pass.new.workers.items many e.fed e.back in
     subst (λ ps. All (λ p. IsPassOf c.in_ok-desk.desk.id p.inner) ps) (sym c.gather-passes.ensures.passes)
-    (back-ours (λ p. IsPassOf c.in_ok-desk.desk.id p.inner) (λ p. known_by p.inner p.last) s
+    (back-ours (λ p. IsPassOf c.in_ok-desk.desk.id p.inner) (λ p. known_by p.inner p.said) s
     (c.run_roles-pass.new.feeder ∷ c.run_roles-pass.new.workers.items) (ap suc many) came c.run_roles-pass.result.pass e.end.0)
 
 pub take_back-board-requires-clause-all : goal.take_back-board-requires-clause-all
@@ -83,9 +83,9 @@ take_back-board-requires-clause-all g c =
     let many = few ∙ (e.many ∙ n) in
     let came =
     came-back (λ p. IsPassOf c.in_ok-desk.desk.id p.inner)
-    (λ p. known_by p.inner p.last) s c.run_roles-pass.new.feeder c.run_roles-pass.new.workers.items many e.fed e.back in
+    (λ p. known_by p.inner p.said) s c.run_roles-pass.new.feeder c.run_roles-pass.new.workers.items many e.fed e.back in
     let back =
-    back-many (λ p. IsPassOf c.in_ok-desk.desk.id p.inner) (λ p. known_by p.inner p.last) s
+    back-many (λ p. IsPassOf c.in_ok-desk.desk.id p.inner) (λ p. known_by p.inner p.said) s
     (c.run_roles-pass.new.feeder ∷ c.run_roles-pass.new.workers.items) (ap suc many) came c.run_roles-pass.result.pass in
     let is = ap length c.gather-passes.ensures.passes in
     let len : length c.gather-passes.result.0.items ≡ vec_len c.gather-passes.result.0 = search rules in
@@ -114,18 +114,18 @@ finish_run-requires-clause-joined g c =
     let many = few ∙ (e.many ∙ n) in
     let came =
     came-back (λ p. IsPassOf c.in_ok-desk.desk.id p.inner)
-    (λ p. known_by p.inner p.last) s c.run_roles-pass.new.feeder c.run_roles-pass.new.workers.items many e.fed e.back in
+    (λ p. known_by p.inner p.said) s c.run_roles-pass.new.feeder c.run_roles-pass.new.workers.items many e.fed e.back in
     let board = g.B.BoardCalls.shown c.take_back-board.result in
-    let made = subst (λ ps. All (λ p. HasMade board (known_by p.inner p.last)) ps) c.gather-passes.ensures.passes c.take_back-board.ensures.moves in
+    let made = subst (λ ps. All (λ p. HasMade board (known_by p.inner p.said)) ps) c.gather-passes.ensures.passes c.take_back-board.ensures.moves in
     let all : length c.in_ok-nodes.nodes.items ≡ vec_len c.in_ok-nodes.nodes = search rules in (
-      passes (λ p. IsPassOf c.in_ok-desk.desk.id p.inner) (λ p. known_by p.inner p.last) s
+      passes (λ p. IsPassOf c.in_ok-desk.desk.id p.inner) (λ p. known_by p.inner p.said) s
           (c.run_roles-pass.new.feeder ∷ c.run_roles-pass.new.workers.items) (ap suc many) came c.run_roles-pass.result.pass,
       (
-        known_by c.run_roles-pass.result.pass.inner c.run_roles-pass.result.pass.last,
-        subst (λ ls. IsJoined s board (passes (λ p. IsPassOf c.in_ok-desk.desk.id p.inner) (λ p. known_by p.inner p.last) s
+        known_by c.run_roles-pass.result.pass.inner c.run_roles-pass.result.pass.said,
+        subst (λ ls. IsJoined s board (passes (λ p. IsPassOf c.in_ok-desk.desk.id p.inner) (λ p. known_by p.inner p.said) s
             (c.run_roles-pass.new.feeder ∷ c.run_roles-pass.new.workers.items) (ap suc many) came c.run_roles-pass.result.pass) ls
-            (known_by c.run_roles-pass.result.pass.inner c.run_roles-pass.result.pass.last)) (sym c.gather-passes.ensures.lefts)
-            (joined-from (λ p. IsPassOf c.in_ok-desk.desk.id p.inner) (λ p. known_by p.inner p.last) s
+            (known_by c.run_roles-pass.result.pass.inner c.run_roles-pass.result.pass.said)) (sym c.gather-passes.ensures.lefts)
+            (joined-from (λ p. IsPassOf c.in_ok-desk.desk.id p.inner) (λ p. known_by p.inner p.said) s
             (c.run_roles-pass.new.feeder ∷ c.run_roles-pass.new.workers.items) (ap suc many) came c.run_roles-pass.result.pass board made
             c.take_back-board.ensures.legal c.take_back-board.ensures.drained c.take_back-board.ensures.storage
             (λ r high. c.take_back-board.ensures.others r
@@ -147,17 +147,17 @@ finish_run-requires-clause-left g c =
     let many = few ∙ (e.many ∙ n) in
     let came =
     came-back (λ p. IsPassOf c.in_ok-desk.desk.id p.inner)
-    (λ p. known_by p.inner p.last) s c.run_roles-pass.new.feeder c.run_roles-pass.new.workers.items many e.fed e.back in
+    (λ p. known_by p.inner p.said) s c.run_roles-pass.new.feeder c.run_roles-pass.new.workers.items many e.fed e.back in
     let board = g.B.BoardCalls.shown c.take_back-board.result in
-    let made = subst (λ ps. All (λ p. HasMade board (known_by p.inner p.last)) ps) c.gather-passes.ensures.passes c.take_back-board.ensures.moves in
+    let made = subst (λ ps. All (λ p. HasMade board (known_by p.inner p.said)) ps) c.gather-passes.ensures.passes c.take_back-board.ensures.moves in
     let last =
-    made-last (λ p. IsPassOf c.in_ok-desk.desk.id p.inner) (λ p. known_by p.inner p.last) s
+    made-last (λ p. IsPassOf c.in_ok-desk.desk.id p.inner) (λ p. known_by p.inner p.said) s
     (c.run_roles-pass.new.feeder ∷ c.run_roles-pass.new.workers.items) (ap suc many) came c.run_roles-pass.result.pass board made in (
       c.requires.files.0,
       (
         g.K.Shelf.held c.args.shelf.now,
         leaves-from g.R.Run.graph g.R.Run.stack c.requires.files.0 (g.K.Shelf.held c.args.shelf.now)
-            (known_by c.run_roles-pass.result.pass.inner c.run_roles-pass.result.pass.last) c.run_roles-pass.result.left
+            (known_by c.run_roles-pass.result.pass.inner c.run_roles-pass.result.pass.said) c.run_roles-pass.result.left
             c.run_roles-pass.result.files c.run_roles-pass.result.fault (g.K.Shelf.held c.run_roles-pass.new.shelf) board last c.take_back-board.ensures.legal
             c.take_back-board.ensures.drained (e.end.1.leaves c.requires.files.0 c.requires.files.1),
       ),
@@ -176,16 +176,16 @@ returns-clause-files g c =
     let many = few ∙ (e.many ∙ n) in
     let came =
     came-back (λ p. IsPassOf c.in_ok-desk.desk.id p.inner)
-    (λ p. known_by p.inner p.last) s c.run_roles-pass.new.feeder c.run_roles-pass.new.workers.items many e.fed e.back in
+    (λ p. known_by p.inner p.said) s c.run_roles-pass.new.feeder c.run_roles-pass.new.workers.items many e.fed e.back in
     let board = g.B.BoardCalls.shown c.take_back-board.result in
-    let made = subst (λ ps. All (λ p. HasMade board (known_by p.inner p.last)) ps) c.gather-passes.ensures.passes c.take_back-board.ensures.moves in
+    let made = subst (λ ps. All (λ p. HasMade board (known_by p.inner p.said)) ps) c.gather-passes.ensures.passes c.take_back-board.ensures.moves in
     let last =
-    made-last (λ p. IsPassOf c.in_ok-desk.desk.id p.inner) (λ p. known_by p.inner p.last) s
+    made-last (λ p. IsPassOf c.in_ok-desk.desk.id p.inner) (λ p. known_by p.inner p.said) s
     (c.run_roles-pass.new.feeder ∷ c.run_roles-pass.new.workers.items) (ap suc many) came c.run_roles-pass.result.pass board made in
     if-ok c.finish_run.result _ _
     (λ end h prefix is. h prefix (g.K.Shelf.held c.args.shelf.now)
     (leaves-from g.R.Run.graph g.R.Run.stack prefix (g.K.Shelf.held c.args.shelf.now)
-    (known_by c.run_roles-pass.result.pass.inner c.run_roles-pass.result.pass.last) c.run_roles-pass.result.left
+    (known_by c.run_roles-pass.result.pass.inner c.run_roles-pass.result.pass.said) c.run_roles-pass.result.left
     c.run_roles-pass.result.files c.run_roles-pass.result.fault
     (g.K.Shelf.held c.run_roles-pass.new.shelf) board last c.take_back-board.ensures.legal c.take_back-board.ensures.drained (e.end.1.leaves prefix is)))
     c.finish_run.ensures.files
@@ -203,15 +203,15 @@ returns-clause-ticks g c =
     let many = few ∙ (e.many ∙ n) in
     let came =
     came-back (λ p. IsPassOf c.in_ok-desk.desk.id p.inner)
-    (λ p. known_by p.inner p.last) s c.run_roles-pass.new.feeder c.run_roles-pass.new.workers.items many e.fed e.back in
+    (λ p. known_by p.inner p.said) s c.run_roles-pass.new.feeder c.run_roles-pass.new.workers.items many e.fed e.back in
     let board = g.B.BoardCalls.shown c.take_back-board.result in
-    let made = subst (λ ps. All (λ p. HasMade board (known_by p.inner p.last)) ps) c.gather-passes.ensures.passes c.take_back-board.ensures.moves in
+    let made = subst (λ ps. All (λ p. HasMade board (known_by p.inner p.said)) ps) c.gather-passes.ensures.passes c.take_back-board.ensures.moves in
     let old = g.C.Clock.coming c.args.clock.now in
     let now = g.C.Clock.coming c.run_roles-pass.new.clock in
     if-ok c.finish_run.result _ _
-    (λ end h. h old (fed-from (λ p. IsPassOf c.in_ok-desk.desk.id p.inner) (λ p. known_by p.inner p.last) s
+    (λ end h. h old (fed-from (λ p. IsPassOf c.in_ok-desk.desk.id p.inner) (λ p. known_by p.inner p.said) s
     (c.run_roles-pass.new.feeder ∷ c.run_roles-pass.new.workers.items) (ap suc many) came c.run_roles-pass.result.pass board made old now
-    (first-fed (λ p. known_by p.inner p.last) s old now c.run_roles-pass.new.feeder c.run_roles-pass.new.workers.items e.ticks)))
+    (first-fed (λ p. known_by p.inner p.said) s old now c.run_roles-pass.new.feeder c.run_roles-pass.new.workers.items e.ticks)))
     c.finish_run.ensures.ticks
 
 pub returns-clause-notes : goal.returns-clause-notes
@@ -227,14 +227,14 @@ returns-clause-notes g c =
     let many = few ∙ (e.many ∙ n) in
     let came =
     came-back (λ p. IsPassOf c.in_ok-desk.desk.id p.inner)
-    (λ p. known_by p.inner p.last) s c.run_roles-pass.new.feeder c.run_roles-pass.new.workers.items many e.fed e.back in
+    (λ p. known_by p.inner p.said) s c.run_roles-pass.new.feeder c.run_roles-pass.new.workers.items many e.fed e.back in
     let board = g.B.BoardCalls.shown c.take_back-board.result in
-    let made = subst (λ ps. All (λ p. HasMade board (known_by p.inner p.last)) ps) c.gather-passes.ensures.passes c.take_back-board.ensures.moves in
+    let made = subst (λ ps. All (λ p. HasMade board (known_by p.inner p.said)) ps) c.gather-passes.ensures.passes c.take_back-board.ensures.moves in
     let last =
-    made-last (λ p. IsPassOf c.in_ok-desk.desk.id p.inner) (λ p. known_by p.inner p.last) s
+    made-last (λ p. IsPassOf c.in_ok-desk.desk.id p.inner) (λ p. known_by p.inner p.said) s
     (c.run_roles-pass.new.feeder ∷ c.run_roles-pass.new.workers.items) (ap suc many) came c.run_roles-pass.result.pass board made in
     if-ok c.finish_run.result _ _
-    (λ end h. run-notes s end.log.past board (known_by c.run_roles-pass.result.pass.inner c.run_roles-pass.result.pass.last)
+    (λ end h. run-notes s end.log.past board (known_by c.run_roles-pass.result.pass.inner c.run_roles-pass.result.pass.said)
     c.run_roles-pass.result.want _ _ last h e.notes) c.finish_run.ensures.begins
 
 pub returns-clause-home : goal.returns-clause-home

@@ -34,8 +34,8 @@ returns-clause-workers g c =
     let some : 0 < length c.pop.new.self.items =
     omega (arith, few, c.requires.many.0, c.pop.ensures.len, ap (λ o. length (option_to_list o)) c.unwrap-last.ensures) in
     let begins = parted c.pop.new.self.items c.remove.new.self.items c.remove.result some c.remove.ensures.value c.remove.ensures.by_index.2 in
-    subst (λ xs. AreReady (λ p. IsPassOf c.args.desk.now.id p.inner) (λ p. known_by p.inner p.last) 1 c.args.nodes.now xs) (sym c.in_ok-worker_seats.ensures)
-    (ready-dealt (λ p. IsPassOf c.args.desk.now.id p.inner) (λ p. known_by p.inner p.last) c.args.nodes.now c.remove.new.self.items
+    subst (λ xs. AreReady (λ p. IsPassOf c.args.desk.now.id p.inner) (λ p. known_by p.inner p.said) 1 c.args.nodes.now xs) (sym c.in_ok-worker_seats.ensures)
+    (ready-dealt (λ p. IsPassOf c.args.desk.now.id p.inner) (λ p. known_by p.inner p.said) c.args.nodes.now c.remove.new.self.items
     (λ k p at. c.requires.fresh _ p
     (rest-dealt c.args.passes.items c.pop.new.self.items c.remove.new.self.items c.remove.result c.unwrap-last.result whole begins k p at)))
 

@@ -7,6 +7,6 @@ pub returns-else-has_thread-clause-ticks : goal.returns-else-has_thread-clause-t
 returns-else-has_thread-clause-ticks g c =
     let begins = c.in-Ready.pass in
     let ready =
-    subst (λ x. IsReady (λ p. IsPassOf c.args.desk.now.id p.inner) (λ p. known_by p.inner p.last) 0 0 x)
+    subst (λ x. IsReady (λ p. IsPassOf c.args.desk.now.id p.inner) (λ p. known_by p.inner p.said) 0 0 x)
     (sym c.replace.ensures.value ∙ c.in-Ready.is) c.requires.ready in
-    (known_by begins.inner begins.last, ready.3, c.leave_feed-end.ensures.ticks (g.C.Clock.coming c.args.clock.now))
+    (known_by begins.inner begins.said, ready.3, c.leave_feed-end.ensures.ticks (g.C.Clock.coming c.args.clock.now))

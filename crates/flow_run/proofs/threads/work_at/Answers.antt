@@ -9,7 +9,7 @@ returns-then-has_thread g c =
     let e = c.work_role-end.ensures in
     record {
       back =
-          worked-from (λ p. IsPassOf c.args.desk.now.id p.inner) (λ p. known_by p.inner p.last)
+          worked-from (λ p. IsPassOf c.args.desk.now.id p.inner) (λ p. known_by p.inner p.said)
           (run_setting g.R.Run.graph g.R.Run.stack) c.args.seat.now c.in-Ready.role c.in-Ready.node c.in-Ready.pass
           c.work_role-end.result (sym c.replace.ensures.value ∙ c.in-Ready.is) e.ours e.role e.moves e.last e.left e.reclaimed;
     }
@@ -19,7 +19,7 @@ returns-else-has_thread g c =
     let e = c.leave_work-end.ensures in
     record {
       back =
-          worked-from (λ p. IsPassOf c.args.desk.now.id p.inner) (λ p. known_by p.inner p.last)
+          worked-from (λ p. IsPassOf c.args.desk.now.id p.inner) (λ p. known_by p.inner p.said)
           (run_setting g.R.Run.graph g.R.Run.stack) c.args.seat.now c.in-Ready.role c.in-Ready.node c.in-Ready.pass
           c.leave_work-end.result (sym c.replace.ensures.value ∙ c.in-Ready.is) e.ours e.role e.moves e.last e.left e.reclaimed;
     }
