@@ -13,5 +13,6 @@ pub mod Sizes
 pub mod StackEnds
 pub mod StackFiles
 pub mod Stops
+pub mod Unread
 pub mod Claims
 pub mod Commands

@@ -73,13 +73,13 @@ written t name shape (a ∷ arrays) =
     rw some refl
 
 pub stops-one : (fault : SaveFault) (t u : Option Files) (name bytes : List ℕ) (before now : ℕ) → IsBegun t name bytes u
-    → begun.IsSaveCause {T = Unit {0}} (Err fault) before now → SaveStops (save_fault_status fault) t (file_of name bytes ∷ []) u before now
+    → begun.IsSaveCause {T = Unit {0}} (Err fault) before now → SaveStops (save_fault_status fault) t (file_of name bytes ∷ []) None u before now
 stops-one saving.Failed t u name bytes before now h cause = (interrupted-one t u name bytes h, cause)
 stops-one saving.OutOfMemory t u name bytes before now h cause = (interrupted-one t u name bytes h, cause)
 
 pub stops : (fault : SaveFault) (t u : Option Files) (name : List ℕ) (shape : FileShape) (arrays : List Array) (before now : ℕ) → 1 ≤ length arrays
     → IsBegun t name (layout shape arrays) u → begun.IsSaveCause {T = Unit {0}} (Err fault) before now
-    → SaveStops (save_fault_status fault) t (stack_files name shape arrays) u before now
+    → SaveStops (save_fault_status fault) t (stack_files name shape arrays) None u before now
 stops fault t u name shape [] before now few h cause = absurd (omega (arith, few))
 stops fault t u name shape (a ∷ arrays) before now few h cause =
     let some : (length (a ∷ arrays) == 0) ≡ false = grind (arith, nat_tests) in

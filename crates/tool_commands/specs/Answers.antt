@@ -2,12 +2,12 @@
 use Rattle.std.specs.Prelude.{◌≡◌, ◌≢◌, ◌⊎◌, ℕ, All, List, Option, None, Result, Ok, Err}
 use Rattle.edge_traits.specs.Files.{Files}
 use Rattle.edge_traits.specs.Written.{with_written}
-use Rattle.graph_files.specs.Interrupted.{AreInterrupted}
 use Rattle.graph_files.specs.OutFiles.{with_files}
 use Rattle.tool_commands.specs.declared.status.Status.{Status}
 use Rattle.tool_commands.specs.declared.status.Status.TheVariants.{Done, Usage, GraphText, GraphRule, StackBytes, Limit, Sizes, ReadFault, ShelfFault, OutFault}
 use Rattle.tool_commands.specs.declared.status.Status.TheVariants.{OutOfMemory}
 use Rattle.tool_commands.specs.Command.{Command}
+use Rattle.tool_commands.specs.Left.{AreLeft}
 use Rattle.tool_commands.specs.Outcomes.{Outcome, Leads}
 use Rattle.tool_commands.specs.Printed.{IsCutShort}
 use Rattle.tool_commands.specs.Works.{Work, IsBack, outcome_of}
@@ -64,7 +64,7 @@ pub record IsDone (outcome : Outcome Work) (o : Objects) : Type 0 where
 pub record IsWorkBegun (outcome : Outcome Work) (o : Objects) : Type 0 where
   pub work : Work
   pub read : Leads o.library outcome (Ok work)
-  pub begun : AreInterrupted o.shelf_before work.files o.shelf_after ⊎ (o.shelf_after ≡ with_files o.shelf_before work.files)
+  pub begun : AreLeft o.shelf_before work.files work.run o.shelf_after ⊎ (o.shelf_after ≡ with_files o.shelf_before work.files)
   pub unprinted : o.sink_after ≡ o.sink_before
 
 -- the files were written, and a proper front of the print

@@ -6,6 +6,7 @@ pub mod Copy
 pub mod Info
 pub mod Inputs
 pub mod Outcomes
+pub mod Unread
 pub mod PlainRuns
 pub mod PlainText
 pub mod Printed
@@ -18,4 +19,5 @@ pub mod StatusText
 pub mod Words
 pub mod WorkedInfo
 pub mod WorkLaws
+pub mod Left
 pub mod Works

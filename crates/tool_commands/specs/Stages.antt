@@ -17,8 +17,8 @@ use Rattle.tool_commands.specs.declared.reading.ReadRefusal.TheVariants as readi
 use Rattle.tool_commands.specs.declared.status.Status.{Status}
 use Rattle.tool_commands.specs.declared.status.Status.TheVariants.{Done, Usage, GraphText, GraphRule, StackBytes, Limit, Sizes, ReadFault, ShelfFault, OutFault}
 use Rattle.tool_commands.specs.declared.status.Status.TheVariants.{OutOfMemory}
-use Rattle.graph_files.specs.Interrupted.{AreInterrupted}
 use Rattle.graph_files.specs.OutFiles.{OutFile}
+use Rattle.tool_commands.specs.Left.{PlainRun, AreLeft}
 use Rattle.tool_commands.specs.Printed.{IsCutShort}
 
 -- the status of a file that wasn't read, as a graph and as a stack
@@ -68,10 +68,10 @@ PlanStops OutOfMemory g s = Unit {0}
 PlanStops _ g s = ⊥
 
 -- writing the files
-abbrev pub SaveStops : Status → (held : Option Files) → List OutFile → (now : Option Files) → (before after : ℕ) → Type 0
-SaveStops ShelfFault held files now before after = AreInterrupted held files now × Rose before after
-SaveStops OutOfMemory held files now before after = AreInterrupted held files now × (after ≡ before)
-SaveStops _ held files now before after = ⊥
+abbrev pub SaveStops : Status → (held : Option Files) → List OutFile → Option PlainRun → (now : Option Files) → (before after : ℕ) → Type 0
+SaveStops ShelfFault held files run now before after = AreLeft held files run now × Rose before after
+SaveStops OutOfMemory held files run now before after = AreLeft held files run now × (after ≡ before)
+SaveStops _ held files run now before after = ⊥
 
 -- printing
 abbrev pub PrintStops : Status → (written : Option (List ℕ)) → (print : List ℕ) → (now : Option (List ℕ)) → (before after : ℕ) → Type 0

@@ -26,6 +26,7 @@ use Rattle.tool_commands.specs.Command.{Command, Copy, Plain, Info, Gen, Orient,
 use Rattle.tool_commands.specs.Copy.{copy_graph, copy_shape}
 use Rattle.tool_commands.specs.Info.{info_text}
 use Rattle.tool_commands.specs.Inputs.{AsGraph, AsStack}
+use Rattle.tool_commands.specs.Left.{PlainRun}
 use Rattle.tool_commands.specs.Outcomes.{Outcome, Reads, Refused, Works, outcome_map}
 use Rattle.tool_commands.specs.PlainText.{plain_text}
 use Rattle.tool_commands.specs.Printed.{frames_line}
@@ -43,9 +44,10 @@ pub record Group : Type 0 where
 abbrev pub IsBack : Group → Type 0
 IsBack group = ReadsBack group.shape group.arrays
 
--- the files that a command writes, what it prints, and the groups that its netCDF files are of
+-- the files that a command writes, the plain run whose files they are, if they are one's, what it prints, and the groups that its netCDF files are of
 pub record Work : Type 0 where
   pub files : List OutFile
+  pub run : Option PlainRun
   pub print : List ℕ
   pub groups : List Group
 
@@ -65,7 +67,13 @@ plain_groups g s = flat_map (node_groups g s) (range_with_len 1 (length g.nodes)
 
 -- A copy has the files of the plain run of its graph, which are the layout of the stack under one name (`CopiesAreOneFile`).
 abbrev pub copy_work : (prefix : List ℕ) → StackValue → Work
-copy_work prefix s = record { files = plain_files copy_graph s prefix; print = frames_line (length s.arrays); groups = copy_groups s }
+copy_work prefix s =
+    record {
+      files = plain_files copy_graph s prefix;
+      run = Some (record { graph = copy_graph; stack = s; prefix = prefix });
+      print = frames_line (length s.arrays);
+      groups = copy_groups s;
+    }
 
 -- a graph, and the stack that it goes over
 pub record Source : Type 0 where
@@ -76,16 +84,18 @@ abbrev pub plain_work : (prefix : List ℕ) → Source → Work
 plain_work prefix source =
     record {
       files = plain_files source.graph source.stack prefix;
+      run = Some (record { graph = source.graph; stack = source.stack; prefix = prefix });
       print = plain_text source.graph source.stack;
       groups = plain_groups source.graph source.stack;
     }
 
 abbrev pub info_work : StackValue → Work
-info_work s = record { files = []; print = info_text s; groups = [] }
+info_work s = record { files = []; run = None; print = info_text s; groups = [] }
 
 -- a stack is written to one file, and this is printed
 abbrev pub stack_work : (name print : List ℕ) → StackValue → Work
-stack_work name print s = record { files = stack_files name s.shape s.arrays; print = print; groups = stack_groups s.shape s.arrays }
+stack_work name print s =
+    record { files = stack_files name s.shape s.arrays; run = None; print = print; groups = stack_groups s.shape s.arrays }
 
 -- the stack that a rule makes; nothing is printed
 abbrev pub gen_work : GenRule → (name : List ℕ) → Work
@@ -100,6 +110,7 @@ abbrev pub series_work : (most : ℕ) → (regions : List Box4) → (name : List
 series_work most regions name s =
     record {
       files = record { name = name; bytes = series_text (series_of most regions s.arrays); late = false } ∷ [];
+      run = None;
       print = frames_line (length s.arrays);
       groups = [];
     }

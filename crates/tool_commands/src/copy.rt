@@ -5,6 +5,8 @@ ghost use Rattle.tool_commands.specs.Answers.{objects_of, Ends, status_of};
 ghost use Rattle.tool_commands.specs.Causes.{IsCause};
 ghost use Rattle.tool_commands.specs.Command.{Copy};
 ghost use Rattle.tool_commands.specs.Copy.{copy_graph};
+ghost use Rattle.tool_commands.specs.Unread.{FailsIn, IfUnread};
+ghost use Rattle.tool_commands.specs.Works.{outcome_of};
 
 use crate::plain::save_plain;
 use crate::sources::{load_stack, plan_within};
@@ -51,6 +53,8 @@ pub(crate) fn copy<L: Library, K: Shelf, T: Sink>(
         (objects_of (L.holds library.old) (K.held shelf.old) (K.held shelf.new) (T.written out.old) (T.written out.new)) }
     ensures cause { IsCause (status_of result) (record { library = L.faults library.old; shelf = K.faults shelf.old; sink = T.faults out.old })
         (record { library = L.faults library.new; shelf = K.faults shelf.new; sink = T.faults out.new }) }
+    ensures unread { IfUnread (status_of result)
+        (FailsIn (L.holds library.old) (L.faults_at library.old) (L.faults_at library.new) (outcome_of (Some (Copy name.now prefix.now)))) }
     ensures library { L.holds library.new ≡ L.holds library.old }
 {
     let stack = load_stack(alloc, library, name)?;

@@ -9,7 +9,8 @@ ghost use Rattle.tool_commands.specs.Causes.{IsCause};
 ghost use Rattle.tool_commands.specs.Command.{Correct};
 ghost use Rattle.tool_commands.specs.Inputs.{AsStack, IsReadAs, IsRefusedAs};
 ghost use Rattle.tool_commands.specs.Stages.{ReadStops};
-ghost use Rattle.tool_commands.specs.Works.{same_sizes};
+ghost use Rattle.tool_commands.specs.Unread.{NoneFailed, FailedAt, FailsIn, IfUnread};
+ghost use Rattle.tool_commands.specs.Works.{same_sizes, outcome_of};
 ghost use Rattle.tool_commands.specs.declared.status.Status.TheVariants as statuses;
 
 use crate::sources::load_stack;
@@ -47,6 +48,8 @@ fn load_dark<L: Library>(
     ensures stays { OnOk result (L.faults library.new ≡ L.faults library.old) }
     ensures files { L.holds library.new ≡ L.holds library.old }
     ensures err { IfErr result (λ s. ReadStops (IsRefusedAs (L.holds library.old) AsStack name.now) s (L.faults library.old) (L.faults library.new)) }
+    ensures none_failed { OnOk result (NoneFailed (L.faults_at library.old) (L.faults_at library.new)) }
+    ensures unread { IfErr result (λ s. IfUnread s (FailedAt (L.faults_at library.old) (L.faults_at library.new) name.now)) }
 {
     let stack = load_stack(alloc, library, name)?;
     if stack.frames() == 0 {
@@ -82,6 +85,8 @@ pub(crate) fn correct<L: Library, K: Shelf, T: Sink>(
         (objects_of (L.holds library.old) (K.held shelf.old) (K.held shelf.new) (T.written out.old) (T.written out.new)) }
     ensures cause { IsCause (status_of result) (record { library = L.faults library.old; shelf = K.faults shelf.old; sink = T.faults out.old })
         (record { library = L.faults library.new; shelf = K.faults shelf.new; sink = T.faults out.new }) }
+    ensures unread { IfUnread (status_of result)
+        (FailsIn (L.holds library.old) (L.faults_at library.old) (L.faults_at library.new) (outcome_of (Some (Correct rule.now dark.now stack.now name.now)))) }
     ensures library { L.holds library.new ≡ L.holds library.old }
 {
     let dark = load_dark(alloc, library, dark)?;

@@ -7,6 +7,8 @@ ghost use Rattle.tool_commands.specs.Causes.{IsCause};
 ghost use Rattle.tool_commands.specs.Command.{Info};
 ghost use Rattle.tool_commands.specs.Info.{type_word, attr_word, kind_line, sizes, dims_line, ids_line, attr_line, attr_lines, info_text};
 ghost use Rattle.tool_commands.specs.Printed.{frames_line};
+ghost use Rattle.tool_commands.specs.Unread.{FailsIn, IfUnread};
+ghost use Rattle.tool_commands.specs.Works.{outcome_of};
 
 use crate::printing::print;
 use crate::sources::load_stack;
@@ -139,6 +141,8 @@ pub(crate) fn info<L: Library, T: Sink>(
         (objects_of (L.holds library.old) held held (T.written out.old) (T.written out.new)) }
     ensures cause { (shelf : ℕ) → IsCause (status_of result) (record { library = L.faults library.old; shelf = shelf; sink = T.faults out.old })
         (record { library = L.faults library.new; shelf = shelf; sink = T.faults out.new }) }
+    ensures unread { IfUnread (status_of result)
+        (FailsIn (L.holds library.old) (L.faults_at library.old) (L.faults_at library.new) (outcome_of (Some (Info name.now)))) }
     ensures library { L.holds library.new ≡ L.holds library.old }
 {
     let stack = load_stack(alloc, library, name)?;

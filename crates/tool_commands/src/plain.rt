@@ -12,6 +12,8 @@ ghost use Rattle.tool_commands.specs.Command.{Plain};
 ghost use Rattle.graph_files.specs.OutFiles.{plain_files, with_files};
 ghost use Rattle.tool_commands.specs.PlainText.{plain_text};
 ghost use Rattle.tool_commands.specs.Stages.{SaveStops, PrintStops};
+ghost use Rattle.tool_commands.specs.Unread.{FailsIn, IfUnread};
+ghost use Rattle.tool_commands.specs.Works.{outcome_of};
 
 use crate::printing::print;
 use crate::prints::plain_text;
@@ -36,8 +38,8 @@ pub(crate) fn save_plain<K: Shelf>(
     requires within { limit_fault plan.now.graph stack.now ≡ None }
     ensures ok { OnOk result (K.held shelf.new ≡ with_files (K.held shelf.old) (plain_files plan.now.graph stack.now prefix.now)) }
     ensures stays { OnOk result (K.faults shelf.new ≡ K.faults shelf.old) }
-    ensures err { IfErr result (λ s. SaveStops s (K.held shelf.old) (plain_files plan.now.graph stack.now prefix.now) (K.held shelf.new) (K.faults shelf.old)
-        (K.faults shelf.new)) }
+    ensures err { IfErr result (λ s. SaveStops s (K.held shelf.old) (plain_files plan.now.graph stack.now prefix.now)
+        (Some (record { graph = plan.now.graph; stack = stack.now; prefix = prefix.now })) (K.held shelf.new) (K.faults shelf.old) (K.faults shelf.new)) }
 {
     Ok(save_files(alloc, shelf, prefix, plan, stack)?)
 }
@@ -73,6 +75,8 @@ pub(crate) fn plain<L: Library, K: Shelf, T: Sink>(
         (objects_of (L.holds library.old) (K.held shelf.old) (K.held shelf.new) (T.written out.old) (T.written out.new)) }
     ensures cause { IsCause (status_of result) (record { library = L.faults library.old; shelf = K.faults shelf.old; sink = T.faults out.old })
         (record { library = L.faults library.new; shelf = K.faults shelf.new; sink = T.faults out.new }) }
+    ensures unread { IfUnread (status_of result)
+        (FailsIn (L.holds library.old) (L.faults_at library.old) (L.faults_at library.new) (outcome_of (Some (Plain graph.now name.now prefix.now)))) }
     ensures library { L.holds library.new ≡ L.holds library.old }
 {
     let (plan, stack) = load_sources(alloc, library, graph, name)?;

@@ -3,6 +3,7 @@
 ghost use Rattle.std.specs.Prelude.{◌≡◌, ◌<◌, ◌≤◌, [], ℕ, List, length, take, IfOk, IfErr, OnOk};
 ghost use Rattle.edge_traits.specs.Files.{IsTold, HasFile};
 ghost use Rattle.tool_commands.specs.Reads.{ReadFaultCause, IsReadStop};
+ghost use Rattle.tool_commands.specs.Unread.{NoneFailed, FailedAt, IfFailed};
 
 use edge_traits::{Failed, Library};
 use std::alloc::{AllocError, Global};
@@ -58,6 +59,8 @@ pub fn read_file<L: Library>(
     ensures within { IfOk result (λ v. length v.items ≤ limit) }
     ensures refused { IfErr result (λ e. ReadFaultCause e (L.holds library.old) name.now limit (L.faults library.old) (L.faults library.new)) }
     ensures same { OnOk result (L.faults library.new ≡ L.faults library.old) }
+    ensures none_failed { OnOk result (NoneFailed (L.faults_at library.old) (L.faults_at library.new)) }
+    ensures failed { IfErr result (λ e. IfFailed e (FailedAt (L.faults_at library.old) (L.faults_at library.new) name.now)) }
     ensures files { L.holds library.new ≡ L.holds library.old }
 {
     let size = library.size(name)?;
@@ -88,6 +91,8 @@ fn read_pieces<L: Library>(
         → length file ≤ length bytes.new.items) }
     ensures stops { IfErr result (λ e. IsReadStop e (L.faults library.old) (L.faults library.new)) }
     ensures same { OnOk result (L.faults library.new ≡ L.faults library.old) }
+    ensures none_failed { OnOk result (NoneFailed (L.faults_at library.old) (L.faults_at library.new)) }
+    ensures failed { IfErr result (λ e. IfFailed e (FailedAt (L.faults_at library.old) (L.faults_at library.new) name.now)) }
     ensures files { L.holds library.new ≡ L.holds library.old }
 {
     while bytes.len() < size {

@@ -6,6 +6,8 @@ ghost use Rattle.nd_series.specs.Words.{regions_in};
 ghost use Rattle.tool_commands.specs.Answers.{objects_of, Ends, status_of};
 ghost use Rattle.tool_commands.specs.Causes.{IsCause};
 ghost use Rattle.tool_commands.specs.Command.{Series};
+ghost use Rattle.tool_commands.specs.Unread.{FailsIn, IfUnread};
+ghost use Rattle.tool_commands.specs.Works.{outcome_of};
 
 use crate::printing::save_text;
 use crate::sources::load_stack;
@@ -33,6 +35,8 @@ pub(crate) fn series<L: Library, K: Shelf, T: Sink>(
         (objects_of (L.holds library.old) (K.held shelf.old) (K.held shelf.new) (T.written out.old) (T.written out.new)) }
     ensures cause { IsCause (status_of result) (record { library = L.faults library.old; shelf = K.faults shelf.old; sink = T.faults out.old })
         (record { library = L.faults library.new; shelf = K.faults shelf.new; sink = T.faults out.new }) }
+    ensures unread { IfUnread (status_of result)
+        (FailsIn (L.holds library.old) (L.faults_at library.old) (L.faults_at library.new) (outcome_of (Some (Series most (unwrap_or (regions_in regions.now) []) stack.now name.now)))) }
     ensures library { L.holds library.new ≡ L.holds library.old }
 {
     let stack = load_stack(alloc, library, stack)?;

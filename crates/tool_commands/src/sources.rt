@@ -10,6 +10,7 @@ ghost use Rattle.chain_plain.specs.Plans.{plan_of};
 ghost use Rattle.graph_conf.specs.Loads.{limit_fault};
 ghost use Rattle.tool_commands.specs.Outcomes.{Leads};
 ghost use Rattle.tool_commands.specs.Stages.{PlanStops, ReadStops, graph_read_status, stack_read_status};
+ghost use Rattle.tool_commands.specs.Unread.{NoneFailed, FailedAt, FailsIn, IfUnread};
 ghost use Rattle.tool_commands.specs.Works.{sources};
 
 use crate::reading::{ReadRefusal, read_file};
@@ -55,6 +56,8 @@ fn load_graph<L: Library>(alloc: Global, library: &mut L, name: &str) -> Result<
     ensures stays { OnOk result (L.faults library.new ≡ L.faults library.old) }
     ensures files { L.holds library.new ≡ L.holds library.old }
     ensures err { IfErr result (λ s. ReadStops (IsRefusedAs (L.holds library.old) AsGraph name.now) s (L.faults library.old) (L.faults library.new)) }
+    ensures none_failed { OnOk result (NoneFailed (L.faults_at library.old) (L.faults_at library.new)) }
+    ensures unread { IfErr result (λ s. IfUnread s (FailedAt (L.faults_at library.old) (L.faults_at library.new) name.now)) }
 {
     let bytes = match read_file(alloc, library, name, GRAPH_LIMIT) {
         Ok(bytes) => bytes,
@@ -86,6 +89,8 @@ pub(crate) fn load_stack<L: Library>(
     ensures stays { OnOk result (L.faults library.new ≡ L.faults library.old) }
     ensures files { L.holds library.new ≡ L.holds library.old }
     ensures err { IfErr result (λ s. ReadStops (IsRefusedAs (L.holds library.old) AsStack name.now) s (L.faults library.old) (L.faults library.new)) }
+    ensures none_failed { OnOk result (NoneFailed (L.faults_at library.old) (L.faults_at library.new)) }
+    ensures unread { IfErr result (λ s. IfUnread s (FailedAt (L.faults_at library.old) (L.faults_at library.new) name.now)) }
 {
     let bytes = match read_file(alloc, library, name, STACK_LIMIT) {
         Ok(bytes) => bytes,
@@ -131,6 +136,9 @@ pub fn load_sources<L: Library>(
     ensures files { L.holds library.new ≡ L.holds library.old }
     ensures err { IfErr result (λ s. ReadStops (λ status. Leads (L.holds library.old) (sources graph.now stack.now) (Err status)) s
         (L.faults library.old) (L.faults library.new)) }
+    ensures none_failed { OnOk result (NoneFailed (L.faults_at library.old) (L.faults_at library.new)) }
+    ensures unread { IfErr result (λ s. IfUnread s
+        (FailsIn (L.holds library.old) (L.faults_at library.old) (L.faults_at library.new) (sources graph.now stack.now))) }
 {
     let graph = load_graph(alloc, library, graph)?;
     let stack = load_stack(alloc, library, stack)?;

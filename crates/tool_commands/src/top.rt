@@ -6,6 +6,7 @@ ghost use Rattle.tool_commands.specs.Causes.{IsCause};
 ghost use Rattle.tool_commands.specs.Claims.{Completes};
 ghost use Rattle.tool_commands.specs.Command.{command_of};
 ghost use Rattle.tool_commands.specs.Outcomes.{Leads};
+ghost use Rattle.tool_commands.specs.Unread.{FailsIn, IfUnread, Decides};
 ghost use Rattle.tool_commands.specs.Works.{outcome_of};
 
 use crate::copy::copy;
@@ -32,6 +33,8 @@ fn run_command<L: Library, K: Shelf, T: Sink>(
         (objects_of (L.holds library.old) (K.held shelf.old) (K.held shelf.new) (T.written out.old) (T.written out.new)) }
     ensures cause { IsCause (status_of result) (record { library = L.faults library.old; shelf = K.faults shelf.old; sink = T.faults out.old })
         (record { library = L.faults library.new; shelf = K.faults shelf.new; sink = T.faults out.new }) }
+    ensures unread { IfUnread (status_of result)
+        (FailsIn (L.holds library.old) (L.faults_at library.old) (L.faults_at library.new) (outcome_of (command_of (map string_bytes words.now)))) }
     ensures library { L.holds library.new ≡ L.holds library.old }
 {
     match command_in(words) {
@@ -99,9 +102,15 @@ pub fn tool_top<L: Library, K: Shelf, T: Sink>(
         ⊎ IsWorkBegun (outcome_of (command_of (map string_bytes words.now)))
         (objects_of (L.holds library.old) (K.held shelf.old) (K.held shelf.new) (T.written out.old) (T.written out.new)) }
 
-    // Faults come only where their object's count rose; where none rose, the files that were read decide.
+    // Faults come only where their object's count rose, and that of the library only at a file of the command whose earlier files were read and lead to it.
     ensures cause { IsCause result (record { library = L.faults library.old; shelf = K.faults shelf.old; sink = T.faults out.old })
         (record { library = L.faults library.new; shelf = K.faults shelf.new; sink = T.faults out.new }) }
+    ensures unread { result ≡ Status.ReadFault
+        → FailsIn (L.holds library.old) (L.faults_at library.old) (L.faults_at library.new) (outcome_of (command_of (map string_bytes words.now))) }
+
+    // The files decide: whatever was counted, and with no other status but OutOfMemory where no count rose.
+    ensures decides { Decides (outcome_of (command_of (map string_bytes words.now))) (L.holds library.old)
+        (L.faults_at library.old) (L.faults_at library.new) result }
     ensures complete { Completes (outcome_of (command_of (map string_bytes words.now))) result (L.holds library.old)
         (record { library = L.faults library.old; shelf = K.faults shelf.old; sink = T.faults out.old })
         (record { library = L.faults library.new; shelf = K.faults shelf.new; sink = T.faults out.new }) }

@@ -1,4 +1,4 @@
-use Rattle.std.proofs.Common.{◌≡◌, List, [], ap, sym, subst, refl, ◌∙◌, unwrap_or}
+use Rattle.std.proofs.Common.{◌≡◌, List, [], ap, sym, subst, refl, ◌∙◌, unwrap_or, inl}
 use Rattle.std.specs.Option.{option_map}
 use Rattle.std.proofs.lemmas.List.Elements.{All-nil}
 use Rattle.std.proofs.lemmas.Result.{err_from_is_err_and}
@@ -14,6 +14,7 @@ use Rattle.tool_commands.specs.Works.{IsBack, series_work}
 use Rattle.tool_commands.proofs.Leads.{series_read}
 use Rattle.tool_commands.proofs.StackFiles.{stops-one}
 use Rattle.tool_commands.proofs.Stops.{Ends-save, Ends-printed}
+use Rattle.tool_commands.proofs.Unread.{unread-to, saved-at, printed-at}
 use Rattle.tool_commands.proofs.series.series.Goals as goal
 
 pub returns-in_err-save_text-clause-ends : goal.returns-in_err-save_text-clause-ends
@@ -53,3 +54,11 @@ returns-clause-ends g c =
     (series_read _ c.args.most regions c.args.stack.now name stack c.in_ok-stack.ensures.ok)
     (c.in_ok-save_text.ensures.ok ∙ ap (with_file (g.K.Shelf.held c.args.shelf.now) name) text) c.print_frames.result _ _ (All-nil IsBack)
     (rw c.frames.ensures at c.print_frames.ensures.ok) (rw c.frames.ensures at c.print_frames.ensures.err)
+
+pub returns-in_err-stack-clause-unread : goal.returns-in_err-stack-clause-unread
+returns-in_err-stack-clause-unread g c =
+    let p = err_from_is_err_and c.from_residual.result c.from_residual.ensures.1 in
+    rw (p.1, p.2) (unread-to _ _ (λ failed. inl failed) _ c.in_err-stack.ensures.unread)
+
+pub returns-clause-unread : goal.returns-clause-unread
+returns-clause-unread g c = printed-at _ c.print_frames.result _ _ _ _ _ c.print_frames.ensures.err

@@ -1,4 +1,5 @@
 use Rattle.tool_commands.proofs.Inputs.{graph_read, graph_unread, graph_refused}
+use Rattle.tool_commands.proofs.Unread.{unread-graph-at, read-graph-at}
 use Rattle.tool_commands.proofs.sources.load_graph.Goals as goal
 
 pub returns-in-Err-clause-err : goal.returns-in-Err-clause-err
@@ -16,3 +17,9 @@ returns-clause-err g c =
     let found = (rw c.deref.ensures.value at c.in-Err-read_graph.ensures.exact) in
     rw c.from.ensures (graph_refused (g.L.Library.holds c.args.library.now) c.args.name.now c.in-Ok.bytes.items
     c.in-Ok.ensures.bytes c.in-Ok.ensures.within c.in-Err-read_graph.fault _ _ found c.in-Ok.ensures.same)
+
+pub returns-in-Err-clause-unread : goal.returns-in-Err-clause-unread
+returns-in-Err-clause-unread g c = rw c.unread_graph.ensures (unread-graph-at _ c.in-Err.refusal c.in-Err.ensures.failed)
+
+pub returns-clause-unread : goal.returns-clause-unread
+returns-clause-unread g c = rw c.from.ensures (read-graph-at _ c.in-Err-read_graph.fault)

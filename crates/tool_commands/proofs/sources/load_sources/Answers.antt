@@ -1,7 +1,8 @@
-use Rattle.std.proofs.Common.{◌≡◌, ap, ◌∙◌}
+use Rattle.std.proofs.Common.{◌≡◌, ap, ◌∙◌, inl, inr}
 use Rattle.std.proofs.lemmas.Result.{err_from_is_err_and}
 use Rattle.nd_base.specs.declared.plan.Plan.{Plan}
 use Rattle.tool_commands.proofs.Leads.{unread-graph, unread-stack, unread-limit, sources_read}
+use Rattle.tool_commands.proofs.Unread.{failed-after, unread-to, planned-at}
 use Rattle.tool_commands.proofs.sources.load_sources.Goals as goal
 
 pub returns-in_err-graph-clause-err : goal.returns-in_err-graph-clause-err
@@ -38,3 +39,28 @@ pub returns-clause-within : goal.returns-clause-within
 returns-clause-within g c =
     let same : c.in_ok-plan.plan.graph ≡ c.in_ok-graph.graph = ap (λ (p : Plan). p.graph) c.in_ok-plan.ensures.plan in
     rw same c.in_ok-plan.ensures.within
+
+pub returns-in_err-graph-clause-unread : goal.returns-in_err-graph-clause-unread
+returns-in_err-graph-clause-unread g c =
+    let p = err_from_is_err_and c.from_residual.result c.from_residual.ensures.1 in
+    rw (p.1, p.2) (unread-to _ _ (λ failed. inl failed) _ c.in_err-graph.ensures.unread)
+
+pub returns-in_err-stack-clause-unread : goal.returns-in_err-stack-clause-unread
+returns-in_err-stack-clause-unread g c =
+    let p = err_from_is_err_and c.from_residual-in_err-stack.result c.from_residual-in_err-stack.ensures.1 in
+    let first = c.in_ok-graph.ensures in
+    rw (p.1, p.2) (unread-to _ _ (λ failed. inr (
+      c.in_ok-graph.graph,
+      first.ok,
+      inl (failed-after (g.L.Library.faults_at c.args.library.now)
+          (g.L.Library.faults_at c.load_graph.new.library) (g.L.Library.faults_at c.load_stack.new.library) c.args.stack.now first.none_failed failed),
+    ))
+    _ c.in_err-stack.ensures.unread)
+
+pub returns-in_err-plan-clause-unread : goal.returns-in_err-plan-clause-unread
+returns-in_err-plan-clause-unread g c =
+    let p = err_from_is_err_and c.from_residual-in_err-plan.result c.from_residual-in_err-plan.ensures.1 in
+    rw (p.1, p.2) (planned-at _ _ _ _ c.in_err-plan.ensures.err)
+
+pub returns-clause-none_failed : goal.returns-clause-none_failed
+returns-clause-none_failed g c = λ name. c.in_ok-stack.ensures.none_failed name ∙ c.in_ok-graph.ensures.none_failed name

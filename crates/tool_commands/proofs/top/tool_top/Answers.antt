@@ -1,5 +1,6 @@
 use Rattle.std.proofs.Common.{sym, ◌∙◌}
 use Rattle.tool_commands.proofs.Claims.{Ends-none, Ends-refused, Ends-untouched, answered}
+use Rattle.tool_commands.proofs.Unread.{decided, unread-is}
 use Rattle.tool_commands.proofs.top.tool_top.Goals as goal
 
 pub returns-clause-usage : goal.returns-clause-usage
@@ -17,3 +18,9 @@ returns-clause-untouched g c = rw c.status_of.ensures (Ends-untouched _ _ _ c.ru
 
 pub returns-clause-complete : goal.returns-clause-complete
 returns-clause-complete g c = rw c.status_of.ensures (answered _ _ _ _ _ c.run_command.ensures.ends c.run_command.ensures.cause)
+
+pub returns-clause-unread : goal.returns-clause-unread
+returns-clause-unread g c = rw c.status_of.ensures (unread-is _ _ c.run_command.ensures.unread)
+
+pub returns-clause-decides : goal.returns-clause-decides
+returns-clause-decides g c = rw c.status_of.ensures (decided _ _ _ _ _ c.run_command.ensures.ends c.run_command.ensures.unread)
