@@ -1,5 +1,5 @@
 -- What the end of a run says of its status.
-use Rattle.std.proofs.Common.{◌≡◌, ◌⊎◌, Option, None, Some, Ok, Err, refl, subst, inl, inr}
+use Rattle.std.proofs.Common.{◌≡◌, ◌⊎◌, ℕ, List, Option, None, Some, Ok, Err, refl, subst, inl, inr}
 use Rattle.flow_journal.specs.Journal.{Journal}
 use Rattle.tool_commands.specs.declared.status.Status.{Status}
 use Rattle.tool_commands.specs.declared.status.Status.TheVariants.{Done, Usage, GraphText, GraphRule, StackBytes, Limit, Sizes, ReadFault, ShelfFault, OutFault}
@@ -8,6 +8,7 @@ use Rattle.tool_commands.specs.Answers.{IsRefusal}
 use Rattle.tool_commands.specs.Causes.{Counts}
 use Rattle.tool_commands.specs.Claims.{Completes}
 use Rattle.tool_commands.specs.Outcomes.{Leads}
+use Rattle.tool_commands.specs.Unread.{FailsIn, IfUnread, Decides, Asked, Unread, Unwritten, Unprinted, NoMemory}
 use Rattle.replay_top.specs.RunAnswers.{RunObjects, RunEnds, IsRunCause, IsRunUntouched, OfLog, HasFinished, HasLog}
 use Rattle.replay_top.specs.RunCommand.{RunCommand, IsRead}
 use Rattle.replay_top.specs.RunSources.{sources_of}
@@ -83,3 +84,23 @@ answered_run ReadFault log c o before after ends cause none = absurd (none.libra
 answered_run ShelfFault log c o before after ends cause none = absurd (none.shelf cause.1)
 answered_run OutFault log c o before after ends cause none = absurd (none.sink cause.2)
 answered_run OutOfMemory log c o before after ends cause none = inr refl
+
+-- and whatever was counted
+pub decided_run : (s : Status) (log : Option Journal) (c : RunCommand) (o : RunObjects) (before now : List ℕ → ℕ) → RunEnds s log (Some c) o
+    → IfUnread s (FailsIn o.objects.library before now (sources_of (Some c))) → Decides (sources_of (Some c)) o.objects.library before now s
+decided_run Done (Some l) c o before now ends unread = Asked Done (Leads-Asks o.objects.library (sources_of (Some c)) (Ok ends.source) ends.log.read)
+decided_run Done None c o before now ends unread = absurd ends
+decided_run Usage log c o before now ends unread = absurd (cc ends.1)
+decided_run GraphText log c o before now ends unread = Asked GraphText (Leads-Asks o.objects.library (sources_of (Some c)) (Err GraphText) ends.1.0)
+decided_run (GraphRule f) log c o before now ends unread =
+    Asked (GraphRule f) (Leads-Asks o.objects.library (sources_of (Some c)) (Err (GraphRule f)) ends.1.0)
+decided_run (StackBytes f) log c o before now ends unread =
+    Asked (StackBytes f) (Leads-Asks o.objects.library (sources_of (Some c)) (Err (StackBytes f)) ends.1.0)
+decided_run (Limit f) log c o before now ends unread = Asked (Limit f) (Leads-Asks o.objects.library (sources_of (Some c)) (Err (Limit f)) ends.1.0)
+decided_run Sizes log c o before now ends unread = Asked Sizes (Leads-Asks o.objects.library (sources_of (Some c)) (Err Sizes) ends.1.0)
+decided_run ReadFault log c o before now ends unread = Unread unread
+decided_run ShelfFault (Some l) c o before now ends unread = Unwritten ends.source ends.log.read
+decided_run ShelfFault None c o before now ends unread = absurd ends
+decided_run OutFault (Some l) c o before now ends unread = Unprinted ends.source ends.log.read
+decided_run OutFault None c o before now ends unread = absurd ends
+decided_run OutOfMemory log c o before now ends unread = NoMemory

@@ -12,6 +12,7 @@ ghost use Rattle.tool_commands.specs.Claims.{Completes};
 ghost use Rattle.replay_top.specs.RunAnswers.{run_objects_of, RunEnds, IsRunCause, OfLog, HasFinished, HasLog, IsRunDone, IsRunTorn, IsRunCutShort};
 ghost use Rattle.replay_top.specs.MeasuredFiles.{measured_files};
 ghost use Rattle.tool_commands.specs.Outcomes.{Leads};
+ghost use Rattle.tool_commands.specs.Unread.{FailsIn, IfUnread, Decides};
 ghost use Rattle.replay_top.specs.RunCommand.{run_command_of, IsInRange, ReadsFiles};
 ghost use Rattle.replay_top.specs.DemoRuns.{IsDemoSteady};
 ghost use Rattle.replay_top.specs.RunSources.{sources_of};
@@ -147,6 +148,8 @@ fn run_words<
         (C.coming clock.old) (C.coming clock.new)) }
     ensures cause { IsRunCause result.status (record { library = L.faults library.old; shelf = K.faults shelf.old; sink = T.faults out.old })
         (record { library = L.faults library.new; shelf = K.faults shelf.new; sink = T.faults out.new }) }
+    ensures unread { IfUnread result.status
+        (FailsIn (L.holds library.old) (L.faults_at library.old) (L.faults_at library.new) (sources_of (Some (run_told words.entry)))) }
     ensures library { L.holds library.new ≡ L.holds library.old }
 {
     let (plan, stack) = match load_run(alloc, library, words.source) {
@@ -236,9 +239,15 @@ pub fn run_top<
     ensures memory { result.status ≡ Status.OutOfMemory → T.written out.new ≡ T.written out.old }
     ensures library { L.holds library.new ≡ L.holds library.old }
 
-    // Faults come only where their object's count rose; where none rose, the files that were read decide.
+    // Faults come only where their object's count rose, and that of the library only at the graph, or at the stack after the graph was read.
     ensures cause { IsRunCause result.status (record { library = L.faults library.old; shelf = K.faults shelf.old; sink = T.faults out.old })
         (record { library = L.faults library.new; shelf = K.faults shelf.new; sink = T.faults out.new }) }
+    ensures unread { result.status ≡ Status.ReadFault → FailsIn (L.holds library.old) (L.faults_at library.old) (L.faults_at library.new)
+        (sources_of (run_command_of (map string_bytes words.now))) }
+
+    // The files decide: whatever was counted, and with no other status but OutOfMemory where no count rose.
+    ensures decides { Decides (sources_of (run_command_of (map string_bytes words.now))) (L.holds library.old)
+        (L.faults_at library.old) (L.faults_at library.new) result.status }
     ensures complete { Completes (sources_of (run_command_of (map string_bytes words.now))) result.status (L.holds library.old)
         (record { library = L.faults library.old; shelf = K.faults shelf.old; sink = T.faults out.old })
         (record { library = L.faults library.new; shelf = K.faults shelf.new; sink = T.faults out.new }) }

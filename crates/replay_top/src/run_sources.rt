@@ -7,6 +7,7 @@ ghost use Rattle.replay_top.specs.RunCommand.{IsInRange, IsRead};
 ghost use Rattle.replay_top.specs.RunSources.{run_sources, IsSourceRead};
 ghost use Rattle.replay_top.specs.RunWords.{source_told};
 ghost use Rattle.tool_commands.specs.Stages.{ReadStops};
+ghost use Rattle.tool_commands.specs.Unread.{FailsIn, IfUnread};
 
 use crate::demo::make_demo;
 use crate::run_words::RunSource;
@@ -29,6 +30,8 @@ pub(crate) fn load_run<L: Library>(
     ensures err { IfErr result (λ s. ReadStops (λ status. Leads (L.holds library.old) (run_sources (source_told source.entry)) (Err status)) s
         (L.faults library.old) (L.faults library.new)) }
     ensures read_fault { IfErr result (λ s. s ≡ Status.ReadFault → IsRead (source_told source.entry)) }
+    ensures unread { IfErr result (λ s. IfUnread s
+        (FailsIn (L.holds library.old) (L.faults_at library.old) (L.faults_at library.new) (run_sources (source_told source.entry)))) }
 {
     match source {
         RunSource::Named { graph, stack } => load_sources(alloc, library, graph, stack),

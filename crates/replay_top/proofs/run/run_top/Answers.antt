@@ -1,8 +1,11 @@
-use Rattle.std.proofs.Common.{sym, ap, ◌∙◌}
+use Rattle.std.proofs.Common.{refl, sym, ap, ◌∙◌}
 use Rattle.std.specs.Option.{option_map}
 use Rattle.replay_top.specs.RunWords.{run_told}
 use Rattle.replay_top.proofs.DemoRuns.{RunEnds-steady}
-use Rattle.replay_top.proofs.RunClaims.{RunEnds-read, RunEnds-refused, RunEnds-untouched, RunEnds-log, answered_run}
+use Rattle.replay_top.proofs.RunClaims.{RunEnds-read, RunEnds-refused, RunEnds-untouched, RunEnds-log, answered_run, decided_run}
+use Rattle.tool_commands.specs.declared.status.Status.TheVariants.{Usage}
+use Rattle.tool_commands.specs.Unread.{Asked}
+use Rattle.tool_commands.proofs.Unread.{unread-is}
 use Rattle.replay_top.proofs.run.run_top.Goals as goal
 
 pub returns-in-Some-clause-holds : goal.returns-in-Some-clause-holds
@@ -36,3 +39,16 @@ returns-in-Some-clause-complete g c =
     rw (sym c.run_in.ensures.told ∙ ap (option_map run_told) c.in-Some.is)
     (answered_run c.run_words.result.status c.run_words.result.log
     (run_told c.in-Some.words) _ _ _ c.run_words.ensures.ends c.run_words.ensures.cause)
+
+pub returns-in-Some-clause-unread : goal.returns-in-Some-clause-unread
+returns-in-Some-clause-unread g c =
+    rw (sym c.run_in.ensures.told ∙ ap (option_map run_told) c.in-Some.is) (unread-is _ c.run_words.result.status c.run_words.ensures.unread)
+
+pub returns-in-Some-clause-decides : goal.returns-in-Some-clause-decides
+returns-in-Some-clause-decides g c =
+    rw (sym c.run_in.ensures.told ∙ ap (option_map run_told) c.in-Some.is)
+    (decided_run c.run_words.result.status c.run_words.result.log (run_told c.in-Some.words) _ _ _ c.run_words.ensures.ends c.run_words.ensures.unread)
+
+pub returns-in-None-clause-decides : goal.returns-in-None-clause-decides
+returns-in-None-clause-decides g c =
+    rw (c.unfinished.ensures.status, sym c.run_in.ensures.told ∙ ap (option_map run_told) c.in-None.is) (Asked Usage refl)

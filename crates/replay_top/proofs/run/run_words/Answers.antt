@@ -4,13 +4,16 @@ use Rattle.run_report.specs.Text.{report_text}
 use Rattle.replay_top.specs.LogFiles.{log_files}
 use Rattle.replay_top.specs.RunWords.{run_told}
 use Rattle.replay_top.proofs.MeasuredRows.{measured-rows, length-measured}
-use Rattle.replay_top.proofs.RunStops.{RunEnds-unread, RunEnds-rest, IsRunCause-rest}
+use Rattle.replay_top.proofs.RunStops.{RunEnds-unread, RunEnds-rest, IsRunCause-rest, rest-unread}
 use Rattle.replay_top.proofs.run.run_words.Goals as goal
 
 pub returns-in-Err-clause-ends : goal.returns-in-Err-clause-ends
 returns-in-Err-clause-ends g c =
     rw (c.unfinished.ensures.status, c.unfinished.ensures.log) (RunEnds-unread c.in-Err.status (run_told c.args.words) _ _ _ c.in-Err.ensures.err
     c.in-Err.ensures.read_fault (refl, refl, refl))
+
+pub returns-in-Err-clause-unread : goal.returns-in-Err-clause-unread
+returns-in-Err-clause-unread g c = rw c.unfinished.ensures.status c.in-Err.ensures.unread
 
 pub finish-requires-clause-measures : goal.finish-requires-clause-measures
 finish-requires-clause-measures g c =
@@ -39,5 +42,6 @@ returns g c =
           (IsRunCause-rest c.status_of.result history.fault _ _ _ _ _ _ _ _
           (g.K.Shelf.faults c.run_plan.new.shelf) _ _ _ (rw (sym c.status_of.ensures) at c.finish.ensures.ends) h.fault
           (rw (sym c.status_of.ensures) at c.finish.ensures.cause));
+      unread = rest-unread _ c.status_of.result history.fault _ _ _ _ _ _ (rw (sym c.status_of.ensures) at c.finish.ensures.ends);
       library = c.in-Ok.ensures.files;
     }
