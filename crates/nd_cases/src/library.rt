@@ -75,6 +75,8 @@ impl<'a> Library for CaseLibrary<'a> {
 
     ghost faults = { λ s. s.faults };
 
+    ghost faults_at = { λ s name. s.faults };
+
     fn size(&mut self, name: &str) -> Result<u64, Failed> {
         let size = self
             .find(name)
