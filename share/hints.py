@@ -24,6 +24,8 @@ KINDS = ("roi", "stats", "circular", "file", "scatter")
 KINDS_OF_ONE_THREAD = ("circular", "file", "scatter")
 WIDTHS_OF_SAMPLES = {"Int8": 1, "UInt8": 1, "Int16": 2, "UInt16": 2, "Int32": 4, "UInt32": 4}
 WIDTHS = {1: 1, 2: 1, 3: 2, 4: 4, 5: 4, 6: 8}
+WHOLE_TYPES = (1, 3, 4)
+ATTR = "Attr_"
 TYPES = {1: "byte", 2: "char", 3: "short", 4: "int", 5: "float", 6: "double"}
 TYPES_OF_DETECTORS = {6: "Int64", 7: "UInt64", 8: "Float32", 9: "Float64"}
 SECONDS_OF_BYTE = {"copy": 2e-7, "info": 2e-7}
@@ -38,9 +40,14 @@ MOST_ARRIVALS, MOST_KEPT, LONGEST_QUEUE = 1_048_576, 67_108_864, 65_535
 said = []
 
 
+def printable(text):
+    """Returns a text with each control character as its number."""
+    return "".join(it if it.isprintable() else f"\\u{{{ord(it):x}}}" for it in text)
+
+
 def say(words):
     said.append(words)
-    print(f"nd_replay: {words}")
+    print(f"nd_replay: {printable(words)}")
 
 
 class Call:
@@ -103,6 +110,11 @@ def tell_regions(word):
 
 def tell_words(call):
     """Says which word isn't spelled as its command takes it."""
+    for name, word in call.words.items():
+        try:
+            word.encode()
+        except UnicodeEncodeError:
+            return say(f"{name} isn't text in UTF-8")
     for name, (fits, what) in FORMS.get(call.command, {}).items():
         word = call[name]
         if not fits(word):
@@ -259,7 +271,9 @@ def tell_form(graph, key):
     for number, value in graph.spots(key):
         values = graph.values(number, key)
         if values and not is_of_form(value, values):
-            return say(f"{graph.place(number, key)}: {key} = {spelled(value)} isn't allowed; {key} may be {values}")
+            has_float = any(isinstance(it, float) for it in (value if isinstance(value, list) else [value]))
+            whole = "; whole numbers are written without a point and an exponent" if has_float else ""
+            return say(f"{graph.place(number, key)}: {key} = {spelled(value)} isn't allowed; {key} may be {values}{whole}")
     return None
 
 
@@ -437,7 +451,11 @@ HEADERS = {
 }
 COPY_CLASSIC = "in the classic form (for unsigned samples see docs/formats.md)"
 FIRST_BYTES = (
-    (b"\x89HDF", f"it is a netCDF-4 or HDF5 file: 'nccopy -k classic {{0}} NEW.nc' writes netCDF-4 {COPY_CLASSIC}"),
+    (
+        b"\x89HDF",
+        "it is a netCDF-4 or HDF5 file: 'nccopy -k classic {0} NEW.nc' writes netCDF-4 in the classic form; HDF5 with groups, as of NeXus, is read "
+        "in Python, and unsigned samples are changed first (docs/formats.md)",
+    ),
     (b"CDF\x05", f"it is a CDF-5 file: 'nccopy -k classic {{0}} NEW.nc' writes it {COPY_CLASSIC}"),
     (b"\x1f\x8b", "it is compressed: 'gunzip < {0} > NEW.nc' unpacks it"),
     (b"II*\0", "it is a TIFF file: write its frames as the variable array_data of a netCDF file, as docs/formats.md shows"),
@@ -595,7 +613,7 @@ def shown(line):
     """Returns a line in quotes, cut where it is long, with each control character as its number."""
     text = line.rstrip("\n")
     cut = text[:LONGEST_LINE_SHOWN] + (" .." if len(text) > LONGEST_LINE_SHOWN else "")
-    return shlex.quote("".join(it if it.isprintable() else f"\\u{{{ord(it):x}}}" for it in cut))
+    return shlex.quote(printable(cut))
 
 
 def lines_of(log):
@@ -661,6 +679,28 @@ def tell_refusal(line, call):
 # --- losses
 
 
+def whole_attributes(stack):
+    """Returns the names of the stack's attributes that have a whole number for each frame."""
+    header = header_of(stack)
+    frames = header.frames()[1][:1]
+    return [name[len(ATTR) :] for name, dims, kind in header.vars if name.startswith(ATTR) and dims == frames and kind in WHOLE_TYPES]
+
+
+def why_never(node, call):
+    """Returns which attribute of a trigger the stack hasn't, where that can be told."""
+    try:
+        there = whole_attributes(call["STACK"])
+    except (OSError, ValueError, LookupError, TypeError, struct.error):
+        return ""
+    for key in ("a", "b"):
+        if not node.get(key) and key.upper() in str(node.get("trigger")):
+            return f": it has {key.upper()}, and {key} isn't given"
+        if node.get(key) and node[key] not in there:
+            has = f"; it has {', '.join(there)}" if there else ""
+            return f". {key} = {spelled(node[key])} is no attribute of the stack with whole values{has}"
+    return ""
+
+
 def tell_losses(report, call):
     with open(report, encoding="utf-8") as file:
         rows = [line.split() for line in file if not line.startswith("seen ")]
@@ -690,6 +730,8 @@ def tell_losses(report, call):
         if count("sort"):
             keeps = f"sort = {min(frames, LONGEST_QUEUE)} at {name} keeps them (docs/report.md)"
             say(f"{count('sort')} of {count('offered')} results were dropped at {name}: its sort list was full. {keeps}")
+        if nodes.get(name, {}).get("kind") == "circular" and count("accepted") and not count("out"):
+            say(f"nothing went out of {name}: its trigger never fired{why_never(nodes[name], call)} (docs/report.md)")
 
 
 # --- threads
