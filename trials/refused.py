@@ -1,6 +1,7 @@
 #!/usr/bin/env python3
-"""refused.py PROGRAM [memory|calls]: runs each command over a small stack and has each allocation, or each call of the system, refused in
-turn. What each run then leaves is compared with what docs/statuses.md says of the status that it ended with. Prints counts by command
+"""refused.py PROGRAM [memory] [calls]: runs the commands below over a small stack and has each allocation, or each call of the system, refused in
+turn. What each run then leaves is compared with what docs/statuses.md says of the status that it ended with; of run-log the log and the
+files have to pass check, too, and how often each role left, and how often its hand was taken back, is counted. Prints counts by command
 and status, and each run that left something else; then it ends with 1. For memory it wants gcc, for calls strace."""
 import collections, os, pathlib, re, subprocess, sys, tempfile
 
@@ -123,6 +124,8 @@ class Trials:
         subprocess.run([self.program, "run-log", "g.toml", "s.nc", "c_"], cwd=self.work, check=True, capture_output=True)
         self.given = {it.name: it.read_bytes() for it in self.work.iterdir()}
         self.bad = 0
+        # how often a role left, and how often its hand was taken back
+        self.ended = collections.Counter()
 
     def run(self, words, around=(), more=None):
         with tempfile.TemporaryDirectory(dir=self.work) as name:
@@ -135,9 +138,22 @@ class Trials:
                 ended = None
             return Left(folder, ended, self.given)
 
+    def is_checked(self, left):
+        """Whether check says yes of the log and the files that run-log left."""
+        with tempfile.TemporaryDirectory(dir=self.work) as name:
+            folder = pathlib.Path(name)
+            for n, b in [*self.given.items(), *left.files.items(), ("l_log.txt", left.log)]:
+                (folder / n).write_bytes(b)
+            words = [self.program, "check", "g.toml", "s.nc", "l_log.txt", "l_"]
+            ended = subprocess.run(words, cwd=folder, capture_output=True, timeout=SECONDS)
+            return (ended.returncode, ended.stdout) == (0, b"yes\n")
+
     def judge(self, command, what, left, whole, seen):
         seen[left.status] += 1
         wrong = fault(left, whole)
+        if command == "run-log" and left.status == 0 and not wrong:
+            wrong = None if self.is_checked(left) else "check doesn't say yes"
+            self.ended.update(re.findall(rb"^(?:leave|reclaim) \d+$", left.log, re.M))
         if wrong:
             self.bad += 1
             print(f"  {command}, {what}: status {left.status}: {wrong}", flush=True)
@@ -199,5 +215,7 @@ if __name__ == "__main__":
     parts = sys.argv[2:] or ["memory", "calls"]
     for part in parts:
         {"memory": trials.memory, "calls": trials.calls}[part]()
+    for entry, count in sorted(trials.ended.items()):
+        print(f"{entry.decode()}: in {count} runs that finished")
     print(f"{trials.bad} left something else")
     sys.exit(trials.bad > 0)
