@@ -286,6 +286,10 @@ def tell_range(graph, key, value):
             return say(f'{graph.place(number, key)}: mode = "single" writes one array a file, so count is 1; mode = "capture" or "stream" takes more')
         if key == "hist_hi" and node.get("hist_size") and node.get("hist_lo", 0) >= given:
             return say(f"{graph.place(number, key)}: hist_hi = {given} has to be above hist_lo = {node.get('hist_lo', 0)}")
+        # a value that is allowed at this node is at fault at another one
+        fits = key == "count" and 1 <= value <= 65_536 or key == "hist_hi" and -(2**31) <= value < 2**32
+        if fits or isinstance(given, list) and 0 <= value < 2**31 and len(given) != value:
+            continue
         if isinstance(given, list) and len(given) == value and len(given) > 10:
             return say(f"{graph.place(number, key)}: {key} has {value} items, and an array at most 10 dimensions")
         if given == value or isinstance(given, list) and value in given:
@@ -310,7 +314,8 @@ def tell_trigger(graph, words):
             if at >= len(text):
                 what = f"the trigger {text!r} ends too early"
         return say(f"{graph.place(number, 'trigger')}: {what}; it may have A, B, whole numbers up to {2**63 - 1:,}, parentheses, and || && == != < <= > >= + - * !")
-    return say(f"a trigger may have A, B, whole numbers up to {2**63 - 1:,}, parentheses, and || && == != < <= > >= + - * !")
+    lines = ", ".join(str(graph.line_of(number, "trigger")) for number, _ in triggers)
+    return say(f"one of the triggers at the lines {lines}: a trigger may have A, B, whole numbers up to {2**63 - 1:,}, parentheses, and || && == != < <= > >= + - * !")
 
 
 def tell_node(graph, fault, number):
@@ -435,9 +440,9 @@ def header_of(name):
 
 
 CONVERT_FLOATS = (
-    "ncap2 -s 'array_data=int(array_data)' {0} NEW.nc cuts them to whole numbers, and so does, rounded, "
+    "ncap2 -s 'array_data=int(array_data)' {0} NEW.nc rounds them to whole numbers, and so does, where there is xarray, "
     "python3 -c 'import sys, xarray as x; d = x.open_dataset(sys.argv[1]); d[\"array_data\"] = d.array_data.round().astype(\"i4\"); "
-    "d.attrs.pop(\"dataType\", 0); d.to_netcdf(\"NEW.nc\", format=\"NETCDF3_64BIT\")' {0}; scale them first where they are small"
+    "d.attrs.pop(\"dataType\", 0); d.to_netcdf(\"NEW.nc\", format=\"NETCDF3_64BIT\")' {0}; scale them first where they are small or don't fit 32 bits"
 )
 HEADERS = {
     "Short": "the file ends within its header: it was cut off; copy it anew",
@@ -695,7 +700,7 @@ def why_never(node, call):
     for key in ("a", "b"):
         if not node.get(key) and key.upper() in str(node.get("trigger")):
             return f": it has {key.upper()}, and {key} isn't given"
-        if node.get(key) and node[key] not in there:
+        if node.get(key) and node[key] not in there and key.upper() in str(node.get("trigger")):
             has = f"; it has {', '.join(there)}" if there else ""
             return f". {key} = {spelled(node[key])} is no attribute of the stack with whole values{has}"
     return ""
