@@ -39,6 +39,7 @@ use Rattle.replay_top.specs.RunStages.{RestEnds, RestCause, WritesAll}
 use Rattle.tool_commands.specs.Stages.{ReadStops}
 use Rattle.tool_commands.specs.Unread.{IfUnread}
 use Rattle.tool_commands.specs.Works.{Source}
+use Rattle.tool_commands.proofs.Unread.{no-fault}
 
 -- READING
 
@@ -61,17 +62,8 @@ RunEnds-unread OutFault c o before now stops read still = absurd stops
 -- what comes after it is no fault of the library
 pub rest-unread : (P : Type 0) (status : Status) (fault : Bool) (files : List OutFile) (print : List ℕ) (held now : Option Files)
     (before after : Option (List ℕ)) → RestEnds status fault files print held now before after → IfUnread status P
-rest-unread P ReadFault fault files print held now before after ends = absurd ends
-rest-unread P Done fault files print held now before after ends = tt
-rest-unread P Usage fault files print held now before after ends = tt
-rest-unread P GraphText fault files print held now before after ends = tt
-rest-unread P (GraphRule f) fault files print held now before after ends = tt
-rest-unread P (StackBytes f) fault files print held now before after ends = tt
-rest-unread P (Limit f) fault files print held now before after ends = tt
-rest-unread P Sizes fault files print held now before after ends = tt
-rest-unread P ShelfFault fault files print held now before after ends = tt
-rest-unread P OutFault fault files print held now before after ends = tt
-rest-unread P OutOfMemory fault files print held now before after ends = tt
+rest-unread P status fault files print held now before after ends =
+    no-fault P status (λ is. subst (λ (x : Status). RestEnds x fault files print held now before after) is ends)
 
 -- AFTER THE RUN
 

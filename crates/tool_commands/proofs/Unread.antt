@@ -61,6 +61,20 @@ module _ (P : Type 0) where
   unread-stack-at (reading.TooLong n) h = tt
   unread-stack-at reading.OutOfMemory h = tt
 
+  -- another status says nothing of a fault
+  pub no-fault : (status : Status) → (status ≡ ReadFault → ⊥) → IfUnread status P
+  no-fault ReadFault not = absurd (not refl)
+  no-fault Done not = tt
+  no-fault Usage not = tt
+  no-fault GraphText not = tt
+  no-fault (GraphRule f) not = tt
+  no-fault (StackBytes f) not = tt
+  no-fault (Limit f) not = tt
+  no-fault Sizes not = tt
+  no-fault ShelfFault not = tt
+  no-fault OutFault not = tt
+  no-fault OutOfMemory not = tt
+
   -- bytes that were read and are refused are no fault
   pub read-graph-at : (fault : GraphFault) → IfUnread (graph_fault_status fault) P
   read-graph-at rule.OutOfMemory = tt
@@ -89,31 +103,12 @@ module _ (P : Type 0) where
 
   -- neither is a limit, a file that isn't written or a print that stops
   pub planned-at : (status : Status) (g : Graph) (s : StackValue) → PlanStops status g s → IfUnread status P
-  planned-at ReadFault g s stops = absurd stops
-  planned-at Done g s stops = tt
-  planned-at Usage g s stops = tt
-  planned-at GraphText g s stops = tt
-  planned-at (GraphRule f) g s stops = tt
-  planned-at (StackBytes f) g s stops = tt
-  planned-at (Limit f) g s stops = tt
-  planned-at Sizes g s stops = tt
-  planned-at ShelfFault g s stops = tt
-  planned-at OutFault g s stops = tt
-  planned-at OutOfMemory g s stops = tt
+  planned-at status g s stops = no-fault status (λ is. subst (λ (x : Status). PlanStops x g s) is stops)
 
   pub saved-at : (status : Status) (held : Option Files) (files : List OutFile) (run : Option PlainRun) (now : Option Files) (before after : ℕ)
       → SaveStops status held files run now before after → IfUnread status P
-  saved-at ReadFault held files run now before after stops = absurd stops
-  saved-at Done held files run now before after stops = tt
-  saved-at Usage held files run now before after stops = tt
-  saved-at GraphText held files run now before after stops = tt
-  saved-at (GraphRule f) held files run now before after stops = tt
-  saved-at (StackBytes f) held files run now before after stops = tt
-  saved-at (Limit f) held files run now before after stops = tt
-  saved-at Sizes held files run now before after stops = tt
-  saved-at ShelfFault held files run now before after stops = tt
-  saved-at OutFault held files run now before after stops = tt
-  saved-at OutOfMemory held files run now before after stops = tt
+  saved-at status held files run now before after stops =
+      no-fault status (λ is. subst (λ (x : Status). SaveStops x held files run now before after) is stops)
 
   pub unwritten-at : (fault : SaveFault) → IfUnread (save_fault_status fault) P
   unwritten-at saving.Failed = tt
@@ -121,17 +116,8 @@ module _ (P : Type 0) where
 
   printed-as : (status : Status) (written : Option (List ℕ)) (print : List ℕ) (now : Option (List ℕ)) (before after : ℕ)
       → PrintStops status written print now before after → IfUnread status P
-  printed-as ReadFault written print now before after stops = absurd stops
-  printed-as Done written print now before after stops = tt
-  printed-as Usage written print now before after stops = tt
-  printed-as GraphText written print now before after stops = tt
-  printed-as (GraphRule f) written print now before after stops = tt
-  printed-as (StackBytes f) written print now before after stops = tt
-  printed-as (Limit f) written print now before after stops = tt
-  printed-as Sizes written print now before after stops = tt
-  printed-as ShelfFault written print now before after stops = tt
-  printed-as OutFault written print now before after stops = tt
-  printed-as OutOfMemory written print now before after stops = tt
+  printed-as status written print now before after stops =
+      no-fault status (λ is. subst (λ (x : Status). PrintStops x written print now before after) is stops)
 
   pub printed-at : (result : Result (Unit {0}) Status) (written : Option (List ℕ)) (print : List ℕ) (now : Option (List ℕ)) (before after : ℕ)
       → IfErr result (λ status. PrintStops status written print now before after) → IfUnread (status_of result) P
@@ -142,17 +128,10 @@ module _ (P : Type 0) where
   pub unreading-at : (status : Status) (shelf sink shelf_now sink_now : ℕ)
       → ((library : ℕ) → IsCause status (record { library = library; shelf = shelf; sink = sink })
       (record { library = library; shelf = shelf_now; sink = sink_now })) → IfUnread status P
-  unreading-at ReadFault shelf sink shelf_now sink_now cause = let rose : Rose 0 0 = (cause 0).0 in absurd (omega (arith, rose))
-  unreading-at Done shelf sink shelf_now sink_now cause = tt
-  unreading-at Usage shelf sink shelf_now sink_now cause = tt
-  unreading-at GraphText shelf sink shelf_now sink_now cause = tt
-  unreading-at (GraphRule f) shelf sink shelf_now sink_now cause = tt
-  unreading-at (StackBytes f) shelf sink shelf_now sink_now cause = tt
-  unreading-at (Limit f) shelf sink shelf_now sink_now cause = tt
-  unreading-at Sizes shelf sink shelf_now sink_now cause = tt
-  unreading-at ShelfFault shelf sink shelf_now sink_now cause = tt
-  unreading-at OutFault shelf sink shelf_now sink_now cause = tt
-  unreading-at OutOfMemory shelf sink shelf_now sink_now cause = tt
+  unreading-at status shelf sink shelf_now sink_now cause =
+      no-fault status (λ is. (let rose : Rose 0 0 =
+      (subst (λ (x : Status). IsCause x (record { library = 0; shelf = shelf; sink = sink })
+      (record { library = 0; shelf = shelf_now; sink = sink_now })) is (cause 0)).0 in omega (arith, rose)))
 
   pub unread-is : (status : Status) → IfUnread status P → status ≡ ReadFault → P
   unread-is status h is = subst (λ (s : Status). IfUnread s P) is h
