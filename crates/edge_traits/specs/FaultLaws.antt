@@ -1,7 +1,7 @@
 -- Counts of faults over several calls.
 use Rattle.std.specs.Prelude.{ℕ, ◌+◌, ◌-◌, ◌^◌, ◌≤◌, min, List, Result, Ok, Err}
 use Rattle.std.proofs.Common.{arith}
-use Rattle.edge_traits.specs.Faults.{Rose, Counts, CountsAt}
+use Rattle.edge_traits.specs.Faults.{LibraryCall, Rose, Counts, CountsAt}
 
 -- a rise after calls that did not lower the count is a rise over all of them
 pub Rose-after : (before middle now : ℕ) → before ≤ middle → Rose middle now → Rose before now
@@ -24,7 +24,8 @@ pub Counts-stands : {T E : Type 0} (before now : ℕ) (r : Result T E) → Count
 Counts-stands before now (Ok x) same = omega arith
 Counts-stands before now (Err e) counted = counted.0
 
--- an object that counts all its failed calls together tells that count of each name
-pub Counts-at : {T E : Type 0} (name : List ℕ) (before now : ℕ) (r : Result T E) → Counts before now r → CountsAt name (λ _. before) (λ _. now) r
-Counts-at name before now (Ok x) same = λ other. same
-Counts-at name before now (Err e) counted = (λ other. counted.0, counted.1)
+-- an object that counts all its failed calls together tells that count of each call and name
+pub Counts-at : {T E : Type 0} (call : LibraryCall) (name : List ℕ) (before now : ℕ) (r : Result T E) → Counts before now r
+    → CountsAt call name (λ _ _. before) (λ _ _. now) r
+Counts-at call name before now (Ok x) same = λ each other. same
+Counts-at call name before now (Err e) counted = (λ each other. counted.0, counted.1)

@@ -10,7 +10,13 @@ abbrev pub Counts : {T E : Type 0} → ℕ → ℕ → Result T E → Type 0
 Counts before now (Ok x) = now ≡ before
 Counts before now (Err e) = (before ≤ now) × Rose before now
 
--- by name: an Ok leaves the counts of all names; no count falls, and an Err comes only where that of its name rose
-abbrev pub CountsAt : {T E : Type 0} → (name : List ℕ) → (before now : List ℕ → ℕ) → Result T E → Type 0
-CountsAt name before now (Ok x) = (other : List ℕ) → now other ≡ before other
-CountsAt name before now (Err e) = ((other : List ℕ) → before other ≤ now other) × Rose (before name) (now name)
+-- the two calls of a library: for a file's size, and for bytes of it
+pub data LibraryCall : Type 0 where
+  SizeCall : LibraryCall
+  ReadCall : LibraryCall
+
+-- by call and name: an Ok leaves all counts; no count falls, and an Err comes only where that of its call and name rose
+abbrev pub CountsAt : {T E : Type 0} → (call : LibraryCall) → (name : List ℕ) → (before now : LibraryCall → List ℕ → ℕ) → Result T E → Type 0
+CountsAt call name before now (Ok x) = (each : LibraryCall) → (other : List ℕ) → now each other ≡ before each other
+CountsAt call name before now (Err e) =
+    ((each : LibraryCall) → (other : List ℕ) → before each other ≤ now each other) × Rose (before call name) (now call name)

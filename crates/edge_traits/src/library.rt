@@ -1,7 +1,7 @@
 //! Files to read.
 
 ghost use Rattle.std.specs.Prelude.{◌≡◌, ◌<◌, ◌≤◌, ℕ, List, length, take, drop, IfOk, OnOk};
-ghost use Rattle.edge_traits.specs.Faults.{Counts, CountsAt};
+ghost use Rattle.edge_traits.specs.Faults.{Counts, CountsAt, SizeCall, ReadCall};
 ghost use Rattle.edge_traits.specs.Files.{Stands, IsTold};
 
 use crate::Failed;
@@ -9,6 +9,7 @@ use crate::Failed;
 /// Files to read. No call changes them.
 pub trait Library {
     ghost use Rattle.std.specs.Prelude.{ℕ, List, Option};
+    ghost use Rattle.edge_traits.specs.Faults.{LibraryCall};
     ghost use Rattle.edge_traits.specs.Files.{Files};
 
     /// The names with their bytes, where they are told.
@@ -17,8 +18,9 @@ pub trait Library {
     /// How often a call has failed, up to the greatest `u64`.
     ghost faults: { Self → ℕ };
 
-    /// How often a call at this name has failed, up to the greatest `u64`. A library that counts its failed calls together tells all of them at each name.
-    ghost faults_at: { Self → List ℕ → ℕ };
+    /// How often this call has failed at this name, up to the greatest `u64`. A library that counts its failed calls together tells all of them at each
+    /// call and name.
+    ghost faults_at: { Self → LibraryCall → List ℕ → ℕ };
 
     /// The number of bytes under a name.
     ///
@@ -31,7 +33,7 @@ pub trait Library {
         ensures size { IfOk result (λ n. (file : List ℕ) →
             IsTold (holds self.old) name.now file → n ≡ length file) }
         ensures cause { Counts (faults self.old) (faults self.new) result }
-        ensures at { CountsAt name.now (faults_at self.old) (faults_at self.new) result };
+        ensures at { CountsAt SizeCall name.now (faults_at self.old) (faults_at self.new) result };
 
     /// Reads bytes of a name from `off` on into the front of `buf`, and gives their number, which
     /// may be less than there are. For a `buf` that isn't empty 0 means the end. What then stands
@@ -50,5 +52,5 @@ pub trait Library {
             IsTold (holds self.old) name.now file → n ≡ 0 → 0 < length buf.new →
             length file ≤ off) }
         ensures cause { Counts (faults self.old) (faults self.new) result }
-        ensures at { CountsAt name.now (faults_at self.old) (faults_at self.new) result };
+        ensures at { CountsAt ReadCall name.now (faults_at self.old) (faults_at self.new) result };
 }

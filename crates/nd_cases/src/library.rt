@@ -75,7 +75,7 @@ impl<'a> Library for CaseLibrary<'a> {
 
     ghost faults = { λ s. s.faults };
 
-    ghost faults_at = { λ s name. s.faults };
+    ghost faults_at = { λ s call name. s.faults };
 
     fn size(&mut self, name: &str) -> Result<u64, Failed> {
         let size = self

@@ -56,7 +56,7 @@ impl<'a, R: Files> Library for DiskLibrary<'a, R> {
 
     ghost faults = { λ s. s.faults };
 
-    ghost faults_at = { λ s name. s.faults };
+    ghost faults_at = { λ s call name. s.faults };
 
     fn size(&mut self, name: &str) -> Result<u64, Failed>
         ensures seeks { IfOk result (λ n. Steps self.old.last self.new.last name.now

@@ -69,7 +69,7 @@ impl Library for MemLibrary {
 
     ghost faults = { λ s. s.calls.faults };
 
-    ghost faults_at = { λ s name. s.calls.faults };
+    ghost faults_at = { λ s call name. s.calls.faults };
 
     fn size(&mut self, name: &str) -> Result<u64, Failed>
         ensures files { told self.new.files ≡ told self.old.files }
@@ -176,7 +176,7 @@ impl Library for SureLibrary {
 
     ghost faults = { λ s. s.faults };
 
-    ghost faults_at = { λ s name. s.faults };
+    ghost faults_at = { λ s call name. s.faults };
 
     fn size(&mut self, name: &str) -> Result<u64, Failed>
         ensures files { told self.new.files ≡ told self.old.files }

@@ -67,7 +67,7 @@ impl Library for SlowLibrary {
 
     ghost faults = { λ s. s.calls.faults };
 
-    ghost faults_at = { λ s name. s.calls.faults };
+    ghost faults_at = { λ s call name. s.calls.faults };
 
     fn size(&mut self, name: &str) -> Result<u64, Failed>
         ensures files { told self.new.files ≡ told self.old.files }
