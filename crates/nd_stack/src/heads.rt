@@ -36,17 +36,27 @@ fn column_named(header: &Header, name: &str) -> Option<Column>
 /// The most bytes that the heads of a stack may take.
 const MOST_HEAD_BYTES: u64 = 1 << 32;
 
-/// The bytes of a head beside its attributes, and those of an attribute that isn't a text.
+/// The bytes of a head beside its attributes, and those of an attribute beside a text's own.
 const HEAD_BYTES: u64 = 64;
 
 const VALUE_BYTES: u64 = 32;
 
-/// Whether the heads of so many frames with so many attributes would take more than 4 GiB, so that a small file could take a
-/// machine's memory.
-fn take_too_much(frames: u32, attrs: usize) -> bool {
-    let head = (attrs as u64)
-        .saturating_mul(VALUE_BYTES)
-        .saturating_add(HEAD_BYTES);
+/// The most bytes that a value of the attribute takes: a text may fill its room.
+fn value_bytes(var: &AttrVar) -> u64 {
+    if var.kind == 2 {
+        VALUE_BYTES.saturating_add(var.column.size)
+    } else {
+        VALUE_BYTES
+    }
+}
+
+/// Whether the heads of so many frames with these attributes could take more than 4 GiB, so that a small file, in which variables
+/// may share their bytes, could take a machine's memory.
+fn take_too_much(frames: u32, attrs: &[AttrVar]) -> bool {
+    let head = attrs.iter().fold(
+        HEAD_BYTES,
+        |bytes, var| bytes.saturating_add(value_bytes(var)),
+    );
     u64::from(frames).saturating_mul(head) > MOST_HEAD_BYTES
 }
 
@@ -123,7 +133,7 @@ pub(crate) fn heads(
     requires attrs { (k : ℕ) → k < frames → All (HasAttr (length bytes.now) k) attrs.now }
     ensures { IfOk result (λ heads. heads.items ≡ map (head_for bytes.now times.now attrs.now) (range_with_len 0 frames)) }
 {
-    if take_too_much(frames, attrs.len()) {
+    if take_too_much(frames, attrs) {
         return Err(OutOfMemory);
     }
     let names = attr_names(alloc, attrs)?;
