@@ -12,8 +12,7 @@ use Rattle.board_rules.specs.declared.answers.Settled.TheVariants as settled
 use Rattle.board_rules.specs.States.{BoardState, past}
 use Rattle.board_rules.specs.RunMeasures.{run_setting}
 use Rattle.board_rules.specs.Feeding.{load_refusal, LoadGives, HasRoom, CloseGives}
-use Rattle.flow_roles.specs.declared.last.Last.TheVariants as last
-use Rattle.flow_roles.specs.Lasts.{last_load}
+use Rattle.flow_roles.specs.Lasts.{said_load, said_close}
 use Rattle.flow_roles.specs.Passes.{Pass, Called}
 use Rattle.flow_roles.specs.RoleMoves.{feeder_logs, HasNothing}
 use Rattle.flow_roles.specs.Feeder.{parts_of}
@@ -46,16 +45,16 @@ module _ (g : Graph) (stack : StackValue) (tick : ℕ) (old new : Pass) where
   s = run_setting g stack
 
   pub load-stays : (a : Load (List ℕ)) (o : Option LoadedFrame) → is_still_load a ≡ true
-      → Called s (λ x y. LoadGives parts_of length s x 0 tick a y) (last_load a) old new → HoldsFrame g stack old o
+      → Called s (λ x y. LoadGives parts_of length s x 0 tick a y) (said_load a tick) old new → HoldsFrame g stack old o
       → HoldsFrame g stack new o
   load-stays a o still c h =
       let f = λ (x y : BoardState). LoadGives parts_of length s x 0 tick a y in
-      let b = here s f (last_load a) old new old.role refl c in
-      frame-still s f (last_load a) old new g stack o c
+      let b = here s f (said_load a tick) old new old.role refl c in
+      frame-still s f (said_load a tick) old new g stack o c
       (load-still parts_of length s b new.seen 0 tick (load_refusal s 0 (past b)) (grant s (past b) (s.need 0)) a (still-load a still) c.answer) h
 
   pub load-holds : (a : Load (List ℕ)) → HasNothing feeder_logs 0 old
-      → Called s (λ x y. LoadGives parts_of length s x 0 tick a y) (last_load a) old new → HasRoom length s 0 a new.made
+      → Called s (λ x y. LoadGives parts_of length s x 0 tick a y) (said_load a tick) old new → HasRoom length s 0 a new.made
       → HoldsFrame g stack new (frame_of a)
   load-holds load.Left n c room = load-goes parts_of length s tick old new n load.Left refl c
   load-holds load.Busy n c room = load-goes parts_of length s tick old new n load.Busy refl c
@@ -65,6 +64,6 @@ module _ (g : Graph) (stack : StackValue) (tick : ℕ) (old new : Pass) where
   load-holds (load.Refused k z) n c room = load-refuses parts_of length s tick old new n k z c
   load-holds (load.Loaded k blank) n c room = load-loads parts_of length s tick old new n k blank c room
 
-  pub close-stays : (o : Option LoadedFrame) → Called s (λ x y. CloseGives s x 0 settled.NotYet y) last.Other old new
+  pub close-stays : (o : Option LoadedFrame) → Called s (λ x y. CloseGives s x 0 settled.NotYet y) (said_close settled.NotYet) old new
       → HoldsFrame g stack old o → HoldsFrame g stack new o
-  close-stays o c h = frame-still s (λ x y. CloseGives s x 0 settled.NotYet y) last.Other old new g stack o c c.answer.1 h
+  close-stays o c h = frame-still s (λ x y. CloseGives s x 0 settled.NotYet y) (said_close settled.NotYet) old new g stack o c c.answer.1 h

@@ -17,7 +17,7 @@ use Rattle.flow_journal.specs.MoveLists.{begun_by}
 use Rattle.board_rules.specs.Moving.{moved_at}
 use Rattle.board_rules.specs.InHand.{is_piece_on, hand_node}
 use Rattle.board_rules.specs.Saving.{has_due, save_refusal, SaveAnswers, SaveGives, LendsPiece, MaySaved, SavedGives}
-use Rattle.flow_roles.specs.declared.last.Last.TheVariants as last
+use Rattle.flow_roles.specs.Lasts.{said_other, said_given}
 use Rattle.flow_roles.specs.Passes.{Pass, Called}
 use Rattle.flow_roles.specs.RoleMoves.{saver_logs, HasNothing}
 use Rattle.flow_roles.specs.Feeder.{name_of, parts_of}
@@ -72,14 +72,14 @@ none-free r p (Some piece) is h = absurd (true≢false is)
 
 module _ (s : Setting) (r : ℕ) (old new : Pass) where
   pub save-stays : (v : ℕ) (a : save_answer Sealed) (o : Option Sealed) → is_still_save a ≡ true
-      → Called s (λ x y. SaveGives name_of parts_of s x r v a y) last.Other old new → HoldsPiece r old o → HoldsPiece r new o
+      → Called s (λ x y. SaveGives name_of parts_of s x r v a y) said_other old new → HoldsPiece r old o → HoldsPiece r new o
   save-stays v a o still c h =
       let f = λ (x y : BoardState). SaveGives name_of parts_of s x r v a y in
-      let b = here s f last.Other old new old.role refl c in
-      piece-still s f last.Other old new r o c (save-still s name_of parts_of b new.seen r v (save_refusal s r v (past b)) a still c.answer) h
+      let b = here s f said_other old new old.role refl c in
+      piece-still s f said_other old new r o c (save-still s name_of parts_of b new.seen r v (save_refusal s r v (past b)) a still c.answer) h
 
   pub save-holds : (v : ℕ) (a : save_answer Sealed) → HasNothing saver_logs r old
-      → Called s (λ x y. SaveGives name_of parts_of s x r v a y) last.Other old new → LendsPiece parts_of r a new.made
+      → Called s (λ x y. SaveGives name_of parts_of s x r v a y) said_other old new → LendsPiece parts_of r a new.made
       → HoldsPiece r new (piece_of a)
   save-holds v save.Busy n c lent_ = save-stays v save.Busy None refl c n
   save-holds v save.NotYet n c lent_ = save-stays v save.NotYet None refl c n
@@ -87,13 +87,13 @@ module _ (s : Setting) (r : ℕ) (old new : Pass) where
   save-holds v (save.Piece input group place of) n c lent_ =
       let a = save.Piece input group place of in
       let f = λ (x y : BoardState). SaveGives name_of parts_of s x r v a y in
-      let b = here s f last.Other old new r n.role c in
+      let b = here s f said_other old new r n.role c in
       let e = Save r v input.name.maker input.name.index group in
       let m =
-      moved s f last.Other old new r n.role c saver_logs 0 (lends e (parts_of input))
+      moved s f said_other old new r n.role c saver_logs 0 (lends e (parts_of input))
       (save-moves s b new.seen r v (save_refusal s r v (past b)) input group place of refl c.answer) refl saver-quiet refl n.moves in
       record {
-        role = role-after s f last.Other old new r n.role c;
+        role = role-after s f said_other old new r n.role c;
         moves = m.moves;
         on = ap (λ (o : Option Entry). is_piece_on input.name o) (m.hand ∙ hand_laws.up r e (past b) (eq-eqb r r refl)) ∙ same-self input.name;
         lent = sym lent_;
@@ -103,14 +103,14 @@ module _ (s : Setting) (r : ℕ) (old new : Pass) where
   saved-may piece h is = h.lent
 
   pub saved-holds : {E : Type 0} (piece : Sealed) (done : E) → HasPiece r piece old
-      → Called s (λ x y. SavedGives {E = E} name_of s x r piece (Ok done) y) last.Other old new → HasNothing saver_logs r new
+      → Called s (λ x y. SavedGives {E = E} name_of s x r piece (Ok done) y) (said_given {F = Sealed} {E = E} (Ok done)) old new → HasNothing saver_logs r new
   saved-holds {E} piece done h c =
       let f = λ (x y : BoardState). SavedGives {E = E} name_of s x r piece (Ok done) y in
-      let b = here s f last.Other old new r h.role c in
+      let b = here s f (said_given {F = Sealed} {E = E} (Ok done)) old new r h.role c in
       let e = Saved r (hand_node (hand r (past b))) piece.name.maker piece.name.index in
-      let m = moved s f last.Other old new r h.role c saver_logs 0 (plain e) c.answer.1 refl saver-quiet refl h.moves in
+      let m = moved s f (said_given {F = Sealed} {E = E} (Ok done)) old new r h.role c saver_logs 0 (plain e) c.answer.1 refl saver-quiet refl h.moves in
       record {
-        role = role-after s f last.Other old new r h.role c;
+        role = role-after s f (said_given {F = Sealed} {E = E} (Ok done)) old new r h.role c;
         moves = m.moves;
         free = m.hand ∙ hand_laws.down s r e (past b) m.legal (eq-eqb r r refl);
       }

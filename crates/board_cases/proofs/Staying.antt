@@ -16,8 +16,8 @@ use Rattle.board_rules.specs.States.{BoardState, past, plain, lent_to}
 use Rattle.flow_journal.specs.MoveLists.{begun_by}
 use Rattle.board_rules.specs.InHand.{is_load_of, is_job_on, is_piece_on, granted_size, IsOfHand}
 use Rattle.board_rules.specs.Leaving.{LeaveGives}
-use Rattle.flow_roles.specs.declared.last.Last.{Last}
-use Rattle.flow_roles.specs.declared.last.Last.TheVariants.{Gone}
+use Rattle.flow_roles.specs.declared.last.Said.{Said}
+use Rattle.flow_roles.specs.Lasts.{said_leave}
 use Rattle.flow_roles.specs.Passes.{Pass, Called}
 use Rattle.flow_roles.specs.RoleMoves.{feeder_logs, worker_logs, saver_logs, HasNothing}
 use Rattle.flow_roles.specs.Feeder.{name_of, parts_of}
@@ -34,12 +34,12 @@ pub record Stays (logs : Entry → Bool) (r : ℕ) (old new : Pass) : Type 0 whe
   pub lent : lent_to r new.made ≡ lent_to r old.made
 
 -- a call that changed nothing
-pub stays-still : (s : Setting) (gives : BoardState → BoardState → Type 0) (answered : Last) (logs : Entry → Bool) (r : ℕ) (old new : Pass) → old.role ≡ r
-    → list_all logs (past old.made) ≡ true → (c : Called s gives answered old new) → new.seen ≡ c.between ++ old.seen → Stays logs r old new
-stays-still s gives answered logs r old new is moves c same =
-    let made_ = unmoved s gives answered old new r is c same in
+pub stays-still : (s : Setting) (gives : BoardState → BoardState → Type 0) (answers : Said → Said) (logs : Entry → Bool) (r : ℕ) (old new : Pass) → old.role ≡ r
+    → list_all logs (past old.made) ≡ true → (c : Called s gives answers old new) → new.seen ≡ c.between ++ old.seen → Stays logs r old new
+stays-still s gives answers logs r old new is moves c same =
+    let made_ = unmoved s gives answers old new r is c same in
     record {
-      role = role-after s gives answered old new r is c;
+      role = role-after s gives answers old new r is c;
       moves = subst (λ (b : BoardState). list_all logs (past b) ≡ true) (sym made_) moves;
       hand_ = ap (λ (b : BoardState). hand r (past b)) made_;
       lent = ap (λ (b : BoardState). lent_to r b) made_;
@@ -47,15 +47,15 @@ stays-still s gives answered logs r old new is moves c same =
 
 pub stays-leave : (s : Setting) (logs : Entry → Bool) (r : ℕ) (old new : Pass) → old.role ≡ r
     → ((e : Entry) → begun_by e ≡ None → logs e ≡ true) → logs (Leave r) ≡ true
-    → list_all logs (past old.made) ≡ true → Called s (λ x y. LeaveGives s x r y) Gone old new → Stays logs r old new
+    → list_all logs (past old.made) ≡ true → Called s (λ x y. LeaveGives s x r y) said_leave old new → Stays logs r old new
 stays-leave s logs r old new is quiet_ leaves_ moves c =
     let f = λ (x y : BoardState). LeaveGives s x r y in
-    let b = here s f Gone old new r is c in
+    let b = here s f said_leave old new r is c in
     elim (cases_Bool (has_left r (past b))) [
-      | inl left_ ↦ stays-still s f Gone logs r old new is moves c (c.answer ∙ rw left_ refl)
+      | inl left_ ↦ stays-still s f said_leave logs r old new is moves c (c.answer ∙ rw left_ refl)
       | inr stays ↦
-          let m = moved s f Gone old new r is c logs 0 (plain (Leave r)) (c.answer ∙ rw stays refl) refl quiet_ leaves_ moves in
-          record { role = role-after s f Gone old new r is c; moves = m.moves; hand_ = m.hand ∙ hand-before s f Gone old new r is c; lent = m.lent }
+          let m = moved s f said_leave old new r is c logs 0 (plain (Leave r)) (c.answer ∙ rw stays refl) refl quiet_ leaves_ moves in
+          record { role = role-after s f said_leave old new r is c; moves = m.moves; hand_ = m.hand ∙ hand-before s f said_leave old new r is c; lent = m.lent }
     ]
 
 pub nothing-stays : (logs : Entry → Bool) (r : ℕ) (old new : Pass) → Stays logs r old new → HasNothing logs r old → HasNothing logs r new
@@ -114,35 +114,35 @@ piece-stays r old new (Some piece) st h = record {
 
 -- A CALL THAT CHANGED NOTHING, AND A LEAVE
 
-module _ (s : Setting) (gives : BoardState → BoardState → Type 0) (answered : Last) (old new : Pass) where
-  pub frame-still : (g : Graph) (stack : StackValue) (o : Option LoadedFrame) → (c : Called s gives answered old new) → new.seen ≡ c.between ++ old.seen
+module _ (s : Setting) (gives : BoardState → BoardState → Type 0) (answers : Said → Said) (old new : Pass) where
+  pub frame-still : (g : Graph) (stack : StackValue) (o : Option LoadedFrame) → (c : Called s gives answers old new) → new.seen ≡ c.between ++ old.seen
       → HoldsFrame g stack old o → HoldsFrame g stack new o
   frame-still g stack o c same h =
       let m = frame-moves g stack old o h in
-      frame-stays g stack old new o (stays-still s gives answered feeder_logs 0 old new m.0 m.1 c same) h
+      frame-stays g stack old new o (stays-still s gives answers feeder_logs 0 old new m.0 m.1 c same) h
 
-  pub job-still : (g : Graph) (stack : StackValue) (r v : ℕ) (o : Option (Job Sealed)) → (c : Called s gives answered old new)
+  pub job-still : (g : Graph) (stack : StackValue) (r v : ℕ) (o : Option (Job Sealed)) → (c : Called s gives answers old new)
       → new.seen ≡ c.between ++ old.seen → HoldsJob g stack r v old o → HoldsJob g stack r v new o
   job-still g stack r v o c same h =
       let m = job-moves g stack r v old o h in
-      job-stays g stack r v old new o (stays-still s gives answered (worker_logs v) r old new m.0 m.1 c same) h
+      job-stays g stack r v old new o (stays-still s gives answers (worker_logs v) r old new m.0 m.1 c same) h
 
-  pub piece-still : (r : ℕ) (o : Option Sealed) → (c : Called s gives answered old new) → new.seen ≡ c.between ++ old.seen
+  pub piece-still : (r : ℕ) (o : Option Sealed) → (c : Called s gives answers old new) → new.seen ≡ c.between ++ old.seen
       → HoldsPiece r old o → HoldsPiece r new o
   piece-still r o c same h =
       let m = piece-moves r old o h in
-      piece-stays r old new o (stays-still s gives answered saver_logs r old new m.0 m.1 c same) h
+      piece-stays r old new o (stays-still s gives answers saver_logs r old new m.0 m.1 c same) h
 
 pub frame-left : (g : Graph) (stack : StackValue) (s : Setting) (old new : Pass) (o : Option LoadedFrame)
     → ((e : Entry) → begun_by e ≡ None → feeder_logs e ≡ true)
-    → Called s (λ x y. LeaveGives s x 0 y) Gone old new → HoldsFrame g stack old o → HoldsFrame g stack new o
+    → Called s (λ x y. LeaveGives s x 0 y) said_leave old new → HoldsFrame g stack old o → HoldsFrame g stack new o
 frame-left g stack s old new o quiet_ c h =
     let m = frame-moves g stack old o h in
     frame-stays g stack old new o (stays-leave s feeder_logs 0 old new m.0 quiet_ refl m.1 c) h
 
 pub job-left : (g : Graph) (stack : StackValue) (s : Setting) (r v : ℕ) (old new : Pass) (o : Option (Job Sealed))
     → ((e : Entry) → begun_by e ≡ None → worker_logs v e ≡ true)
-    → Called s (λ x y. LeaveGives s x r y) Gone old new → HoldsJob g stack r v old o → HoldsJob g stack r v new o
+    → Called s (λ x y. LeaveGives s x r y) said_leave old new → HoldsJob g stack r v old o → HoldsJob g stack r v new o
 job-left g stack s r v old new o quiet_ c h =
     let m = job-moves g stack r v old o h in
     job-stays g stack r v old new o (stays-leave s (worker_logs v) r old new m.0 quiet_ refl m.1 c) h

@@ -13,8 +13,7 @@ use Rattle.board_rules.specs.declared.answers.Settled.TheVariants as settled
 use Rattle.board_rules.specs.States.{BoardState, past}
 use Rattle.board_rules.specs.RunMeasures.{run_setting}
 use Rattle.board_rules.specs.Working.{take_refusal, asked, TakeGives, LendsJob, SettleGives}
-use Rattle.flow_roles.specs.declared.last.Last.TheVariants as last
-use Rattle.flow_roles.specs.Lasts.{last_take}
+use Rattle.flow_roles.specs.Lasts.{said_take, said_other}
 use Rattle.flow_roles.specs.Passes.{Pass, Called}
 use Rattle.flow_roles.specs.RoleMoves.{worker_logs, HasNothing}
 use Rattle.flow_roles.specs.Feeder.{name_of, parts_of}
@@ -49,17 +48,17 @@ module _ (g : Graph) (stack : StackValue) (r v : ℕ) (old new : Pass) where
   s = run_setting g stack
 
   pub take-stays : {O : Type 0} (a : Take Sealed (List ℕ) O) (o : Option (Job Sealed)) → is_still_take a ≡ true
-      → Called s (λ x y. TakeGives {F = Sealed} {B = List ℕ} {O = O} name_of parts_of length s x r v a y) (last_take a) old new
+      → Called s (λ x y. TakeGives {F = Sealed} {B = List ℕ} {O = O} name_of parts_of length s x r v a y) (said_take a) old new
       → HoldsJob g stack r v old o → HoldsJob g stack r v new o
   take-stays {O} a o still c h =
       let f = λ (x y : BoardState). TakeGives {F = Sealed} {B = List ℕ} {O = O} name_of parts_of length s x r v a y in
-      let b = here s f (last_take a) old new old.role refl c in
-      job-still s f (last_take a) old new g stack r v o c
+      let b = here s f (said_take a) old new old.role refl c in
+      job-still s f (said_take a) old new g stack r v o c
       (take-still {F = Sealed} {B = List ℕ} {O = O} name_of parts_of length s b new.seen r v (take_refusal s r v (past b))
       (asked s v (past b)) a (still-take a still) c.answer) h
 
   pub take-holds : {O : Type 0} (a : Take Sealed (List ℕ) O) → IsGraph g → is_node s v ≡ true → HasNothing (worker_logs v) r old
-      → Called s (λ x y. TakeGives {F = Sealed} {B = List ℕ} {O = O} name_of parts_of length s x r v a y) (last_take a) old new
+      → Called s (λ x y. TakeGives {F = Sealed} {B = List ℕ} {O = O} name_of parts_of length s x r v a y) (said_take a) old new
       → LendsJob {F = Sealed} {B = List ℕ} {O = O} parts_of length s r v a new.made → HoldsJob g stack r v new (job_of a)
   take-holds {O} take.Left sound node_ n c lent_ = take-goes {F = Sealed} {B = List ℕ} {O = O} name_of parts_of length s r v old new n take.Left refl c
   take-holds {O} take.Busy sound node_ n c lent_ = take-goes {F = Sealed} {B = List ℕ} {O = O} name_of parts_of length s r v old new n take.Busy refl c
@@ -71,7 +70,7 @@ module _ (g : Graph) (stack : StackValue) (r v : ℕ) (old new : Pass) where
   take-holds {O} (take.Job w input blank) sound node_ n c lent_ = take-works {O = O} g stack r v w input old new sound node_ n blank c lent_
 
 pub settle-stays : (g : Graph) (stack : StackValue) (r v : ℕ) (old new : Pass) (o : Option (Job Sealed))
-    → Called (run_setting g stack) (λ x y. SettleGives (run_setting g stack) x r v settled.NotYet y) last.Other old new
+    → Called (run_setting g stack) (λ x y. SettleGives (run_setting g stack) x r v settled.NotYet y) said_other old new
     → HoldsJob g stack r v old o → HoldsJob g stack r v new o
 settle-stays g stack r v old new o c h =
-    job-still (run_setting g stack) (λ x y. SettleGives (run_setting g stack) x r v settled.NotYet y) last.Other old new g stack r v o c c.answer.1 h
+    job-still (run_setting g stack) (λ x y. SettleGives (run_setting g stack) x r v settled.NotYet y) said_other old new g stack r v o c c.answer.1 h

@@ -1,14 +1,16 @@
 -- What a call of a desk leaves of a pass.
-use Rattle.std.proofs.Common.{◌≡◌, ℕ, Bool, true, false, [], ◌∷◌, ◌++◌, refl, sym, ap, ◌∙◌, subst, Option, Some, None, inl, inr}
+use Rattle.std.proofs.Common.{◌≡◌, ℕ, ◌≤◌, arith, Bool, true, false, [], ◌∷◌, ◌++◌, refl, sym, ap, ◌∙◌, subst, Option, Some, None, inl, inr}
 use Rattle.std.specs.Prelude.{if◌then◌else◌}
 use Rattle.std.specs.List.{list_all, list_any}
 use Rattle.std.proofs.lemmas.Bool.{and_parts, and_from, cases_Bool}
 use Rattle.std.proofs.lemmas.List.{append_assoc, append_cancel_left}
 use Rattle.nd_base.specs.Parts.{Parts}
+use Rattle.edge_traits.specs.Memory.{one_more}
 use Rattle.flow_journal.specs.declared.entry.Entry.{Entry}
 use Rattle.flow_journal.specs.declared.entry.Entry.TheVariants.{Load, LoadRefused, Issue, Take, TakeBlock, PoolDrop, Put, Settle, Save, Saved, Close, Leave}
 use Rattle.flow_journal.specs.declared.entry.Entry.TheVariants.{Reclaim}
 use Rattle.flow_journal.specs.Setting.{Setting}
+use Rattle.flow_journal.specs.Pasts.{Past}
 use Rattle.flow_journal.specs.Hands.{takes_up, hand}
 use Rattle.flow_journal.specs.Histories.{is_legal}
 use Rattle.flow_journal.specs.EntryLaws.{lets_go}
@@ -19,8 +21,8 @@ use Rattle.flow_journal.specs.MoveLists.{begun_by}
 use Rattle.board_rules.specs.Movers.{moves_by, IsMoveOf}
 use Rattle.board_rules.specs.Moving.{moved_at}
 use Rattle.board_rules.proofs.Moves.{followers, one-move, moves-added, moves-tell, GoOn}
-use Rattle.flow_roles.specs.declared.last.Last.{Last}
-use Rattle.flow_roles.specs.Lasts.{is_owned}
+use Rattle.flow_roles.specs.declared.last.Said.{Said}
+use Rattle.flow_roles.specs.Lasts.{is_gone, IsActive}
 use Rattle.flow_roles.specs.Passes.{Pass, Called}
 
 -- WHAT FOLLOWS THE FIRST ENTRY OF A MOVE
@@ -75,6 +77,11 @@ legal-on : (s : Setting) (more b : BoardState) → is_legal s (past (more ++ b))
 legal-on s [] b h = h
 legal-on s (u ∷ more) b h = legal-on s more b (and_parts (is_legal s (past (more ++ b))) _ h).0
 
+-- what a move with no condition on its entries says
+pub all-true : (P : Past) → list_all (λ (e : Entry). true) P ≡ true
+all-true [] = refl
+all-true (e ∷ P) = all-true P
+
 -- A CALL
 
 -- the part that a role is lent after an entry
@@ -89,8 +96,8 @@ pub record Moved (s : Setting) (logs : Entry → Bool) (r : ℕ) (t : Told) (b :
   pub legal : is_legal s (t.entry ∷ past b) ≡ true
   pub seen : (p : Entry → Bool) → p t.entry ≡ true → list_any p (past new.seen) ≡ true
 
-module _ (s : Setting) (gives : BoardState → BoardState → Type 0) (answered : Last) (old new : Pass) (r : ℕ) (is : old.role ≡ r)
-    (c : Called s gives answered old new) where
+module _ (s : Setting) (gives : BoardState → BoardState → Type 0) (answers : Said → Said) (old new : Pass) (r : ℕ) (is : old.role ≡ r)
+    (c : Called s gives answers old new) where
   -- the log before the call
   abbrev pub here : BoardState
   here = c.between ++ old.seen
@@ -115,8 +122,22 @@ module _ (s : Setting) (gives : BoardState → BoardState → Type 0) (answered 
   role-after = c.role ∙ is
 
   -- no call was answered NotYours, and neither was this one
-  pub still-owned : is_owned answered ≡ true → old.owned ≡ true → new.owned ≡ true
-  still-owned mine all = c.owned ∙ and_from (is_owned answered) old.owned mine all
+  pub still-owned : (answers old.said).owned ≡ old.said.owned → old.said.owned ≡ true → new.said.owned ≡ true
+  still-owned mine all = ap (λ (said : Said). said.owned) c.said ∙ (mine ∙ all)
+
+  -- and it goes on
+  pub still-active : (answers old.said).wanted ≡ old.said.wanted → is_gone (answers old.said).last ≡ false → IsActive old.said → IsActive new.said
+  still-active had stays active = (
+    ap (λ (said : Said). said.wanted) c.said ∙ (had ∙ active.0),
+    ap (λ (said : Said). is_gone said.last) c.said ∙ stays,
+  )
+
+  -- a call for which there was no memory
+  pub wanted-once : (answers old.said).wanted ≡ one_more old.said.wanted → IsActive old.said → new.said.wanted ≤ 1
+  wanted-once wants active =
+      let one : new.said.wanted ≡ one_more old.said.wanted = ap (λ (said : Said). said.wanted) c.said ∙ wants in
+      let none : old.said.wanted ≡ 0 = active.0 in
+      omega (arith, one, none)
 
   -- a call that changed nothing
   pub unmoved : new.seen ≡ here → new.made ≡ old.made

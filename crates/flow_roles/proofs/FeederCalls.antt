@@ -28,9 +28,8 @@ use Rattle.board_rules.specs.Storage.{IsRegrown}
 use Rattle.board_rules.specs.InHand.{is_load_of}
 use Rattle.board_rules.specs.Feeding.{is_sent_away, load_refusal, LoadAnswers, LoadGives, HasRoom, IssueGives, CloseGives}
 use Rattle.board_rules.proofs.Legal.{may_load}
-use Rattle.flow_roles.specs.declared.last.Last.{Last}
-use Rattle.flow_roles.specs.declared.last.Last.TheVariants as last
-use Rattle.flow_roles.specs.Lasts.{last_load}
+use Rattle.flow_roles.specs.declared.last.Said.{Said}
+use Rattle.flow_roles.specs.Lasts.{said_load, said_given, said_close}
 use Rattle.flow_roles.specs.Passes.{Pass, Called}
 use Rattle.flow_roles.specs.RoleMoves.{feeder_logs, HasNothing}
 use Rattle.flow_roles.specs.RoleEnds.{feeder_ends}
@@ -137,42 +136,47 @@ load-loaded parts bytes_of s old new r tick k blank None pool.Refused is c = abs
 
 module _ {F B : Type 0} (parts : F → Option Parts) (bytes_of : B → ℕ) (s : Setting) (tick : ℕ) (old new : Pass) (n : HasNothing feeder_logs 0 old) where
   pub load-goes : (a : load_answer B) → is_still a ≡ true
-      → Called s (λ x y. LoadGives parts bytes_of s x 0 tick a y) (last_load a) old new → HasNothing feeder_logs 0 new
+      → Called s (λ x y. LoadGives parts bytes_of s x 0 tick a y) (said_load a tick) old new → HasNothing feeder_logs 0 new
   load-goes a still c =
       let g = λ (x y : BoardState). LoadGives parts bytes_of s x 0 tick a y in
-      let b = here s g (last_load a) old new 0 n.role c in
+      let b = here s g (said_load a tick) old new 0 n.role c in
       let same = load-still parts bytes_of s b new.seen 0 tick (load_refusal s 0 (past b)) (grant s (past b) (s.need 0)) a still c.answer in
-      kept feeder_logs 0 old new (role-after s g (last_load a) old new 0 n.role c) (unmoved s g (last_load a) old new 0 n.role c same) n
+      kept feeder_logs 0 old new (role-after s g (said_load a tick) old new 0 n.role c) (unmoved s g (said_load a tick) old new 0 n.role c same) n
 
-  pub load-left-seen : Called s (λ x y. LoadGives parts bytes_of s x 0 tick load.Left y) last.LoadLeft old new → feeder_ends new.last (past new.seen) false ≡ true
+  pub load-left-seen : Called s (λ x y. LoadGives parts bytes_of s x 0 tick load.Left y) (said_load {B = B} load.Left tick) old new
+      → feeder_ends new.said.last (past new.seen) false ≡ true
   load-left-seen c =
       let g = λ (x y : BoardState). LoadGives parts bytes_of s x 0 tick load.Left y in
-      let b = here s g last.LoadLeft old new 0 n.role c in
+      let b = here s g (said_load {B = B} load.Left tick) old new 0 n.role c in
       let same = load-still parts bytes_of s b new.seen 0 tick (load_refusal s 0 (past b)) (grant s (past b) (s.need 0)) load.Left refl c.answer in
       let left = load-left parts bytes_of s b new.seen 0 tick (load_refusal s 0 (past b)) (grant s (past b) (s.need 0)) refl c.answer in
-      ap (λ (l : Last). feeder_ends l (past new.seen) false) c.last ∙ (ap (λ (w : BoardState). has_left_any (past w)) same ∙ left)
+      ap (λ (said : Said). feeder_ends said.last (past new.seen) false) c.said ∙ (ap (λ (w : BoardState). has_left_any (past w)) same ∙ left)
 
-  pub load-refuses : (k z : ℕ) → Called s (λ x y. LoadGives parts bytes_of s x 0 tick (load.Refused k z) y) last.Load old new → HasNothing feeder_logs 0 new
+  pub load-refuses : (k z : ℕ) → Called s (λ x y. LoadGives parts bytes_of s x 0 tick (load.Refused k z) y) (said_load {B = B} (load.Refused k z) tick) old new
+      → HasNothing feeder_logs 0 new
   load-refuses k z c =
+      let answers = said_load {B = B} (load.Refused k z) tick in
       let g = λ (x y : BoardState). LoadGives parts bytes_of s x 0 tick (load.Refused k z) y in
-      let b = here s g last.Load old new 0 n.role c in
-      let role_ = role-after s g last.Load old new 0 n.role c in
+      let b = here s g answers old new 0 n.role c in
+      let role_ = role-after s g answers old new 0 n.role c in
       elim (load-refused parts bytes_of s b new.seen 0 tick k z (load_refusal s 0 (past b)) (grant s (past b) (s.need 0)) c.answer) [
-        | inl same_ ↦ kept feeder_logs 0 old new role_ (unmoved s g last.Load old new 0 n.role c same_) n
+        | inl same_ ↦ kept feeder_logs 0 old new role_ (unmoved s g answers old new 0 n.role c same_) n
         | inr move ↦
-            let m = moved s g last.Load old new 0 n.role c feeder_logs tick (plain (LoadRefused 0 k (s.need 0) z)) move refl feeder-quiet refl n.moves in
-            record { role = role_; moves = m.moves; free = m.hand ∙ (hand-before s g last.Load old new 0 n.role c ∙ n.free) }
+            let m = moved s g answers old new 0 n.role c feeder_logs tick (plain (LoadRefused 0 k (s.need 0) z)) move refl feeder-quiet refl n.moves in
+            record { role = role_; moves = m.moves; free = m.hand ∙ (hand-before s g answers old new 0 n.role c ∙ n.free) }
       ]
 
-  pub load-loads : (k : ℕ) (blank : B) → Called s (λ x y. LoadGives parts bytes_of s x 0 tick (load.Loaded k blank) y) last.Load old new
+  pub load-loads : (k : ℕ) (blank : B)
+      → Called s (λ x y. LoadGives parts bytes_of s x 0 tick (load.Loaded k blank) y) (said_load (load.Loaded k blank) tick) old new
       → HasRoom bytes_of s 0 (load.Loaded k blank) new.made → HasLoaded s k (bytes_of blank) new
   load-loads k blank c room =
+      let answers = said_load (load.Loaded k blank) tick in
       let g = λ (x y : BoardState). LoadGives parts bytes_of s x 0 tick (load.Loaded k blank) y in
-      let b = here s g last.Load old new 0 n.role c in
+      let b = here s g answers old new 0 n.role c in
       let l = load-loaded parts bytes_of s b new.seen 0 tick k blank (load_refusal s 0 (past b)) (grant s (past b) (s.need 0)) refl c.answer in
-      let m = moved s g last.Load old new 0 n.role c feeder_logs tick (plain (Load 0 k l.b l.n l.f l.g l.x)) l.move refl feeder-quiet refl n.moves in
+      let m = moved s g answers old new 0 n.role c feeder_logs tick (plain (Load 0 k l.b l.n l.f l.g l.x)) l.move refl feeder-quiet refl n.moves in
       record {
-        role = role-after s g last.Load old new 0 n.role c;
+        role = role-after s g answers old new 0 n.role c;
         moves = m.moves;
         loaded = ap (λ (o : Option Entry). is_load_of (frame 0 k) o) m.hand ∙ and_from _ _ (eq-eqb 0 0 refl) (eq-eqb k k refl);
         granted = sym room.1;
@@ -184,45 +188,49 @@ module _ {F B : Type 0} (parts : F → Option Parts) (bytes_of : B → ℕ) (s :
 
 -- the hand of a loaded frame isn't another one
 pub issue-goes : {F E : Type 0} (name_of : F → FrameName) (s : Setting) (k size : ℕ) (f : F) (done : E) (old new : Pass) → HasLoaded s k size old
-    → Called s (λ x y. IssueGives {E = E} name_of s x 0 f (Ok done) y) last.Other old new → HasNothing feeder_logs 0 new
+    → Called s (λ x y. IssueGives {E = E} name_of s x 0 f (Ok done) y) (said_given {F = F} {E = E} (Ok done)) old new → HasNothing feeder_logs 0 new
 issue-goes {F} {E} name_of s k size f done old new l c =
     let g = λ (x y : BoardState). IssueGives {E = E} name_of s x 0 f (Ok done) y in
-    let m = moved s g last.Other old new 0 l.role c feeder_logs 0 (plain (Issue 0 (name_of f).index)) c.answer.1 refl feeder-quiet refl l.moves in
+    let answers = said_given {F = F} {E = E} (Ok done) in
+    let m = moved s g answers old new 0 l.role c feeder_logs 0 (plain (Issue 0 (name_of f).index)) c.answer.1 refl feeder-quiet refl l.moves in
     record {
-      role = role-after s g last.Other old new 0 l.role c;
+      role = role-after s g answers old new 0 l.role c;
       moves = m.moves;
       free = m.hand ∙ hand_laws.down s 0 (Issue 0 (name_of f).index) (past (c.between ++ old.seen)) m.legal refl;
     }
 
 pub issue-takes : {F : Type 0} (E : Type 0) (name_of : F → FrameName) (s : Setting) (k size : ℕ) (f : F) (e : NotYours F) (old new : Pass)
     → HasLoaded s k size old → name_of f ≡ frame 0 k
-    → Called s (λ x y. IssueGives {E = E} name_of s x 0 f (Err e) y) last.NotYours old new → ⊥
+    → Called s (λ x y. IssueGives {E = E} name_of s x 0 f (Err e) y) (said_given {F = F} {E = E} (Err e)) old new → ⊥
 issue-takes {F} E name_of s k size f e old new l name c =
     let g = λ (x y : BoardState). IssueGives {E = E} name_of s x 0 f (Err e) y in
-    let same_ = hand-before s g last.NotYours old new 0 l.role c in
+    let same_ = hand-before s g (said_given {F = F} {E = E} (Err e)) old new 0 l.role c in
     false≢true (sym c.answer.0
     ∙ (ap (λ (o : Option Entry). is_load_of (name_of f) o) same_ ∙ (ap (λ (a : FrameName). is_load_of a (hand 0 (past old.made))) name ∙ l.loaded)))
 
 pub close-goes : (s : Setting) (old new : Pass) → HasNothing feeder_logs 0 old
-    → Called s (λ x y. CloseGives s x 0 settled.NotYet y) last.Other old new → HasNothing feeder_logs 0 new
+    → Called s (λ x y. CloseGives s x 0 settled.NotYet y) (said_close settled.NotYet) old new → HasNothing feeder_logs 0 new
 close-goes s old new n c =
     let g = λ (x y : BoardState). CloseGives s x 0 settled.NotYet y in
-    kept feeder_logs 0 old new (role-after s g last.Other old new 0 n.role c) (unmoved s g last.Other old new 0 n.role c c.answer.1) n
+    let answers = said_close settled.NotYet in
+    kept feeder_logs 0 old new (role-after s g answers old new 0 n.role c) (unmoved s g answers old new 0 n.role c c.answer.1) n
 
-pub close-ends : (s : Setting) (old new : Pass) → HasNothing feeder_logs 0 old → Called s (λ x y. CloseGives s x 0 settled.Done y) last.Closed old new
-    → HasNothing feeder_logs 0 new × (feeder_ends new.last (past new.seen) false ≡ true)
+pub close-ends : (s : Setting) (old new : Pass) → HasNothing feeder_logs 0 old
+    → Called s (λ x y. CloseGives s x 0 settled.Done y) (said_close settled.Done) old new
+    → HasNothing feeder_logs 0 new × (feeder_ends new.said.last (past new.seen) false ≡ true)
 close-ends s old new n c =
+    let answers = said_close settled.Done in
     let g = λ (x y : BoardState). CloseGives s x 0 settled.Done y in
-    let b = here s g last.Closed old new 0 n.role c in
-    let role_ = role-after s g last.Closed old new 0 n.role c in
-    let last_ = ap (λ (l : Last). feeder_ends l (past new.seen) false) c.last in
+    let b = here s g answers old new 0 n.role c in
+    let role_ = role-after s g answers old new 0 n.role c in
+    let last_ = ap (λ (said : Said). feeder_ends said.last (past new.seen) false) c.said in
     elim (cases_Bool (is_closed (past b))) [
       | inl closed ↦
           let same : new.seen ≡ b = c.answer.1 ∙ rw closed refl in (
-            kept feeder_logs 0 old new role_ (unmoved s g last.Closed old new 0 n.role c same) n,
+            kept feeder_logs 0 old new role_ (unmoved s g answers old new 0 n.role c same) n,
             last_ ∙ (ap (λ (w : BoardState). is_closed (past w)) same ∙ closed),
           )
       | inr open_ ↦
-          let m = moved s g last.Closed old new 0 n.role c feeder_logs 0 (plain (Close 0)) (c.answer.1 ∙ rw open_ refl) refl feeder-quiet refl n.moves in
-          (record { role = role_; moves = m.moves; free = m.hand ∙ (hand-before s g last.Closed old new 0 n.role c ∙ n.free) }, last_ ∙ m.seen closes refl)
+          let m = moved s g answers old new 0 n.role c feeder_logs 0 (plain (Close 0)) (c.answer.1 ∙ rw open_ refl) refl feeder-quiet refl n.moves in
+          (record { role = role_; moves = m.moves; free = m.hand ∙ (hand-before s g answers old new 0 n.role c ∙ n.free) }, last_ ∙ m.seen closes refl)
     ]

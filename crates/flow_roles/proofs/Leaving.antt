@@ -25,15 +25,13 @@ use Rattle.board_rules.specs.Working.{TakeGives, PutGives, SettleGives}
 use Rattle.board_rules.specs.Saving.{SaveGives, SavedGives}
 use Rattle.board_rules.specs.Leaving.{LeaveGives}
 use Rattle.flow_journal.specs.Notes.{progress_of}
-use Rattle.flow_roles.specs.declared.last.Last.{Last}
-use Rattle.flow_roles.specs.declared.last.Last.TheVariants as last
 use Rattle.flow_roles.specs.declared.last.Said.{Said}
 use Rattle.flow_roles.specs.declared.left_desk.LeftPass.{LeftPass}
 use Rattle.flow_roles.specs.declared.left_desk.Stage.{Stage}
 use Rattle.flow_roles.specs.declared.left_desk.Stage.TheVariants.{New, Told, Gone}
-use Rattle.flow_roles.specs.Lasts.{said_then}
+use Rattle.flow_roles.specs.Lasts.{said_leave}
 use Rattle.flow_roles.specs.Passes.{Called}
-use Rattle.flow_roles.specs.Leaving.{other_role, other_left, seen_at, pass_at, told_by, after_call, leaves_at}
+use Rattle.flow_roles.specs.Leaving.{other_role, other_left, seen_at, pass_at, told_by, once_told, leaves_at}
 
 other-isnt : (s : Setting) (r : ℕ) → eqb (other_role s r) r ≡ false
 other-isnt s r =
@@ -62,10 +60,10 @@ gone-moves : (s : Setting) (r : ℕ) → moves_by r (plain (Leave r) ∷ other_l
 gone-moves s r = rw (eq-eqb r r refl, other-isnt s r) refl
 
 -- a call that adds nothing
-pub told_called : (s : Setting) (gives : BoardState → BoardState → Type 0) (answered : Last) (before : Said) (r : ℕ) (stage : Stage)
+pub told_called : (s : Setting) (gives : BoardState → BoardState → Type 0) (answers : Said → Said) (before : Said) (r : ℕ) (stage : Stage)
     → r ≤ last_role s → gives (seen_at s r (told_by stage)) (seen_at s r (told_by stage))
-    → Called s gives answered (pass_at s r stage before) (pass_at s r (told_by stage) (said_then before answered))
-told_called s gives answered before r New h g =
+    → Called s gives answers (pass_at s r stage before) (pass_at s r (told_by stage) (answers before))
+told_called s gives answers before r New h g =
     record {
       between = other_left s r;
       added = [];
@@ -75,13 +73,11 @@ told_called s gives answered before r New h g =
       made = refl;
       exact = told-moves s r;
       role = refl;
-      last = refl;
-      owned = refl;
-      loads = refl;
+      said = refl;
       legal = told-legal s r;
       drained = refl;
     }
-told_called s gives answered before r Told h g =
+told_called s gives answers before r Told h g =
     record {
       between = [];
       added = [];
@@ -91,13 +87,11 @@ told_called s gives answered before r Told h g =
       made = refl;
       exact = told-moves s r;
       role = refl;
-      last = refl;
-      owned = refl;
-      loads = refl;
+      said = refl;
       legal = told-legal s r;
       drained = refl;
     }
-told_called s gives answered before r Gone h g =
+told_called s gives answers before r Gone h g =
     record {
       between = [];
       added = [];
@@ -107,9 +101,7 @@ told_called s gives answered before r Gone h g =
       made = refl;
       exact = gone-moves s r;
       role = refl;
-      last = refl;
-      owned = refl;
-      loads = refl;
+      said = refl;
       legal = gone-legal s r h;
       drained = refl;
     }
@@ -119,7 +111,7 @@ leave-gives s r = rw (other-isnt s r) refl
 
 -- a leave
 pub gone_called : (s : Setting) (before : Said) (r : ℕ) (stage : Stage) → r ≤ last_role s
-    → Called s (λ old new. LeaveGives s old r new) last.Gone (pass_at s r stage before) (pass_at s r Gone (said_then before last.Gone))
+    → Called s (λ old new. LeaveGives s old r new) said_leave (pass_at s r stage before) (pass_at s r Gone (said_leave before))
 gone_called s before r New h =
     record {
       between = other_left s r;
@@ -130,9 +122,7 @@ gone_called s before r New h =
       made = refl;
       exact = gone-moves s r;
       role = refl;
-      last = refl;
-      owned = refl;
-      loads = refl;
+      said = refl;
       legal = gone-legal s r h;
       drained = refl;
     }
@@ -146,9 +136,7 @@ gone_called s before r Told h =
       made = refl;
       exact = gone-moves s r;
       role = refl;
-      last = refl;
-      owned = refl;
-      loads = refl;
+      said = refl;
       legal = gone-legal s r h;
       drained = refl;
     }
@@ -162,9 +150,7 @@ gone_called s before r Gone h =
       made = refl;
       exact = gone-moves s r;
       role = refl;
-      last = refl;
-      owned = refl;
-      loads = refl;
+      said = refl;
       legal = gone-legal s r h;
       drained = refl;
     }
@@ -270,16 +256,18 @@ some_ids g stack h = let same_ = length-map stack.arrays (λ (a : Array). a.id) 
 
 -- BY THE PASSES
 
-pub told_by_call : (s : Setting) (gives : BoardState → BoardState → Type 0) (answered : Last) (p q : LeftPass) (r : ℕ) → p.role ≡ r → r ≤ last_role s
-    → q ≡ after_call p answered → gives (seen_at s r (told_by p.stage)) (seen_at s r (told_by p.stage))
-    → Called s gives answered (pass_at s p.role p.stage p.said) (pass_at s q.role q.stage q.said)
-told_by_call s gives answered p q r role h e g =
-    subst (λ (w : LeftPass). Called s gives answered (pass_at s p.role p.stage p.said) (pass_at s w.role w.stage w.said)) (sym e)
-    (subst (λ (w : ℕ). Called s gives answered (pass_at s w p.stage p.said) (pass_at s w (told_by p.stage) (said_then p.said answered))) (sym role)
-    (told_called s gives answered p.said r p.stage h g))
+pub told_by_call : (s : Setting) (gives : BoardState → BoardState → Type 0) (answers : Said → Said) (p q : LeftPass) (said : Said) (r : ℕ) → p.role ≡ r
+    → r ≤ last_role s → q ≡ once_told p → said ≡ answers q.said → gives (seen_at s r (told_by p.stage)) (seen_at s r (told_by p.stage))
+    → Called s gives answers (pass_at s p.role p.stage p.said) (pass_at s q.role q.stage said)
+told_by_call s gives answers p q said r role h e says g =
+    let after : said ≡ answers p.said = says ∙ ap (λ (w : LeftPass). answers w.said) e in
+    subst (λ (w : LeftPass). Called s gives answers (pass_at s p.role p.stage p.said) (pass_at s w.role w.stage said)) (sym e)
+    (subst (λ (w : ℕ). Called s gives answers (pass_at s w p.stage p.said) (pass_at s w (told_by p.stage) said)) (sym role)
+    (subst (λ (w : Said). Called s gives answers (pass_at s r p.stage p.said) (pass_at s r (told_by p.stage) w)) (sym after)
+    (told_called s gives answers p.said r p.stage h g)))
 
 pub gone_by_call : (s : Setting) (p : LeftPass) (r : ℕ) → p.role ≡ r → r ≤ last_role s
-    → Called s (λ old new. LeaveGives s old r new) last.Gone (pass_at s p.role p.stage p.said) (pass_at s p.role Gone (said_then p.said last.Gone))
+    → Called s (λ old new. LeaveGives s old r new) said_leave (pass_at s p.role p.stage p.said) (pass_at s p.role Gone (said_leave p.said))
 gone_by_call s p r role h =
-    subst (λ (w : ℕ). Called s (λ old new. LeaveGives s old r new) last.Gone (pass_at s w p.stage p.said) (pass_at s w Gone (said_then p.said last.Gone)))
+    subst (λ (w : ℕ). Called s (λ old new. LeaveGives s old r new) said_leave (pass_at s w p.stage p.said) (pass_at s w Gone (said_leave p.said)))
     (sym role) (gone_called s p.said r p.stage h)

@@ -33,13 +33,11 @@ use Rattle.turn_lock.specs.Rule.{AreExact}
 use Rattle.turn_lock.specs.Views.{adds}
 use Rattle.turn_lock.specs.Passes.{PassFacts, MayCall}
 use Rattle.turn_lock.specs.Passes as lock
-use Rattle.flow_roles.specs.declared.last.Last.{Last}
 use Rattle.flow_roles.specs.declared.last.Said.{Said}
 use Rattle.flow_roles.specs.declared.operation.DeskOp.{DeskOp}
 use Rattle.flow_roles.specs.declared.operation.DeskOp.TheVariants as op
 use Rattle.flow_roles.specs.declared.operation.DeskReply.{DeskReply}
 use Rattle.flow_roles.specs.declared.operation.DeskReply.TheVariants as reply
-use Rattle.flow_roles.specs.Lasts.{said_then}
 use Rattle.flow_roles.specs.Passes.{Pass, Called, only_drain_saves}
 use Rattle.flow_roles.specs.Operations.{role_of, begins_of, MayPlay, MayBePlayed, call_of, GivesCall, Replies, Lends, IsPlayed}
 use Rattle.flow_roles.specs.TurnPasses.{HasOneRole, role_in, moves_in, known_by}
@@ -97,11 +95,11 @@ module _ {F B O : Type 0} (fs : Frames F B) (s : Setting) where
       → lock.Called begins_of (role_of o) (λ before added. IsPlayed fs s before o answer added) old new → HasOneRole new.made
   calls-one o answer old new one c = subst (λ (ms : List (Moves Told)). HasOneRole ms) (sym c.5) (one-more c.1 old.made one).0
 
-  pub called : (o : DeskOp F) (answer : DeskReply F B O) (before : Said) (answered : Last) (old new : PassFacts Told)
+  pub called : (o : DeskOp F) (answer : DeskReply F B O) (before : Said) (answers : Said → Said) (old new : PassFacts Told)
       → HasOneRole old.made → role_in old.made ≡ role_of o
       → lock.Called begins_of (role_of o) (λ log added. IsPlayed fs s log o answer added) old new
-      → Called s (λ b d. Replies fs s b o answer d) answered (known_by old before) (known_by new (said_then before answered))
-  called o answer before answered old new one is c =
+      → Called s (λ b d. Replies fs s b o answer d) answers (known_by old before) (known_by new (answers before))
+  called o answer before answers old new one is c =
       let more = one-more c.1 old.made one in
       let apart : reverse (old.seen ++ c.0) ≡ reverse c.0 ++ reverse old.seen = reverse-append old.seen c.0 in
       let back : reverse ((old.seen ++ c.0) ++ c.1) ≡ reverse new.seen = ap (λ (xs : List Told). reverse xs) (sym c.2) in
@@ -116,9 +114,7 @@ module _ {F B O : Type 0} (fs : Frames F B) (s : Setting) where
             ap (λ (r : ℕ). moves_by r (reverse new.seen)) (sym (ap (λ (ms : List (Moves Told)). role_in ms) c.5 ∙ more.1))
             ∙ exact-one new.seen new.made (subst (λ (ms : List (Moves Told)). HasOneRole ms) (sym c.5) more.0) c.6;
         role = ap (λ (ms : List (Moves Told)). role_in ms) c.5 ∙ more.1;
-        last = refl;
-        owned = refl;
-        loads = refl;
+        said = refl;
         legal = subst (λ (b : BoardState). is_history s (past b) ≡ true) back c.3.legal;
         drained = subst (λ (b : BoardState). only_drain_saves s (past b) ≡ true) back c.3.drained;
       }
@@ -174,7 +170,8 @@ called-lends fs s o answer old new one is c =
 -- A REPLY HAS THE NAME OF ITS OPERATION
 
 -- where it has not, the two make no call
-not-called : {F B O : Type 0} (fs : Frames F B) (s : Setting) (o : DeskOp F) (answer : DeskReply F B O) (l : Last) (old new : Pass) → call_of o answer ≡ None
+not-called : {F B O : Type 0} (fs : Frames F B) (s : Setting) (o : DeskOp F) (answer : DeskReply F B O) (l : Said → Said) (old new : Pass)
+    → call_of o answer ≡ None
     → Called s (λ b d. Replies fs s b o answer d) l old new → ⊥
 not-called {F} {B} {O} fs s o answer l old new none c =
     subst (λ (x : Option (Call F B O)). GivesCall fs s (c.between ++ old.seen) x new.seen) none c.answer
@@ -183,7 +180,7 @@ load-other : {F B O : Type 0} (r tick : ℕ) (answer : DeskReply F B O) → ((x 
 load-other r tick (reply.Load x) not = absurd (not x refl)
 load-other r tick _ not = refl
 
-pub load-replied : {F B O : Type 0} (fs : Frames F B) (s : Setting) (r tick : ℕ) (answer : DeskReply F B O) (l : Last) (old new : Pass)
+pub load-replied : {F B O : Type 0} (fs : Frames F B) (s : Setting) (r tick : ℕ) (answer : DeskReply F B O) (l : Said → Said) (old new : Pass)
     → ((x : Load B) → answer ≡ reply.Load x → ⊥)
     → Called s (λ b d. Replies fs s b (op.Load r tick) answer d) l old new → ⊥
 load-replied fs s r tick answer l old new not c = not-called fs s (op.Load r tick) answer l old new (load-other r tick answer not) c
@@ -193,7 +190,7 @@ issue-other : {F B O : Type 0} (r : ℕ) (f : F) (answer : DeskReply F B O) → 
 issue-other r f (reply.Issue x) not = absurd (not x refl)
 issue-other r f _ not = refl
 
-pub issue-replied : {F B O : Type 0} (fs : Frames F B) (s : Setting) (r : ℕ) (f : F) (answer : DeskReply F B O) (l : Last) (old new : Pass)
+pub issue-replied : {F B O : Type 0} (fs : Frames F B) (s : Setting) (r : ℕ) (f : F) (answer : DeskReply F B O) (l : Said → Said) (old new : Pass)
     → ((x : Result (Unit {0}) (NotYours F)) → answer ≡ reply.Issue x → ⊥)
     → Called s (λ b d. Replies fs s b (op.Issue r f) answer d) l old new → ⊥
 issue-replied fs s r f answer l old new not c = not-called fs s (op.Issue r f) answer l old new (issue-other r f answer not) c
@@ -202,7 +199,7 @@ take-other : {F B O : Type 0} (r v : ℕ) (answer : DeskReply F B O) → ((x : T
 take-other r v (reply.Take x) not = absurd (not x refl)
 take-other r v _ not = refl
 
-pub take-replied : {F B O : Type 0} (fs : Frames F B) (s : Setting) (r v : ℕ) (answer : DeskReply F B O) (l : Last) (old new : Pass)
+pub take-replied : {F B O : Type 0} (fs : Frames F B) (s : Setting) (r v : ℕ) (answer : DeskReply F B O) (l : Said → Said) (old new : Pass)
     → ((x : Take F B O) → answer ≡ reply.Take x → ⊥)
     → Called s (λ b d. Replies fs s b (op.Take r v) answer d) l old new → ⊥
 take-replied fs s r v answer l old new not c = not-called fs s (op.Take r v) answer l old new (take-other r v answer not) c
@@ -212,7 +209,7 @@ put-other : {F B O : Type 0} (r : ℕ) (done : Done F) (answer : DeskReply F B O
 put-other r done (reply.Put x) not = absurd (not x refl)
 put-other r done _ not = refl
 
-pub put-replied : {F B O : Type 0} (fs : Frames F B) (s : Setting) (r : ℕ) (done : Done F) (answer : DeskReply F B O) (l : Last) (old new : Pass)
+pub put-replied : {F B O : Type 0} (fs : Frames F B) (s : Setting) (r : ℕ) (done : Done F) (answer : DeskReply F B O) (l : Said → Said) (old new : Pass)
     → ((x : Result (Unit {0}) (NotYours F)) → answer ≡ reply.Put x → ⊥)
     → Called s (λ b d. Replies fs s b (op.Put r done) answer d) l old new → ⊥
 put-replied fs s r done answer l old new not c = not-called fs s (op.Put r done) answer l old new (put-other r done answer not) c
@@ -221,7 +218,7 @@ settle-other : {F B O : Type 0} (r v : ℕ) (answer : DeskReply F B O) → ((x :
 settle-other r v (reply.Settle x) not = absurd (not x refl)
 settle-other r v _ not = refl
 
-pub settle-replied : {F B O : Type 0} (fs : Frames F B) (s : Setting) (r v : ℕ) (answer : DeskReply F B O) (l : Last) (old new : Pass)
+pub settle-replied : {F B O : Type 0} (fs : Frames F B) (s : Setting) (r v : ℕ) (answer : DeskReply F B O) (l : Said → Said) (old new : Pass)
     → ((x : Settled) → answer ≡ reply.Settle x → ⊥)
     → Called s (λ b d. Replies fs s b (op.Settle r v) answer d) l old new → ⊥
 settle-replied fs s r v answer l old new not c = not-called fs s (op.Settle r v) answer l old new (settle-other r v answer not) c
@@ -230,7 +227,7 @@ close-other : {F B O : Type 0} (r : ℕ) (answer : DeskReply F B O) → ((x : Se
 close-other r (reply.Close x) not = absurd (not x refl)
 close-other r _ not = refl
 
-pub close-replied : {F B O : Type 0} (fs : Frames F B) (s : Setting) (r : ℕ) (answer : DeskReply F B O) (l : Last) (old new : Pass)
+pub close-replied : {F B O : Type 0} (fs : Frames F B) (s : Setting) (r : ℕ) (answer : DeskReply F B O) (l : Said → Said) (old new : Pass)
     → ((x : Settled) → answer ≡ reply.Close x → ⊥)
     → Called s (λ b d. Replies fs s b (op.Close r) answer d) l old new → ⊥
 close-replied fs s r answer l old new not c = not-called fs s (op.Close r) answer l old new (close-other r answer not) c
@@ -239,7 +236,8 @@ leave-other : {F B O : Type 0} (r : ℕ) (answer : DeskReply F B O) → (answer 
 leave-other r reply.Leave not = absurd (not refl)
 leave-other r _ not = refl
 
-pub leave-replied : {F B O : Type 0} (fs : Frames F B) (s : Setting) (r : ℕ) (answer : DeskReply F B O) (l : Last) (old new : Pass) → (answer ≡ reply.Leave → ⊥)
+pub leave-replied : {F B O : Type 0} (fs : Frames F B) (s : Setting) (r : ℕ) (answer : DeskReply F B O) (l : Said → Said) (old new : Pass)
+    → (answer ≡ reply.Leave → ⊥)
     → Called s (λ b d. Replies fs s b (op.Leave r) answer d) l old new → ⊥
 leave-replied fs s r answer l old new not c = not-called fs s (op.Leave r) answer l old new (leave-other r answer not) c
 
@@ -247,7 +245,7 @@ save-other : {F B O : Type 0} (r v : ℕ) (answer : DeskReply F B O) → ((x : S
 save-other r v (reply.Save x) not = absurd (not x refl)
 save-other r v _ not = refl
 
-pub save-replied : {F B O : Type 0} (fs : Frames F B) (s : Setting) (r v : ℕ) (answer : DeskReply F B O) (l : Last) (old new : Pass)
+pub save-replied : {F B O : Type 0} (fs : Frames F B) (s : Setting) (r v : ℕ) (answer : DeskReply F B O) (l : Said → Said) (old new : Pass)
     → ((x : Save F) → answer ≡ reply.Save x → ⊥)
     → Called s (λ b d. Replies fs s b (op.Save r v) answer d) l old new → ⊥
 save-replied fs s r v answer l old new not c = not-called fs s (op.Save r v) answer l old new (save-other r v answer not) c
@@ -257,7 +255,7 @@ saved-other : {F B O : Type 0} (r : ℕ) (f : F) (answer : DeskReply F B O) → 
 saved-other r f (reply.Saved x) not = absurd (not x refl)
 saved-other r f _ not = refl
 
-pub saved-replied : {F B O : Type 0} (fs : Frames F B) (s : Setting) (r : ℕ) (f : F) (answer : DeskReply F B O) (l : Last) (old new : Pass)
+pub saved-replied : {F B O : Type 0} (fs : Frames F B) (s : Setting) (r : ℕ) (f : F) (answer : DeskReply F B O) (l : Said → Said) (old new : Pass)
     → ((x : Result (Unit {0}) (NotYours F)) → answer ≡ reply.Saved x → ⊥)
     → Called s (λ b d. Replies fs s b (op.Saved r f) answer d) l old new → ⊥
 saved-replied fs s r f answer l old new not c = not-called fs s (op.Saved r f) answer l old new (saved-other r f answer not) c
@@ -266,14 +264,12 @@ progress-other : {F B O : Type 0} (r : ℕ) (answer : DeskReply F B O) → ((x :
 progress-other r (reply.Progress x) not = absurd (not x refl)
 progress-other r _ not = refl
 
-pub progress-replied : {F B O : Type 0} (fs : Frames F B) (s : Setting) (r : ℕ) (answer : DeskReply F B O) (l : Last) (old new : Pass)
+pub progress-replied : {F B O : Type 0} (fs : Frames F B) (s : Setting) (r : ℕ) (answer : DeskReply F B O) (l : Said → Said) (old new : Pass)
     → ((x : Progress) → answer ≡ reply.Progress x → ⊥)
     → Called s (λ b d. Replies fs s b (op.Progress r) answer d) l old new → ⊥
 progress-replied fs s r answer l old new not c = not-called fs s (op.Progress r) answer l old new (progress-other r answer not) c
 
 -- the pass keeps what was answered
-pub told-last : (s : Setting) (gives : BoardState → BoardState → Type 0) (answered l : Last) (old : Pass) (new : PassFacts Told) (before after : Said)
-    → l ≡ answered → after ≡ said_then before l → Called s gives answered old (known_by new (said_then before answered))
-    → Called s gives answered old (known_by new after)
-told-last s gives answered l old new before after is adds c =
-    subst (λ (x : Said). Called s gives answered old (known_by new x)) (sym (adds ∙ ap (said_then before) is)) c
+pub told-last : (s : Setting) (gives : BoardState → BoardState → Type 0) (answers : Said → Said) (old : Pass) (new : PassFacts Told) (before after : Said)
+    → after ≡ answers before → Called s gives answers old (known_by new (answers before)) → Called s gives answers old (known_by new after)
+told-last s gives answers old new before after is c = subst (λ (x : Said). Called s gives answers old (known_by new x)) (sym is) c

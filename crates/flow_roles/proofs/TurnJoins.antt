@@ -38,7 +38,7 @@ pub dealt-fresh : (lock : TableId) (n k : ℕ) (p : PassFacts Told) → slice_ge
 dealt-fresh lock n k p h =
     let role : 0 + k ≡ k = omega arith in
     let is : p ≡ pass_facts lock [] (no_moves k ∷ []) = dealt-at lock 0 n k p h ∙ ap (λ (r : ℕ). pass_facts {E = Told} lock [] (no_moves r ∷ [])) role in
-    subst (λ (q : PassFacts Told). IsFreshOf lock k q fresh_said) (sym is) ((refl, tt), record { role = refl; last = refl; owned = refl; loads = refl; made = refl })
+    subst (λ (q : PassFacts Told). IsFreshOf lock k q fresh_said) (sym is) ((refl, tt), record { role = refl; said = refl; made = refl })
 
 -- JOINED
 

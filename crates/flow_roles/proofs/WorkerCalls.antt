@@ -38,9 +38,9 @@ use Rattle.board_rules.specs.InHand.{is_job_on, granted_size, IsWholeOf, OfSome,
 use Rattle.board_rules.specs.RunMeasures.{run_setting, run_measure}
 use Rattle.board_rules.specs.Feeding.{is_sent_away}
 use Rattle.board_rules.specs.Working.{take_refusal, asked, TakeAnswers, TakeGives, LendsJob, MayPut, PutGives, SettleGives}
-use Rattle.flow_roles.specs.declared.last.Last.{Last}
 use Rattle.flow_roles.specs.declared.last.Last.TheVariants as last
-use Rattle.flow_roles.specs.Lasts.{last_take}
+use Rattle.flow_roles.specs.declared.last.Said.{Said}
+use Rattle.flow_roles.specs.Lasts.{said_last, said_take, said_given, said_other}
 use Rattle.flow_roles.specs.Passes.{Pass, Called}
 use Rattle.flow_roles.specs.RoleMoves.{worker_logs, HasNothing}
 use Rattle.flow_roles.specs.RoleEnds.{worker_ends}
@@ -218,64 +218,65 @@ take-taken name_of parts bytes_of s old new r v w input blank None (Some pool.Re
 module _ {F B O : Type 0} (name_of : F → FrameName) (parts : F → Option Parts)
     (bytes_of : B → ℕ) (s : Setting) (r v : ℕ) (old new : Pass) (n : HasNothing (worker_logs v) r old) where
   pub take-goes : (a : take_answer F B O) → is_still a ≡ true
-      → Called s (λ x y. TakeGives {F = F} {B = B} {O = O} name_of parts bytes_of s x r v a y) (last_take a) old new
+      → Called s (λ x y. TakeGives {F = F} {B = B} {O = O} name_of parts bytes_of s x r v a y) (said_take {F = F} {B = B} {O = O} a) old new
       → HasNothing (worker_logs v) r new
   take-goes a still c =
       let g = λ (x y : BoardState). TakeGives {F = F} {B = B} {O = O} name_of parts bytes_of s x r v a y in
-      let b = here s g (last_take a) old new r n.role c in
+      let answers = said_take {F = F} {B = B} {O = O} a in
+      let b = here s g answers old new r n.role c in
       let same_ =
       take-still {F = F} {B = B} {O = O} name_of parts bytes_of s b new.seen r v (take_refusal s r v (past b)) (asked s v (past b)) a still c.answer in
-      kept (worker_logs v) r old new (role-after s g (last_take a) old new r n.role c) (unmoved s g (last_take a) old new r n.role c same_) n
+      kept (worker_logs v) r old new (role-after s g answers old new r n.role c) (unmoved s g answers old new r n.role c same_) n
 
-  pub take-left-seen : Called s (λ x y. TakeGives {F = F} {B = B} {O = O} name_of parts bytes_of s x r v take.Left y) last.Left old new
-      → worker_ends v new.last (past new.seen) false ≡ true
+  pub take-left-seen : Called s (λ x y. TakeGives {F = F} {B = B} {O = O} name_of parts bytes_of s x r v take.Left y) (said_last last.Left) old new
+      → worker_ends v new.said.last (past new.seen) false ≡ true
   take-left-seen c =
       let g = λ (x y : BoardState). TakeGives {F = F} {B = B} {O = O} name_of parts bytes_of s x r v take.Left y in
-      let b = here s g last.Left old new r n.role c in
+      let b = here s g (said_last last.Left) old new r n.role c in
       let same_ =
       take-still {F = F} {B = B} {O = O} name_of parts bytes_of s b new.seen r v (take_refusal s r v (past b)) (asked s v (past b)) take.Left refl c.answer in
       let away =
       take-says {F = F} {B = B} {O = O} name_of parts bytes_of s b new.seen r v (take_refusal s r v (past b))
       (asked s v (past b)) take.Left refl refl c.answer in
-      ap (λ (l : Last). worker_ends v l (past new.seen) false) c.last
+      ap (λ (said : Said). worker_ends v said.last (past new.seen) false) c.said
       ∙ (ap (λ (w : BoardState). has_left_any (past w)) same_ ∙ (and_parts (has_left_any (past b)) _ away).0)
 
-  pub take-ended-seen : Called s (λ x y. TakeGives {F = F} {B = B} {O = O} name_of parts bytes_of s x r v take.Ended y) last.Ended old new
-      → worker_ends v new.last (past new.seen) false ≡ true
+  pub take-ended-seen : Called s (λ x y. TakeGives {F = F} {B = B} {O = O} name_of parts bytes_of s x r v take.Ended y) (said_last last.Ended) old new
+      → worker_ends v new.said.last (past new.seen) false ≡ true
   take-ended-seen c =
       let g = λ (x y : BoardState). TakeGives {F = F} {B = B} {O = O} name_of parts bytes_of s x r v take.Ended y in
-      let b = here s g last.Ended old new r n.role c in
+      let b = here s g (said_last last.Ended) old new r n.role c in
       let same_ =
       take-still {F = F} {B = B} {O = O} name_of parts bytes_of s b new.seen r v (take_refusal s r v (past b)) (asked s v (past b)) take.Ended refl c.answer in
       let ended =
       take-says {F = F} {B = B} {O = O} name_of parts bytes_of s b new.seen r v (take_refusal s r v (past b))
       (asked s v (past b)) take.Ended refl refl c.answer in
-      ap (λ (l : Last). worker_ends v l (past new.seen) false) c.last ∙ (ap (λ (w : BoardState). is_settled v (past w)) same_ ∙ ended)
+      ap (λ (said : Said). worker_ends v said.last (past new.seen) false) c.said ∙ (ap (λ (w : BoardState). is_settled v (past w)) same_ ∙ ended)
 
   -- a role without a hand isn't busy
-  pub take-isnt-busy : Called s (λ x y. TakeGives {F = F} {B = B} {O = O} name_of parts bytes_of s x r v take.Busy y) last.Other old new → ⊥
+  pub take-isnt-busy : Called s (λ x y. TakeGives {F = F} {B = B} {O = O} name_of parts bytes_of s x r v take.Busy y) said_other old new → ⊥
   take-isnt-busy c =
       let g = λ (x y : BoardState). TakeGives {F = F} {B = B} {O = O} name_of parts bytes_of s x r v take.Busy y in
-      let b = here s g last.Other old new r n.role c in
+      let b = here s g said_other old new r n.role c in
       let busy =
       take-says {F = F} {B = B} {O = O} name_of parts bytes_of s b new.seen r v (take_refusal s r v (past b))
       (asked s v (past b)) take.Busy refl refl c.answer in
-      let free : is_free r (past b) ≡ true = ap is_none (hand-before s g last.Other old new r n.role c ∙ n.free) in
+      let free : is_free r (past b) ≡ true = ap is_none (hand-before s g said_other old new r n.role c ∙ n.free) in
       false≢true (sym (ap not free) ∙ busy)
 
-  pub take-drops : (k z : ℕ) → Called s (λ x y. TakeGives {F = F} {B = B} {O = O} name_of parts bytes_of s x r v (take.PoolDrop k z) y) last.Other old new
+  pub take-drops : (k z : ℕ) → Called s (λ x y. TakeGives {F = F} {B = B} {O = O} name_of parts bytes_of s x r v (take.PoolDrop k z) y) said_other old new
       → HasNothing (worker_logs v) r new
   take-drops k z c =
       let g = λ (x y : BoardState). TakeGives {F = F} {B = B} {O = O} name_of parts bytes_of s x r v (take.PoolDrop k z) y in
-      let b = here s g last.Other old new r n.role c in
-      let role_ = role-after s g last.Other old new r n.role c in
+      let b = here s g said_other old new r n.role c in
+      let role_ = role-after s g said_other old new r n.role c in
       elim (take-drop {F = F} {B = B} {O = O} name_of parts bytes_of s b new.seen r v k z (take_refusal s r v (past b)) (asked s v (past b)) c.answer) [
-        | inl same_ ↦ kept (worker_logs v) r old new role_ (unmoved s g last.Other old new r n.role c same_) n
+        | inl same_ ↦ kept (worker_logs v) r old new role_ (unmoved s g said_other old new r n.role c same_) n
         | inr d ↦
             let m =
-            moved s g last.Other old new r n.role c (worker_logs v) 0 (plain (PoolDrop r v d.0 d.1 (s.need v) d.2)) d.3 refl
+            moved s g said_other old new r n.role c (worker_logs v) 0 (plain (PoolDrop r v d.0 d.1 (s.need v) d.2)) d.3 refl
             (worker-quiet v) (eq-eqb v v refl) n.moves in
-            record { role = role_; moves = m.moves; free = m.hand ∙ (hand-before s g last.Other old new r n.role c ∙ n.free) }
+            record { role = role_; moves = m.moves; free = m.hand ∙ (hand-before s g said_other old new r n.role c ∙ n.free) }
       ]
 
 -- A JOB
@@ -295,7 +296,7 @@ module _ {O : Type 0} (g : Graph) (stack : StackValue) (r v w : ℕ) (input : Se
       → is_some blank ≡ is_maker (run_setting g stack) v
       → ((lent : Option Parts) → parts_of input ≡ lent → IsOfHand name_of parts_of length lent (Some e) (Some input) None blank)
       → (c : Called (run_setting g stack)
-      (λ x y. TakeGives {F = Sealed} {B = List ℕ} {O = O} name_of parts_of length (run_setting g stack) x r v (take.Job w input blank) y) last.Other old new)
+      (λ x y. TakeGives {F = Sealed} {B = List ℕ} {O = O} name_of parts_of length (run_setting g stack) x r v (take.Job w input blank) y) said_other old new)
       → LendsJob {F = Sealed} {B = List ℕ} {O = O} parts_of length (run_setting g stack) r v (take.Job w input blank) new.made
       → new.seen ≡ moved_at (run_setting g stack) 0 (lends e (parts_of input)) (c.between ++ old.seen)
       → begun_by e ≡ Some r → worker_logs v e ≡ true → HasJob g stack r v input blank new
@@ -303,11 +304,11 @@ module _ {O : Type 0} (g : Graph) (stack : StackValue) (r v w : ℕ) (input : Se
       let f =
       λ (x y : BoardState). TakeGives {F = Sealed} {B = List ℕ} {O = O} name_of parts_of length (run_setting g stack) x r v (take.Job w input blank) y in
       let m =
-      moved (run_setting g stack) f last.Other old new r n.role c (worker_logs v) 0 (lends e (parts_of input)) move first (worker-quiet v) log n.moves in
+      moved (run_setting g stack) f said_other old new r n.role c (worker_logs v) 0 (lends e (parts_of input)) move first (worker-quiet v) log n.moves in
       let hand_ : hand r (past new.made) ≡ Some e = m.hand ∙ hand_laws.up r e (past (c.between ++ old.seen)) up in
-      let seen_ : hand r (past new.seen) ≡ Some e = hand-after (run_setting g stack) f last.Other old new r n.role c ∙ hand_ in
+      let seen_ : hand r (past new.seen) ≡ Some e = hand-after (run_setting g stack) f said_other old new r n.role c ∙ hand_ in
       record {
-        role = role-after (run_setting g stack) f last.Other old new r n.role c;
+        role = role-after (run_setting g stack) f said_other old new r n.role c;
         moves = m.moves;
         job = ap (λ (o : Option Entry). is_job_on v input.name o) hand_ ∙ job;
         held =
@@ -319,7 +320,7 @@ module _ {O : Type 0} (g : Graph) (stack : StackValue) (r v w : ℕ) (input : Se
 
   with-block : (blank : Option (List ℕ))
       → (c : Called (run_setting g stack)
-      (λ x y. TakeGives {F = Sealed} {B = List ℕ} {O = O} name_of parts_of length (run_setting g stack) x r v (take.Job w input blank) y) last.Other old new)
+      (λ x y. TakeGives {F = Sealed} {B = List ℕ} {O = O} name_of parts_of length (run_setting g stack) x r v (take.Job w input blank) y) said_other old new)
       → LendsJob {F = Sealed} {B = List ℕ} {O = O} parts_of length (run_setting g stack) r v (take.Job w input blank) new.made
       → WithBlock name_of parts_of length (run_setting g stack) (c.between ++ old.seen) new.seen r v input blank → HasJob g stack r v input blank new
   with-block blank c lent_ t =
@@ -330,7 +331,7 @@ module _ {O : Type 0} (g : Graph) (stack : StackValue) (r v w : ℕ) (input : Se
 
   without : (blank : Option (List ℕ))
       → (c : Called (run_setting g stack)
-      (λ x y. TakeGives {F = Sealed} {B = List ℕ} {O = O} name_of parts_of length (run_setting g stack) x r v (take.Job w input blank) y) last.Other old new)
+      (λ x y. TakeGives {F = Sealed} {B = List ℕ} {O = O} name_of parts_of length (run_setting g stack) x r v (take.Job w input blank) y) said_other old new)
       → LendsJob {F = Sealed} {B = List ℕ} {O = O} parts_of length (run_setting g stack) r v (take.Job w input blank) new.made
       → Alone name_of parts_of (run_setting g stack) (c.between ++ old.seen) new.seen r v input blank → HasJob g stack r v input blank new
   without blank c lent_ t =
@@ -341,7 +342,7 @@ module _ {O : Type 0} (g : Graph) (stack : StackValue) (r v w : ℕ) (input : Se
 
   pub take-works : (blank : Option (List ℕ))
       → Called (run_setting g stack)
-      (λ x y. TakeGives {F = Sealed} {B = List ℕ} {O = O} name_of parts_of length (run_setting g stack) x r v (take.Job w input blank) y) last.Other old new
+      (λ x y. TakeGives {F = Sealed} {B = List ℕ} {O = O} name_of parts_of length (run_setting g stack) x r v (take.Job w input blank) y) said_other old new
       → LendsJob {F = Sealed} {B = List ℕ} {O = O} parts_of length (run_setting g stack) r v (take.Job w input blank) new.made
       → HasJob g stack r v input blank new
   take-works blank c lent_ =
@@ -386,50 +387,51 @@ module _ (g : Graph) (stack : StackValue) (r v : ℕ) (input : Sealed) (blank : 
   )
 
   pub put-goes : {E : Type 0} (done : Done Sealed) (x : E) → IsJobDone g stack v input blank done
-      → Called (run_setting g stack) (λ a b. PutGives {E = E} name_of (run_setting g stack) a r done (Ok x) b) last.Other old new
+      → Called (run_setting g stack) (λ a b. PutGives {E = E} name_of (run_setting g stack) a r done (Ok x) b) said_other old new
       → HasNothing (worker_logs v) r new
   put-goes {E} done x d c =
       let f = λ (a b : BoardState). PutGives {E = E} name_of (run_setting g stack) a r done (Ok x) b in
       let e = Put r done.node (result_name (run_setting g stack) done.node (name_of done.input)).maker (name_of done.input).index done.fired in
       let m =
-      moved (run_setting g stack) f last.Other old new r job.role c (worker_logs v) 0 (plain e) c.answer.1 refl (worker-quiet v)
+      moved (run_setting g stack) f said_other old new r job.role c (worker_logs v) 0 (plain e) c.answer.1 refl (worker-quiet v)
       (eq-eqb done.node v d.node) job.moves in
       record {
-        role = role-after (run_setting g stack) f last.Other old new r job.role c;
+        role = role-after (run_setting g stack) f said_other old new r job.role c;
         moves = m.moves;
         free = m.hand ∙ hand_laws.down (run_setting g stack) r e (past (c.between ++ old.seen)) m.legal (eq-eqb r r refl);
       }
 
   -- the hand of a job isn't another one
   pub put-takes : (E : Type 0) (done : Done Sealed) (e : NotYours Sealed) → IsJobDone g stack v input blank done
-      → Called (run_setting g stack) (λ a b. PutGives {E = E} name_of (run_setting g stack) a r done (Err e) b) last.NotYours old new → ⊥
+      → Called (run_setting g stack) (λ a b. PutGives {E = E} name_of (run_setting g stack) a r done (Err e) b)
+      (said_given {F = Sealed} {E = E} (Err e)) old new → ⊥
   put-takes E done e d c =
       let f = λ (a b : BoardState). PutGives {E = E} name_of (run_setting g stack) a r done (Err e) b in
       let is : is_job_on done.node (name_of done.input) (hand r (past old.made)) ≡ true =
       ap (λ (u : ℕ). is_job_on u (name_of done.input) (hand r (past old.made))) d.node
       ∙ (ap (λ (i : Sealed). is_job_on v (name_of i) (hand r (past old.made))) d.given ∙ job.job) in
-      false≢true (sym c.answer.0
-      ∙ (ap (λ (o : Option Entry). is_job_on done.node (name_of done.input) o) (hand-before (run_setting g stack) f last.NotYours old new r job.role c) ∙ is))
+      let hand_ = hand-before (run_setting g stack) f (said_given {F = Sealed} {E = E} (Err e)) old new r job.role c in
+      false≢true (sym c.answer.0 ∙ (ap (λ (o : Option Entry). is_job_on done.node (name_of done.input) o) hand_ ∙ is))
 
 -- SETTLE
 
 pub settle-goes : (s : Setting) (r v : ℕ) (a : Settled) (old new : Pass) → HasNothing (worker_logs v) r old
-    → Called s (λ x y. SettleGives s x r v a y) last.Other old new
+    → Called s (λ x y. SettleGives s x r v a y) said_other old new
     → HasNothing (worker_logs v) r new
 settle-goes s r v settled.NotYet old new n c =
     let f = λ (x y : BoardState). SettleGives s x r v settled.NotYet y in
-    kept (worker_logs v) r old new (role-after s f last.Other old new r n.role c) (unmoved s f last.Other old new r n.role c c.answer.1) n
+    kept (worker_logs v) r old new (role-after s f said_other old new r n.role c) (unmoved s f said_other old new r n.role c c.answer.1) n
 settle-goes s r v settled.Done old new n c =
     let f = λ (x y : BoardState). SettleGives s x r v settled.Done y in
-    let b = here s f last.Other old new r n.role c in
-    let role_ = role-after s f last.Other old new r n.role c in
+    let b = here s f said_other old new r n.role c in
+    let role_ = role-after s f said_other old new r n.role c in
     elim (cases_Bool (is_settled v (past b))) [
-      | inl done ↦ kept (worker_logs v) r old new role_ (unmoved s f last.Other old new r n.role c (c.answer.1 ∙ rw done refl)) n
+      | inl done ↦ kept (worker_logs v) r old new role_ (unmoved s f said_other old new r n.role c (c.answer.1 ∙ rw done refl)) n
       | inr not_yet ↦
           let m =
-          moved s f last.Other old new r n.role c (worker_logs v) 0 (plain (Settle r v)) (c.answer.1 ∙ rw not_yet refl) refl
+          moved s f said_other old new r n.role c (worker_logs v) 0 (plain (Settle r v)) (c.answer.1 ∙ rw not_yet refl) refl
           (worker-quiet v) (eq-eqb v v refl) n.moves in
-          record { role = role_; moves = m.moves; free = m.hand ∙ (hand-before s f last.Other old new r n.role c ∙ n.free) }
+          record { role = role_; moves = m.moves; free = m.hand ∙ (hand-before s f said_other old new r n.role c ∙ n.free) }
     ]
 
 -- WHAT A JOB LEAVES

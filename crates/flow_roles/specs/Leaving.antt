@@ -3,12 +3,10 @@ use Rattle.std.specs.Prelude.{ℕ, ◌==◌, [], ◌∷◌, if◌then◌else◌}
 use Rattle.flow_journal.specs.declared.entry.Entry.TheVariants.{Leave}
 use Rattle.flow_journal.specs.Setting.{Setting, last_role}
 use Rattle.board_rules.specs.States.{BoardState, plain}
-use Rattle.flow_roles.specs.declared.last.Last.{Last}
 use Rattle.flow_roles.specs.declared.last.Said.{Said}
 use Rattle.flow_roles.specs.declared.left_desk.LeftPass.{LeftPass}
 use Rattle.flow_roles.specs.declared.left_desk.Stage.{Stage}
 use Rattle.flow_roles.specs.declared.left_desk.Stage.TheVariants.{New, Told, Gone}
-use Rattle.flow_roles.specs.Lasts.{said_then}
 use Rattle.flow_roles.specs.Passes.{Pass}
 
 -- who has left: the drain, and where the drain calls the feeder
@@ -28,15 +26,15 @@ seen_at s r Told = other_left s r
 seen_at s r Gone = plain (Leave r) ∷ other_left s r
 
 abbrev pub pass_at : Setting → ℕ → Stage → Said → Pass
-pass_at s r stage said = record { role = r; last = said.last; owned = said.owned; loads = said.loads; seen = seen_at s r stage; made = made_at r stage }
+pass_at s r stage said = record { role = r; said = said; seen = seen_at s r stage; made = made_at r stage }
 
 -- after a call other than a leave
 abbrev pub told_by : Stage → Stage
 told_by New = Told
 told_by stage = stage
 
-abbrev pub after_call : LeftPass → Last → LeftPass
-after_call p last = record { role = p.role; stage = told_by p.stage; said = said_then p.said last }
+abbrev pub once_told : LeftPass → LeftPass
+once_told p = record { role = p.role; stage = told_by p.stage; said = p.said }
 
 -- how many have left, once the role was told
 abbrev pub leaves_at : Stage → ℕ

@@ -1,5 +1,5 @@
 -- What a pass means, and what each call of a desk says of it.
-use Rattle.std.specs.Prelude.{◌≡◌, ℕ, ◌==◌, Bool, true, ◌&&◌, ◌++◌}
+use Rattle.std.specs.Prelude.{◌≡◌, ℕ, ◌==◌, Bool, true, ◌++◌}
 use Rattle.std.specs.List.{list_all}
 use Rattle.flow_journal.specs.declared.entry.Entry.{Entry}
 use Rattle.flow_journal.specs.declared.entry.Entry.TheVariants.{Save}
@@ -8,16 +8,12 @@ use Rattle.flow_journal.specs.Pasts.{Past}
 use Rattle.flow_journal.specs.Histories.{is_history}
 use Rattle.board_rules.specs.States.{BoardState, past}
 use Rattle.board_rules.specs.Movers.{moves_by, IsMoveOf}
-use Rattle.flow_roles.specs.declared.last.Last.{Last}
-use Rattle.flow_roles.specs.Lasts.{is_owned, loads_then}
+use Rattle.flow_roles.specs.declared.last.Said.{Said}
 
--- a pass: its role, what its last call answered, that no call was answered NotYours, how many calls were loads, the front of the log that it has
--- seen, and the moves that its role made
+-- a pass: its role, what its calls were answered, the front of the log that it has seen, and the moves that its role made
 pub record Pass : Type 0 where
   pub role : ℕ
-  pub last : Last
-  pub owned : Bool
-  pub loads : ℕ
+  pub said : Said
   pub seen : BoardState
   pub made : BoardState
 
@@ -30,8 +26,9 @@ abbrev pub only_drain_saves : Setting → Past → Bool
 only_drain_saves s P = list_all (saved_by_drain s) P
 
 -- The call has its answer at one place of the log: after all that the pass had seen, and what came between. What it adds is nothing or
--- one move of its role. The pass has then seen the log up to there, and of its role's moves just those are in it that the pass made.
-pub record Called (s : Setting) (gives : BoardState → BoardState → Type 0) (answered : Last) (old new : Pass) : Type 0 where
+-- one move of its role. The pass has then seen the log up to there, and of its role's moves just those are in it that the pass made. Of what its calls
+-- were answered it says what this one leaves.
+pub record Called (s : Setting) (gives : BoardState → BoardState → Type 0) (answers : Said → Said) (old new : Pass) : Type 0 where
   pub between : BoardState
   pub added : BoardState
   pub seen : new.seen ≡ added ++ (between ++ old.seen)
@@ -40,8 +37,6 @@ pub record Called (s : Setting) (gives : BoardState → BoardState → Type 0) (
   pub made : new.made ≡ added ++ old.made
   pub exact : moves_by old.role new.seen ≡ new.made
   pub role : new.role ≡ old.role
-  pub last : new.last ≡ answered
-  pub owned : new.owned ≡ (is_owned answered && old.owned)
-  pub loads : new.loads ≡ loads_then old.loads answered
+  pub said : new.said ≡ answers old.said
   pub legal : is_history s (past new.seen) ≡ true
   pub drained : only_drain_saves s (past new.seen) ≡ true

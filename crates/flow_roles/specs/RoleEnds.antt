@@ -17,12 +17,13 @@ use Rattle.flow_roles.specs.declared.last.Last.{Last}
 use Rattle.flow_roles.specs.declared.last.Last.TheVariants as last
 use Rattle.flow_roles.specs.declared.role_end.Round.{Round}
 use Rattle.flow_roles.specs.declared.role_end.Round.TheVariants.{Again, End}
+use Rattle.flow_roles.specs.Lasts.{IsActive, HasWanted}
 use Rattle.flow_roles.specs.Passes.{Pass}
 use Rattle.flow_roles.specs.RoleMoves.{HasNothing}
 
 -- The feeder ends with one of these last answers, once this has happened. Memory was wanting exactly where it left itself.
 abbrev pub feeder_ends : Last → Past → (want : Bool) → Bool
-feeder_ends last.LoadLeft P want = not want && has_left_any P
+feeder_ends last.Left P want = not want && has_left_any P
 feeder_ends last.Closed P want = not want && is_closed P
 feeder_ends last.Gone P want = want && has_left_any P
 feeder_ends _ P want = false
@@ -43,11 +44,12 @@ pub record HasEnded {F B O : Type 0} (name_of : F → FrameName) (parts : F → 
     (ends : Last → Past → Bool → Bool) (r : ℕ) (p : Pass) (left : Left F B O) (want : Bool) : Type 0 where
   pub role : p.role ≡ r
   pub moves : list_all logs (past p.made) ≡ true
-  pub last : IsTrue (ends p.last (past p.seen) want)
+  pub last : IsTrue (ends p.said.last (past p.seen) want)
+  pub wanted : HasWanted p.said
   pub handed : IsOfHand name_of parts bytes_of (lent_to r p.made) (hand r (past p.made)) left.input left.made left.blank
 
 -- what a round of a role leaves: it goes on with nothing in hand, or has ended
 abbrev pub HasGone : {F B O : Type 0} → (F → FrameName) → (F → Option Parts) → (B → ℕ) → (logs : Entry → Bool) → (ends : Last → Past → Bool → Bool)
     → (r : ℕ) → Pass → Round F B O → Type 0
-HasGone name_of parts bytes_of logs ends r p Again = HasNothing logs r p
+HasGone name_of parts bytes_of logs ends r p Again = HasNothing logs r p × IsActive p.said
 HasGone name_of parts bytes_of logs ends r p (End left want) = HasEnded name_of parts bytes_of logs ends r p left want

@@ -6,7 +6,7 @@ use Rattle.flow_journal.specs.declared.entry.Entry.TheVariants.{Load, LoadRefuse
 use Rattle.flow_journal.specs.Hands.{hand}
 use Rattle.board_rules.specs.States.{past}
 use Rattle.flow_journal.specs.MoveLists.{begun_by}
-use Rattle.flow_roles.specs.declared.last.Last.TheVariants.{Fresh}
+use Rattle.flow_roles.specs.Lasts.{fresh_said}
 use Rattle.flow_roles.specs.Passes.{Pass}
 
 -- an entry of the feeder's moves: what begins no move goes on with one of these
@@ -37,9 +37,7 @@ saver_logs e = is_none (begun_by e)
 -- the pass of this role, which has made no call yet
 pub record IsFresh (r : ℕ) (p : Pass) : Type 0 where
   pub role : p.role ≡ r
-  pub last : p.last ≡ Fresh
-  pub owned : p.owned ≡ true
-  pub loads : p.loads ≡ 0
+  pub said : p.said ≡ fresh_said
   pub made : p.made ≡ []
 
 -- the pass of this role, whose moves have such entries alone, and which has nothing in hand

@@ -29,8 +29,7 @@ moves_in (m ∷ ms) = m.entries
 
 -- what a pass of the lock says, after these answers
 abbrev pub known_by : PassFacts Told → Said → Pass
-known_by p said =
-    record { role = role_in p.made; last = said.last; owned = said.owned; loads = said.loads; seen = reverse p.seen; made = reverse (moves_in p.made) }
+known_by p said = record { role = role_in p.made; said = said; seen = reverse p.seen; made = reverse (moves_in p.made) }
 
 -- the pass is of this lock, and has one role
 abbrev pub IsPassOf : TableId → PassFacts Told → Type 0

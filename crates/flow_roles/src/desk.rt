@@ -9,9 +9,8 @@ ghost use Rattle.board_rules.specs.Working.{TakeGives, LendsJob, IsAtNode, MayPu
 ghost use Rattle.board_rules.specs.Saving.{SaveGives, LendsPiece, MaySaved, SavedGives};
 ghost use Rattle.board_rules.specs.Leaving.{LeaveGives};
 ghost use Rattle.flow_journal.specs.Notes.{progress_of};
-ghost use Rattle.flow_roles.specs.Lasts.{last_load, last_given, last_take, last_close, last_progress};
+ghost use Rattle.flow_roles.specs.Lasts.{said_load, said_given, said_take, said_close, said_leave, said_other, said_progress};
 ghost use Rattle.flow_roles.specs.Passes.{Called};
-ghost use Rattle.flow_roles.specs.declared.last.Last.TheVariants.{Gone, Other};
 
 use board_rules::{Done, Load, NotYours, Save, Settled, Take};
 use flow_journal::Progress;
@@ -46,7 +45,7 @@ pub trait Desk<F: Held> {
         ensures ours { ours self.now pass.new }
         ensures called { Called (run_setting F.Of.graph F.Of.stack)
             (λ old new. LoadGives F.parts F.bytes_of (run_setting F.Of.graph F.Of.stack) old role tick result new)
-            (last_load result) (knows pass.old) (knows pass.new) }
+            (said_load result tick) (knows pass.old) (knows pass.new) }
         ensures room { HasRoom F.bytes_of (run_setting F.Of.graph F.Of.stack) role result (knows pass.new).made };
 
     /// Offers the loaded frame to the children of the driver.
@@ -64,7 +63,7 @@ pub trait Desk<F: Held> {
         ensures ours { ours self.now pass.new }
         ensures called { Called (run_setting F.Of.graph F.Of.stack)
             (λ old new. IssueGives F.name_of (run_setting F.Of.graph F.Of.stack) old role frame result new)
-            (last_given result) (knows pass.old) (knows pass.new) };
+            (said_given result) (knows pass.old) (knows pass.new) };
 
     /// The next array of the node's queue as a job, at a maker with storage for what it makes.
     fn take<W: Wait>(
@@ -81,7 +80,7 @@ pub trait Desk<F: Held> {
         ensures ours { ours self.now pass.new }
         ensures called { Called (run_setting F.Of.graph F.Of.stack)
             (λ old new. TakeGives F.name_of F.parts F.bytes_of (run_setting F.Of.graph F.Of.stack) old role node result new)
-            (last_take result) (knows pass.old) (knows pass.new) }
+            (said_take result) (knows pass.old) (knows pass.new) }
         ensures lent { LendsJob F.parts F.bytes_of (run_setting F.Of.graph F.Of.stack) role node result (knows pass.new).made };
 
     /// Takes the result of a job, and lets go out what then goes out of the node.
@@ -101,7 +100,7 @@ pub trait Desk<F: Held> {
         ensures ours { ours self.now pass.new }
         ensures called { Called (run_setting F.Of.graph F.Of.stack)
             (λ old new. PutGives F.name_of (run_setting F.Of.graph F.Of.stack) old role done result new)
-            (last_given result) (knows pass.old) (knows pass.new) };
+            (said_given result) (knows pass.old) (knows pass.new) };
 
     /// Ends the node where nothing can come to it any more, and flushes what waits there.
     fn settle<W: Wait>(
@@ -118,7 +117,7 @@ pub trait Desk<F: Held> {
         ensures ours { ours self.now pass.new }
         ensures called { Called (run_setting F.Of.graph F.Of.stack)
             (λ old new. SettleGives (run_setting F.Of.graph F.Of.stack) old role node result new)
-            Other (knows pass.old) (knows pass.new) };
+            said_other (knows pass.old) (knows pass.new) };
 
     /// Ends the feed where every frame was offered.
     fn close<W: Wait>(&self, rt: &W, alloc: Global, pass: &mut Self::Pass, role: u32) -> Settled
@@ -127,7 +126,7 @@ pub trait Desk<F: Held> {
         ensures ours { ours self.now pass.new }
         ensures called { Called (run_setting F.Of.graph F.Of.stack)
             (λ old new. CloseGives (run_setting F.Of.graph F.Of.stack) old role result new)
-            (last_close result) (knows pass.old) (knows pass.new) };
+            (said_close result) (knows pass.old) (knows pass.new) };
 
     /// The role ends for want of memory. From then on nobody but the drain gets a frame or a job.
     fn leave<W: Wait>(&self, rt: &W, alloc: Global, pass: &mut Self::Pass, role: u32)
@@ -136,7 +135,7 @@ pub trait Desk<F: Held> {
         ensures ours { ours self.now pass.new }
         ensures called { Called (run_setting F.Of.graph F.Of.stack)
             (λ old new. LeaveGives (run_setting F.Of.graph F.Of.stack) old role new)
-            Gone (knows pass.old) (knows pass.new) };
+            said_leave (knows pass.old) (knows pass.new) };
 
     /// The next array of a file node that is due, as a piece of its group. Only the last role asks for it.
     fn save<W: Wait>(
@@ -153,7 +152,7 @@ pub trait Desk<F: Held> {
         ensures ours { ours self.now pass.new }
         ensures called { Called (run_setting F.Of.graph F.Of.stack)
             (λ old new. SaveGives F.name_of F.parts (run_setting F.Of.graph F.Of.stack) old role node result new)
-            Other (knows pass.old) (knows pass.new) }
+            said_other (knows pass.old) (knows pass.new) }
         ensures lent { LendsPiece F.parts role result (knows pass.new).made };
 
     /// Takes a piece back once it is saved.
@@ -171,7 +170,7 @@ pub trait Desk<F: Held> {
         ensures ours { ours self.now pass.new }
         ensures called { Called (run_setting F.Of.graph F.Of.stack)
             (λ old new. SavedGives F.name_of (run_setting F.Of.graph F.Of.stack) old role frame result new)
-            (last_given result) (knows pass.old) (knows pass.new) };
+            (said_given result) (knows pass.old) (knows pass.new) };
 
     /// How far the run has come.
     fn progress<W: Wait>(&self, rt: &W, alloc: Global, pass: &mut Self::Pass, role: u32) -> Progress
@@ -180,5 +179,5 @@ pub trait Desk<F: Held> {
         ensures ours { ours self.now pass.new }
         ensures called { Called (run_setting F.Of.graph F.Of.stack)
             (λ old new. (result ≡ progress_of (run_setting F.Of.graph F.Of.stack) (past old)) × (new ≡ old))
-            (last_progress result) (knows pass.old) (knows pass.new) };
+            (said_progress result) (knows pass.old) (knows pass.new) };
 }

@@ -8,10 +8,11 @@ ghost use Rattle.flow_journal.specs.Hands.{hand};
 ghost use Rattle.board_rules.specs.States.{past, lent_to};
 ghost use Rattle.board_rules.specs.InHand.{IsOfHand};
 ghost use Rattle.board_rules.specs.RunMeasures.{run_setting};
+ghost use Rattle.flow_roles.specs.Lasts.{IsActive, HasWanted};
 ghost use Rattle.flow_roles.specs.RoleMoves.{feeder_logs, IsFresh, HasNothing};
 ghost use Rattle.flow_roles.specs.RoleEnds.{feeder_ends, HasGone, MayComeBack};
 ghost use Rattle.flow_roles.specs.Feeder.{name_of, parts_of, HasLoaded};
-ghost use Rattle.flow_roles.specs.FeederTicks.{GoesOn, FeedsByTheClock};
+ghost use Rattle.flow_roles.specs.FeederTicks.{GoesOn, FeedsByTheClock, LoadsAreTicks};
 
 use crate::role_end::{Round, ended, nothing, wait};
 use crate::{Desk, RoleEnd};
@@ -87,9 +88,11 @@ fn issue_loaded<R: Run, D: Desk<Frame<R>>, G: Gate, W: Wait>(
     requires ours { D.ours desk.now pass.old }
     requires stack { stack.now ≡ R.stack }
     requires loaded { HasLoaded (run_setting R.graph R.stack) index (length blank) (D.knows pass.old) }
+    requires active { IsActive (D.knows pass.old).said }
     ensures ours { D.ours desk.now pass.new }
     ensures issued { HasNothing feeder_logs 0 (D.knows pass.new) }
-    ensures owned { (D.knows pass.old).owned ≡ true → (D.knows pass.new).owned ≡ true }
+    ensures active { IsActive (D.knows pass.new).said }
+    ensures owned { (D.knows pass.old).said.owned ≡ true → (D.knows pass.new).said.owned ≡ true }
     ensures calls { GoesOn (run_setting R.graph R.stack) (D.knows pass.old) [] (D.knows pass.new) }
 {
     gate.before(DRIVER, index);
@@ -110,9 +113,10 @@ fn close_feed<R: Run, D: Desk<Frame<R>>, G: Gate, W: Wait>(
 ) -> Round<Frame<R>>
     requires ours { D.ours desk.now pass.old }
     requires nothing { HasNothing feeder_logs 0 (D.knows pass.old) }
+    requires active { IsActive (D.knows pass.old).said }
     ensures ours { D.ours desk.now pass.new }
     ensures gone { HasGone name_of parts_of length feeder_logs feeder_ends 0 (D.knows pass.new) result }
-    ensures owned { (D.knows pass.old).owned ≡ true → (D.knows pass.new).owned ≡ true }
+    ensures owned { (D.knows pass.old).said.owned ≡ true → (D.knows pass.new).said.owned ≡ true }
     ensures calls { GoesOn (run_setting R.graph R.stack) (D.knows pass.old) [] (D.knows pass.new) }
 {
     match desk.close(rt, alloc, pass, FEEDER) {
@@ -134,9 +138,10 @@ fn feed_round<R: Run, D: Desk<Frame<R>>, G: Gate, W: Wait>(
     requires ours { D.ours desk.now pass.old }
     requires stack { stack.now ≡ R.stack }
     requires nothing { HasNothing feeder_logs 0 (D.knows pass.old) }
+    requires active { IsActive (D.knows pass.old).said }
     ensures ours { D.ours desk.now pass.new }
     ensures gone { HasGone name_of parts_of length feeder_logs feeder_ends 0 (D.knows pass.new) result }
-    ensures owned { (D.knows pass.old).owned ≡ true → (D.knows pass.new).owned ≡ true }
+    ensures owned { (D.knows pass.old).said.owned ≡ true → (D.knows pass.new).said.owned ≡ true }
     ensures calls { GoesOn (run_setting R.graph R.stack) (D.knows pass.old) (tick ∷ []) (D.knows pass.new) }
 {
     match desk.load(rt, alloc, pass, FEEDER, tick) {
@@ -176,8 +181,9 @@ pub fn feed_role<R: Run, D: Desk<Frame<R>>, C: Clock, G: Gate, W: Wait>(
     ensures ours { D.ours desk.now result.pass }
     ensures role { (D.knows result.pass).role ≡ 0 }
     ensures moves { list_all feeder_logs (past (D.knows result.pass).made) ≡ true }
-    ensures owned { (D.knows result.pass).owned ≡ true }
-    ensures last { IsTrue (feeder_ends (D.knows result.pass).last (past (D.knows result.pass).seen) result.want) }
+    ensures owned { (D.knows result.pass).said.owned ≡ true }
+    ensures wanted { HasWanted (D.knows result.pass).said }
+    ensures last { IsTrue (feeder_ends (D.knows result.pass).said.last (past (D.knows result.pass).seen) result.want) }
     ensures left { IsOfHand name_of parts_of length (lent_to 0 (D.knows result.pass).made) (hand 0 (past (D.knows result.pass).made))
         result.left.input result.left.made result.left.blank }
     ensures reclaimed { MayComeBack name_of parts_of length (run_setting R.graph R.stack) 0 (D.knows result.pass).made result.left }
@@ -193,3 +199,8 @@ pub fn feed_role<R: Run, D: Desk<Frame<R>>, C: Clock, G: Gate, W: Wait>(
     }
     unreachable!()
 }
+
+/// What a pass says after the feeder's calls: how many were loads, what the last load was handed, and where there was no memory.
+pub fn loads_are_ticks()
+    ensures { LoadsAreTicks }
+{}

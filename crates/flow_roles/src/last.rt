@@ -1,7 +1,7 @@
-//! What the last call of a role answered.
+//! What the calls of a role were answered.
 
 ghost use Rattle.std.specs.Prelude.{◌≡◌};
-ghost use Rattle.flow_roles.specs.Lasts.{said_then, last_load, last_given, last_take, last_close, last_progress};
+ghost use Rattle.flow_roles.specs.Lasts.{said_load, said_given, said_take, said_close, said_leave, said_other, said_progress};
 
 use board_rules::{Load, NotYours, Settled, Take};
 use flow_journal::Progress;
@@ -12,11 +12,7 @@ use nd_base::Held;
 pub enum Last {
     /// There was no call yet.
     Fresh,
-    /// `Left` of `load`.
-    LoadLeft,
-    /// Any other answer of `load`.
-    Load,
-    /// `Left` of `take`, or a progress that says so.
+    /// `Left`, or a progress that says so.
     Left,
     /// `Ended`, or a progress that says that the run is done.
     Ended,
@@ -30,7 +26,7 @@ pub enum Last {
     Other,
 }
 
-/// What the calls of a role answered.
+/// What the calls of a role were answered, and what its loads were handed.
 #[derive(Clone, Copy, Debug, PartialEq, Eq)]
 pub struct Said {
     pub last: Last,
@@ -38,72 +34,90 @@ pub struct Said {
     pub owned: bool,
     /// How many of the calls were loads. It stands still at `u64::MAX`.
     pub loads: u64,
+    /// What the last load was handed, and 0 before the first one.
+    pub tick: u64,
+    /// How many of the loads and takes found no memory. It stands still at `u64::MAX`.
+    pub wanted: u64,
+    /// How many of the calls were `progress`. It stands still at `u64::MAX`.
+    pub asked: u64,
 }
 
+/// One call more.
 impl Said {
-    /// One answer more.
-    pub fn add(&mut self, last: Last)
-        ensures { self.new ≡ said_then self.old last }
+    /// A load that was handed this tick.
+    pub fn load<B>(&mut self, answer: &Load<B>, tick: u64)
+        ensures { self.new ≡ said_load answer.now tick self.old }
     {
-        self.last = last;
-        match last {
-            Last::NotYours => self.owned = false,
-            Last::LoadLeft | Last::Load => self.loads = self.loads.saturating_add(1),
-            _ => {}
+        self.last = match answer {
+            Load::Left => Last::Left,
+            Load::Ended => Last::Ended,
+            _ => Last::Other,
+        };
+        self.loads = self.loads.saturating_add(1);
+        if matches!(answer, Load::OutOfMemory) {
+            self.wanted = self.wanted.saturating_add(1);
+        }
+        self.tick = tick;
+    }
+
+    /// `issue`, `put` or `saved`.
+    pub fn given<F>(&mut self, answer: &Result<(), NotYours<F>>)
+        ensures { self.new ≡ said_given answer.now self.old }
+    {
+        match answer {
+            Ok(()) => self.last = Last::Other,
+            Err(_) => {
+                self.last = Last::NotYours;
+                self.owned = false;
+            }
         }
     }
-}
 
-/// After `load`.
-pub fn after_load<B>(answer: &Load<B>) -> Last
-    ensures { result ≡ last_load answer.now }
-{
-    match answer {
-        Load::Left => Last::LoadLeft,
-        _ => Last::Load,
+    pub fn take<F: Held>(&mut self, answer: &Take<F>)
+        ensures { self.new ≡ said_take answer.now self.old }
+    {
+        self.last = match answer {
+            Take::Left => Last::Left,
+            Take::Ended => Last::Ended,
+            _ => Last::Other,
+        };
+        if matches!(answer, Take::OutOfMemory) {
+            self.wanted = self.wanted.saturating_add(1);
+        }
     }
-}
 
-/// After `issue`, `put` or `saved`.
-pub fn after_issue<F>(answer: &Result<(), NotYours<F>>) -> Last
-    ensures { result ≡ last_given answer.now }
-{
-    match answer {
-        Ok(()) => Last::Other,
-        Err(_) => Last::NotYours,
+    pub fn close(&mut self, answer: Settled)
+        ensures { self.new ≡ said_close answer self.old }
+    {
+        self.last = match answer {
+            Settled::Done => Last::Closed,
+            Settled::NotYet => Last::Other,
+        };
     }
-}
 
-/// After `take`.
-pub fn after_take<F: Held>(answer: &Take<F>) -> Last
-    ensures { result ≡ last_take answer.now }
-{
-    match answer {
-        Take::Left => Last::Left,
-        Take::Ended => Last::Ended,
-        _ => Last::Other,
+    pub fn leave(&mut self)
+        ensures { self.new ≡ said_leave self.old }
+    {
+        self.last = Last::Gone;
     }
-}
 
-/// After `close`.
-pub fn after_close(answer: Settled) -> Last
-    ensures { result ≡ last_close answer }
-{
-    match answer {
-        Settled::Done => Last::Closed,
-        Settled::NotYet => Last::Other,
+    /// `settle` or `save`.
+    pub fn other(&mut self)
+        ensures { self.new ≡ said_other self.old }
+    {
+        self.last = Last::Other;
     }
-}
 
-/// After `progress`.
-pub fn after_progress(answer: Progress) -> Last
-    ensures { result ≡ last_progress answer }
-{
-    if answer.done {
-        Last::Ended
-    } else if answer.left {
-        Last::Left
-    } else {
-        Last::Other
+    pub fn progress(&mut self, answer: Progress)
+        ensures { self.new ≡ said_progress answer self.old }
+    {
+        self.last = if answer.done {
+            Last::Ended
+        } else if answer.left {
+            Last::Left
+        } else {
+            Last::Other
+        };
+        self.asked = self.asked.saturating_add(1);
     }
 }

@@ -1,14 +1,14 @@
 //! A desk at which another role has left.
 
-ghost use Rattle.flow_roles.specs.Leaving.{after_call, leaves_at, pass_at};
+ghost use Rattle.flow_roles.specs.Leaving.{once_told, leaves_at, pass_at};
 ghost use Rattle.std.specs.Prelude.{◌≡◌, ◌<◌, length};
 ghost use Rattle.flow_journal.specs.Setting.{last_role};
 ghost use Rattle.board_rules.specs.RunMeasures.{run_setting};
 ghost use Rattle.board_rules.specs.Working.{PutGives};
-ghost use Rattle.flow_roles.specs.Lasts.{last_given};
+ghost use Rattle.flow_roles.specs.Lasts.{said_given};
 ghost use Rattle.flow_roles.specs.Passes.{Called};
 
-use crate::{Desk, Last, Said};
+use crate::{Desk, Said};
 use board_rules::{Done, HandName, Load, NotYours, Save, Settled, Take};
 use flow_journal::Progress;
 use nd_base::Held;
@@ -34,14 +34,13 @@ pub struct LeftPass {
 }
 
 impl LeftPass {
-    /// Notes what a call answered. After its first call a role knows that another has left.
-    fn answered(&mut self, last: Last)
-        ensures { self.new ≡ after_call self.old last }
+    /// After its first call a role knows that another has left.
+    fn is_told(&mut self)
+        ensures { self.new ≡ once_told self.old }
     {
         if self.stage == Stage::New {
             self.stage = Stage::Told;
         }
-        self.said.add(last);
     }
 }
 
@@ -75,8 +74,10 @@ impl<F: Held> Desk<F> for LeftDesk {
         role: u32,
         tick: u64,
     ) -> Load<F::Blank> {
-        pass.answered(Last::LoadLeft);
-        Load::Left
+        pass.is_told();
+        let answer = Load::Left;
+        pass.said.load(&answer, tick);
+        answer
     }
 
     fn issue<W: Wait>(
@@ -87,12 +88,14 @@ impl<F: Held> Desk<F> for LeftDesk {
         role: u32,
         frame: F,
     ) -> Result<(), NotYours<F>> {
-        pass.answered(Last::NotYours);
+        pass.is_told();
         let given = HandName {
             node: 0,
             name: frame.name(),
         };
-        Err(NotYours::of_frame(None, given, frame))
+        let answer = Err(NotYours::of_frame(None, given, frame));
+        pass.said.given(&answer);
+        answer
     }
 
     fn take<W: Wait>(
@@ -103,8 +106,10 @@ impl<F: Held> Desk<F> for LeftDesk {
         role: u32,
         node: u32,
     ) -> Take<F> {
-        pass.answered(Last::Left);
-        Take::Left
+        pass.is_told();
+        let answer = Take::Left;
+        pass.said.take(&answer);
+        answer
     }
 
     fn put<W: Wait>(
@@ -120,20 +125,22 @@ impl<F: Held> Desk<F> for LeftDesk {
         ensures ours { 0 < length F.Of.stack.arrays }
         ensures called { Called (run_setting F.Of.graph F.Of.stack)
             (λ old new. PutGives F.name_of (run_setting F.Of.graph F.Of.stack) old role done result new)
-            (last_given result)
+            (said_given result)
             (pass_at (run_setting F.Of.graph F.Of.stack) pass.old.role pass.old.stage pass.old.said)
             (pass_at (run_setting F.Of.graph F.Of.stack) pass.new.role pass.new.stage pass.new.said) }
     {
-        pass.answered(Last::NotYours);
+        pass.is_told();
         let given = HandName {
             node: done.node,
             name: done.input.name(),
         };
-        Err(NotYours {
+        let answer = Err(NotYours {
             kept: None,
             given,
             back: done,
-        })
+        });
+        pass.said.given(&answer);
+        answer
     }
 
     fn settle<W: Wait>(
@@ -144,18 +151,20 @@ impl<F: Held> Desk<F> for LeftDesk {
         role: u32,
         node: u32,
     ) -> Settled {
-        pass.answered(Last::Other);
+        pass.is_told();
+        pass.said.other();
         Settled::NotYet
     }
 
     fn close<W: Wait>(&self, rt: &W, alloc: Global, pass: &mut LeftPass, role: u32) -> Settled {
-        pass.answered(Last::Other);
+        pass.is_told();
+        pass.said.close(Settled::NotYet);
         Settled::NotYet
     }
 
     fn leave<W: Wait>(&self, rt: &W, alloc: Global, pass: &mut LeftPass, role: u32) {
         pass.stage = Stage::Gone;
-        pass.said.add(Last::Gone);
+        pass.said.leave();
     }
 
     fn save<W: Wait>(
@@ -166,7 +175,8 @@ impl<F: Held> Desk<F> for LeftDesk {
         role: u32,
         node: u32,
     ) -> Save<F> {
-        pass.answered(Last::Other);
+        pass.is_told();
+        pass.said.other();
         Save::NotYet
     }
 
@@ -178,23 +188,27 @@ impl<F: Held> Desk<F> for LeftDesk {
         role: u32,
         frame: F,
     ) -> Result<(), NotYours<F>> {
-        pass.answered(Last::NotYours);
+        pass.is_told();
         let given = HandName {
             node: 0,
             name: frame.name(),
         };
-        Err(NotYours::of_frame(None, given, frame))
+        let answer = Err(NotYours::of_frame(None, given, frame));
+        pass.said.given(&answer);
+        answer
     }
 
     fn progress<W: Wait>(&self, rt: &W, alloc: Global, pass: &mut LeftPass, role: u32) -> Progress {
-        pass.answered(Last::Left);
-        Progress {
+        pass.is_told();
+        let answer = Progress {
             entries: leaves(pass.stage),
             offered: 0,
             dropped: 0,
             saved: 0,
             left: true,
             done: false,
-        }
+        };
+        pass.said.progress(answer);
+        answer
     }
 }

@@ -20,9 +20,9 @@ mod without_thread;
 mod working;
 
 pub use desk::Desk;
-pub use feeding::{feed_role, frame_on};
+pub use feeding::{feed_role, frame_on, loads_are_ticks};
 pub use job::result_of;
-pub use last::{Last, Said, after_close, after_issue, after_load, after_progress, after_take};
+pub use last::{Last, Said};
 pub use left_desk::{LeftDesk, LeftPass, Stage};
 pub use measuring::{Alone, Measuring};
 pub use nodes::worker_nodes;

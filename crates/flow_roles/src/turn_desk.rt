@@ -8,17 +8,13 @@ ghost use Rattle.board_rules.specs.Movers.{moves_by};
 ghost use Rattle.board_rules.specs.Storage.{HasAllStorage};
 ghost use Rattle.board_rules.specs.RunMeasures.{run_setting, run_measure};
 ghost use Rattle.board_rules.specs.Working.{IsAtNode, MayPut, PutGives};
-ghost use Rattle.flow_roles.specs.Lasts.{fresh_said, said_then, last_given};
-ghost use Rattle.flow_roles.specs.declared.last.Last.{Last};
+ghost use Rattle.flow_roles.specs.Lasts.{fresh_said, said_given};
 ghost use Rattle.flow_roles.specs.declared.last.Said.{Said};
 ghost use Rattle.flow_roles.specs.Passes.{Called, only_drain_saves};
 ghost use Rattle.flow_roles.specs.Operations.{frames_of, role_of, MayPlay, Replies, Lends};
 ghost use Rattle.flow_roles.specs.TurnPasses.{role_in, moves_in, known_by, IsPassOf, IsFreshOf, IsPassWithin, HasMade};
 
-use crate::{
-    Desk, DeskOp, DeskReply, Last, Played, Said, after_close, after_issue, after_load,
-    after_progress, after_take,
-};
+use crate::{Desk, DeskOp, DeskReply, Last, Played, Said};
 use board_rules::{BoardCalls, Done, Load, NotYours, Save, Settled, Take};
 use flow_journal::Progress;
 use nd_base::{Held, OutOfMemory};
@@ -46,9 +42,9 @@ fn make<F: Held, B: BoardCalls<F>, W: Wait>(
     requires may { MayPlay (frames_of F.name_of F.parts F.bytes_of (run_measure F.Of.graph F.Of.stack)) (run_setting F.Of.graph F.Of.stack)
         (reverse (moves_in pass.old.made)) op }
     ensures ours { IsPassOf desk.now.id pass.new }
-    ensures called { (before : Said) (answered : Last) → Called (run_setting F.Of.graph F.Of.stack)
+    ensures called { (before : Said) (answers : Said → Said) → Called (run_setting F.Of.graph F.Of.stack)
         (λ old new. Replies (frames_of F.name_of F.parts F.bytes_of (run_measure F.Of.graph F.Of.stack)) (run_setting F.Of.graph F.Of.stack) old op result new)
-        answered (known_by pass.old before) (known_by pass.new (said_then before answered)) }
+        answers (known_by pass.old before) (known_by pass.new (answers before)) }
     ensures lends { Lends (frames_of F.name_of F.parts F.bytes_of (run_measure F.Of.graph F.Of.stack)) (run_setting F.Of.graph F.Of.stack) op result
         (reverse (moves_in pass.new.made)) }
 {
@@ -78,7 +74,7 @@ impl<F: Held, B: BoardCalls<F>> Desk<F> for TurnLock<Played<F, B>> {
             DeskOp::Load { role, tick },
         ) {
             DeskReply::Load(answer) => {
-                pass.said.add(after_load(&answer));
+                pass.said.load(&answer, tick);
                 answer
             }
             _ => unreachable!(),
@@ -101,7 +97,7 @@ impl<F: Held, B: BoardCalls<F>> Desk<F> for TurnLock<Played<F, B>> {
             DeskOp::Issue { role, frame },
         ) {
             DeskReply::Issue(answer) => {
-                pass.said.add(after_issue(&answer));
+                pass.said.given(&answer);
                 answer
             }
             _ => unreachable!(),
@@ -124,7 +120,7 @@ impl<F: Held, B: BoardCalls<F>> Desk<F> for TurnLock<Played<F, B>> {
             DeskOp::Take { role, node },
         ) {
             DeskReply::Take(answer) => {
-                pass.said.add(after_take(&answer));
+                pass.said.take(&answer);
                 answer
             }
             _ => unreachable!(),
@@ -147,11 +143,11 @@ impl<F: Held, B: BoardCalls<F>> Desk<F> for TurnLock<Played<F, B>> {
         ensures ours { IsPassOf self.now.id pass.new.inner }
         ensures called { Called (run_setting F.Of.graph F.Of.stack)
             (λ old new. PutGives F.name_of (run_setting F.Of.graph F.Of.stack) old role done result new)
-            (last_given result) (known_by pass.old.inner pass.old.said) (known_by pass.new.inner pass.new.said) }
+            (said_given result) (known_by pass.old.inner pass.old.said) (known_by pass.new.inner pass.new.said) }
     {
         match make(self, rt, alloc, &mut pass.inner, DeskOp::Put { role, done }) {
             DeskReply::Put(answer) => {
-                pass.said.add(after_issue(&answer));
+                pass.said.given(&answer);
                 answer
             }
             _ => unreachable!(),
@@ -174,7 +170,7 @@ impl<F: Held, B: BoardCalls<F>> Desk<F> for TurnLock<Played<F, B>> {
             DeskOp::Settle { role, node },
         ) {
             DeskReply::Settle(answer) => {
-                pass.said.add(Last::Other);
+                pass.said.other();
                 answer
             }
             _ => unreachable!(),
@@ -190,7 +186,7 @@ impl<F: Held, B: BoardCalls<F>> Desk<F> for TurnLock<Played<F, B>> {
     ) -> Settled {
         match make(self, rt, alloc, &mut pass.inner, DeskOp::Close { role }) {
             DeskReply::Close(answer) => {
-                pass.said.add(after_close(answer));
+                pass.said.close(answer);
                 answer
             }
             _ => unreachable!(),
@@ -199,7 +195,7 @@ impl<F: Held, B: BoardCalls<F>> Desk<F> for TurnLock<Played<F, B>> {
 
     fn leave<W: Wait>(&self, rt: &W, alloc: Global, pass: &mut TurnPass<F, B>, role: u32) {
         match make(self, rt, alloc, &mut pass.inner, DeskOp::Leave { role }) {
-            DeskReply::Leave => pass.said.add(Last::Gone),
+            DeskReply::Leave => pass.said.leave(),
             _ => unreachable!(),
         }
     }
@@ -220,7 +216,7 @@ impl<F: Held, B: BoardCalls<F>> Desk<F> for TurnLock<Played<F, B>> {
             DeskOp::Save { role, node },
         ) {
             DeskReply::Save(answer) => {
-                pass.said.add(Last::Other);
+                pass.said.other();
                 answer
             }
             _ => unreachable!(),
@@ -243,7 +239,7 @@ impl<F: Held, B: BoardCalls<F>> Desk<F> for TurnLock<Played<F, B>> {
             DeskOp::Saved { role, frame },
         ) {
             DeskReply::Saved(answer) => {
-                pass.said.add(after_issue(&answer));
+                pass.said.given(&answer);
                 answer
             }
             _ => unreachable!(),
@@ -259,7 +255,7 @@ impl<F: Held, B: BoardCalls<F>> Desk<F> for TurnLock<Played<F, B>> {
     ) -> Progress {
         match make(self, rt, alloc, &mut pass.inner, DeskOp::Progress { role }) {
             DeskReply::Progress(answer) => {
-                pass.said.add(after_progress(answer));
+                pass.said.progress(answer);
                 answer
             }
             _ => unreachable!(),
@@ -282,6 +278,9 @@ fn fresh_passes<F: Held, B: BoardCalls<F>>(
                 last: Last::Fresh,
                 owned: true,
                 loads: 0,
+                tick: 0,
+                wanted: 0,
+                asked: 0,
             },
         })
         .collect(alloc)

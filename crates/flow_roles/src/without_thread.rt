@@ -8,6 +8,7 @@ ghost use Rattle.flow_journal.specs.Hands.{hand};
 ghost use Rattle.board_rules.specs.States.{past, lent_to};
 ghost use Rattle.board_rules.specs.InHand.{IsOfHand};
 ghost use Rattle.board_rules.specs.RunMeasures.{run_setting};
+ghost use Rattle.flow_roles.specs.Lasts.{HasWanted};
 ghost use Rattle.flow_roles.specs.RoleMoves.{feeder_logs, worker_logs, IsFresh};
 ghost use Rattle.flow_roles.specs.RoleEnds.{feeder_ends, worker_ends, MayComeBack};
 ghost use Rattle.flow_roles.specs.Feeder.{name_of, parts_of};
@@ -33,8 +34,9 @@ pub fn leave_feed<R: Run, D: Desk<Frame<R>>, W: Wait>(
     ensures ours { D.ours desk.now result.pass }
     ensures role { (D.knows result.pass).role ≡ 0 }
     ensures moves { list_all feeder_logs (past (D.knows result.pass).made) ≡ true }
-    ensures owned { (D.knows result.pass).owned ≡ true }
-    ensures last { IsTrue (feeder_ends (D.knows result.pass).last (past (D.knows result.pass).seen) result.want) }
+    ensures owned { (D.knows result.pass).said.owned ≡ true }
+    ensures wanted { HasWanted (D.knows result.pass).said }
+    ensures last { IsTrue (feeder_ends (D.knows result.pass).said.last (past (D.knows result.pass).seen) result.want) }
     ensures left { IsOfHand name_of parts_of length (lent_to 0 (D.knows result.pass).made) (hand 0 (past (D.knows result.pass).made))
         result.left.input result.left.made result.left.blank }
     ensures reclaimed { MayComeBack name_of parts_of length (run_setting R.graph R.stack) 0 (D.knows result.pass).made result.left }
@@ -64,8 +66,9 @@ pub fn leave_work<R: Run, D: Desk<Frame<R>>, W: Wait>(
     ensures ours { D.ours desk.now result.pass }
     ensures role { (D.knows result.pass).role ≡ role }
     ensures moves { list_all (worker_logs node) (past (D.knows result.pass).made) ≡ true }
-    ensures owned { (D.knows result.pass).owned ≡ true }
-    ensures last { IsTrue (worker_ends node (D.knows result.pass).last (past (D.knows result.pass).seen) result.want) }
+    ensures owned { (D.knows result.pass).said.owned ≡ true }
+    ensures wanted { HasWanted (D.knows result.pass).said }
+    ensures last { IsTrue (worker_ends node (D.knows result.pass).said.last (past (D.knows result.pass).seen) result.want) }
     ensures left { IsOfHand name_of parts_of length (lent_to role (D.knows result.pass).made) (hand role (past (D.knows result.pass).made))
         result.left.input result.left.made result.left.blank }
     ensures reclaimed { MayComeBack name_of parts_of length (run_setting R.graph R.stack) role (D.knows result.pass).made result.left }

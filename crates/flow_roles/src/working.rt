@@ -10,7 +10,7 @@ ghost use Rattle.board_rules.specs.States.{past, lent_to};
 ghost use Rattle.board_rules.specs.InHand.{IsOfHand};
 ghost use Rattle.board_rules.specs.RunMeasures.{run_setting};
 ghost use Rattle.board_rules.specs.Working.{SettleGives};
-ghost use Rattle.flow_roles.specs.declared.last.Last.TheVariants.{Other};
+ghost use Rattle.flow_roles.specs.Lasts.{said_other, IsActive, HasWanted};
 ghost use Rattle.flow_roles.specs.Passes.{Called};
 ghost use Rattle.flow_roles.specs.RoleMoves.{worker_logs, IsFresh, HasNothing};
 ghost use Rattle.flow_roles.specs.RoleEnds.{worker_ends, HasGone, MayComeBack};
@@ -50,9 +50,10 @@ fn work_on<R: Run, D: Desk<Frame<R>>, G: Gate, W: Threads + Wait + Sync>(
     requires stack { stack.now ≡ R.stack }
     requires node { IsTrue (is_node (run_setting R.graph R.stack) node) }
     requires job { HasJob R.graph R.stack role node input blank (D.knows pass.old) }
+    requires active { IsActive (D.knows pass.old).said }
     ensures ours { D.ours desk.now pass.new }
     ensures gone { HasGone name_of parts_of length (worker_logs node) (worker_ends node) role (D.knows pass.new) result }
-    ensures owned { (D.knows pass.old).owned ≡ true → (D.knows pass.new).owned ≡ true }
+    ensures owned { (D.knows pass.old).said.owned ≡ true → (D.knows pass.new).said.owned ≡ true }
 {
     let index = input.name().index;
     gate.before(node, index);
@@ -89,7 +90,7 @@ fn settle_or_wait<R: Run, D: Desk<Frame<R>>, G: Gate, W: Wait>(
     ensures ours { D.ours desk.now pass.new }
     ensures nothing { HasNothing (worker_logs node) role (D.knows pass.new) }
     ensures tried { Called (run_setting R.graph R.stack) (λ old new. SettleGives (run_setting R.graph R.stack) old role node result new)
-        Other (D.knows pass.old) (D.knows pass.new) }
+        said_other (D.knows pass.old) (D.knows pass.new) }
 {
     let answer = desk.settle(rt, alloc, pass, role, node);
     if answer == Settled::NotYet {
@@ -117,9 +118,10 @@ fn work_round<R: Run, D: Desk<Frame<R>>, G: Gate, W: Threads + Wait + Sync>(
     requires stack { stack.now ≡ R.stack }
     requires node { IsTrue (is_node (run_setting R.graph R.stack) node) }
     requires nothing { HasNothing (worker_logs node) role (D.knows pass.old) }
+    requires active { IsActive (D.knows pass.old).said }
     ensures ours { D.ours desk.now pass.new }
     ensures gone { HasGone name_of parts_of length (worker_logs node) (worker_ends node) role (D.knows pass.new) result }
-    ensures owned { (D.knows pass.old).owned ≡ true → (D.knows pass.new).owned ≡ true }
+    ensures owned { (D.knows pass.old).said.owned ≡ true → (D.knows pass.new).said.owned ≡ true }
 {
     match desk.take(crew.rt, alloc, pass, role, node) {
         Take::Left => ended(),
@@ -170,8 +172,9 @@ pub fn work_role<R: Run, D: Desk<Frame<R>>, G: Gate, W: Threads + Wait + Sync>(
     ensures ours { D.ours desk.now result.pass }
     ensures role { (D.knows result.pass).role ≡ role }
     ensures moves { list_all (worker_logs node) (past (D.knows result.pass).made) ≡ true }
-    ensures owned { (D.knows result.pass).owned ≡ true }
-    ensures last { IsTrue (worker_ends node (D.knows result.pass).last (past (D.knows result.pass).seen) result.want) }
+    ensures owned { (D.knows result.pass).said.owned ≡ true }
+    ensures wanted { HasWanted (D.knows result.pass).said }
+    ensures last { IsTrue (worker_ends node (D.knows result.pass).said.last (past (D.knows result.pass).seen) result.want) }
     ensures left { IsOfHand name_of parts_of length (lent_to role (D.knows result.pass).made) (hand role (past (D.knows result.pass).made))
         result.left.input result.left.made result.left.blank }
     ensures reclaimed { MayComeBack name_of parts_of length (run_setting R.graph R.stack) role (D.knows result.pass).made result.left }

@@ -3,12 +3,14 @@ use Rattle.board_rules.specs.RunMeasures.{run_setting}
 use Rattle.flow_roles.specs.RoleMoves.{feeder_logs}
 use Rattle.flow_roles.specs.Feeder.{name_of, parts_of}
 use Rattle.flow_roles.specs.FeederTicks.{none}
-use Rattle.flow_roles.proofs.RoleCalls.{fresh-nothing}
+use Rattle.flow_roles.proofs.RoleCalls.{fresh-active, fresh-owned, fresh-nothing}
 use Rattle.flow_roles.proofs.Reclaims.{comes-back}
 use Rattle.flow_roles.proofs.feeding.feed_role.Goals as goal
 
 pub loop-init : goal.loop-init
-loop-init g c = (c.requires.ours, fresh-nothing feeder_logs 0 (g.D.Desk.knows c.args.pass) c.requires.fresh, c.requires.fresh.owned, ([], refl, none))
+loop-init g c =
+    let fresh = c.requires.fresh in
+    (c.requires.ours, fresh-nothing feeder_logs 0 (g.D.Desk.knows c.args.pass) fresh, fresh-owned _ _ fresh, fresh-active _ _ fresh, ([], refl, none))
 
 pub feed_round-requires-clause-ours : goal.feed_round-requires-clause-ours
 feed_round-requires-clause-ours g c = c.loop.invariant.0
@@ -18,10 +20,11 @@ feed_round-requires-clause-nothing g c = c.loop.invariant.1
 
 pub loop-preserved : goal.loop-preserved
 loop-preserved g c =
-    let clock = c.loop.invariant.3 in (
+    let clock = c.loop.invariant.4 in (
       c.feed_round.ensures.ours,
-      c.in-Again.ensures.gone,
+      c.in-Again.ensures.gone.0,
       c.feed_round.ensures.owned c.loop.invariant.2,
+      c.in-Again.ensures.gone.1,
       (c.tick-tick.result ∷ clock.0, (_, clock.1, c.tick-tick.ensures), c.feed_round.ensures.calls _ clock.0 clock.2),
     )
 
@@ -47,5 +50,11 @@ returns-in-End-clause-reclaimed g c =
 
 pub returns-in-End-clause-ticks : goal.returns-in-End-clause-ticks
 returns-in-End-clause-ticks g c =
-    let clock = c.loop.invariant.3 in
+    let clock = c.loop.invariant.4 in
     (c.tick-tick.result ∷ clock.0, (_, clock.1, c.tick-tick.ensures), c.feed_round.ensures.calls _ clock.0 clock.2)
+
+pub feed_round-requires-clause-active : goal.feed_round-requires-clause-active
+feed_round-requires-clause-active g c = c.loop.invariant.3
+
+pub returns-in-End-clause-wanted : goal.returns-in-End-clause-wanted
+returns-in-End-clause-wanted g c = c.in-End.ensures.gone.wanted

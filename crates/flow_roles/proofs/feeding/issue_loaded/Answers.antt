@@ -2,7 +2,7 @@ use Rattle.std.proofs.Common.{refl, length, Ok}
 use Rattle.board_rules.specs.RunMeasures.{run_setting}
 use Rattle.flow_roles.specs.Feeder.{name_of}
 use Rattle.flow_roles.specs.FeederTicks.{issues}
-use Rattle.flow_roles.proofs.Calls.{still-owned}
+use Rattle.flow_roles.proofs.Calls.{still-owned, still-active}
 use Rattle.flow_roles.proofs.FeederCalls.{issue-goes, issue-takes}
 use Rattle.flow_roles.proofs.Results.{frame-index, frame-room, issue-whole}
 use Rattle.flow_roles.proofs.feeding.issue_loaded.Goals as goal
@@ -29,7 +29,10 @@ returns-clause-issued g c =
     issue-goes name_of s c.args.index (length c.args.blank) c.frame_on-frame.result c.in-Ok.field-0 _ _ c.requires.loaded c.in-Ok.ensures.called
 
 pub returns-clause-calls : goal.returns-clause-calls
-returns-clause-calls g c = λ first before f. issues before _ _ c.frame_on-frame.result (Ok c.in-Ok.field-0) f c.in-Ok.ensures.called
+returns-clause-calls g c = λ first before f. issues before _ _ c.frame_on-frame.result (Ok c.in-Ok.field-0) f c.requires.active c.in-Ok.ensures.called
 
 pub returns-clause-owned : goal.returns-clause-owned
 returns-clause-owned g c = still-owned _ _ _ _ _ 0 c.requires.loaded.role c.in-Ok.ensures.called refl
+
+pub returns-clause-active : goal.returns-clause-active
+returns-clause-active g c = still-active _ _ _ _ _ 0 c.requires.loaded.role c.in-Ok.ensures.called refl refl c.requires.active

@@ -19,10 +19,10 @@ returns-clause-ours g c = (
 
 pub returns-clause-called : goal.returns-clause-called
 returns-clause-called g c =
-    λ before answered.
+    λ before answers.
     called (frames_of g.F.Named.name_of g.F.Held.parts g.F.Held.bytes_of (run_measure g.F.Of.Run.graph g.F.Of.Run.stack))
     (run_setting g.F.Of.Run.graph g.F.Of.Run.stack)
-    c.args.op c.call.result before answered c.args.pass.now c.call.new.pass c.requires.ours.1 c.requires.role c.call.ensures.call
+    c.args.op c.call.result before answers c.args.pass.now c.call.new.pass c.requires.ours.1 c.requires.role c.call.ensures.call
 
 pub returns-clause-lends : goal.returns-clause-lends
 returns-clause-lends g c =

@@ -2,12 +2,14 @@ use Rattle.std.proofs.Common.{length}
 use Rattle.board_rules.specs.RunMeasures.{run_setting}
 use Rattle.flow_roles.specs.RoleMoves.{worker_logs}
 use Rattle.flow_roles.specs.Feeder.{name_of, parts_of}
-use Rattle.flow_roles.proofs.RoleCalls.{fresh-nothing}
+use Rattle.flow_roles.proofs.RoleCalls.{fresh-active, fresh-owned, fresh-nothing}
 use Rattle.flow_roles.proofs.Reclaims.{comes-back}
 use Rattle.flow_roles.proofs.working.work_role.Goals as goal
 
 pub loop-init : goal.loop-init
-loop-init g c = (c.requires.ours, fresh-nothing (worker_logs c.args.node) c.args.role (g.D.Desk.knows c.args.pass) c.requires.fresh, c.requires.fresh.owned)
+loop-init g c =
+    let fresh = c.requires.fresh in
+    (c.requires.ours, fresh-nothing (worker_logs c.args.node) c.args.role (g.D.Desk.knows c.args.pass) fresh, fresh-owned _ _ fresh, fresh-active _ _ fresh)
 
 pub work_round-requires-clause-ours : goal.work_round-requires-clause-ours
 work_round-requires-clause-ours g c κs within = c.loop.invariant.0
@@ -16,7 +18,7 @@ pub work_round-requires-clause-nothing : goal.work_round-requires-clause-nothing
 work_round-requires-clause-nothing g c κs within = c.loop.invariant.1
 
 pub loop-preserved : goal.loop-preserved
-loop-preserved g c = (c.work_round.ensures.ours, c.in-Again.ensures.gone, c.work_round.ensures.owned c.loop.invariant.2)
+loop-preserved g c = (c.work_round.ensures.ours, c.in-Again.ensures.gone.0, c.work_round.ensures.owned c.loop.invariant.2, c.in-Again.ensures.gone.1)
 
 pub returns-in-End-clause-role : goal.returns-in-End-clause-role
 returns-in-End-clause-role g c = c.in-End.ensures.gone.role
@@ -37,3 +39,9 @@ pub returns-in-End-clause-reclaimed : goal.returns-in-End-clause-reclaimed
 returns-in-End-clause-reclaimed g c =
     comes-back name_of parts_of length (run_setting g.R.Run.graph g.R.Run.stack) c.args.role
     (g.D.Desk.knows c.work_round.new.pass).made c.in-End.left c.in-End.ensures.gone.handed
+
+pub work_round-requires-clause-active : goal.work_round-requires-clause-active
+work_round-requires-clause-active g c κs within = c.loop.invariant.3
+
+pub returns-in-End-clause-wanted : goal.returns-in-End-clause-wanted
+returns-in-End-clause-wanted g c = c.in-End.ensures.gone.wanted

@@ -4,7 +4,7 @@ use Rattle.board_rules.specs.RunMeasures.{run_setting}
 use Rattle.flow_roles.specs.RoleMoves.{worker_logs}
 use Rattle.flow_roles.specs.RoleEnds.{worker_ends}
 use Rattle.flow_roles.specs.Feeder.{name_of, parts_of}
-use Rattle.flow_roles.proofs.Calls.{still-owned, role-after}
+use Rattle.flow_roles.proofs.Calls.{still-owned, still-active, wanted-once, role-after}
 use Rattle.flow_roles.proofs.RoleCalls.{gone-free, leave-free, worker-quiet}
 use Rattle.flow_roles.proofs.WorkerCalls.{take-goes, take-left-seen, take-ended-seen, take-isnt-busy, take-drops, take-works}
 use Rattle.flow_roles.proofs.working.work_round.Goals as goal
@@ -17,6 +17,7 @@ returns-in-Left-clause-gone g c =
     let call = c.in-Left.ensures.called in
     gone-free name_of parts_of length s (worker_logs v) (worker_ends v) r _ c.ended.result c.ended.ensures
     (take-goes name_of parts_of length s r v _ _ c.requires.nothing Left refl call) (take-left-seen name_of parts_of length s r v _ _ c.requires.nothing call)
+    (still-active _ _ _ _ _ r c.requires.nothing.role call refl refl c.requires.active).0
 
 pub returns-in-Ended-clause-gone : goal.returns-in-Ended-clause-gone
 returns-in-Ended-clause-gone g c =
@@ -26,6 +27,7 @@ returns-in-Ended-clause-gone g c =
     let call = c.in-Ended.ensures.called in
     gone-free name_of parts_of length s (worker_logs v) (worker_ends v) r _ c.ended-in-Ended.result c.ended-in-Ended.ensures
     (take-goes name_of parts_of length s r v _ _ c.requires.nothing Ended refl call) (take-ended-seen name_of parts_of length s r v _ _ c.requires.nothing call)
+    (still-active _ _ _ _ _ r c.requires.nothing.role call refl refl c.requires.active).0
 
 pub unreachable-requires : goal.unreachable-requires
 unreachable-requires g c =
@@ -39,8 +41,10 @@ settle_or_wait-requires-clause-nothing g c =
 
 pub returns-in-PoolDrop-clause-gone : goal.returns-in-PoolDrop-clause-gone
 returns-in-PoolDrop-clause-gone g c =
-    let s = run_setting g.R.Run.graph g.R.Run.stack in
-    take-drops name_of parts_of length s c.args.role c.args.node _ _ c.requires.nothing _ _ c.in-PoolDrop.ensures.called
+    let s = run_setting g.R.Run.graph g.R.Run.stack in (
+      take-drops name_of parts_of length s c.args.role c.args.node _ _ c.requires.nothing _ _ c.in-PoolDrop.ensures.called,
+      still-active _ _ _ _ _ c.args.role c.requires.nothing.role c.in-PoolDrop.ensures.called refl refl c.requires.active,
+    )
 
 pub returns-in-OutOfMemory-clause-gone : goal.returns-in-OutOfMemory-clause-gone
 returns-in-OutOfMemory-clause-gone g c =
@@ -49,7 +53,7 @@ returns-in-OutOfMemory-clause-gone g c =
     let v = c.args.node in
     let n = take-goes name_of parts_of length s r v _ _ c.requires.nothing OutOfMemory refl c.in-OutOfMemory.ensures.called in
     leave-free name_of parts_of length s (worker_logs v) (worker_ends v) r _ _ c.nothing.result n (worker-quiet v) refl
-    (λ P h. h) c.nothing.ensures c.leave.ensures.called
+    (λ P h. h) c.nothing.ensures (wanted-once _ _ _ _ _ r c.requires.nothing.role c.in-OutOfMemory.ensures.called refl c.requires.active) c.leave.ensures.called
 
 pub work_on-requires-clause-job : goal.work_on-requires-clause-job
 work_on-requires-clause-job g c κs within =
@@ -83,3 +87,17 @@ returns-in-OutOfMemory-clause-owned g c =
 pub returns-in-Job-clause-owned : goal.returns-in-Job-clause-owned
 returns-in-Job-clause-owned g c =
     λ all. c.work_on.ensures.owned (still-owned _ _ _ _ _ c.args.role c.requires.nothing.role c.in-Job.ensures.called refl all)
+
+pub returns-in-Idle-clause-gone : goal.returns-in-Idle-clause-gone
+returns-in-Idle-clause-gone g c =
+    let r = c.args.role in
+    let role = c.requires.nothing.role in
+    let call = c.in-Idle.ensures.called in
+    let active = still-active _ _ _ _ _ r role call refl refl c.requires.active in (
+      c.settle_or_wait.ensures.nothing,
+      still-active _ _ _ _ _ r (role-after _ _ _ _ _ r role call) c.settle_or_wait.ensures.tried refl refl active,
+    )
+
+pub work_on-requires-clause-active : goal.work_on-requires-clause-active
+work_on-requires-clause-active g c κs within =
+    still-active _ _ _ _ _ c.args.role c.requires.nothing.role c.in-Job.ensures.called refl refl c.requires.active

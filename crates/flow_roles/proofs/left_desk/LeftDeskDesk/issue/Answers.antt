@@ -3,7 +3,6 @@ use Rattle.flow_journal.specs.Setting.{last_role}
 use Rattle.board_rules.specs.RunMeasures.{run_setting}
 use Rattle.board_rules.specs.InHand.{just}
 use Rattle.board_rules.specs.Feeding.{IssueGives}
-use Rattle.flow_roles.specs.declared.last.Last.TheVariants.{NotYours}
 use Rattle.flow_roles.proofs.Leaving.{told_by_call, issue_back, back_named}
 use Rattle.flow_roles.proofs.Playing.{below}
 use Rattle.flow_roles.proofs.left_desk.LeftDeskDesk.issue.Goals as goal
@@ -11,7 +10,7 @@ use Rattle.flow_roles.proofs.left_desk.LeftDeskDesk.issue.Goals as goal
 pub returns-clause-called : goal.returns-clause-called
 returns-clause-called g c =
     let s = run_setting g.F.Of.Run.graph g.F.Of.Run.stack in
-    told_by_call s (λ old new. IssueGives {E = Unit {0}} g.F.Named.name_of s old c.args.role c.args.frame (Err c.of_frame.result) new) NotYours c.args.pass.now
-    c.answered.new.self c.args.role c.requires.pass.1 (below c.args.role (last_role s) c.requires.role) c.answered.ensures
+    told_by_call s (λ old new. IssueGives {E = Unit {0}} g.F.Named.name_of s old c.args.role c.args.frame (Err c.of_frame.result) new) _ c.args.pass.now
+    c.is_told.new.self c.given.new.self c.args.role c.requires.pass.1 (below c.args.role (last_role s) c.requires.role) c.is_told.ensures c.given.ensures
     (issue_back g.F.Named.name_of s c.args.role c.args.frame c.of_frame.result c.args.pass.now.stage
     (back_named 0 c.name.result (g.F.Named.name_of c.args.frame) (just 0 c.args.frame) c.of_frame.result c.of_frame.ensures c.name.ensures))

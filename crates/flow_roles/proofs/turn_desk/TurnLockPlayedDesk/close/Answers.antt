@@ -1,5 +1,5 @@
 use Rattle.board_rules.specs.RunMeasures.{run_setting, run_measure}
-use Rattle.flow_roles.specs.declared.last.Last.TheVariants.{Fresh}
+use Rattle.flow_roles.specs.Lasts.{said_close}
 use Rattle.flow_roles.specs.Operations.{frames_of}
 use Rattle.flow_roles.proofs.TurnCalls.{close-replied, told-last}
 use Rattle.flow_roles.proofs.turn_desk.TurnLockPlayedDesk.close.Goals as goal
@@ -8,9 +8,9 @@ pub unreachable-requires : goal.unreachable-requires
 unreachable-requires g c =
     close-replied (frames_of g.F.Named.name_of g.F.Held.parts g.F.Held.bytes_of (run_measure g.F.Of.Run.graph g.F.Of.Run.stack))
     (run_setting g.F.Of.Run.graph g.F.Of.Run.stack)
-    c.args.role c.make.result Fresh _ _ c.in_default.not-Close (c.make.ensures.called c.args.pass.now.said Fresh)
+    c.args.role c.make.result (λ said. said) _ _ c.in_default.not-Close (c.make.ensures.called c.args.pass.now.said (λ said. said))
 
 pub returns-clause-called : goal.returns-clause-called
 returns-clause-called g c =
-    told-last (run_setting g.F.Of.Run.graph g.F.Of.Run.stack) _ _ _ _ c.make.new.pass c.args.pass.now.said _ c.after_close.ensures c.add.ensures
-    (c.in-Close.ensures.called c.args.pass.now.said _)
+    told-last (run_setting g.F.Of.Run.graph g.F.Of.Run.stack) _ (said_close c.in-Close.answer) _ c.make.new.pass c.args.pass.now.said _ c.close.ensures
+    (c.in-Close.ensures.called c.args.pass.now.said (said_close c.in-Close.answer))

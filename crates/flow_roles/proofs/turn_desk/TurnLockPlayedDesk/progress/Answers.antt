@@ -1,5 +1,5 @@
 use Rattle.board_rules.specs.RunMeasures.{run_setting, run_measure}
-use Rattle.flow_roles.specs.declared.last.Last.TheVariants.{Fresh}
+use Rattle.flow_roles.specs.Lasts.{said_progress}
 use Rattle.flow_roles.specs.Operations.{frames_of}
 use Rattle.flow_roles.proofs.TurnCalls.{progress-replied, told-last}
 use Rattle.flow_roles.proofs.turn_desk.TurnLockPlayedDesk.progress.Goals as goal
@@ -8,9 +8,9 @@ pub unreachable-requires : goal.unreachable-requires
 unreachable-requires g c =
     progress-replied (frames_of g.F.Named.name_of g.F.Held.parts g.F.Held.bytes_of (run_measure g.F.Of.Run.graph g.F.Of.Run.stack))
     (run_setting g.F.Of.Run.graph g.F.Of.Run.stack)
-    c.args.role c.make.result Fresh _ _ c.in_default.not-Progress (c.make.ensures.called c.args.pass.now.said Fresh)
+    c.args.role c.make.result (λ said. said) _ _ c.in_default.not-Progress (c.make.ensures.called c.args.pass.now.said (λ said. said))
 
 pub returns-clause-called : goal.returns-clause-called
 returns-clause-called g c =
-    told-last (run_setting g.F.Of.Run.graph g.F.Of.Run.stack) _ _ _ _ c.make.new.pass c.args.pass.now.said _ c.after_progress.ensures c.add.ensures
-    (c.in-Progress.ensures.called c.args.pass.now.said _)
+    told-last (run_setting g.F.Of.Run.graph g.F.Of.Run.stack) _ (said_progress c.in-Progress.answer) _ c.make.new.pass c.args.pass.now.said _ c.progress.ensures
+    (c.in-Progress.ensures.called c.args.pass.now.said (said_progress c.in-Progress.answer))

@@ -1,6 +1,5 @@
-use Rattle.std.proofs.Common.{refl}
 use Rattle.board_rules.specs.RunMeasures.{run_setting, run_measure}
-use Rattle.flow_roles.specs.declared.last.Last.TheVariants.{Fresh, Other}
+use Rattle.flow_roles.specs.Lasts.{said_other}
 use Rattle.flow_roles.specs.Operations.{frames_of}
 use Rattle.flow_roles.proofs.TurnCalls.{settle-replied, told-last}
 use Rattle.flow_roles.proofs.turn_desk.TurnLockPlayedDesk.settle.Goals as goal
@@ -9,9 +8,9 @@ pub unreachable-requires : goal.unreachable-requires
 unreachable-requires g c =
     settle-replied (frames_of g.F.Named.name_of g.F.Held.parts g.F.Held.bytes_of (run_measure g.F.Of.Run.graph g.F.Of.Run.stack))
     (run_setting g.F.Of.Run.graph g.F.Of.Run.stack)
-    c.args.role c.args.node c.make.result Fresh _ _ c.in_default.not-Settle (c.make.ensures.called c.args.pass.now.said Fresh)
+    c.args.role c.args.node c.make.result (λ said. said) _ _ c.in_default.not-Settle (c.make.ensures.called c.args.pass.now.said (λ said. said))
 
 pub returns-clause-called : goal.returns-clause-called
 returns-clause-called g c =
-    told-last (run_setting g.F.Of.Run.graph g.F.Of.Run.stack) _ _ _ _ c.make.new.pass c.args.pass.now.said _ refl c.add.ensures
-    (c.in-Settle.ensures.called c.args.pass.now.said Other)
+    told-last (run_setting g.F.Of.Run.graph g.F.Of.Run.stack) _ said_other _ c.make.new.pass c.args.pass.now.said _ c.other.ensures
+    (c.in-Settle.ensures.called c.args.pass.now.said said_other)
