@@ -1,11 +1,12 @@
 -- A file that was begun, as a front of its final bytes.
 use Rattle.std.proofs.Common.{◌≡◌, ◌≢◌, ℕ, zero, suc, ◌+◌, ◌-◌, ◌*◌, ◌/◌, ◌%◌, ◌<◌, ◌≤◌, Bool, true, false, List, [], ◌∷◌, ◌++◌, length, take, drop, refl, sym}
 use Rattle.std.proofs.Common.{ap, ◌∙◌, arith, inl, inr, Option, Some, None}
+use Rattle.std.specs.Prelude.{IsSome}
 use Rattle.std.specs.List.{flat_map}
 use Rattle.std.proofs.Math.Seq.{take-append-add}
 use Rattle.std.proofs.Math.Nat.{add-mul, mod-lt, mul-le-mul_right}
 use Rattle.std.proofs.lemmas.Nat.{div-add-mod'}
-use Rattle.std.proofs.lemmas.Bool.{cases_lt}
+use Rattle.std.proofs.lemmas.Bool.{cases_lt, false≢true}
 use Rattle.std.proofs.lemmas.List.{append_assoc, append-nil, length-append, length-take, length-take-le, length-drop, take_all, drop_all, take-append-le}
 use Rattle.std.proofs.lemmas.List.{drop-append-le}
 use Rattle.std.proofs.lemmas.List.Concat.{flat_map-append}
@@ -183,9 +184,13 @@ pub data GroupHas (x : NodeFile) (arrays : List Array) (i : ℕ) : Type 0 where
   Opened : (f : Stream) → x.current ≡ Some f → i ≡ length arrays / x.count
       → group_file x arrays i ≡ Some (begun_file x.shape f.numrecs (group_of x.count i arrays)) → GroupHas x arrays i
 
-whole-is : (shape : FileShape) (zs : List Array) → 1 ≤ length zs → whole_file shape zs ≡ Some (layout shape zs)
+pub whole-is : (shape : FileShape) (zs : List Array) → 1 ≤ length zs → whole_file shape zs ≡ Some (layout shape zs)
 whole-is shape [] some = absurd (omega arith)
 whole-is shape (a ∷ zs) some = refl
+
+pub whole-long : (shape : FileShape) (zs : List Array) → IsSome (whole_file shape zs) → 1 ≤ length zs
+whole-long shape [] h = absurd (false≢true h)
+whole-long shape (a ∷ zs) h = omega arith
 
 module _ (x : NodeFile) (arrays : List Array) (some : 1 ≤ x.count) where
   abbrev n : ℕ
@@ -238,3 +243,13 @@ full-file x arrays i some full (Opened f open_ here is) =
     let long = length-group x.count arrays (length arrays / x.count) (length arrays % x.count) (next-place x.count arrays some) in
     let low = mod-lt (length arrays) (let e : 0 < x.count = omega (arith, some) in e) in
     absurd (omega (arith, long, low, full, ap (λ (w : ℕ). length (group_of x.count w arrays)) here))
+
+-- a group that has arrays, and not all, is the open one
+pub short-file : (x : NodeFile) (arrays : List Array) (i : ℕ) → 1 ≤ length (group_of x.count i arrays) → length (group_of x.count i arrays) < x.count
+    → GroupHas x arrays i
+    → (f : Stream) × (x.current ≡ Some f) × (i ≡ length arrays / x.count)
+    × (group_file x arrays i ≡ Some (begun_file x.shape f.numrecs (group_of x.count i arrays)))
+short-file x arrays i some short (Nothing none_) =
+    absurd (file-some (open_at x (length arrays) i) x.shape (group_of x.count i arrays) some none_)
+short-file x arrays i some short (Whole full is) = absurd (omega (arith, full, short))
+short-file x arrays i some short (Opened f open_ here is) = (f, open_, here, is)

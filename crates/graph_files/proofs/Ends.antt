@@ -21,7 +21,7 @@ some-same h = cc
 some-by : {X : Type 0} {a b : Option X} → a ≡ b → IsSome a → IsSome b
 some-by {X} e h = subst (λ (o : Option X). IsSome o) e h
 
-whole-some : (shape : FileShape) (zs : List Array) → 1 ≤ length zs → IsSome (whole_file shape zs)
+pub whole-some : (shape : FileShape) (zs : List Array) → 1 ≤ length zs → IsSome (whole_file shape zs)
 whole-some shape [] some = absurd (omega arith)
 whole-some shape (a ∷ zs) some = refl
 
@@ -70,7 +70,7 @@ of-closed (x ∷ xs) (suc k) y h = of-closed xs k y h
 
 -- ONE NODE
 
-closed-file : (x : NodeFile) (arrays : List Array) (i : ℕ) → group_file (closed x) arrays i ≡ whole_file x.shape (group_of x.count i arrays)
+pub closed-file : (x : NodeFile) (arrays : List Array) (i : ℕ) → group_file (closed x) arrays i ≡ whole_file x.shape (group_of x.count i arrays)
 closed-file x arrays i = ap (λ o. file_of o x.shape (group_of x.count i arrays)) (none-open (closed x) (length arrays) i refl)
 
 other-file : (x : NodeFile) (arrays : List Array) (i : ℕ) → i ≢ length arrays / x.count → group_file x arrays i ≡ whole_file x.shape (group_of x.count i arrays)

@@ -6,3 +6,5 @@ pub mod BegunBytes
 pub mod PlainNames
 pub mod PutBack
 pub mod RowsInTurn
+pub mod TornGroups
+pub mod TornEnds

@@ -2,6 +2,7 @@
 use Rattle.std.proofs.Common.{◌≡◌, ◌≢◌, ℕ, ◌≤◌, Bool, true, false, List, [], ◌∷◌, ◌++◌, length, take, drop, Option, None, Some, refl, sym, ap, subst, ◌∙◌, arith}
 use Rattle.std.specs.List.{flat_map}
 use Rattle.std.specs.Prelude.{is_some}
+use Rattle.std.proofs.lemmas.Bool.{false≢true}
 use Rattle.std.proofs.lemmas.List.{append-nil, take-append-drop}
 use Rattle.nd_base.specs.Array.{Array}
 use Rattle.nd_base.specs.declared.attribute.FileShape.{FileShape}
@@ -101,6 +102,10 @@ torn-sized begun size n before now shape numrecs had more few (Miscounted late f
     Miscounted late (omega (arith, few, full)) any four made
 
 -- by what the shelf tells
+pub told-file : (o : Option Files) (name bytes : List ℕ) → is_some o ≡ true → HasFile o name bytes → file_at o name ≡ Some bytes
+told-file None name bytes told has = absurd (false≢true told)
+told-file (Some m) name bytes told has = has
+
 pub torn-at : (late : Bool) (shape : FileShape) (final written more : List Array) (before now : Option Files) (name : List ℕ)
     → (is_some now ≡ true → IsTornName late shape final written more (file_at before name) (file_at now name))
     → IsTornAt late shape final written more before now name

@@ -1,6 +1,5 @@
 -- What stands on a shelf where files that are written together were interrupted.
-use Rattle.std.specs.Prelude.{◌≡◌, ◌≢◌, ◌⊎◌, ℕ, Bool, true, false, All, List, ◌++◌, length, Option, None, Some, is_some}
-use Rattle.nd_base.specs.Array.{Array}
+use Rattle.std.specs.Prelude.{◌≡◌, ◌≢◌, ℕ, Bool, true, false, All, List, ◌++◌, length, Option, None, Some, is_some}
 use Rattle.edge_traits.specs.Files.{Files, file_at, overwritten}
 use Rattle.file_out.specs.Streams.{count_place}
 use Rattle.graph_files.specs.BegunFiles.{unended_bytes}

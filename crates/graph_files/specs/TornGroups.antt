@@ -1,5 +1,5 @@
 -- What stands under the names of a graph's groups once the shelf has failed on one of them.
-use Rattle.std.specs.Prelude.{◌≡◌, ◌≢◌, ◌⊎◌, ℕ, ◌<◌, ◌≤◌, Bool, true, false, List, [], ◌++◌, length, Option, None, Some}
+use Rattle.std.specs.Prelude.{◌≡◌, ◌≢◌, ◌⊎◌, ℕ, ◌/◌, ◌<◌, ◌≤◌, Bool, true, false, List, [], ◌++◌, length, Option, None, Some}
 use Rattle.nd_base.specs.Array.{Array, StackValue}
 use Rattle.nd_base.specs.declared.attribute.FileShape.{FileShape}
 use Rattle.nd_base.specs.declared.graph.FileRule.{FileRule}
@@ -37,20 +37,23 @@ abbrev pub IsTornAt : (late : Bool) → (shape : FileShape) → (final written m
 IsTornAt late shape final written more before None name = Unit {0}
 IsTornAt late shape final written more before (Some files) name = IsTornName late shape final written more (file_at before name) (file_at (Some files) name)
 
--- Of all arrays of each file node the first were written, and the shelf failed on one name. But for that, each group that has as many as a group takes is
--- whole, and one of which none was written is as at first. Any other has the header that it was begun with, and its rows; but where the shelf failed at the
--- end of a file, once all were written, those of the nodes up to that file's are whole.
+-- Of all arrays of each file node the first were written, and the shelf failed on one name: that of the group to which the next array of its node goes. But
+-- for that, each group that has as many as a group takes is whole, and one of which none was written is as at first. Any other has the header that it was
+-- begun with, and its rows; but where the shelf failed at the end of a file, once all were written, those of the nodes up to that file's are whole.
 pub record AreTornGroups (g : Graph) (stack : StackValue) (prefix : List ℕ) (final written : ℕ → List Array) (before held : Option Files) : Type 0 where
   pub first : (v : ℕ) → (rest : List Array) × (final v ≡ written v ++ rest)
   -- the node and the group of the torn name, and the arrays that came with the call that failed
   pub node : ℕ
   pub group : ℕ
   pub coming : List Array
+  -- what was written fills the groups before this one, and not this one
+  pub place : (n : NodeRule) (r : FileRule) → rule_at g.nodes node ≡ Some n → n.kind ≡ File r → group ≡ length (written node) / r.count
   pub torn : (n : NodeRule) (r : FileRule) → rule_at g.nodes node ≡ Some n → n.kind ≡ File r
       → IsTornAt (is_stream r.mode) (file_shape g stack node) (group_of r.count group (final node)) (group_of r.count group (written node))
       coming before held (group_name prefix n.name group)
   -- whether the call that failed was to end a file, after all were written
   pub ending : Bool
+  pub none : ending ≡ true → coming ≡ []
   pub all : ending ≡ true → (v : ℕ) (n : NodeRule) (r : FileRule) → rule_at g.nodes v ≡ Some n → n.kind ≡ File r → written v ≡ final v
   pub untouched : (v i : ℕ) (n : NodeRule) (r : FileRule) → rule_at g.nodes v ≡ Some n → n.kind ≡ File r → (v ≢ node) ⊎ (i ≢ group)
       → 1 ≤ length (group_of r.count i (final v)) → group_of r.count i (written v) ≡ []

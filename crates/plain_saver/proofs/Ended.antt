@@ -1,7 +1,7 @@
 -- The end of a plain run's files, once every array has gone out of its node.
 use Rattle.std.proofs.Common.{◌≡◌, inl, inr, ℕ, ◌%◌, ◌<◌, ◌≤◌, Bool, true, false, List, [], ◌∷◌, ◌++◌, length, drop, refl, sym, ap, subst, ◌∙◌, arith}
 use Rattle.std.proofs.Common.{Option, Some, None}
-use Rattle.std.specs.Prelude.{All, slice_get, IsSome, is_some}
+use Rattle.std.specs.Prelude.{All, slice_get, is_some}
 use Rattle.std.proofs.Common.{length-drop}
 use Rattle.std.proofs.Math.Nat.{mod-lt}
 use Rattle.std.proofs.lemmas.Bool.{false≢true}
@@ -11,7 +11,6 @@ use Rattle.std.proofs.lemmas.Nat.{div-add-mod'}
 use Rattle.std.proofs.lemmas.Option.{same_Some}
 use Rattle.nd_base.specs.Array.{Array, StackValue}
 use Rattle.nd_base.specs.GraphRules.{IsGraph, rule_at}
-use Rattle.nd_base.specs.declared.attribute.FileShape.{FileShape}
 use Rattle.nd_base.specs.declared.graph.Graph.{Graph}
 use Rattle.nd_base.specs.declared.graph.Kind.TheVariants.{Stats}
 use Rattle.nd_base.specs.declared.graph.NodeRule.{NodeRule}
@@ -36,6 +35,7 @@ use Rattle.plain_saver.specs.declared.passes.Pass.{Pass}
 use Rattle.plain_saver.proofs.FileNodes.{FileOf, file-of, group-apart_stats}
 use Rattle.plain_saver.proofs.Fronts.{length-written}
 use Rattle.plain_saver.proofs.Interrupted.{saved-away}
+use Rattle.graph_files.proofs.BegunBytes.{whole-is, whole-long}
 use Rattle.graph_files.proofs.PlainNames.{all_out, rule-place, with_files-all}
 use Rattle.plain_saver.proofs.Standing.{IsFilledGroup, IsNoName, each-file, no-name, no-rows}
 
@@ -43,16 +43,6 @@ use Rattle.plain_saver.proofs.Standing.{IsFilledGroup, IsNoName, each-file, no-n
 none-left : (n : ℕ) (ks : List ℕ) → All (λ p. n ≤ p) ks → All (λ p. p < n) ks → length ks ≡ 0
 none-left n [] low high = refl
 none-left n (k ∷ ks) low high = absurd (omega (arith, All-head (λ p. n ≤ p) k ks low, All-head (λ p. p < n) k ks high))
-
--- a group that has an array has a whole file
-pub whole-is : (shape : FileShape) (zs : List Array) → 1 ≤ length zs → whole_file shape zs ≡ Some (layout shape zs)
-whole-is shape [] some = absurd (omega (arith, some))
-whole-is shape (a ∷ zs) some = refl
-
--- and only such a group
-pub whole-long : (shape : FileShape) (zs : List Array) → IsSome (whole_file shape zs) → 1 ≤ length zs
-whole-long shape [] h = absurd (false≢true h)
-whole-long shape (a ∷ zs) h = omega arith
 
 -- a file that another shelf has
 moved-file : (now t : Option Files) (q bytes : List ℕ) → is_some now ≡ is_some t → file_at now q ≡ file_at t q → HasFile t q bytes → HasFile now q bytes

@@ -19,6 +19,7 @@ use Rattle.graph_files.specs.NodeFileLaws.{cases_eq, groups-differ}
 use Rattle.graph_files.specs.OpenFiles.{closed, kind_node, nodes_from, file_nodes, AreApart, IsElsewhere}
 use Rattle.graph_files.specs.OpenFileLaws.{of_node, file_nodes-apart, far-none, rules-apart}
 use Rattle.graph_files.specs.OutFiles.{file_shape, group_name, stats_name, is_stream}
+use Rattle.graph_files.proofs.TornGroups.{FilesOfRule}
 use Rattle.plain_saver.specs.Saved.{IsNoRows}
 
 -- LISTS OF FILES
@@ -94,6 +95,10 @@ pub record FileOf (g : Graph) (s : StackValue) (prefix : List ℕ) (x : NodeFile
   pub room : x.room ≡ min x.count (length s.arrays)
   pub named : (i : ℕ) → name_of x i ≡ group_name prefix rule.name i
 
+-- one kind has one rule
+pub file-same : (m q : FileRule) → File m ≡ File q → m ≡ q
+file-same m q e = cc
+
 -- two nodes of one name are one
 pub one-node : (g : Graph) → IsGraph g → (v w : ℕ) (m n : NodeRule) → rule_at g.nodes v ≡ Some m → rule_at g.nodes w ≡ Some n → m.name ≡ n.name → v ≡ w
 one-node g sound zero w m n at_m at_n same = let none_ : None ≡ Some m = at_m in absurd (cc)
@@ -136,6 +141,27 @@ module _ (g : Graph) (s : StackValue) (prefix : List ℕ) (sound : IsGraph g) (x
       let f = files-of g s prefix v n r at kind in
       let o = of-open xs f.at f.files (ap (λ (zs : List NodeFile). slice_get zs f.at) nodes ∙ f.listed) in
       record { at = f.at; files = o.0; listed = o.1; node = ap (λ (z : NodeFile). z.node) o.2 ∙ f.node }
+
+  -- of this rule
+  pub files-of-rule : (v : ℕ) (n : NodeRule) (r : FileRule) → rule_at g.nodes v ≡ Some n → n.kind ≡ File r → FilesOfRule g s prefix xs v n r
+  files-of-rule v n r rule kind =
+      let at = node-files v n r rule kind in
+      let f = file-of at.at at.files at.listed in
+      let here : rule_at g.nodes at.files.node ≡ Some n = ap (rule_at g.nodes) at.node ∙ rule in
+      let same : f.rule ≡ n = same_Some f.rule n (sym f.at ∙ here) in
+      let file_ : f.file ≡ r = file-same f.file r (sym f.kind ∙ ap (λ (m : NodeRule). m.kind) same ∙ kind) in
+      record {
+        at = at.at;
+        files = at.files;
+        listed = at.listed;
+        node = at.node;
+        rule = here;
+        count = f.count ∙ ap (λ (q : FileRule). q.count) file_;
+        late = f.late ∙ ap (λ (q : FileRule). is_stream q.mode) file_;
+        shape = f.shape ∙ ap (file_shape g s) at.node;
+        some = f.some;
+        named = λ i. f.named i ∙ ap (λ (m : NodeRule). group_name prefix m.name i) same;
+      }
 
   -- no two of these have one name
   pub apart : AreApart xs

@@ -29,7 +29,7 @@ use Rattle.plain_saver.specs.declared.passes.Pass.{Pass}
 use Rattle.plain_saver.proofs.Gone.{next-is, length-gone}
 use Rattle.plain_saver.proofs.FileNodes.{FileOf}
 use Rattle.graph_files.proofs.PlainNames.{all_out, rule-place}
-use Rattle.plain_saver.proofs.Standing.{told-file}
+use Rattle.graph_files.proofs.Torn.{told-file}
 
 -- the number of records that an open file was begun with
 pub has-numrecs : (numrecs : Option ℕ) (o : Option Stream) (f : Stream) → HasNumrecs numrecs o → o ≡ Some f → f.numrecs ≡ numrecs

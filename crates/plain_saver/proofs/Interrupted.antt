@@ -33,11 +33,12 @@ use Rattle.plain_saver.specs.Passes.{pass_at}
 use Rattle.plain_saver.specs.Texts.{text_at}
 use Rattle.plain_saver.specs.Saved.{IsSaved, IsNoRows, written, rows_of}
 use Rattle.plain_saver.specs.declared.passes.Pass.{Pass}
+use Rattle.graph_files.proofs.Torn.{told-file}
 use Rattle.plain_saver.proofs.FileNodes.{FileOf, file-of, group-apart_stats, group-no_rows, none-elsewhere, one-node}
 use Rattle.plain_saver.proofs.Fronts.{split, length-written, written-few, group-low, group-longer, standing-has}
 use Rattle.plain_saver.proofs.StatsRows.{rows_of-append}
 use Rattle.graph_files.proofs.PlainNames.{all-in, in-all, all_out, rows_file, Rows, plain-in}
-use Rattle.plain_saver.proofs.Standing.{told-file, begun-of, standing-by, standing-then, StandsIn, stands-in, IsFilledGroup, group_record, IsNoName}
+use Rattle.plain_saver.proofs.Standing.{begun-of, standing-by, standing-then, StandsIn, stands-in, IsFilledGroup, group_record, IsNoName}
 use Rattle.plain_saver.proofs.Standing.{interrupted-by}
 
 -- where nothing was touched

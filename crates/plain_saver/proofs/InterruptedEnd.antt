@@ -1,57 +1,46 @@
 -- What is left of a plain run's files where their end failed.
-use Rattle.std.proofs.Common.{◌≡◌, ◌≢◌, ◌⊎◌, inl, inr, ℕ, zero, suc, ◌+◌, ◌<◌, ◌≤◌, true, false, List, [], ◌∷◌, ◌++◌, length, refl, sym, ap, subst, ◌∙◌, Option, Some}
-use Rattle.std.proofs.Common.{arith, None}
+use Rattle.std.proofs.Common.{◌≡◌, ◌≢◌, ◌⊎◌, inl, inr, ℕ, zero, suc, ◌+◌, ◌/◌, ◌<◌, ◌≤◌, true, false, List, [], ◌∷◌, ◌++◌, length, refl, sym, ap, subst, ◌∙◌, Option, Some}
+use Rattle.std.proofs.Common.{None}
 use Rattle.std.specs.Prelude.{slice_get, IsSome, is_some}
-use Rattle.std.proofs.lemmas.Bool.{false≢true}
 use Rattle.std.proofs.lemmas.List.{append-nil}
 use Rattle.std.proofs.lemmas.Option.{same_Some}
 use Rattle.nd_base.specs.Array.{Array, StackValue}
 use Rattle.nd_base.specs.GraphRules.{IsGraph, rule_at}
-use Rattle.nd_base.specs.declared.attribute.FileShape.{FileShape}
 use Rattle.nd_base.specs.declared.graph.Graph.{Graph}
 use Rattle.nd_base.specs.declared.graph.Kind.TheVariants.{Stats}
 use Rattle.nd_base.specs.declared.graph.NodeRule.{NodeRule}
 use Rattle.nd_base.specs.declared.graph.StatsRule.{StatsRule}
-use Rattle.edge_traits.specs.Files.{Files, HasFile, file_at}
+use Rattle.edge_traits.specs.Files.{Files, file_at}
 use Rattle.cdf_write.specs.Layout.{layout}
 use Rattle.nd_stack.specs.KeptStacks.{IsKeptStack}
-use Rattle.file_out.specs.Streams.{Stream, begun_file}
+use Rattle.file_out.specs.Streams.{Stream}
 use Rattle.chain_plain.specs.PlainRun.{passed}
 use Rattle.graph_files.specs.EndedFiles.{AllEndStops, ended_to, open_group}
 use Rattle.graph_files.specs.Groups.{group_of, whole_file, file_of, HasBytes}
 use Rattle.graph_files.specs.Interrupted as interrupted
 use Rattle.graph_files.specs.Interrupted.{IsCountOf, IsBegunAs, AreInterrupted}
-use Rattle.graph_files.specs.NodeFiles.{NodeFile, EndTorn, IsTorn, first_count, group_file, name_of, open_at}
-use Rattle.graph_files.specs.NodeFileLaws.{cases_eq, none-open, open-here}
+use Rattle.graph_files.specs.NodeFiles.{NodeFile, EndTorn, first_count, group_file, name_of, open_at}
+use Rattle.graph_files.specs.NodeFileLaws.{cases_eq, open-here}
 use Rattle.graph_files.specs.OpenFiles.{closed, AllWrittenBut}
 use Rattle.graph_files.specs.OpenFileLaws.{nodes-ordered}
 use Rattle.graph_files.specs.OutFiles.{plain_files, stats_name}
-use Rattle.graph_files.specs.TornGroups.{IsTornName, IsTornAt, AreTornGroups}
-use Rattle.graph_files.proofs.BegunBytes.{begun-torn, file-some, full-file, GroupHas, Nothing, Whole, Opened}
-use Rattle.graph_files.proofs.Ends.{ended-at}
-use Rattle.graph_files.proofs.Torn.{torn-at}
+use Rattle.graph_files.specs.TornGroups.{AreTornGroups}
+use Rattle.graph_files.proofs.BegunBytes.{begun-torn, file-some, whole-is, whole-long}
+use Rattle.graph_files.proofs.Ends.{closed-file, ended-at}
+use Rattle.graph_files.proofs.Torn.{told-file}
+use Rattle.graph_files.proofs.TornEnds.{names-end}
+use Rattle.graph_files.proofs.TornGroups.{torn-groups}
 use Rattle.plain_saver.specs.Passes.{pass_at}
 use Rattle.plain_saver.specs.Saved.{IsSaved, AreLeftFrom, written, rows_of, group_size}
 use Rattle.plain_saver.specs.TornRuns.{IsTornRun}
 use Rattle.plain_saver.specs.declared.passes.Pass.{Pass}
-use Rattle.plain_saver.proofs.FileNodes.{FileOf, file-of, apart, group-apart_stats, in-graph, one-index}
+use Rattle.plain_saver.proofs.FileNodes.{FileOf, file-of, files-of-rule, apart, group-apart_stats, in-graph}
 use Rattle.plain_saver.proofs.Fronts.{group-sized, count-of, has-numrecs, split}
 use Rattle.plain_saver.proofs.Interrupted.{same-file, saved-group, saved-long, saved-row, saved-away}
 use Rattle.graph_files.proofs.PlainNames.{all_out, rows_file}
-use Rattle.plain_saver.proofs.Standing.{told-file, begun-of, standing-by, standing-then, StandsIn, stands-in, IsFilledGroup, group_record, interrupted-by}
-use Rattle.plain_saver.proofs.Ended.{whole-is, whole-long, written-all_file}
-use Rattle.plain_saver.proofs.TornGroups.{torn-groups}
-use Rattle.plain_saver.proofs.TornSaved.{count-here, group-holds}
-
--- a group that has an array has a file
-none-some : (o : Option Stream) (shape : FileShape) (zs : List Array) → 1 ≤ length zs → file_of o shape zs ≡ None → ⊥
-none-some None shape zs some h =
-    false≢true (sym (ap (λ (w : Option (List ℕ)). is_some w) h) ∙ ap (λ (w : Option (List ℕ)). is_some w) (whole-is shape zs some))
-none-some (Some f) shape zs some h = false≢true (sym (ap (λ (w : Option (List ℕ)). is_some w) h))
-
--- the file of a group where none is open is a whole one
-closed-file : (x : NodeFile) (arrays : List Array) (i : ℕ) → group_file (closed x) arrays i ≡ whole_file x.shape (group_of x.count i arrays)
-closed-file x arrays i = ap (λ (o : Option Stream). file_of o x.shape (group_of x.count i arrays)) (none-open (closed x) (length arrays) i refl)
+use Rattle.plain_saver.proofs.Standing.{begun-of, standing-by, standing-then, StandsIn, stands-in, IsFilledGroup, group_record, interrupted-by}
+use Rattle.plain_saver.proofs.Ended.{written-all_file}
+use Rattle.plain_saver.proofs.TornSaved.{count-here}
 
 -- where a node's files among those that have ended so far come from
 ended-get : (n : ℕ) (xs : List NodeFile) (j : ℕ) (y : NodeFile) → slice_get (ended_to n xs) j ≡ Some y
@@ -115,7 +104,7 @@ module _ (g : Graph) (s : StackValue) (prefix : List ℕ) (sound : IsGraph g) (k
               standing-then x.late final (file_at before (name_of x i)) (file_at t (name_of x i)) (file_at now (name_of x i))
               (same-file now t (name_of x i) (group_file x (W x.node) i) told (sym but.told ∙ told) (but.each j x i open_.1 (off-node j i x at off))
               ((h.groups j x at).written.each i)
-              (λ none. absurd (none-some (open_at x (length (W x.node)) i) x.shape (group_of x.count i (W x.node)) some_ none)))
+              (λ none. absurd (file-some (open_at x (length (W x.node)) i) x.shape (group_of x.count i (W x.node)) some_ none)))
               (saved-group g s prefix sound kept before ps xs t h j i x at some)
         ]))
 
@@ -212,107 +201,17 @@ module _ (g : Graph) (s : StackValue) (prefix : List ℕ) (sound : IsGraph g) (k
         nodes-ordered g s prefix 1 g.nodes j k (closed x) (closed y) (in-graph g s prefix sound xs h.nodes j x at_x)
         (in-graph g s prefix sound xs h.nodes k y at_y) less
 
-    node-here : (j : ℕ) (x : NodeFile) → slice_get xs j ≡ Some x → j ≡ e.at → x ≡ node
-    node-here j x at here = same_Some x node (sym at ∙ ap (slice_get xs) here ∙ e.listed)
-
-    -- a file that has ended
-    closed-has : (j i : ℕ) (x : NodeFile) → slice_get (ended_to (e.at + 1) xs) j ≡ Some (closed x) → (x.node ≢ node.node) ⊎ (i ≢ torn)
-        → 1 ≤ length (group_of x.count i (W x.node)) → HasFile now (name_of x i) (layout x.shape (group_of x.count i (W x.node)))
-    closed-has j i x ended off some =
-        subst (HasBytes now (name_of x i)) (closed-file x (W x.node) i ∙ whole-is x.shape (group_of x.count i (W x.node)) some)
-        (but.each j (closed x) i ended off)
-
-    whole-by : (j i : ℕ) (x : NodeFile) → slice_get xs j ≡ Some x → (x.node ≢ node.node) ⊎ (i ≢ torn) → length (group_of x.count i (W x.node)) ≡ x.count
-        → HasFile now (name_of x i) (layout x.shape (group_of x.count i (W x.node)))
-    whole-by j i x at off full =
-        let some_ = (file j x at).some in
-        elim (ended-at (e.at + 1) xs j x at) [
-          | inl ended ↦ closed-has j i x ended.1 off (omega (arith, full, some_))
-          | inr open_ ↦
-              subst (HasBytes now (name_of x i)) (full-file x (W x.node) i some_ full (group-holds g s prefix sound kept before ps xs t h j x at i))
-              (but.each j x i open_.1 off)
-        ]
-
-    ended-by : (j i : ℕ) (x : NodeFile) → slice_get xs j ≡ Some x → (x.node ≢ node.node) ⊎ (i ≢ torn) → x.node ≤ node.node
-        → 1 ≤ length (group_of x.count i (W x.node)) → HasFile now (name_of x i) (layout x.shape (group_of x.count i (W x.node)))
-    ended-by j i x at off first some =
-        elim (ended-at (e.at + 1) xs j x at) [
-          | inl ended ↦ closed-has j i x ended.1 off some
-          | inr open_ ↦ absurd (omega (arith, first, ordered e.at j node x e.listed at (omega (arith, open_.0))))
-        ]
-
-    open-by : (j i : ℕ) (x : NodeFile) (at : slice_get xs j ≡ Some x) → HasBytes now (name_of x i) (group_file x (W x.node) i)
-        → 1 ≤ length (group_of x.count i (W x.node)) → length (group_of x.count i (W x.node)) < x.count → GroupHas x (W x.node) i
-        → (numrecs : Option ℕ) × IsCountOf x.late (length (group_of x.count i (all_out g s x.node))) numrecs
-        × HasFile now (name_of x i) (begun_file x.shape numrecs (group_of x.count i (W x.node)))
-    open-by j i x at has some short (Nothing none) =
-        absurd (file-some (open_at x (length (W x.node)) i) x.shape (group_of x.count i (W x.node)) some none)
-    open-by j i x at has some short (Whole full is) = absurd (omega (arith, full, short))
-    open-by j i x at has some short (Opened o open_ here is) = (
-      o.numrecs,
-      count-here g s prefix sound kept before ps xs t h j x at i o.numrecs here (has-numrecs _ x.current o (h.groups j x at).numrecs open_),
-      subst (HasBytes now (name_of x i)) is has,
-    )
-
-    begun-by : (j i : ℕ) (x : NodeFile) (at : slice_get xs j ≡ Some x) → (x.node ≢ node.node) ⊎ (i ≢ torn) → node.node < x.node
-        → 1 ≤ length (group_of x.count i (W x.node)) → length (group_of x.count i (W x.node)) < x.count
-        → (numrecs : Option ℕ) × IsCountOf x.late (length (group_of x.count i (all_out g s x.node))) numrecs
-        × HasFile now (name_of x i) (begun_file x.shape numrecs (group_of x.count i (W x.node)))
-    begun-by j i x at off behind some short =
-        elim (ended-at (e.at + 1) xs j x at) [
-          | inl ended ↦ elim (cases_eq j e.at) [
-            | inl here ↦ absurd (omega (arith, behind, ap (λ (z : NodeFile). z.node) (node-here j x at here)))
-            | inr ne ↦ absurd (omega (arith, behind, ordered j e.at x node at e.listed (omega (arith, ended.0, ne))))
-          ]
-          | inr open_ ↦ open-by j i x at (but.each j x i open_.1 off) some short (group-holds g s prefix sound kept before ps xs t h j x at i)
-        ]
-
-    -- the torn name
-    torn-name : is_some now ≡ true → (o : Option Stream) → node.current ≡ o → EndTorn o node torn (group_of node.count torn (W node.node)) t now
-        → IsTornName node.late node.shape (group_of node.count torn (all_out g s node.node)) (group_of node.count torn (W node.node)) []
-        (file_at before (name_of node torn)) (file_at now (name_of node torn))
-    torn-name told None is torn_ = absurd torn_
-    torn-name told (Some o) is torn_ =
-        let zs = group_of node.count torn (W node.node) in
-        let full = group_of node.count torn (all_out g s node.node) in
-        let same : full ≡ zs =
-        ap (group_of node.count torn) (sym (written-all_file g s prefix sound kept before ps xs t h left e.at node e.listed)) in
-        let made : group_file node (W node.node) torn ≡ Some (begun_file node.shape o.numrecs zs) =
-        ap (λ (w : Option Stream). file_of w node.shape zs) (open-here node (length (W node.node)) torn refl ∙ is) in
-        let has = subst (HasBytes t (name_of node torn)) made ((h.groups e.at node e.listed).written.each torn) in
-        record {
-          rest = [];
-          next = same ∙ sym (append-nil zs) ∙ sym (append-nil (zs ++ []));
-          numrecs = o.numrecs;
-          count =
-              count-here g s prefix sound kept before ps xs t h e.at node e.listed torn o.numrecs refl
-              (has-numrecs _ node.current o (h.groups e.at node e.listed).numrecs is);
-          begun = true;
-          was = file_at t (name_of node torn);
-          stood = told-file t (name_of node torn) (begun_file node.shape o.numrecs zs) (sym but.told ∙ told) has;
-          torn =
-              subst (λ (ws : List Array). IsTorn true (length ws) (file_at t (name_of node torn)) node.shape o.numrecs zs [] (file_at now (name_of node torn)))
-              (sym same) torn_;
-        }
+    -- the number in the header of an open file
+    count : (j i : ℕ) (x : NodeFile) (o : Stream) → slice_get xs j ≡ Some x → x.current ≡ Some o → i ≡ length (W x.node) / x.count
+        → IsCountOf x.late (length (group_of x.count i (all_out g s x.node))) o.numrecs
+    count j i x o at open_ here =
+        count-here g s prefix sound kept before ps xs t h j x at i o.numrecs here (has-numrecs _ x.current o (h.groups j x at).numrecs open_)
 
     end-groups : AreTornGroups g s prefix (λ v. all_out g s v) W before now
     end-groups =
-        torn-groups g s prefix sound xs h.nodes W before now node.node torn [] true (record {
-          first = λ v. split g s prefix kept ps h.passes v;
-          all = λ yes j x at. written-all_file g s prefix sound kept before ps xs t h left j x at;
-          torn = λ j x at same.
-              let here : x ≡ node = node-here j x at (one-index g s prefix sound xs h.nodes j e.at x node at e.listed same) in
-              subst (λ (w : NodeFile). IsTornAt w.late w.shape (group_of w.count torn (all_out g s w.node)) (group_of w.count torn (W w.node)) [] before now
-              (name_of w torn)) (sym here)
-              (torn-at node.late node.shape (group_of node.count torn (all_out g s node.node)) (group_of node.count torn (W node.node)) [] before now
-              (name_of node torn) (λ told. torn-name told node.current refl e.stops.1));
-          untouched = λ j i x at off filled empty_.
-              let all = written-all_file g s prefix sound kept before ps xs t h left j x at in
-              absurd (omega (arith, filled, ap (λ (zs : List Array). length zs) (ap (group_of x.count i) (sym all) ∙ empty_)));
-          whole = λ j i x at off full. whole-by j i x at off full;
-          ended = λ yes j i x at off first some. ended-by j i x at off first some;
-          begun = λ j i x at off behind some short. begun-by j i x at off (behind refl) some short;
-        })
+        torn-groups g s prefix xs (files-of-rule g s prefix sound xs h.nodes) (λ v. all_out g s v) W before now node.node torn [] true
+        (names-end xs (λ v. all_out g s v) W before t t now e but.told (λ j x at. (file j x at).some) (λ j x at. (h.groups j x at).written)
+        (λ j x at. written-all_file g s prefix sound kept before ps xs t h left j x at) count (λ v. split g s prefix kept ps h.passes v) ordered)
 
     interrupted-end : AreInterrupted before (plain_files g s prefix) now
     interrupted-end =

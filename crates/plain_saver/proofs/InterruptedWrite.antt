@@ -28,7 +28,7 @@ use Rattle.graph_files.specs.OpenFileLaws.{get-set_same, get-set_other, all-but}
 use Rattle.graph_files.specs.OutFiles.{plain_files, stats_name}
 use Rattle.graph_files.specs.TornGroups.{HasStood, IsTornName, IsTornAt, AreTornGroups}
 use Rattle.graph_files.proofs.BegunBytes.{begun-torn, group-front, none-behind}
-use Rattle.graph_files.proofs.Torn.{torn-at, torn-sized}
+use Rattle.graph_files.proofs.Torn.{told-file, torn-at, torn-sized}
 use Rattle.graph_files.proofs.Writes.{next-place}
 use Rattle.plain_saver.specs.Passes.{pass_at, is_next}
 use Rattle.plain_saver.specs.Saved.{IsSaved, written, rows_of, group_size}
@@ -37,10 +37,9 @@ use Rattle.plain_saver.specs.declared.passes.Pass.{Pass}
 use Rattle.plain_saver.proofs.FileNodes.{FileOf, file-of, apart, closed-set, group-apart_stats, one-index, stats-elsewhere, none-elsewhere}
 use Rattle.plain_saver.proofs.Fronts.{length-written, written-few, next-out, group-low, has-numrecs}
 use Rattle.graph_files.proofs.PlainNames.{all_out, rows_file}
-use Rattle.plain_saver.proofs.Standing.{begun-of, told-file, standing-by, standing-then, StandsIn, stands-in, IsFilledGroup, group_record, IsNoName, interrupted-by}
+use Rattle.plain_saver.proofs.Standing.{begun-of, standing-by, standing-then, StandsIn, stands-in, IsFilledGroup, group_record, IsNoName, interrupted-by}
 use Rattle.plain_saver.proofs.Interrupted.{same-file, saved-fresh, saved-group, saved-long, saved-row, saved-away, saved-written}
-use Rattle.plain_saver.proofs.TornGroups.{torn-groups}
-use Rattle.plain_saver.proofs.TornSaved.{count-here, names-have, torn-saved}
+use Rattle.plain_saver.proofs.TornSaved.{count-here, groups-have, torn-saved}
 
 module _ (g : Graph) (s : StackValue) (prefix : List ℕ) (sound : IsGraph g) (kept : IsKeptStack s) (before : Option Files) (ps : List Pass)
     (xs : List NodeFile) (t : Option Files) {ts : List (List ℕ)} (h : IsSaved g s prefix before ps ts xs t) where
@@ -255,19 +254,22 @@ module _ (g : Graph) (s : StackValue) (prefix : List ℕ) (sound : IsGraph g) (k
           ] in
           kept_ ∙ saved-fresh g s prefix sound kept before ps xs t h j i y was filled none
 
+      -- the files of this node
+      node-here : (j : ℕ) (y : NodeFile) → slice_get xs j ≡ Some y → y.node ≡ x.node → y ≡ x
+      node-here j y was node = same_Some y x (sym was ∙ ap (slice_get xs) (one-index g s prefix sound xs h.nodes j at y x was is node) ∙ is)
+
       -- all groups by what the torn name has
       groups-but : (zs : List Array)
           → (is_some now ≡ true → IsTornName x.late x.shape (group_of x.count G (all_out g s x.node)) (group_of x.count G (W x.node)) zs
           (file_at before (name_of x G)) (file_at now (name_of x G)))
           → AreTornGroups g s prefix (λ v. all_out g s v) W before now
       groups-but zs named =
-          torn-groups g s prefix sound xs h.nodes W before now x.node G zs false
-          (names-have g s prefix sound kept before ps xs t h now x.node G zs has-but still-but
+          groups-have g s prefix sound kept before ps xs t h now x.node G zs has-but still-but
+          (λ j y was node. sym group-here ∙ ap (λ (w : NodeFile). length (W w.node) / w.count) (sym (node-here j y was node)))
           (λ j y was node.
-          let same : y ≡ x = same_Some y x (sym was ∙ ap (slice_get xs) (one-index g s prefix sound xs h.nodes j at y x was is node) ∙ is) in
           subst (λ (w : NodeFile). IsTornAt w.late w.shape (group_of w.count G (all_out g s w.node)) (group_of w.count G (W w.node)) zs before now (name_of w G))
-          (sym same)
-          (torn-at x.late x.shape (group_of x.count G (all_out g s x.node)) (group_of x.count G (W x.node)) zs before now (name_of x G) named)))
+          (sym (node-here j y was node))
+          (torn-at x.late x.shape (group_of x.count G (all_out g s x.node)) (group_of x.count G (W x.node)) zs before now (name_of x G) named))
 
     -- what the group's name had
     file-here : (o : Option Stream) → x.current ≡ o → group_file x (W x.node) G ≡ file_of o x.shape (group_of x.count G (W x.node))

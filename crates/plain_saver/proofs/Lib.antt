@@ -24,5 +24,4 @@ pub mod Writing
 pub mod KeptStacks
 pub mod Kept
 pub mod Dealt
-pub mod TornGroups
 pub mod TornSaved

@@ -19,7 +19,7 @@ use Rattle.graph_files.specs.NodeFiles.{NodeFile, name_of}
 use Rattle.graph_files.specs.OpenFiles.{closed, file_nodes}
 use Rattle.graph_files.specs.OutFiles.{OutFile, file_shape, group_name, is_stream, plain_files}
 use Rattle.plain_saver.specs.Saved.{IsNoRows}
-use Rattle.plain_saver.proofs.FileNodes.{FileOf, file-of, node-files}
+use Rattle.plain_saver.proofs.FileNodes.{FileOf, file-of, file-same, node-files}
 use Rattle.graph_files.proofs.PlainNames.{IsIn, all-in, in-all, all_out, group_out, rows_file, IsPlainFile, Group, Rows, plain-in, plain-out}
 
 -- ONE NAME
@@ -28,11 +28,6 @@ use Rattle.graph_files.proofs.PlainNames.{IsIn, all-in, in-all, all_out, group_o
 pub HasFile-Stands : (t : Option Files) (name bytes : List ℕ) → HasFile t name bytes → Stands t name
 HasFile-Stands None name bytes has = tt
 HasFile-Stands (Some files) name bytes has = (bytes, has)
-
--- what a told name has
-pub told-file : (o : Option Files) (name bytes : List ℕ) → is_some o ≡ true → HasFile o name bytes → file_at o name ≡ Some bytes
-told-file None name bytes told has = absurd (false≢true told)
-told-file (Some m) name bytes told has = has
 
 -- a file that stands was begun
 pub begun-of : (late : Bool) (final : List ℕ) (before now : Option (List ℕ)) → IsStanding late final before now → IsBegunAs late final before now
@@ -75,10 +70,6 @@ same_piece : (i : ℕ) (xs : List Array) (name q : List ℕ) (shape sh : FileSha
 same_piece i xs name q shape sh count c late l names shapes counts lates =
     ap (λ (w : List ℕ). piece i xs w shape count late) names ∙ ap (λ (w : FileShape). piece i xs q w count late) shapes
     ∙ ap (λ (w : ℕ). piece i xs q sh w late) counts ∙ ap (piece i xs q sh c) lates
-
--- one kind has one rule
-pub file-same : (m q : FileRule) → File m ≡ File q → m ≡ q
-file-same m q e = cc
 
 -- the group has an array in the end
 abbrev pub IsFilledGroup : Graph → StackValue → NodeFile → ℕ → Type 0

@@ -1,5 +1,5 @@
 -- What is left of a plain run's groups where it stopped between two steps, or on the file of a statistics node.
-use Rattle.std.proofs.Common.{◌≡◌, ◌≢◌, ◌⊎◌, ℕ, ◌*◌, ◌/◌, ◌<◌, ◌≤◌, false, List, [], length, drop, refl, sym, ap, subst}
+use Rattle.std.proofs.Common.{◌≡◌, ◌≢◌, ◌⊎◌, ℕ, ◌*◌, ◌/◌, false, List, [], length, drop, refl, sym, ap, subst}
 use Rattle.std.proofs.Common.{◌∙◌, arith, Option, Some, None}
 use Rattle.std.specs.Prelude.{slice_get, is_some}
 use Rattle.std.proofs.Common.{length-take, length-drop}
@@ -10,31 +10,39 @@ use Rattle.nd_base.specs.declared.graph.Graph.{Graph}
 use Rattle.nd_base.specs.declared.graph.Kind.TheVariants.{Stats}
 use Rattle.nd_base.specs.declared.graph.NodeRule.{NodeRule}
 use Rattle.nd_base.specs.declared.graph.StatsRule.{StatsRule}
-use Rattle.edge_traits.specs.Files.{Files, HasFile, MayAppend, file_at}
+use Rattle.edge_traits.specs.Files.{Files, MayAppend, file_at}
 use Rattle.edge_traits.specs.FileLaws.{file_at-MayAppend}
 use Rattle.nd_stack.specs.KeptStacks.{IsKeptStack}
-use Rattle.file_out.specs.Streams.{begun_file}
 use Rattle.chain_plain.specs.PlainRun.{passed}
 use Rattle.chain_plain.proofs.Rules.{stands}
 use Rattle.graph_files.specs.Groups.{group_of, HasBytes}
 use Rattle.graph_files.specs.Interrupted.{IsCountOf}
 use Rattle.graph_files.specs.NameLaws.{stats-differ}
-use Rattle.graph_files.specs.NodeFiles.{NodeFile, first_count, group_file, name_of, open_at}
+use Rattle.graph_files.specs.NodeFiles.{NodeFile, first_count, group_file, name_of}
 use Rattle.graph_files.specs.OutFiles.{group_name, plain_files, stats_name}
 use Rattle.graph_files.specs.TornGroups.{IsTornAt, AreTornGroups}
-use Rattle.graph_files.proofs.BegunBytes.{GroupHas, Nothing, Whole, Opened, group-has, file-some, full-file}
+use Rattle.graph_files.proofs.BegunBytes.{GroupHas, group-has}
 use Rattle.graph_files.proofs.PlainNames.{all_out}
+use Rattle.graph_files.proofs.TornGroups.{names-but, torn-groups}
 use Rattle.plain_saver.specs.BegunRows.{AreRowsTouched}
 use Rattle.plain_saver.specs.Passes.{pass_at}
 use Rattle.plain_saver.specs.Texts.{text_at}
 use Rattle.plain_saver.specs.Saved.{IsSaved, written, group_size}
 use Rattle.plain_saver.specs.TornRuns.{IsTornRun}
 use Rattle.plain_saver.specs.declared.passes.Pass.{Pass}
-use Rattle.plain_saver.proofs.FileNodes.{FileOf, file-of, group-apart_stats}
+use Rattle.plain_saver.proofs.FileNodes.{FileOf, file-of, files-of-rule, group-apart_stats}
 use Rattle.plain_saver.proofs.Fronts.{split, group-sized, count-of, has-numrecs}
 use Rattle.plain_saver.proofs.Interrupted.{interrupted-begin, interrupted-none, interrupted-saved, interrupted-row, open-row, saved-fresh}
 use Rattle.plain_saver.proofs.Standing.{IsFilledGroup}
-use Rattle.plain_saver.proofs.TornGroups.{NamesHave, has-same, torn-groups}
+
+-- a shelf that has under a name what another has
+has-same : (t now : Option Files) (name : List ℕ) (o : Option (List ℕ)) → is_some now ≡ is_some t → file_at now name ≡ file_at t name
+    → HasBytes t name o → HasBytes now name o
+has-same t now name None told same has = tt
+has-same None None name (Some bytes) told same has = tt
+has-same None (Some m) name (Some bytes) told same has = absurd (false≢true (sym told))
+has-same (Some w) None name (Some bytes) told same has = tt
+has-same (Some w) (Some m) name (Some bytes) told same has = same ∙ has
 
 -- BEFORE ANY ARRAY WENT OUT
 
@@ -50,8 +58,10 @@ groups-none g s prefix before now sound same = record {
   node = 0;
   group = 0;
   coming = [];
+  place = λ n r rule kind. let none_ : None ≡ Some n = rule in absurd (cc);
   torn = λ n r rule kind. let none_ : None ≡ Some n = rule in absurd (cc);
   ending = false;
+  none = λ clash. absurd (false≢true clash);
   all = λ clash. absurd (false≢true clash);
   untouched = λ v i n r rule kind off some none_. same i n;
   whole = λ v i n r rule kind off full.
@@ -108,50 +118,26 @@ module _ (g : Graph) (s : StackValue) (prefix : List ℕ) (sound : IsGraph g) (k
       → HasBytes now (name_of x i) (group_file x (W x.node) i))
       (still : (j i : ℕ) (x : NodeFile) → slice_get xs j ≡ Some x → (x.node ≢ node) ⊎ (i ≢ group) → IsFilledGroup g s x i
       → group_file x (W x.node) i ≡ None → file_at now (name_of x i) ≡ file_at before (name_of x i))
+      (place : (j : ℕ) (x : NodeFile) → slice_get xs j ≡ Some x → x.node ≡ node → group ≡ length (W x.node) / x.count)
       (torn : (j : ℕ) (x : NodeFile) → slice_get xs j ≡ Some x → x.node ≡ node
       → IsTornAt x.late x.shape (group_of x.count group (all_out g s x.node)) (group_of x.count group (W x.node)) coming before now (name_of x group)) where
-    untouched-by : (j i : ℕ) (x : NodeFile) (at : slice_get xs j ≡ Some x) → (x.node ≢ node) ⊎ (i ≢ group) → IsFilledGroup g s x i
-        → group_of x.count i (W x.node) ≡ [] → GroupHas x (W x.node) i → file_at now (name_of x i) ≡ file_at before (name_of x i)
-    untouched-by j i x at off filled empty_ (Nothing none) = still j i x at off filled none
-    untouched-by j i x at off filled empty_ (Whole full is) =
-        absurd (omega (arith, full, (file j x at).some, ap (λ (zs : List Array). length zs) empty_))
-    untouched-by j i x at off filled empty_ (Opened o open_ here is) =
-        absurd (omega (arith, open-row g s prefix sound kept before ps xs t h j i x at o open_ here, ap (λ (zs : List Array). length zs) empty_))
-
-    begun-by : (j i : ℕ) (x : NodeFile) (at : slice_get xs j ≡ Some x) → (x.node ≢ node) ⊎ (i ≢ group) → 1 ≤ length (group_of x.count i (W x.node))
-        → length (group_of x.count i (W x.node)) < x.count → GroupHas x (W x.node) i
-        → (numrecs : Option ℕ) × IsCountOf x.late (length (group_of x.count i (all_out g s x.node))) numrecs
-        × HasFile now (name_of x i) (begun_file x.shape numrecs (group_of x.count i (W x.node)))
-    begun-by j i x at off some short (Nothing none) =
-        absurd (file-some (open_at x (length (W x.node)) i) x.shape (group_of x.count i (W x.node)) some none)
-    begun-by j i x at off some short (Whole full is) = absurd (omega (arith, full, short))
-    begun-by j i x at off some short (Opened o open_ here is) = (
-      o.numrecs,
-      count-here j x at i o.numrecs here (has-numrecs _ x.current o (h.groups j x at).numrecs open_),
-      subst (HasBytes now (name_of x i)) is (has j i x at off),
-    )
-
-    pub names-have : NamesHave g s prefix sound xs h.nodes W before now node group coming false
-    names-have = record {
-      first = λ v. split g s prefix kept ps h.passes v;
-      all = λ clash. absurd (false≢true clash);
-      torn = torn;
-      untouched = λ j i x at off filled empty_. untouched-by j i x at off filled empty_ (group-holds j x at i);
-      whole = λ j i x at off full.
-          subst (HasBytes now (name_of x i)) (full-file x (W x.node) i (file j x at).some full (group-holds j x at i)) (has j i x at off);
-      ended = λ clash. absurd (false≢true clash);
-      begun = λ j i x at off behind some short. begun-by j i x at off some short (group-holds j x at i);
-    }
+    pub groups-have : AreTornGroups g s prefix (λ v. all_out g s v) W before now
+    groups-have =
+        torn-groups g s prefix xs (files-of-rule g s prefix sound xs h.nodes) (λ v. all_out g s v) W before now node group coming false
+        (names-but xs (λ v. all_out g s v) W before now node group coming (λ j i x at off. group-holds j x at i) has still (λ j x at. (file j x at).some)
+        (λ j i x o at off open_ here. open-row g s prefix sound kept before ps xs t h j i x at o open_ here)
+        (λ j i x o at off open_ here. count-here j x at i o.numrecs here (has-numrecs _ x.current o (h.groups j x at).numrecs open_))
+        (λ v. split g s prefix kept ps h.passes v) place torn)
 
   -- where no name of a group was touched
   module _ (now : Option Files) (told : is_some now ≡ is_some t)
       (same : (j i : ℕ) (x : NodeFile) → slice_get xs j ≡ Some x → file_at now (name_of x i) ≡ file_at t (name_of x i)) where
     groups-still : AreTornGroups g s prefix (λ v. all_out g s v) W before now
     groups-still =
-        torn-groups g s prefix sound xs h.nodes W before now 0 0 [] false
-        (names-have now 0 0 [] (λ j i x at off. has-same t now (name_of x i) (group_file x (W x.node) i) told (same j i x at) ((h.groups j x at).written.each i))
+        groups-have now 0 0 [] (λ j i x at off. has-same t now (name_of x i) (group_file x (W x.node) i) told (same j i x at) ((h.groups j x at).written.each i))
         (λ j i x at off filled none. same j i x at ∙ saved-fresh g s prefix sound kept before ps xs t h j i x at filled none)
-        (λ j x at zero_. absurd (omega (arith, (file j x at).first, zero_))))
+        (λ j x at zero_. absurd (omega (arith, (file j x at).first, zero_)))
+        (λ j x at zero_. absurd (omega (arith, (file j x at).first, zero_)))
 
   -- where the writing stops between two steps
   pub torn-saved : IsTornRun g s prefix before t
