@@ -11,9 +11,9 @@ use Rattle.board_rules.specs.Movers.{moves_by, IsMoveOf}
 use Rattle.board_rules.specs.Runs.{Frames}
 use Rattle.board_rules.specs.Saving.{SaveGives, SavedGives, MaySaved}
 use Rattle.board_rules.proofs.Moves.{moves-added}
-use Rattle.flow_roles.specs.declared.last.Last.TheVariants.{Other}
 use Rattle.flow_roles.specs.declared.operation.DeskOp.TheVariants as op
 use Rattle.flow_roles.specs.declared.operation.DeskReply.TheVariants as reply
+use Rattle.flow_roles.specs.Lasts.{said_other}
 use Rattle.flow_roles.specs.Passes.{Called, only_drain_saves}
 use Rattle.flow_roles.specs.Feeder.{name_of, parts_of}
 use Rattle.flow_roles.proofs.Playing.{replies_are_moves}
@@ -45,7 +45,7 @@ module _ (s : Setting) (b new : BoardState) (pooled : s.pooled ≡ true) (legal 
       let m = replies_are_moves {F = Sealed} {B = List ℕ} {O = ℕ} frames s b new (op.Saved (last_role s) f) (reply.Saved answer) (refl, may) c in
       record { added = m.0.0; is = m.0.1; move = m.0.2; legal = m.1 pooled legal; drained = m.2 drained }
 
-  pub called-alone : (gives : BoardState → BoardState → Type 0) → gives b new → Adds s b new → Called s gives Other (alone s b) (alone s new)
+  pub called-alone : (gives : BoardState → BoardState → Type 0) → gives b new → Adds s b new → Called s gives said_other (alone s b) (alone s new)
   called-alone gives c a = record {
     between = [];
     added = a.added;
@@ -55,9 +55,7 @@ module _ (s : Setting) (b new : BoardState) (pooled : s.pooled ≡ true) (legal 
     made = ap (λ (x : BoardState). moves_by (last_role s) x) a.is ∙ (moves-added a.added b (last_role s) a.move).0;
     exact = refl;
     role = refl;
-    last = refl;
-    owned = refl;
-    loads = refl;
+    said = refl;
     legal = a.legal;
     drained = a.drained;
   }

@@ -21,6 +21,7 @@ use Rattle.board_rules.specs.InHand.{IsLent}
 use Rattle.flow_journal.specs.Hands.{hand}
 use Rattle.flow_journal.specs.Unsaved.{saves}
 use Rattle.board_rules.specs.States.{BoardState, past}
+use Rattle.flow_roles.specs.declared.last.Said.{Said}
 use Rattle.flow_roles.specs.Passes.{Pass}
 use Rattle.flow_roles.specs.RoleMoves.{saver_logs, IsFresh}
 use Rattle.graph_files.specs.Groups.{group_of, whole_file, file_of, HasBytes}
@@ -99,6 +100,9 @@ fresh-saving g stack prefix held r p xs files fresh =
       nodes = ap (map closed) files ∙ closed-nodes g stack prefix;
       saved = subst (λ (b : BoardState). AreSaved g stack held (past b) (past p.seen) xs false held) (sym fresh.made) saved;
     }
+
+pub fresh-asked : (r : ℕ) (p : Pass) → IsFresh r p → p.said.asked ≡ 0
+fresh-asked r p fresh = ap (λ (said : Said). said.asked) fresh.said
 
 -- THE END OF THE ROLE
 

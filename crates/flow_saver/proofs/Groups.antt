@@ -43,6 +43,7 @@ use Rattle.graph_files.specs.Groups.{group_of, whole_file, HasBytes}
 use Rattle.graph_files.specs.NodeFiles.{NodeFile, IsOpenAfter, IsFilled, Same, group_file, name_of, node_file}
 use Rattle.graph_files.proofs.Writes.{end-rows}
 use Rattle.graph_files.proofs.BegunBytes.{GroupHas, Nothing, Whole, Opened, group-has}
+use Rattle.graph_files.proofs.TornGroups.{FilesOfRule}
 use Rattle.graph_files.specs.OpenFiles.{kind_node, nodes_from, file_nodes, closed}
 use Rattle.graph_files.specs.OpenFileLaws.{of_node}
 use Rattle.graph_files.specs.EndedFiles.{AllEnded}
@@ -146,6 +147,19 @@ all-saved s P v h here =
     let d = and_parts (is_settled v P) (none_left (arrays_at s P v)) (all-numbers (is_done s P) 1 s.nodes a.1 v (omega (arith, n.0)) (omega (arith, n.1))) in
     last-none (queued v P ++ map (λ (w : Waiting). w.array) (waiting s v P) ++ ring s v P) (unsaved s v P) (none_left-nil (arrays_at s P v) d.1)
 
+module _ (g : Graph) (stack : StackValue) (P : Past) where
+  kind-by : (n : NodeRule) (c : Kind) (v i : ℕ) (bytes : List ℕ) → n.kind ≡ c → kind_group g stack P v n.kind i ≡ Some bytes
+      → (r : FileRule) × (n.kind ≡ File r)
+  kind-by n (File r) v i bytes kind is = (r, kind)
+  kind-by n (Roi r) v i bytes kind is = let none_ : None ≡ Some bytes = ap (λ (c : Kind). kind_group g stack P v c i) (sym kind) ∙ is in absurd (cc)
+  kind-by n (Stats r) v i bytes kind is = let none_ : None ≡ Some bytes = ap (λ (c : Kind). kind_group g stack P v c i) (sym kind) ∙ is in absurd (cc)
+  kind-by n (Circular r) v i bytes kind is = let none_ : None ≡ Some bytes = ap (λ (c : Kind). kind_group g stack P v c i) (sym kind) ∙ is in absurd (cc)
+  kind-by n Scatter v i bytes kind is = let none_ : None ≡ Some bytes = ap (λ (c : Kind). kind_group g stack P v c i) (sym kind) ∙ is in absurd (cc)
+
+  -- a node that has the file of a group is a file node
+  pub file-kind : (n : NodeRule) (v i : ℕ) (bytes : List ℕ) → kind_group g stack P v n.kind i ≡ Some bytes → (r : FileRule) × (n.kind ≡ File r)
+  file-kind n v i bytes is = kind-by n n.kind v i bytes refl is
+
 module _ (g : Graph) (stack : StackValue) (sound : IsGraph g) (prefix : List ℕ) (before : Option Files) (b : BoardState) (xs : List NodeFile)
     (fault : Bool) (held : Option Files)
     (h : IsSavingAlone g stack prefix before b xs fault held) where
@@ -168,18 +182,6 @@ module _ (g : Graph) (stack : StackValue) (sound : IsGraph g) (prefix : List ℕ
   pub written-is : (v : ℕ) → written v ≡ contents g.nodes stack.arrays (standing_saves v (past b))
   written-is v = ap (λ (ns : List FrameName). contents g.nodes stack.arrays ns) (sym (given-is v))
 
-  kind-by : (n : NodeRule) (c : Kind) (v i : ℕ) (bytes : List ℕ) → n.kind ≡ c → kind_group g stack (past b) v n.kind i ≡ Some bytes
-      → (r : FileRule) × (n.kind ≡ File r)
-  kind-by n (File r) v i bytes kind is = (r, kind)
-  kind-by n (Roi r) v i bytes kind is = let none_ : None ≡ Some bytes = ap (λ (c : Kind). kind_group g stack (past b) v c i) (sym kind) ∙ is in absurd (cc)
-  kind-by n (Stats r) v i bytes kind is = let none_ : None ≡ Some bytes = ap (λ (c : Kind). kind_group g stack (past b) v c i) (sym kind) ∙ is in absurd (cc)
-  kind-by n (Circular r) v i bytes kind is = let none_ : None ≡ Some bytes = ap (λ (c : Kind). kind_group g stack (past b) v c i) (sym kind) ∙ is in absurd (cc)
-  kind-by n Scatter v i bytes kind is = let none_ : None ≡ Some bytes = ap (λ (c : Kind). kind_group g stack (past b) v c i) (sym kind) ∙ is in absurd (cc)
-
-  -- a node that has the file of a group is a file node
-  pub file-kind : (n : NodeRule) (v i : ℕ) (bytes : List ℕ) → kind_group g stack (past b) v n.kind i ≡ Some bytes → (r : FileRule) × (n.kind ≡ File r)
-  file-kind n v i bytes is = kind-by n n.kind v i bytes refl is
-
   -- the file of a group, as its node's files have it
   pub group-is : (k : ℕ) (x : NodeFile) (at : slice_get xs k ≡ Some x) (n : NodeRule) (i : ℕ) → rule_at g.nodes x.node ≡ Some n
       → kind_group g stack (past b) x.node n.kind i ≡ whole_file x.shape (group_of x.count i (written x.node))
@@ -191,23 +193,11 @@ module _ (g : Graph) (stack : StackValue) (sound : IsGraph g) (prefix : List ℕ
       ∙ ap (λ (c : ℕ). whole_file (file_shape g stack x.node) (group_of c i (written x.node))) (sym f.count)
       ∙ ap (λ (sh : FileShape). whole_file sh (group_of x.count i (written x.node))) (sym f.shape)
 
-  -- a file node's files, and what they are of
-  pub record FilesOfRule (v : ℕ) (n : NodeRule) (r : FileRule) : Type 0 where
-    pub at : ℕ
-    pub files : NodeFile
-    pub listed : slice_get xs at ≡ Some files
-    pub node : files.node ≡ v
-    pub rule : rule_at g.nodes files.node ≡ Some n
-    pub count : files.count ≡ r.count
-    pub late : files.late ≡ is_stream r.mode
-    pub shape : files.shape ≡ file_shape g stack v
-    pub some : 1 ≤ files.count
-    pub named : (i : ℕ) → name_of files i ≡ group_name prefix n.name i
-
   file-same : (m q : FileRule) → File m ≡ File q → m ≡ q
   file-same m q e = cc
 
-  pub files-of-rule : (v : ℕ) (n : NodeRule) (r : FileRule) → rule_at g.nodes v ≡ Some n → n.kind ≡ File r → FilesOfRule v n r
+  -- a file node's files, and what they are of
+  pub files-of-rule : (v : ℕ) (n : NodeRule) (r : FileRule) → rule_at g.nodes v ≡ Some n → n.kind ≡ File r → FilesOfRule g stack prefix xs v n r
   files-of-rule v n r rule kind =
       let f = open-files-of g stack prefix xs h.saving.nodes v n r rule kind in
       let x = f.files in
@@ -296,7 +286,7 @@ module _ (g : Graph) (stack : StackValue) (sound : IsGraph g) (prefix : List ℕ
   groups-held now ended = record {
     told = ended.told;
     each = λ v i n bytes rule is.
-        let r = file-kind g stack sound prefix before b xs false held h n v i bytes is in
+        let r = file-kind g stack (past b) n v i bytes is in
         let f = files-of-rule g stack sound prefix before b xs false held h v n r.0 rule r.1 in
         let x = f.files in
         let same : whole_file x.shape (group_of x.count i (written_by g stack given x.node)) ≡ Some bytes =

@@ -16,6 +16,7 @@ pub mod Resting
 pub mod Handing
 pub mod Remains
 pub mod Groups
+pub mod KeptNames
 pub mod RowFiles
 pub mod TornHistory
 pub mod RestLoops

@@ -21,7 +21,7 @@ use Rattle.board_rules.specs.InHand.{hand_node}
 use Rattle.board_rules.specs.RunMeasures.{run_setting}
 use Rattle.board_rules.specs.Saving.{SaveGives, SavedGives, MaySaved}
 use Rattle.board_rules.proofs.Moves.{moves-tell}
-use Rattle.flow_roles.specs.declared.last.Last.TheVariants.{Other}
+use Rattle.flow_roles.specs.Lasts.{said_other}
 use Rattle.flow_roles.specs.Passes.{Pass}
 use Rattle.flow_roles.specs.Feeder.{name_of, parts_of}
 use Rattle.flow_drain.specs.Drains.{IsDrained}
@@ -55,7 +55,7 @@ module _ (g : Graph) (stack : StackValue) (b new : BoardState) where
     pub return-never : (e : NotYours Sealed) → SavedGives {F = Sealed} {E = Unit {0}} name_of rules b drain piece (Err e) new → ⊥
     return-never e c =
         let gives : BoardState → BoardState → Type 0 = λ old n. SavedGives {F = Sealed} {E = Unit {0}} name_of rules old drain piece (Err e) n in
-        never-refused g stack origin drain (alone rules b) (alone rules new) xs fault held piece Other h.to_give (Unit {0}) e
+        never-refused g stack origin drain (alone rules b) (alone rules new) xs fault held piece said_other h.to_give (Unit {0}) e
         (called-alone rules b new refl h.legal h.drained gives c (saveds-add rules b new refl h.legal h.drained piece (Err e) return-may c))
 
     pub return-given : (u : Unit {0}) → SavedGives {F = Sealed} {E = Unit {0}} name_of rules b drain piece (Ok u) new
@@ -68,7 +68,7 @@ module _ (g : Graph) (stack : StackValue) (b new : BoardState) where
           drained = a.drained;
           made = h.made;
           saving =
-              given-back g stack origin drain (alone rules b) (alone rules new) xs fault held piece Other h.to_give (Unit {0}) u
+              given-back g stack origin drain (alone rules b) (alone rules new) xs fault held piece said_other h.to_give (Unit {0}) u
               (called-alone rules b new refl h.legal h.drained gives c a);
         }
 
@@ -94,12 +94,12 @@ module _ (g : Graph) (stack : StackValue) (sound : IsGraph g) (prefix : List ℕ
   begun = record { prefix = prefix; made = h.made; held = before }
 
   pub next-node : IsTrue (is_node s v)
-  next-node = one-node g stack sound begun r refl (alone s b) (alone s b) xs fault held Other h.saving k v node within
+  next-node = one-node g stack sound begun r refl (alone s b) (alone s b) xs fault held said_other h.saving k v node within
 
   pub next-busy : SaveGives {F = Sealed} name_of parts_of s b r v Busy mid → ⊥
   next-busy c =
       let gives : BoardState → BoardState → Type 0 = λ old n. SaveGives {F = Sealed} name_of parts_of s old r v Busy n in
-      one-busy g stack sound begun r refl (alone s b) (alone s mid) xs fault held Other h.saving k v node within
+      one-busy g stack sound begun r refl (alone s b) (alone s mid) xs fault held said_other h.saving k v node within
       (called-alone s b mid refl h.legal h.drained gives c (saves-add s b mid refl h.legal h.drained v Busy next-node c))
 
   pub next-still : SaveGives {F = Sealed} name_of parts_of s b r v NotYet mid → mid ≡ b
@@ -130,7 +130,7 @@ module _ (g : Graph) (stack : StackValue) (sound : IsGraph g) (prefix : List ℕ
           drained = adds.drained;
           made = h.made;
           unsaved =
-              one-taken g stack sound begun r refl (alone s b) (alone s mid) xs fault held Other h.saving k v node within small input group place of
+              one-taken g stack sound begun r refl (alone s b) (alone s mid) xs fault held said_other h.saving k v node within small input group place of
               (called-alone s b mid refl h.legal h.drained gives c adds);
         }
 

@@ -19,7 +19,7 @@ use Rattle.board_rules.specs.declared.answers.Save.TheVariants.{Busy, NotYet, Pi
 use Rattle.board_rules.specs.States.{BoardState, past}
 use Rattle.board_rules.specs.RunMeasures.{run_setting}
 use Rattle.board_rules.specs.Saving.{SaveGives}
-use Rattle.flow_roles.specs.declared.last.Last.{Last}
+use Rattle.flow_roles.specs.declared.last.Said.{Said}
 use Rattle.flow_roles.specs.Passes.{Pass, Called}
 use Rattle.flow_roles.specs.Feeder.{name_of, parts_of}
 use Rattle.flow_roles.proofs.Calls.{hand-before}
@@ -53,7 +53,7 @@ length-put (x ∷ xs) zero y = refl
 length-put (x ∷ xs) (suc k) y = ap suc (length-put xs k y)
 
 module _ (g : Graph) (stack : StackValue) (sound : IsGraph g) (start : Start) (r : ℕ) (drain : r ≡ last_role (run_setting g stack))
-    (p q : Pass) (xs : List NodeFile) (fault : Bool) (held : Option Files) (answered : Last)
+    (p q : Pass) (xs : List NodeFile) (fault : Bool) (held : Option Files) (answers : Said → Said)
     (st : IsSaving g stack start r p xs fault held)
     (k : ℕ) (v : ℕ) (node : (x : NodeFile) → slice_get xs k ≡ Some x → v ≡ x.node) (within : k < length xs) where
   abbrev s : Setting
@@ -64,25 +64,25 @@ module _ (g : Graph) (stack : StackValue) (sound : IsGraph g) (start : Start) (r
       let i = item xs k within in
       subst (λ (w : ℕ). is_node s w ≡ true) (sym (node i.0 i.1)) (of_file g stack start.prefix xs k i.0 sound st.nodes i.1).number
 
-  pub one-busy : Called s (λ old new. SaveGives name_of parts_of s old r v Busy new) answered p q → ⊥
+  pub one-busy : Called s (λ old new. SaveGives name_of parts_of s old r v Busy new) answers p q → ⊥
   one-busy c =
       let gives : BoardState → BoardState → Type 0 = λ old new. SaveGives name_of parts_of s old r v Busy new in
-      let free : is_free r (past (c.between ++ p.seen)) ≡ true = ap is_none (hand-before s gives answered p q r st.role c ∙ st.free) in
+      let free : is_free r (past (c.between ++ p.seen)) ≡ true = ap is_none (hand-before s gives answers p q r st.role c ∙ st.free) in
       false≢true (sym (busy-held s (c.between ++ p.seen) q.seen r v c.answer) ∙ free)
 
-  pub one-nothing : Called s (λ old new. SaveGives name_of parts_of s old r v NotYet new) answered p q → IsSaving g stack start r q xs fault held
+  pub one-nothing : Called s (λ old new. SaveGives name_of parts_of s old r v NotYet new) answers p q → IsSaving g stack start r q xs fault held
   one-nothing c =
       let gives : BoardState → BoardState → Type 0 = λ old new. SaveGives name_of parts_of s old r v NotYet new in
-      saving-still g stack start r gives answered p q xs fault held st c (not_yet-still s (c.between ++ p.seen) q.seen r v c.answer)
+      saving-still g stack start r gives answers p q xs fault held st c (not_yet-still s (c.between ++ p.seen) q.seen r v c.answer)
 
   -- a piece that was handed out is in hand
   pub one-taken : length stack.arrays ≤ 65536 → (input : Sealed) (group place : ℕ) (of : Option ℕ)
-      → Called s (λ old new. SaveGives name_of parts_of s old r v (Piece input group place of) new) answered p q
+      → Called s (λ old new. SaveGives name_of parts_of s old r v (Piece input group place of) new) answers p q
       → HasUnsaved g stack start r q xs fault held (record { piece = input; at = k; group = group; place = place; of = of })
   one-taken small input group place of call =
       let i = item xs k within in
-      let c = subst (λ (w : ℕ). Called s (λ old new. SaveGives name_of parts_of s old r w (Piece input group place of) new) answered p q) (node i.0 i.1) call in
-      in-hand g stack sound start r drain p q xs fault held answered st k i.0 i.1 input group place of c small
+      let c = subst (λ (w : ℕ). Called s (λ old new. SaveGives name_of parts_of s old r w (Piece input group place of) new) answers p q) (node i.0 i.1) call in
+      in-hand g stack sound start r drain p q xs fault held answers st k i.0 i.1 input group place of c small
 
 -- A PIECE'S WRITE
 

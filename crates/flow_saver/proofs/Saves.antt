@@ -128,28 +128,45 @@ given-mine s v (t ∷ b) h d =
       | inr other ↦ rw other (given-skip s v t.entry (mover b) (past b) h drained other ∙ before)
     ]
 
--- the place of the board at which just this was given back
-pub record GivenAt (b : BoardState) (front : Past) : Type 0 where
-  pub later : BoardState
+-- the place of the log before this entry, at which just this was given back
+pub record GivenAt (b : BoardState) (e : Entry) (front : Past) : Type 0 where
+  pub newer : Past
   pub before : BoardState
-  pub board : b ≡ later ++ before
+  pub log : past b ≡ newer ++ e ∷ past before
   pub given : (v : ℕ) → given_back v (past before) ≡ given_back v front
 
-one-more : (t : Told) (b : BoardState) (front : Past) → GivenAt b front → GivenAt (t ∷ b) front
-one-more t b front g = record { later = t ∷ g.later; before = g.before; board = ap (λ (c : BoardState). t ∷ c) g.board; given = g.given }
+one-more : (t : Told) (b : BoardState) (e : Entry) (front : Past) → GivenAt b e front → GivenAt (t ∷ b) e front
+one-more t b e front g =
+    record { newer = t.entry ∷ g.newer; before = g.before; log = ap (λ (P : Past). t.entry ∷ P) g.log; given = g.given }
 
--- a front of the drain's own moves is that of the board there
-pub given-at : (s : Setting) (b : BoardState) → is_legal s (past b) ≡ true → only_drain_saves s (past b) ≡ true → (later front : Past)
-    → past (moves_by (last_role s) b) ≡ later ++ front → GivenAt b front
-given-at s b h d [] front is = record { later = []; before = b; board = refl; given = λ v. given-mine s v b h d ∙ ap (given_back v) is }
-given-at s [] h d (e ∷ later) front is = absurd (cc)
-given-at s (t ∷ b) h d (e ∷ later) front is =
+-- an entry of the drain's own moves stands on the board, with what was given back before it
+pub given-at : (s : Setting) (b : BoardState) → is_legal s (past b) ≡ true → only_drain_saves s (past b) ≡ true → (later : Past) (e : Entry) (front : Past)
+    → past (moves_by (last_role s) b) ≡ later ++ e ∷ front → GivenAt b e front
+given-at s [] h d [] e front is = absurd (cc)
+given-at s [] h d (u ∷ later) e front is = absurd (cc)
+given-at s (t ∷ b) h d [] e front is =
     let legal = (and_parts (is_legal s (past b)) _ h).0 in
     let drained = (and_parts (saved_by_drain s t.entry) (only_drain_saves s (past b)) d).1 in
     elim (cases_Bool (is_some_of (last_role s) (first_some (begun_by t.entry) (mover b)))) [
       | inl mine ↦
-          let all : t.entry ∷ past (moves_by (last_role s) b) ≡ e ∷ (later ++ front) = rw mine at is in
-          let tail : past (moves_by (last_role s) b) ≡ later ++ front = cc in
-          one-more t b front (given-at s b legal drained later front tail)
-      | inr other ↦ one-more t b front (given-at s b legal drained (e ∷ later) front (rw other at is))
+          let all : t.entry ∷ past (moves_by (last_role s) b) ≡ e ∷ front = rw mine at is in
+          let head : t.entry ≡ e = cc in
+          let tail : past (moves_by (last_role s) b) ≡ front = cc in
+          record {
+            newer = [];
+            before = b;
+            log = ap (λ (x : Entry). x ∷ past b) head;
+            given = λ v. given-mine s v b legal drained ∙ ap (given_back v) tail;
+          }
+      | inr other ↦ one-more t b e front (given-at s b legal drained [] e front (rw other at is))
+    ]
+given-at s (t ∷ b) h d (u ∷ later) e front is =
+    let legal = (and_parts (is_legal s (past b)) _ h).0 in
+    let drained = (and_parts (saved_by_drain s t.entry) (only_drain_saves s (past b)) d).1 in
+    elim (cases_Bool (is_some_of (last_role s) (first_some (begun_by t.entry) (mover b)))) [
+      | inl mine ↦
+          let all : t.entry ∷ past (moves_by (last_role s) b) ≡ u ∷ (later ++ e ∷ front) = rw mine at is in
+          let tail : past (moves_by (last_role s) b) ≡ later ++ e ∷ front = cc in
+          one-more t b e front (given-at s b legal drained later e front tail)
+      | inr other ↦ one-more t b e front (given-at s b legal drained (u ∷ later) e front (rw other at is))
     ]

@@ -29,10 +29,10 @@ use Rattle.board_rules.specs.Movers.{first_some, mover, moves_by}
 use Rattle.board_rules.specs.Moving.{moved_at}
 use Rattle.board_rules.specs.RunMeasures.{run_setting}
 use Rattle.board_rules.specs.Saving.{SaveGives}
-use Rattle.flow_roles.specs.declared.last.Last.{Last}
+use Rattle.flow_roles.specs.declared.last.Said.{Said}
 use Rattle.flow_roles.specs.Passes.{Pass, Called, saved_by_drain, only_drain_saves}
 use Rattle.flow_roles.specs.Feeder.{name_of, parts_of}
-use Rattle.flow_roles.proofs.Calls.{Moved, unmoved, moved, role-after}
+use Rattle.flow_roles.proofs.Calls.{Moved, unmoved, moved, role-after, all-true}
 use Rattle.graph_files.specs.NodeFiles.{NodeFile, IsPlaceAfter, HasNumrecs, first_count}
 use Rattle.flow_saver.specs.GivenBack.{given_back, written_by}
 use Rattle.flow_saver.specs.Saver.{Start, IsSaving, HasUnsaved, AreSaved, IsFirstCount, HasSavedSince}
@@ -46,7 +46,7 @@ use Rattle.flow_saver.proofs.Sizes.{first-more, begun-more}
 -- CALLS
 
 module _ (s : Setting) (gives : BoardState → BoardState → Type 0)
-    (answered : Last) (p q : Pass) (r : ℕ) (is : p.role ≡ r) (c : Called s gives answered p q) (t : Told)
+    (answers : Said → Said) (p q : Pass) (r : ℕ) (is : p.role ≡ r) (c : Called s gives answers p q) (t : Told)
     (first : begun_by t.entry ≡ Some r) (logged : q.seen ≡ t ∷ (c.between ++ p.seen)) where
   pub one-entry : q.made ≡ t ∷ p.made
   one-entry =
@@ -142,29 +142,24 @@ pub saved-since : (then_made made new : BoardState) (t : Told) → saver_logs t.
     → HasSavedSince then_made made → HasSavedSince then_made new
 saved-since then_made made new t logs is h = (t ∷ h.0, is ∙ ap (λ (b : BoardState). t ∷ b) h.1, and_from _ _ logs h.2)
 
--- what a move with no condition on its entries says
-all-true : (P : Past) → list_all (λ (e : Entry). true) P ≡ true
-all-true [] = refl
-all-true (e ∷ P) = all-true P
-
-pub any-moved : (s : Setting) (gives : BoardState → BoardState → Type 0) (answered : Last) (p q : Pass) (r : ℕ) → p.role ≡ r
-    → (c : Called s gives answered p q) (t : Told)
+pub any-moved : (s : Setting) (gives : BoardState → BoardState → Type 0) (answers : Said → Said) (p q : Pass) (r : ℕ) → p.role ≡ r
+    → (c : Called s gives answers p q) (t : Told)
     → begun_by t.entry ≡ Some r → q.seen ≡ moved_at s 0 t (c.between ++ p.seen) → Moved s (λ (e : Entry). true) r t (c.between ++ p.seen) p q
-any-moved s gives answered p q r is c t first logged =
-    moved s gives answered p q r is c (λ (e : Entry). true) 0 t logged first (λ e h. refl) refl (all-true (past p.made))
+any-moved s gives answers p q r is c t first logged =
+    moved s gives answers p q r is c (λ (e : Entry). true) 0 t logged first (λ e h. refl) refl (all-true (past p.made))
 
 -- a call that changed nothing
 pub saving-still : (g : Graph) (stack : StackValue) (start : Start) (r : ℕ) (gives : BoardState → BoardState → Type 0)
-    (answered : Last) (p q : Pass) (xs : List NodeFile) (fault : Bool) (held : Option Files)
-    (st : IsSaving g stack start r p xs fault held) (c : Called (run_setting g stack) gives answered p q) → q.seen ≡ c.between ++ p.seen
+    (answers : Said → Said) (p q : Pass) (xs : List NodeFile) (fault : Bool) (held : Option Files)
+    (st : IsSaving g stack start r p xs fault held) (c : Called (run_setting g stack) gives answers p q) → q.seen ≡ c.between ++ p.seen
     → IsSaving g stack start r q xs fault held
-saving-still g stack start r gives answered p q xs fault held st c still =
+saving-still g stack start r gives answers p q xs fault held st c still =
     let s = run_setting g stack in
-    let made = unmoved s gives answered p q r st.role c still in
+    let made = unmoved s gives answers p q r st.role c still in
     let legal = subst (λ (b : BoardState). is_legal s (past b) ≡ true) still (and_parts (is_legal s (past q.seen)) _ c.legal).0 in
     let saved = saved-more g stack start (past p.made) c.between p.seen xs fault held legal st.saved in
     record {
-      role = role-after s gives answered p q r st.role c;
+      role = role-after s gives answers p q r st.role c;
       moves = subst (λ (b : BoardState). HasSavedSince start.made b) (sym made) st.moves;
       free = subst (λ (b : BoardState). hand r (past b) ≡ None) (sym made) st.free;
       alike = subst (λ (b : BoardState). (v : ℕ) → saves v (past b) ≡ given_back v (past b)) (sym made) st.alike;
@@ -176,10 +171,10 @@ saving-still g stack start r gives answered p q xs fault held st c still =
     }
 
 -- what was given back is what the saves of the log took
-pub all-given : (s : Setting) (gives : BoardState → BoardState → Type 0) (answered : Last) (p q : Pass) (r : ℕ) → p.role ≡ r
-    → r ≡ last_role s → Called s gives answered p q
+pub all-given : (s : Setting) (gives : BoardState → BoardState → Type 0) (answers : Said → Said) (p q : Pass) (r : ℕ) → p.role ≡ r
+    → r ≡ last_role s → Called s gives answers p q
     → ((v : ℕ) → saves v (past q.made) ≡ given_back v (past q.made)) → (v : ℕ) → standing_saves v (past q.seen) ≡ given_back v (past q.made)
-all-given s gives answered p q r is drain c alike v =
+all-given s gives answers p q r is drain c alike v =
     let legal = (and_parts (is_legal s (past q.seen)) _ c.legal).0 in
     let mine : moves_by (last_role s) q.seen ≡ q.made = subst (λ (k : ℕ). moves_by k q.seen ≡ q.made) (is ∙ drain) c.exact in
     saves-stand s v (past q.seen) legal c.drained ∙ saves-mine s v q.seen c.drained ∙ ap (λ (b : BoardState). saves v (past b)) mine ∙ alike v
@@ -187,10 +182,10 @@ all-given s gives answered p q r is drain c alike v =
 -- A PIECE
 
 module _ (g : Graph) (stack : StackValue) (sound : IsGraph g) (start : Start) (r : ℕ) (drain : r ≡ last_role (run_setting g stack))
-    (p q : Pass) (xs : List NodeFile) (fault : Bool) (held : Option Files) (answered : Last)
+    (p q : Pass) (xs : List NodeFile) (fault : Bool) (held : Option Files) (answers : Said → Said)
     (st : IsSaving g stack start r p xs fault held) (k : ℕ) (x : NodeFile) (at : slice_get xs k ≡ Some x) (input : Sealed) (group place : ℕ) (of : Option ℕ)
     (c : Called (run_setting g stack)
-    (λ old new. SaveGives name_of parts_of (run_setting g stack) old r x.node (Piece input group place of) new) answered p q) where
+    (λ old new. SaveGives name_of parts_of (run_setting g stack) old r x.node (Piece input group place of) new) answers p q) where
   abbrev s : Setting
   s = run_setting g stack
 
@@ -207,13 +202,13 @@ module _ (g : Graph) (stack : StackValue) (sound : IsGraph g) (start : Start) (r
   given = piece-given s here q.seen r x.node input group place of c.answer
 
   pub taken-made : q.made ≡ t ∷ p.made
-  taken-made = one-entry s gives answered p q r st.role c t refl given.logged
+  taken-made = one-entry s gives answers p q r st.role c t refl given.logged
 
   pub file : OfFile g stack x
   file = of_file g stack start.prefix xs k x sound st.nodes at
 
   pub legal : is_legal s (past here) ≡ true
-  legal = legal-here s gives answered p q r st.role c t refl given.logged
+  legal = legal-here s gives answers p q r st.role c t refl given.logged
 
   history : is_history s (past here) ≡ true
   history =
@@ -223,10 +218,10 @@ module _ (g : Graph) (stack : StackValue) (sound : IsGraph g) (start : Start) (r
 
   pub many : length (standing_saves x.node (past here)) ≡ length (written_by g stack (past p.made) x.node)
   many =
-      let drained = drained-here s gives answered p q r st.role c t refl given.logged in
+      let drained = drained-here s gives answers p q r st.role c t refl given.logged in
       ap length (saves-stand s x.node (past here) legal drained ∙ saves-mine s x.node here drained
       ∙ ap (λ (j : ℕ). saves x.node (past (moves_by j here))) (sym drain)
-      ∙ ap (λ (b : BoardState). saves x.node (past b)) (mine-before s gives answered p q r st.role c t refl given.logged) ∙ st.alike x.node)
+      ∙ ap (λ (b : BoardState). saves x.node (past b)) (mine-before s gives answers p q r st.role c t refl given.logged) ∙ st.alike x.node)
       ∙ sym (st.whole x.node)
 
   pub upcoming : IsNext g stack x (past here) (length (written_by g stack (past p.made) x.node)) input.name group place of
@@ -263,7 +258,7 @@ module _ (g : Graph) (stack : StackValue) (sound : IsGraph g) (start : Start) (r
       numrecs-of saved x.current refl
 
   took : Moved s (λ (e : Entry). true) r t here p q
-  took = any-moved s gives answered p q r st.role c t refl given.logged
+  took = any-moved s gives answers p q r st.role c t refl given.logged
 
   legal-then : is_legal s (past (t ∷ here)) ≡ true
   legal-then = subst (λ (b : BoardState). is_legal s (past b) ≡ true) given.logged (and_parts (is_legal s (past q.seen)) _ c.legal).0
@@ -284,7 +279,7 @@ module _ (g : Graph) (stack : StackValue) (sound : IsGraph g) (start : Start) (r
       first-more s (t ∷ []) here x.node x.count group x.late (first_count x.late of) legal-then
       (next-first g stack x (past here) (length (written_by g stack (past p.made) x.node)) input.name group place of upcoming) in
       record {
-        role = role-after s gives answered p q r st.role c;
+        role = role-after s gives answers p q r st.role c;
         moves = saved-since start.made p.made q.made t refl taken-made st.moves;
         node = x;
         listed = at;

@@ -1,5 +1,5 @@
 -- What stands after a fault in the end of the files, by the finished log.
-use Rattle.std.proofs.Common.{◌≡◌, ◌≢◌, ◌⊎◌, ℕ, zero, suc, ◌+◌, ◌<◌, ◌≤◌, Bool, true, false, List, [], ◌∷◌, ◌++◌, length, map, refl, sym, ap, subst, ◌∙◌, arith}
+use Rattle.std.proofs.Common.{◌≡◌, ◌≢◌, ◌⊎◌, ℕ, zero, suc, ◌+◌, ◌/◌, ◌<◌, ◌≤◌, Bool, true, false, List, [], ◌∷◌, ◌++◌, length, map, refl, sym, ap, subst, ◌∙◌, arith}
 use Rattle.std.proofs.Common.{inl, inr, Option, Some, None}
 use Rattle.std.specs.Prelude.{slice_get, IsSome, is_some}
 use Rattle.std.proofs.lemmas.Bool.{and_parts}
@@ -7,11 +7,10 @@ use Rattle.std.proofs.lemmas.Option.{same_Some}
 use Rattle.std.proofs.lemmas.List.{append-nil}
 use Rattle.nd_base.specs.Array.{Array, StackValue}
 use Rattle.nd_base.specs.GraphRules.{IsGraph, rule_at}
-use Rattle.nd_base.specs.declared.attribute.FileShape.{FileShape}
 use Rattle.nd_base.specs.declared.frame.FrameName.{FrameName}
 use Rattle.nd_base.specs.declared.graph.Graph.{Graph}
 use Rattle.nd_base.specs.declared.graph.NodeRule.{NodeRule}
-use Rattle.edge_traits.specs.Files.{Files, HasFile, file_at}
+use Rattle.edge_traits.specs.Files.{Files, file_at}
 use Rattle.cdf_write.specs.Layout.{layout}
 use Rattle.file_out.specs.Streams.{Stream, begun_file}
 use Rattle.flow_journal.specs.Setting.{Setting, last_role}
@@ -24,37 +23,29 @@ use Rattle.board_rules.specs.Movers.{moves_by}
 use Rattle.board_rules.specs.RunMeasures.{run_setting}
 use Rattle.graph_files.specs.Groups.{group_of, whole_file, file_of, HasBytes}
 use Rattle.graph_files.specs.NodeFiles.{NodeFile, EndTorn, name_of, group_file, open_at}
-use Rattle.graph_files.specs.NodeFileLaws.{cases_eq, none-open, open-here}
+use Rattle.graph_files.specs.NodeFileLaws.{cases_eq, open-here}
 use Rattle.graph_files.specs.OpenFiles.{closed}
 use Rattle.graph_files.specs.OpenFileLaws.{nodes-ordered}
 use Rattle.graph_files.specs.EndedFiles.{AllEndStops, ended_to, open_group}
-use Rattle.graph_files.specs.OutFiles.{file_shape, group_name, is_stream}
+use Rattle.graph_files.specs.OutFiles.{group_name, is_stream}
 use Rattle.run_laws.specs.Results.{contents}
 use Rattle.flow_journal.specs.Unsaved.{standing_saves}
 use Rattle.flow_saver.specs.GivenBack.{written_by}
 use Rattle.flow_saver.specs.HistoryFiles.{kind_group}
 use Rattle.graph_files.specs.Interrupted.{IsCountOf, IsBegunAs, IsBegunAt}
-use Rattle.graph_files.specs.TornGroups.{IsTornName}
-use Rattle.flow_saver.specs.Ending.{IsTornHistory}
+use Rattle.graph_files.specs.TornGroups.{AreTornGroups}
+use Rattle.flow_saver.specs.Ending.{IsFailedCall, IsTornHistory}
 use Rattle.flow_saver.specs.Saver.{IsFirstCount}
 use Rattle.flow_saver.specs.Remaining.{IsSavingAlone}
-use Rattle.graph_files.proofs.BegunBytes.{begun-front, begun-torn, begun-whole, file-some, full-file, GroupHas, Nothing, Whole, Opened, group-has}
-use Rattle.graph_files.proofs.Ends.{ended-at}
-use Rattle.graph_files.proofs.Torn.{torn-at}
+use Rattle.graph_files.proofs.BegunBytes.{begun-front, begun-torn, begun-whole, file-some, GroupHas, Nothing, Whole, Opened, group-has, whole-is, whole-long}
+use Rattle.graph_files.proofs.Ends.{closed-file, ended-at, whole-some}
+use Rattle.graph_files.proofs.Torn.{told-file}
+use Rattle.graph_files.proofs.TornEnds.{names-end}
+use Rattle.graph_files.proofs.TornGroups.{torn-groups}
 use Rattle.flow_saver.proofs.Groups as groups
 use Rattle.flow_saver.proofs.Groups.{some-is}
 use Rattle.flow_saver.proofs.Saves.{given-mine}
-use Rattle.flow_saver.proofs.TornHistory.{in-graph, one-index, told-file, whole-bytes, whole-some, count-by}
-
-closed-file : (x : NodeFile) (arrays : List Array) (i : ℕ) → group_file (closed x) arrays i ≡ whole_file x.shape (group_of x.count i arrays)
-closed-file x arrays i = ap (λ o. file_of o x.shape (group_of x.count i arrays)) (none-open (closed x) (length arrays) i refl)
-
-whole-is : (shape : FileShape) (zs : List Array) → 1 ≤ length zs → whole_file shape zs ≡ Some (layout shape zs)
-whole-is shape [] some = absurd (omega arith)
-whole-is shape (a ∷ zs) some = refl
-
-whole-long : (shape : FileShape) (zs : List Array) → IsSome (whole_file shape zs) → 1 ≤ length zs
-whole-long shape zs h = let o = some-is (whole_file shape zs) h in (whole-bytes shape zs o.0 o.1).1
+use Rattle.flow_saver.proofs.TornHistory.{in-graph, one-index, whole-bytes, count-by}
 
 module _ (g : Graph) (stack : StackValue) (sound : IsGraph g) (prefix : List ℕ) (before : Option Files)
     (b : BoardState) (xs : List NodeFile) (held now : Option Files)
@@ -199,6 +190,36 @@ module _ (g : Graph) (stack : StackValue) (sound : IsGraph g) (prefix : List ℕ
         ap (λ (w : Option (List ℕ)). is_some w)
         (ap (λ w. file_of w node.shape (group_of node.count torn (F node.node))) (open-here node (length (F node.node)) torn refl ∙ is))
 
+    -- what the saves of the log took, which was all given back
+    abbrev saved_all : ℕ → List Array
+    saved_all v = contents g.nodes stack.arrays (standing_saves v (past b))
+
+    all : (v : ℕ) → F v ≡ saved_all v
+    all v = groups.written-is g stack sound prefix before b xs false held h v
+
+    count : (j i : ℕ) (x : NodeFile) (f : Stream) → slice_get xs j ≡ Some x → x.current ≡ Some f → i ≡ length (F x.node) / x.count
+        → IsCountOf x.late (length (group_of x.count i (saved_all x.node))) f.numrecs
+    count j i x f at open_ here =
+        let first = subst (λ (w : ℕ). IsFirstCount (past b) x.node x.count w x.late f.numrecs) (sym here) (h.saving.saved.1 j x f at open_) in
+        subst (λ (zs : List Array). IsCountOf x.late (length (group_of x.count i zs)) f.numrecs) (all x.node)
+        (count-by (past b) x i (F x.node) x.late f.numrecs (all-written j x at) first)
+
+    -- the files come in the order of their nodes
+    ordered : (j k : ℕ) (x y : NodeFile) → slice_get xs j ≡ Some x → slice_get xs k ≡ Some y → j < k → x.node < y.node
+    ordered j k x y at_x at_y less =
+        nodes-ordered g stack prefix 1 g.nodes j k (closed x) (closed y) (in-graph g stack sound prefix xs h.saving.nodes j x at_x)
+        (in-graph g stack sound prefix xs h.saving.nodes k y at_y) less
+
+    abbrev torn-all : AreTornGroups g stack prefix saved_all F before now
+    torn-all =
+        torn-groups g stack prefix xs (groups.files-of-rule g stack sound prefix before b xs false held h) saved_all F before now node.node torn [] true
+        (names-end xs saved_all F before before held now e (e.stops.0.told ∙ sym h.saving.saved.0.told) some-at (λ j x at. h.saving.saved.0.each j x at)
+        (λ j x at. all x.node) count (λ v. ([], sym (all v) ∙ sym (append-nil (F v)))) ordered)
+
+    failed-call : IsFailedCall g stack [] torn-all.node torn-all.ending torn-all.coming
+    unfolding torn-groups
+    failed-call = refl
+
     pub torn-end : IsTornHistory g stack prefix (past b) before now
     torn-end = record {
       told = e.stops.0.told;
@@ -226,80 +247,8 @@ module _ (g : Graph) (stack : StackValue) (sound : IsGraph g) (prefix : List ℕ
       written = F;
       given =
           λ v. ap (λ (ns : List FrameName). contents g.nodes stack.arrays ns) (sym (given-mine s v b (and_parts (is_legal s (past b)) _ h.legal).0 h.drained));
-      groups = record {
-        first = λ v. ([], sym (groups.written-is g stack sound prefix before b xs false held h v) ∙ sym (append-nil (F v)));
-        node = node.node;
-        group = torn;
-        coming = [];
-        ending = true;
-        all = λ yes v n r rule kind. groups.written-is g stack sound prefix before b xs false held h v;
-        ended = λ yes v i n r rule kind off first some.
-            let f = groups.files-of-rule g stack sound prefix before b xs false held h v n r rule kind in
-            let x = f.files in
-            let off_ : (x.node ≢ node.node) ⊎ (i ≢ torn) = elim off [ inl ne ↦ inl (λ eq. ne (sym f.node ∙ eq)) | inr ne ↦ inr ne ] in
-            let same : group_of x.count i (F x.node) ≡ group_of r.count i (F v) =
-            ap (λ (c : ℕ). group_of c i (F x.node)) f.count ∙ ap (λ (w : ℕ). group_of r.count i (F w)) f.node in
-            let has = ended-has f.at x f.listed i off_ (omega (arith, f.node, first)) (subst (λ (zs : List Array). 1 ≤ length zs) (sym same) some) in
-            subst (λ (name : List ℕ). HasFile now name (layout (file_shape g stack v) (group_of r.count i (F v)))) (f.named i)
-            (subst (λ (sh : FileShape). HasFile now (name_of x i) (layout sh (group_of r.count i (F v)))) f.shape
-            (subst (λ (zs : List Array). HasFile now (name_of x i) (layout x.shape zs)) same has));
-        whole = λ v i n r rule kind off full.
-            let f = groups.files-of-rule g stack sound prefix before b xs false held h v n r rule kind in
-            let x = f.files in
-            let off_ : (x.node ≢ node.node) ⊎ (i ≢ torn) = elim off [ inl ne ↦ inl (λ eq. ne (sym f.node ∙ eq)) | inr ne ↦ inr ne ] in
-            let full_ : length (group_of x.count i (F x.node)) ≡ x.count =
-            ap (λ (c : ℕ). length (group_of c i (F x.node))) f.count ∙ ap (λ (w : ℕ). length (group_of r.count i (F w))) f.node ∙ full ∙ sym f.count in
-            let has = whole-has f.at x f.listed i off_ full_ in
-            subst (λ (name : List ℕ). HasFile now name (layout (file_shape g stack v) (group_of r.count i (F v)))) (f.named i)
-            (subst (λ (sh : FileShape). HasFile now (name_of x i) (layout sh (group_of r.count i (F v)))) f.shape
-            (subst (λ (c : ℕ). HasFile now (name_of x i) (layout x.shape (group_of c i (F v)))) f.count
-            (subst (λ (w : ℕ). HasFile now (name_of x i) (layout x.shape (group_of x.count i (F w)))) f.node has)));
-        begun = λ v i n r rule kind off behind some short.
-            let f = groups.files-of-rule g stack sound prefix before b xs false held h v n r rule kind in
-            let x = f.files in
-            let off_ : (x.node ≢ node.node) ⊎ (i ≢ torn) = elim off [ inl ne ↦ inl (λ eq. ne (sym f.node ∙ eq)) | inr ne ↦ inr ne ] in
-            let same : group_of x.count i (F x.node) ≡ group_of r.count i (F v) =
-            ap (λ (c : ℕ). group_of c i (F x.node)) f.count ∙ ap (λ (w : ℕ). group_of r.count i (F w)) f.node in
-            let all : group_of x.count i (F x.node) ≡ group_of r.count i (contents g.nodes stack.arrays (standing_saves v (past b))) =
-            same ∙ ap (group_of r.count i) (groups.written-is g stack sound prefix before b xs false held h v) in
-            let is = begun-has f.at x f.listed i off_ (let later = behind refl in omega (arith, f.node, later))
-            (subst (λ (zs : List Array). 1 ≤ length zs) (sym same) some)
-            (omega (arith, ap (λ (zs : List Array). length zs) same, short, f.count)) in (
-              is.0,
-              subst (λ (late : Bool). IsCountOf late (length (group_of r.count i (contents g.nodes stack.arrays (standing_saves v (past b))))) is.0) f.late
-                  (subst (λ (zs : List Array). IsCountOf x.late (length zs) is.0) all is.1),
-              subst (λ (name : List ℕ). HasFile now name (begun_file (file_shape g stack v) is.0 (group_of r.count i (F v)))) (f.named i)
-                  (subst (λ (sh : FileShape). HasFile now (name_of x i) (begun_file sh is.0 (group_of r.count i (F v)))) f.shape
-                  (subst (λ (zs : List Array). HasFile now (name_of x i) (begun_file x.shape is.0 zs)) same is.2)),
-            );
-        untouched = λ v i n r rule kind off some none_.
-            let all = ap (group_of r.count i) (groups.written-is g stack sound prefix before b xs false held h v) in
-            absurd (omega (arith, some, ap (λ (zs : List Array). length zs) (sym all ∙ none_)));
-        torn = λ n r rule kind.
-            let f = groups.files-of-rule g stack sound prefix before b xs false held h node.node n r rule kind in
-            let x = f.files in
-            let here : x ≡ node = torn-here f.at x f.listed (one-index g stack sound prefix xs h.saving.nodes f.at e.at x node f.listed e.listed f.node) in
-            let final = ap (group_of r.count torn) (groups.written-is g stack sound prefix before b xs false held h node.node) in
-            torn-at (is_stream r.mode) (file_shape g stack node.node) (group_of r.count torn (contents g.nodes stack.arrays (standing_saves node.node (past b))))
-            (group_of r.count torn (F node.node)) [] before now (group_name prefix n.name torn) (λ told.
-            let Q : NodeFile → Type 0 =
-            λ z. IsTornName z.late z.shape (group_of z.count torn (F z.node)) (group_of z.count torn (F z.node)) []
-            (file_at before (name_of z torn)) (file_at now (name_of z torn)) in
-            let q = subst Q (sym here) (torn-name told node.current refl e.stops.1) in
-            subst (λ (name : List ℕ). IsTornName (is_stream r.mode) (file_shape g stack node.node) (group_of r.count torn (contents g.nodes stack.arrays
-            (standing_saves node.node (past b)))) (group_of r.count torn (F node.node)) [] (file_at before name) (file_at now name)) (f.named torn)
-            (subst (λ (zs : List Array). IsTornName (is_stream r.mode) (file_shape g stack node.node) zs (group_of r.count torn (F node.node)) []
-            (file_at before (name_of x torn)) (file_at now (name_of x torn))) final
-            (subst (λ (w : ℕ). IsTornName (is_stream r.mode) (file_shape g stack node.node) (group_of r.count torn (F w)) (group_of r.count torn (F w)) []
-            (file_at before (name_of x torn)) (file_at now (name_of x torn))) f.node
-            (subst (λ (c : ℕ). IsTornName (is_stream r.mode) (file_shape g stack node.node) (group_of c torn (F x.node)) (group_of c torn (F x.node)) []
-            (file_at before (name_of x torn)) (file_at now (name_of x torn))) f.count
-            (subst (λ (sh : FileShape). IsTornName (is_stream r.mode) sh (group_of x.count torn (F x.node)) (group_of x.count torn (F x.node)) []
-            (file_at before (name_of x torn)) (file_at now (name_of x torn))) f.shape
-            (subst (λ (late : Bool). IsTornName late x.shape (group_of x.count torn (F x.node)) (group_of x.count torn (F x.node)) []
-            (file_at before (name_of x torn)) (file_at now (name_of x torn))) f.late q))))));
-      };
-      one = let e : 0 ≤ 1 = omega arith in e;
+      groups = torn-all;
+      call = failed-call;
     }
       where
         ended-back : (n : ℕ) (zs : List NodeFile) (k : ℕ) (y : NodeFile) → slice_get (ended_to n zs) k ≡ Some y → slice_get (map closed zs) k ≡ Some (closed y)
@@ -330,83 +279,3 @@ module _ (g : Graph) (stack : StackValue) (sound : IsGraph g) (prefix : List ℕ
                   let is : x ≡ y = same_Some x y (sym open_.1 ∙ at_y) in
                   open-long k x at l (subst (λ (z : NodeFile). IsSome (group_file z (F z.node) l)) (sym is) named)
             ]
-
-        whole-has : (j : ℕ) (x : NodeFile) → slice_get xs j ≡ Some x → (i : ℕ) → (x.node ≢ node.node) ⊎ (i ≢ torn)
-            → length (group_of x.count i (F x.node)) ≡ x.count → HasFile now (name_of x i) (layout x.shape (group_of x.count i (F x.node)))
-        whole-has j x at i off full =
-            let some : 1 ≤ length (group_of x.count i (F x.node)) = omega (arith, full, some-at j x at) in
-            elim (ended-at (e.at + 1) xs j x at) [
-              | inl ended ↦
-                  subst (HasBytes now (name_of x i)) (closed-file x (F x.node) i ∙ whole-is x.shape (group_of x.count i (F x.node)) some)
-                  (e.stops.0.each j (closed x) i ended.1 off)
-              | inr open_ ↦
-                  subst (HasBytes now (name_of x i)) (full-file x (F x.node) i (some-at j x at) full
-                  (group-has x (F x.node) (some-at j x at) (h.saving.saved.0.each j x at).begun i)) (e.stops.0.each j x i open_.1 off)
-            ]
-
-        -- the files come in the order of their nodes
-        before-node : (j : ℕ) (x : NodeFile) → slice_get xs j ≡ Some x → j < e.at → x.node < node.node
-        before-node j x at less =
-            nodes-ordered g stack prefix 1 g.nodes j e.at (closed x) (closed node) (in-graph g stack sound prefix xs h.saving.nodes j x at)
-            (in-graph g stack sound prefix xs h.saving.nodes e.at node e.listed) less
-
-        after-node : (j : ℕ) (x : NodeFile) → slice_get xs j ≡ Some x → e.at < j → node.node < x.node
-        after-node j x at less =
-            nodes-ordered g stack prefix 1 g.nodes e.at j (closed node) (closed x) (in-graph g stack sound prefix xs h.saving.nodes e.at node e.listed)
-            (in-graph g stack sound prefix xs h.saving.nodes j x at) less
-
-        ended-has : (j : ℕ) (x : NodeFile) → slice_get xs j ≡ Some x → (i : ℕ) → (x.node ≢ node.node) ⊎ (i ≢ torn) → x.node ≤ node.node
-            → 1 ≤ length (group_of x.count i (F x.node)) → HasFile now (name_of x i) (layout x.shape (group_of x.count i (F x.node)))
-        ended-has j x at i off first some =
-            elim (ended-at (e.at + 1) xs j x at) [
-              | inl ended ↦
-                  subst (HasBytes now (name_of x i)) (closed-file x (F x.node) i ∙ whole-is x.shape (group_of x.count i (F x.node)) some)
-                  (e.stops.0.each j (closed x) i ended.1 off)
-              | inr open_ ↦ absurd (omega (arith, first, after-node j x at (omega (arith, open_.0))))
-            ]
-
-        open-count : (j : ℕ) (x : NodeFile) (at : slice_get xs j ≡ Some x) (i : ℕ) → 1 ≤ length (group_of x.count i (F x.node))
-            → length (group_of x.count i (F x.node)) < x.count → GroupHas x (F x.node) i
-            → (numrecs : Option ℕ) × IsCountOf x.late (length (group_of x.count i (F x.node))) numrecs
-            × (group_file x (F x.node) i ≡ Some (begun_file x.shape numrecs (group_of x.count i (F x.node))))
-        open-count j x at i some short (Nothing none_) =
-            absurd (file-some (open_at x (length (F x.node)) i) x.shape (group_of x.count i (F x.node)) some none_)
-        open-count j x at i some short (Whole full is) = absurd (omega (arith, full, short))
-        open-count j x at i some short (Opened f open_ here is) =
-            let first = subst (λ (w : ℕ). IsFirstCount (past b) x.node x.count w x.late f.numrecs) (sym here) (h.saving.saved.1 j x f at open_) in
-            (f.numrecs, count-by (past b) x i (F x.node) x.late f.numrecs (all-written j x at) first, is)
-
-        begun-has : (j : ℕ) (x : NodeFile) → slice_get xs j ≡ Some x → (i : ℕ) → (x.node ≢ node.node) ⊎ (i ≢ torn) → node.node < x.node
-            → 1 ≤ length (group_of x.count i (F x.node)) → length (group_of x.count i (F x.node)) < x.count
-            → (numrecs : Option ℕ) × IsCountOf x.late (length (group_of x.count i (F x.node))) numrecs
-            × HasFile now (name_of x i) (begun_file x.shape numrecs (group_of x.count i (F x.node)))
-        begun-has j x at i off later some short =
-            elim (ended-at (e.at + 1) xs j x at) [
-              | inl ended ↦ elim (cases_eq j e.at) [
-                | inl here ↦ absurd (omega (arith, later, ap (λ (z : NodeFile). z.node) (torn-here j x at here)))
-                | inr ne ↦ absurd (omega (arith, later, before-node j x at (omega (arith, ended.0, ne))))
-              ]
-              | inr open_ ↦
-                  let is = open-count j x at i some short (group-has x (F x.node) (some-at j x at) (h.saving.saved.0.each j x at).begun i) in
-                  (is.0, is.1, subst (HasBytes now (name_of x i)) is.2 (e.stops.0.each j x i open_.1 off))
-            ]
-
-        torn-name : is_some now ≡ true → (o : Option Stream) → node.current ≡ o → EndTorn o node torn (group_of node.count torn (F node.node)) held now
-            → IsTornName node.late node.shape (group_of node.count torn (F node.node)) (group_of node.count torn (F node.node)) []
-            (file_at before (name_of node torn)) (file_at now (name_of node torn))
-        torn-name told None is t = absurd t
-        torn-name told (Some f) is t =
-            let zs = group_of node.count torn (F node.node) in
-            let made : group_file node (F node.node) torn ≡ Some (begun_file node.shape f.numrecs zs) =
-            ap (λ w. file_of w node.shape zs) (open-here node (length (F node.node)) torn refl ∙ is) in
-            let has = subst (HasBytes held (name_of node torn)) made ((h.saving.saved.0.each e.at node e.listed).each torn) in
-            record {
-              rest = [];
-              next = sym (append-nil (zs ++ []) ∙ append-nil zs);
-              numrecs = f.numrecs;
-              count = count-by (past b) node torn (F node.node) node.late f.numrecs (all-written e.at node e.listed) (h.saving.saved.1 e.at node f e.listed is);
-              begun = true;
-              was = file_at held (name_of node torn);
-              stood = told-file held (name_of node torn) (begun_file node.shape f.numrecs zs) (told-then told) has;
-              torn = t;
-            }

@@ -14,7 +14,7 @@ use Rattle.nd_base.specs.declared.attribute.FileShape.{FileShape}
 use Rattle.nd_base.specs.declared.frame.FrameName.{FrameName}
 use Rattle.nd_base.specs.declared.graph.Graph.{Graph}
 use Rattle.nd_base.specs.declared.graph.NodeRule.{NodeRule}
-use Rattle.edge_traits.specs.Files.{Files, HasFile, file_at}
+use Rattle.edge_traits.specs.Files.{Files, file_at}
 use Rattle.cdf_write.specs.Layout.{layout}
 use Rattle.file_out.specs.Streams.{Stream, begun_file}
 use Rattle.nd_stack.specs.KeptStacks.{IsKeptStack}
@@ -29,27 +29,28 @@ use Rattle.flow_journal.specs.Finished.{is_finished}
 use Rattle.board_rules.specs.States.{BoardState, past}
 use Rattle.board_rules.specs.Movers.{moves_by}
 use Rattle.board_rules.specs.RunMeasures.{run_setting}
-use Rattle.board_rules.proofs.Pasts.{past-append}
 use Rattle.flow_journal.specs.Unsaved.{standing_saves}
 use Rattle.run_laws.specs.Results.{contents}
 use Rattle.graph_files.specs.Groups.{group_of, whole_file, file_of, HasBytes}
 use Rattle.graph_files.specs.GroupLaws.{group-is, group-more, length-group}
-use Rattle.graph_files.specs.NodeFiles.{NodeFile, IsOpenAfter, name_of, group_file, open_at}
+use Rattle.graph_files.specs.NodeFiles.{NodeFile, IsOpenAfter, name_of, group_file}
 use Rattle.graph_files.specs.NodeFileLaws.{cases_eq, empty, groups-differ, none-is, open-here}
 use Rattle.graph_files.specs.OpenFiles.{closed, file_nodes, IsElsewhere}
 use Rattle.graph_files.specs.OpenFileLaws.{file_nodes-apart, far-none}
-use Rattle.graph_files.specs.OutFiles.{file_shape, group_name, is_stream}
+use Rattle.graph_files.specs.OutFiles.{group_name, is_stream}
 use Rattle.graph_files.proofs.Writes.{small-group, next-place}
 use Rattle.flow_saver.specs.GivenBack.{given_back, written_by}
 use Rattle.flow_saver.specs.HistoryFiles.{kind_group}
 use Rattle.graph_files.specs.Interrupted.{IsCountOf, IsBegunAs, AsBefore, IsBegunAt}
-use Rattle.graph_files.specs.TornGroups.{HasStood, IsTornName}
-use Rattle.flow_saver.specs.Ending.{IsTornHistory}
+use Rattle.graph_files.specs.TornGroups.{HasStood, IsTornAt, IsTornName, AreTornGroups}
+use Rattle.flow_saver.specs.Ending.{IsFailedCall, IsTornHistory}
 use Rattle.flow_saver.specs.Saver.{IsTornSince, IsFirstCount, back_of}
 use Rattle.flow_saver.specs.Remaining.{IsSavingAlone}
 use Rattle.graph_files.proofs.BegunBytes.{count-one, begun-front, begun-torn, begun-whole, group-front, group-full, GroupHas, Nothing, Whole, Opened}
-use Rattle.graph_files.proofs.BegunBytes.{file-some, full-file, group-has, group-apart, none-behind}
-use Rattle.graph_files.proofs.Torn.{torn-at, torn-sized}
+use Rattle.graph_files.proofs.BegunBytes.{group-has, group-apart, none-behind}
+use Rattle.graph_files.proofs.Ends.{whole-some}
+use Rattle.graph_files.proofs.Torn.{told-file, torn-at, torn-sized}
+use Rattle.graph_files.proofs.TornGroups.{NamesHave, names-but, torn-groups}
 use Rattle.flow_saver.proofs.Groups as groups
 use Rattle.flow_saver.proofs.Groups.{some-is}
 use Rattle.flow_saver.proofs.Puts.{puts-few}
@@ -77,17 +78,9 @@ contents-append g stack xs ys = flat_map-append (λ (n : FrameName). listed (con
 
 -- BYTES
 
-pub told-file : (o : Option Files) (name bytes : List ℕ) → is_some o ≡ true → HasFile o name bytes → file_at o name ≡ Some bytes
-told-file None name bytes told has = absurd (false≢true told)
-told-file (Some m) name bytes told has = has
-
 pub whole-bytes : (shape : FileShape) (zs : List Array) (bytes : List ℕ) → whole_file shape zs ≡ Some bytes → (bytes ≡ layout shape zs) × (1 ≤ length zs)
 whole-bytes shape [] bytes h = let none_ : None ≡ Some bytes = h in absurd (cc)
 whole-bytes shape (a ∷ zs) bytes h = (same_Some bytes (layout shape (a ∷ zs)) (sym h), omega arith)
-
-pub whole-some : (shape : FileShape) (zs : List Array) → 1 ≤ length zs → IsSome (whole_file shape zs)
-whole-some shape [] some = absurd (omega arith)
-whole-some shape (a ∷ zs) some = refl
 
 none-some : (o : Option (List ℕ)) → o ≡ None → IsSome o → ⊥
 none-some None h s = false≢true s
@@ -393,20 +386,27 @@ module _ (g : Graph) (stack : StackValue) (sound : IsGraph g) (prefix : List ℕ
       let front = group-front x.count i (W x.node) r.0 in
       omega (arith, ap length (ap (group_of x.count i) r.1 ∙ front.1), length-append (group_of x.count i (W x.node)) front.0, some)
 
-  off-long : (j : ℕ) (x : NodeFile) (at : slice_get xs j ≡ Some x) (i : ℕ) → (j ≢ t.at) ⊎ (i ≢ t.group) → IsSome (group_file x (W x.node) i)
-      → GroupHas x (W x.node) i → 1 ≤ length (group_of x.count i (F x.node))
-  off-long j x at i off named (Nothing none_) = absurd (none-some (group_file x (W x.node) i) none_ named)
-  off-long j x at i off named (Whole full is) = front-long x i (omega (arith, full, some-at j x at))
-  off-long j x at i off named (Opened f open_ here is) =
-      let ne : j ≢ t.at = elim off [
-        | inl other ↦ other
-        | inr apart ↦ (λ e. apart (here ∙ ap (λ (z : NodeFile). length (W z.node) / z.count) (torn-here j x at e) ∙ torn-group))
-      ] in
+  -- an open file other than the torn one is that of another node, and has a row
+  open-apart : (j : ℕ) (x : NodeFile) → slice_get xs j ≡ Some x → (i : ℕ) → (j ≢ t.at) ⊎ (i ≢ t.group) → i ≡ length (W x.node) / x.count → j ≢ t.at
+  open-apart j x at i (inl other) here = other
+  open-apart j x at i (inr apart) here =
+      (λ e. apart (here ∙ ap (λ (z : NodeFile). length (W z.node) / z.count) (torn-here j x at e) ∙ torn-group))
+
+  open-row : (j : ℕ) (x : NodeFile) (at : slice_get xs j ≡ Some x) (i : ℕ) → (j ≢ t.at) ⊎ (i ≢ t.group) → (f : Stream) → x.current ≡ Some f
+      → i ≡ length (W x.node) / x.count → 1 ≤ length (group_of x.count i (W x.node))
+  open-row j x at i off f open_ here =
+      let ne = open-apart j x at i off here in
       let was = others-before j x at ne in
       let row = t.rows j x f (λ e. ne (sym (same_Some t.at j e))) was open_ in
       let begun = open-count x (length (W x.node)) x.current f open_ (t.written.each j x was).begun in
       let long = length-group x.count (W x.node) (length (W x.node) / x.count) (length (W x.node) % x.count) (next-place x.count (W x.node) (some-at j x at)) in
-      front-long x i (subst (λ (w : ℕ). 1 ≤ length (group_of x.count w (W x.node))) (sym here) (omega (arith, long, begun, row)))
+      subst (λ (w : ℕ). 1 ≤ length (group_of x.count w (W x.node))) (sym here) (omega (arith, long, begun, row))
+
+  off-long : (j : ℕ) (x : NodeFile) (at : slice_get xs j ≡ Some x) (i : ℕ) → (j ≢ t.at) ⊎ (i ≢ t.group) → IsSome (group_file x (W x.node) i)
+      → GroupHas x (W x.node) i → 1 ≤ length (group_of x.count i (F x.node))
+  off-long j x at i off named (Nothing none_) = absurd (none-some (group_file x (W x.node) i) none_ named)
+  off-long j x at i off named (Whole full is) = front-long x i (omega (arith, full, some-at j x at))
+  off-long j x at i off named (Opened f open_ here is) = front-long x i (open-row j x at i off f open_ here)
 
   now-long : (j : ℕ) (x : NodeFile) → slice_get xs j ≡ Some x → (i : ℕ) → IsSome (group_file x (W x.node) i) → 1 ≤ length (group_of x.count i (F x.node))
   now-long j x at i named =
@@ -447,40 +447,32 @@ module _ (g : Graph) (stack : StackValue) (sound : IsGraph g) (prefix : List ℕ
       let least : i * 1 ≤ i * x.count = mul-le-mul (let same : i ≤ i = omega arith in same) (some-at j x at) in
       omega (arith, some, taken, dropped, all-written j x at, put, ids, kept.few, least)
 
-  -- the number in the header of a group that has an array, and not as many as a group takes
-  begun-count : (j : ℕ) (x : NodeFile) (at : slice_get xs j ≡ Some x) (i : ℕ) → (j ≢ t.at) ⊎ (i ≢ t.group)
-      → 1 ≤ length (group_of x.count i (W x.node)) → length (group_of x.count i (W x.node)) < x.count → GroupHas x (W x.node) i
-      → (numrecs : Option ℕ) × IsCountOf x.late (length (group_of x.count i (F x.node))) numrecs
-      × (group_file x (W x.node) i ≡ Some (begun_file x.shape numrecs (group_of x.count i (W x.node))))
-  begun-count j x at i off some short (Nothing none_) =
-      absurd (file-some (open_at x (length (W x.node)) i) x.shape (group_of x.count i (W x.node)) some none_)
-  begun-count j x at i off some short (Whole full is) = absurd (omega (arith, full, short))
-  begun-count j x at i off some short (Opened f open_ here is) =
-      let ne : j ≢ t.at = elim off [
-        | inl other ↦ other
-        | inr apart ↦ (λ e. apart (here ∙ ap (λ (z : NodeFile). length (W z.node) / z.count) (torn-here j x at e) ∙ torn-group))
-      ] in
-      let first = subst (λ (w : ℕ). IsFirstCount (past b) x.node x.count w x.late f.numrecs) (sym here) (t.begun j x f (others-before j x at ne) open_) in
-      (f.numrecs, count-by (past b) x i (F x.node) x.late f.numrecs (all-written j x at) first, is)
+  -- what the saves of the log took
+  abbrev saved_all : ℕ → List Array
+  saved_all v = contents g.nodes stack.arrays (standing_saves v (past b))
 
-  -- a group that has none is untouched
-  none-touched : (j : ℕ) (x : NodeFile) (at : slice_get xs j ≡ Some x) (i : ℕ) → i < 2 ^ 64 → (off : (j ≢ t.at) ⊎ (i ≢ t.group))
-      → group_of x.count i (W x.node) ≡ [] → GroupHas x (W x.node) i → file_at held (name_of x i) ≡ file_at before (name_of x i)
-  none-touched j x at i small off empty_ (Nothing none_) =
-      t.stops.0.others (name_of x i) (off-name j x at i small off) (none-elsewhere g stack sound prefix xs nodes W few j x at i small none_)
-  none-touched j x at i small off empty_ (Whole full is) = absurd (omega (arith, full, some-at j x at, ap (λ (zs : List Array). length zs) empty_))
-  none-touched j x at i small off empty_ (Opened f open_ here is) =
-      let ne : j ≢ t.at = elim off [
-        | inl other ↦ other
-        | inr apart ↦ (λ e. apart (here ∙ ap (λ (z : NodeFile). length (W z.node) / z.count) (torn-here j x at e) ∙ torn-group))
-      ] in
-      let was = others-before j x at ne in
-      let row = t.rows j x f (λ e. ne (sym (same_Some t.at j e))) was open_ in
-      let begun = open-count x (length (W x.node)) x.current f open_ (t.written.each j x was).begun in
-      let long = length-group x.count (W x.node) (length (W x.node) / x.count) (length (W x.node) % x.count) (next-place x.count (W x.node) (some-at j x at)) in
-      let none_ : length (group_of x.count (length (W x.node) / x.count) (W x.node)) ≡ 0 =
-      ap (λ (w : ℕ). length (group_of x.count w (W x.node))) (sym here) ∙ ap (λ (zs : List Array). length zs) empty_ in
-      absurd (omega (arith, long, begun, row, none_))
+  all : (v : ℕ) → F v ≡ saved_all v
+  all v = groups.written-is g stack sound prefix before b xs true held h v
+
+  off-at : (j : ℕ) (x : NodeFile) → slice_get xs j ≡ Some x → (i : ℕ) → (x.node ≢ t.node.node) ⊎ (i ≢ t.group) → (j ≢ t.at) ⊎ (i ≢ t.group)
+  off-at j x at i (inl other) = inl (λ e. other (ap (λ (z : NodeFile). z.node) (torn-here j x at e)))
+  off-at j x at i (inr apart) = inr apart
+
+  -- a group that has nothing is untouched
+  still : IsKeptStack stack → (j i : ℕ) (x : NodeFile) → slice_get xs j ≡ Some x → (x.node ≢ t.node.node) ⊎ (i ≢ t.group)
+      → 1 ≤ length (group_of x.count i (saved_all x.node)) → group_file x (W x.node) i ≡ None → file_at held (name_of x i) ≡ file_at before (name_of x i)
+  still kept j i x at off filled none_ =
+      let small = group-low kept j x at i (subst (λ (zs : List Array). 1 ≤ length (group_of x.count i zs)) (sym (all x.node)) filled) in
+      t.stops.0.others (name_of x i) (off-name j x at i small (off-at j x at i off)) (none-elsewhere g stack sound prefix xs nodes W few j x at i small none_)
+
+  -- the number in the header of an open file
+  count : (j i : ℕ) (x : NodeFile) (f : Stream) → slice_get xs j ≡ Some x → (x.node ≢ t.node.node) ⊎ (i ≢ t.group) → x.current ≡ Some f
+      → i ≡ length (W x.node) / x.count → IsCountOf x.late (length (group_of x.count i (saved_all x.node))) f.numrecs
+  count j i x f at off open_ here =
+      let was = others-before j x at (open-apart j x at i (off-at j x at i off) here) in
+      let first = subst (λ (w : ℕ). IsFirstCount (past b) x.node x.count w x.late f.numrecs) (sym here) (t.begun j x f was open_) in
+      subst (λ (zs : List Array). IsCountOf x.late (length (group_of x.count i zs)) f.numrecs) (all x.node)
+      (count-by (past b) x i (F x.node) x.late f.numrecs (all-written j x at) first)
 
   -- the torn name
   stood-by : is_some held ≡ true → (o : Option Stream) → t.node.current ≡ o
@@ -529,11 +521,41 @@ module _ (g : Graph) (stack : StackValue) (sound : IsGraph g) (prefix : List ℕ
             (omega (arith, length-take t.node.count (drop (t.group * t.node.count) (F t.node.node)))) t.stops.1;
       }
 
+  -- the node of the torn name
+  node-here : (j : ℕ) (x : NodeFile) → slice_get xs j ≡ Some x → x.node ≡ t.node.node → closed x ≡ closed t.node
+  node-here j x at same =
+      torn-here j x at
+      (one-index g stack sound prefix xs nodes j t.at x now-at.files at now-at.listed (same ∙ sym (ap (λ (z : NodeFile). z.node) now-at.same)))
+
+  names-have : IsKeptStack stack → NamesHave xs saved_all W before held t.node.node t.group (t.array ∷ []) false
+  names-have kept =
+      names-but xs saved_all W before held t.node.node t.group (t.array ∷ []) (λ j i x at off. has-at j x at i (off-at j x at i off))
+      (λ j i x at off. t.stops.0.each j x i at off) (still kept) some-at (λ j i x f at off open_ here. open-row j x at i (off-at j x at i off) f open_ here) count
+      (λ v. let r = fronts v in (r.0, sym (all v) ∙ r.1))
+      (λ j x at same. sym torn-group ∙ ap (λ (z : NodeFile). length (W z.node) / z.count) (sym (node-here j x at same)))
+      (λ j x at same.
+      let Q : NodeFile → Type 0 =
+      λ z. IsTornAt z.late z.shape (group_of z.count t.group (saved_all z.node)) (group_of z.count t.group (W z.node)) (t.array ∷ []) before held
+      (name_of z t.group) in
+      subst Q (sym (node-here j x at same))
+      (torn-at t.node.late t.node.shape (group_of t.node.count t.group (saved_all t.node.node)) (group_of t.node.count t.group (W t.node.node)) (t.array ∷ [])
+      before held (name_of t.node t.group) (λ told.
+      subst (λ (zs : List Array). IsTornName t.node.late t.node.shape (group_of t.node.count t.group zs) (group_of t.node.count t.group (W t.node.node))
+      (t.array ∷ []) (file_at before (name_of t.node t.group)) (file_at held (name_of t.node t.group))) (all t.node.node) (torn-name told))))
+
   -- where the shelf failed
-  place : GivenAt b t.front
-  place =
-      given-at s b (and_parts (is_legal s (past b)) _ h.legal).0 h.drained (t.later ++ back_of t.role t.node.node t.name ∷ []) t.front
-      (t.whole ∙ sym (append_assoc t.later (back_of t.role t.node.node t.name ∷ []) t.front))
+  place : GivenAt b (back_of t.role t.node.node t.name) t.front
+  place = given-at s b (and_parts (is_legal s (past b)) _ h.legal).0 h.drained t.later (back_of t.role t.node.node t.name) t.front t.whole
+
+  abbrev torn-all : IsKeptStack stack → AreTornGroups g stack prefix saved_all W before held
+  torn-all kept =
+      torn-groups g stack prefix xs (groups.files-of-rule g stack sound prefix before b xs true held h) saved_all W before held t.node.node t.group
+      (t.array ∷ []) false (names-have kept)
+
+  failed-call : (kept : IsKeptStack stack) → IsFailedCall g stack (place.newer ++ back_of t.role t.node.node t.name ∷ []) (torn-all kept).node
+      (torn-all kept).ending (torn-all kept).coming
+  unfolding torn-groups
+  failed-call kept = (place.newer, t.role, t.name, t.array, refl, t.holds, refl)
 
   pub torn-history : IsKeptStack stack → IsTornHistory g stack prefix (past b) before held
   torn-history kept = record {
@@ -555,102 +577,11 @@ module _ (g : Graph) (stack : StackValue) (sound : IsGraph g) (prefix : List ℕ
         (let Q : NodeFile → Type 0 = λ z. 1 ≤ length (group_of z.count t.group (F z.node)) in subst Q (sym now-at.same) torn-long)
         (e ∙ ap (λ (z : NodeFile). name_of z t.group) (sym now-at.same)))
         (λ k y l at_y named. not-named q away k y at_y l (now-long k y at_y l named));
-    later = past place.later;
+    later = place.newer ++ back_of t.role t.node.node t.name ∷ [];
     front = past place.before;
-    log = ap past place.board ∙ past-append place.later place.before;
+    log = place.log ∙ sym (append_assoc place.newer (back_of t.role t.node.node t.name ∷ []) (past place.before));
     written = W;
     given = λ v. ap (λ (ns : List FrameName). contents g.nodes stack.arrays ns) (sym (place.given v));
-    groups = record {
-      first = λ v. let r = fronts v in (r.0, sym (groups.written-is g stack sound prefix before b xs true held h v) ∙ r.1);
-      node = t.node.node;
-      group = t.group;
-      coming = t.array ∷ [];
-      ending = false;
-      all = λ clash. absurd (false≢true clash);
-      ended = λ clash. absurd (false≢true clash);
-      whole = λ v i n r rule kind off full.
-          let f = groups.files-of-rule g stack sound prefix before b xs true held h v n r rule kind in
-          let x = f.files in
-          let off_ : (x.node ≢ t.node.node) ⊎ (i ≢ t.group) = elim off [ inl ne ↦ inl (λ e. ne (sym f.node ∙ e)) | inr ne ↦ inr ne ] in
-          let full_ : length (group_of x.count i (W x.node)) ≡ x.count =
-          ap (λ (c : ℕ). length (group_of c i (W x.node))) f.count ∙ ap (λ (w : ℕ). length (group_of r.count i (W w))) f.node ∙ full ∙ sym f.count in
-          let off_at : (f.at ≢ t.at) ⊎ (i ≢ t.group) = elim off_ [
-            | inl ne ↦ inl (λ e. ne (ap (λ (z : NodeFile). z.node) (torn-here f.at x f.listed e)))
-            | inr ne ↦ inr ne
-          ] in
-          let is = full-file x (W x.node) i (some-at f.at x f.listed) full_ (has-at f.at x f.listed i off_at) in
-          let has = subst (HasBytes held (name_of x i)) is (t.stops.0.each f.at x i f.listed off_) in
-          subst (λ (name : List ℕ). HasFile held name (layout (file_shape g stack v) (group_of r.count i (W v)))) (f.named i)
-          (subst (λ (sh : FileShape). HasFile held (name_of x i) (layout sh (group_of r.count i (W v)))) f.shape
-          (subst (λ (c : ℕ). HasFile held (name_of x i) (layout x.shape (group_of c i (W v)))) f.count
-          (subst (λ (w : ℕ). HasFile held (name_of x i) (layout x.shape (group_of x.count i (W w)))) f.node has)));
-      begun = λ v i n r rule kind off behind some short.
-          let f = groups.files-of-rule g stack sound prefix before b xs true held h v n r rule kind in
-          let x = f.files in
-          let off_ : (x.node ≢ t.node.node) ⊎ (i ≢ t.group) = elim off [ inl ne ↦ inl (λ e. ne (sym f.node ∙ e)) | inr ne ↦ inr ne ] in
-          let same : group_of x.count i (W x.node) ≡ group_of r.count i (W v) =
-          ap (λ (c : ℕ). group_of c i (W x.node)) f.count ∙ ap (λ (w : ℕ). group_of r.count i (W w)) f.node in
-          let off_at : (f.at ≢ t.at) ⊎ (i ≢ t.group) = elim off_ [
-            | inl ne ↦ inl (λ e. ne (ap (λ (z : NodeFile). z.node) (torn-here f.at x f.listed e)))
-            | inr ne ↦ inr ne
-          ] in
-          let some_ = subst (λ (zs : List Array). 1 ≤ length zs) (sym same) some in
-          let short_ : length (group_of x.count i (W x.node)) < x.count = omega (arith, ap (λ (zs : List Array). length zs) same, short, f.count) in
-          let is = begun-count f.at x f.listed i off_at some_ short_ (has-at f.at x f.listed i off_at) in
-          let all : group_of x.count i (F x.node) ≡ group_of r.count i (contents g.nodes stack.arrays (standing_saves v (past b))) =
-          ap (λ (c : ℕ). group_of c i (F x.node)) f.count ∙ ap (λ (w : ℕ). group_of r.count i (F w)) f.node
-          ∙ ap (group_of r.count i) (groups.written-is g stack sound prefix before b xs true held h v) in
-          let has = subst (HasBytes held (name_of x i)) is.2 (t.stops.0.each f.at x i f.listed off_) in (
-            is.0,
-            subst (λ (late : Bool). IsCountOf late (length (group_of r.count i (contents g.nodes stack.arrays (standing_saves v (past b))))) is.0) f.late
-                (subst (λ (zs : List Array). IsCountOf x.late (length zs) is.0) all is.1),
-            subst (λ (name : List ℕ). HasFile held name (begun_file (file_shape g stack v) is.0 (group_of r.count i (W v)))) (f.named i)
-                (subst (λ (sh : FileShape). HasFile held (name_of x i) (begun_file sh is.0 (group_of r.count i (W v)))) f.shape
-                (subst (λ (zs : List Array). HasFile held (name_of x i) (begun_file x.shape is.0 zs)) same has)),
-          );
-      untouched = λ v i n r rule kind off some none_.
-          let f = groups.files-of-rule g stack sound prefix before b xs true held h v n r rule kind in
-          let x = f.files in
-          let off_ : (x.node ≢ t.node.node) ⊎ (i ≢ t.group) = elim off [ inl ne ↦ inl (λ e. ne (sym f.node ∙ e)) | inr ne ↦ inr ne ] in
-          let off_at : (f.at ≢ t.at) ⊎ (i ≢ t.group) = elim off_ [
-            | inl ne ↦ inl (λ e. ne (ap (λ (z : NodeFile). z.node) (torn-here f.at x f.listed e)))
-            | inr ne ↦ inr ne
-          ] in
-          let same : group_of x.count i (W x.node) ≡ group_of r.count i (W v) =
-          ap (λ (c : ℕ). group_of c i (W x.node)) f.count ∙ ap (λ (w : ℕ). group_of r.count i (W w)) f.node in
-          let all : group_of x.count i (F x.node) ≡ group_of r.count i (contents g.nodes stack.arrays (standing_saves v (past b))) =
-          ap (λ (c : ℕ). group_of c i (F x.node)) f.count ∙ ap (λ (w : ℕ). group_of r.count i (F w)) f.node
-          ∙ ap (group_of r.count i) (groups.written-is g stack sound prefix before b xs true held h v) in
-          let small = group-low kept f.at x f.listed i (subst (λ (zs : List Array). 1 ≤ length zs) (sym all) some) in
-          subst (λ (name : List ℕ). file_at held name ≡ file_at before name) (f.named i)
-          (none-touched f.at x f.listed i small off_at (same ∙ none_) (has-at f.at x f.listed i off_at));
-      torn = λ n r rule kind.
-          let f = groups.files-of-rule g stack sound prefix before b xs true held h t.node.node n r rule kind in
-          let x = f.files in
-          let here =
-          torn-here f.at x f.listed
-          (one-index g stack sound prefix xs nodes f.at t.at x now-at.files f.listed now-at.listed (f.node ∙ sym (ap (λ (z : NodeFile). z.node) now-at.same))) in
-          let final = ap (group_of r.count t.group) (groups.written-is g stack sound prefix before b xs true held h t.node.node) in
-          torn-at (is_stream r.mode) (file_shape g stack t.node.node)
-          (group_of r.count t.group (contents g.nodes stack.arrays (standing_saves t.node.node (past b)))) (group_of r.count t.group (W t.node.node))
-          (t.array ∷ []) before held (group_name prefix n.name t.group) (λ told.
-          let Q : NodeFile → Type 0 =
-          λ z. IsTornName z.late z.shape (group_of z.count t.group (F z.node)) (group_of z.count t.group (W z.node)) (t.array ∷ [])
-          (file_at before (name_of z t.group)) (file_at held (name_of z t.group)) in
-          let q = subst Q (sym here) (torn-name told) in
-          subst (λ (name : List ℕ). IsTornName (is_stream r.mode) (file_shape g stack t.node.node) (group_of r.count t.group (contents g.nodes stack.arrays
-          (standing_saves t.node.node (past b)))) (group_of r.count t.group (W t.node.node)) (t.array ∷ []) (file_at before name) (file_at held name))
-          (f.named t.group)
-          (subst (λ (zs : List Array). IsTornName (is_stream r.mode) (file_shape g stack t.node.node) zs (group_of r.count t.group (W t.node.node)) (t.array ∷ [])
-          (file_at before (name_of x t.group)) (file_at held (name_of x t.group))) final
-          (subst (λ (w : ℕ). IsTornName (is_stream r.mode) (file_shape g stack t.node.node) (group_of r.count t.group (F w)) (group_of r.count t.group (W w)) (t.array ∷ [])
-          (file_at before (name_of x t.group)) (file_at held (name_of x t.group))) f.node
-          (subst (λ (c : ℕ). IsTornName (is_stream r.mode) (file_shape g stack t.node.node) (group_of c t.group (F x.node)) (group_of c t.group (W x.node)) (t.array ∷ [])
-          (file_at before (name_of x t.group)) (file_at held (name_of x t.group))) f.count
-          (subst (λ (sh : FileShape). IsTornName (is_stream r.mode) sh (group_of x.count t.group (F x.node)) (group_of x.count t.group (W x.node)) (t.array ∷ [])
-          (file_at before (name_of x t.group)) (file_at held (name_of x t.group))) f.shape
-          (subst (λ (late : Bool). IsTornName late x.shape (group_of x.count t.group (F x.node)) (group_of x.count t.group (W x.node)) (t.array ∷ [])
-          (file_at before (name_of x t.group)) (file_at held (name_of x t.group))) f.late q))))));
-    };
-    one = let e : 1 ≤ 1 = omega arith in e;
+    groups = torn-all kept;
+    call = failed-call kept;
   }

@@ -1,7 +1,7 @@
 -- The turns of the role that saves.
-use Rattle.std.proofs.Common.{◌≡◌, ℕ, zero, suc, ◌+◌, ◌<◌, ◌≤◌, true, false, List, [], ◌∷◌, ◌++◌, length, map, refl, sym, ap, subst, ◌∙◌, arith, inl, inr}
-use Rattle.std.proofs.Common.{Option, None, Some, Ok, Err}
-use Rattle.std.specs.Prelude.{slice_get, Result, OnOk, OnErr}
+use Rattle.std.proofs.Common.{◌≡◌, ℕ, zero, suc, ◌+◌, ◌-◌, ◌^◌, ◌<◌, ◌≤◌, true, false, List, [], ◌∷◌, ◌++◌, length, map, refl, sym, ap, subst, ◌∙◌}
+use Rattle.std.proofs.Common.{arith, inl, inr, Bool, ◌||◌, ◌⊎◌, Option, None, Some, Ok, Err}
+use Rattle.std.specs.Prelude.{min, is_some, slice_get, Result, OnOk, OnErr}
 use Rattle.std.specs.List.{All}
 use Rattle.std.specs.Option.{option_map}
 use Rattle.std.proofs.lemmas.Bool.{and_parts, cases_Bool, false≢true}
@@ -19,6 +19,9 @@ use Rattle.flow_journal.specs.declared.entry.Entry.TheVariants.{Save}
 use Rattle.flow_journal.specs.declared.progress.Progress.{Progress}
 use Rattle.flow_journal.specs.Setting.{Setting, last_role}
 use Rattle.flow_journal.specs.Pasts.{Past}
+use Rattle.flow_journal.specs.Hands.{hand}
+use Rattle.flow_journal.specs.Ended.{has_left_any}
+use Rattle.flow_journal.specs.Finished.{is_finished}
 use Rattle.flow_journal.specs.Notes.{Watched, progress_of, took, refused_one, WasNoted, WereNoted}
 use Rattle.flow_journal.specs.MoveLists.{begun_by, is_some_of}
 use Rattle.board_rules.specs.declared.told.Told.{Told}
@@ -26,14 +29,17 @@ use Rattle.board_rules.specs.declared.answers.Save.TheVariants.{NotYet, Piece}
 use Rattle.board_rules.specs.States.{BoardState, past, lends}
 use Rattle.board_rules.specs.Movers.{first_some, mover, moves_by}
 use Rattle.board_rules.specs.Saving.{SaveGives}
+use Rattle.board_rules.proofs.Moves.{moves-tell}
 use Rattle.board_rules.proofs.Pasts.{past-append}
-use Rattle.flow_roles.specs.declared.last.Last.{Last}
+use Rattle.flow_roles.specs.declared.last.Said.{Said}
+use Rattle.flow_roles.specs.Lasts.{said_other, said_progress}
 use Rattle.flow_roles.specs.Passes.{Pass, Called, saved_by_drain, only_drain_saves}
 use Rattle.flow_roles.specs.Feeder.{name_of, parts_of}
+use Rattle.flow_roles.proofs.FeederTicks.{one-more}
 use Rattle.graph_files.specs.NodeFiles.{NodeFile, node_file}
 use Rattle.graph_files.specs.OpenFiles.{kind_node, nodes_from, file_nodes, closed}
 use Rattle.graph_files.specs.OpenFileLaws.{of_node}
-use Rattle.flow_saver.specs.Turns.{node_saved, nodes_saved, Falls, AreTurns, KnowsItsOwn, HasGoneOn, AreNone, AreAt, FallBefore}
+use Rattle.flow_saver.specs.Turns.{node_saved, nodes_saved, Falls, AreTurns, KnowsItsOwn, HasGoneOn, AreNone, AreAt, FallBefore, ends_at}
 use Rattle.flow_saver.proofs.Answers.{piece-given, not_yet-still}
 use Rattle.flow_saver.proofs.SaveOne.{item}
 
@@ -113,13 +119,17 @@ saved-append a b = ap nodes_saved (past-append a b) ∙ filter_map-append node_s
 
 -- CALLS
 
-module _ (s : Setting) where
-  pub call-own : (gives : BoardState → BoardState → Type 0) (answered : Last) (p q : Pass) → Called s gives answered p q → KnowsItsOwn s q
-  call-own gives answered p q c = (subst (λ (r : ℕ). moves_by r q.seen ≡ q.made) (sym c.role) c.exact, c.drained)
+-- no NotYours, and no question how far the run has come
+abbrev pub KeepsCount : (Said → Said) → Type 0
+KeepsCount answers = (said : Said) → ((answers said).owned ≡ said.owned) × ((answers said).asked ≡ said.asked)
 
-  pub gone-call : (Nodes : List ℕ → Type 0) (gives : BoardState → BoardState → Type 0) (answered : Last) (p q : Pass) (c : Called s gives answered p q)
-      → Nodes (nodes_saved (past c.added)) → HasGoneOn s Nodes p q
-  gone-call Nodes gives answered p q c at =
+module _ (s : Setting) where
+  pub call-own : (gives : BoardState → BoardState → Type 0) (answers : Said → Said) (p q : Pass) → Called s gives answers p q → KnowsItsOwn s q
+  call-own gives answers p q c = (subst (λ (r : ℕ). moves_by r q.seen ≡ q.made) (sym c.role) c.exact, c.drained)
+
+  pub gone-call : (Nodes : List ℕ → Type 0) (gives : BoardState → BoardState → Type 0) (answers : Said → Said) (p q : Pass) (c : Called s gives answers p q)
+      → Nodes (nodes_saved (past c.added)) → KeepsCount answers → HasGoneOn s Nodes p q
+  gone-call Nodes gives answers p q c at keeps =
       record {
         role = c.role;
         newer = c.added ++ c.between;
@@ -127,22 +137,48 @@ module _ (s : Setting) where
         added = c.added;
         made = c.made;
         nodes = at;
-        own = λ before. call-own gives answered p q c;
+        own = λ before. call-own gives answers p q c;
+        owned = λ all. ap (λ (said : Said). said.owned) c.said ∙ ((keeps p.said).0 ∙ all);
+        asked = ap (λ (said : Said). said.asked) c.said ∙ (keeps p.said).1;
       }
 
   -- a call that changed nothing
-  pub gone-nothing : (Nodes : List ℕ → Type 0) (gives : BoardState → BoardState → Type 0) (answered : Last) (p q : Pass) (c : Called s gives answered p q)
-      → q.seen ≡ c.between ++ p.seen → Nodes [] → HasGoneOn s Nodes p q
-  gone-nothing Nodes gives answered p q c still none =
+  pub gone-nothing : (Nodes : List ℕ → Type 0) (gives : BoardState → BoardState → Type 0) (answers : Said → Said) (p q : Pass) (c : Called s gives answers p q)
+      → q.seen ≡ c.between ++ p.seen → Nodes [] → KeepsCount answers → HasGoneOn s Nodes p q
+  gone-nothing Nodes gives answers p q c still none keeps =
       let added : c.added ≡ [] = append_cancel_right c.added [] (c.between ++ p.seen) (sym c.seen ∙ still) in
-      gone-call Nodes gives answered p q c (subst (λ (b : BoardState). Nodes (nodes_saved (past b))) (sym added) none)
+      gone-call Nodes gives answers p q c (subst (λ (b : BoardState). Nodes (nodes_saved (past b))) (sym added) none) keeps
 
   -- one that added this
-  pub gone-logged : (Nodes : List ℕ → Type 0) (gives : BoardState → BoardState → Type 0) (answered : Last) (p q : Pass) (c : Called s gives answered p q)
-      → (t : Told) → q.seen ≡ t ∷ (c.between ++ p.seen) → Nodes (nodes_saved (t.entry ∷ [])) → HasGoneOn s Nodes p q
-  gone-logged Nodes gives answered p q c t logged at =
+  pub gone-logged : (Nodes : List ℕ → Type 0) (gives : BoardState → BoardState → Type 0) (answers : Said → Said) (p q : Pass) (c : Called s gives answers p q)
+      → (t : Told) → q.seen ≡ t ∷ (c.between ++ p.seen) → Nodes (nodes_saved (t.entry ∷ [])) → KeepsCount answers → HasGoneOn s Nodes p q
+  gone-logged Nodes gives answers p q c t logged at keeps =
       let added : c.added ≡ t ∷ [] = append_cancel_right c.added (t ∷ []) (c.between ++ p.seen) (sym c.seen ∙ logged) in
-      gone-call Nodes gives answered p q c (subst (λ (b : BoardState). Nodes (nodes_saved (past b))) (sym added) at)
+      gone-call Nodes gives answers p q c (subst (λ (b : BoardState). Nodes (nodes_saved (past b))) (sym added) at) keeps
+
+  -- a question adds nothing, and the role has seen more of the log
+  pub gone-asked : (gives : BoardState → BoardState → Type 0) (answers : Said → Said) (p q : Pass) (c : Called s gives answers p q)
+      → q.seen ≡ c.between ++ p.seen → HasGoneOn s AreNone p (record { role = q.role; said = p.said; seen = q.seen; made = q.made })
+  gone-asked gives answers p q c still =
+      let q_then : Pass = record { role = q.role; said = p.said; seen = q.seen; made = q.made } in
+      let c_then : Called s gives (λ said. said) p q_then = record {
+        between = c.between;
+        added = c.added;
+        seen = c.seen;
+        answer = c.answer;
+        move = c.move;
+        made = c.made;
+        exact = c.exact;
+        role = c.role;
+        said = refl;
+        legal = c.legal;
+        drained = c.drained;
+      } in
+      gone-nothing AreNone gives (λ said. said) p q_then c_then still refl (λ said. (refl, refl))
+
+  pub once-asked : (gives : BoardState → BoardState → Type 0) (answer : Progress) (p q : Pass) → Called s gives (said_progress answer) p q → (n : ℕ)
+      → p.said.asked ≡ min n (2 ^ 64 - 1) → q.said.asked ≡ min (suc n) (2 ^ 64 - 1)
+  once-asked gives answer p q c n is = ap (λ (said : Said). said.asked) c.said ∙ one-more p.said.asked n is
 
   pub gone-still : (Nodes : List ℕ → Type 0) (p : Pass) → Nodes [] → HasGoneOn s Nodes p p
   gone-still Nodes p none =
@@ -154,6 +190,8 @@ module _ (s : Setting) where
         made = refl;
         nodes = none;
         own = λ own. own;
+        owned = λ all. all;
+        asked = refl;
       }
 
   pub gone-then : (M N O : List ℕ → Type 0) (p q r : Pass) → ((vs ws : List ℕ) → M vs → N ws → O (ws ++ vs))
@@ -167,6 +205,8 @@ module _ (s : Setting) where
         made = b.made ∙ (ap (λ (x : BoardState). b.added ++ x) a.made ∙ sym (append_assoc b.added a.added p.made));
         nodes = subst O (sym (saved-append b.added a.added)) (both (nodes_saved (past a.added)) (nodes_saved (past b.added)) a.nodes b.nodes);
         own = λ own. b.own (a.own own);
+        owned = λ all. b.owned (a.owned all);
+        asked = b.asked ∙ a.asked;
       }
 
   pub gone-as : (M N : List ℕ → Type 0) (p q : Pass) → ((vs : List ℕ) → M vs → N vs) → HasGoneOn s M p q → HasGoneOn s N p q
@@ -179,6 +219,8 @@ module _ (s : Setting) where
         made = a.made;
         nodes = only (nodes_saved (past a.added)) a.nodes;
         own = a.own;
+        owned = a.owned;
+        asked = a.asked;
       }
 
   -- nothing after that changes what was saved
@@ -241,25 +283,49 @@ module _ (g : Graph) (stack : StackValue) (prefix : List ℕ) (xs : List NodeFil
       gone-then s (FallBefore (file_nodes g stack prefix) n) (AreAt x.node) (FallBefore (file_nodes g stack prefix) (n + 1)) o p q
       (λ vs ws f mine. fall-on g stack prefix n x vs ws here f mine) before (at x here)
 
-  module _ (s : Setting) (r : ℕ) (p q : Pass) (answered : Last) (k v : ℕ) (node : (x : NodeFile) → slice_get xs k ≡ Some x → v ≡ x.node)
+  module _ (s : Setting) (r : ℕ) (p q : Pass) (k v : ℕ) (node : (x : NodeFile) → slice_get xs k ≡ Some x → v ≡ x.node)
       (within : k < length xs) (x : NodeFile) (at : slice_get (file_nodes g stack prefix) k ≡ Some x) where
     node-is : v ≡ x.node
     node-is =
         let i = item xs k within in
         node i.0 i.1 ∙ ap (λ (y : NodeFile). y.node) (same_Some (closed i.0) x (sym (listed k i.0 i.1) ∙ at))
 
-    pub gone-not_yet : Called s (λ old new. SaveGives name_of parts_of s old r v NotYet new) answered p q → HasGoneOn s (AreAt x.node) p q
+    pub gone-not_yet : Called s (λ old new. SaveGives name_of parts_of s old r v NotYet new) said_other p q → HasGoneOn s (AreAt x.node) p q
     gone-not_yet c =
-        gone-nothing s (AreAt x.node) (λ old new. SaveGives name_of parts_of s old r v NotYet new) answered p q c
-        (not_yet-still s (c.between ++ p.seen) q.seen r v c.answer) (All-nil (λ w. w ≡ x.node))
+        gone-nothing s (AreAt x.node) (λ old new. SaveGives name_of parts_of s old r v NotYet new) said_other p q c
+        (not_yet-still s (c.between ++ p.seen) q.seen r v c.answer) (All-nil (λ w. w ≡ x.node)) (λ said. (refl, refl))
 
     pub gone-piece : (input : Sealed) (group place : ℕ) (of : Option ℕ)
-        → Called s (λ old new. SaveGives name_of parts_of s old r v (Piece input group place of) new) answered p q → HasGoneOn s (AreAt x.node) p q
+        → Called s (λ old new. SaveGives name_of parts_of s old r v (Piece input group place of) new) said_other p q → HasGoneOn s (AreAt x.node) p q
     gone-piece input group place of c =
-        gone-logged s (AreAt x.node) (λ old new. SaveGives name_of parts_of s old r v (Piece input group place of) new) answered p q c
+        gone-logged s (AreAt x.node) (λ old new. SaveGives name_of parts_of s old r v (Piece input group place of) new) said_other p q c
         (lends (Save r v input.name.maker input.name.index group) (parts_of input))
         (piece-given s (c.between ++ p.seen) q.seen r v input group place of c.answer).logged
-        (All-cons (λ w. w ≡ x.node) v [] node-is (All-nil (λ w. w ≡ x.node)))
+        (All-cons (λ w. w ≡ x.node) v [] node-is (All-nil (λ w. w ≡ x.node))) (λ said. (refl, refl))
+
+-- HOW THE ROLE ENDS
+
+or-right : (a b : Bool) → b ≡ true → (a || b) ≡ true
+or-right true b h = refl
+or-right false b h = h
+
+pub ended-wanting : (s : Setting) (r : ℕ) (p : Pass) (e : Entry) → moves_by p.role p.seen ≡ p.made → p.role ≡ r → r ≡ last_role s
+    → hand r (past p.made) ≡ Some e → ends_at s (past p.seen) true ≡ true
+ended-wanting s r p e own role drain held =
+    let mine : moves_by r p.seen ≡ p.made = subst (λ (q : ℕ). moves_by q p.seen ≡ p.made) role own in
+    let here_ : hand r (past p.seen) ≡ Some e = sym (moves-tell p.seen r).0 ∙ (ap (λ (b : BoardState). hand r (past b)) mine ∙ held) in
+    ap is_some (subst (λ (q : ℕ). hand q (past p.seen) ≡ Some e) drain here_)
+
+pub ended-asked : (s : Setting) (answer : Progress) (here seen : BoardState) → answer ≡ progress_of s (past here) → seen ≡ here
+    → (answer.done ≡ true) ⊎ (answer.left ≡ true) → ends_at s (past seen) false ≡ true
+ended-asked s answer here seen is same (inl done) =
+    let finished : is_finished s (past seen) ≡ true =
+    ap (λ (b : BoardState). is_finished s (past b)) same ∙ (sym (ap (λ (p : Progress). p.done) is) ∙ done) in
+    rw finished refl
+ended-asked s answer here seen is same (inr left) =
+    let some_left : has_left_any (past seen) ≡ true =
+    ap (λ (b : BoardState). has_left_any (past b)) same ∙ (sym (ap (λ (p : Progress). p.left) is) ∙ left) in
+    or-right (is_finished s (past seen)) (has_left_any (past seen)) some_left
 
 -- A NOTE
 

@@ -1,6 +1,7 @@
 -- What stands under the names of a run's groups after a fault of the shelf.
-use Rattle.std.specs.Prelude.{◌≡◌, ◌≢◌, ℕ, Bool, true, false, List, ◌++◌, length, ◌≤◌, Option, Some, is_some, Result, Ok, Err}
+use Rattle.std.specs.Prelude.{◌≡◌, ◌≢◌, ℕ, Bool, true, false, List, [], ◌∷◌, ◌++◌, Option, Some, is_some, Result, Ok, Err}
 use Rattle.nd_base.specs.Array.{Array, StackValue}
+use Rattle.nd_base.specs.declared.frame.FrameName.{FrameName}
 use Rattle.nd_base.specs.declared.graph.FileRule.{FileRule}
 use Rattle.nd_base.specs.declared.graph.Graph.{Graph}
 use Rattle.nd_base.specs.declared.graph.Kind.TheVariants.{File}
@@ -17,9 +18,18 @@ use Rattle.graph_files.specs.OutFiles.{group_name, is_stream}
 use Rattle.graph_files.specs.TornGroups.{AreTornGroups}
 use Rattle.flow_saver.specs.GivenBack.{written_by}
 use Rattle.flow_saver.specs.HistoryFiles.{kind_group}
+use Rattle.flow_saver.specs.Pieces.{content_of}
+use Rattle.flow_saver.specs.Saver.{back_of}
+
+-- The call that failed was to write the array that this node gives back next after a place of the log; or to end a file, once all of the log was given back.
+abbrev pub IsFailedCall : (g : Graph) (stack : StackValue) (later : Past) (node : ℕ) → (ending : Bool) → (coming : List Array) → Type 0
+IsFailedCall g stack later node false coming =
+    (newer : Past) × (role : ℕ) × (name : FrameName) × (array : Array) × (later ≡ newer ++ back_of role node name ∷ [])
+    × (content_of g stack name ≡ Some array) × (coming ≡ array ∷ [])
+IsFailedCall g stack later node true coming = later ≡ []
 
 -- AFTER A FAULT: each name of a group is as before the run, whole, or begun as its final file; every other name is as before. What was given back as
--- saved up to one place of the log was written.
+-- saved up to one place of the log was written, and the shelf failed on what comes next.
 pub record IsTornHistory (g : Graph) (stack : StackValue) (prefix : List ℕ) (P : Past) (before held : Option Files) : Type 0 where
   -- the shelf tells its files as it did
   pub told : is_some held ≡ is_some before
@@ -36,8 +46,7 @@ pub record IsTornHistory (g : Graph) (stack : StackValue) (prefix : List ℕ) (P
   pub written : ℕ → List Array
   pub given : (v : ℕ) → written v ≡ written_by g stack front v
   pub groups : AreTornGroups g stack prefix (λ v. contents g.nodes stack.arrays (standing_saves v P)) written before held
-  -- each call comes with one array, or with none where it ends a file
-  pub one : length groups.coming ≤ 1
+  pub call : IsFailedCall g stack later groups.node groups.ending groups.coming
 
 -- An end that comes after a fault changes nothing on the shelf, and any other answers a fault where the count rose, and nowhere else.
 abbrev pub CountsEnd : {T : Type 0} → (fault : Bool) → Result T SaveFault → (before now : ℕ) → (held held_now : Option Files) → Type 0

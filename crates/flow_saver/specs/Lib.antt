@@ -1,5 +1,6 @@
 pub mod GivenBack
 pub mod HistoryFiles
+pub mod KeptNames
 pub mod Pieces
 pub mod Saver
 pub mod Turns

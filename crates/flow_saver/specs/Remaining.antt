@@ -14,7 +14,7 @@ use Rattle.board_rules.specs.States.{BoardState, past}
 use Rattle.board_rules.specs.Movers.{moves_by}
 use Rattle.board_rules.specs.Storage.{has_lost}
 use Rattle.board_rules.specs.RunMeasures.{run_setting}
-use Rattle.flow_roles.specs.declared.last.Last.TheVariants.{Other}
+use Rattle.flow_roles.specs.Lasts.{fresh_said, said_other}
 use Rattle.flow_roles.specs.Passes.{Pass, only_drain_saves}
 use Rattle.flow_drain.specs.Drains.{IsDrained}
 use Rattle.graph_files.specs.NodeFiles.{NodeFile}
@@ -39,7 +39,7 @@ RestMoves s old new = (added : BoardState) × (new ≡ added ++ old) × (list_al
 
 -- what its pass would say: it has seen all of the log, and made its moves there
 abbrev pub alone : Setting → BoardState → Pass
-alone s b = record { role = last_role s; last = Other; owned = true; loads = 0; seen = b; made = moves_by (last_role s) b }
+alone s b = record { role = last_role s; said = said_other fresh_said; seen = b; made = moves_by (last_role s) b }
 
 -- Between two pieces: the files are those of the pieces that the log gave back, since the shelf had these. After a fault they are those of what was
 -- given back before it, and the torn name.

@@ -1,10 +1,13 @@
 -- The turns of the role that saves, and the notes of a run.
-use Rattle.std.specs.Prelude.{◌≡◌, ℕ, ◌≤◌, Bool, true, false, List, [], ◌∷◌, ◌++◌, Option, None, Some, slice_get}
+use Rattle.std.specs.Prelude.{◌≡◌, ℕ, ◌≤◌, Bool, true, false, ◌||◌, List, [], ◌∷◌, ◌++◌, Option, None, Some, is_some, slice_get, IsTrue}
 use Rattle.std.specs.List.{All, filter_map}
 use Rattle.flow_journal.specs.declared.entry.Entry.{Entry}
 use Rattle.flow_journal.specs.declared.entry.Entry.TheVariants.{Save}
-use Rattle.flow_journal.specs.Setting.{Setting}
+use Rattle.flow_journal.specs.Setting.{Setting, last_role}
 use Rattle.flow_journal.specs.Pasts.{Past}
+use Rattle.flow_journal.specs.Hands.{hand}
+use Rattle.flow_journal.specs.Ended.{has_left_any}
+use Rattle.flow_journal.specs.Finished.{is_finished}
 use Rattle.flow_journal.specs.Notes.{Watched, WereNoted}
 use Rattle.board_rules.specs.States.{BoardState, past}
 use Rattle.board_rules.specs.Movers.{moves_by}
@@ -36,11 +39,17 @@ abbrev pub AreTurns : (fronts : List Past) → (log : Past) → Type 0
 AreTurns [] log = nodes_saved log ≡ []
 AreTurns (P ∷ fronts) log = (newer : Past) × (log ≡ newer ++ P) × IsTurn newer × AreTurns fronts P
 
--- The notes of a role that saves, which has seen this log: one at the beginning of each turn, of how far the run had come then. The last is that of
--- the whole log, unless the role ended in its turn for want of memory.
+-- A role that saves ends once it has seen this: the run is done, or some role has left. Where memory was wanting, the last role has a piece in hand.
+abbrev pub ends_at : Setting → Past → (want : Bool) → Bool
+ends_at s seen false = is_finished s seen || has_left_any seen
+ends_at s seen true = is_some (hand (last_role s) seen)
+
+-- The notes of a role that saves, which has ended and seen this log: one at the beginning of each turn, of how far the run had come then. The last is
+-- that of the whole log, unless the role ended in its turn for want of memory.
 pub record AreNotesOf (s : Setting) (seen : Past) (want : Bool) (old new : Watched) : Type 0 where
   pub last : Past
   pub earlier : List Past
+  pub ended : IsTrue (ends_at s seen want)
   pub noted : WereNoted s (last ∷ earlier) old new
   pub turns : AreTurns (last ∷ earlier) seen
   pub whole : want ≡ false → last ≡ seen
@@ -51,7 +60,8 @@ pub record AreNotesOf (s : Setting) (seen : Past) (want : Bool) (old new : Watch
 abbrev pub KnowsItsOwn : Setting → Pass → Type 0
 KnowsItsOwn s p = (moves_by p.role p.seen ≡ p.made) × (only_drain_saves s (past p.seen) ≡ true)
 
--- From one call to a later one the role has seen more of the log, and the saves that it made are at such nodes.
+-- From one call to a later one the role has seen more of the log, and the saves that it made are at such nodes. It was never answered NotYours, and
+-- didn't ask how far the run had come.
 pub record HasGoneOn (s : Setting) (Nodes : List ℕ → Type 0) (p q : Pass) : Type 0 where
   pub role : q.role ≡ p.role
   pub newer : BoardState
@@ -60,6 +70,8 @@ pub record HasGoneOn (s : Setting) (Nodes : List ℕ → Type 0) (p q : Pass) : 
   pub made : q.made ≡ added ++ p.made
   pub nodes : Nodes (nodes_saved (past added))
   pub own : KnowsItsOwn s p → KnowsItsOwn s q
+  pub owned : p.said.owned ≡ true → q.said.owned ≡ true
+  pub asked : q.said.asked ≡ p.said.asked
 
 -- no save, saves at one node, and saves at the nodes before these files
 abbrev pub AreNone : List ℕ → Type 0

@@ -17,6 +17,7 @@ ghost use Rattle.graph_files.specs.NodeFiles.{NodeFile};
 ghost use Rattle.graph_files.specs.OpenFiles.{closed};
 ghost use Rattle.flow_saver.specs.Saver.{CountsStep, back_of};
 ghost use Rattle.flow_saver.specs.HandingLaws.{HandingLaws};
+ghost use Rattle.flow_saver.specs.KeptNames.{IsGroupName, AreKeptBut};
 ghost use Rattle.flow_saver.specs.Remaining.{RestMoves, IsSavingAlone, HasUnsavedAlone, IsToGiveBackAlone, StepLeavesAlone, StepRests};
 
 use crate::DuePiece;
@@ -134,6 +135,9 @@ fn save_all<R: Run, B: BoardCalls<Frame<R>>, K: Shelf>(
         → unsaved (run_setting R.graph R.stack) x.node (past (B.shown board.new)) ≡ []) }
     ensures others { OnOk result ((x : NodeFile) → slice_get files.old at ≡ Some x → (w : ℕ) → w ≢ x.node
         → unsaved (run_setting R.graph R.stack) w (past (B.shown board.new)) ≡ unsaved (run_setting R.graph R.stack) w (past (B.shown board.old))) }
+    ensures elsewhere { (prefix : List ℕ) (before : Option Files)
+        → IsSavingAlone R.graph R.stack prefix before (B.shown board.old) files.old fault.old (K.held shelf.old)
+        → AreKeptBut (IsGroupName R.graph prefix) before (K.held shelf.new) }
     ensures moves { RestMoves (run_setting R.graph R.stack) (B.shown board.old) (B.shown board.new) }
     ensures legal { is_history (run_setting R.graph R.stack) (past (B.shown board.new)) ≡ true }
     ensures nodes { map closed files.new ≡ map closed files.old }
@@ -175,6 +179,9 @@ pub fn save_rest<R: Run, B: BoardCalls<Frame<R>>, K: Shelf>(
     ensures saving { OnOk result ((prefix : List ℕ) (before : Option Files)
         → IsSavingAlone R.graph R.stack prefix before (B.shown board.old) files.old fault.old (K.held shelf.old)
         → IsSavingAlone R.graph R.stack prefix before (B.shown board.new) files.new fault.new (K.held shelf.new)) }
+    ensures elsewhere { (prefix : List ℕ) (before : Option Files)
+        → IsSavingAlone R.graph R.stack prefix before (B.shown board.old) files.old fault.old (K.held shelf.old)
+        → AreKeptBut (IsGroupName R.graph prefix) before (K.held shelf.new) }
     ensures moves { RestMoves (run_setting R.graph R.stack) (B.shown board.old) (B.shown board.new) }
     ensures legal { is_history (run_setting R.graph R.stack) (past (B.shown board.new)) ≡ true }
     ensures cause { CountsStep fault.old fault.new (K.faults shelf.old) (K.faults shelf.new) (K.held shelf.old) (K.held shelf.new) }
@@ -210,6 +217,9 @@ pub fn save_left<R: Run, B: BoardCalls<Frame<R>>, K: Shelf>(
     ensures saving { OnOk result ((prefix : List ℕ) (before : Option Files)
         → HasUnsavedAlone R.graph R.stack prefix before (B.shown board.old) files.old fault.old (K.held shelf.old) due
         → IsSavingAlone R.graph R.stack prefix before (B.shown board.new) files.new fault.new (K.held shelf.new)) }
+    ensures elsewhere { (prefix : List ℕ) (before : Option Files)
+        → HasUnsavedAlone R.graph R.stack prefix before (B.shown board.old) files.old fault.old (K.held shelf.old) due
+        → AreKeptBut (IsGroupName R.graph prefix) before (K.held shelf.new) }
     ensures moves { RestMoves (run_setting R.graph R.stack) (B.shown board.old) (B.shown board.new) }
     ensures legal { is_history (run_setting R.graph R.stack) (past (B.shown board.new)) ≡ true }
     ensures cause { CountsStep fault.old fault.new (K.faults shelf.old) (K.faults shelf.new) (K.held shelf.old) (K.held shelf.new) }

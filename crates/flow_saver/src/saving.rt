@@ -1,6 +1,6 @@
 //! The role that saves.
 
-ghost use Rattle.std.specs.Prelude.{◌≡◌, ◌<◌, ℕ, List, [], Option, Some, true, false, length, map, is_some, slice_get, IsTrue};
+ghost use Rattle.std.specs.Prelude.{◌≡◌, ◌<◌, ◌-◌, ◌^◌, min, ℕ, List, [], ◌∷◌, Option, Some, true, false, length, map, is_some, slice_get, IsTrue};
 ghost use Rattle.std.specs.Option.{option_map};
 ghost use Rattle.std.specs.List.{list_all};
 ghost use Rattle.nd_base.specs.GraphRules.{IsGraph};
@@ -233,8 +233,9 @@ pub fn save_role<R: Run, D: Desk<Frame<R>>, K: Shelf, N: Watch, G: Gate, W: Wait
     requires files { (prefix : List ℕ) × (files ≡ file_nodes R.graph R.stack prefix) }
     ensures ours { D.ours desk.now result.pass }
     ensures role { (D.knows result.pass).role ≡ role }
+    ensures owned { (D.knows result.pass).said.owned ≡ true }
     ensures moves { list_all saver_logs (past (D.knows result.pass).made) ≡ true }
-    ensures last { IsTrue (saver_ends (run_setting R.graph R.stack) (D.knows result.pass).last (past (D.knows result.pass).seen) result.want) }
+    ensures last { IsTrue (saver_ends (run_setting R.graph R.stack) (D.knows result.pass).said.last (past (D.knows result.pass).seen) result.want) }
     ensures left { IsPieceOfHand (lent_to role (D.knows result.pass).made) (hand role (past (D.knows result.pass).made)) (option_map piece_of result.left) }
     ensures wants { result.want ≡ is_some result.left }
     ensures nodes { map closed result.files ≡ files }
@@ -245,7 +246,8 @@ pub fn save_role<R: Run, D: Desk<Frame<R>>, K: Shelf, N: Watch, G: Gate, W: Wait
         → RoleLeaves R.graph R.stack (record { prefix = prefix; made = []; held = K.held shelf.old }) role result.left
         (D.knows result.pass) result.files result.fault (K.held shelf.new) }
     ensures fault { CountsSo result.fault (K.faults shelf.old) (K.faults shelf.new) }
-    ensures notes { AreNotesOf (run_setting R.graph R.stack) (past (D.knows result.pass).seen) result.want (N.watched watch.old) (N.watched watch.new) }
+    ensures notes { (notes : AreNotesOf (run_setting R.graph R.stack) (past (D.knows result.pass).seen) result.want (N.watched watch.old) (N.watched watch.new))
+        × ((D.knows result.pass).said.asked ≡ min (length (notes.last ∷ notes.earlier)) (2 ^ 64 - 1)) }
     ensures home { N.home watch.new ≡ N.home watch.old }
 {
     let mut pass = pass;

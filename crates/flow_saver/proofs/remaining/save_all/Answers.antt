@@ -5,6 +5,7 @@ use Rattle.board_rules.specs.RunMeasures.{run_setting}
 use Rattle.flow_drain.specs.Drains.{IsDrained}
 use Rattle.flow_drain.proofs.Rounds.{more-entries}
 use Rattle.graph_files.specs.NodeFiles.{NodeFile}
+use Rattle.flow_saver.proofs.KeptNames.{saving-kept, unsaved-kept}
 use Rattle.flow_saver.proofs.Resting.{rest-none, rest-on}
 use Rattle.flow_saver.proofs.RestLoops.{same-files, same-count, step-first, step-then}
 use Rattle.flow_saver.proofs.SaveOne.{item}
@@ -214,3 +215,13 @@ returns-in-Wants-clause-cause g c =
     step-then c.args.fault.now c.pieces.fault c.save_next.new.fault (g.K.Shelf.faults c.args.shelf.now) (g.K.Shelf.faults c.pieces.shelf)
     (g.K.Shelf.faults c.save_next.new.shelf) (g.K.Shelf.held c.args.shelf.now) (g.K.Shelf.held c.pieces.shelf)
     (g.K.Shelf.held c.save_next.new.shelf) inv.cause c.in-Wants.ensures.cause
+
+pub returns-in-Nothing-clause-elsewhere : goal.returns-in-Nothing-clause-elsewhere
+returns-in-Nothing-clause-elsewhere g c =
+    λ prefix before st. saving-kept g.R.Run.graph g.R.Run.stack c.requires.graph prefix before _ _ _ _
+    (c.in-Nothing.ensures.leaves prefix before (c.pieces.invariant.saving prefix before st))
+
+pub returns-in-Wants-clause-elsewhere : goal.returns-in-Wants-clause-elsewhere
+returns-in-Wants-clause-elsewhere g c =
+    λ prefix before st. unsaved-kept g.R.Run.graph g.R.Run.stack c.requires.graph prefix before _ _ _ _ _
+    (c.in-Wants.ensures.leaves prefix before (c.pieces.invariant.saving prefix before st))

@@ -6,7 +6,8 @@ use Rattle.board_rules.specs.States.{past, plain}
 use Rattle.board_rules.specs.RunMeasures.{run_setting}
 use Rattle.board_rules.proofs.Moves.{moves-tell}
 use Rattle.flow_saver.specs.Saver.{back_of}
-use Rattle.flow_saver.proofs.Remains.{to-give-alone, back-moves}
+use Rattle.flow_saver.proofs.KeptNames.{saving-kept, unsaved-kept}
+use Rattle.flow_saver.proofs.Remains.{to-give-alone, unsaved-still, back-moves}
 use Rattle.flow_saver.proofs.Resting.{rest-none}
 use Rattle.flow_saver.proofs.remaining.save_left.Goals as goal
 
@@ -100,3 +101,27 @@ returns-in_err-write_due-clause-legal g c =
     let b = g.B.BoardCalls.shown c.args.board.now in
     let h = c.requires.unsaved in
     h.1.1.legal
+
+pub returns-clause-elsewhere : goal.returns-clause-elsewhere
+returns-clause-elsewhere g c =
+    let gr = g.R.Run.graph in
+    let stack = g.R.Run.stack in
+    let xs = c.args.files.now in
+    let held = g.K.Shelf.held c.args.shelf.now in
+    let b = g.B.BoardCalls.shown c.args.board.now in
+    let stands = g.K.Shelf.held c.write_due.new.shelf in
+    λ prefix before st. saving-kept gr stack c.requires.graph prefix before (g.B.BoardCalls.shown c.return_piece.new.board) c.write_due.new.files
+    c.write_due.new.fault stands (c.return_piece.ensures.given prefix before stands (to-give-alone gr stack prefix before b xs c.write_due.new.files
+    c.args.fault.now c.write_due.new.fault held stands c.args.due st c.in_ok-write_due.ensures.ok))
+
+pub returns-in_err-write_due-clause-elsewhere : goal.returns-in_err-write_due-clause-elsewhere
+returns-in_err-write_due-clause-elsewhere g c =
+    let gr = g.R.Run.graph in
+    let stack = g.R.Run.stack in
+    let xs = c.args.files.now in
+    let held = g.K.Shelf.held c.args.shelf.now in
+    let b = g.B.BoardCalls.shown c.args.board.now in
+    let stands = g.K.Shelf.held c.write_due.new.shelf in
+    λ prefix before st. unsaved-kept gr stack c.requires.graph prefix before b c.write_due.new.files c.write_due.new.fault stands c.args.due
+    (unsaved-still gr stack prefix before b xs c.write_due.new.files c.args.fault.now c.write_due.new.fault held stands c.args.due st
+    c.in_err-write_due.ensures.err)

@@ -6,6 +6,7 @@ use Rattle.flow_journal.specs.Unsaved.{unsaved}
 use Rattle.board_rules.specs.States.{past}
 use Rattle.board_rules.specs.RunMeasures.{run_setting}
 use Rattle.graph_files.specs.NodeFiles.{NodeFile}
+use Rattle.flow_saver.proofs.KeptNames.{saving-kept}
 use Rattle.flow_saver.proofs.Resting.{rest-none, rest-on}
 use Rattle.flow_saver.proofs.RestLoops.{same-files, same-count, step-first, step-then, nodes-differ, rest-finished}
 use Rattle.flow_saver.proofs.SaveOne.{item}
@@ -126,3 +127,11 @@ returns-clause-finished g c =
     let h = c.requires.saving in
     rest-finished gr stack c.requires.graph h.0 xs h.1.1.saving.nodes (past here) inv.drained
     (λ k x at. inv.empty k x (let low = slice_get_within xs k x at in omega (arith, low)) at)
+
+pub returns-in_err-save_all-clause-elsewhere : goal.returns-in_err-save_all-clause-elsewhere
+returns-in_err-save_all-clause-elsewhere g c =
+    λ prefix before st. c.in_err-save_all.ensures.elsewhere prefix before (c.loop-at.invariant.saving prefix before st)
+
+pub returns-clause-elsewhere : goal.returns-clause-elsewhere
+returns-clause-elsewhere g c =
+    λ prefix before st. saving-kept g.R.Run.graph g.R.Run.stack c.requires.graph prefix before _ _ _ _ (c.loop-at.invariant.saving prefix before st)

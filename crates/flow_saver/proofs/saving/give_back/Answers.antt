@@ -27,4 +27,4 @@ returns-clause-goes g c =
     gone-logged (run_setting g.R.Run.graph g.R.Run.stack) AreNone _ _ _ _ c.in-Ok.ensures.called
     (plain (entry.Saved c.args.role h.2.node c.args.piece.name.maker c.args.piece.name.index))
     (back-logged g.R.Run.graph g.R.Run.stack h.0 c.args.role _ _ c.args.files.now c.args.fault h.1 c.args.piece _ h.2
-    (Unit {0}) c.in-Ok.field-0 c.in-Ok.ensures.called) refl
+    (Unit {0}) c.in-Ok.field-0 c.in-Ok.ensures.called) refl (λ said. (refl, refl))

@@ -11,7 +11,7 @@ save-requires-clause-node g c =
     let xs = c.args.files.now in
     let held = g.K.Shelf.held c.args.shelf.now in
     let p = g.D.Desk.knows c.args.pass.now in
-    one-node gr stack c.requires.graph c.requires.saving.0 c.args.role c.requires.role p p xs c.args.fault.now held p.last c.requires.saving.1 c.args.at
+    one-node gr stack c.requires.graph c.requires.saving.0 c.args.role c.requires.role p p xs c.args.fault.now held (λ said. said) c.requires.saving.1 c.args.at
     c.node-node.result c.node-node.ensures c.requires.at
 
 pub unreachable-requires : goal.unreachable-requires
@@ -102,7 +102,7 @@ returns-in-NotYet-clause-goes g c =
     let p = g.D.Desk.knows c.args.pass.now in
     let q = g.D.Desk.knows c.save.new.pass in
     λ start st x at.
-    gone-not_yet gr stack start.prefix c.args.files.now st.nodes (run_setting gr stack) c.args.role p q _ c.args.at c.node-node.result
+    gone-not_yet gr stack start.prefix c.args.files.now st.nodes (run_setting gr stack) c.args.role p q c.args.at c.node-node.result
     c.node-node.ensures c.requires.at x at c.in-NotYet.ensures.called
 
 pub returns-in-Ok-clause-goes : goal.returns-in-Ok-clause-goes
@@ -112,7 +112,7 @@ returns-in-Ok-clause-goes g c =
     let p = g.D.Desk.knows c.args.pass.now in
     let q = g.D.Desk.knows c.save.new.pass in
     λ start st x at. gone-on (run_setting gr stack) (AreAt x.node) p q (g.D.Desk.knows c.give_back.new.pass)
-    (gone-piece gr stack start.prefix c.args.files.now st.nodes (run_setting gr stack) c.args.role p q _ c.args.at c.node-node.result
+    (gone-piece gr stack start.prefix c.args.files.now st.nodes (run_setting gr stack) c.args.role p q c.args.at c.node-node.result
     c.node-node.ensures c.requires.at x at c.in-Piece.input c.in-Piece.group c.in-Piece.place c.in-Piece.of c.in-Piece.ensures.called)
     c.give_back.ensures.goes
 
@@ -123,5 +123,5 @@ returns-in_default-clause-goes g c =
     let p = g.D.Desk.knows c.args.pass.now in
     let q = g.D.Desk.knows c.save.new.pass in
     λ start st x at.
-    gone-piece gr stack start.prefix c.args.files.now st.nodes (run_setting gr stack) c.args.role p q _ c.args.at c.node-node.result
+    gone-piece gr stack start.prefix c.args.files.now st.nodes (run_setting gr stack) c.args.role p q c.args.at c.node-node.result
     c.node-node.ensures c.requires.at x at c.in-Piece.input c.in-Piece.group c.in-Piece.place c.in-Piece.of c.in-Piece.ensures.called

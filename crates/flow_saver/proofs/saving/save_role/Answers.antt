@@ -1,16 +1,19 @@
-use Rattle.std.proofs.Common.{[], ◌∷◌, sym, subst, refl, ◌∙◌, Option, None}
+use Rattle.std.proofs.Common.{◌≡◌, ◌⊎◌, inl, inr, true, [], ◌∷◌, length, sym, subst, refl, ◌∙◌, Option, None}
 use Rattle.std.proofs.lemmas.Bool.{true≢false}
 use Rattle.edge_traits.specs.Files.{Files}
 use Rattle.flow_journal.specs.declared.entry.Entry.{Entry}
 use Rattle.board_rules.specs.RunMeasures.{run_setting}
 use Rattle.board_rules.specs.States.{past, lent_to}
+use Rattle.flow_roles.proofs.Calls.{still-owned}
+use Rattle.flow_roles.proofs.RoleCalls.{fresh-owned}
 use Rattle.flow_saver.specs.Saver.{AreSaved, IsPieceOfHand}
 use Rattle.flow_saver.specs.Turns.{Falls, AreNone}
 use Rattle.flow_saver.proofs.Steps.{saving-still, all-given}
-use Rattle.flow_saver.proofs.Beginning.{fresh-saving, all-since, saving-from, unsaved-from, hand-piece}
+use Rattle.flow_saver.proofs.Beginning.{fresh-saving, fresh-asked, all-since, saving-from, unsaved-from, hand-piece}
 use Rattle.flow_saver.proofs.Counting.{counts-then}
-use Rattle.flow_saver.proofs.Turning.{call-own, gone-nothing, gone-on, turns-first, turns-same, turns-next, noted-more}
+use Rattle.flow_saver.proofs.Turning.{call-own, gone-asked, once-asked, ended-asked, ended-wanting, gone-on, turns-first, turns-same, turns-next, noted-more}
 use Rattle.flow_saver.proofs.saving.save_role.Goals as goal
+use Rattle.flow_saver.proofs.saving.save_role.Goals.{then-progress-via-then-progress, then-progress-via-else-progress+then-progress-2}
 
 pub loop-init : goal.loop-init
 loop-init g c =
@@ -29,6 +32,8 @@ loop-init g c =
       noted = refl;
       turns = λ q gone own. turns-first (run_setting g.R.Run.graph g.R.Run.stack) (g.D.Desk.knows c.args.pass) q
           (c.requires.fresh.role ∙ c.requires.role) c.requires.fresh.made gone own;
+      owned = fresh-owned _ _ c.requires.fresh;
+      asked = fresh-asked _ _ c.requires.fresh;
       home = refl;
     }
 
@@ -106,7 +111,8 @@ loop-preserved-in-Nothing g c =
     let q = g.D.Desk.knows c.progress-progress.new.pass in
     let call = c.progress-progress.ensures.called in
     let own = call-own s _ _ _ q call in
-    let before = inv.turns q (gone-nothing s AreNone _ _ _ q call call.answer.1 refl) own in
+    let before = inv.turns _ (gone-asked s _ _ _ q call call.answer.1) own in
+    let goes = c.save_turn.ensures.goes inv.start still in
     record {
       ours = c.save_turn.ensures.ours;
       start = inv.start;
@@ -121,7 +127,9 @@ loop-preserved-in-Nothing g c =
       noted = noted-more s inv.fronts _ _ _ c.note.result c.progress-progress.result _ q.seen call.answer.0 call.answer.1 inv.noted c.note.ensures.ok
           c.note.ensures.err;
       turns = λ r gone mine. turns-next s inv.fronts q r (still.role ∙ c.requires.role)
-          (gone-on s Falls q (g.D.Desk.knows c.save_turn.new.pass) r (c.save_turn.ensures.goes inv.start still) gone) own mine before;
+          (gone-on s Falls q (g.D.Desk.knows c.save_turn.new.pass) r goes gone) own mine before;
+      owned = goes.owned (still-owned _ _ _ _ _ c.args.role inv.saving.role call refl inv.owned);
+      asked = goes.asked ∙ once-asked s _ c.progress-progress.result _ q call (length inv.fronts) inv.asked;
       home = c.note.ensures.home ∙ inv.home;
     }
 
@@ -137,7 +145,8 @@ loop-preserved g c =
     let q = g.D.Desk.knows c.progress-progress.new.pass in
     let call = c.progress-progress.ensures.called in
     let own = call-own s _ _ _ q call in
-    let before = inv.turns q (gone-nothing s AreNone _ _ _ q call call.answer.1 refl) own in
+    let before = inv.turns _ (gone-asked s _ _ _ q call call.answer.1) own in
+    let goes = c.save_turn.ensures.goes inv.start still in
     record {
       ours = c.save_turn.ensures.ours;
       start = inv.start;
@@ -152,7 +161,9 @@ loop-preserved g c =
       noted = noted-more s inv.fronts _ _ _ c.note.result c.progress-progress.result _ q.seen call.answer.0 call.answer.1 inv.noted c.note.ensures.ok
           c.note.ensures.err;
       turns = λ r gone mine. turns-next s inv.fronts q r (still.role ∙ c.requires.role)
-          (gone-on s Falls q (g.D.Desk.knows c.save_turn.new.pass) r (c.save_turn.ensures.goes inv.start still) gone) own mine before;
+          (gone-on s Falls q (g.D.Desk.knows c.save_turn.new.pass) r goes gone) own mine before;
+      owned = goes.owned (still-owned _ _ _ _ _ c.args.role inv.saving.role call refl inv.owned);
+      asked = goes.asked ∙ once-asked s _ c.progress-progress.result _ q call (length inv.fronts) inv.asked;
       home = c.note.ensures.home ∙ inv.home;
     }
 
@@ -255,15 +266,22 @@ returns-then-progress-clause-notes g c =
     let q = g.D.Desk.knows c.progress-progress.new.pass in
     let call = c.progress-progress.ensures.called in
     let own = call-own s _ _ _ q call in
-    let before = inv.turns q (gone-nothing s AreNone _ _ _ q call call.answer.1 refl) own in
-    record {
-      last = past q.seen;
-      earlier = inv.fronts;
-      noted = noted-more s inv.fronts _ _ _ c.note.result c.progress-progress.result _ q.seen call.answer.0 call.answer.1 inv.noted c.note.ensures.ok
-          c.note.ensures.err;
-      turns = turns-same s inv.fronts (past q.seen) before;
-      whole = λ fine. refl;
-    }
+    let told : (c.progress-progress.result.done ≡ true) ⊎ (c.progress-progress.result.left ≡ true) = elim c.then-progress.branch [
+      | then-progress-via-then-progress w ↦ inl w.if-progress.true
+      | then-progress-via-else-progress+then-progress-2 w ↦ inr w.if-progress-2.true
+    ] in
+    let before = inv.turns _ (gone-asked s _ _ _ q call call.answer.1) own in (
+      record {
+        last = past q.seen;
+        earlier = inv.fronts;
+        ended = ended-asked s c.progress-progress.result _ q.seen call.answer.0 call.answer.1 told;
+        noted = noted-more s inv.fronts _ _ _ c.note.result c.progress-progress.result _ q.seen call.answer.0 call.answer.1 inv.noted c.note.ensures.ok
+            c.note.ensures.err;
+        turns = turns-same s inv.fronts (past q.seen) before;
+        whole = λ fine. refl;
+      },
+      once-asked s _ c.progress-progress.result _ q call (length inv.fronts) inv.asked,
+    )
 
 pub returns-in-Wants-clause-notes : goal.returns-in-Wants-clause-notes
 returns-in-Wants-clause-notes g c =
@@ -277,19 +295,37 @@ returns-in-Wants-clause-notes g c =
     let q = g.D.Desk.knows c.progress-progress.new.pass in
     let call = c.progress-progress.ensures.called in
     let own = call-own s _ _ _ q call in
-    let before = inv.turns q (gone-nothing s AreNone _ _ _ q call call.answer.1 refl) own in
-    let goes = c.save_turn.ensures.goes inv.start still in
-    record {
-      last = past q.seen;
-      earlier = inv.fronts;
-      noted = noted-more s inv.fronts _ _ _ c.note.result c.progress-progress.result _ q.seen call.answer.0 call.answer.1 inv.noted c.note.ensures.ok
-          c.note.ensures.err;
-      turns = turns-next s inv.fronts q (g.D.Desk.knows c.save_turn.new.pass) (still.role ∙ c.requires.role) goes own (goes.own own) before;
-      whole = λ fine. absurd (true≢false fine);
-    }
+    let before = inv.turns _ (gone-asked s _ _ _ q call call.answer.1) own in
+    let end = c.in-Wants.ensures.leaves inv.start still in
+    let goes = c.save_turn.ensures.goes inv.start still in (
+      record {
+        last = past q.seen;
+        earlier = inv.fronts;
+        ended = ended-wanting s c.args.role (g.D.Desk.knows c.save_turn.new.pass) _ (goes.own own).0 end.role c.requires.role end.hand;
+        noted = noted-more s inv.fronts _ _ _ c.note.result c.progress-progress.result _ q.seen call.answer.0 call.answer.1 inv.noted c.note.ensures.ok
+            c.note.ensures.err;
+        turns = turns-next s inv.fronts q (g.D.Desk.knows c.save_turn.new.pass) (still.role ∙ c.requires.role) goes own (goes.own own) before;
+        whole = λ fine. absurd (true≢false fine);
+      },
+      goes.asked ∙ once-asked s _ c.progress-progress.result _ q call (length inv.fronts) inv.asked,
+    )
 
 pub returns-then-progress-clause-home : goal.returns-then-progress-clause-home
 returns-then-progress-clause-home g c = c.note.ensures.home ∙ c.loop.invariant.home
 
 pub returns-in-Wants-clause-home : goal.returns-in-Wants-clause-home
 returns-in-Wants-clause-home g c = c.note.ensures.home ∙ c.loop.invariant.home
+
+pub returns-then-progress-clause-owned : goal.returns-then-progress-clause-owned
+returns-then-progress-clause-owned g c =
+    let inv = c.loop.invariant in
+    still-owned _ _ _ _ _ c.args.role inv.saving.role c.progress-progress.ensures.called refl inv.owned
+
+pub returns-in-Wants-clause-owned : goal.returns-in-Wants-clause-owned
+returns-in-Wants-clause-owned g c =
+    let inv = c.loop.invariant in
+    let call = c.progress-progress.ensures.called in
+    let still =
+    saving-still g.R.Run.graph g.R.Run.stack inv.start c.args.role _ _ (g.D.Desk.knows c.loop.pass) (g.D.Desk.knows c.progress-progress.new.pass) c.loop.files
+    c.loop.fault (g.K.Shelf.held c.loop.shelf) inv.saving call call.answer.1 in
+    (c.save_turn.ensures.goes inv.start still).owned (still-owned _ _ _ _ _ c.args.role inv.saving.role call refl inv.owned)

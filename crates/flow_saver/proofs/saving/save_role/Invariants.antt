@@ -1,4 +1,5 @@
-use Rattle.std.proofs.Common.{◌≡◌, List, []}
+use Rattle.std.proofs.Common.{◌≡◌, ◌-◌, ◌^◌, true, List, [], length}
+use Rattle.std.specs.Prelude.{min}
 use Rattle.flow_journal.specs.Pasts.{Past}
 use Rattle.flow_journal.specs.Notes.{WereNoted}
 use Rattle.board_rules.specs.RunMeasures.{run_setting}
@@ -23,5 +24,7 @@ invariant-loop g l =
       noted : WereNoted (run_setting g.R.Run.graph g.R.Run.stack) fronts (g.N.Watch.watched l.fn.watch) (g.N.Watch.watched l.watch);
       turns : (q : Pass) → HasGoneOn (run_setting g.R.Run.graph g.R.Run.stack) AreNone (g.D.Desk.knows l.pass) q
           → KnowsItsOwn (run_setting g.R.Run.graph g.R.Run.stack) q → AreTurns fronts (past q.seen);
+      owned : (g.D.Desk.knows l.pass).said.owned ≡ true;
+      asked : (g.D.Desk.knows l.pass).said.asked ≡ min (length fronts) (2 ^ 64 - 1);
       home : g.N.Watch.home l.watch ≡ g.N.Watch.home l.fn.watch;
     }
