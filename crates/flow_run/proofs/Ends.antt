@@ -17,12 +17,10 @@ both-parts a b h none = true≢false (sym (and_parts a b h).1 ∙ none)
 
 -- the feeder has closed the feed
 pub feeder-closed : (l : Last) (P : Past) (want : Bool) → feeder_ends l P want ≡ true → has_left_any P ≡ false → is_closed P ≡ true
-feeder-closed last.LoadLeft P want h none = absurd (both-parts (not want) (has_left_any P) h none)
+feeder-closed last.Left P want h none = absurd (both-parts (not want) (has_left_any P) h none)
 feeder-closed last.Closed P want h none = (and_parts (not want) (is_closed P) h).1
 feeder-closed last.Gone P want h none = absurd (both-parts want (has_left_any P) h none)
 feeder-closed last.Fresh P want h none = absurd (false≢true h)
-feeder-closed last.Load P want h none = absurd (false≢true h)
-feeder-closed last.Left P want h none = absurd (false≢true h)
 feeder-closed last.Ended P want h none = absurd (false≢true h)
 feeder-closed last.NotYours P want h none = absurd (false≢true h)
 feeder-closed last.Other P want h none = absurd (false≢true h)
@@ -33,8 +31,6 @@ worker-settled v last.Left P want h none = absurd (both-parts (not want) (has_le
 worker-settled v last.Ended P want h none = (and_parts (not want) (is_settled v P) h).1
 worker-settled v last.Gone P want h none = absurd (both-parts want (has_left_any P) h none)
 worker-settled v last.Fresh P want h none = absurd (false≢true h)
-worker-settled v last.LoadLeft P want h none = absurd (false≢true h)
-worker-settled v last.Load P want h none = absurd (false≢true h)
 worker-settled v last.Closed P want h none = absurd (false≢true h)
 worker-settled v last.NotYours P want h none = absurd (false≢true h)
 worker-settled v last.Other P want h none = absurd (false≢true h)

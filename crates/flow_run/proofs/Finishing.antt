@@ -1,5 +1,5 @@
 -- What is left of a run, from the board on which all roles have ended to its end.
-use Rattle.std.proofs.Common.{◌≡◌, ℕ, ◌+◌, ◌<◌, Bool, true, false, List, [], ◌∷◌, ◌++◌, length, refl, sym, ap, ◌∙◌, subst, arith, Option, Some}
+use Rattle.std.proofs.Common.{◌≡◌, ℕ, ◌+◌, ◌<◌, Bool, true, false, List, [], ◌∷◌, ◌++◌, length, refl, sym, ap, ◌∙◌, subst, arith, Option, None, Some}
 use Rattle.std.specs.Prelude.{slice_get, is_err, OnOk, OnErr, Result, Ok, Err}
 use Rattle.std.specs.List.{list_all}
 use Rattle.std.proofs.lemmas.Bool.{and_parts, false≢true}
@@ -32,16 +32,19 @@ use Rattle.flow_roles.specs.RoleMoves.{saver_logs}
 use Rattle.flow_saver.specs.Remaining.{is_rest, RestMoves, IsSavingAlone}
 use Rattle.flow_saver.specs.HistoryFiles.{HoldsGroupsOf}
 use Rattle.flow_saver.specs.Ending.{IsTornHistory}
+use Rattle.flow_saver.specs.KeptNames.{IsGroupName, AreKeptBut}
+use Rattle.flow_saver.specs.declared.piece.DuePiece.{DuePiece}
 use Rattle.file_out.specs.declared.fault.SaveFault.{SaveFault}
 use Rattle.flow_journal.specs.Pasts.{Past}
 use Rattle.flow_journal.specs.Notes.{Watched}
 use Rattle.board_rules.proofs.Pasts.{past-append}
 use Rattle.flow_saver.specs.Turns.{AreNotesOf}
 use Rattle.flow_run.specs.RunNotes.{HasNotesOf}
-use Rattle.flow_run.specs.RunFiles.{HasSavedRun}
+use Rattle.flow_run.specs.RunFiles.{SaverLeaves, HasSavedRun}
 use Rattle.flow_drain.proofs.Growth.{drain-keeps}
 use Rattle.flow_drain.proofs.Stored.{back-keeps}
 use Rattle.flow_saver.proofs.Handing.{rest-others, rest-reclaims, free-alone}
+use Rattle.flow_saver.proofs.KeptNames.{saving-kept, unsaved-kept, groups-kept, torn-kept}
 use Rattle.flow_saver.proofs.Resting.{rest-keeps}
 use Rattle.flow_run.specs.Strangers.{AreOwnMoves}
 use Rattle.flow_run.specs.Ticks.{AfterMoves, IsFedByTheClock}
@@ -139,6 +142,17 @@ saved-run g stack P held Saving prefix before (Ok x) fault is a ok err =
     subst (λ (b : Bool). HasSavedRun g stack prefix P before b held) (sym is) (ok prefix before a)
 saved-run g stack P held Saving prefix before (Err e) fault is a ok err =
     subst (λ (b : Bool). HasSavedRun g stack prefix P before b held) (sym is) (err prefix before a)
+
+-- only names of groups have changed, before it has ended and then
+module _ (g : Graph) (stack : StackValue) (sound : IsGraph g) (prefix : List ℕ) (before : Option Files) where
+  pub leaves-kept : (left : Option (DuePiece Sealed)) (b : BoardState) (xs : List NodeFile) (fault : Bool) (held : Option Files)
+      → SaverLeaves g stack prefix before left b xs fault held → AreKeptBut (IsGroupName g prefix) before held
+  leaves-kept None b xs fault held h = saving-kept g stack sound prefix before b xs fault held h
+  leaves-kept (Some due) b xs fault held h = unsaved-kept g stack sound prefix before b xs fault held due h
+
+  pub run-kept : (P : Past) (fault : Bool) (held : Option Files) → HasSavedRun g stack prefix P before fault held → AreKeptBut (IsGroupName g prefix) before held
+  run-kept P false held h = groups-kept g stack sound prefix P before held h
+  run-kept P true held h = torn-kept g stack sound prefix P before held h
 
 -- THE LOG
 

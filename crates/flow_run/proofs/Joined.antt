@@ -182,7 +182,7 @@ module _ {O : Type 0} (s : Setting) (b : BoardState) (passes : List Pass) (lefts
       let p = pass-of 0 low in
       let l = left-of 0 low in
       let h = j.each 0 0 p.0 l.0 refl p.1 l.1 in
-      seen-some closes p.0 h.0 (feeder-closed p.0.last (past p.0.seen) h.1.0 h.1.1.last (seen-none p.0 h.0 none))
+      seen-some closes p.0 h.0 (feeder-closed p.0.said.last (past p.0.seen) h.1.0 h.1.1.last (seen-none p.0 h.0 none))
 
   pub worked-off : (k v : ℕ) → slice_get (workers s) k ≡ Some (suc v) → has_left_any (past b) ≡ false → is_settled (suc v) (past b) ≡ true
   worked-off k v at none =
@@ -190,4 +190,4 @@ module _ {O : Type 0} (s : Setting) (b : BoardState) (passes : List Pass) (lefts
       let p = pass-of (suc k) low in
       let l = left-of (suc k) low in
       let h = j.each (suc k) (suc v) p.0 l.0 at p.1 l.1 in
-      seen-some (settles (suc v)) p.0 h.0 (worker-settled (suc v) p.0.last (past p.0.seen) h.1.0 h.1.1.last (seen-none p.0 h.0 none))
+      seen-some (settles (suc v)) p.0 h.0 (worker-settled (suc v) p.0.said.last (past p.0.seen) h.1.0 h.1.1.last (seen-none p.0 h.0 none))

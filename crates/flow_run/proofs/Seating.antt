@@ -89,7 +89,7 @@ module _ {O P : Type 0} (ours : P → Type 0) (knows : P → Pass) where
 -- what a worker's seat has once it has worked
 pub worked : {O P : Type 0} (ours : P → Type 0) (knows : P → Pass) (s : Setting) (role node : ℕ) (begins : P) (end : RoleEnd Sealed P (List ℕ) O)
     → ours end.pass → (knows end.pass).role ≡ role
-    → list_all (worker_logs node) (past (knows end.pass).made) ≡ true → worker_ends node (knows end.pass).last (past (knows end.pass).seen) end.want ≡ true
+    → list_all (worker_logs node) (past (knows end.pass).made) ≡ true → worker_ends node (knows end.pass).said.last (past (knows end.pass).seen) end.want ≡ true
     → IsOfHand name_of parts_of length (lent_to role (knows end.pass).made) (hand role (past (knows end.pass).made))
     end.left.input end.left.made end.left.blank
     → MayComeBack name_of parts_of length s role (knows end.pass).made end.left → (r v : ℕ) → IsWorker {O = O} ours knows s r v (Ready role node begins)
@@ -140,7 +140,7 @@ module _ {O P : Type 0} (ours : P → Type 0) (knows : P → Pass) (g : Graph) (
 pub worked-from : {O P : Type 0} (ours : P → Type 0) (knows : P → Pass) (s : Setting) (x : Seat Sealed P (List ℕ) O)
     (role node : ℕ) (begins : P) (end : RoleEnd Sealed P (List ℕ) O) → x ≡ Ready role node begins
     → ours end.pass → (knows end.pass).role ≡ role
-    → list_all (worker_logs node) (past (knows end.pass).made) ≡ true → worker_ends node (knows end.pass).last (past (knows end.pass).seen) end.want ≡ true
+    → list_all (worker_logs node) (past (knows end.pass).made) ≡ true → worker_ends node (knows end.pass).said.last (past (knows end.pass).seen) end.want ≡ true
     → IsOfHand name_of parts_of length (lent_to role (knows end.pass).made) (hand role (past (knows end.pass).made))
     end.left.input end.left.made end.left.blank
     → MayComeBack name_of parts_of length s role (knows end.pass).made end.left → (r v : ℕ) → IsWorker {O = O} ours knows s r v x

@@ -11,17 +11,21 @@ use Rattle.edge_traits.specs.Ticks.{Coming}
 use Rattle.frame_store.specs.Sealed.{Sealed}
 use Rattle.flow_journal.specs.Setting.{Setting, last_role}
 use Rattle.flow_journal.specs.Histories.{is_history}
+use Rattle.flow_journal.specs.Notes.{Watched}
 use Rattle.board_rules.specs.declared.answers.Left.{Left}
 use Rattle.board_rules.specs.States.{BoardState, past}
 use Rattle.board_rules.specs.Movers.{moves_by}
-use Rattle.board_rules.specs.Storage.{HasAllStorage}
-use Rattle.board_rules.specs.RunMeasures.{run_setting}
+use Rattle.board_rules.specs.Ends.{measured}
+use Rattle.board_rules.specs.Storage.{HasAllStorage, is_never_regrown}
+use Rattle.board_rules.specs.RunMeasures.{run_setting, run_measure}
+use Rattle.run_laws.specs.Results.{IsFinishedRun}
 use Rattle.flow_roles.specs.declared.role_end.RoleEnd.{RoleEnd}
 use Rattle.flow_roles.specs.Passes.{Pass, only_drain_saves}
 use Rattle.flow_roles.specs.TurnPasses.{HasMade}
 use Rattle.graph_files.specs.NodeFiles.{NodeFile}
+use Rattle.graph_files.specs.OpenFiles.{file_nodes}
 use Rattle.flow_saver.specs.declared.piece.DuePiece.{DuePiece}
-use Rattle.flow_saver.specs.Saver.{RoleLeaves}
+use Rattle.flow_saver.specs.Saver.{RoleLeaves, CountsSo}
 use Rattle.flow_roles.specs.RoleMoves.{saver_logs}
 use Rattle.flow_roles.specs.Feeder.{parts_of}
 use Rattle.flow_saver.proofs.Handing.{saving-alone, unsaved-alone}
@@ -30,7 +34,12 @@ use Rattle.flow_run.specs.declared.seats.Seat.TheVariants.{Back}
 use Rattle.flow_roles.specs.Workers.{workers, posts}
 use Rattle.flow_run.specs.Seats.{IsRoleEnd, ends_of, IsBack, AreBack, HasFed}
 use Rattle.flow_run.specs.Joined.{IsJoined, IsFedUntil}
-use Rattle.flow_run.specs.RunFiles.{SaverLeaves}
+use Rattle.flow_run.specs.RunFiles.{SaverLeaves, HasSavedRun}
+use Rattle.flow_run.specs.RunNotes.{HasNotesOf}
+use Rattle.flow_run.specs.Runs.{Outside, HasRun}
+use Rattle.flow_run.specs.Strangers.{AreOwnMoves}
+use Rattle.flow_run.specs.Ticks.{IsFedByTheClock}
+use Rattle.flow_run.specs.declared.run.RunEnd.{RunEnd}
 use Rattle.flow_roles.proofs.Workers.{posts-length}
 use Rattle.flow_roles.proofs.Lists.{at-front, at-end, at-map, map-at, all-at, all-from}
 use Rattle.flow_run.proofs.Seating.{AreEnds, ends-from, all-back}
@@ -156,6 +165,28 @@ first-fed {O} {P} knows s old now x xs fed y at = let same : x ≡ y = cc in sub
 pub if-ok : {X E : Type 0} (r : Result X E) (A B : X → Type 0) → ((x : X) → A x → B x) → IfOk r A → IfOk r B
 if-ok (Ok x) A B goes h = goes x h
 if-ok (Err e) A B goes h = h
+
+-- all that is said of a run, in one
+module _ (g : Graph) (stack : StackValue) (began : List NodeFile) (before after : Outside) (old new : Watched) where
+  pub has-run : {E : Type 0} (r : Result RunEnd E) → IfOk r (λ end. IsFinishedRun (run_setting g stack) end.log.past)
+      → IfOk r (λ end. end.measures ≡ measured (run_measure g stack) (run_setting g stack) end.log.past)
+      → IfOk r (λ end. (prefix : List ℕ) → began ≡ file_nodes g stack prefix → HasSavedRun g stack prefix end.log.past before.held end.fault after.held)
+      → IfOk r (λ end. CountsSo end.fault before.faults after.faults) → IfOk r (λ end. AreOwnMoves (run_setting g stack) end.log.past)
+      → IfOk r (λ end. IsFedByTheClock (run_setting g stack) end.log.past before.coming after.coming)
+      → IfOk r (λ end. is_never_regrown end.log.past ≡ true) → IfOk r (λ end. HasNotesOf (run_setting g stack) end.log.past old new)
+      → IfOk r (λ end. HasRun g stack began before after old new end)
+  has-run (Ok end) finished measures files fault roles ticks storage notes =
+      record {
+        finished = finished;
+        measures = measures;
+        files = files;
+        fault = fault;
+        roles = roles;
+        ticks = ticks;
+        storage = storage;
+        notes = notes;
+      }
+  has-run (Err e) finished measures files fault roles ticks storage notes = finished
 
 -- what the role that saves left
 pub leaves-from : (g : Graph) (stack : StackValue) (prefix : List ℕ) (before : Option Files) (p : Pass) (left : Option (DuePiece Sealed)) (xs : List NodeFile)

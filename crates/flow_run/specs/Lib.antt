@@ -5,3 +5,4 @@ pub mod Joined
 pub mod RunFiles
 pub mod SaverEnds
 pub mod RunNotes
+pub mod Runs

@@ -34,7 +34,7 @@ post_ends (suc v) last P want = worker_ends (suc v) last P want
 pub record IsRoleEnd {O : Type 0} (s : Setting) (r v : ℕ) (p : Pass) (left : Left Sealed (List ℕ) O) (want : Bool) : Type 0 where
   pub role : p.role ≡ r
   pub moves : list_all (post_logs v) (past p.made) ≡ true
-  pub last : IsTrue (post_ends v p.last (past p.seen) want)
+  pub last : IsTrue (post_ends v p.said.last (past p.seen) want)
   pub handed : IsOfHand name_of parts_of length (lent_to r p.made) (hand r (past p.made)) left.input left.made left.blank
   pub reclaimed : MayComeBack name_of parts_of length s r p.made left
 

@@ -15,13 +15,14 @@ ghost use Rattle.flow_journal.specs.Setting.{last_role};
 ghost use Rattle.flow_journal.specs.Pasts.{Past};
 ghost use Rattle.board_rules.specs.States.{past};
 ghost use Rattle.flow_roles.specs.Passes.{Pass};
+ghost use Rattle.flow_saver.specs.KeptNames.{IsGroupName, AreKeptBut};
 ghost use Rattle.flow_saver.specs.Saver.{CountsSo, CountsStep};
 ghost use Rattle.flow_saver.specs.Remaining.{RestMoves, IsSavingAlone};
 ghost use Rattle.flow_run.specs.Joined.{IsJoined, IsFedUntil};
 ghost use Rattle.flow_run.specs.Strangers.{AreOwnMoves};
 ghost use Rattle.flow_run.specs.Ticks.{IsFedByTheClock};
-ghost use Rattle.flow_run.specs.RunFiles.{SaverLeaves, HasSavedRun};
-ghost use Rattle.flow_run.specs.RunNotes.{HasNotesOf};
+ghost use Rattle.flow_run.specs.RunFiles.{SaverLeaves, HasSavedRun, HasOnlySaved};
+ghost use Rattle.flow_run.specs.Runs.{HasRun, outside};
 
 use crate::seats::{Dealt, deal, gather};
 use crate::threads::run_roles;
@@ -70,6 +71,9 @@ fn save_unsaved<R: Run, B: BoardCalls<Frame<R>>, K: Shelf>(
     ensures saving { OnOk result ((prefix : List ℕ) (before : Option Files)
         → SaverLeaves R.graph R.stack prefix before left (B.shown board.old) files.old fault.old (K.held shelf.old)
         → IsSavingAlone R.graph R.stack prefix before (B.shown board.new) files.new fault.new (K.held shelf.new)) }
+    ensures elsewhere { (prefix : List ℕ) (before : Option Files)
+        → SaverLeaves R.graph R.stack prefix before left (B.shown board.old) files.old fault.old (K.held shelf.old)
+        → AreKeptBut (IsGroupName R.graph prefix) before (K.held shelf.new) }
     ensures moves { RestMoves (run_setting R.graph R.stack) (B.shown board.old) (B.shown board.new) }
     ensures cause { CountsStep fault.old fault.new (K.faults shelf.old) (K.faults shelf.new) (K.held shelf.old) (K.held shelf.new) }
 {
@@ -111,6 +115,9 @@ fn finish_run<R: Run, B: BoardCalls<Frame<R>>, K: Shelf, C: Clock>(
     ensures files { IfOk result (λ end. (prefix : List ℕ) (before : Option Files)
         → SaverLeaves R.graph R.stack prefix before left (B.shown board) files fault (K.held shelf.old)
         → HasSavedRun R.graph R.stack prefix end.log.past before end.fault (K.held shelf.new)) }
+    ensures elsewhere { (prefix : List ℕ) (before : Option Files)
+        → SaverLeaves R.graph R.stack prefix before left (B.shown board) files fault (K.held shelf.old)
+        → AreKeptBut (IsGroupName R.graph prefix) before (K.held shelf.new) }
     ensures fault { IfOk result (λ end. (first : ℕ) → CountsSo fault first (K.faults shelf.old) → CountsSo end.fault first (K.faults shelf.new)) }
     ensures roles { IfOk result (λ end. AreOwnMoves (run_setting R.graph R.stack) end.log.past) }
     ensures ticks { IfOk result (λ end. (old : Option Coming) → IsFedUntil (run_setting R.graph R.stack) (B.shown board) old (C.coming clock.old)
@@ -172,15 +179,10 @@ pub fn play_run<
     requires stack { stack.now ≡ R.stack }
     requires kept { IsKeptStack R.stack }
     requires files { (prefix : List ℕ) × (files ≡ file_nodes R.graph R.stack prefix) }
-    ensures finished { IfOk result (λ end. IsFinishedRun (run_setting R.graph R.stack) end.log.past) }
-    ensures measures { IfOk result (λ end. end.measures ≡ measured (run_measure R.graph R.stack) (run_setting R.graph R.stack) end.log.past) }
-    ensures files { IfOk result (λ end. (prefix : List ℕ) → files ≡ file_nodes R.graph R.stack prefix
-        → HasSavedRun R.graph R.stack prefix end.log.past (K.held shelf.old) end.fault (K.held shelf.new)) }
-    ensures fault { IfOk result (λ end. CountsSo end.fault (K.faults shelf.old) (K.faults shelf.new)) }
-    ensures roles { IfOk result (λ end. AreOwnMoves (run_setting R.graph R.stack) end.log.past) }
-    ensures ticks { IfOk result (λ end. IsFedByTheClock (run_setting R.graph R.stack) end.log.past (C.coming clock.old) (C.coming clock.new)) }
-    ensures storage { IfOk result (λ end. is_never_regrown end.log.past ≡ true) }
-    ensures notes { IfOk result (λ end. HasNotesOf (run_setting R.graph R.stack) end.log.past (N.watched watch.old) (N.watched watch.new)) }
+    ensures run { IfOk result (λ end. HasRun R.graph R.stack files
+        (outside (K.held shelf.old) (K.faults shelf.old) (C.coming clock.old)) (outside (K.held shelf.new) (K.faults shelf.new) (C.coming clock.new))
+        (N.watched watch.old) (N.watched watch.new) end) }
+    ensures elsewhere { HasOnlySaved R.graph R.stack files (K.held shelf.old) (K.held shelf.new) }
     ensures home { N.home watch.new ≡ N.home watch.old }
 {
     let nodes = worker_nodes::<R>(alloc, plan)?;

@@ -9,8 +9,7 @@ use Rattle.flow_journal.specs.Setting.{Setting}
 use Rattle.flow_saver.specs.Turns.{AreTurns}
 use Rattle.flow_run.specs.RunNotes.{HasNotesOf}
 use Rattle.flow_watch.specs.SeenLines.{AreSeenLines}
-use Rattle.flow_watch.specs.Reads.{ReadAfter, lines_after}
-use Rattle.flow_watch.specs.Runs.{unwatched}
+use Rattle.flow_watch.specs.Reads.{ReadAfter, lines_after, unwatched}
 use Rattle.flow_watch.proofs.Telling.{AreFronts, TellUpTo, Took, tell_more, all_noted}
 use Rattle.flow_watch.proofs.ReadFronts.{reads_tell}
 use Rattle.flow_watch.proofs.LineFronts.{lines_tell}

@@ -1,3 +1,2 @@
 pub mod SeenLines
 pub mod Reads
-pub mod Runs

@@ -8,19 +8,13 @@ ghost use Rattle.edge_traits.specs.Ticks.{Coming};
 ghost use Rattle.flow_journal.specs.Finished.{is_finished};
 ghost use Rattle.flow_journal.specs.Notes.{Watched};
 ghost use Rattle.flow_journal.specs.Setting.{Setting};
-ghost use Rattle.board_rules.specs.Ends.{measured};
-ghost use Rattle.board_rules.specs.RunMeasures.{run_measure, run_setting};
-ghost use Rattle.board_rules.specs.Storage.{is_never_regrown};
-ghost use Rattle.run_laws.specs.Results.{IsFinishedRun};
+ghost use Rattle.board_rules.specs.RunMeasures.{run_setting};
 ghost use Rattle.graph_files.specs.OpenFiles.{file_nodes};
 ghost use Rattle.flow_monitor.specs.Monitors.{watched_of};
-ghost use Rattle.flow_saver.specs.Saver.{CountsSo};
-ghost use Rattle.flow_run.specs.RunFiles.{HasSavedRun};
+ghost use Rattle.flow_run.specs.RunFiles.{HasOnlySaved};
 ghost use Rattle.flow_run.specs.RunNotes.{HasNotesOf};
-ghost use Rattle.flow_run.specs.Strangers.{AreOwnMoves};
-ghost use Rattle.flow_run.specs.Ticks.{IsFedByTheClock};
-ghost use Rattle.flow_watch.specs.Reads.{ReadAfter};
-ghost use Rattle.flow_watch.specs.Runs.{HasRun, outside, unwatched};
+ghost use Rattle.flow_run.specs.Runs.{HasRun, outside};
+ghost use Rattle.flow_watch.specs.Reads.{ReadAfter, unwatched};
 ghost use Rattle.flow_watch.specs.SeenLines.{AreSeenLines};
 
 use crate::lines::seen_text;
@@ -77,6 +71,7 @@ fn play_begun<
     ensures run { IfOk result (λ end. IfSome begins.old (λ b. HasRun R.graph R.stack b.1
         (outside (K.held shelf.old) (K.faults shelf.old) (C.coming clock.old)) (outside (K.held shelf.new) (K.faults shelf.new) (C.coming clock.new))
         (N.watched watch.old) (N.watched watch.new) end)) }
+    ensures elsewhere { IfSome begins.old (λ b. HasOnlySaved R.graph R.stack b.1 (K.held shelf.old) (K.held shelf.new)) }
     ensures home { N.home watch.new ≡ N.home watch.old }
 {
     let Some((board, files)) = begins.take() else {
@@ -128,6 +123,7 @@ fn run_beside<
     ensures run { IfOk result (λ end. IfSome begins.old (λ b. HasRun R.graph R.stack b.1
         (outside (K.held shelf.old) (K.faults shelf.old) (C.coming clock.old)) (outside (K.held shelf.new) (K.faults shelf.new) (C.coming clock.new))
         (N.watched watch.old) (N.watched watch.new) end)) }
+    ensures elsewhere { IfSome begins.old (λ b. HasOnlySaved R.graph R.stack b.1 (K.held shelf.old) (K.held shelf.new)) }
     ensures home { N.home watch.new ≡ N.home watch.old }
     ensures monitor { peek.new.monitor ≡ peek.old.monitor }
     ensures reads { ReadAfter peek.old.seen reads.new.items peek.new.seen }
@@ -150,6 +146,7 @@ fn run_beside<
                 (outside (K.held shelf.entry.now) (K.faults shelf.entry.now) (C.coming clock.entry.now))
                 (outside (K.held shelf.exit.now) (K.faults shelf.exit.now) (C.coming clock.exit.now))
                 (N.watched watch.entry.now) (N.watched watch.exit.now) end))
+                × IfSome begins.entry.now (λ b. HasOnlySaved R.graph R.stack b.1 (K.held shelf.entry.now) (K.held shelf.exit.now))
                 × (N.home watch.exit.now ≡ N.home watch.entry.now) }
         {
             play_begun(
@@ -213,6 +210,7 @@ fn watch_by<
     ensures run { IfOk result (λ end. (new : Watched) × HasRun R.graph R.stack files
         (outside (K.held shelf.old) (K.faults shelf.old) (C.coming clock.old)) (outside (K.held shelf.new) (K.faults shelf.new) (C.coming clock.new))
         unwatched new end.run) }
+    ensures elsewhere { HasOnlySaved R.graph R.stack files (K.held shelf.old) (K.held shelf.new) }
     ensures seen { IfOk result (λ end. end.run.fault ≡ false → AreSeenLines (run_setting R.graph R.stack) end.run.log.past (string_bytes end.seen)) }
     ensures unseen { IfOk result (λ end. end.run.fault ≡ true → string_bytes end.seen ≡ []) }
 {
@@ -271,14 +269,10 @@ pub fn watch_run<
     requires stack { stack.now ≡ R.stack }
     requires kept { IsKeptStack R.stack }
     requires files { (prefix : List ℕ) × (files ≡ file_nodes R.graph R.stack prefix) }
-    ensures finished { IfOk result (λ end. IsFinishedRun (run_setting R.graph R.stack) end.run.log.past) }
-    ensures measures { IfOk result (λ end. end.run.measures ≡ measured (run_measure R.graph R.stack) (run_setting R.graph R.stack) end.run.log.past) }
-    ensures files { IfOk result (λ end. (prefix : List ℕ) → files ≡ file_nodes R.graph R.stack prefix
-        → HasSavedRun R.graph R.stack prefix end.run.log.past (K.held shelf.old) end.run.fault (K.held shelf.new)) }
-    ensures fault { IfOk result (λ end. CountsSo end.run.fault (K.faults shelf.old) (K.faults shelf.new)) }
-    ensures roles { IfOk result (λ end. AreOwnMoves (run_setting R.graph R.stack) end.run.log.past) }
-    ensures ticks { IfOk result (λ end. IsFedByTheClock (run_setting R.graph R.stack) end.run.log.past (C.coming clock.old) (C.coming clock.new)) }
-    ensures storage { IfOk result (λ end. is_never_regrown end.run.log.past ≡ true) }
+    ensures run { IfOk result (λ end. (new : Watched) × HasRun R.graph R.stack files
+        (outside (K.held shelf.old) (K.faults shelf.old) (C.coming clock.old)) (outside (K.held shelf.new) (K.faults shelf.new) (C.coming clock.new))
+        unwatched new end.run) }
+    ensures elsewhere { HasOnlySaved R.graph R.stack files (K.held shelf.old) (K.held shelf.new) }
     ensures seen { IfOk result (λ end. end.run.fault ≡ false → AreSeenLines (run_setting R.graph R.stack) end.run.log.past (string_bytes end.seen)) }
     ensures unseen { IfOk result (λ end. end.run.fault ≡ true → string_bytes end.seen ≡ []) }
 {

@@ -8,10 +8,11 @@ use Rattle.flow_roles.specs.Feeder.{name_of}
 use Rattle.flow_drain.proofs.Growth.{none-held}
 use Rattle.flow_saver.specs.Remaining.{IsSavingAlone}
 use Rattle.flow_saver.proofs.Handing.{free-alone, drained-alone}
+use Rattle.flow_saver.proofs.KeptNames.{saving-kept}
 use Rattle.flow_run.specs.Strangers.{AreOwnMoves}
 use Rattle.flow_run.specs.Ticks.{IsFedByTheClock}
 use Rattle.flow_run.specs.RunFiles.{HasSavedRun}
-use Rattle.flow_run.proofs.Finishing.{ready-once, ready-left, run-own, run-ticks, run-storage, saved-run, run-begins}
+use Rattle.flow_run.proofs.Finishing.{ready-once, ready-left, run-own, run-ticks, run-storage, saved-run, run-kept, run-begins}
 use Rattle.flow_run.proofs.run.finish_run.Goals as goal
 
 pub drain-requires-clause-free : goal.drain-requires-clause-free
@@ -72,6 +73,23 @@ returns-clause-files g c prefix before h =
     (λ p b. IsSavingAlone g.R.Run.graph g.R.Run.stack p b (g.B.BoardCalls.shown c.save_rest.new.board) c.save_rest.new.files c.save_rest.new.fault
     (g.K.Shelf.held c.save_rest.new.shelf))
     prefix before c.end_files.result c.is_err-fault.result c.is_err-fault.ensures.value ended c.end_files.ensures.ok c.end_files.ensures.err)
+
+pub returns-clause-elsewhere : goal.returns-clause-elsewhere
+returns-clause-elsewhere g c prefix before h =
+    run-kept g.R.Run.graph g.R.Run.stack c.requires.graph prefix before _ _ _ (returns-clause-files g c prefix before h)
+
+pub returns-in_err-drain-clause-elsewhere : goal.returns-in_err-drain-clause-elsewhere
+returns-in_err-drain-clause-elsewhere g c prefix before h =
+    saving-kept g.R.Run.graph g.R.Run.stack c.requires.graph prefix before _ _ _ _ (c.in_ok-save_unsaved.ensures.saving prefix before h)
+
+pub returns-in_err-save_rest-clause-elsewhere : goal.returns-in_err-save_rest-clause-elsewhere
+returns-in_err-save_rest-clause-elsewhere g c prefix before h =
+    let s = run_setting g.R.Run.graph g.R.Run.stack in
+    c.in_err-save_rest.ensures.elsewhere prefix before
+    (drained-alone name_of g.R.Run.graph g.R.Run.stack prefix before c.tick-tick.result c.args.lefts.items
+    (g.B.BoardCalls.shown c.save_unsaved.new.board) (g.B.BoardCalls.shown c.drain.new.board) _ _ _ c.drain.ensures.moves c.drain.ensures.legal
+    (none-held (last_role s) (past (g.B.BoardCalls.shown c.drain.new.board)) c.in_ok-drain.ensures.done.free)
+    (c.in_ok-save_unsaved.ensures.saving prefix before h))
 
 pub returns-clause-roles : goal.returns-clause-roles
 returns-clause-roles g c =

@@ -1,5 +1,5 @@
 -- A whole run, in one record.
-use Rattle.std.specs.Prelude.{◌≡◌, ℕ, true, List, [], Option, Some}
+use Rattle.std.specs.Prelude.{◌≡◌, ℕ, true, List, Option}
 use Rattle.nd_base.specs.Array.{StackValue}
 use Rattle.nd_base.specs.declared.graph.Graph.{Graph}
 use Rattle.edge_traits.specs.Files.{Files}
@@ -17,10 +17,6 @@ use Rattle.flow_run.specs.RunFiles.{HasSavedRun}
 use Rattle.flow_run.specs.RunNotes.{HasNotesOf}
 use Rattle.flow_run.specs.Strangers.{AreOwnMoves}
 use Rattle.flow_run.specs.Ticks.{IsFedByTheClock}
-
--- a watch that has been told nothing
-abbrev pub unwatched : Watched
-unwatched = record { notes = Some []; refused = 0 }
 
 -- what the shelf and the clock tell
 pub record Outside : Type 0 where
