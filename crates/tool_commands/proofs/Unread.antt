@@ -1,10 +1,10 @@
 -- Which file a fault of the library is of, stage by stage.
-use Rattle.std.proofs.Common.{◌≡◌, ◌<◌, ◌≤◌, ℕ, List, Option, None, Some, Ok, Err, refl, sym, subst, inl, inr, arith}
+use Rattle.std.proofs.Common.{◌≡◌, ◌<◌, ◌≤◌, ℕ, List, length, Option, None, Some, Ok, Err, refl, sym, subst, inl, inr, arith}
 use Rattle.std.specs.Prelude.{Result, OnOk, IfErr}
 use Rattle.nd_base.specs.Array.{StackValue}
 use Rattle.nd_base.specs.declared.graph.Graph.{Graph}
-use Rattle.edge_traits.specs.Faults.{Rose}
-use Rattle.edge_traits.specs.Files.{Files}
+use Rattle.edge_traits.specs.Faults.{LibraryCall, SizeCall, ReadCall, Rose}
+use Rattle.edge_traits.specs.Files.{Files, IsTold}
 use Rattle.file_out.specs.declared.fault.SaveFault.{SaveFault}
 use Rattle.file_out.specs.declared.fault.SaveFault.TheVariants as saving
 use Rattle.nd_stack.specs.declared.fault.StackFault.{StackFault}
@@ -28,8 +28,18 @@ use Rattle.tool_commands.specs.Works.{outcome_of}
 use Rattle.tool_commands.proofs.Outcomes.{Leads-Asks}
 
 -- a fault after calls that didn't fail is one after all of them
-pub failed-after : (before middle now : List ℕ → ℕ) (name : List ℕ) → NoneFailed before middle → FailedAt middle now name → FailedAt before now name
-failed-after before middle now name none failed = subst (λ (n : ℕ). Rose n (now name)) (none name) failed
+pub failed-after : (told : Option Files) (most : ℕ) (before middle now : LibraryCall → List ℕ → ℕ) (name : List ℕ) → NoneFailed before middle
+    → FailedAt told most middle now name → FailedAt told most before now name
+failed-after told most before middle now name none (inl size) = inl (subst (λ (n : ℕ). Rose n (now SizeCall name)) (none SizeCall name) size)
+failed-after told most before middle now name none (inr bytes) =
+    inr (subst (λ (n : ℕ). Rose n (now ReadCall name)) (none ReadCall name) bytes.0, bytes.1)
+
+-- bytes of a file of this size, which isn't past the limit, were asked for after a call that didn't fail
+pub unread-bytes : (told : Option Files) (most size : ℕ) (before middle now : LibraryCall → List ℕ → ℕ) (name : List ℕ) → NoneFailed before middle
+    → ((file : List ℕ) → IsTold told name file → size ≡ length file) → size ≤ most → Rose (middle ReadCall name) (now ReadCall name)
+    → FailedAt told most before now name
+unread-bytes told most size before middle now name none is within rose =
+    inr (subst (λ (n : ℕ). Rose n (now ReadCall name)) (none ReadCall name) rose, λ file there. subst (λ (n : ℕ). n ≤ most) (is file there) within)
 
 module _ (P Q : Type 0) (to : P → Q) where
   pub failed-to : (why : ReadRefusal) → IfFailed why P → IfFailed why Q
@@ -137,7 +147,7 @@ module _ (P : Type 0) where
   unread-is status h is = subst (λ (s : Status). IfUnread s P) is h
 
 -- another work of the same files
-pub map-fails : {A B : Type 0} (f : A → B) (told : Option Files) (before now : List ℕ → ℕ) (outcome : Outcome A) → FailsIn told before now outcome
+pub map-fails : {A B : Type 0} (f : A → B) (told : Option Files) (before now : LibraryCall → List ℕ → ℕ) (outcome : Outcome A) → FailsIn told before now outcome
     → FailsIn told before now (outcome_map f outcome)
 map-fails f told before now (Reads input name next) (inl failed) = inl failed
 map-fails f told before now (Reads input name next) (inr p) = inr (p.0, p.1, map-fails f told before now (next p.0) p.2)
@@ -146,7 +156,7 @@ map-fails f told before now (Works work) fails = absurd fails
 
 -- THE WHOLE COMMAND
 
-pub decided : (o : Objects) (before now : List ℕ → ℕ) (status : Status) (command : Option Command) → Ends status command o
+pub decided : (o : Objects) (before now : LibraryCall → List ℕ → ℕ) (status : Status) (command : Option Command) → Ends status command o
     → IfUnread status (FailsIn o.library before now (outcome_of command)) → Decides (outcome_of command) o.library before now status
 decided o before now Done command ends unread = Asked Done (Leads-Asks o.library (outcome_of command) (Ok ends.work) ends.read)
 decided o before now Usage None ends unread = Asked Usage refl

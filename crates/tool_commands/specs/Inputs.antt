@@ -51,6 +51,11 @@ abbrev pub Meaning : Input → Type 0
 Meaning AsGraph = Graph
 Meaning AsStack = StackValue
 
+-- the most bytes of its file
+abbrev pub most_bytes : Input → ℕ
+most_bytes AsGraph = most_graph_bytes
+most_bytes AsStack = most_stack_bytes
+
 abbrev pub meaning_of : (input : Input) → List ℕ → Result (Meaning input) Status
 meaning_of AsGraph file = graph_in file
 meaning_of AsStack file = stack_in file

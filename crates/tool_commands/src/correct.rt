@@ -7,7 +7,7 @@ ghost use Rattle.nd_stack.specs.KeptStacks.{IsKeptStack};
 ghost use Rattle.tool_commands.specs.Answers.{objects_of, Ends, status_of};
 ghost use Rattle.tool_commands.specs.Causes.{IsCause};
 ghost use Rattle.tool_commands.specs.Command.{Correct};
-ghost use Rattle.tool_commands.specs.Inputs.{AsStack, IsReadAs, IsRefusedAs};
+ghost use Rattle.tool_commands.specs.Inputs.{AsStack, IsReadAs, IsRefusedAs, most_stack_bytes};
 ghost use Rattle.tool_commands.specs.Stages.{ReadStops};
 ghost use Rattle.tool_commands.specs.Unread.{NoneFailed, FailedAt, FailsIn, IfUnread};
 ghost use Rattle.tool_commands.specs.Works.{same_sizes, outcome_of};
@@ -49,7 +49,7 @@ fn load_dark<L: Library>(
     ensures files { L.holds library.new ≡ L.holds library.old }
     ensures err { IfErr result (λ s. ReadStops (IsRefusedAs (L.holds library.old) AsStack name.now) s (L.faults library.old) (L.faults library.new)) }
     ensures none_failed { OnOk result (NoneFailed (L.faults_at library.old) (L.faults_at library.new)) }
-    ensures unread { IfErr result (λ s. IfUnread s (FailedAt (L.faults_at library.old) (L.faults_at library.new) name.now)) }
+    ensures unread { IfErr result (λ s. IfUnread s (FailedAt (L.holds library.old) most_stack_bytes (L.faults_at library.old) (L.faults_at library.new) name.now)) }
 {
     let stack = load_stack(alloc, library, name)?;
     if stack.frames() == 0 {

@@ -1,6 +1,7 @@
 //! Reading a whole file of a library.
 
 ghost use Rattle.std.specs.Prelude.{◌≡◌, ◌<◌, ◌≤◌, [], ℕ, List, length, take, IfOk, IfErr, OnOk};
+ghost use Rattle.edge_traits.specs.Faults.{ReadCall, Rose};
 ghost use Rattle.edge_traits.specs.Files.{IsTold, HasFile};
 ghost use Rattle.tool_commands.specs.Reads.{ReadFaultCause, IsReadStop};
 ghost use Rattle.tool_commands.specs.Unread.{NoneFailed, FailedAt, IfFailed};
@@ -47,8 +48,8 @@ impl From<Failed> for ReadRefusal {
 ///
 /// # Errors
 ///
-/// `TooLong` with the file's size where that is past the limit, and then nothing was read; `Failed` where the library failed, whose count of
-/// faults rose; and `OutOfMemory`.
+/// `TooLong` with the file's size where that is past the limit, and then nothing was read; `Failed` where the library failed, to tell the size or to
+/// give bytes of a file within the limit, and its count of faults rose; and `OutOfMemory`.
 pub fn read_file<L: Library>(
     alloc: Global,
     library: &mut L,
@@ -60,7 +61,7 @@ pub fn read_file<L: Library>(
     ensures refused { IfErr result (λ e. ReadFaultCause e (L.holds library.old) name.now limit (L.faults library.old) (L.faults library.new)) }
     ensures same { OnOk result (L.faults library.new ≡ L.faults library.old) }
     ensures none_failed { OnOk result (NoneFailed (L.faults_at library.old) (L.faults_at library.new)) }
-    ensures failed { IfErr result (λ e. IfFailed e (FailedAt (L.faults_at library.old) (L.faults_at library.new) name.now)) }
+    ensures failed { IfErr result (λ e. IfFailed e (FailedAt (L.holds library.old) limit (L.faults_at library.old) (L.faults_at library.new) name.now)) }
     ensures files { L.holds library.new ≡ L.holds library.old }
 {
     let size = library.size(name)?;
@@ -92,7 +93,7 @@ fn read_pieces<L: Library>(
     ensures stops { IfErr result (λ e. IsReadStop e (L.faults library.old) (L.faults library.new)) }
     ensures same { OnOk result (L.faults library.new ≡ L.faults library.old) }
     ensures none_failed { OnOk result (NoneFailed (L.faults_at library.old) (L.faults_at library.new)) }
-    ensures failed { IfErr result (λ e. IfFailed e (FailedAt (L.faults_at library.old) (L.faults_at library.new) name.now)) }
+    ensures failed { IfErr result (λ e. IfFailed e (Rose (L.faults_at library.old ReadCall name.now) (L.faults_at library.new ReadCall name.now))) }
     ensures files { L.holds library.new ≡ L.holds library.old }
 {
     while bytes.len() < size {

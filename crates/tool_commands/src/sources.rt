@@ -5,7 +5,7 @@ ghost use Rattle.nd_base.specs.GraphRules.{IsGraph};
 ghost use Rattle.nd_stack.specs.Answers.{Gives};
 ghost use Rattle.nd_stack.specs.KeptStacks.{IsKeptStack};
 ghost use Rattle.nd_stack.specs.StackRules.{stack_of};
-ghost use Rattle.tool_commands.specs.Inputs.{AsGraph, AsStack, IsReadAs, IsRefusedAs};
+ghost use Rattle.tool_commands.specs.Inputs.{AsGraph, AsStack, IsReadAs, IsRefusedAs, most_graph_bytes, most_stack_bytes};
 ghost use Rattle.chain_plain.specs.Plans.{plan_of};
 ghost use Rattle.graph_conf.specs.Loads.{limit_fault};
 ghost use Rattle.tool_commands.specs.Outcomes.{Leads};
@@ -57,7 +57,7 @@ fn load_graph<L: Library>(alloc: Global, library: &mut L, name: &str) -> Result<
     ensures files { L.holds library.new ≡ L.holds library.old }
     ensures err { IfErr result (λ s. ReadStops (IsRefusedAs (L.holds library.old) AsGraph name.now) s (L.faults library.old) (L.faults library.new)) }
     ensures none_failed { OnOk result (NoneFailed (L.faults_at library.old) (L.faults_at library.new)) }
-    ensures unread { IfErr result (λ s. IfUnread s (FailedAt (L.faults_at library.old) (L.faults_at library.new) name.now)) }
+    ensures unread { IfErr result (λ s. IfUnread s (FailedAt (L.holds library.old) most_graph_bytes (L.faults_at library.old) (L.faults_at library.new) name.now)) }
 {
     let bytes = match read_file(alloc, library, name, GRAPH_LIMIT) {
         Ok(bytes) => bytes,
@@ -90,7 +90,7 @@ pub(crate) fn load_stack<L: Library>(
     ensures files { L.holds library.new ≡ L.holds library.old }
     ensures err { IfErr result (λ s. ReadStops (IsRefusedAs (L.holds library.old) AsStack name.now) s (L.faults library.old) (L.faults library.new)) }
     ensures none_failed { OnOk result (NoneFailed (L.faults_at library.old) (L.faults_at library.new)) }
-    ensures unread { IfErr result (λ s. IfUnread s (FailedAt (L.faults_at library.old) (L.faults_at library.new) name.now)) }
+    ensures unread { IfErr result (λ s. IfUnread s (FailedAt (L.holds library.old) most_stack_bytes (L.faults_at library.old) (L.faults_at library.new) name.now)) }
 {
     let bytes = match read_file(alloc, library, name, STACK_LIMIT) {
         Ok(bytes) => bytes,

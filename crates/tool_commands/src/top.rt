@@ -102,7 +102,8 @@ pub fn tool_top<L: Library, K: Shelf, T: Sink>(
         ⊎ IsWorkBegun (outcome_of (command_of (map string_bytes words.now)))
         (objects_of (L.holds library.old) (K.held shelf.old) (K.held shelf.new) (T.written out.old) (T.written out.new)) }
 
-    // Faults come only where their object's count rose, and that of the library only at a file of the command whose earlier files were read and lead to it.
+    // Faults come only where their object's count rose, and that of the library only at a file of the command whose earlier files were read and lead to it:
+    // for its size, or for bytes of it where it is within its limit.
     ensures cause { IsCause result (record { library = L.faults library.old; shelf = K.faults shelf.old; sink = T.faults out.old })
         (record { library = L.faults library.new; shelf = K.faults shelf.new; sink = T.faults out.new }) }
     ensures unread { result ≡ Status.ReadFault

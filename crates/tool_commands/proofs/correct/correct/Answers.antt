@@ -2,6 +2,7 @@ use Rattle.std.proofs.Common.{◌≡◌, false, sym, subst, refl, ◌∙◌, inl
 use Rattle.std.specs.Prelude.{IfSome}
 use Rattle.std.proofs.lemmas.Result.{err_from_is_err_and}
 use Rattle.tool_commands.specs.Command.{Correct}
+use Rattle.tool_commands.specs.Inputs.{most_stack_bytes}
 use Rattle.tool_commands.specs.Works.{same_sizes}
 use Rattle.tool_commands.proofs.Leads.{correct_sizes, correct_to}
 use Rattle.tool_commands.proofs.Sizes.{dark_count}
@@ -49,10 +50,10 @@ returns-in_err-stack-clause-unread g c =
     (λ failed. inr (
       d.0,
       d.1,
-      inl (failed-after (g.L.Library.faults_at c.args.library.now)
+      inl (failed-after (g.L.Library.holds c.args.library.now) most_stack_bytes (g.L.Library.faults_at c.args.library.now)
           (g.L.Library.faults_at c.load_dark.new.library) (g.L.Library.faults_at c.load_stack.new.library) c.args.stack.now
           c.in_ok-dark.ensures.none_failed failed),
-    )) _ c.in_err-stack.ensures.unread)
+    )) _ (rw c.in_ok-dark.ensures.files at c.in_err-stack.ensures.unread))
 
 pub returns-in_err-dark-2-clause-unread : goal.returns-in_err-dark-2-clause-unread
 returns-in_err-dark-2-clause-unread g c =

@@ -23,7 +23,7 @@ loop-bytes-preserved g c =
       within = rw added (added_within done buf (drop asked piece) at count size here e.bound left);
       same = c.read_at.ensures.files ∙ i.same;
       none = e.cause ∙ i.none;
-      others = λ name. e.at name ∙ i.others name;
+      others = λ call name. e.at call name ∙ i.others call name;
       bytes =
           λ file told. rw added (piece_added done buf (drop asked piece) file at count here e.bound (i.bytes file told)
           (e.bytes file (rw i.same told)));

@@ -1,6 +1,7 @@
 use Rattle.std.proofs.Common.{◌≡◌, ap, ◌∙◌, inl, inr}
 use Rattle.std.proofs.lemmas.Result.{err_from_is_err_and}
 use Rattle.nd_base.specs.declared.plan.Plan.{Plan}
+use Rattle.tool_commands.specs.Inputs.{most_stack_bytes}
 use Rattle.tool_commands.proofs.Leads.{unread-graph, unread-stack, unread-limit, sources_read}
 use Rattle.tool_commands.proofs.Unread.{failed-after, unread-to, planned-at}
 use Rattle.tool_commands.proofs.sources.load_sources.Goals as goal
@@ -52,10 +53,10 @@ returns-in_err-stack-clause-unread g c =
     rw (p.1, p.2) (unread-to _ _ (λ failed. inr (
       c.in_ok-graph.graph,
       first.ok,
-      inl (failed-after (g.L.Library.faults_at c.args.library.now)
+      inl (failed-after (g.L.Library.holds c.args.library.now) most_stack_bytes (g.L.Library.faults_at c.args.library.now)
           (g.L.Library.faults_at c.load_graph.new.library) (g.L.Library.faults_at c.load_stack.new.library) c.args.stack.now first.none_failed failed),
     ))
-    _ c.in_err-stack.ensures.unread)
+    _ (rw first.files at c.in_err-stack.ensures.unread))
 
 pub returns-in_err-plan-clause-unread : goal.returns-in_err-plan-clause-unread
 returns-in_err-plan-clause-unread g c =
@@ -63,4 +64,4 @@ returns-in_err-plan-clause-unread g c =
     rw (p.1, p.2) (planned-at _ _ _ _ c.in_err-plan.ensures.err)
 
 pub returns-clause-none_failed : goal.returns-clause-none_failed
-returns-clause-none_failed g c = λ name. c.in_ok-stack.ensures.none_failed name ∙ c.in_ok-graph.ensures.none_failed name
+returns-clause-none_failed g c = λ call name. c.in_ok-stack.ensures.none_failed call name ∙ c.in_ok-graph.ensures.none_failed call name
