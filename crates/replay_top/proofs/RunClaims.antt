@@ -1,5 +1,6 @@
 -- What the end of a run says of its status.
 use Rattle.std.proofs.Common.{◌≡◌, ◌⊎◌, ℕ, List, Option, None, Some, Ok, Err, refl, subst, inl, inr}
+use Rattle.edge_traits.specs.Faults.{LibraryCall}
 use Rattle.flow_journal.specs.Journal.{Journal}
 use Rattle.tool_commands.specs.declared.status.Status.{Status}
 use Rattle.tool_commands.specs.declared.status.Status.TheVariants.{Done, Usage, GraphText, GraphRule, StackBytes, Limit, Sizes, ReadFault, ShelfFault, OutFault}
@@ -9,7 +10,7 @@ use Rattle.tool_commands.specs.Causes.{Counts}
 use Rattle.tool_commands.specs.Claims.{Completes}
 use Rattle.tool_commands.specs.Outcomes.{Leads}
 use Rattle.tool_commands.specs.Unread.{FailsIn, IfUnread, Decides, Asked, Unread, Unwritten, Unprinted, NoMemory}
-use Rattle.replay_top.specs.RunAnswers.{RunObjects, RunEnds, IsRunCause, IsRunUntouched, OfLog, HasFinished, HasLog}
+use Rattle.replay_top.specs.RunAnswers.{RunObjects, RunEnds, IsRunCause, IsRunUntouched, IsRunStopped, OfLog, HasFinished, HasLog}
 use Rattle.replay_top.specs.RunCommand.{RunCommand, IsRead}
 use Rattle.replay_top.specs.RunSources.{sources_of}
 use Rattle.tool_commands.proofs.Outcomes.{Leads-Asks}
@@ -51,6 +52,10 @@ module _ (log : Option Journal) (c : RunCommand) (o : RunObjects) where
   pub RunEnds-read : (s : Status) → RunEnds s log (Some c) o → s ≡ ReadFault → IsRead c.source
   RunEnds-read s ends is = let fault : RunEnds ReadFault log (Some c) o = subst (λ (t : Status). RunEnds t log (Some c) o) is ends in fault.1
 
+  -- and where memory was wanting
+  pub RunEnds-stopped : (s : Status) → RunEnds s log (Some c) o → s ≡ OutOfMemory → IsRunStopped (Some c) o
+  RunEnds-stopped s ends is = let wanted : RunEnds OutOfMemory log (Some c) o = subst (λ (t : Status). RunEnds t log (Some c) o) is ends in wanted.1
+
 -- a run that has finished has its log
 pub RunEnds-log : (s : Status) (log : Option Journal) (c : RunCommand) (o : RunObjects) → RunEnds s log (Some c) o → HasFinished s
     → OfLog (HasLog o) (Some c) log
@@ -86,7 +91,7 @@ answered_run OutFault log c o before after ends cause none = absurd (none.sink c
 answered_run OutOfMemory log c o before after ends cause none = inr refl
 
 -- and whatever was counted
-pub decided_run : (s : Status) (log : Option Journal) (c : RunCommand) (o : RunObjects) (before now : List ℕ → ℕ) → RunEnds s log (Some c) o
+pub decided_run : (s : Status) (log : Option Journal) (c : RunCommand) (o : RunObjects) (before now : LibraryCall → List ℕ → ℕ) → RunEnds s log (Some c) o
     → IfUnread s (FailsIn o.objects.library before now (sources_of (Some c))) → Decides (sources_of (Some c)) o.objects.library before now s
 decided_run Done (Some l) c o before now ends unread = Asked Done (Leads-Asks o.objects.library (sources_of (Some c)) (Ok ends.source) ends.log.read)
 decided_run Done None c o before now ends unread = absurd ends

@@ -1,12 +1,16 @@
 -- Where a stage of a run stopped, the run ends so.
-use Rattle.std.proofs.Common.{◌≡◌, ◌≢◌, ℕ, Bool, true, false, List, ◌++◌, length, reverse, All, Option, None, Some, Err, refl, ap, sym, subst, ◌∙◌}
+use Rattle.std.proofs.Common.{◌≡◌, ◌≢◌, ℕ, Bool, true, false, List, ◌++◌, length, reverse, All, Option, None, Some, Ok, Err, refl, ap, sym, subst, ◌∙◌}
+use Rattle.std.proofs.Common.{inl, inr}
+use Rattle.std.specs.Prelude.{Result, OnOk, IfErr}
 use Rattle.std.proofs.lemmas.Bool.{and_parts}
 use Rattle.std.proofs.lemmas.List.{append-nil}
 use Rattle.nd_base.specs.Array.{StackValue}
 use Rattle.nd_base.specs.declared.graph.Graph.{Graph}
+use Rattle.nd_base.specs.declared.measure.Measure.{Measure}
 use Rattle.chain_plain.specs.Plans.{makers_of}
 use Rattle.edge_traits.specs.Faults.{Rose}
 use Rattle.edge_traits.specs.Files.{Files}
+use Rattle.edge_traits.specs.Written.{with_written}
 use Rattle.flow_journal.specs.Following.{owed}
 use Rattle.flow_journal.specs.Histories.{is_legal, is_nothing}
 use Rattle.flow_journal.specs.Journal.{Journal}
@@ -22,6 +26,7 @@ use Rattle.graph_files.specs.BegunLaws.{with_files-append}
 use Rattle.graph_files.specs.OutFiles.{OutFile, with_files}
 use Rattle.flow_saver.specs.ReadBack.{GroupsReadBack}
 use Rattle.flow_saver.specs.HistoryFiles.{HoldsFilesOf, HoldsGroupsOf, RowsComplete, rows_files}
+use Rattle.flow_saver.specs.KeptNames.{IsGroupName, AreKeptBut}
 use Rattle.flow_saver.specs.Saver.{CountsSo}
 use Rattle.flow_run.specs.RunFiles.{HasSavedRun}
 use Rattle.flow_run.specs.Strangers.{AreOwnMoves}
@@ -32,14 +37,17 @@ use Rattle.tool_commands.specs.declared.status.Status.TheVariants.{OutOfMemory}
 use Rattle.tool_commands.specs.Outcomes.{Leads}
 use Rattle.replay_top.specs.RunAnswers.{RunObjects, IsLogOf, RunEnds, IsRunCause, IsRunUntouched, IsSeen, Prints, run_print}
 use Rattle.replay_top.specs.RunCommand.{RunCommand, IsRead}
-use Rattle.replay_top.specs.RunFiles.{later_files, HoldsFiles, HaveGroupsBack, AtGroups, AfterGroups}
+use Rattle.replay_top.specs.MeasuredFiles.{measured_files}
+use Rattle.replay_top.specs.RunFiles.{IsRunName, later_files, HoldsFiles, HaveGroupsBack, AtGroups, AfterGroups}
 use Rattle.replay_top.specs.LogFiles.{log_files, IsReadable}
 use Rattle.replay_top.specs.RunSources.{run_sources, IsSourceRead}
 use Rattle.replay_top.specs.RunStages.{RestEnds, RestCause, WritesAll}
-use Rattle.tool_commands.specs.Stages.{ReadStops}
+use Rattle.tool_commands.specs.Answers.{status_of}
+use Rattle.tool_commands.specs.Stages.{ReadStops, PrintStops}
 use Rattle.tool_commands.specs.Unread.{IfUnread}
 use Rattle.tool_commands.specs.Works.{Source}
 use Rattle.tool_commands.proofs.Unread.{no-fault}
+use Rattle.replay_top.proofs.KeptRuns.{begun-all, groups-named, later-kept}
 
 -- READING
 
@@ -53,7 +61,7 @@ RunEnds-unread (StackBytes f) c o before now stops read still = (refl, (stops.0,
 RunEnds-unread (Limit f) c o before now stops read still = (refl, (stops.0, still))
 RunEnds-unread Sizes c o before now stops read still = (refl, (stops.0, still))
 RunEnds-unread ReadFault c o before now stops read still = (refl, read refl, still)
-RunEnds-unread OutOfMemory c o before now stops read still = (refl, still.1)
+RunEnds-unread OutOfMemory c o before now stops read still = (refl, inl still)
 RunEnds-unread Done c o before now stops read still = absurd stops
 RunEnds-unread Usage c o before now stops read still = absurd stops
 RunEnds-unread ShelfFault c o before now stops read still = absurd stops
@@ -64,6 +72,56 @@ pub rest-unread : (P : Type 0) (status : Status) (fault : Bool) (files : List Ou
     (before after : Option (List ℕ)) → RestEnds status fault files print held now before after → IfUnread status P
 rest-unread P status fault files print held now before after ends =
     no-fault P status (λ is. subst (λ (x : Status). RestEnds x fault files print held now before after) is ends)
+
+-- WANT OF MEMORY
+
+module _ (c : RunCommand) (o : RunObjects) (g : Graph) (stack : StackValue)
+    (read : IsSourceRead o.objects.library c.source (record { graph = g; stack = stack })) where
+  wanted : AreKeptBut (IsRunName c g) o.objects.shelf_before o.objects.shelf_after → o.objects.sink_after ≡ o.objects.sink_before
+      → RunEnds OutOfMemory None (Some c) o
+  wanted kept same = (refl, inr (record { source = record { graph = g; stack = stack }; read = read.read; files = kept; unprinted = same }))
+
+  -- while the run went on
+  pub RunEnds-wanted : AreKeptBut (IsGroupName g c.prefix) o.objects.shelf_before o.objects.shelf_after → o.objects.sink_after ≡ o.objects.sink_before
+      → RunEnds OutOfMemory None (Some c) o
+  RunEnds-wanted kept same = wanted (groups-named c g o.objects.shelf_before o.objects.shelf_after kept) same
+
+  -- and after it
+  pub RunEnds-wanted_later : (status : Status) (fault : Bool) (ms : List (List Measure)) (P : Past) (print : List ℕ) (mid : Option Files)
+      → status ≡ OutOfMemory → AreKeptBut (IsGroupName g c.prefix) o.objects.shelf_before mid
+      → RestEnds status fault (measured_files c.prefix g.nodes ms ++ log_files c.logs c.prefix P) print mid o.objects.shelf_after
+      o.objects.sink_before o.objects.sink_after
+      → RunEnds OutOfMemory None (Some c) o
+  RunEnds-wanted_later status fault ms P print mid is kept ends =
+      let rest : RestEnds OutOfMemory fault (measured_files c.prefix g.nodes ms ++ log_files c.logs c.prefix P) print mid o.objects.shelf_after
+      o.objects.sink_before o.objects.sink_after =
+      subst (λ (s : Status). RestEnds s fault (measured_files c.prefix g.nodes ms ++ log_files c.logs c.prefix P) print mid o.objects.shelf_after
+      o.objects.sink_before o.objects.sink_after) is ends in
+      wanted (later-kept c g o.objects.shelf_before mid o.objects.shelf_after ms P kept rest.1) rest.2
+
+-- THE LAST STAGE
+
+module _ (files : List OutFile) (print : List ℕ) (held now : Option Files) (written out : Option (List ℕ)) where
+  print-stops : (s : Status) (fault : Bool) (before after : ℕ) → fault ≡ false → now ≡ with_files held files → PrintStops s written print out before after
+      → RestEnds s fault files print held now written out
+  print-stops OutFault fault before after is all stops = (is, all, stops.0)
+  print-stops OutOfMemory fault before after is all stops = (is, begun-all held now files all, stops.0)
+  print-stops Done fault before after is all stops = absurd stops
+  print-stops Usage fault before after is all stops = absurd stops
+  print-stops GraphText fault before after is all stops = absurd stops
+  print-stops (GraphRule f) fault before after is all stops = absurd stops
+  print-stops (StackBytes f) fault before after is all stops = absurd stops
+  print-stops (Limit f) fault before after is all stops = absurd stops
+  print-stops Sizes fault before after is all stops = absurd stops
+  print-stops ReadFault fault before after is all stops = absurd stops
+  print-stops ShelfFault fault before after is all stops = absurd stops
+
+  -- once the rows and the log's text were written
+  pub RestEnds-print : {X : Type 0} (r : Result X Status) (fault : Bool) (before after : ℕ) → fault ≡ false → now ≡ with_files held files
+      → OnOk r (out ≡ with_written written print) → IfErr r (λ s. PrintStops s written print out before after)
+      → RestEnds (status_of r) fault files print held now written out
+  RestEnds-print (Ok x) fault before after is all ok err = (is, all, ok)
+  RestEnds-print (Err s) fault before after is all ok err = print-stops s fault before after is all err
 
 -- AFTER THE RUN
 

@@ -1,5 +1,5 @@
 -- What each status of a run says of its log and of the objects.
-use Rattle.std.specs.Prelude.{◌≡◌, ℕ, Bool, true, false, List, [], ◌++◌, Option, None, Some, Ok, Err}
+use Rattle.std.specs.Prelude.{◌≡◌, ◌⊎◌, ℕ, Bool, true, false, List, [], ◌++◌, Option, None, Some, Ok, Err}
 use Rattle.nd_base.specs.GraphRules.{IsGraph}
 use Rattle.edge_traits.specs.Files.{Files}
 use Rattle.edge_traits.specs.Ticks.{Coming}
@@ -14,6 +14,7 @@ use Rattle.run_laws.specs.RunHolds.{RunHolds}
 use Rattle.run_report.specs.Report.{report}
 use Rattle.run_report.specs.Text.{report_text}
 use Rattle.graph_conf.specs.Loads.{limit_fault}
+use Rattle.flow_saver.specs.KeptNames.{AreKeptBut}
 use Rattle.flow_run.specs.Strangers.{AreOwnMoves}
 use Rattle.flow_run.specs.Ticks.{IsFedByTheClock}
 use Rattle.flow_journal.specs.Setting.{Setting}
@@ -26,7 +27,7 @@ use Rattle.tool_commands.specs.Causes.{Counts, IsCause}
 use Rattle.tool_commands.specs.Outcomes.{Leads}
 use Rattle.tool_commands.specs.Printed.{IsCutShort}
 use Rattle.replay_top.specs.RunCommand.{RunCommand, ReadsFiles}
-use Rattle.replay_top.specs.RunFiles.{HoldsFiles, AreTorn, HaveGroupsBack}
+use Rattle.replay_top.specs.RunFiles.{HoldsFiles, AreTorn, HaveGroupsBack, IsRunName}
 use Rattle.replay_top.specs.RunSources.{run_sources, sources_of}
 use Rattle.tool_commands.specs.Works.{Source}
 
@@ -128,7 +129,19 @@ IsRunUntouched o = (o.objects.shelf_after ≡ o.objects.shelf_before) × (o.obje
 abbrev pub IsRunRefused : Option RunCommand → Status → RunObjects → Type 0
 IsRunRefused command status o = Leads o.objects.library (sources_of command) (Err status) × IsRunUntouched o
 
--- How a run ends. Without a log it was refused, the library failed, or memory was wanting, and then nothing was printed.
+-- a run over what was read was begun: every name but those of its files is as before, and nothing was printed
+pub record IsRunBegun (o : RunObjects) (c : RunCommand) : Type 0 where
+  pub source : Source
+  pub read : Leads o.objects.library (run_sources c.source) (Ok source)
+  pub files : AreKeptBut (IsRunName c source.graph) o.objects.shelf_before o.objects.shelf_after
+  pub unprinted : o.objects.sink_after ≡ o.objects.sink_before
+
+-- memory was wanting, before a run was begun or then
+abbrev pub IsRunStopped : Option RunCommand → RunObjects → Type 0
+IsRunStopped None o = ⊥
+IsRunStopped (Some c) o = IsRunUntouched o ⊎ IsRunBegun o c
+
+-- how a run ends; without a log it was refused, the library failed, or memory was wanting
 abbrev pub RunEnds : Status → Option Journal → Option RunCommand → RunObjects → Type 0
 RunEnds Done log command o = OfLog (IsRunDone o) command log
 RunEnds ShelfFault log command o = OfLog (IsRunTorn o) command log
@@ -140,7 +153,7 @@ RunEnds (StackBytes fault) log command o = (log ≡ None) × IsRunRefused comman
 RunEnds (Limit fault) log command o = (log ≡ None) × IsRunRefused command (Limit fault) o
 RunEnds Sizes log command o = (log ≡ None) × IsRunRefused command Sizes o
 RunEnds ReadFault log command o = (log ≡ None) × ReadsFiles command × IsRunUntouched o
-RunEnds OutOfMemory log command o = (log ≡ None) × (o.objects.sink_after ≡ o.objects.sink_before)
+RunEnds OutOfMemory log command o = (log ≡ None) × IsRunStopped command o
 
 -- the counts rise as with a plain run, but that want of memory may come after the shelf has failed
 abbrev pub IsRunCause : Status → Counts → Counts → Type 0

@@ -2,8 +2,10 @@
 -- the log.
 use Rattle.std.specs.Prelude.{◌≡◌, ◌≢◌, ℕ, Bool, true, false, List, [], ◌++◌, Option, Some}
 use Rattle.nd_base.specs.declared.graph.FileRule.{FileRule}
-use Rattle.nd_base.specs.declared.graph.Kind.TheVariants.{File}
+use Rattle.nd_base.specs.declared.graph.Graph.{Graph}
+use Rattle.nd_base.specs.declared.graph.Kind.TheVariants.{File, Stats}
 use Rattle.nd_base.specs.declared.graph.NodeRule.{NodeRule}
+use Rattle.nd_base.specs.declared.graph.StatsRule.{StatsRule}
 use Rattle.nd_base.specs.GraphRules.{rule_at}
 use Rattle.edge_traits.specs.Files.{Files, with_file}
 use Rattle.nd_stack.specs.RoundTrip.{ReadsBack}
@@ -12,9 +14,10 @@ use Rattle.flow_journal.specs.Unsaved.{standing_saves}
 use Rattle.run_laws.specs.Results.{contents}
 use Rattle.graph_files.specs.BegunFiles.{AreBegun}
 use Rattle.graph_files.specs.Groups.{group_of}
-use Rattle.graph_files.specs.OutFiles.{OutFile, file_shape}
+use Rattle.graph_files.specs.OutFiles.{OutFile, file_shape, stats_name}
 use Rattle.flow_saver.specs.Ending.{IsTornHistory}
 use Rattle.flow_saver.specs.HistoryFiles.{HoldsFilesOf, HoldsGroupsOf, rows_files}
+use Rattle.flow_saver.specs.KeptNames.{IsGroupName}
 use Rattle.replay_top.specs.LogFiles.{log_name, log_text, log_files, IsReadable}
 use Rattle.replay_top.specs.RunCommand.{RunCommand}
 use Rattle.tool_commands.specs.Works.{Source}
@@ -43,3 +46,10 @@ pub data AreTorn (c : RunCommand) (source : Source) (P : Past) (before held : Op
   AtGroups : IsTornHistory source.graph source.stack c.prefix P before held → AreTorn c source P before held
   AfterGroups : (groups : Option Files) → HoldsGroupsOf source.graph source.stack c.prefix P before groups → AreBegun groups (later_files c source P) held
       → AreTorn c source P before held
+
+-- The names that a run over this graph may write, whatever comes of it: those of the groups of its file nodes, of the rows of its statistics nodes, and for
+-- `run-log` that of the log.
+pub data IsRunName (c : RunCommand) (g : Graph) : List ℕ → Type 0 where
+  GroupName : (name : List ℕ) → IsGroupName g c.prefix name → IsRunName c g name
+  RowsName : (v : ℕ) (n : NodeRule) (r : StatsRule) → rule_at g.nodes v ≡ Some n → n.kind ≡ Stats r → IsRunName c g (stats_name c.prefix n.name)
+  LogName : c.logs ≡ true → IsRunName c g (log_name c.prefix)

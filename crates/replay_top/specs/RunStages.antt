@@ -22,7 +22,7 @@ RestEnds Done fault files print held now before after = (fault ≡ false) × (no
 RestEnds ShelfFault true files print held now before after = (now ≡ held) × (after ≡ before)
 RestEnds ShelfFault false files print held now before after = AreBegun held files now × (after ≡ before)
 RestEnds OutFault fault files print held now before after = (fault ≡ false) × (now ≡ with_files held files) × IsCutShort before print after
-RestEnds OutOfMemory fault files print held now before after = after ≡ before
+RestEnds OutOfMemory fault files print held now before after = (fault ≡ false) × AreBegun held files now × (after ≡ before)
 RestEnds _ fault files print held now before after = ⊥
 
 -- and which counts rose

@@ -1,19 +1,16 @@
 //! The run itself.
 
-ghost use Rattle.std.specs.Prelude.{◌≡◌, ℕ, true, false, List, None, IfOk, string_bytes};
+ghost use Rattle.std.specs.Prelude.{◌≡◌, ℕ, false, List, IfOk, string_bytes};
 ghost use Rattle.nd_base.specs.GraphRules.{IsGraph};
 ghost use Rattle.nd_stack.specs.KeptStacks.{IsKeptStack};
 ghost use Rattle.chain_plain.specs.Plans.{plan_of};
 ghost use Rattle.graph_conf.specs.Loads.{limit_fault};
-ghost use Rattle.board_rules.specs.Ends.{measured};
-ghost use Rattle.board_rules.specs.RunMeasures.{run_measure, run_setting};
-ghost use Rattle.board_rules.specs.Storage.{is_never_regrown};
-ghost use Rattle.run_laws.specs.Results.{IsFinishedRun};
+ghost use Rattle.flow_journal.specs.Notes.{Watched};
+ghost use Rattle.board_rules.specs.RunMeasures.{run_setting};
 ghost use Rattle.graph_files.specs.OpenFiles.{file_nodes};
-ghost use Rattle.flow_saver.specs.Saver.{CountsSo};
-ghost use Rattle.flow_run.specs.RunFiles.{HasSavedRun};
-ghost use Rattle.flow_run.specs.Strangers.{AreOwnMoves};
-ghost use Rattle.flow_run.specs.Ticks.{IsFedByTheClock};
+ghost use Rattle.flow_saver.specs.KeptNames.{IsGroupName, AreKeptBut};
+ghost use Rattle.flow_run.specs.RunFiles.{HasOnlySaved};
+ghost use Rattle.flow_run.specs.Runs.{HasRun, outside};
 ghost use Rattle.replay_top.specs.RunAnswers.{IsSeen};
 
 use board_rules::BoardCalls;
@@ -47,14 +44,10 @@ fn play<R: Run + Send + Sync, K: Shelf, C: Clock + Send, G: Gate + Sync, W: Thre
     requires stack { stack.now ≡ R.stack }
     requires kept { IsKeptStack R.stack }
     requires files { (prefix : List ℕ) × (files ≡ file_nodes R.graph R.stack prefix) }
-    ensures finished { IfOk result (λ end. IsFinishedRun (run_setting R.graph R.stack) end.run.log.past) }
-    ensures measures { IfOk result (λ end. end.run.measures ≡ measured (run_measure R.graph R.stack) (run_setting R.graph R.stack) end.run.log.past) }
-    ensures files { IfOk result (λ end. (prefix : List ℕ) → files ≡ file_nodes R.graph R.stack prefix
-        → HasSavedRun R.graph R.stack prefix end.run.log.past (K.held shelf.old) end.run.fault (K.held shelf.new)) }
-    ensures fault { IfOk result (λ end. CountsSo end.run.fault (K.faults shelf.old) (K.faults shelf.new)) }
-    ensures roles { IfOk result (λ end. AreOwnMoves (run_setting R.graph R.stack) end.run.log.past) }
-    ensures ticks { IfOk result (λ end. IsFedByTheClock (run_setting R.graph R.stack) end.run.log.past (C.coming clock.old) (C.coming clock.new)) }
-    ensures storage { IfOk result (λ end. is_never_regrown end.run.log.past ≡ true) }
+    ensures run { IfOk result (λ end. (told : Watched × Watched) × HasRun R.graph R.stack files
+        (outside (K.held shelf.old) (K.faults shelf.old) (C.coming clock.old)) (outside (K.held shelf.new) (K.faults shelf.new) (C.coming clock.new))
+        told.0 told.1 end.run) }
+    ensures elsewhere { HasOnlySaved R.graph R.stack files (K.held shelf.old) (K.held shelf.new) }
     ensures seen { IfOk result (λ end. end.run.fault ≡ false → IsSeen watched (run_setting R.graph R.stack) end.run.log.past (string_bytes end.seen)) }
 {
     let board = Board::<Frame<R>>::start(alloc, plan)?;
@@ -86,13 +79,11 @@ pub(crate) fn run_plan<K: Shelf, C: Clock + Send, G: Gate + Sync, W: Threads + W
     requires plan { plan.now ≡ plan_of plan.now.graph stack.now }
     requires kept { IsKeptStack stack.now }
     requires within { limit_fault plan.now.graph stack.now ≡ None }
-    ensures finished { IfOk result (λ end. IsFinishedRun (run_setting plan.now.graph stack.now) end.run.log.past) }
-    ensures measures { IfOk result (λ end. end.run.measures ≡ measured (run_measure plan.now.graph stack.now) (run_setting plan.now.graph stack.now) end.run.log.past) }
-    ensures files { IfOk result (λ end. HasSavedRun plan.now.graph stack.now prefix.now end.run.log.past (K.held shelf.old) end.run.fault (K.held shelf.new)) }
-    ensures fault { IfOk result (λ end. CountsSo end.run.fault (K.faults shelf.old) (K.faults shelf.new)) }
-    ensures roles { IfOk result (λ end. AreOwnMoves (run_setting plan.now.graph stack.now) end.run.log.past) }
-    ensures ticks { IfOk result (λ end. IsFedByTheClock (run_setting plan.now.graph stack.now) end.run.log.past (C.coming clock.old) (C.coming clock.new)) }
-    ensures storage { IfOk result (λ end. is_never_regrown end.run.log.past ≡ true) }
+    ensures run { IfOk result (λ end. (told : Watched × Watched)
+        × HasRun plan.now.graph stack.now (file_nodes plan.now.graph stack.now prefix.now)
+        (outside (K.held shelf.old) (K.faults shelf.old) (C.coming clock.old)) (outside (K.held shelf.new) (K.faults shelf.new) (C.coming clock.new))
+        told.0 told.1 end.run) }
+    ensures elsewhere { AreKeptBut (IsGroupName plan.now.graph prefix.now) (K.held shelf.old) (K.held shelf.new) }
     ensures seen { IfOk result (λ end. end.run.fault ≡ false → IsSeen watched (run_setting plan.now.graph stack.now) end.run.log.past (string_bytes end.seen)) }
 {
     let files = OpenFiles::new(alloc, prefix, plan, stack)?;

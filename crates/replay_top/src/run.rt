@@ -9,7 +9,7 @@ ghost use Rattle.run_report.specs.Text.{report_text};
 ghost use Rattle.graph_files.specs.OutFiles.{with_files};
 ghost use Rattle.tool_commands.specs.Answers.{status_of, IsRefusal};
 ghost use Rattle.tool_commands.specs.Claims.{Completes};
-ghost use Rattle.replay_top.specs.RunAnswers.{run_objects_of, RunEnds, IsRunCause, OfLog, HasFinished, HasLog, IsRunDone, IsRunTorn, IsRunCutShort};
+ghost use Rattle.replay_top.specs.RunAnswers.{run_objects_of, RunEnds, IsRunCause, OfLog, HasFinished, HasLog, IsRunDone, IsRunTorn, IsRunCutShort, IsRunStopped};
 ghost use Rattle.replay_top.specs.MeasuredFiles.{measured_files};
 ghost use Rattle.tool_commands.specs.Outcomes.{Leads};
 ghost use Rattle.tool_commands.specs.Unread.{FailsIn, IfUnread, Decides};
@@ -236,10 +236,13 @@ pub fn run_top<
     ensures read_fault { result.status ≡ Status.ReadFault → ReadsFiles (run_command_of (map string_bytes words.now)) }
     ensures untouched { IsRefusal result.status ⊎ (result.status ≡ Status.ReadFault)
         → (K.held shelf.new ≡ K.held shelf.old) × (T.written out.new ≡ T.written out.old) × (C.coming clock.new ≡ C.coming clock.old) }
-    ensures memory { result.status ≡ Status.OutOfMemory → T.written out.new ≡ T.written out.old }
+    ensures memory { result.status ≡ Status.OutOfMemory → IsRunStopped (run_command_of (map string_bytes words.now))
+        (run_objects_of (L.holds library.old) (K.held shelf.old) (K.held shelf.new) (T.written out.old) (T.written out.new)
+        (C.coming clock.old) (C.coming clock.new)) }
     ensures library { L.holds library.new ≡ L.holds library.old }
 
-    // Faults come only where their object's count rose, and that of the library only at the graph, or at the stack after the graph was read.
+    // Faults come only where their object's count rose, and that of the library only at the graph, or at the stack after the graph was read:
+    // for its size, or for bytes of it where it is within its limit.
     ensures cause { IsRunCause result.status (record { library = L.faults library.old; shelf = K.faults shelf.old; sink = T.faults out.old })
         (record { library = L.faults library.new; shelf = K.faults shelf.new; sink = T.faults out.new }) }
     ensures unread { result.status ≡ Status.ReadFault → FailsIn (L.holds library.old) (L.faults_at library.old) (L.faults_at library.new)

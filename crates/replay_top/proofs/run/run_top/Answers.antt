@@ -2,7 +2,7 @@ use Rattle.std.proofs.Common.{refl, sym, ap, ◌∙◌}
 use Rattle.std.specs.Option.{option_map}
 use Rattle.replay_top.specs.RunWords.{run_told}
 use Rattle.replay_top.proofs.DemoRuns.{RunEnds-steady}
-use Rattle.replay_top.proofs.RunClaims.{RunEnds-read, RunEnds-refused, RunEnds-untouched, RunEnds-log, answered_run, decided_run}
+use Rattle.replay_top.proofs.RunClaims.{RunEnds-read, RunEnds-refused, RunEnds-untouched, RunEnds-stopped, RunEnds-log, answered_run, decided_run}
 use Rattle.tool_commands.specs.declared.status.Status.TheVariants.{Usage}
 use Rattle.tool_commands.specs.Unread.{Asked}
 use Rattle.tool_commands.proofs.Unread.{unread-is}
@@ -33,6 +33,11 @@ returns-in-Some-clause-read_fault g c =
 pub returns-in-Some-clause-untouched : goal.returns-in-Some-clause-untouched
 returns-in-Some-clause-untouched g c =
     RunEnds-untouched c.run_words.result.log (run_told c.in-Some.words) _ c.run_words.result.status c.run_words.ensures.ends
+
+pub returns-in-Some-clause-memory : goal.returns-in-Some-clause-memory
+returns-in-Some-clause-memory g c =
+    rw (sym c.run_in.ensures.told ∙ ap (option_map run_told) c.in-Some.is)
+    (RunEnds-stopped c.run_words.result.log (run_told c.in-Some.words) _ c.run_words.result.status c.run_words.ensures.ends)
 
 pub returns-in-Some-clause-complete : goal.returns-in-Some-clause-complete
 returns-in-Some-clause-complete g c =
