@@ -18,8 +18,8 @@ const HELP: &str = "nd_replay: replays a stack of detector frames through a grap
                                            kept, what was dropped and what came out of order
     nd_replay run-log GRAPH STACK PREFIX   does the same, and writes the run's log to
                                            <PREFIX>log.txt
-    nd_replay watch GRAPH STACK PREFIX     does what run does, and tells before the report how far
-                                           it had come while it went on
+    nd_replay watch GRAPH STACK PREFIX     does what run does, and prints before the report how far
+                                           it had come at up to 16 moments
     nd_replay demo N                       makes N frames and runs them through three plugins that
                                            have room for all of them; needs no other file, and
                                            writes demo_stats.txt and demo_file_000.nc
@@ -50,24 +50,24 @@ STACK is a netCDF file in the classic or the 64-bit offset format, of at most 1 
 array_data holds the frames, and the first dimension of that counts them: whole numbers of 8, 16
 or 32 bits, at most 65,536 frames, of 1 to 10 dimensions and at most 67,108,864 samples each. The
 variables uniqueId, timeStamp, epicsTSSec, epicsTSNsec and Attr_NAME are used where they are there.
-'nccopy -k classic OLD NEW' makes one of other netCDF files whose types the classic format has.
+'nccopy -k classic OLD NEW' makes one of another netCDF file, where the classic format has its types.
 docs/formats.md has the rules.
 
 GRAPH is a TOML text of at most 1 MiB with up to 32 plugins. docs/graph.md lists its keys. LOG is a
 text that run-log wrote, of at most 512 MiB; docs/log.md tells how the answers of check are read.
 
-MODE is 0 to 7: 0 to 3 turn by so many quarters clockwise, and 4 to 7 by four fewer and then
-mirror. DARK is such a file as STACK, and its frames have the sizes of those of STACK. OFFSET, NUM,
-DEN, LOW and HIGH are whole numbers of 32 bits, DEN from 1 on and LOW at most HIGH. REGIONS is up to
-32 regions X,Y,W,H with ; between, as '0,0,100,100;50,50,10,10', and LENGTH 1 to 4,096. N is at most
-65,536, W and H are 1 to 8,192, KIND is Int8, UInt8, Int16, UInt16, Int32 or UInt32, and START, 0 to
-2,147,483,647, begins the samples; for demo N is 1 to 4,096. docs/formats.md and docs/outputs.md
-tell more.
+MODE is 0 to 7: 0 to 3 turn clockwise by so many quarters, and 4 to 7 turn by MODE - 4 quarters and
+then mirror left and right. DARK is such a file as STACK, and its frames have the sizes of those of
+STACK. OFFSET, NUM, DEN, LOW and HIGH are whole numbers from -2,147,483,648 to 2,147,483,647, DEN
+from 1 on and LOW at most HIGH. REGIONS is up to 32 regions X,Y,W,H with ; between, as
+'0,0,100,100;50,50,10,10', and LENGTH 1 to 4,096. N is at most 65,536, W and H are 1 to 8,192, KIND
+is Int8, UInt8, Int16, UInt16, Int32 or UInt32, and START, 0 to 2,147,483,647, begins the samples;
+for demo N is 1 to 4,096. docs/formats.md, docs/orientation.md and docs/outputs.md tell more.
 
 A file node writes <PREFIX>NODE_000.nc, <PREFIX>NODE_001.nc and so on, and a statistics node
 <PREFIX>NODE.txt. What stands under such a name, or under NAME, is replaced without a question, the
 inputs too where they are named so. No folder is made. The system has made sure of the bytes of the
-first 64 files, and of each of 64 KiB or more, where the status is 0; smaller ones it writes soon.
+first 64 files, and of each of 64 KiB or more, where the status is 0; others may be written later.
 
 The status, which one line on standard error tells where it isn't 0:
 
@@ -76,11 +76,11 @@ The status, which one line on standard error tells where it isn't 0:
     2  GraphText    GRAPH is no TOML: mend its text
     3  GraphRule    GRAPH breaks a rule, which is named: see docs/graph.md
     4  StackBytes   STACK or DARK isn't such a file; the fault is named: see docs/formats.md
-    5  Limit        a file is too large, or a run or a file would be: cut the stack, keep
-                    fewer bins, or write smaller groups of arrays
+    5  Limit        a file is too large to be read, or a run or a file that is to be written would
+                    be too large: cut the stack, keep fewer bins, or write smaller groups of arrays
     6  ReadFault    GRAPH, STACK, DARK, LOG or a file to check isn't there or can't be read
     7  ShelfFault   a file can't be made or written, as where its folder isn't there or is full:
-                    delete what wasn't finished, and run again
+                    mend that and run again, which writes the files anew
     8  OutFault     the files stand, but standard output failed
     9  OutOfMemory  out of memory: free some, or cut the stack
     10 Sizes        the frames to be turned have one dimension; or DARK has no frame, or frames
