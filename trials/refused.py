@@ -63,6 +63,9 @@ COMMANDS = {
     "run-log": "run-log g.toml s.nc l_",
     "watch": "watch g.toml s.nc w_",
     "demo": "demo 3",
+    "orient": "orient 5 s.nc turned.nc",
+    "correct": "correct s.nc s.nc corrected.nc 3 1 1 0 255",
+    "series": "series 4 0,0,4,4;4,2,4,4 s.nc series.txt",
     "check": "check g.toml s.nc c_log.txt c_",
 }
 SECONDS = 60
