@@ -222,7 +222,7 @@ def is_of_form(value, values):
         fits = lambda it: isinstance(it, bool)
     elif re.search(r'"|text|letters|names|expression', values):
         words = re.findall(r'"([^"]+)"', values)
-        fits = lambda it: isinstance(it, str) and (not words or it in words or not values.startswith('"'))
+        fits = lambda it: isinstance(it, str) and (not words or it in words or not values.startswith('"') or "the name of" in values)
         if "letters" in values:
             fits = lambda it: isinstance(it, str) and re.fullmatch("[A-Za-z][A-Za-z0-9_]{0,31}", it) and it != "driver"
     else:
@@ -332,7 +332,7 @@ def tell_node(graph, fault, number):
         if given in names:
             return say(f"{graph.place(number, 'input')}: {given} is a file node, which passes nothing on")
         fed = [it.get("name") for it in graph.nodes if it.get("kind") != "file" and it is not node]
-        return say(f"{graph.place(number, 'input')}: no node is named {given}{near(given, names)}; the input may be {', '.join(['driver', *fed])}")
+        return say(f"{graph.place(number, 'input')}: no node is named {given}{near(given, fed)}; the input may be {', '.join(['driver', *fed])}")
     return say(f"{graph.place(number, 'input')}: from input to input it never comes to the driver: one of them has to have input = \"driver\"")
 
 
@@ -442,7 +442,7 @@ def header_of(name):
 CONVERT_FLOATS = (
     "ncap2 -s 'array_data=int(array_data)' {0} NEW.nc rounds them to whole numbers, and so does, where there is xarray, "
     "python3 -c 'import sys, xarray as x; d = x.open_dataset(sys.argv[1]); d[\"array_data\"] = d.array_data.round().astype(\"i4\"); "
-    "d.attrs.pop(\"dataType\", 0); d.to_netcdf(\"NEW.nc\", format=\"NETCDF3_64BIT\")' {0}; scale them first where they are small or don't fit 32 bits"
+    "d.attrs.pop(\"dataType\", 0); d.to_netcdf(\"NEW.nc\", format=\"NETCDF3_64BIT\")' {0}; scale or replace first what is small, NaN or doesn't fit 32 bits"
 )
 HEADERS = {
     "Short": "the file ends within its header: it was cut off; copy it anew",
@@ -473,13 +473,22 @@ def quoted_name(name):
     return shlex.quote(f"./{name}" if name.startswith("-") else name)
 
 
-def tell_magic(call):
-    name = call["STACK"]
+def tell_other_form(name):
+    """Says how a file of another form is converted. Returns the first bytes of a file of none of these forms."""
     with open(name, "rb") as file:
         data = file.read(4096)
     for start, words in FIRST_BYTES:
         if data.startswith(start):
-            return say(f"{name}: {words.format(quoted_name(name))}")
+            say(f"{name}: {words.format(quoted_name(name))}")
+            return None
+    return data
+
+
+def tell_magic(call):
+    name = call["STACK"]
+    data = tell_other_form(name)
+    if data is None:
+        return None
     if b"[[node]]" in data:
         return say(f"{name} is a graph, and {call.order()}")
     if re.match(rb"(load|loadrefused|close|settle) [0-9]", data):
@@ -491,14 +500,14 @@ def tell_sample_type(name, number, header):
     kind = TYPES.get(header.frames()[2], "another") if header else "another"
     quoted = quoted_name(name)
     if number in (-5, -6) or kind in ("float", "double"):
-        drop = f"; 'ncatted -a dataType,global,d,, NEW.nc' drops dataType, which doesn't fit then" if number > 0 else ""
+        drop = f"; 'ncatted -a dataType,global,d,, NEW.nc' drops dataType there, which doesn't fit then" if number > 0 else ""
         what = "its samples are floating-point numbers, and only whole numbers of 8, 16 or 32 bits are read"
         return say(f"{name}: {what}: {CONVERT_FLOATS.format(quoted)}{drop}")
     if number == -2:
         return say(f"{name}: array_data is of type char: store its bytes as byte, and for UInt8 the global int attribute dataType = 1")
     named = f" ({TYPES_OF_DETECTORS[number]})" if number in TYPES_OF_DETECTORS else ""
     fits = "0 and 1 go with byte, 2 and 3 with short, 4 and 5 with int"
-    return say(f"{name}: dataType is {number}{named}, and array_data is of type {kind}: {fits} ('ncatted -a dataType,global,m,i,N {quoted}' sets it to N)")
+    return say(f"{name}: dataType is {number}{named}, and array_data is of type {kind}: {fits} ('ncatted -a dataType,global,m,i,N {quoted} NEW.nc' sets it to N)")
 
 
 def first_dimension(header):
@@ -519,6 +528,8 @@ def tell_stack(call, words):
     header, number = header_of(name), int(rest[0]) if rest else None
     var = header.vars[number][0] if header and rest and 0 <= number < len(header.vars) else f"number {number}"
     quoted, cut = quoted_name(name), first_dimension(header)
+    kind = "double" if var == "timeStamp" else "int"
+    without = "the ids count from 1" if var == "uniqueId" else "these times are 0"
     if not os.path.getsize(name):
         return say(f"{name} is empty")
     if fault == "Magic":
@@ -532,7 +543,7 @@ def tell_stack(call, words):
         renames = ""
         if there:
             most = max(header.vars, key=lambda it: len(it[1]))[0]
-            renames = f": 'ncrename -v {most},array_data {quoted}' renames one"
+            renames = f": 'ncrename -v {most},array_data {quoted} NEW.nc' renames one"
         return say(f"{name}: the frames have to be the variable array_data; it has {', '.join(there) or 'no variable'}{renames}")
     return say(f"{name}: " + {
         "RecordDimNotFirst": f"the variable {var} has the dimension without a fixed length in another place than the first, which the classic format "
@@ -540,11 +551,13 @@ def tell_stack(call, words):
         "Overflow": f"the variable {var} would have more than 4 GiB by its header, and the file hasn't: it was cut off or is damaged; copy it anew",
         "DataShort": f"values of the variable {var} are missing at its end: it was cut off, or is still being written; copy it anew",
         "Rank": tell_rank(number, quoted) if rest else "",
-        "TooManyFrames": f"it has {number:,} frames, and a stack at most 65,536: 'ncks -d {cut},0,65535 {quoted} NEW.nc' cuts it" if rest else "",
+        "TooManyFrames": f"it has {number:,} frames, and a stack at most 65,536: 'ncks -d {cut},0,65535 {quoted} NEW.nc' writes the first part, and the next begins at 65536"
+        if rest
+        else "",
         "TooManySamples": f"a frame has {number:,} samples, and at most 67,108,864 are read: cut the frames by 'ncks -d'" if rest else "",
-        "FrameCount": f"the variable {var} hasn't one value of its type (int, or double for timeStamp) for each frame: "
-        f"'ncks -x -v {var} {quoted} NEW.nc' leaves it out",
-        "AttrShape": f"the attribute {var} hasn't one value, or one text, for each frame: 'ncks -x -v {var} {quoted} NEW.nc' leaves it out",
+        "FrameCount": f"the variable {var} hasn't one value of type {kind} for each frame: 'ncap2 -s \"{var}={kind}({var})\" {quoted} NEW.nc' makes {kind} of it, where it has one; "
+        f"'ncks -x -v {var} {quoted} NEW.nc' leaves it out, and {without} then",
+        "AttrShape": f"the attribute {var} hasn't one value, or one text, for each frame: 'ncks -x -v {var} {quoted} NEW.nc' leaves it out, and no trigger can ask for it then",
     }.get(fault, "see docs/formats.md"))
 
 
@@ -568,6 +581,8 @@ def tell_limit(call, words):
         # a tenth less for what a part has beside its frames
         parts = number // (LONGEST_STACK * 9 // 10) + 1
         what = f"{stack} has {number:,} bytes, and a stack at most {LONGEST_STACK:,}"
+        if tell_other_form(stack) is None:
+            return say(f"{what}: convert it in {parts} parts or more")
         return say(f"{what}: cut it along its first dimension into {parts} or more, as with {cutting(stack, parts)}")
     if fault == "GenBytes":
         frame = int(call["W"]) * int(call["H"]) * WIDTHS_OF_SAMPLES[call["KIND"]]
@@ -715,6 +730,7 @@ def tell_losses(report, call):
     except (OSError, ValueError):
         run, nodes = {}, {}
     frames = int(rows[0][1])
+    is_lossy = any(re.search("[1-9]", number) for words in rows[1:] for cause, number in zip(words, words[1:]) if cause in ("refused", "full", "pool", "sort"))
     pool = f"pool = 0 under [run], which is no limit, keeps them; one above {run.get('pool', 0)} may"
     for words in rows[1:]:
         name = words[1] if words[0] == "node" else "the driver"
@@ -723,7 +739,7 @@ def tell_losses(report, call):
         if count("refused"):
             say(f"{count('refused')} of {count('offered')} frames were refused at {name}: the pool was full. {pool} (docs/report.md)")
         if count("full"):
-            queue = f"queue = {min(frames, LONGEST_QUEUE)} at {name}"
+            queue = f"queue = {frames} at {name}" if frames <= LONGEST_QUEUE else "plain, or a stack that is cut,"
             node = nodes.get(name, {})
             faster = "" if node.get("kind") in KINDS_OF_ONE_THREAD else ", and more threads there take them faster"
             helps = f"{queue} keeps them{faster}"
@@ -733,10 +749,11 @@ def tell_losses(report, call):
         if count("pool"):
             say(f"{count('pool')} of {count('offered')} arrays were dropped at {name}: the pool was full. {pool} (docs/report.md)")
         if count("sort"):
-            keeps = f"sort = {min(frames, LONGEST_QUEUE)} at {name} keeps them (docs/report.md)"
+            keeps = f"{f'sort = {frames} at {name}' if frames <= LONGEST_QUEUE else 'plain, or a stack that is cut,'} keeps them (docs/report.md)"
             say(f"{count('sort')} of {count('offered')} results were dropped at {name}: its sort list was full. {keeps}")
         if nodes.get(name, {}).get("kind") == "circular" and count("accepted") and not count("out"):
-            say(f"nothing went out of {name}: its trigger never fired{why_never(nodes[name], call)} (docs/report.md)")
+            lost = " (and some were lost at it or before it)" if is_lossy else ""
+            say(f"nothing went out of {name}: its trigger fired at none of the {count('accepted')} arrays that came{lost}{why_never(nodes[name], call)} (docs/report.md)")
 
 
 # --- threads
@@ -753,13 +770,13 @@ def roles_that_left(log):
 def tell_threads(room, call):
     workers = THREADS_OF_DEMO if call.command == "demo" else sum(it.get("threads", 1) for it in Graph(call["GRAPH"]).nodes)
     asked = workers + (2 if call.command == "watch" else 1)
-    then = "so the first thread did the work alone, and all files stand. Take fewer threads, or raise the limit ('ulimit -u', or pids.max of the control group)"
+    then = "all files stand. Take fewer threads, or raise the limit ('ulimit -u', or pids.max of the control group)"
     if call.command == "run-log":
         left = roles_that_left(f"{call['PREFIX']}log.txt")
         if left:
-            say(f"{left} of the run's {asked} threads left it, as the system made no thread for them or had no memory: {then}")
+            say(f"{left} of the run's {asked} threads left it, as the system made no thread for them or had no memory: so the first thread did the work alone, and {then}")
     elif room and int(room) < asked:
-        say(f"the run asks for {asked} threads beside the first one, and {max(0, int(room))} could be started: {then}")
+        say(f"the run asks for {asked} threads beside the first one, and {max(0, int(room))} could be started: so the first thread may have done the work alone; {then}")
 
 
 # --- the files of a run
