@@ -8,7 +8,7 @@ use crate::Failed;
 
 /// Files to write. A call changes nothing but the name that it is given.
 pub trait Shelf {
-    ghost use Rattle.std.specs.Prelude.{ℕ, Option};
+    ghost use Rattle.std.specs.Prelude.{ℕ, List, Option};
     ghost use Rattle.edge_traits.specs.Files.{Files};
 
     /// The names with their bytes, where they are told.
@@ -16,6 +16,12 @@ pub trait Shelf {
 
     /// How often a call has failed, up to the greatest `u64`.
     ghost faults: { Self → ℕ };
+
+    /// The second state comes of the first by a `finish` of the name that succeeded.
+    ghost finishes: { List ℕ → Self → Self → Type 0 };
+
+    /// No name was created that isn't finished.
+    ghost all_finished: { Self → Type 0 };
 
     /// Leaves the name with no bytes, whatever it had.
     ///
@@ -62,5 +68,16 @@ pub trait Shelf {
     fn finish(&mut self, name: &str) -> Result<(), Failed>
         requires { Stands (held self.old) name.now }
         ensures files { held self.new ≡ held self.old }
+        ensures finishes { OnOk result (finishes name.now self.old self.new) }
+        ensures cause { Counts (faults self.old) (faults self.new) result };
+
+    /// Ends the writing of all names that were created and not finished. It changes no bytes.
+    ///
+    /// # Errors
+    ///
+    /// `Failed` where a file could not be let go in order. The count of faults then rises.
+    fn finish_all(&mut self) -> Result<(), Failed>
+        ensures files { held self.new ≡ held self.old }
+        ensures finished { OnOk result (all_finished self.new) }
         ensures cause { Counts (faults self.old) (faults self.new) result };
 }

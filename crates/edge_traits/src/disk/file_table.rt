@@ -98,6 +98,14 @@ impl<F: Drop> FileTable<F> {
         Some(self.files.remove(index))
     }
 
+    /// Takes the file out that was used longest ago.
+    pub fn pop(&mut self) -> Option<BegunFile<F>>
+        ensures fewer { IfSome result (λ file. self.old ≡ self.new ++ (file ∷ [])) }
+        ensures none { IfNone result ((self.old ≡ []) × (self.new ≡ [])) }
+    {
+        self.files.pop()
+    }
+
     /// Puts a file in, as the one that was used last. Beyond the files that have memory it may
     /// want some.
     pub fn keep(&mut self, file: BegunFile<F>) -> Result<(), OutOfMemory>

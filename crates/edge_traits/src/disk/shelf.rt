@@ -110,6 +110,18 @@ impl<'a, R: Files> DiskShelf<'a, R> {
         is_early || size >= SURE_SIZE
     }
 
+    /// Lets a file go that was taken out, with its bytes made sure of where they are to be.
+    fn ended(&mut self, file: BegunFile<R::File>) -> Result<(), Failed>
+        ensures files { self.new.files ≡ self.old.files }
+        ensures cause { Counts self.old.faults self.new.faults result }
+    {
+        let is_sure = self.is_sure(file.ends());
+        match self.files.let_go(file) {
+            Some(open) if is_sure => counted(&mut self.faults, make_sure(&open)),
+            _ => Ok(()),
+        }
+    }
+
     /// Keeps a file for the next call on its name.
     fn kept(&mut self, file: BegunFile<R::File>) -> Result<(), Failed>
         ensures kept { OnOk result (self.new.files ≡ file ∷ self.old.files) }
@@ -201,11 +213,16 @@ impl<'a, R: Files> DiskShelf<'a, R> {
 }
 
 impl<'a, R: Files> Shelf for DiskShelf<'a, R> {
-    ghost use Rattle.std.specs.Prelude.{None};
+    ghost use Rattle.std.specs.Prelude.{◌≡◌, [], None};
+    ghost use Rattle.edge_traits.specs.RealFiles.{without_begun};
 
     ghost held = { λ s. None };
 
     ghost faults = { λ s. s.faults };
+
+    ghost finishes = { λ name old new. new.files ≡ without_begun old.files name };
+
+    ghost all_finished = { λ s. s.files ≡ [] };
 
     #[tactic(auto, using(crate::proofs::BegunFiles::begun))]
     fn create(&mut self, name: &str) -> Result<(), Failed>
@@ -250,13 +267,19 @@ impl<'a, R: Files> Shelf for DiskShelf<'a, R> {
         ensures let_go { self.new.files ≡ without_begun self.old.files name.now }
         ensures cause { Counts self.old.faults self.new.faults result }
     {
-        let Some(file) = self.files.take(name) else {
-            return Ok(());
-        };
-        let is_sure = self.is_sure(file.ends());
-        match self.files.let_go(file) {
-            Some(open) if is_sure => counted(&mut self.faults, make_sure(&open)),
-            _ => Ok(()),
+        match self.files.take(name) {
+            Some(file) => self.ended(file),
+            None => Ok(()),
         }
+    }
+
+    fn finish_all(&mut self) -> Result<(), Failed>
+        ensures let_go { OnOk result (self.new.files ≡ []) }
+        ensures cause { Counts self.old.faults self.new.faults result }
+    {
+        while let Some(file) = self.files.pop() {
+            self.ended(file)?;
+        }
+        Ok(())
     }
 }

@@ -1,6 +1,6 @@
 //! A shelf in memory.
 
-ghost use Rattle.std.specs.Prelude.{◌≡◌, ◌++◌, ◌&&◌, [], length, not, is_ok, IsTrue, ◌↔◌, IfOk, OnOk, OnErr, Some, if◌then◌else◌};
+ghost use Rattle.std.specs.Prelude.{◌≡◌, ◌++◌, ◌&&◌, [], length, not, is_ok, IsOk, IsTrue, ◌↔◌, IfOk, OnOk, OnErr, Some, if◌then◌else◌};
 ghost use Rattle.std.specs.Option.{option_copied};
 ghost use Rattle.edge_traits.specs.Faults.{Counts};
 ghost use Rattle.edge_traits.specs.Files.{file_at, with_file, with_more, with_patch, overwritten, Stands, HasRange, MayCreate, MayAppend, MayPatch};
@@ -101,11 +101,16 @@ impl MemShelf {
 }
 
 impl Shelf for MemShelf {
+    ghost use Rattle.std.specs.Prelude.{◌≡◌, ⊤};
     ghost use Rattle.edge_traits.specs.Memory.{told};
 
     ghost held = { λ s. told s.store.files };
 
     ghost faults = { λ s. s.calls.faults };
+
+    ghost finishes = { λ name old new. new.store ≡ old.store };
+
+    ghost all_finished = { λ _. ⊤ };
 
     fn create(&mut self, name: &str) -> Result<(), Failed>
         ensures ok { OnOk result (told self.new.store.files ≡
@@ -179,6 +184,7 @@ impl Shelf for MemShelf {
 
     fn finish(&mut self, _name: &str) -> Result<(), Failed>
         ensures files { told self.new.store.files ≡ told self.old.store.files }
+        ensures finishes { OnOk result (self.new.store ≡ self.old.store) }
         ensures cause { Counts self.old.calls.faults self.new.calls.faults result }
 
         // It fails exactly in a call of the list.
@@ -192,5 +198,16 @@ impl Shelf for MemShelf {
             Ok(())
         };
         self.calls.count(done)
+    }
+
+    // Nothing is held back in memory, so there is nothing to do.
+    fn finish_all(&mut self) -> Result<(), Failed>
+        ensures files { told self.new.store.files ≡ told self.old.store.files }
+        ensures cause { Counts self.old.calls.faults self.new.calls.faults result }
+        ensures store { self.new.store ≡ self.old.store }
+        ensures calls { self.new.calls ≡ self.old.calls }
+        ensures done { IsOk result }
+    {
+        Ok(())
     }
 }

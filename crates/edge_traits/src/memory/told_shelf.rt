@@ -52,11 +52,16 @@ impl<'a> ToldShelf<'a> {
 }
 
 impl<'a> Shelf for ToldShelf<'a> {
+    ghost use Rattle.std.specs.Prelude.{◌≡◌, ⊤};
     ghost use Rattle.edge_traits.specs.Memory.{told};
 
     ghost held = { λ s. told s.store.files };
 
     ghost faults = { λ s. s.calls.faults };
+
+    ghost finishes = { λ name old new. new.store ≡ old.store };
+
+    ghost all_finished = { λ _. ⊤ };
 
     fn create(&mut self, name: &str) -> Result<(), Failed>
         ensures ok { OnOk result (told self.new.store.files ≡
@@ -118,6 +123,7 @@ impl<'a> Shelf for ToldShelf<'a> {
     fn finish(&mut self, name: &str) -> Result<(), Failed>
         requires { Stands (told self.old.store.files) name.now }
         ensures files { told self.new.store.files ≡ told self.old.store.files }
+        ensures finishes { OnOk result (self.new.store ≡ self.old.store) }
         ensures cause { Counts self.old.calls.faults self.new.calls.faults result }
 
         // As the shelf that it stands on.
@@ -126,5 +132,15 @@ impl<'a> Shelf for ToldShelf<'a> {
         ensures calls { self.new.calls ≡ counted self.old.calls (is_ok result) }
     {
         self.shelf.finish(name)
+    }
+    // As the shelf that it stands on.
+    fn finish_all(&mut self) -> Result<(), Failed>
+        ensures files { told self.new.store.files ≡ told self.old.store.files }
+        ensures cause { Counts self.old.calls.faults self.new.calls.faults result }
+        ensures store { self.new.store ≡ self.old.store }
+        ensures calls { self.new.calls ≡ self.old.calls }
+        ensures done { IsOk result }
+    {
+        self.shelf.finish_all()
     }
 }
