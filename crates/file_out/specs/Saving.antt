@@ -11,6 +11,10 @@ IsSaveCause (Ok x) before now = now ≡ before
 IsSaveCause (Err Failed) before now = Rose before now
 IsSaveCause (Err OutOfMemory) before now = now ≡ before
 
+-- the last that was done to the shelf is a finish of the name
+abbrev pub HasFinished : {K : Type 0} → (finishes : List ℕ → K → K → Type 0) → (name : List ℕ) → K → Type 0
+HasFinished {K} finishes name now = (before : K) × finishes name before now
+
 -- the shelf as before, or with a front of a file's final bytes under its name
 pub data IsBegun (held : Option Files) (name final : List ℕ) (now : Option Files) : Type 0 where
   Untouched : now ≡ held → IsBegun held name final now

@@ -7,7 +7,7 @@ ghost use Rattle.cdf_write.specs.Layout.{layout};
 ghost use Rattle.cdf_write.specs.Lengths.{length_of};
 ghost use Rattle.cdf_write.specs.Writable.{IsWritable};
 ghost use Rattle.file_out.specs.Streams.{IsRow};
-ghost use Rattle.file_out.specs.Saving.{IsBegun, IsSaveCause};
+ghost use Rattle.file_out.specs.Saving.{HasFinished, IsBegun, IsSaveCause};
 ghost use Rattle.file_out.specs.Groups.{arrays_of};
 
 use crate::{SaveFault, StreamFile};
@@ -53,6 +53,7 @@ pub fn save_group<K: Shelf>(
     ensures ok { OnOk result (K.held shelf.new ≡ with_file (K.held shelf.old) name.now (layout shape.now (arrays_of shape.now rows.now))) }
     ensures err { OnErr result (IsBegun (K.held shelf.old) name.now (layout shape.now (arrays_of shape.now rows.now)) (K.held shelf.new)) }
     ensures others { (q : List ℕ) → q ≢ name.now → file_at (K.held shelf.new) q ≡ file_at (K.held shelf.old) q }
+    ensures finished { OnOk result (HasFinished K.finishes name.now shelf.new) }
     ensures cause { IsSaveCause result (K.faults shelf.old) (K.faults shelf.new) }
 {
     let count = rows.len();

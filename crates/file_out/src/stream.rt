@@ -12,7 +12,7 @@ ghost use Rattle.cdf_write.specs.Layout.{header, layout, row};
 ghost use Rattle.cdf_write.specs.Lengths.{length_of};
 ghost use Rattle.cdf_write.specs.Writable.{IsWritable};
 ghost use Rattle.file_out.specs.Streams.{HasRows, IsRow, MayCount, count_place, with_count};
-ghost use Rattle.file_out.specs.Saving.{AddStops, BeginStops, IsSaveCause};
+ghost use Rattle.file_out.specs.Saving.{AddStops, BeginStops, HasFinished, IsSaveCause};
 ghost use Rattle.file_out.specs.declared.fault.SaveFault.TheVariants as faults;
 
 use crate::SaveFault;
@@ -227,6 +227,7 @@ impl StreamFile {
         ensures failed { IfErr result (λ fault. fault ≡ faults.Failed) }
         ensures err { OnErr result (MayCount (K.held shelf.old) self.name self.numrecs self.count (K.held shelf.new)) }
         ensures others { (q : List ℕ) → q ≢ self.name → file_at (K.held shelf.new) q ≡ file_at (K.held shelf.old) q }
+        ensures finished { OnOk result (HasFinished K.finishes self.name shelf.new) }
         ensures cause { IsSaveCause result (K.faults shelf.old) (K.faults shelf.new) }
     {
         self.put_count(shelf)?;
