@@ -47,6 +47,7 @@ pub fn save_stack<K: Shelf, C: Change>(
     ensures some { OnErr result (1 ≤ length stack.now.arrays) }
     ensures err { OnErr result (IsBegun (K.held shelf.old) name.now (layout shape.now (map (C.change change.now) stack.now.arrays))
         (K.held shelf.new)) }
+    ensures finished { OnOk result (K.all_finished shelf.old → K.all_finished shelf.new) }
     ensures cause { IsSaveCause result (K.faults shelf.old) (K.faults shelf.new) }
 {
     let count = stack.frames();
@@ -67,5 +68,6 @@ pub fn save_stack<K: Shelf, C: Change>(
         done = next;
     }
     file.end(shelf)?;
+    shelf.finish_all()?;
     Ok(())
 }

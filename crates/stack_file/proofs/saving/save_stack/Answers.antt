@@ -110,3 +110,11 @@ returns-clause-back g c =
     changed-ReadsBack (g.C.Change.dims c.args.change.now) change s shape
     (record { kept = c.requires.kept; same = c.requires.shape; writable = c.requires.writable }) c.requires.dims
     (subst (All (IsGiven shape)) all c.loop-done.invariant.given) c.requires.within
+
+pub returns-in_err-finish_all-clause-err : goal.returns-in_err-finish_all-clause-err
+returns-in_err-finish_all-clause-err g c =
+    let p = err_from_is_err_and c.from_residual-in_err-finish_all.result c.from_residual-in_err-finish_all.ensures.1 in
+    let changed = map (g.C.Change.change c.args.change.now) c.args.stack.now.arrays in
+    let same = (rw c.loop-done.invariant.stream at c.in_ok-end.ensures.ok) in
+    rw p.1 (rows-IsBegun c.args.shape.now changed (g.K.Shelf.held c.args.shelf.now) c.args.name.now _ c.loop-done.done
+    (c.in_err-finish_all.ensures.files ∙ same ∙ c.loop-done.invariant.files))
