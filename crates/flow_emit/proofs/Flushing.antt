@@ -1,67 +1,27 @@
 -- A flush of a sort list, one after the other, when its node is settled.
-use Rattle.std.proofs.Common.{◌≡◌, ◌∙◌, ◌≤◌, ℕ, true, false, Bool, List, [], ◌∷◌, map, refl, sym, ap, subst, ltb, ◌&&◌}
+use Rattle.std.proofs.Common.{◌≡◌, ◌≤◌, ℕ, true, false, Bool, List, [], ◌∷◌, map, refl, ap, ltb, ◌&&◌, ◌⊎◌, inl, inr}
 use Rattle.std.specs.List.{list_all}
 use Rattle.std.proofs.lemmas.Bool.{false≢true}
-use Rattle.nd_base.specs.declared.frame.FrameName.{FrameName}
-use Rattle.queue_sort.specs.declared.sort_lists.Waiting.{Waiting as Listed}
-use Rattle.flow_journal.specs.declared.entry.Entry.{Entry}
 use Rattle.flow_journal.specs.declared.entry.Entry.TheVariants.{Settle}
 use Rattle.flow_journal.specs.declared.entry.Why.TheVariants.{Flush}
 use Rattle.flow_journal.specs.Setting.{Setting, Work, Makes, Passes, Watches, Saves, node, is_node, is_sorted, last_role, may_sort}
-use Rattle.flow_journal.specs.Pasts.{Past}
 use Rattle.flow_journal.specs.Ended.{is_settled}
 use Rattle.flow_journal.specs.Waiting.{Waiting, waiting, least_first}
-use Rattle.flow_journal.specs.Turns.{offered_to}
-use Rattle.flow_journal.specs.Following.{emit, offer}
+use Rattle.flow_journal.specs.Following.{emit}
 use Rattle.flow_journal.specs.Histories.{is_legal, is_history}
-use Rattle.flow_journal.proofs.Looks.{look_laws}
 use Rattle.flow_journal.proofs.Changes.{put_laws}
 use Rattle.board_rules.specs.declared.answers.Settled.TheVariants as settled
 use Rattle.board_rules.specs.States.{BoardState, past, plain}
 use Rattle.board_rules.specs.Moving.{moved, with_all}
 use Rattle.board_rules.specs.Working.{waits_to_settle}
 use Rattle.board_rules.proofs.Legal.{settle-by}
-use Rattle.flow_emit.specs.declared.node.Kept.{Kept}
-use Rattle.flow_emit.specs.declared.node.NodeState.{NodeState}
-use Rattle.flow_emit.specs.NodeStates.{IsNode, listed}
-use Rattle.flow_emit.specs.Puts.{is_watching, watches}
-use Rattle.flow_emit.specs.Settling.{flush}
-use Rattle.flow_emit.proofs.Coursing.{Measuring}
-use Rattle.flow_emit.proofs.Begins.{begun}
+use Rattle.run_course.specs.Puts.{is_watching, watches}
+use Rattle.run_course.specs.Leaving.{flush}
+use Rattle.run_course.proofs.Begins.{begun}
 use Rattle.flow_emit.proofs.Depth.{is_out, outs-flat}
-use Rattle.flow_emit.proofs.Offering.{legal-before}
-use Rattle.flow_emit.proofs.Looking.{first-waits, waits-offers}
-
--- the least one is the first of the flush, which goes on without it
-pub flush-least : (measure : Measuring) (s : Setting) (v : ℕ) (P : Past) (n : NodeState) (w : Listed Kept) (ws : List (Listed Kept))
-    → IsNode measure s v P n → n.list.waiting ≡ w ∷ ws
-    → flush s v P ≡ emit v Flush w.item.name ∷ flush s v (emit v Flush w.item.name ∷ P)
-flush-least measure s v P n w ws i is =
-    let f = first-waits measure s v P n w ws i is in
-    let name : w.item.name ≡ f.least.array = ap (λ (x : Listed Kept). x.item.name) f.first in
-    subst (λ (b : FrameName). flush s v P ≡ emit v Flush b ∷ flush s v (emit v Flush b ∷ P)) (sym name) (look_laws.flush s 0 v P f.least f.others f.order)
-
-pub flush-none : (measure : Measuring) (s : Setting) (v : ℕ) (P : Past) (n : NodeState) → IsNode measure s v P n → n.list.waiting ≡ [] → flush s v P ≡ []
-flush-none measure s v P n i none = split (least_first s (waiting s v P)) refl where
-  split : (us : List Waiting) → least_first s (waiting s v P) ≡ us → flush s v P ≡ []
-  split [] h = ap (map (λ (w : Waiting). emit v Flush w.array)) h
-  split (u ∷ us) h = let e : listed measure s v u ∷ map (listed measure s v) us ≡ [] = sym (i.waits ∙ ap (map (listed measure s v)) h) ∙ none in absurd (cc)
-
--- offers leave a flush as it is
-pub flush-offers : (s : Setting) (v : ℕ) (a : FrameName) (cs : List ℕ) (b : BoardState)
-    → flush s v (past (with_all s 0 1 (map (offer a) cs) b)) ≡ flush s v (past b)
-flush-offers s v a cs b = ap (λ (ws : List Waiting). map (λ (w : Waiting). emit v Flush w.array) (least_first s ws)) (waits-offers s v a cs b)
-
--- the first of a flush, with its offers, is legal where the flush is
-pub flushed-legal : (s : Setting) (v : ℕ) (a : FrameName) (ds : List Entry) (b : BoardState) → flush s v (past b) ≡ emit v Flush a ∷ ds
-    → is_legal s (past (with_all s 0 2 (flush s v (past b)) b)) ≡ true
-    → (is_legal s (past (with_all s 0 1 (map (offer a) (offered_to s (past b) v)) (plain (emit v Flush a) ∷ b))) ≡ true)
-    × (is_legal s (emit v Flush a ∷ past b) ≡ true)
-flushed-legal s v a ds b is legal =
-    let whole : is_legal s (past (with_all s 0 2 (emit v Flush a ∷ ds) b)) ≡ true =
-    subst (λ (xs : List Entry). is_legal s (past (with_all s 0 2 xs b)) ≡ true) is legal in
-    let out = legal-before s 0 2 ds (with_all s 0 1 (map (offer a) (offered_to s (past b) v)) (plain (emit v Flush a) ∷ b)) whole in
-    (out, legal-before s 0 1 (map (offer a) (offered_to s (past b) v)) (plain (emit v Flush a) ∷ b) out)
+use Rattle.course_parts.specs.declared.rules.NodeWork.{NodeWork}
+use Rattle.course_parts.specs.declared.rules.NodeWork.TheVariants as work
+use Rattle.course_parts.specs.RunRules.{as_work}
 
 -- THE MOVE
 all-out : (v : ℕ) (ws : List Waiting) → list_all is_out (map (λ (w : Waiting). emit v Flush w.array) ws) ≡ true
@@ -99,3 +59,14 @@ pub may-settle : (s : Setting) (b : BoardState) (r v : ℕ) → is_history s (pa
     → waits_to_settle s v (past b) ≡ false → is_settled v (past b) ≡ false
     → is_legal s (Settle r v ∷ past b) ≡ true
 may-settle s b r v h role here ready unsettled = begun s b 0 (plain (Settle r v)) (settle-legal s b r v h role here ready unsettled)
+
+-- what a node does, as code reads it
+pub not-watching : (w : NodeWork) → (w ≡ work.Makes) ⊎ ((w ≡ work.Passes) ⊎ ((w ≡ work.Deals) ⊎ ((whole : Bool) × (count : ℕ) × (w ≡ work.Saves whole count))))
+    → is_watching (as_work w) ≡ false
+not-watching w h = elim h [
+  | inl makes ↦ ap (λ x. is_watching (as_work x)) makes
+  | inr more ↦ elim more [
+    | inl passes ↦ ap (λ x. is_watching (as_work x)) passes
+    | inr rest ↦ elim rest [ inl deals ↦ ap (λ x. is_watching (as_work x)) deals | inr saves ↦ ap (λ x. is_watching (as_work x)) saves.2 ]
+  ]
+]

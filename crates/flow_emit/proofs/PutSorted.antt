@@ -17,14 +17,14 @@ use Rattle.flow_journal.proofs.Looks.{look_laws}
 use Rattle.flow_journal.specs.ResultNames.{result_name}
 use Rattle.board_rules.specs.Moving.{moved, with_all}
 use Rattle.board_rules.specs.States.{BoardState, past, plain}
-use Rattle.flow_emit.specs.Courses.{Coursed}
+use Rattle.run_course.specs.Courses.{Coursed}
 use Rattle.flow_emit.specs.Emissions.{before_emission}
-use Rattle.flow_emit.specs.Placing.{IsPlaced}
-use Rattle.flow_emit.specs.Puts.{put_of, inputs}
-use Rattle.flow_emit.specs.declared.course.placing.Placement.TheVariants.{Out, Waits, Full}
+use Rattle.run_course.specs.Placing.{IsPlaced}
+use Rattle.run_course.specs.Puts.{put_of, inputs}
+use Rattle.course_parts.specs.declared.results.Placement.TheVariants.{Out, Waits, Full}
 use Rattle.flow_emit.proofs.Depth.{outs-flat}
-use Rattle.flow_emit.proofs.Looking.{look-offers}
-use Rattle.flow_emit.proofs.PutMoves.{whole-name}
+use Rattle.flow_emit.proofs.Waits.{look-offers}
+use Rattle.run_course.proofs.PutMoves.{whole-name}
 use Rattle.flow_emit.proofs.Ticking.{look-outs}
 
 -- the result goes out, with its offers, and then comes a look

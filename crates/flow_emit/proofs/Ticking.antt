@@ -1,8 +1,7 @@
 -- A tick, and the looks that it calls for: a look at one node leaves those at the others as they were.
-use Rattle.std.proofs.Common.{◌≡◌, ◌≢◌, ◌≤◌, ◌<◌, ◌∙◌, ◌+◌, ℕ, zero, suc, max, ℤ, true, false, Bool, List, [], ◌∷◌, ◌++◌, length, map, drop, refl, sym, ap}
-use Rattle.std.proofs.Common.{subst, eqb, ltb, arith, get_or, if◌then◌else◌}
+use Rattle.std.proofs.Common.{◌≡◌, ◌≢◌, ◌≤◌, ◌<◌, ◌∙◌, ◌+◌, ℕ, zero, suc, max, ℤ, true, false, Bool, List, [], ◌∷◌, ◌++◌, length, map, drop, refl, sym, ap, subst, eqb, ltb, arith, get_or, if◌then◌else◌}
 use Rattle.std.specs.List.{All, list_all}
-use Rattle.std.proofs.lemmas.Bool.{and_parts, and_from, eq-eqb, eqb-true, false≢true, lt-ltb, le-leb}
+use Rattle.std.proofs.lemmas.Bool.{and_parts, and_from, eq-eqb, eqb-true, false≢true}
 use Rattle.std.proofs.lemmas.List.{drop_all}
 use Rattle.std.proofs.lemmas.List.Elements.{All-cons, All-nil, All-head, All-tail}
 use Rattle.queue_sort.specs.Sorting.{keeps_step}
@@ -10,7 +9,7 @@ use Rattle.flow_journal.specs.declared.entry.Entry.{Entry}
 use Rattle.flow_journal.specs.declared.entry.Entry.TheVariants.{Tick, Emit}
 use Rattle.flow_journal.specs.declared.entry.Why.{Why}
 use Rattle.flow_journal.specs.declared.entry.Why.TheVariants.{Step, Late}
-use Rattle.flow_journal.specs.Setting.{Setting, Node, node, no_node, id_at, is_node, is_sorted, numbers_from, node_numbers}
+use Rattle.flow_journal.specs.Setting.{Setting, Node, node, no_node, id_at, is_sorted, numbers_from, node_numbers}
 use Rattle.flow_journal.specs.Pasts.{Past, frame}
 use Rattle.flow_journal.specs.Ended.{now}
 use Rattle.flow_journal.specs.Breaks.{prev}
@@ -22,12 +21,12 @@ use Rattle.flow_journal.proofs.Outs.{all-append}
 use Rattle.flow_journal.proofs.Changes.{put_laws, clock_laws}
 use Rattle.board_rules.specs.States.{BoardState, past, plain}
 use Rattle.board_rules.specs.Moving.{with_all}
-use Rattle.flow_emit.specs.Courses.{Coursed}
+use Rattle.run_course.specs.Courses.{Coursed}
 use Rattle.flow_emit.specs.Ticks.{looks, all_looked, LooksMade}
 use Rattle.flow_emit.proofs.Depth.{is_out, outs-flat, outs-append}
-use Rattle.flow_emit.proofs.Offering.{legal-before}
-use Rattle.flow_emit.proofs.Looking.{look-offers}
-use Rattle.flow_emit.proofs.Reading.{more-of}
+use Rattle.run_course.proofs.Before.{legal-before}
+use Rattle.flow_emit.proofs.Waits.{look-offers}
+use Rattle.flow_emit.proofs.Offering.{more-of}
 
 -- WHAT GOES OUT AT A LOOK
 -- the entry lets an array out of this node
@@ -119,9 +118,6 @@ next-number s i lt =
 later-numbers : (s : Setting) (i : ℕ) → All (λ u. i + 1 < u) (drop (i + 1) (node_numbers s))
 later-numbers s i =
     subst (All (λ u. i + 1 < u)) (sym (numbers-drop (i + 1) 1 s.nodes)) (numbers-behind (i + 1) (1 + (i + 1)) (drop (i + 1) s.nodes) (omega arith))
-
-pub place-node : (s : Setting) (i : ℕ) → i < length s.nodes → is_node s (i + 1) ≡ true
-place-node s i lt = and_from _ _ (lt-ltb 0 (i + 1) (omega arith)) (le-leb (i + 1) (length s.nodes) (omega (arith, lt)))
 
 -- ONE LOOK AFTER THE OTHER
 -- the look at the node at this place comes first

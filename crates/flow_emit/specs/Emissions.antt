@@ -1,8 +1,8 @@
 -- A log whose newest entry is an emission.
-use Rattle.std.specs.Prelude.{◌≡◌, ◌≢◌, ◌<◌, ℕ, true, false, [], ◌∷◌, length, map, drop}
+use Rattle.std.specs.Prelude.{◌≡◌, ◌<◌, ℕ, true, false, [], ◌∷◌, length, map, drop}
 use Rattle.flow_journal.specs.Setting.{children}
 use Rattle.flow_journal.specs.Turns.{deals, has_just_emitted}
-use Rattle.flow_emit.specs.Courses.{Coursed}
+use Rattle.run_course.specs.Courses.{Coursed}
 use Rattle.flow_journal.specs.declared.entry.Entry.{Entry}
 use Rattle.flow_journal.specs.Setting.{Setting}
 use Rattle.flow_journal.specs.Waiting.{waiting}
@@ -29,10 +29,6 @@ pub record LetsOneOut (s : Setting) (v : ℕ) (old new : BoardState) : Type 0 wh
   pub look : follow.look s v (past old) ≡ first ∷ follow.look s v (past new)
   pub told : new ≡ with_all s 0 2 (first ∷ []) old
   pub fewer : length (waiting s v (past new)) < length (waiting s v (past old))
-
--- no other node's offer comes next
-abbrev pub OnlyDealt : Setting → ℕ → Past → Type 0
-OnlyDealt s v P = (u : ℕ) → u ≢ v → deals s u ≡ true → has_just_emitted u P ≡ false
 
 -- so many children were offered the array: what is left to be offered makes the rest
 pub record OffersMade (s : Setting) (v : ℕ) (a : FrameName) (count : ℕ) (old new : Coursed) : Type 0 where

@@ -1,16 +1,3 @@
-pub mod RunRules
-pub mod NodeStates
-pub mod RoleStates
-pub mod HandWords
-pub mod Endings
-pub mod Facts
-pub mod FrameBlocks
-pub mod Courses
 pub mod Emissions
-pub mod Starts
-pub mod Puts
-pub mod Looks
-pub mod Placing
-pub mod Watched
+pub mod Outs
 pub mod Ticks
-pub mod Settling

@@ -7,7 +7,7 @@ use Rattle.flow_journal.specs.Pasts.{Past}
 use Rattle.flow_journal.specs.Following.{look}
 use Rattle.board_rules.specs.States.{BoardState, past}
 use Rattle.board_rules.specs.Moving.{with_all}
-use Rattle.flow_emit.specs.Courses.{Coursed}
+use Rattle.run_course.specs.Courses.{Coursed}
 
 -- a look at each of these nodes that has a sort list, all from one past
 abbrev pub looks : Setting → Past → List ℕ → List Entry

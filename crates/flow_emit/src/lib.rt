@@ -1,17 +1,20 @@
-//! The course of a run, without the storage of its frames: the log, and what follows from it for each node, role and block.
+//! What goes out of the nodes of a run, and the moves that bring it: an array that is emitted is offered to the children of its node, after
+//! an issue, a put, a look at a sort list or a settle.
 //!
-//! Contracts see a `Course` as the list `BoardState` of its log, with the arrays that are just on their way from one place to
-//! another. Each call adds whole moves or parts of one, by the words of `flow_journal`.
+//! Each call makes one whole move of a `Course`: the entry, and all that follows it by the words of `flow_journal`. The moves that nothing
+//! follows are methods of `Course` itself.
 #![tactic(auto)]
 
-mod course;
-mod facts;
-mod hand;
-mod node;
-mod rules;
+mod emission;
+mod looks;
+mod moves;
+mod puts;
+mod settling;
+mod sorting;
+mod ticks;
+mod watching;
 
-pub use course::{Course, MeasureRoom};
-pub use facts::Facts;
-pub use hand::{Block, Hand, RoleState};
-pub use node::{Kept, NodeState};
-pub use rules::{NodeRules, NodeWork, Rules};
+pub use emission::emit;
+pub use moves::{drop_at_pool, issue, load, reclaim, refuse_load, saved};
+pub use puts::put;
+pub use settling::settle;

@@ -1,0 +1,5 @@
+pub mod RulesOf
+pub mod Starts
+pub mod Listing
+pub mod Due
+pub mod Windows

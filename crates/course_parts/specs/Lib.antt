@@ -1,0 +1,9 @@
+pub mod RunRules
+pub mod NodeStates
+pub mod RoleStates
+pub mod HandWords
+pub mod Endings
+pub mod Facts
+pub mod Starts
+pub mod SortLists
+pub mod Windows

@@ -1,7 +1,0 @@
-use Rattle.board_rules.specs.RunMeasures.{run_measure, run_setting}
-use Rattle.flow_emit.proofs.Starts.{NodesUpTo}
-use Rattle.flow_emit.proofs.node.start_nodes.Given as goal
-
--- the nodes so far
-abbrev pub invariant-loop-node : goal.invariant-loop-node
-invariant-loop-node g l = NodesUpTo (run_measure g.R.Run.graph g.R.Run.stack) (run_setting g.R.Run.graph g.R.Run.stack) l.node-index l.nodes.items

@@ -1,0 +1,11 @@
+use Rattle.std.proofs.Common.{◌∙◌, ap}
+use Rattle.board_rules.specs.States.{past}
+use Rattle.flow_journal.specs.Hands.{hand}
+use Rattle.course_parts.specs.HandWords.{array_of}
+use Rattle.run_course.proofs.HandWords.{array-is}
+use Rattle.run_course.proofs.course.Course.hand_name.Goals as goal
+
+pub returns : goal.returns
+returns g c =
+    let h = hand c.args.role (past c.args.self.now.told) in
+    c.array.ensures ∙ (ap array_of c.hand.ensures ∙ array-is h)
