@@ -16,7 +16,7 @@ use Rattle.flow_journal.specs.Setting.{Setting, is_node, last_role}
 use Rattle.flow_journal.specs.Histories.{is_history, is_legal}
 use Rattle.board_rules.specs.States.{BoardState, past, plain}
 use Rattle.frame_table.specs.Kept.{Kept}
-use Rattle.flow_emit.specs.Courses.{Coursed}
+use Rattle.run_course.specs.Courses.{Coursed}
 use Rattle.kept_blocks.specs.Keeping.{HoldsBlocks}
 use Rattle.flow_core.specs.Boards.{IsBoard}
 

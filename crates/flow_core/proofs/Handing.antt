@@ -32,8 +32,8 @@ use Rattle.board_rules.specs.Saving.{save_refusal, place_of, group_size, SaveAns
 use Rattle.board_rules.proofs.Legal.{issue-by, put-by, save-by, saved-by, may_save}
 use Rattle.board_rules.proofs.Makers.{suits, hand-suits}
 use Rattle.frame_table.specs.Kept.{Kept, Frame, kept_at, with_kept, IsPartOf, less_one, united}
-use Rattle.flow_emit.specs.Courses.{Coursed}
-use Rattle.flow_emit.specs.Puts.{put_of, fires_for}
+use Rattle.run_course.specs.Courses.{Coursed}
+use Rattle.run_course.specs.Puts.{put_of, fires_for}
 use Rattle.kept_blocks.specs.Keeping.{HoldsBlocks}
 use Rattle.kept_blocks.specs.LookLaws.{LookLaws}
 use Rattle.kept_blocks.specs.MoveLaws.{MoveLaws}

@@ -8,7 +8,7 @@ use Rattle.flow_journal.specs.Accounts.{block_of}
 use Rattle.board_rules.specs.States.{BoardState, past, lent_to}
 use Rattle.board_rules.specs.InHand.{has_part_of}
 use Rattle.frame_table.specs.Kept.{Kept, Frame, kept_at, IsPartOf, MayGiveBack, MayLend, IsUntold}
-use Rattle.flow_emit.specs.Courses.{Coursed}
+use Rattle.run_course.specs.Courses.{Coursed}
 use Rattle.board_rules.specs.InHand.{TellParts}
 use Rattle.kept_blocks.specs.LookLaws.{LookLaws, IsLendable, IsWithinBlock}
 use Rattle.flow_core.specs.Boards.{IsBoard}

@@ -24,7 +24,7 @@ use Rattle.board_rules.specs.Feeding.{load_refusal, LoadAnswers, LoadGives, HasR
 use Rattle.board_rules.specs.Reusing.{ReusesStorage, LoadReuses}
 use Rattle.board_rules.proofs.Legal.{load-by}
 use Rattle.frame_table.specs.Kept.{Kept, without_kept, with_room}
-use Rattle.flow_emit.specs.Courses.{Coursed}
+use Rattle.run_course.specs.Courses.{Coursed}
 use Rattle.kept_blocks.specs.Keeping.{HoldsBlocks}
 use Rattle.kept_blocks.specs.GrantLaws.{GrantLaws, IsGranted}
 use Rattle.kept_blocks.specs.LookLaws.{LookLaws}

@@ -25,7 +25,7 @@ use Rattle.board_rules.specs.Storage.{lost_of, brings, part_lost}
 use Rattle.board_rules.specs.Leaving.{reclaim_refusal, MayReclaim}
 use Rattle.board_rules.proofs.Legal.{reclaim-by}
 use Rattle.frame_table.specs.Kept.{Kept, kept_at, with_kept, united, MayGiveBack}
-use Rattle.flow_emit.specs.Courses.{Coursed}
+use Rattle.run_course.specs.Courses.{Coursed}
 use Rattle.kept_blocks.specs.Keeping.{HoldsBlocks}
 use Rattle.kept_blocks.specs.MoveLaws.{MoveLaws, MayTakeBack, taken_back, with_grant, with_input}
 use Rattle.kept_blocks.proofs.Holding.{same-length}

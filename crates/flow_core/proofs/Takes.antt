@@ -28,7 +28,7 @@ use Rattle.board_rules.specs.Reusing.{IsReused, ReusesStorage, TakeReuses}
 use Rattle.board_rules.proofs.Legal.{take-by, may_take}
 use Rattle.frame_table.specs.Kept.{IsRefused, IsMadeAnew, IsAway, at_home, was_used, Kept, Empty, kept_at, with_kept, with_room, IsPartOf, MayLend}
 use Rattle.frame_table.specs.Kept.{MayGiveBack, less_one, united, without_kept}
-use Rattle.flow_emit.specs.Courses.{Coursed}
+use Rattle.run_course.specs.Courses.{Coursed}
 use Rattle.kept_blocks.specs.Keeping.{HoldsBlocks}
 use Rattle.kept_blocks.specs.GrantLaws.{GrantLaws, IsGranted}
 use Rattle.kept_blocks.specs.LookLaws.{LookLaws, IsWithinBlock}

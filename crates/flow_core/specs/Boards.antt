@@ -4,7 +4,7 @@ use Rattle.nd_base.specs.Parts.{Parts}
 use Rattle.flow_journal.specs.Setting.{Setting}
 use Rattle.board_rules.specs.LastGrants.{LastGrant, Never, InMaking, Made, TakenBack}
 use Rattle.frame_table.specs.Kept.{Kept, Empty, kept_at, with_kept, with_room, at_home, IsMadeAnew, IsAsUsed, IsAway, IsRefused}
-use Rattle.flow_emit.specs.Courses.{Coursed}
+use Rattle.run_course.specs.Courses.{Coursed}
 use Rattle.kept_blocks.specs.Keeping.{HoldsBlocks, IsRunOf}
 
 -- Nothing is on its way between two calls, the log is the history of a run, and the table holds its blocks.

@@ -10,9 +10,9 @@ ghost use Rattle.board_rules.specs.LastGrants.{last_grant};
 ghost use Rattle.board_rules.specs.Storage.{is_away};
 ghost use Rattle.flow_core.specs.Boards.{TellsKept};
 
-use flow_emit::{Course, MeasureRoom};
 use frame_table::FrameTable;
 use nd_base::Held;
+use run_course::{Course, MeasureRoom};
 use std::marker::Model;
 
 /// A board over the frames `F`, for the stack and the graph of their run. Contracts see it as the list `BoardState` of its log.

@@ -10,11 +10,11 @@ use crate::Board;
 use board_rules::{
     BoardCalls, Done, HandName, Left, Load, Measures, NoReclaim, NotYours, Save, Settled, Take,
 };
-use flow_emit::{Course, Hand, MeasureRoom};
 use flow_journal::{Log, Progress};
 use frame_table::FrameTable;
 use nd_base::{Held, OutOfMemory, Plan};
 use pool_ledger::Refused;
+use run_course::{Course, Hand, MeasureRoom};
 use std::alloc::Global;
 
 /// The driver's number.
@@ -51,7 +51,7 @@ impl<F: Held> BoardCalls<F> for Board<F> {
             unreachable!()
         };
         self.table.keep(block.number, frame);
-        self.course.issue(role, name.index);
+        flow_emit::issue(&mut self.course, role, name.index);
         Ok(())
     }
 
@@ -102,7 +102,7 @@ impl<F: Held> BoardCalls<F> for Board<F> {
             return Settled::NotYet;
         }
         if !self.course.is_settled(node) {
-            self.course.settle(role, node);
+            flow_emit::settle(&mut self.course, role, node);
         }
         Settled::Done
     }
@@ -136,7 +136,7 @@ impl<F: Held> BoardCalls<F> for Board<F> {
         }
         let block = self.course.block(name);
         self.table.give_back(block, frame);
-        self.course.saved(role, name);
+        flow_emit::saved(&mut self.course, role, name);
         Ok(())
     }
 

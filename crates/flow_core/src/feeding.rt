@@ -38,10 +38,15 @@ impl<F: Held> Board<F> {
             return Load::OutOfMemory;
         };
         let index = self.course.next_index();
-        let Ok(()) = self
-            .course
-            .load(alloc, role, tick, grant, regrown, &mut self.table)
-        else {
+        let Ok(()) = flow_emit::load(
+            &mut self.course,
+            alloc,
+            role,
+            tick,
+            grant,
+            regrown,
+            &mut self.table,
+        ) else {
             return Load::OutOfMemory;
         };
         Load::Loaded { index, blank }
@@ -58,7 +63,7 @@ impl<F: Held> Board<F> {
         ensures reused { LoadReuses F.parts F.is_used self.old role result self.new }
     {
         let index = self.course.next_index();
-        self.course.refuse_load(role, tick);
+        flow_emit::refuse_load(&mut self.course, role, tick);
         Load::Refused { index, held }
     }
 }

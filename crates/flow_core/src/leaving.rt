@@ -32,7 +32,7 @@ impl<F: Held> Board<F> {
             blank,
         } = left;
         let lost = keep_grant(&mut self.table, block, made, blank);
-        self.course.reclaim(role, LostBlocks::new(lost, None));
+        flow_emit::reclaim(&mut self.course, role, LostBlocks::new(lost, None));
     }
 
     /// Takes a job or a piece of this array back with which no block was granted.
@@ -51,7 +51,7 @@ impl<F: Held> Board<F> {
         } = left;
         let block = self.course.block(name);
         let lost = keep_input(&mut self.table, block, name, input);
-        self.course.reclaim(role, LostBlocks::new(None, lost));
+        flow_emit::reclaim(&mut self.course, role, LostBlocks::new(None, lost));
     }
 
     /// Takes a job on this array back with which this block was granted.
@@ -67,6 +67,6 @@ impl<F: Held> Board<F> {
         let block = self.course.block(name);
         let array = keep_input(&mut self.table, block, name, input);
         let lost = keep_grant(&mut self.table, granted, made, blank);
-        self.course.reclaim(role, LostBlocks::new(lost, array));
+        flow_emit::reclaim(&mut self.course, role, LostBlocks::new(lost, array));
     }
 }

@@ -13,7 +13,7 @@ ghost use Rattle.flow_journal.specs.ResultNames.{result_name};
 ghost use Rattle.board_rules.specs.RunMeasures.{run_setting, run_measure};
 ghost use Rattle.board_rules.specs.Working.{take_refusal, TakeGives, LendsJob};
 ghost use Rattle.board_rules.specs.Reusing.{TakeReuses};
-ghost use Rattle.flow_emit.specs.Puts.{put_of, fires_for};
+ghost use Rattle.run_course.specs.Puts.{put_of, fires_for};
 
 use crate::Board;
 use crate::storage::storage_for;
@@ -101,7 +101,7 @@ impl<F: Held> Board<F> {
         ensures lent { LendsJob F.parts F.bytes_of (run_setting F.Of.graph F.Of.stack) role node result self.new }
         ensures reused { TakeReuses F.parts F.is_used self.old role result self.new }
     {
-        let index = self.course.drop_at_pool(role, node).index;
+        let index = flow_emit::drop_at_pool(&mut self.course, role, node).index;
         Take::PoolDrop { index, held }
     }
 
@@ -128,7 +128,7 @@ impl<F: Held> Board<F> {
         let name = input.name();
         let block = self.course.block(name);
         self.table.give_back(block, input);
-        self.course.put(role, node, name, measured, fired);
+        flow_emit::put(&mut self.course, role, node, name, measured, fired);
     }
 
     /// The result of a job that made an array is put.
@@ -160,6 +160,6 @@ impl<F: Held> Board<F> {
         };
         self.table.give_back(block, input);
         self.table.keep(granted.number, made);
-        self.course.put(role, node, name, measured, fired);
+        flow_emit::put(&mut self.course, role, node, name, measured, fired);
     }
 }

@@ -19,13 +19,13 @@ use Rattle.flow_journal.proofs.Steps.{same_refl, same-true}
 use Rattle.journal_check.specs.Tries.{Tries, IsJobFor}
 use Rattle.board_rules.specs.States.{past, plain}
 use Rattle.board_rules.specs.Moving.{moved}
-use Rattle.flow_emit.specs.Puts.{put_of}
+use Rattle.run_course.specs.Puts.{put_of}
 use Rattle.board_rules.proofs.Makers.{hand-suits}
-use Rattle.flow_emit.specs.declared.hand.Block.{Block}
-use Rattle.flow_emit.specs.declared.hand.Hand.TheVariants.{Job}
-use Rattle.flow_emit.specs.RoleStates.{hand_of}
-use Rattle.flow_emit.proofs.Reclaiming.{job-node}
-use Rattle.flow_emit.specs.Courses.{Coursed}
+use Rattle.course_parts.specs.declared.hand.Block.{Block}
+use Rattle.course_parts.specs.declared.hand.Hand.TheVariants.{Job}
+use Rattle.course_parts.specs.RoleStates.{hand_of}
+use Rattle.run_course.proofs.Reclaiming.{job-node}
+use Rattle.run_course.specs.Courses.{Coursed}
 use Rattle.journal_check.proofs.Refusals.{false-by, and_false}
 
 job-there : (s : Setting) (r v : ℕ) (a : FrameName) (P : Past) (o : Option Entry) → is_legal s P ≡ true → hand r P ≡ o → is_result_of v a o ≡ true

@@ -28,7 +28,7 @@ use Rattle.board_rules.specs.Leaving.{reclaim_refusal}
 use Rattle.flow_journal.specs.RowFacts.{Acts, LoadFacts, TakeFacts}
 use Rattle.flow_journal.proofs.Rows.{load-facts, take-facts, grant-facts, none-free}
 use Rattle.flow_journal.proofs.HandRoles.{role-of-hand}
-use Rattle.flow_emit.proofs.Finding.{threads-node}
+use Rattle.run_course.proofs.Finding.{threads-node}
 use Rattle.board_rules.specs.declared.answers.Take.{Take as take_answer}
 use Rattle.board_rules.specs.Feeding.{is_sent_away, load_refusal}
 use Rattle.board_rules.specs.Working.{take_refusal}

@@ -12,9 +12,9 @@ use crate::fault::CheckFault;
 use crate::frame::Name;
 use crate::source::Source;
 use crate::step::{Step, next_step};
-use flow_emit::Course;
 use flow_journal::Log;
 use nd_base::{Plan, Run, Stack};
+use run_course::Course;
 use std::alloc::Global;
 use std::marker::Brand;
 

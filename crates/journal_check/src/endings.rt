@@ -8,8 +8,8 @@ ghost use Rattle.board_rules.specs.RunMeasures.{run_setting};
 ghost use Rattle.journal_check.specs.Tries.{Tries};
 
 use crate::frame::Name;
-use flow_emit::Course;
 use nd_base::Run;
+use run_course::Course;
 use told_log::LostBlocks;
 
 /// Settles the node, where that is the next move.
@@ -25,7 +25,7 @@ pub(crate) fn try_settle<R: Run>(course: &mut Course<Name<R>>, role: u32, node: 
     if course.is_settled(node) || course.waits_to_settle(node) {
         return false;
     }
-    course.settle(role, node);
+    flow_emit::settle(course, role, node);
     true
 }
 
@@ -53,6 +53,6 @@ pub(crate) fn try_reclaim<R: Run>(course: &mut Course<Name<R>>, role: u32) -> bo
     if !course.is_role(role) || course.reclaim_refusal(role).is_some() {
         return false;
     }
-    course.reclaim(role, LostBlocks::new(None, None));
+    flow_emit::reclaim(course, role, LostBlocks::new(None, None));
     true
 }

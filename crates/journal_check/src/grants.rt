@@ -7,9 +7,9 @@ ghost use Rattle.board_rules.specs.States.{past};
 ghost use Rattle.board_rules.specs.RunMeasures.{run_setting};
 
 use crate::frame::Name;
-use flow_emit::Course;
 use nd_base::Run;
 use pool_ledger::{Grant, Refused};
+use run_course::Course;
 
 /// Whether the pool grants this to the driver, which is 0, or to a node that makes arrays.
 pub(crate) fn grants<R: Run>(

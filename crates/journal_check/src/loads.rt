@@ -11,10 +11,10 @@ ghost use Rattle.journal_check.specs.Tries.{Tries};
 use crate::frame::{Name, Size};
 use crate::grants::{grants, refuses};
 use crate::source::Feed;
-use flow_emit::Course;
 use frame_table::FrameTable;
 use nd_base::{FrameName, OutOfMemory, Run};
 use pool_ledger::Grant;
+use run_course::Course;
 use std::alloc::Global;
 
 /// The driver's number.
@@ -52,7 +52,9 @@ pub(crate) fn try_load<R: Run>(
     }
     // A check keeps no storage.
     let mut table = FrameTable::new(alloc);
-    course.load(alloc, feed.role, feed.tick, grant, regrown, &mut table)?;
+    flow_emit::load(
+        course, alloc, feed.role, feed.tick, grant, regrown, &mut table,
+    )?;
     Ok(true)
 }
 
@@ -72,7 +74,7 @@ pub(crate) fn try_refused_load<R: Run>(
     if !may_load(course, feed.role, feed.index) || !refuses(course, DRIVER, need, held) {
         return false;
     }
-    course.refuse_load(feed.role, feed.tick);
+    flow_emit::refuse_load(course, feed.role, feed.tick);
     true
 }
 
@@ -86,7 +88,7 @@ pub(crate) fn try_issue<R: Run>(course: &mut Course<Name<R>>, role: u32, index: 
     if !course.is_role(role) || !course.is_load_of(role, FrameName { maker: 0, index }) {
         return false;
     }
-    course.issue(role, index);
+    flow_emit::issue(course, role, index);
     true
 }
 

@@ -15,10 +15,10 @@ use crate::puts::try_put;
 use crate::saves::{try_save, try_saved};
 use crate::source::{Act, Feed, Source};
 use crate::takes::{try_pool_drop, try_take, try_take_block};
-use flow_emit::Course;
 use flow_journal::Entry;
 use nd_base::{OutOfMemory, Run};
 use pool_ledger::Grant;
+use run_course::Course;
 
 /// Makes the move that begins with this entry, where there is one; a load is made with this tick.
 ///

@@ -14,8 +14,8 @@ ghost use Rattle.journal_check.specs.Tries.{Tries, IsJobFor};
 use crate::frame::Name;
 use crate::measures::{fires, measured};
 use crate::source::{Act, Source};
-use flow_emit::{Course, Hand};
 use nd_base::{FrameName, OutOfMemory, Run};
+use run_course::{Course, Hand};
 
 /// The array of the job of the node in the role's hand, where the result of that job has the name of the put.
 fn job_for<R: Run>(course: &Course<Name<R>>, put: Act) -> Option<FrameName>
@@ -63,6 +63,6 @@ pub(crate) fn try_put<R: Run>(
         return Ok(false);
     }
     let numbers = measured::<R>(source, put.node, name)?;
-    course.put(put.role, put.node, name, numbers, fired);
+    flow_emit::put(course, put.role, put.node, name, numbers, fired);
     Ok(true)
 }

@@ -9,8 +9,8 @@ ghost use Rattle.journal_check.specs.Tries.{Tries};
 
 use crate::frame::Name;
 use crate::source::Act;
-use flow_emit::Course;
 use nd_base::Run;
+use run_course::Course;
 
 /// Saves this array as a piece of this group, where that is the next move of the role.
 pub(crate) fn try_save<R: Run>(course: &mut Course<Name<R>>, act: Act, group: u32) -> bool
@@ -47,6 +47,6 @@ pub(crate) fn try_saved<R: Run>(course: &mut Course<Name<R>>, act: Act) -> bool
     {
         return false;
     }
-    course.saved(act.role, act.name);
+    flow_emit::saved(course, act.role, act.name);
     true
 }

@@ -12,9 +12,9 @@ ghost use Rattle.journal_check.specs.Steps.{next_tick, AreAlike, IsBegun, IsStep
 use crate::frame::Name;
 use crate::moves::try_move;
 use crate::source::Source;
-use flow_emit::Course;
 use flow_journal::Entry;
 use nd_base::{OutOfMemory, Run};
+use run_course::Course;
 
 /// What one move of a log comes to.
 #[derive(Clone, Copy, Debug, PartialEq, Eq)]

@@ -12,10 +12,10 @@ ghost use Rattle.journal_check.specs.Tries.{Tries};
 use crate::frame::Name;
 use crate::grants::{grants, refuses};
 use crate::source::Act;
-use flow_emit::Course;
 use frame_table::FrameTable;
 use nd_base::{OutOfMemory, Run};
 use pool_ledger::Grant;
+use run_course::Course;
 use std::alloc::Global;
 
 /// Whether a job of the node on this array may be taken by the role, whatever the pool says.
@@ -102,6 +102,6 @@ pub(crate) fn try_pool_drop<R: Run>(
     {
         return false;
     }
-    let _ = course.drop_at_pool(act.role, act.node);
+    let _ = flow_emit::drop_at_pool(course, act.role, act.node);
     true
 }

@@ -8,7 +8,7 @@ use Rattle.board_rules.specs.Feeding.{load_refusal, LoadGives}
 use Rattle.board_rules.specs.Reusing.{LoadReuses}
 use Rattle.pool_account.specs.Account.{given_up_for}
 use Rattle.frame_table.specs.Kept.{Kept, without_kept}
-use Rattle.flow_emit.specs.Courses.{Coursed}
+use Rattle.run_course.specs.Courses.{Coursed}
 use Rattle.kept_blocks.specs.GrantLaws.{IsGranted}
 use Rattle.kept_blocks.proofs.Looks.{look_laws}
 use Rattle.flow_core.specs.Boards.{IsBoard}
@@ -80,7 +80,7 @@ invariant_of-self-in_default-load g c =
     subst (λ (b : BoardState). grant s (past b) (s.need 0) ≡ Granted gr.block gr.size gr.fresh gr.given_up) (sym c.self.view_is) c.requires.granted in
     let i : IsGranted parts_ s w.told t (s.need 0) gr.block gr.size gr.fresh gr.given_up = record { run = board.run; holds = board.holds; granted = given } in
     let refused = c.in_default-load.ensures.refused in
-    board-same parts_ s w c.load.new.self t c.load.new.table board refused.0
+    board-same parts_ s w c.load.new.course t c.load.new.table board refused.0
     (fresh-holds parts_ (grant_laws parts_) s w.told t c.load.new.table gr.block gr.fresh board.holds refused.1
     (c.in_default-load.ensures.kept ∙ c.in-Ok.ensures.place))
 
@@ -100,7 +100,7 @@ invariant_of-self-2 g c =
     let blank = c.in-Ok.field-0.blank in
     let l : LoadsOn parts_ bytes s w t c.args.role gr.block gr.size gr.fresh gr.given_up c.in-Ok.field-0.regrown blank =
     record { board = board; role = c.requires.role; allowed = none; granted = given; size = c.in-Ok.ensures.size; remade = c.in-Ok.ensures.regrown } in
-    loaded-board parts_ bytes (grant_laws parts_) s w c.load.new.self t c.load.new.table c.args.role c.args.tick gr.block gr.size gr.fresh gr.given_up
+    loaded-board parts_ bytes (grant_laws parts_) s w c.load.new.course t c.load.new.table c.args.role c.args.tick gr.block gr.size gr.fresh gr.given_up
     c.in-Ok.field-0.regrown blank l c.in-Ok-load.ensures.loaded
     (c.in-Ok-load.ensures.given ∙ ap (λ (u : List Kept). without_kept (given_up_for s (past w.told) gr.fresh gr.given_up) u) c.in-Ok.ensures.place)
 
@@ -120,10 +120,10 @@ returns-clause-gives g c =
     let blank = c.in-Ok.field-0.blank in
     let l : LoadsOn parts_ bytes s w t c.args.role gr.block gr.size gr.fresh gr.given_up c.in-Ok.field-0.regrown blank =
     record { board = board; role = c.requires.role; allowed = none; granted = given; size = c.in-Ok.ensures.size; remade = c.in-Ok.ensures.regrown } in
-    subst (λ (b : BoardState). LoadGives parts_ bytes s b c.args.role c.args.tick (load.Loaded c.next_index-index.result blank) c.load.new.self.told)
+    subst (λ (b : BoardState). LoadGives parts_ bytes s b c.args.role c.args.tick (load.Loaded c.next_index-index.result blank) c.load.new.course.told)
     c.self.view_is
     (loaded-gives parts_ bytes (grant_laws parts_) s w t c.args.role c.args.tick gr.block gr.size gr.fresh gr.given_up c.in-Ok.field-0.regrown blank
-    c.next_index-index.result c.load.new.self.told l c.next_index-index.ensures (ap (λ (x : Coursed). x.told) c.in-Ok-load.ensures.loaded))
+    c.next_index-index.result c.load.new.course.told l c.next_index-index.ensures (ap (λ (x : Coursed). x.told) c.in-Ok-load.ensures.loaded))
 
 pub returns-clause-room : goal.returns-clause-room
 returns-clause-room g c =
@@ -142,7 +142,7 @@ returns-clause-room g c =
     let l : LoadsOn parts_ bytes s w t c.args.role gr.block gr.size gr.fresh gr.given_up c.in-Ok.field-0.regrown blank =
     record { board = board; role = c.requires.role; allowed = none; granted = given; size = c.in-Ok.ensures.size; remade = c.in-Ok.ensures.regrown } in
     loaded-room parts_ bytes (look_laws parts_) s w t c.args.role c.args.tick gr.block gr.size gr.fresh gr.given_up c.in-Ok.field-0.regrown blank
-    c.next_index-index.result c.load.new.self.told l (ap (λ (x : Coursed). x.told) c.in-Ok-load.ensures.loaded)
+    c.next_index-index.result c.load.new.course.told l (ap (λ (x : Coursed). x.told) c.in-Ok-load.ensures.loaded)
 
 pub returns-clause-reused : goal.returns-clause-reused
 returns-clause-reused g c =
@@ -158,8 +158,8 @@ returns-clause-reused g c =
     subst (λ (b : BoardState). grant s (past b) (s.need 0) ≡ Granted gr.block gr.size gr.fresh gr.given_up) (sym c.self.view_is) c.requires.granted in
     let i : IsGranted parts_ s w.told t (s.need 0) gr.block gr.size gr.fresh gr.given_up = record { run = board.run; holds = board.holds; granted = given } in
     let blank = c.in-Ok.field-0.blank in
-    subst (λ (b : BoardState). LoadReuses parts_ g.F.Held.is_used b c.args.role (load.Loaded c.next_index-index.result blank) c.load.new.self.told)
+    subst (λ (b : BoardState). LoadReuses parts_ g.F.Held.is_used b c.args.role (load.Loaded c.next_index-index.result blank) c.load.new.course.told)
     c.self.view_is
     (loaded-reuses parts_ g.F.Held.is_used (look_laws parts_) (grant_laws parts_) s w t c.args.role c.args.tick gr.block gr.size gr.fresh gr.given_up
-    c.in-Ok.field-0.regrown blank c.next_index-index.result c.load.new.self.told i c.in-Ok.ensures.used
+    c.in-Ok.field-0.regrown blank c.next_index-index.result c.load.new.course.told i c.in-Ok.ensures.used
     (ap (λ (x : Coursed). x.told) c.in-Ok-load.ensures.loaded))

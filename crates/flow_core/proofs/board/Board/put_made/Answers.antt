@@ -9,7 +9,7 @@ use Rattle.flow_journal.specs.Setting.{is_maker}
 use Rattle.board_rules.specs.InHand.{is_job_on, has_grant, granted_size, IsWholeOf}
 use Rattle.flow_journal.specs.ResultNames.{result_name}
 use Rattle.frame_table.specs.Kept.{Kept, Frame, kept_at, with_kept, united}
-use Rattle.flow_emit.specs.Puts.{put_of}
+use Rattle.run_course.specs.Puts.{put_of}
 use Rattle.kept_blocks.proofs.Looks.{look_laws}
 use Rattle.kept_blocks.proofs.Holding.{same-length}
 use Rattle.flow_core.proofs.Laws.{move_laws}
@@ -111,7 +111,7 @@ invariant_of-self g c =
     let i : Brings name_of parts_ measure s w t r c.args.node f (Some c.args.made) c.args.measured c.args.fired =
     record { board = c.self.invariant; job = job; kind = c.requires.makes; own_measure = c.requires.measured; own_fired = c.requires.fired; own = own } in
     let whole = subst (λ (x : BoardState). IsWholeOf (granted_size (hand r (past x))) (parts_ c.args.made)) (sym c.self.view_is) c.requires.whole in
-    put_made-board {O = Unit {0}} name_of parts_ bytes measure (move_laws (Unit {0}) name_of parts_ bytes) s w c.put.new.self t c.keep.new.self r c.args.node
+    put_made-board {O = Unit {0}} name_of parts_ bytes measure (move_laws (Unit {0}) name_of parts_ bytes) s w c.put.new.course t c.keep.new.self r c.args.node
     c.in-Some.granted.number c.block-block.result f c.args.made c.args.measured c.args.fired i l.has c.in-Some.ensures.block whole
     (c.put.ensures ∙ ap (λ (x : FrameName). record w { told = moved s (plain (put_of s r c.args.node x c.args.fired)) w.told }) c.name-name.ensures)
     (c.keep.ensures ∙ ap (λ (u : List Kept). with_kept u c.in-Some.granted.number (Frame (name_of c.args.made) (parts_ c.args.made))) c.give_back.ensures)

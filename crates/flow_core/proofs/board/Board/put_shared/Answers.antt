@@ -5,7 +5,7 @@ use Rattle.board_rules.specs.States.{BoardState, past, plain, lent_to}
 use Rattle.board_rules.specs.Moving.{moved}
 use Rattle.flow_journal.specs.Hands.{hand}
 use Rattle.board_rules.specs.InHand.{is_job_on}
-use Rattle.flow_emit.specs.Puts.{put_of}
+use Rattle.run_course.specs.Puts.{put_of}
 use Rattle.kept_blocks.proofs.Looks.{look_laws}
 use Rattle.flow_core.proofs.Laws.{move_laws}
 use Rattle.flow_core.proofs.Lent.{lent-named, may-back}
@@ -67,7 +67,7 @@ invariant_of-self g c =
     let measure = run_measure g.F.Of.Run.graph g.F.Of.Run.stack in
     let i : Brings name_of parts_ measure s w t r c.args.node f None c.args.measured c.args.fired =
     record { board = c.self.invariant; job = job; kind = c.requires.passes; own_measure = c.requires.measured; own_fired = c.requires.fired; own = own } in
-    put-board {O = Unit {0}} name_of parts_ bytes measure (move_laws (Unit {0}) name_of parts_ bytes) s w c.put.new.self t c.give_back.new.self r c.args.node
+    put-board {O = Unit {0}} name_of parts_ bytes measure (move_laws (Unit {0}) name_of parts_ bytes) s w c.put.new.course t c.give_back.new.self r c.args.node
     c.block-block.result f c.args.measured c.args.fired i l.has
     (c.put.ensures ∙ ap (λ (x : FrameName). record w { told = moved s (plain (put_of s r c.args.node x c.args.fired)) w.told }) c.name-name.ensures)
     c.give_back.ensures

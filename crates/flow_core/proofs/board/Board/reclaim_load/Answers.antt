@@ -7,7 +7,7 @@ use Rattle.board_rules.specs.States.{BoardState, past, loses}
 use Rattle.board_rules.specs.Moving.{moved}
 use Rattle.board_rules.specs.InHand.{granted_block, has_part_of}
 use Rattle.board_rules.specs.Leaving.{reclaim_refusal, MayReclaim}
-use Rattle.flow_emit.specs.Courses.{Coursed}
+use Rattle.run_course.specs.Courses.{Coursed}
 use Rattle.kept_blocks.specs.MoveLaws.{taken_back}
 use Rattle.kept_blocks.proofs.Looks.{look_laws}
 use Rattle.flow_core.specs.Boards.{IsBoard}
@@ -57,7 +57,7 @@ invariant_of-self g c =
     λ a. subst (λ (b : BoardState). has_part_of a (hand r (past b)) ≡ false) back (c.requires.alone a) in
     let gone = c.new.ensures ∙ ap (λ (o : Option ℕ). option_to_list o ++ []) c.keep_grant-lost.ensures.lost in
     load-back name_of parts_ bytes g.F.Held.is_used
-    (move_laws _ name_of parts_ bytes) s w c.reclaim.new.self t c.keep_grant-lost.new.table r c.args.block left c.new.result
+    (move_laws _ name_of parts_ bytes) s w c.reclaim.new.course t c.keep_grant-lost.new.table r c.args.block left c.new.result
     takes grant alone c.reclaim.ensures gone c.keep_grant-lost.ensures.table
 
 pub returns : goal.returns

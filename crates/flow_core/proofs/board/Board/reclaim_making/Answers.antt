@@ -8,7 +8,7 @@ use Rattle.board_rules.specs.Moving.{moved}
 use Rattle.board_rules.specs.InHand.{granted_block, has_part_of}
 use Rattle.board_rules.specs.Leaving.{reclaim_refusal, MayReclaim}
 use Rattle.frame_table.specs.Kept.{Kept}
-use Rattle.flow_emit.specs.Courses.{Coursed}
+use Rattle.run_course.specs.Courses.{Coursed}
 use Rattle.kept_blocks.specs.MoveLaws.{taken_back, with_grant}
 use Rattle.kept_blocks.proofs.Looks.{look_laws}
 use Rattle.flow_core.specs.Boards.{IsBoard, lost_block}
@@ -106,7 +106,7 @@ invariant_of-self g c =
     c.new.ensures
     ∙ (ap (λ (o : Option ℕ). option_to_list o ++ option_to_list c.keep_input-array.result) c.keep_grant-lost.ensures.lost ∙ ap (λ (o : Option ℕ).
     option_to_list (lost_block (is_some left.made || is_some left.blank) c.args.granted) ++ option_to_list o) c.keep_input-array.ensures.lost) in
-    making-back name_of parts_ bytes g.F.Held.is_used (move_laws _ name_of parts_ bytes) s w c.reclaim.new.self t c.keep_grant-lost.new.table r c.args.granted
+    making-back name_of parts_ bytes g.F.Held.is_used (move_laws _ name_of parts_ bytes) s w c.reclaim.new.course t c.keep_grant-lost.new.table r c.args.granted
     c.block-block.result c.args.name left c.new.result takes grant part at.has c.reclaim.ensures gone
     (c.keep_grant-lost.ensures.table
     ∙ ap (λ (u : List Kept). with_grant name_of parts_ bytes g.F.Held.is_used c.args.granted left.made left.blank u) c.keep_input-array.ensures.table)

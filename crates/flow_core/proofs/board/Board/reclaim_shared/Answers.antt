@@ -6,7 +6,7 @@ use Rattle.board_rules.specs.States.{BoardState, past, loses}
 use Rattle.board_rules.specs.Moving.{moved}
 use Rattle.board_rules.specs.InHand.{has_part_of, has_grant}
 use Rattle.board_rules.specs.Leaving.{reclaim_refusal, MayReclaim}
-use Rattle.flow_emit.specs.Courses.{Coursed}
+use Rattle.run_course.specs.Courses.{Coursed}
 use Rattle.kept_blocks.specs.MoveLaws.{taken_back}
 use Rattle.kept_blocks.proofs.Looks.{look_laws}
 use Rattle.flow_core.specs.Boards.{IsBoard}
@@ -78,7 +78,7 @@ invariant_of-self g c =
     let at = lent-at parts_ (look_laws parts_) s w t r c.args.name c.block-block.result board c.block-block.ensures part in
     let ungranted : has_grant (hand r (past w.told)) ≡ false = subst (λ (b : BoardState). has_grant (hand r (past b)) ≡ false) back c.requires.ungranted in
     let gone = c.new.ensures ∙ ap option_to_list c.keep_input-lost.ensures.lost in
-    part-back name_of parts_ bytes (move_laws _ name_of parts_ bytes) s w c.reclaim.new.self t c.keep_input-lost.new.table r c.block-block.result c.args.name
+    part-back name_of parts_ bytes (move_laws _ name_of parts_ bytes) s w c.reclaim.new.course t c.keep_input-lost.new.table r c.block-block.result c.args.name
     left c.new.result takes ungranted part at.has c.reclaim.ensures gone c.keep_input-lost.ensures.table
 
 pub returns : goal.returns

@@ -12,7 +12,7 @@ use Rattle.board_rules.specs.Reusing.{TakeReuses}
 use Rattle.flow_journal.specs.Queued.{queued}
 use Rattle.flow_journal.specs.Accounts.{grant}
 use Rattle.flow_journal.specs.FirstEntries.{is_next}
-use Rattle.flow_emit.specs.Courses.{Coursed}
+use Rattle.run_course.specs.Courses.{Coursed}
 use Rattle.pool_account.specs.Account.{given_up_for}
 use Rattle.frame_table.specs.Kept.{Kept, kept_at, without_kept, IsPartOf, less_one}
 use Rattle.kept_blocks.specs.Keeping.{HoldsBlocks}

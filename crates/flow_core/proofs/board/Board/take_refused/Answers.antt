@@ -24,5 +24,5 @@ invariant_of-self g c =
     c.requires.allowed in
     let given : grant s (past w.told) (s.need v) ≡ Refused =
     subst (λ (x : BoardState). grant s (past x) (s.need v) ≡ Refused) (sym c.self.view_is) c.requires.refused in
-    dropped-board O name_of parts_ bytes (move_laws O name_of parts_ bytes) s w c.drop_at_pool-index.new.self t r v c.drop_at_pool-index.result c.self.invariant
+    dropped-board O name_of parts_ bytes (move_laws O name_of parts_ bytes) s w c.drop_at_pool-index.new.course t r v c.drop_at_pool-index.result c.self.invariant
     c.requires.role allowed c.requires.makes given c.drop_at_pool-index.ensures.next c.drop_at_pool-index.ensures.told

@@ -7,7 +7,7 @@ use Rattle.board_rules.specs.Working.{take_refusal, TakeGives}
 use Rattle.flow_journal.specs.Queued.{queued}
 use Rattle.flow_journal.specs.Accounts.{block_of}
 use Rattle.flow_journal.specs.FirstEntries.{is_next}
-use Rattle.flow_emit.specs.Courses.{Coursed}
+use Rattle.run_course.specs.Courses.{Coursed}
 use Rattle.kept_blocks.proofs.Looks.{look_laws}
 use Rattle.flow_core.proofs.Laws.{move_laws}
 use Rattle.flow_core.proofs.Lent.{Tells, LendsAt, lends-at, lent-name}

@@ -35,6 +35,6 @@ invariant_of-self g c =
     let loaded_now : is_load_of (name_of f) (hand c.args.role (past c.args.self.now)) ≡ true =
     ap (λ (b : BoardState). is_load_of (name_of f) (hand c.args.role (past b))) (sym c.self.view_is) ∙ loaded in
     let whole = subst view (sym c.self.view_is) (c.requires.whole loaded_now) in
-    issued-board {O = Unit {0}} name_of parts_ bytes (move_laws (Unit {0}) name_of parts_ bytes) s w c.issue.new.self t c.keep.new.self c.args.role
+    issued-board {O = Unit {0}} name_of parts_ bytes (move_laws (Unit {0}) name_of parts_ bytes) s w c.issue.new.course t c.keep.new.self c.args.role
     c.in-Some.block.number f c.self.invariant loaded c.in-Some.ensures.block whole
     (c.issue.ensures ∙ ap (λ (a : FrameName). issued_after s w c.args.role a) named) c.keep.ensures

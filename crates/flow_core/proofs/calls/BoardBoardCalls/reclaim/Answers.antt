@@ -1,8 +1,8 @@
 use Rattle.std.proofs.Common.{◌∙◌, sym, ap}
 use Rattle.board_rules.specs.RunMeasures.{run_setting}
 use Rattle.board_rules.specs.States.{past}
-use Rattle.flow_emit.specs.HandWords.{has_nothing}
-use Rattle.flow_emit.proofs.HandWords.{free-is}
+use Rattle.course_parts.specs.HandWords.{has_nothing}
+use Rattle.run_course.proofs.HandWords.{free-is}
 use Rattle.flow_core.proofs.Reclaims.{not-free}
 use Rattle.flow_core.proofs.calls.BoardBoardCalls.reclaim.Goals as goal
 

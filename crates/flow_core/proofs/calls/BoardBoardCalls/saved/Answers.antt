@@ -67,6 +67,6 @@ invariant_of-self g c =
     (lent-at parts_ (look_laws parts_) s w t c.args.role c.name-name.result b c.self.invariant c.block-block.ensures
     (piece-shares c.name-name.result o (sym c.is_piece_on.ensures ∙ c.if-not-is_piece_on.false))) in
     saved-board {O = Unit {0}} name_of parts_ bytes
-    (move_laws (Unit {0}) name_of parts_ bytes) s w c.saved.new.self t c.give_back.new.self c.args.role b f c.self.invariant piece l.has own
+    (move_laws (Unit {0}) name_of parts_ bytes) s w c.saved.new.course t c.give_back.new.self c.args.role b f c.self.invariant piece l.has own
     (c.saved.ensures ∙ ap (λ (x : FrameName). record w { told = moved s (plain (Saved c.args.role (hand_node o) x.maker x.index)) w.told }) named)
     c.give_back.ensures

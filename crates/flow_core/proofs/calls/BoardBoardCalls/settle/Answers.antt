@@ -13,5 +13,5 @@ invariant_of-self g c =
     let w = c.self.inside.course in
     let t = c.self.inside.table in
     settles-board (Unit {0}) name_of parts_ bytes
-    (move_laws (Unit {0}) name_of parts_ bytes) s w c.settle.new.self t c.args.role c.args.node c.self.invariant c.requires.role c.requires.node
+    (move_laws (Unit {0}) name_of parts_ bytes) s w c.settle.new.course t c.args.role c.args.node c.self.invariant c.requires.role c.requires.node
     (sym c.waits_to_settle.ensures ∙ c.if-waits_to_settle.false) (sym c.is_settled.ensures ∙ c.if-not-is_settled.true) c.settle.ensures
