@@ -2,6 +2,7 @@
 use Rattle.std.proofs.Common.{◌≡◌, ℕ, suc, ◌+◌, ◌%◌, ◌<◌, ◌≤◌, eqb, List, [], ◌∷◌, ◌++◌, length, get_or, set, drop, sym, refl, ap, ◌∙◌, subst, arith}
 use Rattle.std.proofs.Common.{length-set, inl, eq-eqb}
 use Rattle.std.proofs.Math.Seq.{drop-append_seam}
+use Rattle.std.proofs.lemmas.List.{append_assoc}
 use mathlib.Core.Logic.{dite}
 use mathlib.Core.Option.{some}
 use native.Mathlib.Decide.{dec_le}
@@ -14,10 +15,10 @@ use Rattle.turn_lock.specs.declared.rule.Stage.TheVariants.{Serving}
 use Rattle.turn_lock.specs.Logs.{moves_of, IsMove, IsPrefix}
 use Rattle.turn_lock.specs.Views.{held, total, one_if, tickets, times, places, adds, serves}
 use Rattle.turn_lock.specs.Rule.{word_range, HasTicket, InQueue, AreExact, TurnRule}
-use Rattle.turn_lock.specs.Steps.{after_turn, EndsWith, InTurn}
-use Rattle.turn_lock.specs.Passes.{pass_facts, MayCall, Called}
+use Rattle.turn_lock.specs.Steps.{after_turn, FirstOnce, EndsWith, InTurn}
+use Rattle.turn_lock.specs.Passes.{pass_facts, MayCall, PlayedBoth, Called, CalledNext, CalledBoth}
 use Rattle.turn_lock.proofs.Prefixes.{prefix_same, prefix_more}
-use Rattle.turn_lock.proofs.Growth.{grown_other, exact_other, exact_adds}
+use Rattle.turn_lock.proofs.Growth.{AreOf, of_move, of_both, grown_other, exact_other, exact_adds, exact_first}
 use Rattle.turn_lock.proofs.Sums.{total_at, total_two}
 use Rattle.turn_lock.proofs.Roles.{times_adds, length_adds}
 use Rattle.turn_lock.proofs.Queue.{past}
@@ -27,6 +28,10 @@ set_one : {V : Type 0} (l : List V) (a : V) → length l ≡ 1 → set l 0 a ≡
 set_one [] a e = absurd (omega arith)
 set_one (x ∷ []) a e = refl
 set_one (x ∷ y ∷ ys) a e = absurd (omega arith)
+
+adds_both : {E : Type 0} (xs ys : List E) (ms : List (Moves E)) → adds (xs ++ ys) ms ≡ adds ys (adds xs ms)
+adds_both xs ys [] = refl
+adds_both {E} xs ys (m ∷ ms) = ap (λ (l : List E). record { role = m.role; entries = l } ∷ ms) (sym (append_assoc m.entries xs ys))
 
 module _ {S E : Type 0} (entries : S → List E) (begins : E → Option ℕ) (seats : ℕ) where
   abbrev M : Type 0
@@ -39,9 +44,9 @@ module _ {S E : Type 0} (entries : S → List E) (begins : E → Option ℕ) (se
   once : (s : State S (View E)) (r : Rule s) (q : ℕ) → total (places q) s.views ≤ 1
   once s r q = dite (dec_le seats q) (λ le. let a = r.no_place q le in omega arith) (λ more. let a = r.one_place q (omega arith) in omega arith)
 
-  -- the seat in turn has a role m, and gives back a state whose log has grown by one move of it
+  -- the seat in turn has a role m, and gives back a state whose log has grown by moves of it
   pub ends : (slots id t : ℕ) (v : View E) (x : S) (m : Moves E) (ms : List (Moves E)) (new : List E)
-      → v.stage ≡ Serving t → v.made ≡ m ∷ ms → entries x ≡ v.seen ++ new → IsMove begins m.role new
+      → v.stage ≡ Serving t → v.made ≡ m ∷ ms → entries x ≡ v.seen ++ new → AreOf begins m.role new
       → Allows Rule slots id (v, (0, x) ∷ []) 1 (λ n. (n + 1) % word_range) (λ n m'. EndsWith entries begins v ((0, x) ∷ []) m')
   ends slots id t v x m ms new stage has_role grown move s r _ here _ =
       let d : ℕ = r.drawn in let e : ℕ = r.ended in let w : View E = after_turn entries v x in let known = r.each id v here in
@@ -76,7 +81,7 @@ module _ {S E : Type 0} (entries : S → List E) (begins : E → Option ℕ) (se
               made = subst (λ l. AreExact begins l u.made) (sym is) (exact_other begins q r.log new u.made move (omega arith) k.made);
             })
             (λ j k u _ g has now. now) (id, w, set_at s.views id v w here, some_role, refl) (inl (x, set_one s.homes (some x) r.one_slot, refl)),
-        (refl, mine'),
+        (refl, mine', subst (λ (l : List (Moves E)). FirstOnce l) (sym has_role) no_more),
       )
 
   abbrev first_or : S → List (ℕ × S) → S
@@ -86,42 +91,89 @@ module _ {S E : Type 0} (entries : S → List E) (begins : E → Option ℕ) (se
   same_value : (x y : S) (cs : List (ℕ × S)) (me : M) (v : View E) → me ≡ (v, (0, x) ∷ []) → me.1 ≡ (0, y) ∷ cs → x ≡ y
   same_value x y cs me v is at = ap (λ (m : M). first_or x m.1) (sym is) ∙ ap (first_or x) at
 
-  -- one turn: the seat had the view v, then `me` with the state y, and `play` made z of it
-  module _ (role : ℕ) (may : List E → Type 0) (answers : List E → List E → Type 0) (v : View E) (me : M) (y z : S) where
-    abbrev Played : Type 0
-    Played = (new : List E) × (entries z ≡ entries y ++ new) × IsMove begins role new × answers (entries y) new
+  -- one turn: the seat had the view v, then `me` with the state y, and moves of the role made z of it
+  module _ (role : ℕ) (may : List E → Type 0) (v : View E) (me : M) (y z : S) where
+    abbrev Grown : Type 0
+    Grown = (new : List E) × (entries z ≡ entries y ++ new) × AreOf begins role new
 
-    ends_of : (slots id : ℕ) (ms : List (Moves E)) → v.made ≡ ms → MayCall role may ms → (turn : InTurn entries begins v me) → turn.1 ≡ y → Played
+    pub both_grown : (first second : List E → List E → Type 0) → PlayedBoth begins role first second (entries y) (entries z) → Grown
+    both_grown first second play = (
+      play.0 ++ play.1,
+      play.2 ∙ append_assoc (entries y) play.0 play.1,
+      of_both begins role play.0 play.1 (of_move begins role play.0 play.3) (of_move begins role play.1 play.4),
+    )
+
+    ends_of : (slots id : ℕ) (ms : List (Moves E)) → v.made ≡ ms → MayCall role may ms → (turn : InTurn entries begins v me) → turn.1 ≡ y → Grown
         → Allows Rule slots id (serves turn.0 v (entries turn.1), (0, z) ∷ []) 1 (λ n. (n + 1) % word_range)
         (λ n m'. EndsWith entries begins (serves turn.0 v (entries turn.1)) ((0, z) ∷ []) m')
-    ends_of slots id [] is asked turn same play = absurd asked
-    ends_of slots id (m ∷ ms) is asked turn same play = let t : ℕ = turn.0 in let w : View E = serves t v (entries turn.1) in
-        ends slots id t w z m ms play.0 refl is (play.1 ∙ ap (λ u. entries u ++ play.0) (sym same)) (subst (λ q. IsMove begins q play.0) (sym asked.0) play.2)
+    ends_of slots id [] is asked turn same grown = absurd asked
+    ends_of slots id (m ∷ ms) is asked turn same grown = let t : ℕ = turn.0 in let w : View E = serves t v (entries turn.1) in
+        ends slots id t w z m ms grown.0 refl is (grown.1 ∙ ap (λ u. entries u ++ grown.0) (sym same))
+        (subst (λ q. AreOf begins q grown.0) (sym asked.0) grown.2)
 
-    pub turn_ends : (slots id : ℕ) → MayCall role may v.made → InTurn entries begins v me → me.1 ≡ (0, y) ∷ rest me.1 → Played
+    pub turn_ends : (slots id : ℕ) → MayCall role may v.made → InTurn entries begins v me → me.1 ≡ (0, y) ∷ rest me.1 → Grown
         → Allows Rule slots id (me.0, (0, z) ∷ rest me.1) 1 (λ n. (n + 1) % word_range)
         (λ n m'. EndsWith entries begins me.0 ((0, z) ∷ rest me.1) m')
-    turn_ends slots id asked turn at play =
+    turn_ends slots id asked turn at grown =
         let same = same_value turn.1 y (rest me.1) me (serves turn.0 v (entries turn.1)) turn.2 at in
         subst (λ (m : M). Allows Rule slots id (m.0, (0, z) ∷ rest m.1) 1 (λ n. (n + 1) % word_range)
         (λ n m'. EndsWith entries begins m.0 ((0, z) ∷ rest m.1) m'))
-        (sym turn.2) (ends_of slots id v.made refl asked turn same play)
+        (sym turn.2) (ends_of slots id v.made refl asked turn same grown)
 
-    pub turn_tells : (lock : TableId) (m' : M) → InTurn entries begins v me → me.1 ≡ (0, y) ∷ rest me.1 → Played
+    -- what the seat then knows: its place in the log, and all that the turn added
+    pub turn_leaves : (m' : M) → InTurn entries begins v me → me.1 ≡ (0, y) ∷ rest me.1 → (grown : Grown)
         → EndsWith entries begins me.0 ((0, z) ∷ rest me.1) m'
-        → Called begins role answers (pass_facts lock v.seen v.made) (pass_facts lock m'.0.seen m'.0.made)
-    turn_tells lock m' turn at play told = let x : S = turn.1 in
-        let same = same_value x y (rest me.1) me (serves turn.0 v (entries x)) turn.2 at in let new : List E = play.0 in
+        → (between : List E) × (entries y ≡ v.seen ++ between) × AreExact begins (entries y) v.made
+        × (m'.0.seen ≡ entries z) × (m'.0.made ≡ adds grown.0 v.made) × AreExact begins m'.0.seen m'.0.made × FirstOnce v.made
+    turn_leaves m' turn at grown told = let x : S = turn.1 in
+        let same = same_value x y (rest me.1) me (serves turn.0 v (entries x)) turn.2 at in let new : List E = grown.0 in
         let told' : EndsWith entries begins (serves turn.0 v (entries x)) ((0, z) ∷ []) m' =
         subst (λ (m : M). EndsWith entries begins m.0 ((0, z) ∷ rest m.1) m') turn.2 told in
-        let grown : entries z ≡ entries x ++ new = play.1 ∙ ap (λ u. entries u ++ new) (sym same) in
-        let added : drop (length (entries x)) (entries z) ≡ new = ap (drop (length (entries x))) grown ∙ drop-append_seam (entries x) new in
-        subst (λ (m : M). Called begins role answers (pass_facts lock v.seen v.made) (pass_facts lock m.0.seen m.0.made)) (sym told'.0) (
+        let grown' : entries z ≡ entries x ++ new = grown.1 ∙ ap (λ u. entries u ++ new) (sym same) in
+        let added : drop (length (entries x)) (entries z) ≡ new = ap (drop (length (entries x))) grown' ∙ drop-append_seam (entries x) new in (
           turn.3.0,
-          new,
-          grown ∙ ap (λ l. l ++ new) turn.3.1,
-          subst (λ l. answers l new) (ap entries (sym same) ∙ turn.3.1) play.3,
-          play.2,
-          ap (λ l. adds l v.made) added,
-          told'.1,
+          ap entries (sym same) ∙ turn.3.1,
+          subst (λ u. AreExact begins (entries u) v.made) same turn.4,
+          ap (λ (m : M). m.0.seen) told'.0,
+          ap (λ (m : M). m.0.made) told'.0 ∙ ap (λ l. adds l v.made) added,
+          subst (λ (m : M). AreExact begins m.0.seen m.0.made) (sym told'.0) told'.1,
+          told'.2,
         )
+
+    module _ (lock : TableId) (m' : M) (turn : InTurn entries begins v me) (at : me.1 ≡ (0, y) ∷ rest me.1) where
+      pub turn_tells : (answers : List E → List E → Type 0)
+          → (play : (new : List E) × (entries z ≡ entries y ++ new) × IsMove begins role new × answers (entries y) new)
+          → EndsWith entries begins me.0 ((0, z) ∷ rest me.1) m'
+          → Called begins role answers (pass_facts lock v.seen v.made) (pass_facts lock m'.0.seen m'.0.made)
+      turn_tells answers play told =
+          let left = turn_leaves m' turn at (play.0, play.1, of_move begins role play.0 play.2) told in (
+            left.0,
+            play.0,
+            left.3 ∙ (play.1 ∙ ap (λ l. l ++ play.0) left.1),
+            subst (λ l. answers l play.0) left.1 play.3,
+            play.2,
+            left.4,
+            left.5,
+          )
+
+      pub both_tell : (first second : List E → List E → Type 0) → MayCall role may v.made
+          → (play : PlayedBoth begins role first second (entries y) (entries z))
+          → EndsWith entries begins me.0 ((0, z) ∷ rest me.1) m'
+          → CalledBoth begins role first second (pass_facts lock v.seen v.made) (pass_facts lock m'.0.seen m'.0.made)
+      unfolding both_grown
+      both_tell first second asked play told =
+          let one : List E = play.0 in let two : List E = play.1 in
+          let left = turn_leaves m' turn at (both_grown first second play) told in (
+            pass_facts lock (entries y ++ one) (adds one v.made),
+            refl,
+            (
+              left.0,
+              one,
+              ap (λ l. l ++ one) left.1,
+              subst (λ l. first l one) left.1 play.5,
+              play.3,
+              refl,
+              exact_first begins v.made role may (entries y) one asked (of_move begins role one play.3) left.6 left.2,
+            ),
+            (two, left.3 ∙ play.2, play.6, play.4, left.4 ∙ adds_both one two v.made, left.5),
+          )

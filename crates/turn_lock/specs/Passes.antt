@@ -34,12 +34,32 @@ module _ {E : Type 0} where
   MayCall r may [] = ⊥
   MayCall r may (m ∷ ms) = (m.role ≡ r) × may m.entries
 
+  -- after these moves and whatever the first operation is answered and adds, the second may be played
+  abbrev pub MayFollow : {Op Reply : Type 0} → (List E → Op → Type 0) → (List E → Op → Reply → List E → Type 0) → (first second : Op) → List E → Type 0
+  MayFollow {Op} {Reply} may answers first second mine =
+      (before added : List E) (reply : Reply) → answers before first reply added → may (mine ++ added) second
+
+  -- two moves of the role, each with its answer
+  abbrev pub PlayedBoth : (E → Option ℕ) → ℕ → (first second : List E → List E → Type 0) → (old new : List E) → Type 0
+  PlayedBoth begins r first second old new = (one : List E) × (two : List E) × (new ≡ (old ++ one) ++ two) × IsMove begins r one × IsMove begins r two
+      × first old one × second (old ++ one) two
+
   -- The call has its answer at one place of the log: after all that the pass had seen, and what came between. Its own entries
   -- are next, one move of the role or none. The pass has seen the log up to them, and of each of its roles just the moves that
   -- it has made are there.
   abbrev pub Called : (E → Option ℕ) → ℕ → (List E → List E → Type 0) → PassFacts E → PassFacts E → Type 0
   Called begins r answers old new = (between : List E) × (added : List E) × (new.seen ≡ (old.seen ++ between) ++ added)
       × answers (old.seen ++ between) added × IsMove begins r added × (new.made ≡ adds added old.made) × AreExact begins new.seen new.made
+
+  -- The call has its answer where the pass has seen all of the log: nothing came between.
+  abbrev pub CalledNext : (E → Option ℕ) → ℕ → (List E → List E → Type 0) → PassFacts E → PassFacts E → Type 0
+  CalledNext begins r answers old new = (added : List E) × (new.seen ≡ old.seen ++ added)
+      × answers old.seen added × IsMove begins r added × (new.made ≡ adds added old.made) × AreExact begins new.seen new.made
+
+  -- two calls, the second at once after the first
+  abbrev pub CalledBoth : (E → Option ℕ) → ℕ → (first second : List E → List E → Type 0) → PassFacts E → PassFacts E → Type 0
+  CalledBoth begins r first second old new = (middle : PassFacts E) × (middle.lock ≡ old.lock)
+      × Called begins r first old middle × CalledNext begins r second middle new
 
   -- The log is all that the pass has seen. Of each of the pass's roles it has just the moves that are listed, the pass has each
   -- role of the lock once, and no other role has made a move.

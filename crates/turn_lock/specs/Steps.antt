@@ -2,10 +2,11 @@
 use Rattle.std.specs.Prelude.{◌≡◌, ◌≢◌, ℕ, ◌%◌, ◌<◌, List, [], ◌∷◌, length, drop, Option}
 use Rattle.atomic_table.specs.Table.{Me, Step}
 use Rattle.turn_lock.specs.declared.rule.View.{View}
+use Rattle.turn_lock.specs.declared.rule.Moves.{Moves}
 use Rattle.turn_lock.specs.declared.rule.Stage.{Stage}
 use Rattle.turn_lock.specs.declared.rule.Stage.TheVariants.{Idle, Waiting, Serving, Joined}
 use Rattle.turn_lock.specs.Logs.{IsPrefix, longer}
-use Rattle.turn_lock.specs.Views.{view, waits, serves, adds, settled}
+use Rattle.turn_lock.specs.Views.{view, times, waits, serves, adds, settled}
 use Rattle.turn_lock.specs.Rule.{word_range, AreExact}
 
 -- a seat: its view, and the state where it has it
@@ -33,6 +34,11 @@ module _ {S E : Type 0} where
   abbrev pub Settles : Step S → Seated S E → ℕ → Seated S E → Type 0
   Settles st m n m' = SettlesAt m m.0.stage m'
 
+-- the first of these roles isn't among the others
+abbrev pub FirstOnce : {E : Type 0} → List (Moves E) → Type 0
+FirstOnce [] = Unit {0}
+FirstOnce (m ∷ ms) = times m.role ms ≡ 0
+
 module _ {S E : Type 0} (entries : S → List E) where
   -- the view after a turn that left the state x
   abbrev pub after_turn : View E → S → View E
@@ -57,6 +63,7 @@ module _ {S E : Type 0} (entries : S → List E) (begins : E → Option ℕ) whe
   abbrev pub EndsWith : View E → List (ℕ × S) → Seated S E → Type 0
   EndsWith v [] m' = Unit {0}
   EndsWith v (c ∷ cs) m' = (m' ≡ (after_turn entries v c.1, [])) × AreExact begins (entries c.1) (after_turn entries v c.1).made
+      × FirstOnce v.made
 
   abbrev pub Ends : Step S → Seated S E → ℕ → Seated S E → Type 0
   Ends st m n m' = EndsWith m.0 m.1 m'

@@ -3,10 +3,10 @@
 ghost use Rattle.std.specs.Prelude.{◌≡◌, ◌<◌, ◌≤◌, ◌^◌, true, false, [], ◌∷◌, ◌++◌, length, vec_len, vec_capacity, IfOk, IfErr, IsOk};
 ghost use mathlib.Core.Logic.{◌↔◌};
 ghost use Rattle.turn_lock.specs.declared.rule.Stage.TheVariants.{Idle};
-ghost use Rattle.turn_lock.specs.Logs.{IsPrefix, longer};
+ghost use Rattle.turn_lock.specs.Logs.{IsPrefix, longer, moves_of};
 ghost use Rattle.turn_lock.specs.Views.{view, unused};
 ghost use Rattle.turn_lock.specs.Steps.{HasDrawn, InTurn};
-ghost use Rattle.turn_lock.specs.Passes.{LockFacts, lock_facts, PassFacts, pass_facts, MayCall, Called, Closes, new_passes};
+ghost use Rattle.turn_lock.specs.Passes.{LockFacts, lock_facts, PassFacts, pass_facts, MayCall, MayFollow, PlayedBoth, Called, CalledBoth, Closes, new_passes};
 
 use crate::object::Object;
 use crate::rule::{Turns, View};
@@ -63,6 +63,24 @@ impl<S: Object> Model for Pass<S> {
 pub struct Open<S: Object> {
     pub lock: TurnLock<S>,
     pub keep: Pass<S>,
+}
+
+// Plays two operations of one role.
+fn play_both<S: Object>(
+    state: &mut S,
+    alloc: Global,
+    first: S::Op,
+    second: S::Op,
+) -> (S::Reply, S::Reply)
+    requires role { S.role second ≡ S.role first }
+    requires first { S.may (moves_of S.begins (S.role first) (S.entries state.old)) first }
+    requires second { MayFollow S.may S.answers first second (moves_of S.begins (S.role first) (S.entries state.old)) }
+    ensures { PlayedBoth S.begins (S.role first) (λ before added. S.answers before first result.0 added)
+        (λ before added. S.answers before second result.1 added) (S.entries state.old) (S.entries state.new) }
+{
+    let one = state.play(alloc, first);
+    let two = state.play(alloc, second);
+    (one, two)
 }
 
 impl<S: Object> TurnLock<S> {
@@ -180,6 +198,53 @@ impl<S: Object> TurnLock<S> {
         ensures call { Called S.begins (S.role op) (λ before added. S.answers before op result added) pass.old pass.new }
     {
         self.turn(rt, alloc, &mut pass.seat, op)
+    }
+
+    // A whole turn of two operations.
+    fn turn_both<R: Wait>(
+        &self,
+        rt: &R,
+        alloc: Global,
+        seat: &mut Seat<S, View<S::Entry>>,
+        first: S::Op,
+        second: S::Op,
+    ) -> (S::Reply, S::Reply)
+        requires own { seat.old.table_id ≡ self.now.id }
+        requires idle { (seat.old.me.0.stage ≡ Idle) × (seat.old.me.1 ≡ []) }
+        requires first { MayCall (S.role first) (λ mine. S.may mine first) seat.old.me.0.made }
+        requires second { MayCall (S.role second) (λ mine. MayFollow S.may S.answers first second mine) seat.old.me.0.made }
+        ensures seat { (seat.new.table_id ≡ seat.old.table_id) × (seat.new.id ≡ seat.old.id) }
+        ensures idle { (seat.new.me.0.stage ≡ Idle) × (seat.new.me.1 ≡ []) }
+        ensures calls { CalledBoth S.begins (S.role first) (λ before added. S.answers before first result.0 added)
+            (λ before added. S.answers before second result.1 added)
+            (pass_facts seat.old.table_id seat.old.me.0.seen seat.old.me.0.made) (pass_facts seat.new.table_id seat.new.me.0.seen seat.new.me.0.made) }
+    {
+        self.begin(rt, seat);
+        let state = seat.slot_mut(&self.table.shared, 0);
+        let replies = play_both(state, alloc, first, second);
+        self.table.shared.fetch_add::<End>(seat, ENDED, 1);
+        self.leave_door(seat);
+        replies
+    }
+
+    /// Waits for its turn, plays both operations in it, one after the other, and gives the object's replies. Conditions: those
+    /// of two calls, where the second is allowed whatever the first is answered.
+    pub fn call_both<R: Wait>(
+        &self,
+        rt: &R,
+        alloc: Global,
+        pass: &mut Pass<S>,
+        first: S::Op,
+        second: S::Op,
+    ) -> (S::Reply, S::Reply)
+        requires own { pass.old.lock ≡ self.now.id }
+        requires first { MayCall (S.role first) (λ mine. S.may mine first) pass.old.made }
+        requires second { MayCall (S.role second) (λ mine. MayFollow S.may S.answers first second mine) pass.old.made }
+        ensures own { pass.new.lock ≡ pass.old.lock }
+        ensures calls { CalledBoth S.begins (S.role first) (λ before added. S.answers before first result.0 added)
+            (λ before added. S.answers before second result.1 added) pass.old pass.new }
+    {
+        self.turn_both(rt, alloc, &mut pass.seat, first, second)
     }
 
     fn take_in(&self, seat: &mut Seat<S, View<S::Entry>>, other: Seat<S, View<S::Entry>>)
