@@ -1,37 +1,20 @@
 -- The calls at a desk where another role has left.
-use Rattle.std.proofs.Common.{◌≡◌, ℕ, ◌<◌, ◌≤◌, true, false, eqb, leb, [], ◌∷◌, length, refl, sym, ap, ◌∙◌, subst, arith, Option, None, Err, inl, inr}
-use Rattle.std.proofs.lemmas.List.{length-map}
+use Rattle.std.proofs.Common.{◌≡◌, ℕ, ◌≤◌, true, false, eqb, leb, [], ◌∷◌, refl, sym, subst, arith, inl, inr}
 use Rattle.std.proofs.lemmas.Bool.{cases_Bool, eqb-true, eqb-false, eq-eqb, ne_eqb, le-leb}
-use Rattle.nd_base.specs.Array.{Array, StackValue}
-use Rattle.nd_base.specs.declared.graph.Graph.{Graph}
-use Rattle.nd_base.specs.Parts.{Parts}
-use Rattle.nd_base.specs.declared.frame.FrameName.{FrameName}
 use Rattle.flow_journal.specs.declared.entry.Entry.TheVariants.{Leave}
-use Rattle.flow_journal.specs.Setting.{Setting, node, last_role}
-use Rattle.flow_journal.specs.Unsaved.{is_file}
+use Rattle.flow_journal.specs.Setting.{Setting, last_role}
 use Rattle.flow_journal.specs.Histories.{is_history}
-use Rattle.board_rules.specs.declared.answers.Load.TheVariants as load
-use Rattle.board_rules.specs.declared.answers.Take.TheVariants as take
-use Rattle.board_rules.specs.declared.answers.Save.TheVariants as save
-use Rattle.board_rules.specs.declared.answers.Settled.TheVariants as settled
-use Rattle.board_rules.specs.declared.answers.Done.{Done}
-use Rattle.board_rules.specs.declared.answers.NotYours.{NotYours}
 use Rattle.board_rules.specs.States.{BoardState, past, plain}
 use Rattle.board_rules.specs.Movers.{moves_by}
-use Rattle.board_rules.specs.RunMeasures.{run_setting}
-use Rattle.board_rules.specs.InHand.{at, just}
-use Rattle.board_rules.specs.Feeding.{LoadGives, IssueGives, CloseGives}
-use Rattle.board_rules.specs.Working.{TakeGives, PutGives, SettleGives}
-use Rattle.board_rules.specs.Saving.{SaveGives, SavedGives}
-use Rattle.board_rules.specs.Leaving.{LeaveGives}
-use Rattle.flow_journal.specs.Notes.{progress_of}
 use Rattle.flow_roles.specs.declared.last.Said.{Said}
 use Rattle.flow_roles.specs.declared.left_desk.LeftPass.{LeftPass}
 use Rattle.flow_roles.specs.declared.left_desk.Stage.{Stage}
 use Rattle.flow_roles.specs.declared.left_desk.Stage.TheVariants.{New, Told, Gone}
-use Rattle.flow_roles.specs.Lasts.{said_leave}
 use Rattle.flow_roles.specs.Passes.{Called}
-use Rattle.flow_roles.specs.Leaving.{other_role, other_left, seen_at, pass_at, told_by, once_told, leaves_at}
+use Rattle.flow_roles.specs.declared.operation.DeskOp.{DeskOp}
+use Rattle.flow_roles.specs.declared.operation.DeskOp.TheVariants as op
+use Rattle.flow_roles.specs.Operations.{role_of}
+use Rattle.flow_roles.specs.Leaving.{other_role, other_left, seen_at, pass_at, told_by, stage_after}
 
 other-isnt : (s : Setting) (r : ℕ) → eqb (other_role s r) r ≡ false
 other-isnt s r =
@@ -60,10 +43,10 @@ gone-moves : (s : Setting) (r : ℕ) → moves_by r (plain (Leave r) ∷ other_l
 gone-moves s r = rw (eq-eqb r r refl, other-isnt s r) refl
 
 -- a call that adds nothing
-pub told_called : (s : Setting) (gives : BoardState → BoardState → Type 0) (answers : Said → Said) (before : Said) (r : ℕ) (stage : Stage)
+told-called : (s : Setting) (gives : BoardState → BoardState → Type 0) (answers : Said → Said) (before : Said) (r : ℕ) (stage : Stage)
     → r ≤ last_role s → gives (seen_at s r (told_by stage)) (seen_at s r (told_by stage))
     → Called s gives answers (pass_at s r stage before) (pass_at s r (told_by stage) (answers before))
-told_called s gives answers before r New h g =
+told-called s gives answers before r New h g =
     record {
       between = other_left s r;
       added = [];
@@ -77,7 +60,7 @@ told_called s gives answers before r New h g =
       legal = told-legal s r;
       drained = refl;
     }
-told_called s gives answers before r Told h g =
+told-called s gives answers before r Told h g =
     record {
       between = [];
       added = [];
@@ -91,7 +74,7 @@ told_called s gives answers before r Told h g =
       legal = told-legal s r;
       drained = refl;
     }
-told_called s gives answers before r Gone h g =
+told-called s gives answers before r Gone h g =
     record {
       between = [];
       added = [];
@@ -105,19 +88,17 @@ told_called s gives answers before r Gone h g =
       legal = gone-legal s r h;
       drained = refl;
     }
-
-leave-gives : (s : Setting) (r : ℕ) → LeaveGives s (other_left s r) r (plain (Leave r) ∷ other_left s r)
-leave-gives s r = rw (other-isnt s r) refl
 
 -- a leave
-pub gone_called : (s : Setting) (before : Said) (r : ℕ) (stage : Stage) → r ≤ last_role s
-    → Called s (λ old new. LeaveGives s old r new) said_leave (pass_at s r stage before) (pass_at s r Gone (said_leave before))
-gone_called s before r New h =
+gone-called : (s : Setting) (gives : BoardState → BoardState → Type 0) (answers : Said → Said) (before : Said) (r : ℕ) (stage : Stage)
+    → r ≤ last_role s → gives (seen_at s r (told_by stage)) (seen_at s r Gone)
+    → Called s gives answers (pass_at s r stage before) (pass_at s r Gone (answers before))
+gone-called s gives answers before r New h g =
     record {
       between = other_left s r;
       added = plain (Leave r) ∷ [];
       seen = refl;
-      answer = leave-gives s r;
+      answer = g;
       move = refl;
       made = refl;
       exact = gone-moves s r;
@@ -126,12 +107,12 @@ gone_called s before r New h =
       legal = gone-legal s r h;
       drained = refl;
     }
-gone_called s before r Told h =
+gone-called s gives answers before r Told h g =
     record {
       between = [];
       added = plain (Leave r) ∷ [];
       seen = refl;
-      answer = leave-gives s r;
+      answer = g;
       move = refl;
       made = refl;
       exact = gone-moves s r;
@@ -140,12 +121,12 @@ gone_called s before r Told h =
       legal = gone-legal s r h;
       drained = refl;
     }
-gone_called s before r Gone h =
+gone-called s gives answers before r Gone h g =
     record {
       between = [];
       added = [];
       seen = refl;
-      answer = rw (eq-eqb r r refl) refl;
+      answer = g;
       move = tt;
       made = refl;
       exact = gone-moves s r;
@@ -155,119 +136,20 @@ gone_called s before r Gone h =
       drained = refl;
     }
 
--- WHAT THE BOARD ANSWERS
-
-isnt-drain : (s : Setting) (r : ℕ) → r < last_role s → eqb r (last_role s) ≡ false
-isnt-drain s r h = ne_eqb r (last_role s) (λ e. omega arith)
-
-pub load_left : {F B : Type 0} (parts : F → Option Parts) (bytes_of : B → ℕ) (s : Setting) (r tick : ℕ) (stage : Stage) → r < last_role s
-    → LoadGives parts bytes_of s (seen_at s r (told_by stage)) r tick load.Left (seen_at s r (told_by stage))
-load_left parts bytes_of s r tick New h = rw (isnt-drain s r h) (refl, refl)
-load_left parts bytes_of s r tick Told h = rw (isnt-drain s r h) (refl, refl)
-load_left parts bytes_of s r tick Gone h = rw (isnt-drain s r h) (refl, refl)
-
-pub take_left : {F B : Type 0} (O : Type 0) (name_of : F → FrameName) (parts : F → Option Parts) (bytes_of : B → ℕ) (s : Setting) (r v : ℕ) (stage : Stage)
-    → r < last_role s → TakeGives {F = F} {B = B} {O = O} name_of parts bytes_of s (seen_at s r (told_by stage)) r v take.Left (seen_at s r (told_by stage))
-take_left O name_of parts bytes_of s r v New h = rw (isnt-drain s r h) (refl, refl)
-take_left O name_of parts bytes_of s r v Told h = rw (isnt-drain s r h) (refl, refl)
-take_left O name_of parts bytes_of s r v Gone h = rw (isnt-drain s r h) (refl, refl)
-
-pub issue_back : {F : Type 0} (name_of : F → FrameName) (s : Setting) (r : ℕ) (f : F) (e : NotYours F) (stage : Stage)
-    → e ≡ record { kept = None; given = at 0 (name_of f); back = just 0 f }
-    → IssueGives {E = Unit {0}} name_of s (seen_at s r (told_by stage)) r f (Err e) (seen_at s r (told_by stage))
-issue_back name_of s r f e New h = (refl, h, refl)
-issue_back name_of s r f e Told h = (refl, h, refl)
-issue_back name_of s r f e Gone h = (refl, h, refl)
-
-pub put_back : {F : Type 0} (name_of : F → FrameName) (s : Setting) (r : ℕ) (done : Done F) (e : NotYours F) (stage : Stage)
-    → e ≡ record { kept = None; given = at done.node (name_of done.input); back = done }
-    → PutGives {E = Unit {0}} name_of s (seen_at s r (told_by stage)) r done (Err e) (seen_at s r (told_by stage))
-put_back name_of s r done e New h = (refl, h, refl)
-put_back name_of s r done e Told h = (refl, h, refl)
-put_back name_of s r done e Gone h = (refl, h, refl)
-
-pub saved_back : {F : Type 0} (name_of : F → FrameName) (s : Setting) (r : ℕ) (f : F) (e : NotYours F) (stage : Stage)
-    → e ≡ record { kept = None; given = at 0 (name_of f); back = just 0 f }
-    → SavedGives {E = Unit {0}} name_of s (seen_at s r (told_by stage)) r f (Err e) (seen_at s r (told_by stage))
-saved_back name_of s r f e New h = (refl, h, refl)
-saved_back name_of s r f e Told h = (refl, h, refl)
-saved_back name_of s r f e Gone h = (refl, h, refl)
-
--- what comes back names the frame
-pub back_named : {F : Type 0} (v : ℕ) (a b : FrameName) (back : Done F) (e : NotYours F) → e ≡ record { kept = None; given = at v a; back = back } → a ≡ b
-    → e ≡ record { kept = None; given = at v b; back = back }
-back_named v a b back e h i = h ∙ ap (λ (c : FrameName). record { kept = None; given = at v c; back = back }) i
-
-pub settle_not_yet : (s : Setting) (r v : ℕ) (stage : Stage) → SettleGives s (seen_at s r (told_by stage)) r v settled.NotYet (seen_at s r (told_by stage))
-settle_not_yet s r v stage =
-    elim (cases_Bool (eqb (node s v).input 0)) [
-      | inl driver ↦
-          elim stage as (λ g. SettleGives s (seen_at s r (told_by g)) r v settled.NotYet (seen_at s r (told_by g))) [
-            | New ↦ rw driver (refl, refl)
-            | Told ↦ rw driver (refl, refl)
-            | Gone ↦ rw driver (refl, refl)
-          ]
-      | inr node_ ↦
-          elim stage as (λ g. SettleGives s (seen_at s r (told_by g)) r v settled.NotYet (seen_at s r (told_by g))) [
-            | New ↦ rw node_ (refl, refl)
-            | Told ↦ rw node_ (refl, refl)
-            | Gone ↦ rw node_ (refl, refl)
-          ]
-    ]
-
-pub save_not_yet : {F : Type 0} (name_of : F → FrameName) (parts : F → Option Parts) (s : Setting) (r v : ℕ) (stage : Stage)
-    → SaveGives name_of parts s (seen_at s r (told_by stage)) r v save.NotYet (seen_at s r (told_by stage))
-save_not_yet name_of parts s r v stage =
-    elim (cases_Bool (is_file (node s v).work)) [
-      | inl file ↦
-          elim stage as (λ g. SaveGives name_of parts s (seen_at s r (told_by g)) r v save.NotYet (seen_at s r (told_by g))) [
-            | New ↦ rw file (refl, refl)
-            | Told ↦ rw file (refl, refl)
-            | Gone ↦ rw file (refl, refl)
-          ]
-      | inr other ↦
-          elim stage as (λ g. SaveGives name_of parts s (seen_at s r (told_by g)) r v save.NotYet (seen_at s r (told_by g))) [
-            | New ↦ rw other (refl, refl)
-            | Told ↦ rw other (refl, refl)
-            | Gone ↦ rw other (refl, refl)
-          ]
-    ]
-
-pub close_not_yet : (s : Setting) (r : ℕ) (stage : Stage) → 0 < length s.ids
-    → CloseGives s (seen_at s r (told_by stage)) r settled.NotYet (seen_at s r (told_by stage))
-close_not_yet s r stage h =
-    let some : eqb 0 (length s.ids) ≡ false = ne_eqb 0 (length s.ids) (λ e. omega arith) in
-    elim stage as (λ g. CloseGives s (seen_at s r (told_by g)) r settled.NotYet (seen_at s r (told_by g))) [
-      | New ↦ rw some (refl, refl)
-      | Told ↦ rw some (refl, refl)
-      | Gone ↦ rw some (refl, refl)
-    ]
-
-pub progress_told : (s : Setting) (r : ℕ) (stage : Stage)
-    → record { entries = leaves_at (told_by stage); offered = 0; dropped = 0; saved = 0; left = true; done = false }
-    ≡ progress_of s (past (seen_at s r (told_by stage)))
-progress_told s r New = refl
-progress_told s r Told = refl
-progress_told s r Gone = refl
-
--- the run has a frame to offer
-pub some_ids : (g : Graph) (stack : StackValue) → 0 < length stack.arrays → 0 < length (run_setting g stack).ids
-some_ids g stack h = let same_ = length-map stack.arrays (λ (a : Array). a.id) in omega (arith, same_)
+left-called : {F : Type 0} (s : Setting) (gives : BoardState → BoardState → Type 0) (answers : Said → Said) (o : DeskOp F) (before : Said) (stage : Stage)
+    → role_of o ≤ last_role s → gives (seen_at s (role_of o) (told_by stage)) (seen_at s (role_of o) (stage_after o stage))
+    → Called s gives answers (pass_at s (role_of o) stage before) (pass_at s (role_of o) (stage_after o stage) (answers before))
+left-called s gives answers (op.Leave r) before stage h g = gone-called s gives answers before r stage h g
+left-called s gives answers _ before stage h g = told-called s gives answers before _ stage h g
 
 -- BY THE PASSES
 
-pub told_by_call : (s : Setting) (gives : BoardState → BoardState → Type 0) (answers : Said → Said) (p q : LeftPass) (said : Said) (r : ℕ) → p.role ≡ r
-    → r ≤ last_role s → q ≡ once_told p → said ≡ answers q.said → gives (seen_at s r (told_by p.stage)) (seen_at s r (told_by p.stage))
-    → Called s gives answers (pass_at s p.role p.stage p.said) (pass_at s q.role q.stage said)
-told_by_call s gives answers p q said r role h e says g =
-    let after : said ≡ answers p.said = says ∙ ap (λ (w : LeftPass). answers w.said) e in
-    subst (λ (w : LeftPass). Called s gives answers (pass_at s p.role p.stage p.said) (pass_at s w.role w.stage said)) (sym e)
-    (subst (λ (w : ℕ). Called s gives answers (pass_at s w p.stage p.said) (pass_at s w (told_by p.stage) said)) (sym role)
-    (subst (λ (w : Said). Called s gives answers (pass_at s r p.stage p.said) (pass_at s r (told_by p.stage) w)) (sym after)
-    (told_called s gives answers p.said r p.stage h g)))
-
-pub gone_by_call : (s : Setting) (p : LeftPass) (r : ℕ) → p.role ≡ r → r ≤ last_role s
-    → Called s (λ old new. LeaveGives s old r new) said_leave (pass_at s p.role p.stage p.said) (pass_at s p.role Gone (said_leave p.said))
-gone_by_call s p r role h =
-    subst (λ (w : ℕ). Called s (λ old new. LeaveGives s old r new) said_leave (pass_at s w p.stage p.said) (pass_at s w Gone (said_leave p.said)))
-    (sym role) (gone_called s p.said r p.stage h)
+pub by-call : {F : Type 0} (s : Setting) (gives : BoardState → BoardState → Type 0) (answers : Said → Said) (o : DeskOp F) (p : LeftPass) (stage : Stage)
+    (said : Said) → p.role ≡ role_of o → role_of o ≤ last_role s → stage ≡ stage_after o p.stage → said ≡ answers p.said
+    → gives (seen_at s (role_of o) (told_by p.stage)) (seen_at s (role_of o) (stage_after o p.stage))
+    → Called s gives answers (pass_at s p.role p.stage p.said) (pass_at s p.role stage said)
+by-call s gives answers o p stage said role h e says g =
+    subst (λ (w : Said). Called s gives answers (pass_at s p.role p.stage p.said) (pass_at s p.role stage w)) (sym says)
+    (subst (λ (w : Stage). Called s gives answers (pass_at s p.role p.stage p.said) (pass_at s p.role w (answers p.said))) (sym e)
+    (subst (λ (w : ℕ). Called s gives answers (pass_at s w p.stage p.said) (pass_at s w (stage_after o p.stage) (answers p.said))) (sym role)
+    (left-called s gives answers o p.said p.stage h g)))

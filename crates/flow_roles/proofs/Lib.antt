@@ -6,10 +6,12 @@ pub mod Calls
 pub mod RoleCalls
 pub mod FeederCalls
 pub mod FeederTicks
+pub mod FeederRounds
 pub mod Named
 pub mod WorkerCalls
 pub mod Results
 pub mod Reclaims
+pub mod Replied
 pub mod TurnCalls
 pub mod TurnJoins
 pub mod Workers

@@ -31,6 +31,12 @@ use Rattle.flow_roles.specs.Operations.{role_of, MayPlay, RepliesAreMoves, Moves
 
 -- WHAT A ROLE'S MOVES ALLOW
 
+below : (r n : ℕ) → r < n → r ≤ n
+below r n h = omega arith
+
+at_end : (r n : ℕ) → r ≡ n → r ≤ n
+at_end r n h = omega arith
+
 issue-allowed : {F B : Type 0} (fs : Frames F B) (b : BoardState) (r : ℕ) (f : F) → MayIssue fs.name_of fs.parts (moves_by r b) r f
     → MayIssue fs.name_of fs.parts b r f
 issue-allowed fs b r f h =
@@ -59,6 +65,19 @@ moves_allow fs s b (op.Leave r) h = h
 moves_allow fs s b (op.Save r v) h = h
 moves_allow fs s b (op.Saved r f) h = (h.0, saved-allowed fs b r f h.1)
 moves_allow fs s b (op.Progress r) h = h
+
+-- whose role is one of the run
+pub role-most : {F B : Type 0} (fs : Frames F B) (s : Setting) (made : BoardState) (o : DeskOp F) → MayPlay fs s made o → role_of o ≤ last_role s
+role-most fs s made (op.Load r tick) h = below r (last_role s) h
+role-most fs s made (op.Issue r f) h = below r (last_role s) h.0
+role-most fs s made (op.Take r v) h = below r (last_role s) h.0
+role-most fs s made (op.Put r done) h = below r (last_role s) h.0
+role-most fs s made (op.Settle r v) h = below r (last_role s) h.0
+role-most fs s made (op.Close r) h = below r (last_role s) h
+role-most fs s made (op.Leave r) h = below r (last_role s) h
+role-most fs s made (op.Save r v) h = at_end r (last_role s) h.0
+role-most fs s made (op.Saved r f) h = at_end r (last_role s) h.0
+role-most fs s made (op.Progress r) h = h
 
 -- the same of an operation that is known to be one of these
 pub issue_by : {F B : Type 0} (fs : Frames F B) (s : Setting) (b : BoardState) (o : DeskOp F) (r : ℕ) (f : F) → o ≡ op.Issue r f
@@ -109,12 +128,6 @@ call-moves fs s old new call r of all may c =
       λ d. subst (λ (b : BoardState). only_drain_saves s (past b) ≡ true) (sym a.1) (drained-by s (saver call) a.0 old of.1 a.3 d),
       λ h. calls-keep fs s old new call c all h,
     )
-
-pub below : (r n : ℕ) → r < n → r ≤ n
-below r n h = omega arith
-
-pub at_end : (r n : ℕ) → r ≡ n → r ≤ n
-at_end r n h = omega arith
 
 pub replies_are_moves : {F B O : Type 0} → RepliesAreMoves F B O
 unfolding IsOf

@@ -22,7 +22,7 @@ use Rattle.flow_roles.specs.Lasts.{said_leave, IsActive, HasWanted}
 use Rattle.flow_roles.specs.Passes.{Pass, Called}
 use Rattle.flow_roles.specs.RoleMoves.{feeder_logs, worker_logs, IsFresh, HasNothing}
 use Rattle.flow_roles.specs.declared.role_end.Round.{Round}
-use Rattle.flow_roles.specs.declared.role_end.Round.TheVariants.{Again, End}
+use Rattle.flow_roles.specs.declared.role_end.Round.TheVariants.{End}
 use Rattle.board_rules.specs.InHand.{IsOfHand}
 use Rattle.flow_roles.specs.RoleEnds.{HasEnded, HasGone}
 use Rattle.flow_roles.proofs.Calls.{here, unmoved, moved, hand-before, role-after}
@@ -168,15 +168,12 @@ module _ {F B O : Type 0} (name_of : F → FrameName) (parts : F → Option Part
       (subst (λ (l : Left F B O). IsOfHand name_of parts bytes_of (lent_to r old.made) None l.input l.made l.blank) (sym none_) (refl, refl, refl)))
       few c
 
-module _ {F B O : Type 0} (name_of : F → FrameName) (parts : F → Option Parts)
-    (bytes_of : B → ℕ) (s : Setting) (logs : Entry → Bool) (ends : Last → Past → Bool → Bool)
-    (r : ℕ) (p : Pass) (round : Round F B O) where
-  pub gone-again : round ≡ Again → HasNothing logs r p → IsActive p.said → HasGone name_of parts bytes_of logs ends r p round
-  gone-again is n active = subst (λ (x : Round F B O). HasGone name_of parts bytes_of logs ends r p x) (sym is) (n, active)
-
+module _ {F N B O : Type 0} (name_of : F → FrameName) (parts : F → Option Parts)
+    (bytes_of : B → ℕ) (asked : N → Pass → Type 0) (s : Setting) (logs : Entry → Bool) (ends : Last → Past → Bool → Bool)
+    (r : ℕ) (p : Pass) (round : Round F N B O) where
   pub gone-free : round ≡ End (record { input = None; made = None; blank = None }) false → HasNothing logs r p → ends p.said.last (past p.seen) false ≡ true
-      → p.said.wanted ≡ 0 → HasGone name_of parts bytes_of logs ends r p round
+      → p.said.wanted ≡ 0 → HasGone name_of parts bytes_of asked logs ends r p round
   gone-free is n last_ never =
-      subst (λ (x : Round F B O). HasGone name_of parts bytes_of logs ends r p x) (sym is)
+      subst (λ (x : Round F N B O). HasGone name_of parts bytes_of asked logs ends r p x) (sym is)
       (ends-free {F = F} {B = B} {O = O} name_of parts bytes_of s logs ends r p p
       (record { input = None; made = None; blank = None }) n.role n.moves n.free false last_ never refl)

@@ -1,7 +1,7 @@
 -- What a call of the turn lock says in the words of a desk.
-use Rattle.std.proofs.Common.{◌≡◌, ℕ, ◌≤◌, true, List, [], ◌∷◌, ◌++◌, refl, sym, ap, ◌∙◌, subst, subst₂, Option, Some, None, Result}
+use Rattle.std.proofs.Common.{◌≡◌, ℕ, ◌≤◌, true, List, [], ◌∷◌, ◌++◌, refl, sym, ap, ◌∙◌, subst, subst₂, Option, Some, None}
 use Rattle.std.specs.Prelude.{reverse}
-use Rattle.std.proofs.lemmas.List.{reverse-reverse, reverse-append}
+use Rattle.std.proofs.lemmas.List.{reverse-reverse, reverse-append, append-nil}
 use Rattle.nd_base.specs.Parts.{Parts}
 use Rattle.flow_journal.specs.declared.entry.Entry.{Entry}
 use Rattle.flow_journal.specs.Setting.{Setting}
@@ -14,10 +14,6 @@ use Rattle.board_rules.specs.declared.answers.Take.{Take}
 use Rattle.board_rules.specs.declared.answers.Take.TheVariants.{Job}
 use Rattle.board_rules.specs.declared.answers.Save.{Save}
 use Rattle.board_rules.specs.declared.answers.Save.TheVariants.{Piece}
-use Rattle.board_rules.specs.declared.answers.NotYours.{NotYours}
-use Rattle.board_rules.specs.declared.answers.Done.{Done}
-use Rattle.board_rules.specs.declared.answers.Settled.{Settled}
-use Rattle.flow_journal.specs.declared.progress.Progress.{Progress}
 use Rattle.board_rules.specs.States.{BoardState, past, lent_to}
 use Rattle.flow_journal.specs.MoveLists.{begun_by}
 use Rattle.board_rules.specs.Movers.{moves_by, IsMoveOf}
@@ -25,7 +21,7 @@ use Rattle.board_rules.specs.InHand.{granted_size, OfSome}
 use Rattle.board_rules.specs.Feeding.{HasRoom}
 use Rattle.board_rules.specs.Working.{LendsJob}
 use Rattle.board_rules.specs.Saving.{LendsPiece}
-use Rattle.board_rules.specs.Runs.{Frames, Call}
+use Rattle.board_rules.specs.Runs.{Frames}
 use Rattle.board_rules.proofs.Moves.{moves-tell, GoOn}
 use Rattle.turn_lock.specs.declared.rule.Moves.{Moves}
 use Rattle.turn_lock.specs.Logs.{GoesOn, IsMove, moves_of}
@@ -38,8 +34,8 @@ use Rattle.flow_roles.specs.declared.operation.DeskOp.{DeskOp}
 use Rattle.flow_roles.specs.declared.operation.DeskOp.TheVariants as op
 use Rattle.flow_roles.specs.declared.operation.DeskReply.{DeskReply}
 use Rattle.flow_roles.specs.declared.operation.DeskReply.TheVariants as reply
-use Rattle.flow_roles.specs.Passes.{Pass, Called, only_drain_saves}
-use Rattle.flow_roles.specs.Operations.{role_of, begins_of, MayPlay, MayBePlayed, call_of, GivesCall, Replies, Lends, IsPlayed}
+use Rattle.flow_roles.specs.Passes.{Pass, Called, CalledBoth, only_drain_saves}
+use Rattle.flow_roles.specs.Operations.{role_of, begins_of, Replies, Lends, IsPlayed}
 use Rattle.flow_roles.specs.TurnPasses.{HasOneRole, role_in, moves_in, known_by}
 use Rattle.flow_roles.proofs.Reversed.{moves_reversed}
 
@@ -69,11 +65,23 @@ moves-back r log mine is =
 
 -- A CALL
 
-pub may-call : {F B : Type 0} (fs : Frames F B) (s : Setting) (o : DeskOp F) (made : List (Moves Told)) → HasOneRole made → role_in made ≡ role_of o
-    → MayPlay fs s (reverse (moves_in made)) o → MayCall (role_of o) (λ (mine : List Told). MayBePlayed fs s mine o) made
-may-call fs s o [] one is h = absurd one
-may-call fs s o (m ∷ []) one is h = (is, h)
-may-call fs s o (m ∷ n ∷ ms) one is h = absurd one
+pub may-call : (may : List Told → Type 0) (r : ℕ) (made : List (Moves Told)) → HasOneRole made → role_in made ≡ r → may (moves_in made) → MayCall r may made
+may-call may r [] one is h = absurd one
+may-call may r (m ∷ []) one is h = (is, h)
+may-call may r (m ∷ n ∷ ms) one is h = absurd one
+
+-- nothing came between
+next-called : (r : ℕ) (answers : List Told → List Told → Type 0) (old new : PassFacts Told) → lock.CalledNext begins_of r answers old new
+    → lock.Called begins_of r answers old new
+next-called r answers old new c = (
+  [],
+  c.0,
+  c.1 ∙ ap (λ (xs : List Told). xs ++ c.0) (sym (append-nil old.seen)),
+  subst (λ (xs : List Told). answers xs c.0) (sym (append-nil old.seen)) c.2,
+  c.3,
+  c.4,
+  c.5,
+)
 
 -- the role's moves grow by what the call adds
 one-more : (added : List Told) (made : List (Moves Told)) → HasOneRole made
@@ -167,107 +175,42 @@ called-lends fs s o answer old new one is c =
     let back : reverse ((old.seen ++ c.0) ++ c.1) ≡ reverse new.seen = ap (λ (xs : List Told). reverse xs) (sym c.2) in
     lends-made fs s o answer (reverse new.seen) (reverse (moves_in new.made)) exact_ (subst (λ (b : BoardState). Lends fs s o answer b) back c.3.lends)
 
--- A REPLY HAS THE NAME OF ITS OPERATION
+-- TWO CALLS IN ONE TURN
 
--- where it has not, the two make no call
-not-called : {F B O : Type 0} (fs : Frames F B) (s : Setting) (o : DeskOp F) (answer : DeskReply F B O) (l : Said → Said) (old new : Pass)
-    → call_of o answer ≡ None
-    → Called s (λ b d. Replies fs s b o answer d) l old new → ⊥
-not-called {F} {B} {O} fs s o answer l old new none c =
-    subst (λ (x : Option (Call F B O)). GivesCall fs s (c.between ++ old.seen) x new.seen) none c.answer
+module _ {F B O : Type 0} (fs : Frames F B) (s : Setting) (one two : DeskOp F) (a b : DeskReply F B O) (old new : PassFacts Told) (ours : HasOneRole old.made)
+    (by_one : role_in old.made ≡ role_of one) (by_two : role_in old.made ≡ role_of two)
+    (c : lock.CalledBoth begins_of (role_of one) (λ log added. IsPlayed fs s log one a added) (λ log added. IsPlayed fs s log two b added) old new) where
+  -- what the pass has seen and made between them
+  abbrev between : PassFacts Told
+  between = c.0
 
-load-other : {F B O : Type 0} (r tick : ℕ) (answer : DeskReply F B O) → ((x : Load B) → answer ≡ reply.Load x → ⊥) → call_of (op.Load r tick) answer ≡ None
-load-other r tick (reply.Load x) not = absurd (not x refl)
-load-other r tick _ not = refl
+  between-ours : HasOneRole between.made
+  between-ours = calls-one fs s one a old between ours c.2
 
-pub load-replied : {F B O : Type 0} (fs : Frames F B) (s : Setting) (r tick : ℕ) (answer : DeskReply F B O) (l : Said → Said) (old new : Pass)
-    → ((x : Load B) → answer ≡ reply.Load x → ⊥)
-    → Called s (λ b d. Replies fs s b (op.Load r tick) answer d) l old new → ⊥
-load-replied fs s r tick answer l old new not c = not-called fs s (op.Load r tick) answer l old new (load-other r tick answer not) c
+  between-role : role_in between.made ≡ role_of two
+  between-role = ap (λ (ms : List (Moves Told)). role_in ms) c.2.5 ∙ ((one-more c.2.1 old.made ours).1 ∙ by_two)
 
-issue-other : {F B O : Type 0} (r : ℕ) (f : F) (answer : DeskReply F B O) → ((x : Result (Unit {0}) (NotYours F)) → answer ≡ reply.Issue x → ⊥)
-    → call_of (op.Issue r f) answer ≡ None
-issue-other r f (reply.Issue x) not = absurd (not x refl)
-issue-other r f _ not = refl
+  second-called : lock.Called begins_of (role_of two) (λ log added. IsPlayed fs s log two b added) between new
+  second-called =
+      subst (λ (r : ℕ). lock.Called begins_of r (λ log added. IsPlayed fs s log two b added) between new) (sym by_one ∙ by_two)
+      (next-called (role_of one) (λ log added. IsPlayed fs s log two b added) between new c.3)
 
-pub issue-replied : {F B O : Type 0} (fs : Frames F B) (s : Setting) (r : ℕ) (f : F) (answer : DeskReply F B O) (l : Said → Said) (old new : Pass)
-    → ((x : Result (Unit {0}) (NotYours F)) → answer ≡ reply.Issue x → ⊥)
-    → Called s (λ b d. Replies fs s b (op.Issue r f) answer d) l old new → ⊥
-issue-replied fs s r f answer l old new not c = not-called fs s (op.Issue r f) answer l old new (issue-other r f answer not) c
+  pub both-ours : HasOneRole new.made
+  both-ours = calls-one fs s two b between new between-ours second-called
 
-take-other : {F B O : Type 0} (r v : ℕ) (answer : DeskReply F B O) → ((x : Take F B O) → answer ≡ reply.Take x → ⊥) → call_of (op.Take r v) answer ≡ None
-take-other r v (reply.Take x) not = absurd (not x refl)
-take-other r v _ not = refl
+  pub both-called : (before after : Said) (first second : Said → Said) → after ≡ second (first before)
+      → CalledBoth s (λ x y. Replies fs s x one a y) (λ x y. Replies fs s x two b y) first second (known_by old before) (known_by new after)
+  both-called before after first second is =
+      record {
+        middle = known_by between (first before);
+        first = called fs s one a before first old between ours by_one c.2;
+        second =
+            subst (λ (said : Said). Called s (λ x y. Replies fs s x two b y) second (known_by between (first before)) (known_by new said)) (sym is)
+            (called fs s two b (first before) second between new between-ours between-role second-called);
+      }
 
-pub take-replied : {F B O : Type 0} (fs : Frames F B) (s : Setting) (r v : ℕ) (answer : DeskReply F B O) (l : Said → Said) (old new : Pass)
-    → ((x : Take F B O) → answer ≡ reply.Take x → ⊥)
-    → Called s (λ b d. Replies fs s b (op.Take r v) answer d) l old new → ⊥
-take-replied fs s r v answer l old new not c = not-called fs s (op.Take r v) answer l old new (take-other r v answer not) c
-
-put-other : {F B O : Type 0} (r : ℕ) (done : Done F) (answer : DeskReply F B O) → ((x : Result (Unit {0}) (NotYours F)) → answer ≡ reply.Put x → ⊥)
-    → call_of (op.Put r done) answer ≡ None
-put-other r done (reply.Put x) not = absurd (not x refl)
-put-other r done _ not = refl
-
-pub put-replied : {F B O : Type 0} (fs : Frames F B) (s : Setting) (r : ℕ) (done : Done F) (answer : DeskReply F B O) (l : Said → Said) (old new : Pass)
-    → ((x : Result (Unit {0}) (NotYours F)) → answer ≡ reply.Put x → ⊥)
-    → Called s (λ b d. Replies fs s b (op.Put r done) answer d) l old new → ⊥
-put-replied fs s r done answer l old new not c = not-called fs s (op.Put r done) answer l old new (put-other r done answer not) c
-
-settle-other : {F B O : Type 0} (r v : ℕ) (answer : DeskReply F B O) → ((x : Settled) → answer ≡ reply.Settle x → ⊥) → call_of (op.Settle r v) answer ≡ None
-settle-other r v (reply.Settle x) not = absurd (not x refl)
-settle-other r v _ not = refl
-
-pub settle-replied : {F B O : Type 0} (fs : Frames F B) (s : Setting) (r v : ℕ) (answer : DeskReply F B O) (l : Said → Said) (old new : Pass)
-    → ((x : Settled) → answer ≡ reply.Settle x → ⊥)
-    → Called s (λ b d. Replies fs s b (op.Settle r v) answer d) l old new → ⊥
-settle-replied fs s r v answer l old new not c = not-called fs s (op.Settle r v) answer l old new (settle-other r v answer not) c
-
-close-other : {F B O : Type 0} (r : ℕ) (answer : DeskReply F B O) → ((x : Settled) → answer ≡ reply.Close x → ⊥) → call_of (op.Close r) answer ≡ None
-close-other r (reply.Close x) not = absurd (not x refl)
-close-other r _ not = refl
-
-pub close-replied : {F B O : Type 0} (fs : Frames F B) (s : Setting) (r : ℕ) (answer : DeskReply F B O) (l : Said → Said) (old new : Pass)
-    → ((x : Settled) → answer ≡ reply.Close x → ⊥)
-    → Called s (λ b d. Replies fs s b (op.Close r) answer d) l old new → ⊥
-close-replied fs s r answer l old new not c = not-called fs s (op.Close r) answer l old new (close-other r answer not) c
-
-leave-other : {F B O : Type 0} (r : ℕ) (answer : DeskReply F B O) → (answer ≡ reply.Leave → ⊥) → call_of (op.Leave r) answer ≡ None
-leave-other r reply.Leave not = absurd (not refl)
-leave-other r _ not = refl
-
-pub leave-replied : {F B O : Type 0} (fs : Frames F B) (s : Setting) (r : ℕ) (answer : DeskReply F B O) (l : Said → Said) (old new : Pass)
-    → (answer ≡ reply.Leave → ⊥)
-    → Called s (λ b d. Replies fs s b (op.Leave r) answer d) l old new → ⊥
-leave-replied fs s r answer l old new not c = not-called fs s (op.Leave r) answer l old new (leave-other r answer not) c
-
-save-other : {F B O : Type 0} (r v : ℕ) (answer : DeskReply F B O) → ((x : Save F) → answer ≡ reply.Save x → ⊥) → call_of (op.Save r v) answer ≡ None
-save-other r v (reply.Save x) not = absurd (not x refl)
-save-other r v _ not = refl
-
-pub save-replied : {F B O : Type 0} (fs : Frames F B) (s : Setting) (r v : ℕ) (answer : DeskReply F B O) (l : Said → Said) (old new : Pass)
-    → ((x : Save F) → answer ≡ reply.Save x → ⊥)
-    → Called s (λ b d. Replies fs s b (op.Save r v) answer d) l old new → ⊥
-save-replied fs s r v answer l old new not c = not-called fs s (op.Save r v) answer l old new (save-other r v answer not) c
-
-saved-other : {F B O : Type 0} (r : ℕ) (f : F) (answer : DeskReply F B O) → ((x : Result (Unit {0}) (NotYours F)) → answer ≡ reply.Saved x → ⊥)
-    → call_of (op.Saved r f) answer ≡ None
-saved-other r f (reply.Saved x) not = absurd (not x refl)
-saved-other r f _ not = refl
-
-pub saved-replied : {F B O : Type 0} (fs : Frames F B) (s : Setting) (r : ℕ) (f : F) (answer : DeskReply F B O) (l : Said → Said) (old new : Pass)
-    → ((x : Result (Unit {0}) (NotYours F)) → answer ≡ reply.Saved x → ⊥)
-    → Called s (λ b d. Replies fs s b (op.Saved r f) answer d) l old new → ⊥
-saved-replied fs s r f answer l old new not c = not-called fs s (op.Saved r f) answer l old new (saved-other r f answer not) c
-
-progress-other : {F B O : Type 0} (r : ℕ) (answer : DeskReply F B O) → ((x : Progress) → answer ≡ reply.Progress x → ⊥) → call_of (op.Progress r) answer ≡ None
-progress-other r (reply.Progress x) not = absurd (not x refl)
-progress-other r _ not = refl
-
-pub progress-replied : {F B O : Type 0} (fs : Frames F B) (s : Setting) (r : ℕ) (answer : DeskReply F B O) (l : Said → Said) (old new : Pass)
-    → ((x : Progress) → answer ≡ reply.Progress x → ⊥)
-    → Called s (λ b d. Replies fs s b (op.Progress r) answer d) l old new → ⊥
-progress-replied fs s r answer l old new not c = not-called fs s (op.Progress r) answer l old new (progress-other r answer not) c
+  pub both-lend : Lends fs s two b (reverse (moves_in new.made))
+  both-lend = called-lends fs s two b between new between-ours between-role second-called
 
 -- the pass keeps what was answered
 pub told-last : (s : Setting) (gives : BoardState → BoardState → Type 0) (answers : Said → Said) (old : Pass) (new : PassFacts Told) (before after : Said)

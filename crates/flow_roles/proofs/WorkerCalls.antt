@@ -38,9 +38,10 @@ use Rattle.board_rules.specs.InHand.{is_job_on, granted_size, IsWholeOf, OfSome,
 use Rattle.board_rules.specs.RunMeasures.{run_setting, run_measure}
 use Rattle.board_rules.specs.Feeding.{is_sent_away}
 use Rattle.board_rules.specs.Working.{take_refusal, asked, TakeAnswers, TakeGives, LendsJob, MayPut, PutGives, SettleGives}
+use Rattle.flow_roles.specs.declared.last.Last.{Last}
 use Rattle.flow_roles.specs.declared.last.Last.TheVariants as last
 use Rattle.flow_roles.specs.declared.last.Said.{Said}
-use Rattle.flow_roles.specs.Lasts.{said_last, said_take, said_given, said_other}
+use Rattle.flow_roles.specs.Lasts.{last_take, take_had_memory, said_had, said_last, said_take, said_given, said_other}
 use Rattle.flow_roles.specs.Passes.{Pass, Called}
 use Rattle.flow_roles.specs.RoleMoves.{worker_logs, HasNothing}
 use Rattle.flow_roles.specs.RoleEnds.{worker_ends}
@@ -278,6 +279,14 @@ module _ {F B O : Type 0} (name_of : F → FrameName) (parts : F → Option Part
             (worker-quiet v) (eq-eqb v v refl) n.moves in
             record { role = role_; moves = m.moves; free = m.hand ∙ (hand-before s g said_other old new r n.role c ∙ n.free) }
       ]
+
+-- it isn't NotYours
+had-owned : (l : Last) (had : Bool) (said : Said) → (said_had l had said).owned ≡ said.owned
+had-owned l true said = refl
+had-owned l false said = refl
+
+pub take-owned : {F B O : Type 0} (a : take_answer F B O) (said : Said) → (said_take a said).owned ≡ said.owned
+take-owned a said = had-owned (last_take a) (take_had_memory a) said
 
 -- A JOB
 

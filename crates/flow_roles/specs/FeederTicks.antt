@@ -1,5 +1,5 @@
 -- The calls of the feeder, and what the clock answered.
-use Rattle.std.specs.Prelude.{◌≡◌, ℕ, ◌-◌, ◌^◌, min, Bool, true, false, List, [], ◌∷◌, ◌++◌, length, get_or, Option, None, Result}
+use Rattle.std.specs.Prelude.{◌≡◌, ℕ, ◌-◌, ◌^◌, min, true, false, List, [], ◌∷◌, length, get_or, Option, None, Result}
 use Rattle.edge_traits.specs.Ticks.{Coming, Ticks}
 use Rattle.frame_store.specs.Sealed.{Sealed}
 use Rattle.flow_journal.specs.Setting.{Setting}
@@ -13,8 +13,11 @@ use Rattle.board_rules.specs.Feeding.{LoadGives, IssueGives, CloseGives}
 use Rattle.board_rules.specs.Leaving.{LeaveGives}
 use Rattle.flow_roles.specs.Lasts.{IsActive, load_had_memory, said_load, said_given, said_close, said_leave}
 use Rattle.flow_roles.specs.Passes.{Pass, Called}
-use Rattle.flow_roles.specs.RoleMoves.{IsFresh}
-use Rattle.flow_roles.specs.Feeder.{name_of, parts_of}
+use Rattle.flow_roles.specs.RoleMoves.{feeder_logs, IsFresh}
+use Rattle.flow_roles.specs.declared.role_end.Round.{Round}
+use Rattle.flow_roles.specs.declared.role_end.Round.TheVariants.{Again, End}
+use Rattle.flow_roles.specs.RoleEnds.{feeder_ends, HasEnded}
+use Rattle.flow_roles.specs.Feeder.{name_of, parts_of, HasAskedLoad}
 
 -- The feeder's calls led from the first pass to the last. It loaded only with nothing in hand, and its loads were handed these ticks, one
 -- each, THE NEWEST FIRST. Directly after a load for which there was no memory it left. One without a thread of its own left at once. After its
@@ -33,10 +36,6 @@ pub data Feeds (s : Setting) (first : Pass) : (ticks : List ℕ) → (last : Pas
       → Called s (λ old new. LeaveGives s old 0 new) said_leave wants q → Feeds s first (tick ∷ ticks) q
   stays_away : (q : Pass) → Called s (λ old new. LeaveGives s old 0 new) said_leave first q → Feeds s first [] q
 
--- calls from the one pass to the other, whose loads were handed these ticks and no more, go on with any before them
-abbrev pub GoesOn : Setting → Pass → (ticks : List ℕ) → Pass → Type 0
-GoesOn s p ticks q = (first : Pass) (before : List ℕ) → Feeds s first before p → Feeds s first (ticks ++ before) q
-
 -- the clock answered these, THE NEWEST FIRST
 abbrev pub Answered : Option Coming → List ℕ → Option Coming → Type 0
 Answered old [] new = new ≡ old
@@ -45,6 +44,17 @@ Answered old (t ∷ ts) new = (mid : Option Coming) × Answered old ts mid × Ti
 -- each load, with nothing in hand, was handed the clock's next answer
 abbrev pub FeedsByTheClock : Setting → (first last : Pass) → (old new : Option Coming) → Type 0
 FeedsByTheClock s first last old new = (ticks : List ℕ) × Answered old ticks new × Feeds s first ticks last
+
+-- the same up to the last call, which was a load that was answered so
+abbrev pub FeedsUpTo : Setting → (first : Pass) → Load (List ℕ) → (last : Pass) → (old new : Option Coming) → Type 0
+FeedsUpTo s first a last old new = (tick : ℕ) × (ticks : List ℕ) × Answered old (tick ∷ ticks) new
+    × (asked : HasAskedLoad s tick a last) × Feeds s first ticks asked.0.before
+
+-- what a round of the feeder leaves
+abbrev pub HasFed : {O : Type 0} → Setting → (first last : Pass) → (old new : Option Coming) → Round Sealed (Load (List ℕ)) (List ℕ) O → Type 0
+HasFed s first last old new (Again next) = FeedsUpTo s first next last old new
+HasFed s first last old new (End left want) =
+    HasEnded name_of parts_of length feeder_logs feeder_ends 0 last left want × FeedsByTheClock s first last old new
 
 -- LAWS
 

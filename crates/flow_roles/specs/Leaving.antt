@@ -4,9 +4,10 @@ use Rattle.flow_journal.specs.declared.entry.Entry.TheVariants.{Leave}
 use Rattle.flow_journal.specs.Setting.{Setting, last_role}
 use Rattle.board_rules.specs.States.{BoardState, plain}
 use Rattle.flow_roles.specs.declared.last.Said.{Said}
-use Rattle.flow_roles.specs.declared.left_desk.LeftPass.{LeftPass}
 use Rattle.flow_roles.specs.declared.left_desk.Stage.{Stage}
 use Rattle.flow_roles.specs.declared.left_desk.Stage.TheVariants.{New, Told, Gone}
+use Rattle.flow_roles.specs.declared.operation.DeskOp.{DeskOp}
+use Rattle.flow_roles.specs.declared.operation.DeskOp.TheVariants as op
 use Rattle.flow_roles.specs.Passes.{Pass}
 
 -- who has left: the drain, and where the drain calls the feeder
@@ -33,8 +34,9 @@ abbrev pub told_by : Stage → Stage
 told_by New = Told
 told_by stage = stage
 
-abbrev pub once_told : LeftPass → LeftPass
-once_told p = record { role = p.role; stage = told_by p.stage; said = p.said }
+abbrev pub stage_after : {F : Type 0} → DeskOp F → Stage → Stage
+stage_after (op.Leave r) stage = Gone
+stage_after _ stage = told_by stage
 
 -- how many have left, once the role was told
 abbrev pub leaves_at : Stage → ℕ

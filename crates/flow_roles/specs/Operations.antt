@@ -14,6 +14,8 @@ use Rattle.board_rules.specs.Working.{LendsJob, IsAtNode, MayPut}
 use Rattle.board_rules.specs.Saving.{LendsPiece, MaySaved}
 use Rattle.board_rules.specs.Storage.{HasAllStorage}
 use Rattle.board_rules.specs.Runs.{Frames, Call, Loads, Issues, Takes, Puts, Settles, Saves, Saveds, Closes, Leaves, Asks, Gives}
+use Rattle.flow_roles.specs.declared.last.Said.{Said}
+use Rattle.flow_roles.specs.Lasts.{said_load, said_given, said_take, said_close, said_leave, said_other, said_progress}
 use Rattle.flow_roles.specs.Passes.{only_drain_saves}
 use Rattle.flow_roles.specs.declared.operation.DeskOp.{DeskOp}
 use Rattle.flow_roles.specs.declared.operation.DeskOp.TheVariants as op
@@ -34,6 +36,11 @@ role_of (op.Leave r) = r
 role_of (op.Save r v) = r
 role_of (op.Saved r frame) = r
 role_of (op.Progress r) = r
+
+-- what a load is handed
+abbrev pub tick_of : {F : Type 0} → DeskOp F → ℕ
+tick_of (op.Load r tick) = tick
+tick_of _ = 0
 
 -- the operation may be played, by the moves that its role made; the drain alone saves
 abbrev pub MayPlay : {F B : Type 0} → Frames F B → Setting → (made : BoardState) → DeskOp F → Type 0
@@ -76,6 +83,19 @@ Lends fs s (op.Load r tick) (reply.Load answer) new = HasRoom fs.bytes_of s r an
 Lends fs s (op.Take r v) (reply.Take answer) new = LendsJob fs.parts fs.bytes_of s r v answer new
 Lends fs s (op.Save r v) (reply.Save answer) new = LendsPiece fs.parts r answer new
 Lends fs s _ _ new = Unit {0}
+
+-- what a call that was answered so leaves of what its role was answered; `tick` is what a load was handed
+abbrev pub said_reply : {F B O : Type 0} → (tick : ℕ) → DeskReply F B O → Said → Said
+said_reply tick (reply.Load answer) = said_load answer tick
+said_reply tick (reply.Issue answer) = said_given answer
+said_reply tick (reply.Take answer) = said_take answer
+said_reply tick (reply.Put answer) = said_given answer
+said_reply tick (reply.Settle answer) = said_other
+said_reply tick (reply.Close answer) = said_close answer
+said_reply tick reply.Leave = said_leave
+said_reply tick (reply.Save answer) = said_other
+said_reply tick (reply.Saved answer) = said_given answer
+said_reply tick (reply.Progress answer) = said_progress answer
 
 -- UNDER A LOCK, whose log has the oldest entry first
 

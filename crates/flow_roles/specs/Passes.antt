@@ -40,3 +40,9 @@ pub record Called (s : Setting) (gives : BoardState → BoardState → Type 0) (
   pub said : new.said ≡ answers old.said
   pub legal : is_history s (past new.seen) ≡ true
   pub drained : only_drain_saves s (past new.seen) ≡ true
+
+-- two calls, one after the other
+pub record CalledBoth (s : Setting) (one two : BoardState → BoardState → Type 0) (says_one says_two : Said → Said) (old new : Pass) : Type 0 where
+  pub middle : Pass
+  pub first : Called s one says_one old middle
+  pub second : Called s two says_two middle new

@@ -17,9 +17,8 @@ use Rattle.flow_roles.specs.declared.last.Last.{Last}
 use Rattle.flow_roles.specs.declared.last.Last.TheVariants as last
 use Rattle.flow_roles.specs.declared.role_end.Round.{Round}
 use Rattle.flow_roles.specs.declared.role_end.Round.TheVariants.{Again, End}
-use Rattle.flow_roles.specs.Lasts.{IsActive, HasWanted}
+use Rattle.flow_roles.specs.Lasts.{HasWanted}
 use Rattle.flow_roles.specs.Passes.{Pass}
-use Rattle.flow_roles.specs.RoleMoves.{HasNothing}
 
 -- The feeder ends with one of these last answers, once this has happened. Memory was wanting exactly where it left itself.
 abbrev pub feeder_ends : Last → Past → (want : Bool) → Bool
@@ -48,8 +47,8 @@ pub record HasEnded {F B O : Type 0} (name_of : F → FrameName) (parts : F → 
   pub wanted : HasWanted p.said
   pub handed : IsOfHand name_of parts bytes_of (lent_to r p.made) (hand r (past p.made)) left.input left.made left.blank
 
--- what a round of a role leaves: it goes on with nothing in hand, or has ended
-abbrev pub HasGone : {F B O : Type 0} → (F → FrameName) → (F → Option Parts) → (B → ℕ) → (logs : Entry → Bool) → (ends : Last → Past → Bool → Bool)
-    → (r : ℕ) → Pass → Round F B O → Type 0
-HasGone name_of parts bytes_of logs ends r p Again = HasNothing logs r p × IsActive p.said
-HasGone name_of parts bytes_of logs ends r p (End left want) = HasEnded name_of parts bytes_of logs ends r p left want
+-- what a round of a role leaves: it goes on with the answer to what it asked last, or has ended
+abbrev pub HasGone : {F N B O : Type 0} → (F → FrameName) → (F → Option Parts) → (B → ℕ) → (asked : N → Pass → Type 0) → (logs : Entry → Bool)
+    → (ends : Last → Past → Bool → Bool) → (r : ℕ) → Pass → Round F N B O → Type 0
+HasGone name_of parts bytes_of asked logs ends r p (Again next) = asked next p
+HasGone name_of parts bytes_of asked logs ends r p (End left want) = HasEnded name_of parts bytes_of logs ends r p left want

@@ -4,10 +4,12 @@ use Rattle.std.specs.List.{list_all}
 use Rattle.flow_journal.specs.declared.entry.Entry.{Entry}
 use Rattle.flow_journal.specs.declared.entry.Entry.TheVariants.{Load, LoadRefused, Issue, Take, TakeBlock, PoolDrop, Put, Settle, Save, Saved, Close, Leave}
 use Rattle.flow_journal.specs.Hands.{hand}
-use Rattle.board_rules.specs.States.{past}
+use Rattle.board_rules.specs.States.{BoardState, past}
 use Rattle.flow_journal.specs.MoveLists.{begun_by}
-use Rattle.flow_roles.specs.Lasts.{fresh_said}
-use Rattle.flow_roles.specs.Passes.{Pass}
+use Rattle.flow_journal.specs.Setting.{Setting}
+use Rattle.flow_roles.specs.declared.last.Said.{Said}
+use Rattle.flow_roles.specs.Lasts.{fresh_said, IsActive}
+use Rattle.flow_roles.specs.Passes.{Pass, Called}
 
 -- an entry of the feeder's moves: what begins no move goes on with one of these
 abbrev pub feeder_logs : Entry → Bool
@@ -45,3 +47,10 @@ pub record HasNothing (logs : Entry → Bool) (r : ℕ) (p : Pass) : Type 0 wher
   pub role : p.role ≡ r
   pub moves : list_all logs (past p.made) ≡ true
   pub free : hand r (past p.made) ≡ None
+
+-- a role's last call, before which it had nothing in hand
+pub record HasAsked (s : Setting) (logs : Entry → Bool) (r : ℕ) (gives : BoardState → BoardState → Type 0) (answers : Said → Said) (p : Pass) : Type 0 where
+  pub before : Pass
+  pub nothing : HasNothing logs r before
+  pub active : IsActive before.said
+  pub called : Called s gives answers before p

@@ -7,15 +7,17 @@ use Rattle.nd_base.specs.GraphRules.{input_of}
 use Rattle.nd_base.specs.declared.graph.Graph.{Graph}
 use Rattle.frame_store.specs.Sealed.{Sealed}
 use Rattle.chain_plain.specs.Nodes.{maker_at}
-use Rattle.flow_journal.specs.Setting.{is_maker}
+use Rattle.flow_journal.specs.Setting.{Setting, is_maker}
 use Rattle.flow_journal.specs.Hands.{hand}
 use Rattle.board_rules.specs.declared.answers.Done.{Done}
 use Rattle.board_rules.specs.States.{past, lent_to}
 use Rattle.board_rules.specs.InHand.{is_job_on, IsWholeOf, OfSome, IsOfHand}
 use Rattle.board_rules.specs.RunMeasures.{run_setting, run_measure}
-use Rattle.board_rules.specs.Working.{IsResult}
+use Rattle.board_rules.specs.Working.{IsResult, TakeGives, LendsJob}
 use Rattle.flow_roles.specs.Passes.{Pass}
-use Rattle.flow_roles.specs.RoleMoves.{worker_logs}
+use Rattle.flow_roles.specs.RoleMoves.{worker_logs, HasAsked}
+use Rattle.flow_roles.specs.Lasts.{said_take}
+use Rattle.board_rules.specs.declared.answers.Take.{Take}
 use Rattle.flow_roles.specs.Feeder.{name_of, parts_of}
 
 -- the array has the name of the maker of what comes to the node
@@ -42,3 +44,8 @@ pub record IsJobDone (g : Graph) (stack : StackValue) (v : ℕ) (input : Sealed)
   pub given : done.input ≡ input
   pub result : IsResult name_of (run_measure g stack) (run_setting g stack) done
   pub whole : OfSome (λ f. IsWholeOf (option_map_or length blank 0) (parts_of f)) done.made
+
+-- with nothing in hand before it, the worker made this take, which was answered so
+abbrev pub HasAskedTake : {O : Type 0} → Setting → (r v : ℕ) → Take Sealed (List ℕ) O → Pass → Type 0
+HasAskedTake s r v a p =
+    HasAsked s (worker_logs v) r (λ old new. TakeGives name_of parts_of length s old r v a new) (said_take a) p × LendsJob parts_of length s r v a p.made

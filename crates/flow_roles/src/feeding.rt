@@ -1,6 +1,6 @@
 //! The feeder.
 
-ghost use Rattle.std.specs.Prelude.{◌≡◌, ◌<◌, ◌≤◌, ◌^◌, ◌++◌, length, drop, IsTrue, true, [], ◌∷◌};
+ghost use Rattle.std.specs.Prelude.{◌≡◌, ℕ, ◌<◌, ◌≤◌, ◌^◌, ◌++◌, Option, length, drop, IsTrue, true};
 ghost use Rattle.std.specs.List.{list_all};
 ghost use Rattle.nd_base.specs.Stacks.{frame_size};
 ghost use Rattle.chain_plain.specs.Content.{IsContent};
@@ -10,11 +10,13 @@ ghost use Rattle.board_rules.specs.InHand.{IsOfHand};
 ghost use Rattle.board_rules.specs.RunMeasures.{run_setting};
 ghost use Rattle.flow_roles.specs.Lasts.{IsActive, HasWanted};
 ghost use Rattle.flow_roles.specs.RoleMoves.{feeder_logs, IsFresh, HasNothing};
-ghost use Rattle.flow_roles.specs.RoleEnds.{feeder_ends, HasGone, MayComeBack};
-ghost use Rattle.flow_roles.specs.Feeder.{name_of, parts_of, HasLoaded};
-ghost use Rattle.flow_roles.specs.FeederTicks.{GoesOn, FeedsByTheClock, LoadsAreTicks};
+ghost use Rattle.edge_traits.specs.Ticks.{Coming};
+ghost use Rattle.flow_roles.specs.Passes.{Pass};
+ghost use Rattle.flow_roles.specs.RoleEnds.{feeder_ends, MayComeBack};
+ghost use Rattle.flow_roles.specs.Feeder.{name_of, parts_of, HasLoaded, HasAskedLoad};
+ghost use Rattle.flow_roles.specs.FeederTicks.{FeedsByTheClock, FeedsUpTo, HasFed, LoadsAreTicks};
 
-use crate::role_end::{Round, ended, nothing, wait};
+use crate::role_end::{Round, ended, nothing};
 use crate::{Desk, RoleEnd};
 use board_rules::{Load, Settled};
 use edge_traits::{Clock, Gate};
@@ -74,82 +76,119 @@ pub fn frame_on<R: Run>(stack: &Stack, index: u32, blank: Blank) -> Frame<R>
     filled(name, stack.frame(index), blank)
 }
 
-/// Fills the loaded frame and issues it.
-fn issue_loaded<R: Run, D: Desk<Frame<R>>, G: Gate, W: Wait>(
+/// Loads the next frame, at the clock's next moment.
+fn load_next<R: Run, D: Desk<Frame<R>>, C: Clock, W: Wait>(
+    rt: &W,
+    alloc: Global,
+    desk: &D,
+    pass: &mut D::Pass,
+    clock: &mut C,
+) -> Load<Blank>
+    requires ours { D.ours desk.now pass.old }
+    requires nothing { HasNothing feeder_logs 0 (D.knows pass.old) }
+    requires active { IsActive (D.knows pass.old).said }
+    ensures ours { D.ours desk.now pass.new }
+    ensures fed { (first : Pass) (old : Option Coming)
+        → FeedsByTheClock (run_setting R.graph R.stack) first (D.knows pass.old) old (C.coming clock.old)
+        → FeedsUpTo (run_setting R.graph R.stack) first result (D.knows pass.new) old (C.coming clock.new) }
+    ensures owned { (D.knows pass.old).said.owned ≡ true → (D.knows pass.new).said.owned ≡ true }
+{
+    let tick = clock.tick();
+    desk.load(rt, alloc, pass, FEEDER, tick)
+}
+
+/// Fills the loaded frame, issues it, and loads the next one.
+fn issue_loaded<R: Run, D: Desk<Frame<R>>, C: Clock, G: Gate, W: Wait>(
     rt: &W,
     alloc: Global,
     desk: &D,
     pass: &mut D::Pass,
     stack: &Stack,
+    clock: &mut C,
     gate: &G,
     index: u32,
     blank: Blank,
-)
+) -> Load<Blank>
     requires ours { D.ours desk.now pass.old }
     requires stack { stack.now ≡ R.stack }
     requires loaded { HasLoaded (run_setting R.graph R.stack) index (length blank) (D.knows pass.old) }
     requires active { IsActive (D.knows pass.old).said }
     ensures ours { D.ours desk.now pass.new }
-    ensures issued { HasNothing feeder_logs 0 (D.knows pass.new) }
-    ensures active { IsActive (D.knows pass.new).said }
+    ensures fed { (first : Pass) (old : Option Coming)
+        → FeedsByTheClock (run_setting R.graph R.stack) first (D.knows pass.old) old (C.coming clock.old)
+        → FeedsUpTo (run_setting R.graph R.stack) first result (D.knows pass.new) old (C.coming clock.new) }
     ensures owned { (D.knows pass.old).said.owned ≡ true → (D.knows pass.new).said.owned ≡ true }
-    ensures calls { GoesOn (run_setting R.graph R.stack) (D.knows pass.old) [] (D.knows pass.new) }
 {
     gate.before(DRIVER, index);
     let frame = frame_on::<R>(stack, index, blank);
     gate.after(DRIVER, index);
-    let Ok(()) = desk.issue(rt, alloc, pass, FEEDER, frame) else {
-        unreachable!()
-    };
+    let tick = clock.tick();
+    let (issued, next) = desk.issue_load(rt, alloc, pass, FEEDER, frame, tick);
+    let Ok(()) = issued else { unreachable!() };
+    next
 }
 
 /// Closes the feed, once every frame was offered.
-fn close_feed<R: Run, D: Desk<Frame<R>>, G: Gate, W: Wait>(
+fn close_feed<R: Run, D: Desk<Frame<R>>, C: Clock, G: Gate, W: Wait>(
     rt: &W,
     alloc: Global,
     desk: &D,
     pass: &mut D::Pass,
+    clock: &mut C,
     gate: &G,
-) -> Round<Frame<R>>
+) -> Round<Frame<R>, Load<Blank>>
     requires ours { D.ours desk.now pass.old }
     requires nothing { HasNothing feeder_logs 0 (D.knows pass.old) }
     requires active { IsActive (D.knows pass.old).said }
     ensures ours { D.ours desk.now pass.new }
-    ensures gone { HasGone name_of parts_of length feeder_logs feeder_ends 0 (D.knows pass.new) result }
+    ensures fed { (first : Pass) (old : Option Coming)
+        → FeedsByTheClock (run_setting R.graph R.stack) first (D.knows pass.old) old (C.coming clock.old)
+        → HasFed (run_setting R.graph R.stack) first (D.knows pass.new) old (C.coming clock.new) result }
     ensures owned { (D.knows pass.old).said.owned ≡ true → (D.knows pass.new).said.owned ≡ true }
-    ensures calls { GoesOn (run_setting R.graph R.stack) (D.knows pass.old) [] (D.knows pass.new) }
 {
     match desk.close(rt, alloc, pass, FEEDER) {
         Settled::Done => ended(),
-        Settled::NotYet => wait(gate),
+        Settled::NotYet => {
+            gate.idle();
+            Round::Again(load_next::<R, D, C, W>(rt, alloc, desk, pass, clock))
+        }
     }
 }
 
-/// One load, and what it asks for.
-fn feed_round<R: Run, D: Desk<Frame<R>>, G: Gate, W: Wait>(
+/// What a load asks for, and the next load.
+fn feed_round<R: Run, D: Desk<Frame<R>>, C: Clock, G: Gate, W: Wait>(
     rt: &W,
     alloc: Global,
     desk: &D,
     pass: &mut D::Pass,
     stack: &Stack,
+    clock: &mut C,
     gate: &G,
-    tick: u64,
-) -> Round<Frame<R>>
+    answer: Load<Blank>,
+) -> Round<Frame<R>, Load<Blank>>
     requires ours { D.ours desk.now pass.old }
     requires stack { stack.now ≡ R.stack }
-    requires nothing { HasNothing feeder_logs 0 (D.knows pass.old) }
-    requires active { IsActive (D.knows pass.old).said }
+    requires asked { (tick : ℕ) × HasAskedLoad (run_setting R.graph R.stack) tick answer (D.knows pass.old) }
     ensures ours { D.ours desk.now pass.new }
-    ensures gone { HasGone name_of parts_of length feeder_logs feeder_ends 0 (D.knows pass.new) result }
+    ensures fed { (first : Pass) (old : Option Coming)
+        → FeedsUpTo (run_setting R.graph R.stack) first answer (D.knows pass.old) old (C.coming clock.old)
+        → HasFed (run_setting R.graph R.stack) first (D.knows pass.new) old (C.coming clock.new) result }
     ensures owned { (D.knows pass.old).said.owned ≡ true → (D.knows pass.new).said.owned ≡ true }
-    ensures calls { GoesOn (run_setting R.graph R.stack) (D.knows pass.old) (tick ∷ []) (D.knows pass.new) }
 {
-    match desk.load(rt, alloc, pass, FEEDER, tick) {
+    match answer {
         Load::Left => ended(),
-        Load::Busy => wait(gate),
-        Load::NotYet => wait(gate),
-        Load::Ended => close_feed(rt, alloc, desk, pass, gate),
-        Load::Refused { .. } => Round::Again,
+        Load::Busy => {
+            gate.idle();
+            Round::Again(load_next::<R, D, C, W>(rt, alloc, desk, pass, clock))
+        }
+        Load::NotYet => {
+            gate.idle();
+            Round::Again(load_next::<R, D, C, W>(rt, alloc, desk, pass, clock))
+        }
+        Load::Ended => close_feed(rt, alloc, desk, pass, clock, gate),
+        Load::Refused { .. } => {
+            Round::Again(load_next::<R, D, C, W>(rt, alloc, desk, pass, clock))
+        }
         Load::OutOfMemory => {
             desk.leave(rt, alloc, pass, FEEDER);
             Round::End {
@@ -157,15 +196,14 @@ fn feed_round<R: Run, D: Desk<Frame<R>>, G: Gate, W: Wait>(
                 want: true,
             }
         }
-        Load::Loaded { index, blank } => {
-            issue_loaded(rt, alloc, desk, pass, stack, gate, index, blank);
-            Round::Again
-        }
+        Load::Loaded { index, blank } => Round::Again(issue_loaded(
+            rt, alloc, desk, pass, stack, clock, gate, index, blank,
+        )),
     }
 }
 
-/// Feeds the frames of the stack: reads the clock, loads the next frame, fills the storage that it got and issues it, until
-/// every frame was offered and the feed is closed, another role has left, or memory is wanting.
+/// Feeds the frames of the stack: reads the clock, loads the next frame, fills the storage that it got, and issues it together with
+/// the next load, until every frame was offered and the feed is closed, another role has left, or memory is wanting.
 pub fn feed_role<R: Run, D: Desk<Frame<R>>, C: Clock, G: Gate, W: Wait>(
     rt: &W,
     alloc: Global,
@@ -190,10 +228,10 @@ pub fn feed_role<R: Run, D: Desk<Frame<R>>, C: Clock, G: Gate, W: Wait>(
     ensures ticks { FeedsByTheClock (run_setting R.graph R.stack) (D.knows pass) (D.knows result.pass) (C.coming clock.old) (C.coming clock.new) }
 {
     let mut pass = pass;
+    let mut answer = load_next::<R, D, C, W>(rt, alloc, desk, &mut pass, clock);
     for _ in rt.forever() {
-        let tick = clock.tick();
-        match feed_round(rt, alloc, desk, &mut pass, stack, gate, tick) {
-            Round::Again => {}
+        match feed_round(rt, alloc, desk, &mut pass, stack, clock, gate, answer) {
+            Round::Again(next) => answer = next,
             Round::End { left, want } => return RoleEnd { pass, left, want },
         }
     }

@@ -1,8 +1,10 @@
 //! What the calls of a role were answered.
 
 ghost use Rattle.std.specs.Prelude.{◌≡◌};
-ghost use Rattle.flow_roles.specs.Lasts.{said_load, said_given, said_take, said_close, said_leave, said_other, said_progress};
+ghost use Rattle.flow_roles.specs.Lasts.{said_load, said_given, said_take, said_progress};
+ghost use Rattle.flow_roles.specs.Operations.{said_reply};
 
+use crate::DeskReply;
 use board_rules::{Load, NotYours, Settled, Take};
 use flow_journal::Progress;
 use nd_base::Held;
@@ -44,8 +46,26 @@ pub struct Said {
 
 /// One call more.
 impl Said {
-    /// A load that was handed this tick.
-    pub fn load<B>(&mut self, answer: &Load<B>, tick: u64)
+    /// A call that was answered so. `tick` is what a load was handed.
+    pub fn note<F: Held>(&mut self, tick: u64, reply: &DeskReply<F>)
+        ensures { self.new ≡ said_reply tick reply.now self.old }
+    {
+        match reply {
+            DeskReply::Load(answer) => self.load(answer, tick),
+            DeskReply::Issue(answer) => self.given(answer),
+            DeskReply::Take(answer) => self.take(answer),
+            DeskReply::Put(answer) => self.given(answer),
+            DeskReply::Settle(_) => self.last = Last::Other,
+            DeskReply::Close(Settled::Done) => self.last = Last::Closed,
+            DeskReply::Close(Settled::NotYet) => self.last = Last::Other,
+            DeskReply::Leave => self.last = Last::Gone,
+            DeskReply::Save(_) => self.last = Last::Other,
+            DeskReply::Saved(answer) => self.given(answer),
+            DeskReply::Progress(answer) => self.progress(answer),
+        }
+    }
+
+    fn load<B>(&mut self, answer: &Load<B>, tick: u64)
         ensures { self.new ≡ said_load answer.now tick self.old }
     {
         self.last = match answer {
@@ -60,8 +80,8 @@ impl Said {
         self.tick = tick;
     }
 
-    /// `issue`, `put` or `saved`.
-    pub fn given<F>(&mut self, answer: &Result<(), NotYours<F>>)
+    // `issue`, `put` or `saved`.
+    fn given<F>(&mut self, answer: &Result<(), NotYours<F>>)
         ensures { self.new ≡ said_given answer.now self.old }
     {
         match answer {
@@ -73,7 +93,7 @@ impl Said {
         }
     }
 
-    pub fn take<F: Held>(&mut self, answer: &Take<F>)
+    fn take<F: Held>(&mut self, answer: &Take<F>)
         ensures { self.new ≡ said_take answer.now self.old }
     {
         self.last = match answer {
@@ -86,30 +106,8 @@ impl Said {
         }
     }
 
-    pub fn close(&mut self, answer: Settled)
-        ensures { self.new ≡ said_close answer self.old }
-    {
-        self.last = match answer {
-            Settled::Done => Last::Closed,
-            Settled::NotYet => Last::Other,
-        };
-    }
-
-    pub fn leave(&mut self)
-        ensures { self.new ≡ said_leave self.old }
-    {
-        self.last = Last::Gone;
-    }
-
-    /// `settle` or `save`.
-    pub fn other(&mut self)
-        ensures { self.new ≡ said_other self.old }
-    {
-        self.last = Last::Other;
-    }
-
-    pub fn progress(&mut self, answer: Progress)
-        ensures { self.new ≡ said_progress answer self.old }
+    fn progress(&mut self, answer: &Progress)
+        ensures { self.new ≡ said_progress answer.now self.old }
     {
         self.last = if answer.done {
             Last::Ended

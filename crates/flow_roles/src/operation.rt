@@ -1,5 +1,8 @@
 //! The calls of a desk, as values.
 
+ghost use Rattle.std.specs.Prelude.{◌≡◌};
+ghost use Rattle.flow_roles.specs.Operations.{tick_of};
+
 use board_rules::{Done, Load, NotYours, Save, Settled, Take};
 use flow_journal::Progress;
 use nd_base::Held;
@@ -17,6 +20,18 @@ pub enum DeskOp<F> {
     Save { role: u32, node: u32 },
     Saved { role: u32, frame: F },
     Progress { role: u32 },
+}
+
+impl<F> DeskOp<F> {
+    /// What a load is handed, and 0 for any other call.
+    pub fn tick(&self) -> u64
+        ensures { result ≡ tick_of self.now }
+    {
+        match self {
+            DeskOp::Load { role: _, tick } => *tick,
+            _ => 0,
+        }
+    }
 }
 
 /// What the board answered to the call of this name.

@@ -3,7 +3,6 @@
 ghost use Rattle.std.specs.Prelude.{◌≡◌, None, false};
 
 use board_rules::Left;
-use edge_traits::Gate;
 use nd_base::Held;
 
 /// The end of a role: its pass, what it has of what was handed out for its hand, and whether memory was wanting.
@@ -16,9 +15,9 @@ pub struct RoleEnd<F: Held, P> {
 
 /// What a round of a role comes to.
 #[derive(Drop)]
-pub(crate) enum Round<F: Held> {
-    /// The role goes on, with nothing in hand.
-    Again,
+pub(crate) enum Round<F: Held, N> {
+    /// The role goes on, with what its last call answered.
+    Again(N),
     /// It has ended.
     End { left: Left<F>, want: bool },
 }
@@ -35,19 +34,11 @@ pub fn nothing<F: Held>() -> Left<F>
 }
 
 /// The end of a role that needs nothing more.
-pub(crate) fn ended<F: Held>() -> Round<F>
+pub(crate) fn ended<F: Held, N>() -> Round<F, N>
     ensures { result ≡ Round.End (record { input = None; made = None; blank = None }) false }
 {
     Round::End {
         left: nothing(),
         want: false,
     }
-}
-
-/// Waits, and then the role goes on.
-pub(crate) fn wait<F: Held, G: Gate>(gate: &G) -> Round<F>
-    ensures { result ≡ Round.Again }
-{
-    gate.idle();
-    Round::Again
 }

@@ -1,22 +1,18 @@
 //! A board that roles share under the turn lock.
 
 ghost use Rattle.std.specs.Prelude.{◌≡◌, ℕ, ◌<◌, ◌≤◌, true, [], reverse, All, Any, Some, slice_get, map, length, vec_len, IfOk};
-ghost use Rattle.flow_journal.specs.Setting.{last_role};
 ghost use Rattle.flow_journal.specs.Histories.{is_history};
-ghost use Rattle.board_rules.specs.States.{past};
+ghost use Rattle.board_rules.specs.States.{BoardState, past};
 ghost use Rattle.board_rules.specs.Movers.{moves_by};
 ghost use Rattle.board_rules.specs.Storage.{HasAllStorage};
 ghost use Rattle.board_rules.specs.RunMeasures.{run_setting, run_measure};
-ghost use Rattle.board_rules.specs.Working.{IsAtNode, MayPut, PutGives};
-ghost use Rattle.flow_roles.specs.Lasts.{fresh_said, said_given};
-ghost use Rattle.flow_roles.specs.declared.last.Said.{Said};
-ghost use Rattle.flow_roles.specs.Passes.{Called, only_drain_saves};
-ghost use Rattle.flow_roles.specs.Operations.{frames_of, role_of, MayPlay, Replies, Lends};
+ghost use Rattle.flow_roles.specs.Lasts.{fresh_said};
+ghost use Rattle.flow_roles.specs.Passes.{Called, CalledBoth, only_drain_saves};
+ghost use Rattle.flow_roles.specs.Operations.{frames_of, role_of, tick_of, MayPlay, Replies, Lends, said_reply};
 ghost use Rattle.flow_roles.specs.TurnPasses.{role_in, moves_in, known_by, IsPassOf, IsFreshOf, IsPassWithin, HasMade};
 
 use crate::{Desk, DeskOp, DeskReply, Last, Played, Said};
-use board_rules::{BoardCalls, Done, Load, NotYours, Save, Settled, Take};
-use flow_journal::Progress;
+use board_rules::BoardCalls;
 use nd_base::{Held, OutOfMemory};
 use std::alloc::{AllocError, Global};
 use std::sync::Wait;
@@ -29,28 +25,7 @@ pub struct TurnPass<F: Held, B: BoardCalls<F>> {
     pub said: Said,
 }
 
-/// One call of the board, in the role's turn.
-fn make<F: Held, B: BoardCalls<F>, W: Wait>(
-    desk: &TurnLock<Played<F, B>>,
-    rt: &W,
-    alloc: Global,
-    pass: &mut Pass<Played<F, B>>,
-    op: DeskOp<F>,
-) -> DeskReply<F>
-    requires ours { IsPassOf desk.now.id pass.old }
-    requires role { role_in pass.old.made ≡ role_of op }
-    requires may { MayPlay (frames_of F.name_of F.parts F.bytes_of (run_measure F.Of.graph F.Of.stack)) (run_setting F.Of.graph F.Of.stack)
-        (reverse (moves_in pass.old.made)) op }
-    ensures ours { IsPassOf desk.now.id pass.new }
-    ensures called { (before : Said) (answers : Said → Said) → Called (run_setting F.Of.graph F.Of.stack)
-        (λ old new. Replies (frames_of F.name_of F.parts F.bytes_of (run_measure F.Of.graph F.Of.stack)) (run_setting F.Of.graph F.Of.stack) old op result new)
-        answers (known_by pass.old before) (known_by pass.new (answers before)) }
-    ensures lends { Lends (frames_of F.name_of F.parts F.bytes_of (run_measure F.Of.graph F.Of.stack)) (run_setting F.Of.graph F.Of.stack) op result
-        (reverse (moves_in pass.new.made)) }
-{
-    desk.call(rt, alloc, pass, op)
-}
-
+/// Each call is one call of the board, in a turn of the role.
 impl<F: Held, B: BoardCalls<F>> Desk<F> for TurnLock<Played<F, B>> {
     type Pass = TurnPass<F, B>;
 
@@ -58,208 +33,60 @@ impl<F: Held, B: BoardCalls<F>> Desk<F> for TurnLock<Played<F, B>> {
 
     ghost knows = { λ p. known_by p.inner p.said };
 
-    fn load<W: Wait>(
+    fn call<W: Wait>(
         &self,
         rt: &W,
         alloc: Global,
         pass: &mut TurnPass<F, B>,
-        role: u32,
-        tick: u64,
-    ) -> Load<F::Blank> {
-        match make(
-            self,
-            rt,
-            alloc,
-            &mut pass.inner,
-            DeskOp::Load { role, tick },
-        ) {
-            DeskReply::Load(answer) => {
-                pass.said.load(&answer, tick);
-                answer
-            }
-            _ => unreachable!(),
-        }
-    }
-
-    fn issue<W: Wait>(
-        &self,
-        rt: &W,
-        alloc: Global,
-        pass: &mut TurnPass<F, B>,
-        role: u32,
-        frame: F,
-    ) -> Result<(), NotYours<F>> {
-        match make(
-            self,
-            rt,
-            alloc,
-            &mut pass.inner,
-            DeskOp::Issue { role, frame },
-        ) {
-            DeskReply::Issue(answer) => {
-                pass.said.given(&answer);
-                answer
-            }
-            _ => unreachable!(),
-        }
-    }
-
-    fn take<W: Wait>(
-        &self,
-        rt: &W,
-        alloc: Global,
-        pass: &mut TurnPass<F, B>,
-        role: u32,
-        node: u32,
-    ) -> Take<F> {
-        match make(
-            self,
-            rt,
-            alloc,
-            &mut pass.inner,
-            DeskOp::Take { role, node },
-        ) {
-            DeskReply::Take(answer) => {
-                pass.said.take(&answer);
-                answer
-            }
-            _ => unreachable!(),
-        }
-    }
-
-    fn put<W: Wait>(
-        &self,
-        rt: &W,
-        alloc: Global,
-        pass: &mut TurnPass<F, B>,
-        role: u32,
-        done: Done<F>,
-    ) -> Result<(), NotYours<F>>
-        requires pass { IsPassOf self.now.id pass.old.inner × ((known_by pass.old.inner pass.old.said).role ≡ role) }
-        requires role { role < last_role (run_setting F.Of.graph F.Of.stack) }
-        requires node { IsAtNode (run_setting F.Of.graph F.Of.stack) done }
-        requires of_job { MayPut F.name_of F.parts (run_measure F.Of.graph F.Of.stack) (run_setting F.Of.graph F.Of.stack)
-            (known_by pass.old.inner pass.old.said).made role done }
+        op: DeskOp<F>,
+    ) -> DeskReply<F>
+        requires pass { IsPassOf self.now.id pass.old.inner × ((known_by pass.old.inner pass.old.said).role ≡ role_of op) }
+        requires may { MayPlay (frames_of F.name_of F.parts F.bytes_of (run_measure F.Of.graph F.Of.stack)) (run_setting F.Of.graph F.Of.stack)
+            (known_by pass.old.inner pass.old.said).made op }
         ensures ours { IsPassOf self.now.id pass.new.inner }
         ensures called { Called (run_setting F.Of.graph F.Of.stack)
-            (λ old new. PutGives F.name_of (run_setting F.Of.graph F.Of.stack) old role done result new)
-            (said_given result) (known_by pass.old.inner pass.old.said) (known_by pass.new.inner pass.new.said) }
+            (λ old new. Replies (frames_of F.name_of F.parts F.bytes_of (run_measure F.Of.graph F.Of.stack)) (run_setting F.Of.graph F.Of.stack)
+            old op result new)
+            (said_reply (tick_of op) result) (known_by pass.old.inner pass.old.said) (known_by pass.new.inner pass.new.said) }
+        ensures lends { Lends (frames_of F.name_of F.parts F.bytes_of (run_measure F.Of.graph F.Of.stack)) (run_setting F.Of.graph F.Of.stack) op result
+            (known_by pass.new.inner pass.new.said).made }
     {
-        match make(self, rt, alloc, &mut pass.inner, DeskOp::Put { role, done }) {
-            DeskReply::Put(answer) => {
-                pass.said.given(&answer);
-                answer
-            }
-            _ => unreachable!(),
-        }
+        let tick = op.tick();
+        let reply = self.call(rt, alloc, &mut pass.inner, op);
+        pass.said.note(tick, &reply);
+        reply
     }
 
-    fn settle<W: Wait>(
+    fn call_both<W: Wait>(
         &self,
         rt: &W,
         alloc: Global,
         pass: &mut TurnPass<F, B>,
-        role: u32,
-        node: u32,
-    ) -> Settled {
-        match make(
-            self,
-            rt,
-            alloc,
-            &mut pass.inner,
-            DeskOp::Settle { role, node },
-        ) {
-            DeskReply::Settle(answer) => {
-                pass.said.other();
-                answer
-            }
-            _ => unreachable!(),
-        }
-    }
-
-    fn close<W: Wait>(
-        &self,
-        rt: &W,
-        alloc: Global,
-        pass: &mut TurnPass<F, B>,
-        role: u32,
-    ) -> Settled {
-        match make(self, rt, alloc, &mut pass.inner, DeskOp::Close { role }) {
-            DeskReply::Close(answer) => {
-                pass.said.close(answer);
-                answer
-            }
-            _ => unreachable!(),
-        }
-    }
-
-    fn leave<W: Wait>(&self, rt: &W, alloc: Global, pass: &mut TurnPass<F, B>, role: u32) {
-        match make(self, rt, alloc, &mut pass.inner, DeskOp::Leave { role }) {
-            DeskReply::Leave => pass.said.leave(),
-            _ => unreachable!(),
-        }
-    }
-
-    fn save<W: Wait>(
-        &self,
-        rt: &W,
-        alloc: Global,
-        pass: &mut TurnPass<F, B>,
-        role: u32,
-        node: u32,
-    ) -> Save<F> {
-        match make(
-            self,
-            rt,
-            alloc,
-            &mut pass.inner,
-            DeskOp::Save { role, node },
-        ) {
-            DeskReply::Save(answer) => {
-                pass.said.other();
-                answer
-            }
-            _ => unreachable!(),
-        }
-    }
-
-    fn saved<W: Wait>(
-        &self,
-        rt: &W,
-        alloc: Global,
-        pass: &mut TurnPass<F, B>,
-        role: u32,
-        frame: F,
-    ) -> Result<(), NotYours<F>> {
-        match make(
-            self,
-            rt,
-            alloc,
-            &mut pass.inner,
-            DeskOp::Saved { role, frame },
-        ) {
-            DeskReply::Saved(answer) => {
-                pass.said.given(&answer);
-                answer
-            }
-            _ => unreachable!(),
-        }
-    }
-
-    fn progress<W: Wait>(
-        &self,
-        rt: &W,
-        alloc: Global,
-        pass: &mut TurnPass<F, B>,
-        role: u32,
-    ) -> Progress {
-        match make(self, rt, alloc, &mut pass.inner, DeskOp::Progress { role }) {
-            DeskReply::Progress(answer) => {
-                pass.said.progress(answer);
-                answer
-            }
-            _ => unreachable!(),
-        }
+        first: DeskOp<F>,
+        second: DeskOp<F>,
+    ) -> (DeskReply<F>, DeskReply<F>)
+        requires pass { IsPassOf self.now.id pass.old.inner × ((known_by pass.old.inner pass.old.said).role ≡ role_of first)
+            × ((known_by pass.old.inner pass.old.said).role ≡ role_of second) }
+        requires first { MayPlay (frames_of F.name_of F.parts F.bytes_of (run_measure F.Of.graph F.Of.stack)) (run_setting F.Of.graph F.Of.stack)
+            (known_by pass.old.inner pass.old.said).made first }
+        requires second { (made : BoardState) → MayPlay (frames_of F.name_of F.parts F.bytes_of (run_measure F.Of.graph F.Of.stack))
+            (run_setting F.Of.graph F.Of.stack) made second }
+        ensures ours { IsPassOf self.now.id pass.new.inner }
+        ensures called { CalledBoth (run_setting F.Of.graph F.Of.stack)
+            (λ old new. Replies (frames_of F.name_of F.parts F.bytes_of (run_measure F.Of.graph F.Of.stack)) (run_setting F.Of.graph F.Of.stack)
+            old first result.0 new)
+            (λ old new. Replies (frames_of F.name_of F.parts F.bytes_of (run_measure F.Of.graph F.Of.stack)) (run_setting F.Of.graph F.Of.stack)
+            old second result.1 new)
+            (said_reply (tick_of first) result.0) (said_reply (tick_of second) result.1)
+            (known_by pass.old.inner pass.old.said) (known_by pass.new.inner pass.new.said) }
+        ensures lends { Lends (frames_of F.name_of F.parts F.bytes_of (run_measure F.Of.graph F.Of.stack)) (run_setting F.Of.graph F.Of.stack) second result.1
+            (known_by pass.new.inner pass.new.said).made }
+    {
+        let ticks = (first.tick(), second.tick());
+        let (one, two) = self.call_both(rt, alloc, &mut pass.inner, first, second);
+        pass.said.note(ticks.0, &one);
+        pass.said.note(ticks.1, &two);
+        (one, two)
     }
 }
 

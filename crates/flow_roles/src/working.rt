@@ -15,7 +15,7 @@ ghost use Rattle.flow_roles.specs.Passes.{Called};
 ghost use Rattle.flow_roles.specs.RoleMoves.{worker_logs, IsFresh, HasNothing};
 ghost use Rattle.flow_roles.specs.RoleEnds.{worker_ends, HasGone, MayComeBack};
 ghost use Rattle.flow_roles.specs.Feeder.{name_of, parts_of};
-ghost use Rattle.flow_roles.specs.Worker.{HasJob};
+ghost use Rattle.flow_roles.specs.Worker.{HasJob, HasAskedTake};
 
 use crate::job::result_of;
 use crate::measuring::{Crew, has_spare};
@@ -29,7 +29,7 @@ use std::alloc::Global;
 use std::sync::Wait;
 use std::thread::Threads;
 
-/// Works on a job and puts its result.
+/// Works on a job, puts its result, and takes the next array.
 fn work_on<R: Run, D: Desk<Frame<R>>, G: Gate, W: Threads + Wait + Sync>(
     crew: &Crew<'_, W>,
     alloc: Global,
@@ -42,7 +42,7 @@ fn work_on<R: Run, D: Desk<Frame<R>>, G: Gate, W: Threads + Wait + Sync>(
     gate: &G,
     input: Frame<R>,
     blank: Option<Blank>,
-) -> Round<Frame<R>>
+) -> Round<Frame<R>, Take<Frame<R>>>
     requires ours { D.ours desk.now pass.old }
     requires role { role < last_role (run_setting R.graph R.stack) }
     requires plan { plan.now ≡ plan_of R.graph R.stack }
@@ -52,7 +52,8 @@ fn work_on<R: Run, D: Desk<Frame<R>>, G: Gate, W: Threads + Wait + Sync>(
     requires job { HasJob R.graph R.stack role node input blank (D.knows pass.old) }
     requires active { IsActive (D.knows pass.old).said }
     ensures ours { D.ours desk.now pass.new }
-    ensures gone { HasGone name_of parts_of length (worker_logs node) (worker_ends node) role (D.knows pass.new) result }
+    ensures gone { HasGone name_of parts_of length (HasAskedTake (run_setting R.graph R.stack) role node) (worker_logs node) (worker_ends node) role
+        (D.knows pass.new) result }
     ensures owned { (D.knows pass.old).said.owned ≡ true → (D.knows pass.new).said.owned ≡ true }
 {
     let index = input.name().index;
@@ -61,10 +62,9 @@ fn work_on<R: Run, D: Desk<Frame<R>>, G: Gate, W: Threads + Wait + Sync>(
     gate.after(node, index);
     match result {
         Ok(done) => {
-            let Ok(()) = desk.put(crew.rt, alloc, pass, role, done) else {
-                unreachable!()
-            };
-            Round::Again
+            let (put, next) = desk.put_take(crew.rt, alloc, pass, role, done, node);
+            let Ok(()) = put else { unreachable!() };
+            Round::Again(next)
         }
         Err(left) => {
             desk.leave(crew.rt, alloc, pass, role);
@@ -99,7 +99,7 @@ fn settle_or_wait<R: Run, D: Desk<Frame<R>>, G: Gate, W: Wait>(
     answer
 }
 
-/// One take, and what it asks for.
+/// What a take asks for, and the next take.
 fn work_round<R: Run, D: Desk<Frame<R>>, G: Gate, W: Threads + Wait + Sync>(
     crew: &Crew<'_, W>,
     alloc: Global,
@@ -110,28 +110,29 @@ fn work_round<R: Run, D: Desk<Frame<R>>, G: Gate, W: Threads + Wait + Sync>(
     plan: &Plan,
     stack: &Stack,
     gate: &G,
-) -> Round<Frame<R>>
+    answer: Take<Frame<R>>,
+) -> Round<Frame<R>, Take<Frame<R>>>
     requires ours { D.ours desk.now pass.old }
     requires role { role < last_role (run_setting R.graph R.stack) }
     requires plan { plan.now ≡ plan_of R.graph R.stack }
     requires graph { IsGraph R.graph }
     requires stack { stack.now ≡ R.stack }
     requires node { IsTrue (is_node (run_setting R.graph R.stack) node) }
-    requires nothing { HasNothing (worker_logs node) role (D.knows pass.old) }
-    requires active { IsActive (D.knows pass.old).said }
+    requires asked { HasAskedTake (run_setting R.graph R.stack) role node answer (D.knows pass.old) }
     ensures ours { D.ours desk.now pass.new }
-    ensures gone { HasGone name_of parts_of length (worker_logs node) (worker_ends node) role (D.knows pass.new) result }
+    ensures gone { HasGone name_of parts_of length (HasAskedTake (run_setting R.graph R.stack) role node) (worker_logs node) (worker_ends node) role
+        (D.knows pass.new) result }
     ensures owned { (D.knows pass.old).said.owned ≡ true → (D.knows pass.new).said.owned ≡ true }
 {
-    match desk.take(crew.rt, alloc, pass, role, node) {
+    match answer {
         Take::Left => ended(),
         Take::Ended => ended(),
         Take::Busy => unreachable!(),
         Take::Idle => {
             settle_or_wait::<R, D, G, W>(crew.rt, alloc, desk, pass, role, node, gate);
-            Round::Again
+            Round::Again(desk.take(crew.rt, alloc, pass, role, node))
         }
-        Take::PoolDrop { .. } => Round::Again,
+        Take::PoolDrop { .. } => Round::Again(desk.take(crew.rt, alloc, pass, role, node)),
         Take::OutOfMemory => {
             desk.leave(crew.rt, alloc, pass, role);
             Round::End {
@@ -149,8 +150,8 @@ fn work_round<R: Run, D: Desk<Frame<R>>, G: Gate, W: Threads + Wait + Sync>(
     }
 }
 
-/// Works at a node: takes the next array of its queue, makes, measures or judges it outside the lock and puts the result, until
-/// the node is settled, another role has left, or memory is wanting. Where nothing is queued, it tries to settle the node.
+/// Works at a node: takes the next array of its queue, makes, measures or judges it outside the lock, and puts the result together
+/// with the next take, until the node is settled, another role has left, or memory is wanting. Where nothing is queued, it tries to settle the node.
 pub fn work_role<R: Run, D: Desk<Frame<R>>, G: Gate, W: Threads + Wait + Sync>(
     rt: &W,
     alloc: Global,
@@ -184,9 +185,12 @@ pub fn work_role<R: Run, D: Desk<Frame<R>>, G: Gate, W: Threads + Wait + Sync>(
         spare: has_spare(rt, plan),
     };
     let mut pass = pass;
+    let mut answer = desk.take(rt, alloc, &mut pass, role, node);
     for _ in rt.forever() {
-        match work_round(&crew, alloc, desk, &mut pass, role, node, plan, stack, gate) {
-            Round::Again => {}
+        match work_round(
+            &crew, alloc, desk, &mut pass, role, node, plan, stack, gate, answer,
+        ) {
+            Round::Again(next) => answer = next,
             Round::End { left, want } => return RoleEnd { pass, left, want },
         }
     }
