@@ -1,6 +1,6 @@
 -- The file of a stack: what stands on the shelf once it is written, and where it was begun.
 use Rattle.std.specs.Prelude.{◌≡◌, ◌≢◌, ℕ, ◌≤◌, ◌==◌, false, Err, All, List, [], ◌∷◌, length, Option, None, Some, is_some, refl}
-use Rattle.std.proofs.Common.{ap, ◌∙◌, arith}
+use Rattle.std.proofs.Common.{ap, ◌∙◌, arith, inl}
 use Rattle.std.proofs.lemmas.Bool.Decides.{nat_tests}
 use Rattle.std.proofs.lemmas.List.Elements.{All-nil, All-cons, All-head}
 use Rattle.nd_base.specs.Array.{Array}
@@ -74,7 +74,7 @@ written t name shape (a ∷ arrays) =
 
 pub stops-one : (fault : SaveFault) (t u : Option Files) (name bytes : List ℕ) (before now : ℕ) → IsBegun t name bytes u
     → begun.IsSaveCause {T = Unit {0}} (Err fault) before now → SaveStops (save_fault_status fault) t (file_of name bytes ∷ []) None u before now
-stops-one saving.Failed t u name bytes before now h cause = (interrupted-one t u name bytes h, cause)
+stops-one saving.Failed t u name bytes before now h cause = (inl (interrupted-one t u name bytes h), cause)
 stops-one saving.OutOfMemory t u name bytes before now h cause = (interrupted-one t u name bytes h, cause)
 
 pub stops : (fault : SaveFault) (t u : Option Files) (name : List ℕ) (shape : FileShape) (arrays : List Array) (before now : ℕ) → 1 ≤ length arrays

@@ -32,7 +32,7 @@ module _ (command : Command) (o : Objects) where
     -- writing the files
     pub Ends-save : (status : Status) (before after : ℕ) → SaveStops status o.shelf_before work.files work.run o.shelf_after before after
         → o.sink_after ≡ o.sink_before → Ends status (Some command) o
-    Ends-save ShelfFault before after stops still = record { work = work; read = read; begun = inl stops.0; unprinted = still }
+    Ends-save ShelfFault before after stops still = record { work = work; read = read; begun = stops.0; unprinted = still }
     Ends-save OutOfMemory before after stops still = ((λ e. cc), inr (record { work = work; read = read; begun = inl stops.0; unprinted = still }))
     Ends-save Done before after stops still = absurd stops
     Ends-save Usage before after stops still = absurd stops

@@ -1,5 +1,5 @@
 -- Why each stage of a command stopped, and what it left.
-use Rattle.std.specs.Prelude.{◌≡◌, ℕ, List, Option, Some}
+use Rattle.std.specs.Prelude.{◌≡◌, ◌⊎◌, ℕ, List, Option, Some}
 use Rattle.nd_base.specs.Array.{StackValue}
 use Rattle.nd_base.specs.declared.graph.Graph.{Graph}
 use Rattle.edge_traits.specs.Faults.{Rose}
@@ -17,7 +17,7 @@ use Rattle.tool_commands.specs.declared.reading.ReadRefusal.TheVariants as readi
 use Rattle.tool_commands.specs.declared.status.Status.{Status}
 use Rattle.tool_commands.specs.declared.status.Status.TheVariants.{Done, Usage, GraphText, GraphRule, StackBytes, Limit, Sizes, ReadFault, ShelfFault, OutFault}
 use Rattle.tool_commands.specs.declared.status.Status.TheVariants.{OutOfMemory}
-use Rattle.graph_files.specs.OutFiles.{OutFile}
+use Rattle.graph_files.specs.OutFiles.{OutFile, with_files}
 use Rattle.tool_commands.specs.Left.{PlainRun, AreLeft}
 use Rattle.tool_commands.specs.Printed.{IsCutShort}
 
@@ -67,9 +67,9 @@ PlanStops (Limit fault) g s = limit_fault g s ≡ Some fault
 PlanStops OutOfMemory g s = Unit {0}
 PlanStops _ g s = ⊥
 
--- writing the files
+-- writing the files, where the shelf may fail at last once all are whole
 abbrev pub SaveStops : Status → (held : Option Files) → List OutFile → Option PlainRun → (now : Option Files) → (before after : ℕ) → Type 0
-SaveStops ShelfFault held files run now before after = AreLeft held files run now × Rose before after
+SaveStops ShelfFault held files run now before after = (AreLeft held files run now ⊎ (now ≡ with_files held files)) × Rose before after
 SaveStops OutOfMemory held files run now before after = AreLeft held files run now × (after ≡ before)
 SaveStops _ held files run now before after = ⊥
 
@@ -78,3 +78,9 @@ abbrev pub PrintStops : Status → (written : Option (List ℕ)) → (print : Li
 PrintStops OutFault written print now before after = IsCutShort written print now × Rose before after
 PrintStops OutOfMemory written print now before after = (now ≡ written) × (after ≡ before)
 PrintStops _ written print now before after = ⊥
+
+-- the statuses with which all files were written
+abbrev pub WritesAll : Status → Type 0
+WritesAll Done = Unit {0}
+WritesAll OutFault = Unit {0}
+WritesAll _ = ⊥

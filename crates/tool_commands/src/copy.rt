@@ -2,6 +2,7 @@
 
 ghost use Rattle.std.specs.Prelude.{◌≡◌, Some, IfOk};
 ghost use Rattle.tool_commands.specs.Answers.{objects_of, Ends, status_of};
+ghost use Rattle.tool_commands.specs.Stages.{WritesAll};
 ghost use Rattle.tool_commands.specs.Causes.{IsCause};
 ghost use Rattle.tool_commands.specs.Command.{Copy};
 ghost use Rattle.tool_commands.specs.Copy.{copy_graph};
@@ -55,6 +56,7 @@ pub(crate) fn copy<L: Library, K: Shelf, T: Sink>(
         (record { library = L.faults library.new; shelf = K.faults shelf.new; sink = T.faults out.new }) }
     ensures unread { IfUnread (status_of result)
         (FailsIn (L.holds library.old) (L.faults_at library.old) (L.faults_at library.new) (outcome_of (Some (Copy name.now prefix.now)))) }
+    ensures finished { WritesAll (status_of result) → K.all_finished shelf.old → K.all_finished shelf.new }
     ensures library { L.holds library.new ≡ L.holds library.old }
 {
     let stack = load_stack(alloc, library, name)?;

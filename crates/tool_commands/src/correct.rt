@@ -8,7 +8,7 @@ ghost use Rattle.tool_commands.specs.Answers.{objects_of, Ends, status_of};
 ghost use Rattle.tool_commands.specs.Causes.{IsCause};
 ghost use Rattle.tool_commands.specs.Command.{Correct};
 ghost use Rattle.tool_commands.specs.Inputs.{AsStack, IsReadAs, IsRefusedAs, most_stack_bytes};
-ghost use Rattle.tool_commands.specs.Stages.{ReadStops};
+ghost use Rattle.tool_commands.specs.Stages.{ReadStops, WritesAll};
 ghost use Rattle.tool_commands.specs.Unread.{NoneFailed, FailedAt, FailsIn, IfUnread};
 ghost use Rattle.tool_commands.specs.Works.{same_sizes, outcome_of};
 ghost use Rattle.tool_commands.specs.declared.status.Status.TheVariants as statuses;
@@ -87,6 +87,7 @@ pub(crate) fn correct<L: Library, K: Shelf, T: Sink>(
         (record { library = L.faults library.new; shelf = K.faults shelf.new; sink = T.faults out.new }) }
     ensures unread { IfUnread (status_of result)
         (FailsIn (L.holds library.old) (L.faults_at library.old) (L.faults_at library.new) (outcome_of (Some (Correct rule.now dark.now stack.now name.now)))) }
+    ensures finished { WritesAll (status_of result) → K.all_finished shelf.old → K.all_finished shelf.new }
     ensures library { L.holds library.new ≡ L.holds library.old }
 {
     let dark = load_dark(alloc, library, dark)?;

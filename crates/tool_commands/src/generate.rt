@@ -5,6 +5,7 @@ ghost use Rattle.edge_traits.specs.Files.{Files};
 ghost use Rattle.nd_stack.specs.Generated.{gen_fault};
 ghost use Rattle.nd_stack.specs.declared.generated.GenFault.TheVariants as faults;
 ghost use Rattle.tool_commands.specs.Answers.{objects_of, Ends, status_of};
+ghost use Rattle.tool_commands.specs.Stages.{WritesAll};
 ghost use Rattle.tool_commands.specs.Causes.{IsCause};
 ghost use Rattle.tool_commands.specs.Command.{Gen};
 
@@ -28,6 +29,7 @@ pub(crate) fn generate<K: Shelf>(
         → Ends (status_of result) (Some (Gen rule name.now)) (objects_of told (K.held shelf.old) (K.held shelf.new) sink sink) }
     ensures cause { (library sink : ℕ) → IsCause (status_of result) (record { library = library; shelf = K.faults shelf.old; sink = sink })
         (record { library = library; shelf = K.faults shelf.new; sink = sink }) }
+    ensures finished { WritesAll (status_of result) → K.all_finished shelf.old → K.all_finished shelf.new }
 {
     let stack = match gen_stack(
         alloc,

@@ -20,7 +20,7 @@ mod words;
 
 pub use graph_conf::LimitFault;
 pub use laws::{copies_are_one_file, plain_runs_go_by_inputs, works_are_of_what_was_read};
-pub use printing::{print, save_text};
+pub use printing::{finish_all, print, save_text};
 pub use reading::{ReadRefusal, read_file};
 pub use sources::load_sources;
 pub use status::{Status, status_of, status_text};

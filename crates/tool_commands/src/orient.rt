@@ -2,6 +2,7 @@
 
 ghost use Rattle.std.specs.Prelude.{◌≡◌, ◌<◌, Some};
 ghost use Rattle.tool_commands.specs.Answers.{objects_of, Ends, status_of};
+ghost use Rattle.tool_commands.specs.Stages.{WritesAll};
 ghost use Rattle.tool_commands.specs.Causes.{IsCause};
 ghost use Rattle.tool_commands.specs.Command.{Orient};
 ghost use Rattle.tool_commands.specs.Unread.{FailsIn, IfUnread};
@@ -32,6 +33,7 @@ pub(crate) fn orient<L: Library, K: Shelf, T: Sink>(
         (record { library = L.faults library.new; shelf = K.faults shelf.new; sink = T.faults out.new }) }
     ensures unread { IfUnread (status_of result)
         (FailsIn (L.holds library.old) (L.faults_at library.old) (L.faults_at library.new) (outcome_of (Some (Orient mode stack.now name.now)))) }
+    ensures finished { WritesAll (status_of result) → K.all_finished shelf.old → K.all_finished shelf.new }
     ensures library { L.holds library.new ≡ L.holds library.old }
 {
     let stack = load_stack(alloc, library, stack)?;

@@ -11,11 +11,11 @@ ghost use Rattle.tool_commands.specs.Causes.{IsCause};
 ghost use Rattle.tool_commands.specs.Command.{Plain};
 ghost use Rattle.graph_files.specs.OutFiles.{plain_files, with_files};
 ghost use Rattle.tool_commands.specs.PlainText.{plain_text};
-ghost use Rattle.tool_commands.specs.Stages.{SaveStops, PrintStops};
+ghost use Rattle.tool_commands.specs.Stages.{SaveStops, PrintStops, WritesAll};
 ghost use Rattle.tool_commands.specs.Unread.{FailsIn, IfUnread};
 ghost use Rattle.tool_commands.specs.Works.{outcome_of};
 
-use crate::printing::print;
+use crate::printing::{finish_all, print};
 use crate::prints::plain_text;
 use crate::sources::load_sources;
 use crate::status::Status;
@@ -37,11 +37,13 @@ pub(crate) fn save_plain<K: Shelf>(
     requires kept { IsKeptStack stack.now }
     requires within { limit_fault plan.now.graph stack.now ≡ None }
     ensures ok { OnOk result (K.held shelf.new ≡ with_files (K.held shelf.old) (plain_files plan.now.graph stack.now prefix.now)) }
+    ensures finished { OnOk result (K.all_finished shelf.new) }
     ensures stays { OnOk result (K.faults shelf.new ≡ K.faults shelf.old) }
     ensures err { IfErr result (λ s. SaveStops s (K.held shelf.old) (plain_files plan.now.graph stack.now prefix.now)
         (Some (record { graph = plan.now.graph; stack = stack.now; prefix = prefix.now })) (K.held shelf.new) (K.faults shelf.old) (K.faults shelf.new)) }
 {
-    Ok(save_files(alloc, shelf, prefix, plan, stack)?)
+    save_files(alloc, shelf, prefix, plan, stack)?;
+    finish_all(shelf)
 }
 
 /// Prints how many frames there are, and how many arrays went out of each node.
@@ -77,6 +79,7 @@ pub(crate) fn plain<L: Library, K: Shelf, T: Sink>(
         (record { library = L.faults library.new; shelf = K.faults shelf.new; sink = T.faults out.new }) }
     ensures unread { IfUnread (status_of result)
         (FailsIn (L.holds library.old) (L.faults_at library.old) (L.faults_at library.new) (outcome_of (Some (Plain graph.now name.now prefix.now)))) }
+    ensures finished { WritesAll (status_of result) → K.all_finished shelf.old → K.all_finished shelf.new }
     ensures library { L.holds library.new ≡ L.holds library.old }
 {
     let (plan, stack) = load_sources(alloc, library, graph, name)?;

@@ -1,7 +1,7 @@
 //! Writing a text to a sink, and to a file.
 
 ghost use Rattle.std.specs.Prelude.{◌≡◌, IfErr, OnOk, OnErr};
-ghost use Rattle.edge_traits.specs.Faults.{Counts};
+ghost use Rattle.edge_traits.specs.Faults.{Counts, Rose};
 ghost use Rattle.edge_traits.specs.Files.{with_file};
 ghost use Rattle.edge_traits.specs.Written.{with_written};
 ghost use Rattle.file_out.specs.Saving.{IsBegun, IsSaveCause};
@@ -37,14 +37,29 @@ pub fn print<T: Sink>(out: &mut T, text: &str) -> Result<(), Status>
     }
 }
 
-/// Writes a text under a name.
+/// Ends the writing of all names that were begun.
+pub fn finish_all<K: Shelf>(shelf: &mut K) -> Result<(), Status>
+    ensures files { K.held shelf.new ≡ K.held shelf.old }
+    ensures finished { OnOk result (K.all_finished shelf.new) }
+    ensures stays { OnOk result (K.faults shelf.new ≡ K.faults shelf.old) }
+    ensures err { IfErr result (λ s. (s ≡ Status.ShelfFault) × Rose (K.faults shelf.old) (K.faults shelf.new)) }
+{
+    match shelf.finish_all() {
+        Ok(()) => Ok(()),
+        Err(Failed) => Err(Status::ShelfFault),
+    }
+}
+
+/// Writes a text under a name, and ends the writing of all names that were begun.
 pub fn save_text<K: Shelf>(shelf: &mut K, name: &str, text: &str) -> Result<(), SaveFault>
     ensures ok { OnOk result (K.held shelf.new ≡ with_file (K.held shelf.old) name.now text.now) }
     ensures err { OnErr result (IsBegun (K.held shelf.old) name.now text.now (K.held shelf.new)) }
+    ensures finished { OnOk result (K.all_finished shelf.new) }
     ensures cause { IsSaveCause result (K.faults shelf.old) (K.faults shelf.new) }
 {
     shelf.create(name)?;
     shelf.append(name, text.as_bytes())?;
     shelf.finish(name)?;
+    shelf.finish_all()?;
     Ok(())
 }

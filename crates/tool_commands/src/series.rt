@@ -4,6 +4,7 @@ ghost use Rattle.std.specs.Prelude.{◌≡◌, [], unwrap_or, Some, IsSome};
 ghost use Rattle.nd_base.specs.GraphRules.{IsBetween};
 ghost use Rattle.nd_series.specs.Words.{regions_in};
 ghost use Rattle.tool_commands.specs.Answers.{objects_of, Ends, status_of};
+ghost use Rattle.tool_commands.specs.Stages.{WritesAll};
 ghost use Rattle.tool_commands.specs.Causes.{IsCause};
 ghost use Rattle.tool_commands.specs.Command.{Series};
 ghost use Rattle.tool_commands.specs.Unread.{FailsIn, IfUnread};
@@ -37,6 +38,7 @@ pub(crate) fn series<L: Library, K: Shelf, T: Sink>(
         (record { library = L.faults library.new; shelf = K.faults shelf.new; sink = T.faults out.new }) }
     ensures unread { IfUnread (status_of result)
         (FailsIn (L.holds library.old) (L.faults_at library.old) (L.faults_at library.new) (outcome_of (Some (Series most (unwrap_or (regions_in regions.now) []) stack.now name.now)))) }
+    ensures finished { WritesAll (status_of result) → K.all_finished shelf.old → K.all_finished shelf.new }
     ensures library { L.holds library.new ≡ L.holds library.old }
 {
     let stack = load_stack(alloc, library, stack)?;

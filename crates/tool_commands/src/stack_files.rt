@@ -10,7 +10,7 @@ ghost use Rattle.stack_file.specs.ChangedStacks.{changed_shape, changed_stack};
 ghost use Rattle.tool_commands.specs.Answers.{status_of};
 ghost use Rattle.tool_commands.specs.Causes.{IsCause};
 ghost use Rattle.tool_commands.specs.Printed.{frames_line};
-ghost use Rattle.tool_commands.specs.Stages.{PrintStops};
+ghost use Rattle.tool_commands.specs.Stages.{PrintStops, WritesAll};
 ghost use Rattle.tool_commands.specs.StackEnds.{EndsAs};
 ghost use Rattle.tool_commands.specs.StackFiles.{stack_limit};
 ghost use Rattle.tool_commands.specs.Works.{changed_outcome};
@@ -80,6 +80,7 @@ pub(crate) fn write_changed<K: Shelf, T: Sink, C: Change>(
         (K.held shelf.old) (K.held shelf.new) (T.written out.old) (T.written out.new) }
     ensures cause { (faults : ℕ) → IsCause (status_of result) (record { library = faults; shelf = K.faults shelf.old; sink = T.faults out.old })
         (record { library = faults; shelf = K.faults shelf.new; sink = T.faults out.new }) }
+    ensures finished { WritesAll (status_of result) → K.all_finished shelf.old → K.all_finished shelf.new }
 {
     let shape = shape_with(alloc, stack, dims)?;
     within_limit(&shape, stack.frames())?;

@@ -1,6 +1,7 @@
 //! The top call.
 
 ghost use Rattle.std.specs.Prelude.{◌≡◌, ◌⊎◌, ◌↔◌, map, None, Err, string_bytes};
+ghost use Rattle.tool_commands.specs.Stages.{WritesAll};
 ghost use Rattle.tool_commands.specs.Answers.{objects_of, Ends, status_of, IsRefusal, IsDone, IsWorkBegun, IsPrintCutShort};
 ghost use Rattle.tool_commands.specs.Causes.{IsCause};
 ghost use Rattle.tool_commands.specs.Claims.{Completes};
@@ -36,6 +37,7 @@ fn run_command<L: Library, K: Shelf, T: Sink>(
     ensures unread { IfUnread (status_of result)
         (FailsIn (L.holds library.old) (L.faults_at library.old) (L.faults_at library.new) (outcome_of (command_of (map string_bytes words.now)))) }
     ensures library { L.holds library.new ≡ L.holds library.old }
+    ensures finished { WritesAll (status_of result) → K.all_finished shelf.old → K.all_finished shelf.new }
 {
     match command_in(words) {
         Some(Command::Copy { stack, prefix }) => copy(alloc, stack, prefix, library, shelf, out),
@@ -86,6 +88,9 @@ pub fn tool_top<L: Library, K: Shelf, T: Sink>(
     // Done: what the command is there for, and nothing else.
     ensures done { result ≡ Status.Done → IsDone (outcome_of (command_of (map string_bytes words.now)))
         (objects_of (L.holds library.old) (K.held shelf.old) (K.held shelf.new) (T.written out.old) (T.written out.new)) }
+
+    // Where all files were written, all names are finished.
+    ensures finished { WritesAll result → K.all_finished shelf.old → K.all_finished shelf.new }
 
     // Refusals: exactly where the words are no command; and where the files that were read, in the command's order, lead to it.
     ensures usage { (result ≡ Status.Usage) ↔ (command_of (map string_bytes words.now) ≡ None) }

@@ -33,9 +33,20 @@ returns-in_err-finish-clause-err g c =
     ∙ with_more-with_file held name [] c.as_bytes.result.now ∙ ap (with_file held name) c.as_bytes.ensures.value in
     rw p.1 (IsBegun-whole held (g.K.Shelf.held c.finish.new.self) name c.args.text.now whole)
 
+pub returns-in_err-finish_all-clause-err : goal.returns-in_err-finish_all-clause-err
+returns-in_err-finish_all-clause-err g c =
+    let p = err_from_is_err_and c.from_residual-in_err-finish_all.result c.from_residual-in_err-finish_all.ensures.1 in
+    let held = g.K.Shelf.held c.args.shelf.now in
+    let name = c.args.name.now in
+    let whole : g.K.Shelf.held c.finish_all.new.self ≡ with_file held name c.args.text.now =
+    c.in_err-finish_all.ensures.files ∙ c.in_ok-finish.ensures.files ∙ c.in_ok-append.ensures.ok
+    ∙ ap (λ w. with_more w name c.as_bytes.result.now) c.in_ok-create.ensures.ok
+    ∙ with_more-with_file held name [] c.as_bytes.result.now ∙ ap (with_file held name) c.as_bytes.ensures.value in
+    rw p.1 (IsBegun-whole held (g.K.Shelf.held c.finish_all.new.self) name c.args.text.now whole)
+
 pub returns-clause-ok : goal.returns-clause-ok
 returns-clause-ok g c =
     let held = g.K.Shelf.held c.args.shelf.now in
     let name = c.args.name.now in
-    c.in_ok-finish.ensures.files ∙ c.in_ok-append.ensures.ok ∙ ap (λ w. with_more w name c.as_bytes.result.now) c.in_ok-create.ensures.ok
+    c.in_ok-finish_all.ensures.files ∙ c.in_ok-finish.ensures.files ∙ c.in_ok-append.ensures.ok ∙ ap (λ w. with_more w name c.as_bytes.result.now) c.in_ok-create.ensures.ok
     ∙ with_more-with_file held name [] c.as_bytes.result.now ∙ ap (with_file held name) c.as_bytes.ensures.value
