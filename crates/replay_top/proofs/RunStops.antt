@@ -41,9 +41,9 @@ use Rattle.replay_top.specs.MeasuredFiles.{measured_files}
 use Rattle.replay_top.specs.RunFiles.{IsRunName, later_files, HoldsFiles, HaveGroupsBack, AtGroups, AfterGroups}
 use Rattle.replay_top.specs.LogFiles.{log_files, IsReadable}
 use Rattle.replay_top.specs.RunSources.{run_sources, IsSourceRead}
-use Rattle.replay_top.specs.RunStages.{RestEnds, RestCause, WritesAll}
+use Rattle.replay_top.specs.RunStages.{LaterStops, RestEnds, RestCause}
 use Rattle.tool_commands.specs.Answers.{status_of}
-use Rattle.tool_commands.specs.Stages.{ReadStops, PrintStops}
+use Rattle.tool_commands.specs.Stages.{ReadStops, PrintStops, WritesAll}
 use Rattle.tool_commands.specs.Unread.{IfUnread}
 use Rattle.tool_commands.specs.Works.{Source}
 use Rattle.tool_commands.proofs.Unread.{no-fault}
@@ -100,6 +100,13 @@ module _ (c : RunCommand) (o : RunObjects) (g : Graph) (stack : StackValue)
       wanted (later-kept c g o.objects.shelf_before mid o.objects.shelf_after ms P kept rest.1) rest.2
 
 -- THE LAST STAGE
+
+-- all of these files were written, and the shelf failed then
+pub LaterStops-last : {X : Type 0} (r : Result X Status) (held now : Option Files) (files : List OutFile) (before after : ℕ) → now ≡ with_files held files
+    → IfErr r (λ s. (s ≡ ShelfFault) × Rose before after) → IfErr r (λ s. LaterStops s held files now before after)
+LaterStops-last (Ok x) held now files before after all fails = tt
+LaterStops-last (Err s) held now files before after all fails =
+    subst (λ (x : Status). LaterStops x held files now before after) (sym fails.0) (begun-all held now files all, fails.1)
 
 module _ (files : List OutFile) (print : List ℕ) (held now : Option Files) (written out : Option (List ℕ)) where
   print-stops : (s : Status) (fault : Bool) (before after : ℕ) → fault ≡ false → now ≡ with_files held files → PrintStops s written print out before after

@@ -33,9 +33,3 @@ RestCause OutFault fault shelf_before shelf_now sink_before sink_now = (shelf_no
 RestCause OutOfMemory fault shelf_before shelf_now sink_before sink_now = sink_now ≡ sink_before
 RestCause Done fault shelf_before shelf_now sink_before sink_now = (shelf_now ≡ shelf_before) × (sink_now ≡ sink_before)
 RestCause _ fault shelf_before shelf_now sink_before sink_now = ⊥
-
--- with these all files were written
-abbrev pub WritesAll : Status → Type 0
-WritesAll Done = Unit {0}
-WritesAll OutFault = Unit {0}
-WritesAll _ = ⊥

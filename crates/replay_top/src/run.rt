@@ -18,8 +18,8 @@ ghost use Rattle.replay_top.specs.DemoRuns.{IsDemoSteady};
 ghost use Rattle.replay_top.specs.RunSources.{sources_of};
 ghost use Rattle.replay_top.specs.LogFiles.{log_files};
 ghost use Rattle.replay_top.specs.RunWords.{run_told, source_told};
-ghost use Rattle.replay_top.specs.RunStages.{LaterStops, RestEnds, RestCause, WritesAll};
-ghost use Rattle.tool_commands.specs.Stages.{PrintStops};
+ghost use Rattle.replay_top.specs.RunStages.{LaterStops, RestEnds, RestCause};
+ghost use Rattle.tool_commands.specs.Stages.{PrintStops, WritesAll};
 
 use crate::exit::{Exit, unfinished};
 use crate::histories::run_plan;
@@ -38,9 +38,9 @@ use run_report::{counters, report_text};
 use std::alloc::Global;
 use std::sync::Wait;
 use std::thread::Threads;
-use tool_commands::{Status, print, status_of};
+use tool_commands::{Status, finish_all, print, status_of};
 
-/// Writes the rows of the statistics nodes, and the log's text where `logs` says so.
+/// Writes the rows of the statistics nodes, and the log's text where `logs` says so. All names are finished then.
 fn save_rest<K: Shelf>(
     alloc: Global,
     shelf: &mut K,
@@ -54,12 +54,13 @@ fn save_rest<K: Shelf>(
     ensures ok { OnOk result (K.held shelf.new ≡ with_files (K.held shelf.old)
         (measured_files prefix.now plan.now.graph.nodes history.now.measures ++ log_files logs prefix.now history.now.log.past)) }
     ensures fits { OnOk result (logs ≡ true → All Fits (reverse history.now.log.past)) }
+    ensures finished { OnOk result (K.all_finished shelf.new) }
     ensures stays { OnOk result (K.faults shelf.new ≡ K.faults shelf.old) }
     ensures err { IfErr result (λ s. LaterStops s (K.held shelf.old)
         (measured_files prefix.now plan.now.graph.nodes history.now.measures ++ log_files logs prefix.now history.now.log.past)
         (K.held shelf.new) (K.faults shelf.old) (K.faults shelf.new)) }
 {
-    Ok(save_later(
+    save_later(
         alloc,
         shelf,
         prefix,
@@ -67,7 +68,8 @@ fn save_rest<K: Shelf>(
         &history.measures,
         &history.log,
         logs,
-    )?)
+    )?;
+    finish_all(shelf)
 }
 
 /// What was seen of a run while it went on, and the report of its log.
@@ -115,6 +117,7 @@ fn finish<K: Shelf, T: Sink>(
         (string_bytes ended.now.seen ++ report_text plan.now.graph (report plan.now ended.now.run.log.past))
         (K.held shelf.old) (K.held shelf.new) (T.written out.old) (T.written out.new) }
     ensures fits { WritesAll (status_of result) → logs ≡ true → All Fits (reverse ended.now.run.log.past) }
+    ensures finished { WritesAll (status_of result) → K.all_finished shelf.new }
     ensures cause { RestCause (status_of result) ended.now.run.fault (K.faults shelf.old) (K.faults shelf.new) (T.faults out.old) (T.faults out.new) }
 {
     if ended.run.fault {
@@ -151,6 +154,7 @@ fn run_words<
     ensures unread { IfUnread result.status
         (FailsIn (L.holds library.old) (L.faults_at library.old) (L.faults_at library.new) (sources_of (Some (run_told words.entry)))) }
     ensures library { L.holds library.new ≡ L.holds library.old }
+    ensures finished { WritesAll result.status → K.all_finished shelf.new }
 {
     let (plan, stack) = match load_run(alloc, library, words.source) {
         Ok(loaded) => loaded,
@@ -226,11 +230,14 @@ pub fn run_top<
         (C.coming clock.old) (C.coming clock.new)))
         (run_command_of (map string_bytes words.now)) result.log }
 
-    // In the large workload nothing is dropped and nothing comes out of order, and so the report is the same each time.
+    // Where all files were written, all names are finished.
+    ensures finished { WritesAll result.status → K.all_finished shelf.new }
+
+    // In a demo nothing is dropped and nothing comes out of order, and so the report is the same each time.
     ensures demo { result.status ≡ Status.Done → OfLog (IsDemoSteady (T.written out.old) (T.written out.new))
         (run_command_of (map string_bytes words.now)) result.log }
 
-    // Refusals: exactly where the words are no run; and where the files that were read, the graph first, lead to it. The large workload reads none.
+    // Refusals: exactly where the words are no run; and where the files that were read, the graph first, lead to it. `demo` reads none.
     ensures usage { (result.status ≡ Status.Usage) ↔ (run_command_of (map string_bytes words.now) ≡ None) }
     ensures refused { IsRefusal result.status → Leads (L.holds library.old) (sources_of (run_command_of (map string_bytes words.now))) (Err result.status) }
     ensures read_fault { result.status ≡ Status.ReadFault → ReadsFiles (run_command_of (map string_bytes words.now)) }

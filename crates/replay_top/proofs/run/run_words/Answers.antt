@@ -56,4 +56,5 @@ returns g c =
           (rw (sym c.status_of.ensures) at c.finish.ensures.cause));
       unread = rest-unread _ c.status_of.result history.fault _ _ _ _ _ _ (rw (sym c.status_of.ensures) at c.finish.ensures.ends);
       library = c.in-Ok.ensures.files;
+      finished = rw (sym c.status_of.ensures) at c.finish.ensures.finished;
     }
