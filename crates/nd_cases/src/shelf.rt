@@ -55,11 +55,16 @@ impl<'a> NotedShelf<'a> {
 }
 
 impl<'a> Shelf for NotedShelf<'a> {
+    ghost use Rattle.std.specs.Prelude.{◌≡◌, ⊤};
     ghost use Rattle.edge_traits.specs.Memory.{told};
 
     ghost held = { λ s. told s.shelf.store.files };
 
     ghost faults = { λ s. s.shelf.calls.faults };
+
+    ghost finishes = { λ name old new. new.shelf.store ≡ old.shelf.store };
+
+    ghost all_finished = { λ _. ⊤ };
 
     fn create(&mut self, name: &str) -> Result<(), Failed> {
         let _ = self.note(name);
@@ -76,5 +81,10 @@ impl<'a> Shelf for NotedShelf<'a> {
 
     fn finish(&mut self, name: &str) -> Result<(), Failed> {
         self.shelf.finish(name)
+    }
+
+    // Nothing is held back in memory.
+    fn finish_all(&mut self) -> Result<(), Failed> {
+        Ok(())
     }
 }
