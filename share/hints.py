@@ -35,6 +35,8 @@ LONGEST_STACK, LONGEST_GRAPH, LONGEST_LOG = 1_073_741_824, 1_048_576, 536_870_91
 LONGEST_FILES = {1: 2_147_483_647, 2: 8_589_934_592}
 MOST_GENERATED, MOST_REGIONS = 536_870_912, 32
 MOST_ARRIVALS, MOST_KEPT, LONGEST_QUEUE = 1_048_576, 67_108_864, 65_535
+LONGEST_TRIGGER, MOST_OPEN = 256, 32
+BYTES_OF_FRAME, BYTES_OF_ATTRIBUTE, MOST_HEADS = 64, 32, 4_294_967_296
 
 
 said = []
@@ -137,7 +139,8 @@ def read_keys():
         for line in file:
             if line.startswith("#"):
                 heading = line.strip("# \n")
-            cells = [it.strip().replace("`", "") for it in line.replace("\\|", "or").strip().strip("|").split("|")]
+            plain = re.sub(r"\[([^]]*)\]\(([^)#]*)[^)]*\)", r"\1 (docs/\2)", line.replace("\\|", "or").replace("`", ""))
+            cells = [it.strip() for it in plain.strip().strip("|").split("|")]
             if heading and line.startswith("|") and len(cells) == 3 and cells[0] != "Key" and not cells[0].startswith("-"):
                 for key in cells[0].split(", "):
                     tables.setdefault(heading, {})[key] = cells[1:]
@@ -251,6 +254,8 @@ def tell_unknown_key(graph, shown):
             if number > 0 and key in read_keys().get("run", {}):
                 return say(f"{graph.place(number, key)}: {shown} is no key of a node: it stands under a line [run]")
             others = [it for it in KINDS if key in keys_of(it)]
+            if number == 0 and len(others) == len(KINDS):
+                return say(f"{graph.place(number, key)}: {shown} is no key of [run]: it stands under a line [[node]]")
             hint = f", only {' and '.join(others)} nodes have it" if others else near(key, known)
             of = "[run]" if number == 0 else f"a {kind} node"
             return say(f"{graph.place(number, key)}: {of} has no key {shown}{hint}; it may have {', '.join(known)}")
@@ -302,20 +307,31 @@ def tell_range(graph, key, value):
     return None
 
 
+def faulty_triggers(graph, fault, at):
+    """Returns the triggers that may have a fault, each behind its node's number."""
+    may = {
+        "TooLong": lambda text: len(text.encode()) > LONGEST_TRIGGER,
+        "TooDeep": lambda text: sum(map(text.count, "(!-")) > MOST_OPEN,
+        "Unexpected": lambda text: len(text.encode()) >= at,
+    }[fault]
+    return [(number, it) for number, it in graph.spots("trigger") if isinstance(it, str) and may(it)]
+
+
 def tell_trigger(graph, words):
-    triggers = [(number, it) for number, it in graph.spots("trigger") if isinstance(it, str)]
-    if words[0] == "TooLong":
-        triggers = [it for it in triggers if len(it[1].encode()) > 256]
     at = int(words[1]) if words[0] == "Unexpected" else None
-    for number, text in triggers if len(triggers) == 1 or at is None else []:
-        what = {"TooLong": "the trigger has more than 256 bytes", "TooDeep": "more than 32 parentheses and signs are open at once"}.get(words[0])
-        if at is not None:
-            what = f"in the trigger {text!r} what stands at place {at}, {text[at:at + 8]!r}, isn't expected there"
-            if at >= len(text):
-                what = f"the trigger {text!r} ends too early"
-        return say(f"{graph.place(number, 'trigger')}: {what}; it may have A, B, whole numbers up to {2**63 - 1:,}, parentheses, and || && == != < <= > >= + - * !")
-    lines = ", ".join(str(graph.line_of(number, "trigger")) for number, _ in triggers)
-    return say(f"one of the triggers at the lines {lines}: a trigger may have A, B, whole numbers up to {2**63 - 1:,}, parentheses, and || && == != < <= > >= + - * !")
+    triggers = faulty_triggers(graph, words[0], at)
+    allowed = f"A, B, whole numbers up to {2**63 - 1:,}, parentheses, and || && == != < <= > >= + - * !"
+    if len(triggers) > 1 and words[0] != "TooLong":
+        place = f"more than {MOST_OPEN} parentheses and signs are open at once in" if at is None else f"at place {at} (from 0) of"
+        lines = ", ".join(str(graph.line_of(number, "trigger")) for number, _ in triggers)
+        return say(f"{place} one of the triggers at the lines {lines}: a trigger may have {allowed}")
+    number, text = triggers[0]
+    what = f"the trigger has more than {LONGEST_TRIGGER} bytes" if words[0] == "TooLong" else f"more than {MOST_OPEN} parentheses and signs are open at once"
+    if at is not None:
+        what = f"in the trigger {text!r} what stands at place {at}, {text[at:at + 8]!r}, isn't expected there"
+        if at >= len(text):
+            what = f"the trigger {text!r} ends too early"
+    return say(f"{graph.place(number, 'trigger')}: {what}; it may have {allowed}")
 
 
 def tell_node(graph, fault, number):
@@ -332,7 +348,7 @@ def tell_node(graph, fault, number):
         if given in names:
             return say(f"{graph.place(number, 'input')}: {given} is a file node, which passes nothing on")
         fed = [it.get("name") for it in graph.nodes if it.get("kind") != "file" and it is not node]
-        return say(f"{graph.place(number, 'input')}: no node is named {given}{near(given, fed)}; the input may be {', '.join(['driver', *fed])}")
+        return say(f"{graph.place(number, 'input')}: no node is named {shlex.quote(given)}{near(given, fed)}; the input may be {', '.join(['driver', *fed])}")
     return say(f"{graph.place(number, 'input')}: from input to input it never comes to the driver: one of them has to have input = \"driver\"")
 
 
@@ -358,18 +374,19 @@ def tell_graph_text(call):
         data = file.read()
     try:
         text = data.decode("utf-8-sig")
-        tables = tomllib.loads(text)
+        tomllib.loads(text)
     except UnicodeDecodeError as error:
         if data[:3] == b"CDF" or data[:4] == b"\x89HDF":
             return say(f"{name} is a netCDF file, and {call.order()}")
         return say(f"{name} isn't text in UTF-8: byte {error.start}, in line {data[:error.start].count(10) + 1}")
     except tomllib.TOMLDecodeError as error:
         return say(f"{name} isn't TOML: {error}")
-    numbers = [it for node in [tables.get("run", {}), *tables.get("node", [])] if isinstance(node, dict) for it in node.items()]
-    for key, value in numbers:
+    graph = Graph(name)
+    keys = [(number, *it) for number, table in enumerate([graph.run, *graph.nodes]) for it in table.items()]
+    for number, key, value in keys:
         for it in value if isinstance(value, list) else [value]:
             if isinstance(it, int) and not -(2**63) <= it < 2**63:
-                return say(f"{name}: {key} = {it} has more than 64 bits, which no whole number of a graph has")
+                return say(f"{graph.place(number, key)}: {key} = {it} has more than 64 bits, which no whole number of a graph has")
     return say(f"{name}: see docs/graph.md; Python's TOML reader finds no fault in it")
 
 
@@ -522,6 +539,18 @@ def tell_rank(number, quoted):
     return f"{told}: 'ncecat -O {quoted} NEW.nc' puts one in front of a single image" if number < 2 else told
 
 
+def tell_misplaced(name, header, number):
+    """Says how the dimension that counts a variable's values becomes the first one of array_data, where it is another of these. Fails where it isn't."""
+    var, dims, _ = header.vars[number]
+    frames = header.frames()[1]
+    if not dims or dims[0] not in frames[1:] or dims[0] == frames[0]:
+        return False
+    named = [header.dims[it][0] for it in [dims[0], *(it for it in frames if it != dims[0])]]
+    turned = f"'ncpdq -a {','.join(named)} {quoted_name(name)} NEW.nc' puts it first"
+    say(f"{name}: {var} counts by {named[0]}, and the first dimension of array_data is {first_dimension(header)}: {turned}")
+    return True
+
+
 def tell_stack(call, words):
     name = call["STACK"]
     fault, *rest = words if words[0] != "Cdf" else words[1:]
@@ -538,6 +567,8 @@ def tell_stack(call, words):
         return say(f"{name}: {HEADERS[fault].format(quoted)}")
     if fault == "SampleType":
         return tell_sample_type(name, number, header)
+    if fault in ("FrameCount", "AttrShape") and header and tell_misplaced(name, header, number):
+        return None
     if fault == "NoArrayData":
         there = [it[0] for it in header.vars] if header else []
         renames = ""
@@ -608,6 +639,19 @@ def tell_limit(call, words):
     if not node:
         helps.append("a graph with one file node in place of copy, with count or cdf = 2")
     return say(f"{what} would write a file of {number:,} bytes, and its form has at most {LONGEST_FILES[form]:,}: {', or '.join(helps) or 'smaller frames'}")
+
+
+def tell_memory(call):
+    """Says which stack takes more memory for what its frames have beside their samples than a command gives to that."""
+    for name in filter(None, (call["DARK"], call["STACK"])):
+        header = header_of(name)
+        frames = header.lengths()[0]
+        attributes = [it for it in header.vars if it[0].startswith(ATTR) and it[0] != ATTR]
+        texts = sum(header.dims[dims[1]][1] for _, dims, kind in attributes if TYPES.get(kind) == "char")
+        if frames * (BYTES_OF_FRAME + BYTES_OF_ATTRIBUTE * len(attributes) + texts) > MOST_HEADS:
+            leave = f"leave attributes out, as with 'ncks -x -v {attributes[0][0]} {quoted_name(name)} NEW.nc', or cut the stack, as with {cutting(name)}"
+            return say(f"{name} has {frames:,} frames with {len(attributes):,} attributes each, which are too many: {leave} (docs/formats.md)")
+    return None
 
 
 def sizes_in(name):
@@ -686,6 +730,8 @@ def tell_refusal(line, call):
         tell_stack(call, words[2:])
     elif words[0] == "5":
         tell_limit(call, words[2:])
+    elif words[0] == "9":
+        tell_memory(call)
     elif words[0] == "10":
         tell_sizes(call)
     elif words[0] == "11":
@@ -697,6 +743,9 @@ def tell_refusal(line, call):
 
 
 # --- losses
+
+CAUSES = ("refused", "full", "pool", "sort")
+PLAIN_OR_CUT = "plain or a stack that is cut"
 
 
 def whole_attributes(stack):
@@ -721,37 +770,62 @@ def why_never(node, call):
     return ""
 
 
-def tell_losses(report, call):
+def rows_of(report):
+    """Returns the number of frames of a report, and the numbers of the driver and of each node by their names."""
     with open(report, encoding="utf-8") as file:
-        rows = [line.split() for line in file if not line.startswith("seen ")]
+        first, *rows = [line.split() for line in file if not line.startswith("seen ")]
+    named = [words[1:] if words[0] == "node" else words for words in rows if len(words) > 4]
+    return int(first[1]), {name: {key: int(number) for key, number in zip(pairs[::2], pairs[1::2])} for name, *pairs in named}
+
+
+def way_to(name, nodes):
+    """Returns a node and those before it, up to the driver."""
+    way = [name]
+    while name in nodes and len(way) <= len(nodes):
+        name = nodes[name].get("input", "driver")
+        way.append(name)
+    return way
+
+
+def what_keeps(name, frames, nodes, run):
+    """Returns what keeps the arrays that a full queue drops at a node."""
+    queue = f"queue = {frames} at {name}" if frames <= LONGEST_QUEUE else PLAIN_OR_CUT
+    node = nodes.get(name, {})
+    if node.get("input", "driver") == "driver" and run.get("feed") != "wait":
+        return f'feed = "wait" under [run], or {queue}, keeps them'
+    return f"{queue} keeps them{'' if node.get('kind') in KINDS_OF_ONE_THREAD else ', and more threads there take them faster'}"
+
+
+def what_sorts(name, frames, nodes):
+    """Returns what keeps the results that a full sort list drops at a node."""
+    scatter = next((it for it in way_to(name, nodes)[1:] if nodes.get(it, {}).get("kind") == "scatter"), None)
+    if scatter:
+        return f"It waits for ids that went to another child of {scatter}: sort above a scatter node and not below it"
+    return f"{f'sort = {frames} at {name}' if frames <= LONGEST_QUEUE else PLAIN_OR_CUT} keeps them"
+
+
+def tell_losses(report, call):
+    frames, rows = rows_of(report)
     try:
         graph = Graph(call["GRAPH"])
         run, nodes = graph.run, {it.get("name"): it for it in graph.nodes}
     except (OSError, ValueError):
         run, nodes = {}, {}
-    frames = int(rows[0][1])
-    is_lossy = any(re.search("[1-9]", number) for words in rows[1:] for cause, number in zip(words, words[1:]) if cause in ("refused", "full", "pool", "sort"))
     pool = f"pool = 0 under [run], which is no limit, keeps them; one above {run.get('pool', 0)} may"
-    for words in rows[1:]:
-        name = words[1] if words[0] == "node" else "the driver"
-        numbers = dict(zip(*[iter(words[2 if words[0] == "node" else 1 :])] * 2)) if len(words) > 4 else {}
-        count = lambda it: int(numbers.get(it, 0))
+    for name, numbers in rows.items():
+        count = lambda it: numbers.get(it, 0)
         if count("refused"):
-            say(f"{count('refused')} of {count('offered')} frames were refused at {name}: the pool was full. {pool} (docs/report.md)")
+            say(f"{count('refused')} of {count('offered')} frames were refused at the driver: the pool was full. {pool} (docs/report.md)")
         if count("full"):
-            queue = f"queue = {frames} at {name}" if frames <= LONGEST_QUEUE else "plain, or a stack that is cut,"
-            node = nodes.get(name, {})
-            faster = "" if node.get("kind") in KINDS_OF_ONE_THREAD else ", and more threads there take them faster"
-            helps = f"{queue} keeps them{faster}"
-            if node.get("input", "driver") == "driver" and run.get("feed") != "wait":
-                helps = f'feed = "wait" under [run], or {queue}, keeps them'
-            say(f"{count('full')} of {count('offered')} arrays were dropped at {name}: its queue was full. {helps} (docs/report.md)")
+            keeps = what_keeps(name, frames, nodes, run)
+            say(f"{count('full')} of {count('offered')} arrays were dropped at {name}: its queue was full. {keeps} (docs/report.md)")
         if count("pool"):
             say(f"{count('pool')} of {count('offered')} arrays were dropped at {name}: the pool was full. {pool} (docs/report.md)")
         if count("sort"):
-            keeps = f"{f'sort = {frames} at {name}' if frames <= LONGEST_QUEUE else 'plain, or a stack that is cut,'} keeps them (docs/report.md)"
-            say(f"{count('sort')} of {count('offered')} results were dropped at {name}: its sort list was full. {keeps}")
+            sorts = what_sorts(name, frames, nodes)
+            say(f"{count('sort')} of {count('offered')} results were dropped at {name}: its sort list was full. {sorts} (docs/report.md)")
         if nodes.get(name, {}).get("kind") == "circular" and count("accepted") and not count("out"):
+            is_lossy = any(rows[it].get(cause) for it in way_to(name, nodes) if it in rows for cause in CAUSES)
             lost = " (and some were lost at it or before it)" if is_lossy else ""
             say(f"nothing went out of {name}: its trigger fired at none of the {count('accepted')} arrays that came{lost}{why_never(nodes[name], call)} (docs/report.md)")
 
