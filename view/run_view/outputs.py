@@ -56,6 +56,8 @@ def read_outputs(prefix: str, graph: Graph, report: Optional[str] = None, stack:
         raise ViewFault(_nothing_there(outputs))
     _count(outputs)
     _compare(outputs)
+    if stack is not None and outputs.ids is not None:
+        _compare_stack(outputs, stack, outputs.ids)
     return outputs
 
 
@@ -63,7 +65,8 @@ def _try(outputs: Outputs, step: Callable[[], None]) -> None:
     try:
         step()
     except ViewFault as fault:
-        outputs.problems.append(str(fault) + ".")
+        words = str(fault)
+        outputs.problems.append(words if words.endswith("?") else words + ".")
 
 
 def _read_files(outputs: Outputs) -> None:
@@ -156,7 +159,7 @@ def _compare(outputs: Outputs) -> None:
         if journal is not None:
             saved = journal.nodes[node.number].saved_in
             _compare_groups(outputs, node, files, {group: count for group, count in saved.items() if count})
-        elif outputs.counters is not None and outputs.source == "report":
+        if outputs.counters is not None and outputs.source == "report":
             _compare_totals(outputs, outputs.counters, node, f"The files of {node.name} hold", files.arrays())
     for node in outputs.graph.of_kind("stats"):
         if node.name not in outputs.rows:
@@ -174,7 +177,7 @@ def _compare_groups(outputs: Outputs, node: Node, files: NodeFiles, saved: dict[
         outputs.problems.append(f"{group_path(outputs.prefix, node.name, missing[0])}{more} there, though the log has what was saved.")
     for group, file in there.items():
         if file.fault is None and file.whole != saved.get(group, 0):
-            why = "it may be of an earlier run" if group not in saved or file.whole else "it isn't that file"
+            why = "it may be of an earlier run" if group not in saved else "one of them is of another run" if file.whole else "it isn't that file"
             outputs.problems.append(f"{file.path} holds {many(file.whole, 'array')}, and the log saved {saved.get(group, 0)} there: {why}.")
 
 
@@ -183,6 +186,27 @@ def _compare_totals(outputs: Outputs, counters: Counters, node: Node, words: str
     if counted != there:
         why = "some may be of an earlier run" if there > counted else "some are missing"
         outputs.problems.append(f"{words} {many(there, 'array')}, and the {outputs.source} counts {counted}: {why}.")
+
+
+def _frames_of_run(outputs: Outputs) -> Optional[int]:
+    """How many frames the run had, where its report or its whole log tells it."""
+    counters = outputs.counters
+    if counters is None or counters.frames is not None:
+        return counters.frames if counters else None
+    is_whole = outputs.journal is not None and outputs.journal.fault is None
+    return counters.driver["offered"] if counters.driver and is_whole else None
+
+
+def _compare_stack(outputs: Outputs, path: str, ids: npt.NDArray[np.int64]) -> None:
+    """Says where a stack hasn't as many frames as the run, or lacks an id of its rows."""
+    frames = _frames_of_run(outputs)
+    if frames is not None and frames != len(ids):
+        outputs.problems.append(f"The stack {path} has {many(len(ids), 'frame')}, and the run had {frames:,}: is it the stack of this run?")
+        return
+    for name, rows in outputs.rows.items():
+        missing = np.setdiff1d(rows.ids, ids)
+        if len(missing):
+            outputs.problems.append(f"The rows of {name} have the id {missing[0]}, and no frame of {path} has it: is it the stack of this run?")
 
 
 def _nothing_there(outputs: Outputs) -> str:

@@ -140,9 +140,11 @@ class BadInput(RunCase):
         found = self.problems(run)
         self.assertIn("r_cap_003.nc holds 5 arrays, and the log saved 0 there: it may be of an earlier run", found)
         self.assertIn("r_cap_001.nc isn't there", found)
+        shutil.copy(run.file("cap_000.nc"), run.file("cap_002.nc"))
+        self.assertIn("r_cap_002.nc holds 5 arrays, and the log saved 2 there: one of them is of another run", self.problems(run))
+        self.assertIn("The files of cap hold 15 arrays, and the report counts 12", self.problems(run, run.report))
         run.file("log.txt").unlink()
-        shutil.copy(run.file("cap_000.nc"), run.file("cap_004.nc"))
-        self.assertIn("The files of cap hold 17 arrays, and the report counts 12", self.problems(run, run.report))
+        self.assertIn("The files of cap hold 15 arrays, and the report counts 12", self.problems(run, run.report))
 
     def test_rows_that_are_cut_off_or_not_ours(self) -> None:
         run = self.good()
@@ -177,7 +179,7 @@ class BadInput(RunCase):
         run = self.good()
         other = self.write("other.toml", WAIT + node("st", "stats"))
         page = run.page("--report", run.report, graph=other)
-        self.assertIn("is this the graph of this run?", page.errors)
+        self.assertIn("is this the graph of this run?\n", page.errors)
         self.assertIn("which aren't those of the graph", page.errors)
         self.assertEqual(page.status, 1)
 
@@ -197,6 +199,19 @@ class BadInput(RunCase):
                 self.assertIn(words, self.problems(run, self.write("wrong.report", content)))
         self.assertIn("can't be read", self.problems(run, str(self.folder / "none")))
         self.assertIn("can't be read", self.problems(run, None, run.graph))
+
+    def test_a_stack_of_another_run(self) -> None:
+        run = self.good()
+        page = run.page("--stack", self.stack(FRAMES[:10], name="ten.nc"))
+        self.assertEqual(page.status, 1)
+        self.assertIn("ten.nc has 10 frames, and the run had 12: is it the stack of this run?\n", page.errors)
+        other = self.stack(FRAMES, np.arange(1001, 1013), name="other.nc")
+        for report in (None, run.report):
+            found = self.problems(run, report, other)
+            self.assertIn("The rows of st have the id 1, and no frame of", found)
+            self.assertIn("other.nc has it: is it the stack of this run?", found)
+        run.file("log.txt").unlink()
+        self.assertIn("the run had 12", self.problems(run, run.report, str(self.folder / "ten.nc")))
 
     def test_a_prefix_without_files(self) -> None:
         run = self.good()
