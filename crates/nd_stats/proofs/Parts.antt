@@ -2,12 +2,10 @@
 use Rattle.std.proofs.Common.{◌≡◌, ℕ, ◌+◌, ◌*◌, ◌/◌, ◌<◌, ◌≤◌, List, ◌++◌, length, take, drop, get_or, refl, ap, sym, ◌∙◌, arith}
 use Rattle.std.proofs.Common.{Fits, w8}
 use Rattle.std.proofs.Math.Nat.{mul-le-mul_right, div-mul-le_self, add-mul}
-use Rattle.std.proofs.lemmas.List.{drop-drop}
 use Rattle.std.proofs.lemmas.List.Elements.{All-from_get_or}
 use Rattle.nd_base.specs.declared.array.SampleType.{SampleType}
-use Rattle.nd_base.specs.Samples.{width, number, numbers, samples_of}
+use Rattle.nd_base.specs.Samples.{width, numbers, samples_of}
 use Rattle.nd_base.specs.SampleLaws.{length-numbers}
-use Rattle.lane_kernels.specs.Plain.{stored}
 use Rattle.lane_kernels.proofs.Slices.{numbers-split, samples_of-take, side_counts}
 use Rattle.nd_stats.specs.Samples.{placed, AreSmall}
 use Rattle.nd_stats.specs.MergingLaws.{placed-append, small_placed}

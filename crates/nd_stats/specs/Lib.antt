@@ -10,4 +10,3 @@ pub mod Row
 pub mod Merging
 pub mod Joined
 pub mod MergingLaws
-pub mod Chunks

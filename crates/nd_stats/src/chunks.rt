@@ -1,18 +1,17 @@
 //! The measure of an array, made of those of its chunks by several threads.
 
-ghost use Rattle.std.specs.Prelude.{◌≡◌, ◌*◌, ◌/◌, ◌^◌, ◌<◌, ◌≤◌, length, IfOk, IsTrue};
+ghost use Rattle.std.specs.Prelude.{◌≡◌, ◌+◌, ◌*◌, ◌/◌, ◌%◌, ◌^◌, ◌<◌, ◌≤◌, length, IfOk, IsTrue};
+ghost use Rattle.std.specs.Thread.{IsSync};
 ghost use Rattle.nd_base.specs.GraphRules.{IsStats};
 ghost use Rattle.nd_base.specs.Samples.{width};
 ghost use Rattle.nd_base.specs.Shapes.{has_dimensions, sample_count, most_samples};
-ghost use Rattle.nd_stats.specs.Chunks.{chunk, measure_of_chunk, chunk_measures};
 ghost use Rattle.nd_stats.specs.Measured.{measure_of};
 
 use crate::measures::{measure, measure_piece};
 use crate::merge::Merge;
 use crate::spot::{first_size, second_size};
 use nd_base::{Dim, Measure, OutOfMemory, SampleType, StatsRule};
-use rayon::current_num_threads;
-use rayon::prelude::*;
+use rayon::{current_num_threads, join};
 use std::alloc::Global;
 use std::thread::Threads;
 
@@ -49,80 +48,49 @@ fn worth(rule: &StatsRule, dims: &[Dim], count: usize) -> usize
     count / least.max(FOR_EACH_SUM * sums_of(rule, dims))
 }
 
-/// The bytes of chunk `k`, where a chunk has `size` samples.
-fn chunk_at(kind: SampleType, samples: &[u8], size: usize, k: usize) -> &[u8]
-    requires size { size ≤ length samples.now / width kind }
-    requires within { k * size < length samples.now / width kind }
-    ensures { result.now ≡ chunk kind size k samples.now }
-{
-    let width = kind.width();
-    let rest = &samples[k * size * width..];
-    &rest[..(size * width).min(rest.len())]
-}
-
-/// The measure of chunk `k`, where a chunk has `size` samples.
-fn measure_chunk(
+/// The measure of the first samples of an array by so many threads: this one, for the samples in front, and one for each chunk behind
+/// them. This thread starts all others, one after the other, before it begins.
+#[cycle(chunks)]
+fn measure_by<R: Threads + Sync>(
+    rt: &R,
     alloc: Global,
     rule: &StatsRule,
     id: i32,
     kind: SampleType,
     dims: &[Dim],
     samples: &[u8],
-    size: usize,
-    k: usize,
+    threads: usize,
 ) -> Result<Measure, OutOfMemory>
     requires rule { IsStats rule.now }
     requires dimensions { IsTrue (has_dimensions dims.now) }
     requires few { sample_count dims.now ≤ most_samples }
-    requires samples { length samples.now ≡ sample_count dims.now * width kind }
-    requires size { (0 < size) × (size ≤ sample_count dims.now) }
-    requires within { k * size < sample_count dims.now }
-    ensures { IfOk result (λ m. m ≡ measure_of_chunk rule.now id kind dims.now size samples.now k) }
+    requires whole { length samples.now % width kind ≡ 0 }
+    requires some { 0 < length samples.now }
+    requires within { length samples.now / width kind ≤ sample_count dims.now }
+    ensures { IfOk result (λ m. m ≡ measure_of rule.now id kind dims.now 0 samples.now) }
 {
-    let from = (k * size) as u32;
-    measure_piece(
-        alloc,
-        rule,
-        id,
-        kind,
-        dims,
-        from,
-        chunk_at(kind, samples, size, k),
-    )
-}
-
-/// The measures of all chunks, where a chunk has `size` samples.
-fn measure_each(
-    rt: &(impl Threads + Sync),
-    alloc: Global,
-    rule: &StatsRule,
-    id: i32,
-    kind: SampleType,
-    dims: &[Dim],
-    samples: &[u8],
-    size: usize,
-) -> Result<Vec<Measure>, OutOfMemory>
-    requires rule { IsStats rule.now }
-    requires dimensions { IsTrue (has_dimensions dims.now) }
-    requires few { sample_count dims.now ≤ most_samples }
-    requires samples { length samples.now ≡ sample_count dims.now * width kind }
-    requires size { (0 < size) × (size ≤ sample_count dims.now) }
-    ensures { IfOk result (λ v. v.items ≡ chunk_measures rule.now id kind dims.now size samples.now) }
-{
-    let chunks = (samples.len() / kind.width()).div_ceil(size);
-    let measures: Result<Vec<Measure>, OutOfMemory> = (0..chunks)
-        .into_par_iter()
-        .with_min_len(1)
-        .map(
-            |k: usize| -> Result<Measure, OutOfMemory>
-                requires { IsStats rule.now × IsTrue (has_dimensions dims.now) × (sample_count dims.now ≤ most_samples)
-                    × (length samples.now ≡ sample_count dims.now * width kind)
-                    × (0 < size) × (size ≤ sample_count dims.now) × (k * size < sample_count dims.now) }
-                ensures { IfOk result (λ m. m ≡ measure_of_chunk rule.entry.now id kind dims.entry.now size samples.entry.now k) }
-            { measure_chunk(alloc, rule, id, kind, dims, samples, size, k) },
-        )
-        .collect(rt, alloc)?;
-    measures
+    let wide = kind.width();
+    let count = samples.len() / wide;
+    if threads < 2 || count < threads {
+        return measure_piece(alloc, rule, id, kind, dims, 0, samples);
+    }
+    let from = count - count / threads;
+    let (front, chunk) = samples.split_at(from * wide);
+    let of_chunk = || -> Result<Measure, OutOfMemory>
+        requires { IsStats rule.now × IsTrue (has_dimensions dims.now) × (sample_count dims.now ≤ most_samples)
+            × (length chunk.now % width kind ≡ 0) × (0 < length chunk.now) × (from + length chunk.now / width kind ≤ sample_count dims.now) }
+        ensures { IfOk result (λ m. m ≡ measure_of rule.entry.now id kind dims.entry.now from chunk.entry.now) }
+    { measure_piece(alloc, rule, id, kind, dims, from as u32, chunk) };
+    let of_front = || -> Result<Measure, OutOfMemory>
+        requires { IsSync R.row × IsStats rule.now × IsTrue (has_dimensions dims.now) × (sample_count dims.now ≤ most_samples)
+            × (length front.now % width kind ≡ 0) × (0 < length front.now) × (length front.now / width kind ≤ sample_count dims.now)
+            × (1 < threads) }
+        ensures { IfOk result (λ m. m ≡ measure_of rule.entry.now id kind dims.entry.now 0 front.entry.now) }
+    { measure_by(rt, alloc, rule, id, kind, dims, front, threads - 1) };
+    let (later, earlier) = join(rt, of_chunk, of_front);
+    let mut whole = earlier?;
+    whole.merge(&later?);
+    Ok(whole)
 }
 
 /// As [`measure`](crate::measure), and a large array is measured in chunks by as many threads as there are processors.
@@ -150,13 +118,6 @@ pub fn measure_chunks(
     if threads < 2 {
         return measure(alloc, rule, id, kind, dims, samples);
     }
-    let chunks = threads.min(current_num_threads(rt));
-    let size = count.div_ceil(chunks);
-    let mut measures = measure_each(rt, alloc, rule, id, kind, dims, samples, size)?;
-    let mut whole = measures.pop().unwrap();
-    while let Some(mut earlier) = measures.pop() {
-        earlier.merge(&whole);
-        whole = earlier;
-    }
-    Ok(whole)
+    let threads = threads.min(current_num_threads(rt));
+    measure_by(rt, alloc, rule, id, kind, dims, samples, threads)
 }
