@@ -1,4 +1,4 @@
--- The large workload is a graph that has room for all frames of its stack.
+-- The demo run is a graph that has room for all frames of its stack.
 use Rattle.std.proofs.Common.{◌≡◌, ◌≢◌, ℕ, zero, suc, ◌+◌, ◌≤◌, ◌<◌, true, List, [], ◌∷◌, length, refl, sym, ap, ◌∙◌, arith, inl, inr}
 use Rattle.std.proofs.Common.{pos}
 use Rattle.std.specs.Prelude.{AllPairs, IsTrue}

@@ -1,4 +1,4 @@
--- The large workload: a stack of so many frames that a rule makes, and the graph that it goes through.
+-- The demo run: a stack of so many frames that a rule makes, and the graph that it goes through.
 use Rattle.std.specs.Prelude.{ℕ, pos, false, List, [], ◌∷◌, Some, codes}
 use Rattle.nd_base.specs.Array.{StackValue}
 use Rattle.nd_base.specs.declared.array.SampleType.TheVariants.{UInt8, UInt16}

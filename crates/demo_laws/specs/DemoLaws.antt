@@ -1,4 +1,4 @@
--- LAWS of the large workload.
+-- LAWS of the demo run.
 use Rattle.std.specs.Prelude.{◌≡◌, ℕ, ◌≤◌}
 use Rattle.std.specs.List.{count_by}
 use Rattle.nd_base.specs.GraphRules.{IsGraph}

@@ -15,7 +15,7 @@ pub fn ample_reports_are_whole()
     ensures { AmpleReportsAreWhole }
 {}
 
-/// The large workload is such a run.
+/// The demo run is such a run.
 pub fn demos_are_whole()
     ensures graph { DemosAreGraphs }
     ensures whole { DemosAreWhole }

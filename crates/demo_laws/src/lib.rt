@@ -1,4 +1,4 @@
-//! Runs that have room for all their frames, and the large workload, which is one: laws over histories alone.
+//! Runs that have room for all their frames, and the demo run, which is one: laws over histories alone.
 #![tactic(auto)]
 
 mod laws;

@@ -1,4 +1,4 @@
--- The large workload passes no limit.
+-- The demo run passes no limit.
 use Rattle.std.proofs.Common.{◌≡◌, ℕ, ◌*◌, ◌≤◌, Bool, false, ltb, cond, [], ◌∷◌, length, ap, arith, inl, inr, pos}
 use Rattle.std.specs.Prelude.{Option, None, Some, min}
 use Rattle.std.proofs.lemmas.Bool.{ltb-true, cases_Bool}

@@ -1,4 +1,4 @@
--- A run of the large workload whose ticks are near to each other prints the same at each run.
+-- A demo run whose ticks are near to each other prints the same at each run.
 use Rattle.std.proofs.Common.{◌≡◌, ℕ, Bool, true, false, List, [], ◌∷◌, ◌++◌, length, Option, None, Some, Ok, Result, refl, sym, ap, subst, ◌∙◌}
 use Rattle.std.specs.Prelude.{filter}
 use Rattle.std.specs.List.{list_any, count_by}
@@ -25,7 +25,7 @@ use Rattle.replay_top.specs.RunAnswers.{RunObjects, OfLog, IsRunDone, Prints, Ru
 use Rattle.replay_top.specs.RunCommand.{RunCommand, RunSource, Demo, IsInRange, IsRead, IsReadWhereWatched}
 use Rattle.replay_top.specs.RunSources.{run_sources}
 
--- the large workload leads to itself alone
+-- the demo run leads to itself alone
 made : (told : Option Files) (from : RunSource) (frames : ℕ) (source : Source) → from ≡ Demo frames → Leads told (run_sources from) (Ok source)
     → source ≡ record { graph = demo_graph frames; stack = demo_stack frames }
 made told from frames source is read =

@@ -1,4 +1,4 @@
--- What is known of a run of the large workload, whatever its threads do.
+-- What is known of a demo run, whatever its threads do.
 use Rattle.std.specs.Prelude.{◌≡◌, ℕ, List, Option}
 use Rattle.edge_traits.specs.Written.{with_written}
 use Rattle.chain_plain.specs.Plans.{makers_of}

@@ -4,7 +4,7 @@ use Rattle.std.specs.Option.{option_map}
 use Rattle.std.specs.Str.{bytes_eq}
 use Rattle.decimal_words.specs.Numbers.{number_of}
 
--- what a run goes over: a graph and a stack that are read under these names, or the large workload of so many frames
+-- what a run goes over: a graph and a stack that are read under these names, or the demo run of so many frames
 pub data RunSource : Type 0 where
   Named : (graph stack : List ℕ) → RunSource
   Demo : (frames : ℕ) → RunSource
@@ -14,7 +14,7 @@ abbrev pub IsRead : RunSource → Type 0
 IsRead (Named graph stack) = Unit {0}
 IsRead (Demo frames) = ⊥
 
--- the large workload has 1 to 4,096 frames
+-- the demo run has 1 to 4,096 frames
 abbrev pub IsInRange : RunSource → Type 0
 IsInRange (Named graph stack) = Unit {0}
 IsInRange (Demo frames) = (1 ≤ frames) × (frames ≤ 4096)
@@ -38,7 +38,7 @@ named_run logs watched graph stack prefix = record { source = Named graph stack;
 abbrev pub demo_run : (frames : ℕ) → RunCommand
 demo_run frames = record { source = Demo frames; prefix = codes "demo_"; logs = false; watched = false }
 
--- the large workload isn't watched
+-- the demo run isn't watched
 abbrev pub IsReadWhereWatched : RunCommand → Type 0
 IsReadWhereWatched c = c.watched ≡ true → IsRead c.source
 

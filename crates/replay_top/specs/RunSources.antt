@@ -10,7 +10,7 @@ use Rattle.tool_commands.specs.Outcomes.{Outcome, Refused, Works, Leads}
 use Rattle.tool_commands.specs.Works.{Source, sources}
 use Rattle.replay_top.specs.RunCommand.{RunCommand, RunSource, Named, Demo}
 
--- the files that it is read from, one after the other, or the large workload, which needs none
+-- the files that it is read from, one after the other, or the demo run, which needs none
 abbrev pub run_sources : RunSource → Outcome Source
 run_sources (Named graph stack) = sources graph stack
 run_sources (Demo frames) = Works (record { graph = demo_graph frames; stack = demo_stack frames })

@@ -1,4 +1,4 @@
--- The large workload of three frames: its words, and its graph as a text of the graph format.
+-- The demo run of three frames: its words, and its graph as a text of the graph format.
 use Rattle.std.specs.Prelude.{◌≡◌, [], ◌∷◌, ◌++◌, codes, Some, None, Ok, refl}
 use Rattle.toml.proofs.OnLiterals.{toml_on_literals}
 use Rattle.toml.specs.Parse.{parse_document}

@@ -1,4 +1,4 @@
-//! The large workload: a stack of frames that a rule makes, and a graph that has room for all of them.
+//! The demo run: a stack of frames that a rule makes, and a graph that has room for all of them.
 
 ghost use Rattle.std.specs.Prelude.{◌≡◌, ◌≤◌, None, IfOk};
 ghost use Rattle.nd_base.specs.GraphRules.{IsGraph};
@@ -91,7 +91,7 @@ fn file_node(alloc: Global, frames: u32) -> Result<NodeRule, OutOfMemory>
     })
 }
 
-/// The graph of the large workload.
+/// The graph of the demo run.
 fn demo_graph(alloc: Global, frames: u32) -> Result<Graph, OutOfMemory>
     ensures { IfOk result (λ graph. graph ≡ demo_graph frames) }
 {
@@ -118,7 +118,7 @@ fn demo_stack(alloc: Global, frames: u32) -> Result<Stack, OutOfMemory>
     }
 }
 
-/// Makes the large workload of so many frames. No limit is passed.
+/// Makes the demo run of so many frames. No limit is passed.
 pub(crate) fn make_demo(alloc: Global, frames: u32) -> Result<(Plan, Stack), OutOfMemory>
     requires some { 1 ≤ frames }
     requires few { frames ≤ 4096 }

@@ -12,7 +12,7 @@ use decimal_words::number;
 pub(crate) enum RunSource<'a> {
     /// The graph and the stack of these names.
     Named { graph: &'a str, stack: &'a str },
-    /// The large workload of so many frames.
+    /// The demo run of so many frames.
     Demo { frames: u32 },
 }
 
