@@ -19,7 +19,7 @@ module _ (files : Files) where
 
   pub none-first : (fs : List ComparedFile) (d : Difference) → All (IsSame (Some files)) fs → IsFirstOther (Some files) fs d → ⊥
   none-first fs d all h =
-      not-both h.file h.file refl (all-behind h.before h.after h.file (subst (All (IsSame (Some files))) h.listed all)) h.other
+      not-both h.file h.file refl (all-behind h.before h.after h.file (subst (All (IsSame (Some files))) h.listed all)) h.ends.other
 
   one-file : (xs ys us ws : List ComparedFile) (f e : ComparedFile) → All (IsSame (Some files)) xs → All (IsSame (Some files)) ys → IsOther (Some files) f
       → IsOther (Some files) e → xs ++ f ∷ us ≡ ys ++ e ∷ ws → f ≡ e
@@ -34,9 +34,9 @@ module _ (files : Files) where
 
   pub one-first : (fs : List ComparedFile) (d e : Difference) → IsFirstOther (Some files) fs d → IsFirstOther (Some files) fs e → d ≡ e
   one-first fs d e h k =
-      let file : h.file ≡ k.file = one-file h.before k.before h.after k.after h.file k.file h.same k.same h.other k.other (sym h.listed ∙ k.listed) in
-      let node : d.node ≡ e.node = h.node ∙ ap (λ (f : ComparedFile). f.node) file ∙ sym k.node in
-      let group : d.group ≡ e.group = h.group ∙ ap (λ (f : ComparedFile). f.group) file ∙ sym k.group in
+      let file : h.file ≡ k.file = one-file h.before k.before h.after k.after h.file k.file h.same k.same h.ends.other k.ends.other (sym h.listed ∙ k.listed) in
+      let node : d.node ≡ e.node = h.ends.node ∙ ap (λ (f : ComparedFile). f.node) file ∙ sym k.ends.node in
+      let group : d.group ≡ e.group = h.ends.group ∙ ap (λ (f : ComparedFile). f.group) file ∙ sym k.ends.group in
       ap (λ n. record { node = n; group = d.group }) node ∙ ap (λ i. record { node = e.node; group = i }) group
 
 pub none-where-same : NoneWhereSame

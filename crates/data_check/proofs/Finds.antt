@@ -6,7 +6,7 @@ use Rattle.std.specs.List.{flat_map, range_with_len}
 use Rattle.std.proofs.lemmas.List.Concat.{flat_map-append}
 use Rattle.std.proofs.lemmas.List.Elements.{All-nil, All-append}
 use Rattle.edge_traits.specs.Files.{Files}
-use Rattle.data_check.specs.ComparedFiles.{ComparedFile, IsSame, IsOther, IsFirstOther, IsFound}
+use Rattle.data_check.specs.ComparedFiles.{ComparedFile, IsSame, EndsAt, IsDifference, IsFound}
 use Rattle.data_check.specs.declared.difference.Difference.{Difference}
 
 -- the numbers up to one of them, it, and those behind it
@@ -21,30 +21,27 @@ range-parts a (suc m) n =
     ap (range_with_len a) more ∙ ap (λ ks. a ∷ ks) (range-parts (a + 1) m n ∙ ap (λ b. range_with_len (a + 1) m ++ range_with_len b n) next)
 
 module _ (told : Option Files) where
-  -- among others, where those before are as they are to be
-  pub first-among : (before files after : List ComparedFile) (d : Difference) → All (IsSame told) before → IsFirstOther told files d
-      → IsFirstOther told (before ++ (files ++ after)) d
-  first-among before files after d same h =
-      record {
-        before = before ++ h.before;
-        file = h.file;
-        after = h.after ++ after;
-        listed = ap (λ fs. before ++ (fs ++ after)) h.listed ∙ ap (λ fs. before ++ fs) (append_assoc h.before (h.file ∷ h.after) after)
-            ∙ sym (append_assoc before h.before (h.file ∷ (h.after ++ after)));
-        same = All-append (IsSame told) before h.before same h.same;
-        other = h.other;
-        node = h.node;
-        group = h.group;
-      }
+  module _ (Ends : ComparedFile → Type 0) where
+    -- among others, where those before are as they are to be
+    pub first-among : (before files after : List ComparedFile) → All (IsSame told) before → EndsAt told files Ends → EndsAt told (before ++ (files ++ after)) Ends
+    first-among before files after same h =
+        record {
+          before = before ++ h.before;
+          file = h.file;
+          after = h.after ++ after;
+          listed = ap (λ fs. before ++ (fs ++ after)) h.listed ∙ ap (λ fs. before ++ fs) (append_assoc h.before (h.file ∷ h.after) after)
+              ∙ sym (append_assoc before h.before (h.file ∷ (h.after ++ after)));
+          same = All-append (IsSame told) before h.before same h.same;
+          ends = h.ends;
+        }
 
-  -- of two lists
-  pub first-left : (files after : List ComparedFile) (d : Difference) → IsFirstOther told files d → IsFirstOther told (files ++ after) d
-  first-left files after d h = first-among [] files after d (All-nil (IsSame told)) h
+    -- of two lists
+    pub first-left : (files after : List ComparedFile) → EndsAt told files Ends → EndsAt told (files ++ after) Ends
+    first-left files after h = first-among [] files after (All-nil (IsSame told)) h
 
-  -- the first file alone
-  pub first-one : (f : ComparedFile) (d : Difference) → d.node ≡ f.node → d.group ≡ f.group → IsOther told f → IsFirstOther told (f ∷ []) d
-  first-one f d node group other =
-      record { before = []; file = f; after = []; listed = refl; same = All-nil (IsSame told); other = other; node = node; group = group }
+    -- the first file alone
+    pub first-one : (f : ComparedFile) → Ends f → EndsAt told (f ∷ []) Ends
+    first-one f ends = record { before = []; file = f; after = []; listed = refl; same = All-nil (IsSame told); ends = ends }
 
   module _ (F : ℕ → List ComparedFile) where
     -- the files of all numbers from one on
@@ -56,39 +53,43 @@ module _ (told : Option Files) where
         (same-range (a + 1) n (λ k below. subst (λ m. All (IsSame told) (F m)) (let e : a + (k + 1) ≡ a + 1 + k = omega arith in e)
         (all (k + 1) (omega (arith, below)))))
 
-    pub first-range : (a n i : ℕ) (d : Difference) → i < n → ((k : ℕ) → k < i → All (IsSame told) (F (a + k))) → IsFirstOther told (F (a + i)) d
-        → IsFirstOther told (flat_map F (range_with_len a n)) d
-    first-range a n i d below all h =
+    pub first-range : (Ends : ComparedFile → Type 0) (a n i : ℕ) → i < n → ((k : ℕ) → k < i → All (IsSame told) (F (a + k))) → EndsAt told (F (a + i)) Ends
+        → EndsAt told (flat_map F (range_with_len a n)) Ends
+    first-range Ends a n i below all h =
         let rest : ℕ = n - i - 1 in
         let whole : i + suc rest ≡ n = omega (arith, below) in
         let parts : flat_map F (range_with_len a n) ≡ flat_map F (range_with_len a i) ++ (F (a + i) ++ flat_map F (range_with_len (a + i + 1) rest)) =
         ap (λ m. flat_map F (range_with_len a m)) (sym whole) ∙ ap (flat_map F) (range-parts a i (suc rest))
         ∙ flat_map-append F (range_with_len a i) (range_with_len (a + i) (suc rest)) in
-        subst (λ files. IsFirstOther told files d) (sym parts)
-        (first-among (flat_map F (range_with_len a i)) (F (a + i)) (flat_map F (range_with_len (a + i + 1) rest)) d (same-range a i all) h)
+        subst (λ files. EndsAt told files Ends) (sym parts)
+        (first-among Ends (flat_map F (range_with_len a i)) (F (a + i)) (flat_map F (range_with_len (a + i + 1) rest)) (same-range a i all) h)
 
     -- of all numbers below one
     pub same-below : (n : ℕ) → ((k : ℕ) → k < n → All (IsSame told) (F k)) → All (IsSame told) (flat_map F (range_with_len 0 n))
     same-below n all = same-range 0 n (λ k below. subst (λ m. All (IsSame told) (F m)) (let e : k ≡ 0 + k = omega arith in e) (all k below))
 
-    pub first-below : (n i : ℕ) (d : Difference) → i < n → ((k : ℕ) → k < i → All (IsSame told) (F k)) → IsFirstOther told (F i) d
-        → IsFirstOther told (flat_map F (range_with_len 0 n)) d
-    first-below n i d below all h =
-        first-range 0 n i d below (λ k low. subst (λ m. All (IsSame told) (F m)) (let e : k ≡ 0 + k = omega arith in e) (all k low))
-        (subst (λ m. IsFirstOther told (F m) d) (let e : i ≡ 0 + i = omega arith in e) h)
+    pub first-below : (Ends : ComparedFile → Type 0) (n i : ℕ) → i < n → ((k : ℕ) → k < i → All (IsSame told) (F k)) → EndsAt told (F i) Ends
+        → EndsAt told (flat_map F (range_with_len 0 n)) Ends
+    first-below Ends n i below all h =
+        first-range Ends 0 n i below (λ k low. subst (λ m. All (IsSame told) (F m)) (let e : k ≡ 0 + k = omega arith in e) (all k low))
+        (subst (λ m. EndsAt told (F m) Ends) (let e : i ≡ 0 + i = omega arith in e) h)
 
     -- of all numbers from 1 on
     pub same-from_one : (n : ℕ) → ((k : ℕ) → 1 ≤ k → k < n + 1 → All (IsSame told) (F k)) → All (IsSame told) (flat_map F (range_with_len 1 n))
     same-from_one n all = same-range 1 n (λ k below. all (1 + k) (omega arith) (omega (arith, below)))
 
+    pub first-from_one : (Ends : ComparedFile → Type 0) (n v : ℕ) → 1 ≤ v → v < n + 1 → ((k : ℕ) → 1 ≤ k → k < v → All (IsSame told) (F k))
+        → EndsAt told (F v) Ends → EndsAt told (flat_map F (range_with_len 1 n)) Ends
+    first-from_one Ends n v low high all h =
+        let i : ℕ = v - 1 in
+        let here : v ≡ 1 + i = omega (arith, low) in
+        first-range Ends 1 n i (omega (arith, high, here)) (λ k below. all (1 + k) (omega arith) (omega (arith, below, here)))
+        (subst (λ m. EndsAt told (F m) Ends) here h)
+
     pub found-from_one : (n v : ℕ) (o : Option Difference) → is_some o ≡ true → 1 ≤ v → v < n + 1 → ((k : ℕ) → 1 ≤ k → k < v → All (IsSame told) (F k))
         → IsFound told (F v) o → IsFound told (flat_map F (range_with_len 1 n)) o
     found-from_one n v None some low high all h = absurd (cc)
-    found-from_one n v (Some d) some low high all h =
-        let i : ℕ = v - 1 in
-        let here : v ≡ 1 + i = omega (arith, low) in
-        first-range 1 n i d (omega (arith, high, here)) (λ k below. all (1 + k) (omega arith) (omega (arith, below, here)))
-        (subst (λ m. IsFirstOther told (F m) d) here h)
+    found-from_one n v (Some d) some low high all h = first-from_one (IsDifference told d) n v low high all h
 
   -- nothing was found
   pub none-found : (files : List ComparedFile) (o : Option Difference) → is_some o ≡ false → IsFound told files o → All (IsSame told) files

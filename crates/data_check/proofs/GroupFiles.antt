@@ -17,7 +17,7 @@ use Rattle.cdf_write.specs.Layout.{layout}
 use Rattle.flow_journal.specs.Unsaved.{standing_saves}
 use Rattle.graph_files.specs.Groups.{group_of}
 use Rattle.graph_files.specs.OutFiles.{file_shape, group_name}
-use Rattle.data_check.specs.ComparedFiles.{ComparedFile, HasOther, IsSame, IsFirstOther, group_files}
+use Rattle.data_check.specs.ComparedFiles.{ComparedFile, HasOther, IsSame, EndsAt, IsDifference, IsFirstOther, group_files}
 use Rattle.data_check.specs.Histories.{HistoryValue, IsHistory, arrays_at, all_arrays}
 use Rattle.data_check.proofs.Finds.{first-one, first-below, same-below}
 use Rattle.data_check.proofs.Groups.{group-some, group-none, part-below}
@@ -73,15 +73,17 @@ module _ (h : HistoryValue) (known : IsHistory h) (v : ℕ) (n : NodeRule) (r : 
         subst (All (IsSame told)) (sym one)
         (All-cons (IsSame told) (record { node = v; group = i; name = name; bytes = layout shape (arrays_at h v part) }) [] has (All-nil (IsSame told)))
 
-    -- it is the first of all where those before it are as they are to be
+    -- the comparison of all ends at it where those before it are as they are to be
+    pub group-ends : (Ends : ComparedFile → Type 0) → Ends (record { node = v; group = i; name = name; bytes = layout shape (arrays_at h v part) })
+        → ((k : ℕ) → k < i → All (IsSame told) (files k)) → EndsAt told (flat_map files (range_with_len 0 (length (standing_saves v h.past)))) Ends
+    group-ends Ends ends before =
+        first-below told files Ends (length (standing_saves v h.past)) i (part-below h known v n r rule kind ks all frames i part is some)
+        before (subst (λ fs. EndsAt told fs Ends) (sym one)
+        (first-one told Ends (record { node = v; group = i; name = name; bytes = layout shape (arrays_at h v part) }) ends))
+
     pub group-first : HasOther told name (layout shape (arrays_at h v part)) → ((k : ℕ) → k < i → All (IsSame told) (files k))
         → IsFirstOther told (flat_map files (range_with_len 0 (length (standing_saves v h.past)))) (record { node = v; group = i })
-    group-first has before =
-        first-below told files (length (standing_saves v h.past)) i (record { node = v; group = i })
-        (part-below h known v n r rule kind ks all frames i part is some)
-        before (subst (λ fs. IsFirstOther told fs (record { node = v; group = i })) (sym one)
-        (first-one told (record { node = v; group = i; name = name; bytes = layout shape (arrays_at h v part) })
-        (record { node = v; group = i }) refl refl has))
+    group-first has before = group-ends (IsDifference told (record { node = v; group = i })) (record { other = has; node = refl; group = refl }) before
 
   -- all groups are as they are to be where those are that have a position
   pub groups-same : (i : ℕ) → length (drop (i * r.count) ks) ≤ 0 → ((k : ℕ) → k < i → All (IsSame told) (files k))

@@ -1,3 +1,4 @@
+pub mod Unread
 pub mod Parts
 pub mod Fronts
 pub mod Positions

@@ -22,7 +22,7 @@ use Rattle.graph_files.specs.OutFiles.{file_shape}
 use Rattle.graph_files.specs.OutgoingLaws.{length-arrays_out}
 use Rattle.run_laws.specs.Results.{contents}
 use Rattle.flow_saver.specs.HistoryFiles.{kind_rows}
-use Rattle.data_check.specs.ComparedFiles.{HasOther, IsSame, IsFirstOther, file_of}
+use Rattle.data_check.specs.ComparedFiles.{ComparedFile, HasOther, IsSame, EndsAt, IsDifference, IsFirstOther, file_of}
 use Rattle.data_check.specs.Fronts.{FrontValue, GoesOn, IsVerdict}
 use Rattle.data_check.specs.Histories.{HistoryValue, IsHistory, arrays_at, all_arrays}
 use Rattle.data_check.specs.declared.difference.Difference.{Difference}
@@ -66,7 +66,10 @@ module _ (told : Option Files) (v : ℕ) (name bytes : List ℕ) (o : Option (Li
       subst (λ p. All (IsSame told) (file_of v 0 name p)) (sym is)
       (All-cons (IsSame told) (record { node = v; group = 0; name = name; bytes = bytes }) [] has (All-nil (IsSame told)))
 
+  pub one-ends : (Ends : ComparedFile → Type 0) → Ends (record { node = v; group = 0; name = name; bytes = bytes }) → EndsAt told (file_of v 0 name o) Ends
+  one-ends Ends ends =
+      subst (λ p. EndsAt told (file_of v 0 name p) Ends) (sym is)
+      (first-one told Ends (record { node = v; group = 0; name = name; bytes = bytes }) ends)
+
   pub one-other : (d : Difference) → d.node ≡ v → d.group ≡ 0 → HasOther told name bytes → IsFirstOther told (file_of v 0 name o) d
-  one-other d node group has =
-      subst (λ p. IsFirstOther told (file_of v 0 name p) d) (sym is)
-      (first-one told (record { node = v; group = 0; name = name; bytes = bytes }) d node group has)
+  one-other d node group has = one-ends (IsDifference told d) (record { other = has; node = node; group = group })

@@ -1,6 +1,6 @@
 -- The files of a history that are compared with those of a library: all but one under the log's own name, node by node in the graph's order, and a
 -- file node's groups in theirs.
-use Rattle.std.specs.Prelude.{◌≡◌, ◌≢◌, ℕ, All, List, [], ◌∷◌, ◌++◌, length, Option, Some, None, Result, Ok, Err, codes, if◌then◌else◌}
+use Rattle.std.specs.Prelude.{◌≡◌, ◌≢◌, ◌⊎◌, ℕ, All, List, [], ◌∷◌, ◌++◌, length, Option, Some, None, Result, Ok, Err, codes, if◌then◌else◌}
 use Rattle.std.specs.FinMap as map
 use Rattle.std.specs.List.{flat_map, range_with_len}
 use Rattle.std.specs.Option.{option_map_or}
@@ -9,7 +9,7 @@ use Rattle.nd_base.specs.Array.{StackValue}
 use Rattle.nd_base.specs.declared.graph.Graph.{Graph}
 use Rattle.nd_base.specs.declared.graph.NodeRule.{NodeRule}
 use Rattle.nd_base.specs.GraphRules.{rule_at}
-use Rattle.edge_traits.specs.Faults.{Rose}
+use Rattle.edge_traits.specs.Faults.{LibraryCall, SizeCall, ReadCall, Rose}
 use Rattle.edge_traits.specs.Files.{Files, HasFile}
 use Rattle.flow_journal.specs.Pasts.{Past}
 use Rattle.flow_journal.specs.Unsaved.{standing_saves}
@@ -76,16 +76,24 @@ IsSame told f = HasFile told f.name f.bytes
 abbrev pub IsOther : Option Files → ComparedFile → Type 0
 IsOther told f = HasOther told f.name f.bytes
 
--- this is the first of these files that isn't as it is to be: those before it are
-pub record IsFirstOther (told : Option Files) (files : List ComparedFile) (d : Difference) : Type 0 where
+-- the comparison of these files ends at this one: those before it are as they are to be
+pub record EndsAt (told : Option Files) (files : List ComparedFile) (Ends : ComparedFile → Type 0) : Type 0 where
   pub before : List ComparedFile
   pub file : ComparedFile
   pub after : List ComparedFile
   pub listed : files ≡ before ++ file ∷ after
   pub same : All (IsSame told) before
-  pub other : IsOther told file
-  pub node : d.node ≡ file.node
-  pub group : d.group ≡ file.group
+  pub ends : Ends file
+
+-- the difference is that this file isn't as it is to be
+pub record IsDifference (told : Option Files) (d : Difference) (f : ComparedFile) : Type 0 where
+  pub other : IsOther told f
+  pub node : d.node ≡ f.node
+  pub group : d.group ≡ f.group
+
+-- this is the first of these files that isn't as it is to be
+abbrev pub IsFirstOther : Option Files → List ComparedFile → Difference → Type 0
+IsFirstOther told files d = EndsAt told files (IsDifference told d)
 
 -- the first of these files that isn't as it is to be, or None where each is
 abbrev pub IsFound : Option Files → List ComparedFile → Option Difference → Type 0
@@ -101,6 +109,26 @@ AreAllSame told g stack prefix P = All (IsSame told) (compared_files g stack pre
 -- this is the first file of the history that isn't as the run writes it
 abbrev pub IsFirstDifference : Option Files → Graph → StackValue → (prefix : List ℕ) → Past → Difference → Type 0
 IsFirstDifference told g stack prefix P d = IsFirstOther told (compared_files g stack prefix P) d
+
+-- WHERE THE LIBRARY FAILED, by its counts of faults at each call and name
+
+-- no call has failed
+abbrev pub NoneFailed : (before now : LibraryCall → List ℕ → ℕ) → Type 0
+NoneFailed before now = (call : LibraryCall) → (name : List ℕ) → now call name ≡ before call name
+
+-- a call for this file has failed
+abbrev pub HasFailed : (before now : LibraryCall → List ℕ → ℕ) → (name : List ℕ) → Type 0
+HasFailed before now name = Rose (before SizeCall name) (now SizeCall name) ⊎ Rose (before ReadCall name) (now ReadCall name)
+
+-- a call for one of these files has failed, and those before it are as they are to be
+abbrev pub IsFirstUnread : Option Files → (before now : LibraryCall → List ℕ → ℕ) → List ComparedFile → Type 0
+IsFirstUnread told before now files = EndsAt told files (λ f. HasFailed before now f.name)
+
+-- of a comparison that the library ended `Unread` says where; with every other answer no call has failed
+abbrev pub TellsFault : {T : Type 0} → Result T CompareFault → (Unread : Type 0) → (before now : LibraryCall → List ℕ → ℕ) → Type 0
+TellsFault (Ok x) Unread before now = NoneFailed before now
+TellsFault (Err Failed) Unread before now = Unread
+TellsFault (Err OutOfMemory) Unread before now = NoneFailed before now
 
 -- the library's count of faults rose where the library failed; with every other answer it stays
 abbrev pub IsCompareCause : {T : Type 0} → Result T CompareFault → (before now : ℕ) → Type 0

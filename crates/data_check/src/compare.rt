@@ -8,7 +8,7 @@ ghost use Rattle.chain_plain.specs.Plans.{plan_of};
 ghost use Rattle.graph_conf.specs.Loads.{limit_fault};
 ghost use Rattle.board_rules.specs.RunMeasures.{run_setting};
 ghost use Rattle.run_laws.specs.Results.{IsFinishedRun};
-ghost use Rattle.data_check.specs.ComparedFiles.{log_node, node_files, compared_files, IsFound, IsCompareCause};
+ghost use Rattle.data_check.specs.ComparedFiles.{log_node, node_files, compared_files, IsFound, IsFirstUnread, TellsFault, IsCompareCause};
 
 use crate::difference::Difference;
 use crate::fault::CompareFault;
@@ -37,6 +37,8 @@ fn difference_at<L: Library>(
     ensures found { IfOk result (λ found. IsFound (L.holds library.old)
         (node_files history.now.graph history.now.stack history.now.prefix history.now.past node) found) }
     ensures cause { IsCompareCause result (L.faults library.old) (L.faults library.new) }
+    ensures unread { TellsFault result (IsFirstUnread (L.holds library.old) (L.faults_at library.old) (L.faults_at library.new)
+        (node_files history.now.graph history.now.stack history.now.prefix history.now.past node)) (L.faults_at library.old) (L.faults_at library.new) }
 {
     let Some(rule) = history.rule(node) else {
         return Ok(None);
@@ -78,6 +80,10 @@ pub fn first_difference<L: Library>(
 
     // A fault of the library only where its count rose.
     ensures cause { IsCompareCause result (L.faults library.old) (L.faults library.new) }
+
+    // At which file that was: each before it is as the run writes it.
+    ensures unread { TellsFault result (IsFirstUnread (L.holds library.old) (L.faults_at library.old) (L.faults_at library.new)
+        (compared_files plan.now.graph stack.now prefix.now log.now.past)) (L.faults_at library.old) (L.faults_at library.new) }
 {
     let history = History {
         plan,

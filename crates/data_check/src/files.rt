@@ -11,7 +11,7 @@ ghost use Rattle.cdf_write.specs.Writable.{IsWritable};
 ghost use Rattle.flow_journal.specs.Unsaved.{standing_saves};
 ghost use Rattle.graph_files.specs.OutFiles.{file_shape, group_name, stats_name};
 ghost use Rattle.flow_saver.specs.HistoryFiles.{kind_rows};
-ghost use Rattle.data_check.specs.ComparedFiles.{file_of, group_files, IsFound, IsCompareCause};
+ghost use Rattle.data_check.specs.ComparedFiles.{file_of, group_files, IsFound, HasFailed, IsFirstUnread, TellsFault, IsCompareCause};
 ghost use Rattle.data_check.specs.Fronts.{IsVerdict};
 ghost use Rattle.data_check.specs.Histories.{arrays_at};
 
@@ -80,6 +80,8 @@ fn is_group<L: Library>(
     ensures files { L.holds library.new ≡ L.holds library.old }
     ensures verdict { IfOk result (λ same. IsVerdict same (L.holds library.old) file.now (layout shape.now (arrays_at history.now node positions.now))) }
     ensures cause { IsCompareCause result (L.faults library.old) (L.faults library.new) }
+    ensures unread { TellsFault result (HasFailed (L.faults_at library.old) (L.faults_at library.new) file.now) (L.faults_at library.old)
+        (L.faults_at library.new) }
 {
     let rows = positions.len() as u32;
     let mut front = Front::of(library, file)?;
@@ -122,6 +124,9 @@ pub(crate) fn first_group<L: Library>(
         (flat_map (group_files history.now.graph history.now.stack history.now.prefix history.now.past node rule.now)
         (range_with_len 0 (length (standing_saves node history.now.past)))) found) }
     ensures cause { IsCompareCause result (L.faults library.old) (L.faults library.new) }
+    ensures unread { TellsFault result (IsFirstUnread (L.holds library.old) (L.faults_at library.old) (L.faults_at library.new)
+        (flat_map (group_files history.now.graph history.now.stack history.now.prefix history.now.past node rule.now)
+        (range_with_len 0 (length (standing_saves node history.now.past))))) (L.faults_at library.old) (L.faults_at library.new) }
 {
     let shape = history.shape(alloc, node)?;
     let positions = history.positions(alloc, node, rule)?;
@@ -158,6 +163,9 @@ pub(crate) fn rows_difference<L: Library>(
     ensures found { IfOk result (λ found. IsFound (L.holds library.old) (file_of node 0 (stats_name history.now.prefix rule.now.name)
         (kind_rows history.now.graph history.now.stack history.now.past node rule.now.kind)) found) }
     ensures cause { IsCompareCause result (L.faults library.old) (L.faults library.new) }
+    ensures unread { TellsFault result (IsFirstUnread (L.holds library.old) (L.faults_at library.old) (L.faults_at library.new)
+        (file_of node 0 (stats_name history.now.prefix rule.now.name)
+        (kind_rows history.now.graph history.now.stack history.now.past node rule.now.kind))) (L.faults_at library.old) (L.faults_at library.new) }
 {
     let name = rows_name(alloc, history.prefix(), rule.name.text())?;
     let positions = history.positions(alloc, node, rule)?;

@@ -1,7 +1,7 @@
 //! A file that is compared from its start on.
 
 ghost use Rattle.std.specs.Prelude.{◌≡◌, ◌++◌, ◌↔◌, [], List, ℕ, length, IsTrue, IfOk};
-ghost use Rattle.edge_traits.specs.Faults.{Counts};
+ghost use Rattle.edge_traits.specs.Faults.{SizeCall, ReadCall, Counts, CountsAt};
 ghost use Rattle.data_check.specs.Fronts.{HasFront, GoesOn};
 
 use crate::part::has_part;
@@ -38,6 +38,7 @@ impl<'a> Front<'a> {
         ensures name { IfOk result (λ f. f.name ≡ name.now) }
         ensures front { IfOk result (λ f. HasFront (L.holds library.old) f []) }
         ensures cause { Counts (L.faults library.old) (L.faults library.new) result }
+        ensures at { CountsAt SizeCall name.now (L.faults_at library.old) (L.faults_at library.new) result }
     {
         let size = library.size(name)?;
         Ok(Front { name, size, at: 0 })
@@ -73,6 +74,7 @@ impl<'a> Front<'a> {
         ensures goes { IfOk result (λ same. (front : List ℕ) → HasFront (L.holds library.old) self.old front
             → GoesOn same (L.holds library.old) self.new (front ++ bytes.now)) }
         ensures cause { Counts (L.faults library.old) (L.faults library.new) result }
+        ensures at { CountsAt ReadCall self.old.name (L.faults_at library.old) (L.faults_at library.new) result }
     {
         let count = bytes.len() as u64;
         if count > self.size - self.at || !has_part(library, self.name, self.at, bytes)? {

@@ -1,7 +1,7 @@
 //! Some bytes of a file.
 
 ghost use Rattle.std.specs.Prelude.{◌≡◌, ◌+◌, ◌<◌, ◌^◌, ◌↔◌, ℕ, List, length, IsTrue, IfOk};
-ghost use Rattle.edge_traits.specs.Faults.{Counts};
+ghost use Rattle.edge_traits.specs.Faults.{ReadCall, Counts, CountsAt};
 ghost use Rattle.edge_traits.specs.Files.{IsTold};
 ghost use Rattle.data_check.specs.Fronts.{HasPart};
 
@@ -25,6 +25,7 @@ pub(crate) fn has_part<L: Library>(
     ensures files { L.holds library.new ≡ L.holds library.old }
     ensures same { IfOk result (λ same. (file : List ℕ) → IsTold (L.holds library.old) name.now file → IsTrue same ↔ HasPart file off bytes.now) }
     ensures cause { Counts (L.faults library.old) (L.faults library.new) result }
+    ensures at { CountsAt ReadCall name.now (L.faults_at library.old) (L.faults_at library.new) result }
 {
     let mut piece = [0; PIECE];
     let mut done = 0;

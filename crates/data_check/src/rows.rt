@@ -5,7 +5,7 @@ ghost use Rattle.std.specs.List.{flat_map};
 ghost use Rattle.nd_base.specs.GraphRules.{IsStats};
 ghost use Rattle.nd_stats.specs.Row.{row};
 ghost use Rattle.chain_plain.specs.OneThread.{measure_of_array};
-ghost use Rattle.data_check.specs.ComparedFiles.{IsCompareCause};
+ghost use Rattle.data_check.specs.ComparedFiles.{HasFailed, TellsFault, IsCompareCause};
 ghost use Rattle.data_check.specs.Fronts.{HasFront, GoesOn};
 ghost use Rattle.data_check.specs.Histories.{arrays_at};
 ghost use Rattle.data_check.specs.Rows.{row_by, IsRowKind};
@@ -88,6 +88,8 @@ pub(crate) fn go_on<L: Library>(
     ensures goes { IfOk result (λ same. (before : List ℕ) → HasFront (L.holds library.old) front.old before
         → GoesOn same (L.holds library.old) front.new (before ++ flat_map (row_by kind.entry) (arrays_at history.now node positions.now))) }
     ensures cause { IsCompareCause result (L.faults library.old) (L.faults library.new) }
+    ensures unread { TellsFault result (HasFailed (L.faults_at library.old) (L.faults_at library.new) front.old.name) (L.faults_at library.old)
+        (L.faults_at library.new) }
 {
     for &index in positions {
         let row = row_at(alloc, history, node, kind, index)?;

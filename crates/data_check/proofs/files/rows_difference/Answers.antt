@@ -1,4 +1,5 @@
-use Rattle.std.proofs.Common.{◌≡◌, ℕ, Bool, List, [], sym, ap, subst, ◌∙◌, refl}
+use Rattle.std.proofs.Common.{◌≡◌, ℕ, Bool, List, [], sym, ap, subst, ◌∙◌, refl, inl}
+use Rattle.std.proofs.lemmas.Result.{err_from_is_err_and}
 use Rattle.std.specs.Prelude.{Option}
 use Rattle.std.specs.List.{flat_map}
 use Rattle.edge_traits.specs.Files.{Files, HasFile}
@@ -6,11 +7,13 @@ use Rattle.nd_stats.specs.Row.{row}
 use Rattle.chain_plain.specs.OneThread.{measure_of_array}
 use Rattle.graph_files.specs.OutFiles.{stats_name}
 use Rattle.flow_saver.specs.HistoryFiles.{kind_rows}
-use Rattle.data_check.specs.ComparedFiles.{HasOther}
+use Rattle.data_check.specs.ComparedFiles.{HasFailed, HasOther}
+use Rattle.data_check.specs.declared.difference.Difference.{Difference}
 use Rattle.data_check.specs.Fronts.{HasFront, GoesOn}
 use Rattle.data_check.specs.Histories.{arrays_at}
 use Rattle.data_check.proofs.Fronts.{front-whole, front-longer, lacks-other}
-use Rattle.data_check.proofs.Verdicts.{rows-are, one-same, one-other}
+use Rattle.data_check.proofs.Unread.{failed-then, fault-then}
+use Rattle.data_check.proofs.Verdicts.{rows-are, one-same, one-ends, one-other}
 use Rattle.data_check.proofs.files.rows_difference.Goals as goal
 use Rattle.data_check.proofs.files.rows_difference.Goals.{else-same-via-then-same+else-is_at_end, else-same-via-else-same}
 
@@ -65,3 +68,47 @@ returns-clause-found g c =
     (ap (arrays_at h v) c.deref.ensures.value ∙ c.in_ok-positions.ensures.arrays) in
     one-other held v name bytes (kind_rows h.graph h.stack h.past v n.kind) rows (record { node = v; group = 0 }) refl refl
     (subst (λ w. HasOther held w bytes) named other)
+
+pub returns-in_err-front-clause-unread : goal.returns-in_err-front-clause-unread
+returns-in_err-front-clause-unread g c =
+    let held : Option Files = g.L.Library.holds c.args.library.now in
+    let h = c.args.history.now in
+    let v = c.args.node in
+    let n = c.args.rule.now in
+    let ks = c.in_ok-positions.positions.items in
+    let bytes : List ℕ = flat_map (λ a. row (measure_of_array c.args.stats.now a)) (arrays_at h v ks) in
+    let name = stats_name h.prefix n.name in
+    let named : c.as_str.result.now ≡ name =
+    c.as_str.ensures.value ∙ (c.in_ok-name.ensures
+    ∙ (ap (λ p. stats_name p c.text.result.now) c.prefix.ensures.value ∙ ap (stats_name h.prefix) c.text.ensures)) in
+    let before = g.L.Library.faults_at c.args.library.now in
+    let rows = rows-are h v n c.args.stats.now ks c.prefix.ensures.known c.requires.rule c.requires.kind c.in_ok-positions.ensures.arrays in
+    let now = g.L.Library.faults_at c.of.new.library in
+    let p = err_from_is_err_and c.from_residual-in_err-front.result c.from_residual-in_err-front.ensures.1 in
+    rw (p.1, p.2) (one-ends held v name bytes (kind_rows h.graph h.stack h.past v n.kind) rows (λ f. HasFailed before now f.name)
+    (subst (HasFailed before now) named (inl c.in_err-front.ensures.at.1)))
+
+pub returns-in_err-same-clause-unread : goal.returns-in_err-same-clause-unread
+returns-in_err-same-clause-unread g c =
+    let held : Option Files = g.L.Library.holds c.args.library.now in
+    let h = c.args.history.now in
+    let v = c.args.node in
+    let n = c.args.rule.now in
+    let ks = c.deref.result.now in
+    let bytes : List ℕ = flat_map (λ a. row (measure_of_array c.args.stats.now a)) (arrays_at h v ks) in
+    let name = stats_name h.prefix n.name in
+    let named : c.as_str.result.now ≡ name =
+    c.as_str.ensures.value ∙ (c.in_ok-name.ensures
+    ∙ (ap (λ p. stats_name p c.text.result.now) c.prefix.ensures.value ∙ ap (stats_name h.prefix) c.text.ensures)) in
+    let before = g.L.Library.faults_at c.args.library.now in
+    let rows = rows-are h v n c.args.stats.now ks c.prefix.ensures.known c.requires.rule c.requires.kind
+    (ap (arrays_at h v) c.deref.ensures.value ∙ c.in_ok-positions.ensures.arrays) in
+    let middle = g.L.Library.faults_at c.of.new.library in
+    let now = g.L.Library.faults_at c.go_on.new.library in
+    let none = c.in_ok-front.ensures.at in
+    let front = c.in_ok-front.front.name in
+    let p = err_from_is_err_and c.from_residual-in_err-same.result c.from_residual-in_err-same.ensures.1 in
+    rw (p.1, p.2) (fault-then before middle now none Bool (Option Difference) (HasFailed middle now front) _ _
+    (λ failed. one-ends held v name bytes (kind_rows h.graph h.stack h.past v n.kind) rows (λ f. HasFailed before now f.name)
+    (subst (HasFailed before now) (c.in_ok-front.ensures.name ∙ named) (failed-then before middle now none front failed)))
+    c.in_err-same.ensures.unread)

@@ -1,6 +1,7 @@
 use Rattle.std.proofs.Common.{◌≡◌, ◌∙◌, ◌+◌, ◌-◌, ◌≤◌, ◌++◌, length, take, drop, refl, sym, arith}
 use Rattle.std.proofs.lemmas.List.{length-take}
 use Rattle.edge_traits.specs.Files.{IsTold}
+use Rattle.data_check.proofs.Unread.{none-then}
 use Rattle.data_check.proofs.Parts.{part-more, part-piece, part-within, pieces-alike, pieces-unlike, read-front}
 use Rattle.data_check.proofs.part.has_part.Goals as goal
 use Rattle.data_check.proofs.part.has_part.Goals.{then-count-eq0-via-then-count-eq0, then-count-eq0-via-else-count-eq0+then-ne}
@@ -46,6 +47,7 @@ loop-done-preserved g c =
       within = omega (arith, e.bound, c.read_at.auto.buf, length-take asked c.loop-done.piece, c.min-asked.ensures);
       same = e.files ∙ i.same;
       none = e.cause ∙ i.none;
+      at = none-then (g.L.Library.faults_at c.args.library.now) (g.L.Library.faults_at c.loop-done.library) (g.L.Library.faults_at c.read_at.new.self) i.at e.at;
       front =
           λ file told.
           let told_then : IsTold (holds c.loop-done.library) c.args.name.now file = rw i.same told in

@@ -1,5 +1,6 @@
 use Rattle.std.proofs.Common.{◌≡◌, ◌-◌, ◌≤◌, ℕ, List, length, take, drop}
 use Rattle.edge_traits.specs.Files.{IsTold}
+use Rattle.data_check.specs.ComparedFiles.{NoneFailed}
 use Rattle.data_check.proofs.part.has_part.Given as goal
 
 -- the first bytes are those of the file
@@ -11,6 +12,7 @@ invariant-loop-done g l =
       within : l.done ≤ length l.bytes;
       same : holds l.library ≡ holds l.fn.library;
       none : faults l.library ≡ faults l.fn.library;
+      at : NoneFailed (g.L.Library.faults_at l.fn.library) (g.L.Library.faults_at l.library);
       front : (file : List ℕ) → IsTold (holds l.fn.library) l.name file → take l.done (drop l.off file) ≡ take l.done l.bytes;
     }
 

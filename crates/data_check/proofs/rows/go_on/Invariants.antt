@@ -1,5 +1,6 @@
 use Rattle.std.proofs.Common.{◌≡◌, ℕ, List, ◌++◌, take}
 use Rattle.std.specs.List.{flat_map}
+use Rattle.data_check.specs.ComparedFiles.{NoneFailed}
 use Rattle.data_check.specs.Fronts.{HasFront}
 use Rattle.data_check.specs.Histories.{arrays_at}
 use Rattle.data_check.specs.Rows.{row_by}
@@ -12,6 +13,7 @@ invariant-loop-index g l =
     record {
       same : holds l.library ≡ holds l.fn.library;
       none : g.L.Library.faults l.library ≡ g.L.Library.faults l.fn.library;
+      at : NoneFailed (g.L.Library.faults_at l.fn.library) (g.L.Library.faults_at l.library);
       name : l.front.name ≡ l.fn.front.name;
       size : l.front.size ≡ l.fn.front.size;
       goes : (before : List ℕ) → HasFront (holds l.fn.library) l.fn.front before
