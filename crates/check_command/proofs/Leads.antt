@@ -1,7 +1,6 @@
 -- The files of a library lead to one end.
-use Rattle.std.proofs.Common.{◌≡◌, ℕ, List, Some, Ok, Err, refl, ap, sym, subst, ◌∙◌, inl, inr}
+use Rattle.std.proofs.Common.{◌≡◌, ℕ, List, Some, Ok, Err, ap, sym, subst, ◌∙◌, inl, inr}
 use Rattle.std.specs.Prelude.{Result}
-use Rattle.std.specs.FinMap as map
 use Rattle.edge_traits.specs.Files.{Files, HasFile}
 use Rattle.tool_commands.specs.declared.status.Status.{Status}
 use Rattle.tool_commands.specs.Inputs.{Input, Meaning, meaning_of, IsReadAs, IsRefusedAs}

@@ -1,3 +1,4 @@
 pub mod Leads
 pub mod Exact
 pub mod Stops
+pub mod Unread

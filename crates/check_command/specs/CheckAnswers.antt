@@ -1,7 +1,5 @@
 -- What each status of a check says of the words, of the files that were read, and of what was printed.
 use Rattle.std.specs.Prelude.{◌≡◌, ◌≢◌, ℕ, ◌<◌, ◌≤◌, All, List, length, reverse, codes, Option, None, Some, Result, Ok, Err}
-use Rattle.nd_base.specs.Array.{StackValue}
-use Rattle.nd_base.specs.declared.graph.Graph.{Graph}
 use Rattle.edge_traits.specs.Faults.{Rose}
 use Rattle.edge_traits.specs.Files.{Files, HasFile}
 use Rattle.edge_traits.specs.Written.{with_written}
@@ -10,7 +8,6 @@ use Rattle.flow_journal.specs.Pasts.{Past}
 use Rattle.flow_journal.specs.Setting.{Setting}
 use Rattle.flow_journal.specs.Spelling.{text_of}
 use Rattle.flow_journal.specs.TextFaults.{Fits, IsFirstBadLine}
-use Rattle.flow_journal.specs.declared.read.LogFault.{LogFault}
 use Rattle.flow_journal.specs.declared.read.LogFault.TheVariants as text
 use Rattle.journal_check.specs.Verdicts.{Checks}
 use Rattle.journal_check.specs.declared.fault.CheckFault.{CheckFault}
@@ -18,12 +15,10 @@ use Rattle.journal_check.specs.declared.fault.CheckFault.TheVariants as verdict
 use Rattle.run_laws.specs.Results.{IsFinishedRun}
 use Rattle.data_check.specs.ComparedFiles.{AreAllSame, IsFirstDifference}
 use Rattle.data_check.specs.declared.difference.Difference.{Difference}
-use Rattle.tool_commands.specs.Answers.{IsRefusal}
 use Rattle.tool_commands.specs.Outcomes.{Leads}
 use Rattle.tool_commands.specs.Printed.{IsCutShort}
 use Rattle.tool_commands.specs.Reads.{IsSized}
 use Rattle.tool_commands.specs.Works.{Source, sources}
-use Rattle.tool_commands.specs.declared.status.Status.{Status}
 use Rattle.tool_commands.specs.declared.status.Status.TheVariants.{Done, Usage, GraphText, GraphRule, StackBytes, Limit, Sizes, ReadFault, ShelfFault, OutFault}
 use Rattle.tool_commands.specs.declared.status.Status.TheVariants.{OutOfMemory}
 use Rattle.check_command.specs.CheckCommand.{CheckCommand}

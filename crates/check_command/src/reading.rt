@@ -2,7 +2,9 @@
 
 ghost use Rattle.std.specs.Prelude.{◌≡◌, IfOk, IfErr, OnOk};
 ghost use Rattle.check_command.specs.CheckStages.{log_read_status, LogStops};
-ghost use Rattle.check_command.specs.CheckAnswers.{IsLogRead};
+ghost use Rattle.check_command.specs.CheckAnswers.{IsLogRead, most_log_bytes};
+ghost use Rattle.check_command.specs.CheckUnread.{IfCheckUnread};
+ghost use Rattle.tool_commands.specs.Unread.{NoneFailed, FailedAt};
 
 use crate::status::CheckStatus;
 use edge_traits::Library;
@@ -32,8 +34,11 @@ pub(crate) fn load_log<L: Library>(
 ) -> Result<Log, CheckStatus>
     ensures read { IfOk result (λ log. IsLogRead (L.holds library.old) name.now log.past) }
     ensures stays { OnOk result (L.faults library.new ≡ L.faults library.old) }
+    ensures none_failed { OnOk result (NoneFailed (L.faults_at library.old) (L.faults_at library.new)) }
     ensures files { L.holds library.new ≡ L.holds library.old }
     ensures err { IfErr result (λ s. LogStops s (L.holds library.old) name.now (L.faults library.old) (L.faults library.new)) }
+    ensures unread { IfErr result (λ s. IfCheckUnread s (FailedAt (L.holds library.old) most_log_bytes (L.faults_at library.old) (L.faults_at library.new)
+        name.now)) }
 {
     let bytes = match read_file(alloc, library, name, LOG_LIMIT) {
         Ok(bytes) => bytes,

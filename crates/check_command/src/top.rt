@@ -3,6 +3,7 @@
 ghost use Rattle.std.specs.Prelude.{◌≡◌, map, Some, string_bytes};
 ghost use Rattle.check_command.specs.CheckAnswers.{check_status_of, CheckEnds, IsCheckCause};
 ghost use Rattle.check_command.specs.CheckCommand.{check_command_of};
+ghost use Rattle.check_command.specs.CheckUnread.{FailsInCheck, FailsInWords, IfCheckUnread};
 ghost use Rattle.check_command.specs.CheckWords.{check_told};
 
 use crate::reading::load_log;
@@ -23,6 +24,8 @@ fn check<L: Library, T: Sink>(
 ) -> Result<(), CheckStatus>
     ensures ends { CheckEnds (check_status_of result) (Some (check_told words.entry)) (L.holds library.old) (T.written out.old) (T.written out.new) }
     ensures cause { IsCheckCause (check_status_of result) (L.faults library.old) (L.faults library.new) (T.faults out.old) (T.faults out.new) }
+    ensures unread { IfCheckUnread (check_status_of result)
+        (FailsInCheck (L.holds library.old) (L.faults_at library.old) (L.faults_at library.new) (check_told words.entry)) }
     ensures library { L.holds library.new ≡ L.holds library.old }
 {
     let (plan, stack) = load_sources(alloc, library, words.graph, words.stack)?;
@@ -50,6 +53,10 @@ pub fn check_top<L: Library, T: Sink>(
 
     // Faults come only where their object's count rose.
     ensures cause { IsCheckCause result (L.faults library.old) (L.faults library.new) (T.faults out.old) (T.faults out.new) }
+
+    // A fault of the library comes only in the order in which the files are read, behind those that were read and lead to it.
+    ensures unread { IfCheckUnread result (FailsInWords (L.holds library.old) (L.faults_at library.old) (L.faults_at library.new)
+        (check_command_of (map string_bytes words.now))) }
     ensures library { L.holds library.new ≡ L.holds library.old }
 {
     let Some(words) = check_in(words) else {
