@@ -14,7 +14,7 @@ use Rattle.tool_commands.specs.Outcomes.{Leads}
 use Rattle.tool_commands.specs.Works.{Source, sources}
 use Rattle.tool_commands.specs.declared.status.Status.TheVariants.{Done, Usage, GraphText, GraphRule, StackBytes, Limit, Sizes, ReadFault, ShelfFault, OutFault}
 use Rattle.tool_commands.specs.declared.status.Status.TheVariants.{OutOfMemory}
-use Rattle.check_command.specs.CheckAnswers.{IsAnswer, CommandEnds}
+use Rattle.check_command.specs.CheckAnswers.{IsAnswer, CommandEnds, IsCheckCause}
 use Rattle.check_command.specs.CheckCommand.{CheckCommand}
 use Rattle.check_command.specs.CheckLaws.{OneAnswer}
 use Rattle.check_command.specs.declared.status.CheckStatus.{CheckStatus}
@@ -28,26 +28,27 @@ use Rattle.replay_top.proofs.FileNames.{log_is}
 
 -- WHERE DONE IS RIGHT, each other answer is wrong
 
-module _ (one : OneAnswer) (files : Files) (c : CheckCommand) (right : IsAnswer (Some files) c (Common Done)) where
-  same : (status : CheckStatus) → IsAnswer (Some files) c status → IsAccepted status
+module _ (one : OneAnswer) (files : Files) (c : CheckCommand) (right : IsAnswer (Some files) c (Common Done)) (library library_now faults faults_now : ℕ) where
+  same : (status : CheckStatus) → IsAnswer (Some files) c status → IsAccepted status library library_now faults faults_now
   same status is = inl (one files c status (Common Done) is right)
 
-  accepted : (status : CheckStatus) (sink now : Option (List ℕ)) → CommandEnds status c (Some files) sink now → IsAccepted status
-  accepted (Common Done) sink now ends = inl refl
-  accepted (Common OutFault) sink now ends = inr (inl refl)
-  accepted (Common ReadFault) sink now ends = inr (inr (inl refl))
-  accepted (Common OutOfMemory) sink now ends = inr (inr (inr refl))
-  accepted (Common Usage) sink now ends = absurd ends
-  accepted (Common GraphText) sink now ends = same (Common GraphText) ends.0
-  accepted (Common (GraphRule fault)) sink now ends = same (Common (GraphRule fault)) ends.0
-  accepted (Common (StackBytes fault)) sink now ends = same (Common (StackBytes fault)) ends.0
-  accepted (Common (Limit fault)) sink now ends = same (Common (Limit fault)) ends.0
-  accepted (Common Sizes) sink now ends = absurd ends
-  accepted (Common ShelfFault) sink now ends = absurd ends
-  accepted (LongLog bytes) sink now ends = same (LongLog bytes) ends.0
-  accepted (LogBytes fault) sink now ends = same (LogBytes fault) ends.0
-  accepted (LogRefused fault) sink now ends = same (LogRefused fault) ends.0
-  accepted (FileDiffers d) sink now ends = same (FileDiffers d) ends.0
+  accepted : (status : CheckStatus) (sink now : Option (List ℕ)) → CommandEnds status c (Some files) sink now
+      → IsCheckCause status library library_now faults faults_now → IsAccepted status library library_now faults faults_now
+  accepted (Common Done) sink now ends cause = inl refl
+  accepted (Common OutOfMemory) sink now ends cause = inr (inl refl)
+  accepted (Common OutFault) sink now ends cause = inr (inr (inl (refl, cause.1)))
+  accepted (Common ReadFault) sink now ends cause = inr (inr (inr (refl, cause.0)))
+  accepted (Common Usage) sink now ends cause = absurd ends
+  accepted (Common GraphText) sink now ends cause = same (Common GraphText) ends.0
+  accepted (Common (GraphRule fault)) sink now ends cause = same (Common (GraphRule fault)) ends.0
+  accepted (Common (StackBytes fault)) sink now ends cause = same (Common (StackBytes fault)) ends.0
+  accepted (Common (Limit fault)) sink now ends cause = same (Common (Limit fault)) ends.0
+  accepted (Common Sizes) sink now ends cause = absurd ends
+  accepted (Common ShelfFault) sink now ends cause = absurd ends
+  accepted (LongLog bytes) sink now ends cause = same (LongLog bytes) ends.0
+  accepted (LogBytes fault) sink now ends cause = same (LogBytes fault) ends.0
+  accepted (LogRefused fault) sink now ends cause = same (LogRefused fault) ends.0
+  accepted (FileDiffers d) sink now ends cause = same (FileDiffers d) ends.0
 
 -- WHAT A RUN LEAVES
 
@@ -91,7 +92,7 @@ by_logs o c P done held logs is =
     (subst (λ (b : Bool). HoldsFiles b done.source c.prefix P o.objects.shelf_before o.objects.shelf_after) logs done.files)
 
 pub checks_accept : ComparedAreOfHistory → OneAnswer → ChecksAcceptRuns
-checks_accept history one o c P done logs held files is among graph stack leads status sink now ends =
+checks_accept history one o c P done logs held files is among graph stack leads status sink now ends library library_now faults faults_now cause =
     let holds = by_logs o c P done held logs is in
     let before = o.objects.shelf_before in
     let right : IsAnswer (Some files) (check_of graph stack c.prefix) (Common Done) = (
@@ -107,4 +108,4 @@ checks_accept history one o c P done logs held files is among graph stack leads 
         record { run = done.log.run; files = all_files history done.source c.prefix P before held files among holds },
       ),
     ) in
-    accepted one files (check_of graph stack c.prefix) right status sink now ends
+    accepted one files (check_of graph stack c.prefix) right library library_now faults faults_now status sink now ends cause
