@@ -221,7 +221,7 @@ def spelled(value):
 
 def is_of_form(value, values):
     """Returns whether a value has the form that the page on graphs gives its key."""
-    if "truth value" in values:
+    if "true" in values and "false" in values:
         fits = lambda it: isinstance(it, bool)
     elif re.search(r'"|text|letters|names|expression', values):
         words = re.findall(r'"([^"]+)"', values)
@@ -278,7 +278,8 @@ def tell_form(graph, key):
         if values and not is_of_form(value, values):
             has_float = any(isinstance(it, float) for it in (value if isinstance(value, list) else [value]))
             whole = "; whole numbers are written without a point and an exponent" if has_float else ""
-            return say(f"{graph.place(number, key)}: {key} = {spelled(value)} isn't allowed; {key} may be {values}{whole}")
+            hint = near(value, re.findall(r'"([^"]+)"', values)) if isinstance(value, str) else ""
+            return say(f"{graph.place(number, key)}: {key} = {spelled(value)} isn't allowed{hint}; {key} may be {values}{whole}")
     return None
 
 
@@ -367,6 +368,9 @@ def tell_graph_rule(graph, words):
     return tell_node(graph, fault, int(rest[0]))
 
 
+TOML_FORMS = 'a line is a table, as [run], or a node, as [[node]], or a key with its value, as queue = 64, and text stands in double quotes, as feed = "wait"'
+
+
 def tell_graph_text(call):
     """Says where a TOML reader stops."""
     name = call["GRAPH"]
@@ -380,7 +384,7 @@ def tell_graph_text(call):
             return say(f"{name} is a netCDF file, and {call.order()}")
         return say(f"{name} isn't text in UTF-8: byte {error.start}, in line {data[:error.start].count(10) + 1}")
     except tomllib.TOMLDecodeError as error:
-        return say(f"{name} isn't TOML: {error}")
+        return say(f"{name} isn't TOML: {error}; {TOML_FORMS}")
     graph = Graph(name)
     keys = [(number, *it) for number, table in enumerate([graph.run, *graph.nodes]) for it in table.items()]
     for number, key, value in keys:
@@ -471,12 +475,12 @@ HEADERS = {
     "TwoRecordDims": "it has two dimensions without a fixed length, and the classic format at most one: write it anew by a tool of the netCDF library",
     "ValueType": "it has a value type that the classic format hasn't: write it anew by a tool of the netCDF library",
 }
-COPY_CLASSIC = "in the classic form (for unsigned samples see docs/formats.md)"
+COPY_CLASSIC = "in the classic form (for unsigned and 64-bit samples see docs/formats.md)"
 FIRST_BYTES = (
     (
         b"\x89HDF",
         "it is a netCDF-4 or HDF5 file: 'nccopy -k classic {0} NEW.nc' writes netCDF-4 in the classic form; HDF5 with groups, as of NeXus, is read "
-        "in Python, and unsigned samples are changed first (docs/formats.md)",
+        "in Python, and unsigned and 64-bit samples are changed first (docs/formats.md)",
     ),
     (b"CDF\x05", f"it is a CDF-5 file: 'nccopy -k classic {{0}} NEW.nc' writes it {COPY_CLASSIC}"),
     (b"\x1f\x8b", "it is compressed: 'gunzip < {0} > NEW.nc' unpacks it"),
@@ -628,7 +632,8 @@ def tell_limit(call, words):
         return say(f"frames times nodes is {number:,}, and at most {MOST_ARRIVALS:,} are allowed: {fits}, or fewer nodes")
     if fault == "Kept":
         what = f"the statistics would keep {number:,} bins and profile sums over all frames, and at most {MOST_KEPT:,} are allowed"
-        return say(f"{what}: fewer bins (hist_size), no profiles, or a stack of 1 in {-(-number // MOST_KEPT)} of the frames")
+        fits = MOST_KEPT * sizes_in(stack)[0] // number
+        return say(f"{what}: fewer bins (hist_size), no profiles, or a stack of up to {fits:,} frames")
     node = nodes[int(rest[0]) - 1] if nodes else {}
     form = node.get("cdf", 1) if node else 1
     what = f"node {node['name']}" if node else "copy"
@@ -877,6 +882,12 @@ def tell_files(prefix, call):
     print("".join(f"{it}\0" for it in sorted(names)), end="")
 
 
+def tell_replaced(prefix, call):
+    """Says whose rows the log of a run takes the place of."""
+    if may_be_graph(call["GRAPH"]) and any(it.get("name") == "log" and it.get("kind") == "stats" for it in Graph(call["GRAPH"]).nodes):
+        say(f"the log takes the place of the rows of the statistics node log in {prefix}log.txt: another name of the node keeps them (docs/outputs.md)")
+
+
 # --- the trial build
 
 
@@ -909,7 +920,7 @@ def tell_time(called, call):
 if __name__ == "__main__":
     what, of, *words = sys.argv[1:]
     try:
-        {"refusal": tell_refusal, "losses": tell_losses, "threads": tell_threads, "time": tell_time, "files": tell_files}[what](of, Call(*words))
+        {"refusal": tell_refusal, "losses": tell_losses, "threads": tell_threads, "time": tell_time, "files": tell_files, "replaced": tell_replaced}[what](of, Call(*words))
     except (OSError, ValueError, LookupError, TypeError, AttributeError):
         # What can't be told isn't told: the program's own line stands.
         said.clear()
