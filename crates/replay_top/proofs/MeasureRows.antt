@@ -2,6 +2,7 @@
 use Rattle.std.proofs.Common.{◌≡◌, inl, ℕ, Bool, true, ◌+◌, ◌<◌, ◌≤◌, List, [], ◌∷◌, ◌++◌, Option, length, take, drop, get_or, refl, ap, sym, subst, ◌∙◌}
 use Rattle.std.proofs.Common.{arith, append_assoc}
 use Rattle.std.specs.List.{flat_map}
+use Rattle.std.proofs.Math.Seq.{take-add}
 use Rattle.std.proofs.lemmas.List.{append-nil, length-take-le, take-append-drop, take_all, take_more}
 use Rattle.std.proofs.lemmas.List.Concat.{flat_map-append}
 use Rattle.nd_base.specs.declared.graph.NodeRule.{NodeRule}
@@ -26,7 +27,7 @@ module _ (ms : List Measure) (i : ℕ) where
   rows-split = ap (flat_map row) (sym (take-append-drop i ms)) ∙ flat_map-append row (take i ms) (drop i ms)
 
   -- one measure more
-  rows-more : (d : Measure) → i < length ms → flat_map row (take (i + 1) ms) ≡ flat_map row (take i ms) ++ row (get_or ms i d)
+  pub rows-more : (d : Measure) → i < length ms → flat_map row (take (i + 1) ms) ≡ flat_map row (take i ms) ++ row (get_or ms i d)
   rows-more d within =
       ap (flat_map row) (take_more ms i d within) ∙ flat_map-append row (take i ms) (get_or ms i d ∷ [])
       ∙ ap (λ b. flat_map row (take i ms) ++ b) (append-nil (row (get_or ms i d)))
@@ -40,22 +41,25 @@ module _ (ms : List Measure) (i : ℕ) where
     pub rows-begun : IsBegun held name (flat_map row ms) u
     rows-begun = Front (flat_map row (take i ms)) (flat_map row (drop i ms)) rows-split made
 
-    -- also with a part of one row more
-    pub rows-part : (now : Option Files) (d : Measure) (text : List ℕ) → i < length ms → text ≡ row (get_or ms i d) → MayAppend u name text now
-        → IsBegun held name (flat_map row ms) now
-    rows-part now d text within is may =
-        let rest = flat_map row (drop (i + 1) ms) in
-        let all : flat_map row ms ≡ flat_map row (take (i + 1) ms) ++ rest =
-        ap (flat_map row) (sym (take-append-drop (i + 1) ms)) ∙ flat_map-append row (take (i + 1) ms) (drop (i + 1) ms) in
-        IsBegun-append held u now name (flat_map row (take i ms)) text rest (flat_map row ms)
-        (all ∙ ap (λ b. b ++ rest) (rows-more d within ∙ ap (λ b. flat_map row (take i ms) ++ b) (sym is))) made may
+    module _ (n : ℕ) (text : List ℕ) (is : text ≡ flat_map row (take n (drop i ms))) where
+      -- the rows of n measures more
+      rows-next : flat_map row (take (i + n) ms) ≡ flat_map row (take i ms) ++ text
+      rows-next =
+          ap (flat_map row) (take-add i n ms) ∙ flat_map-append row (take i ms) (take n (drop i ms)) ∙ ap (λ b. flat_map row (take i ms) ++ b) (sym is)
 
-    -- one row more
-    pub rows-added : (now : Option Files) (d : Measure) (text : List ℕ) → i < length ms → text ≡ row (get_or ms i d) → now ≡ with_more u name text
-        → now ≡ with_file held name (flat_map row (take (i + 1) ms))
-    rows-added now d text within is added =
-        added ∙ ap (λ w. with_more w name text) made ∙ with_more-with_file held name (flat_map row (take i ms)) text
-        ∙ ap (with_file held name) (ap (λ b. flat_map row (take i ms) ++ b) is ∙ sym (rows-more d within))
+      -- also with a part of them
+      pub rows-part : (now : Option Files) → MayAppend u name text now → IsBegun held name (flat_map row ms) now
+      rows-part now may =
+          let rest = flat_map row (drop (i + n) ms) in
+          let all : flat_map row ms ≡ flat_map row (take (i + n) ms) ++ rest =
+          ap (flat_map row) (sym (take-append-drop (i + n) ms)) ∙ flat_map-append row (take (i + n) ms) (drop (i + n) ms) in
+          IsBegun-append held u now name (flat_map row (take i ms)) text rest (flat_map row ms) (all ∙ ap (λ b. b ++ rest) rows-next) made may
+
+      -- with all of them
+      pub rows-added : (now : Option Files) → now ≡ with_more u name text → now ≡ with_file held name (flat_map row (take (i + n) ms))
+      rows-added now added =
+          added ∙ ap (λ w. with_more w name text) made ∙ with_more-with_file held name (flat_map row (take i ms)) text
+          ∙ ap (with_file held name) (sym rows-next)
 
 -- NODES
 

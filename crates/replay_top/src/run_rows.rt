@@ -1,6 +1,6 @@
 //! The files that a run writes once the groups of its file nodes stand: the rows of its statistics nodes, and the text of its log.
 
-ghost use Rattle.std.specs.Prelude.{◌≡◌, ◌++◌, true, length, reverse, All, OnOk, OnErr};
+ghost use Rattle.std.specs.Prelude.{◌≡◌, ◌++◌, ◌<◌, ◌≤◌, true, length, reverse, take, All, IfOk, OnOk, OnErr};
 ghost use Rattle.std.specs.List.{flat_map};
 ghost use Rattle.nd_base.specs.GraphRules.{IsGraph};
 ghost use Rattle.edge_traits.specs.Files.{with_file};
@@ -16,10 +16,35 @@ use board_rules::Measures;
 use edge_traits::Shelf;
 use file_out::SaveFault;
 use flow_journal::{Log, write_text};
-use nd_base::{Graph, Kind, Measure, NodeRule};
+use nd_base::{Graph, Kind, Measure, NodeRule, OutOfMemory};
 use nd_stats::row_text;
 use std::alloc::Global;
 use tool_commands::save_text;
+
+/// How many bytes of rows are enough for one append.
+const ENOUGH: usize = 65_536;
+
+/// Gathers the rows of the first measures, and no more once they are enough for one append. Answers how many.
+fn gather_rows(
+    alloc: Global,
+    measures: &[Measure],
+    rows: &mut Vec<u8>,
+) -> Result<usize, OutOfMemory>
+    requires some { 0 < length measures.now }
+    ensures some { IfOk result (λ n. 1 ≤ n) }
+    ensures most { IfOk result (λ n. n ≤ length measures.now) }
+    ensures rows { IfOk result (λ n. rows.new.items ≡ flat_map row (take n measures.now)) }
+{
+    rows.clear();
+    for (count, measure) in measures.iter().enumerate() {
+        if rows.len() >= ENOUGH {
+            return Ok(count);
+        }
+        let row = row_text(alloc, measure)?;
+        rows.extend_from_slice(row.as_bytes())?;
+    }
+    Ok(measures.len())
+}
 
 /// Writes the rows of these measures under a name. The file is there also where it has no row.
 fn save_measures<K: Shelf>(
@@ -33,9 +58,12 @@ fn save_measures<K: Shelf>(
     ensures cause { IsSaveCause result (K.faults shelf.old) (K.faults shelf.new) }
 {
     shelf.create(name)?;
-    for measure in measures {
-        let row = row_text(alloc, measure)?;
-        shelf.append(name, row.as_bytes())?;
+    let mut rows = Vec::new(alloc);
+    let mut done = 0;
+    while done < measures.len() {
+        let count = gather_rows(alloc, &measures[done..], &mut rows)?;
+        shelf.append(name, &rows)?;
+        done += count;
     }
     shelf.finish(name)?;
     Ok(())
