@@ -543,11 +543,18 @@ def tell_rank(number, quoted):
     return f"{told}: 'ncecat -O {quoted} NEW.nc' puts one in front of a single image" if number < 2 else told
 
 
+COUNTED = ("uniqueId", "timeStamp", "epicsTSSec", "epicsTSNsec")
+
+
 def tell_misplaced(name, header, number):
-    """Says how the dimension that counts a variable's values becomes the first one of array_data, where it is another of these. Fails where it isn't."""
+    """Says how the dimension that counts a variable's values becomes the first one of array_data, where it is another of these. Fails where it isn't, and where
+    the first one counts other values."""
     var, dims, _ = header.vars[number]
     frames = header.frames()[1]
     if not dims or dims[0] not in frames[1:] or dims[0] == frames[0]:
+        return False
+    others = [it for it in header.vars if it[0] in COUNTED or it[0].startswith("Attr_")]
+    if any(it[1] and it[1][0] == frames[0] for it in others):
         return False
     named = [header.dims[it][0] for it in [dims[0], *(it for it in frames if it != dims[0])]]
     turned = f"'ncpdq -a {','.join(named)} {quoted_name(name)} NEW.nc' puts it first"
@@ -816,7 +823,7 @@ def tell_losses(report, call):
         run, nodes = graph.run, {it.get("name"): it for it in graph.nodes}
     except (OSError, ValueError):
         run, nodes = {}, {}
-    pool = f"pool = 0 under [run], which is no limit, keeps them; one above {run.get('pool', 0)} may"
+    pool = f"pool = 0 under [run], which is no limit, keeps them; one above {run.get('pool', 0)} may, which has room for several arrays"
     for name, numbers in rows.items():
         count = lambda it: numbers.get(it, 0)
         if count("refused"):
